@@ -1,0 +1,1 @@
+//! Definitions and laws of lists that everything above rests on. It has no function.

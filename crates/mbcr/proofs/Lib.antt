@@ -1,0 +1,9 @@
+pub mod Points
+pub mod Shape
+pub mod Stripe
+pub mod Decode
+pub mod Repair
+pub mod Read
+pub mod Places
+pub mod Linear
+pub mod Demand2

@@ -1,0 +1,4 @@
+pub mod Share
+pub mod Rebuild
+pub mod Read
+pub mod Demand2

@@ -1,0 +1,74 @@
+-- Sizes and refusals have the laws of specs/Laws.antt.
+-- Assumes nothing.
+use mathlib.Core.Path.{_≡_, refl, sym, _∙_, ap}
+use mathlib.Core.Bool.{true, false}
+use mathlib.Core.List.{List, [], _∷_}
+use Prim.Native.Nat.{ℕ, _≤_}
+use native.Mathlib.Omega.{arith}
+use Rattle.sizes.specs.declared.Sizes.{Sizes}
+use Rattle.sizes.specs.declared.Refusal.{Refusal}
+use Rattle.sizes.specs.declared.Refusal.the-variants.{Size, Area, Long, Count, Node, Repeat, Short, Empty, Down, Disagree, Points}
+use Rattle.sizes.specs.declared.Answer.{Answer}
+use Rattle.sizes.specs.declared.Answer.the-variants.{Done, Refused}
+use Rattle.sizes.specs.Refusals.{number, Said, said}
+use Rattle.sizes.specs.Laws.{SizesAndRefusals}
+use Rattle.sizes.proofs.Legal.{legal-facts, legal-yes, stripes-enough, stripes-least, stripes-none, B-most}
+use Rattle.sizes.proofs.Lines.{first-clear, clear-first, first-refuse, refuse-first}
+
+-- a refusal by its number
+named : ℕ → Refusal
+named n = lib.ListN.getD (Size ∷ Area ∷ Long ∷ Count ∷ Node ∷ Repeat ∷ Short ∷ Empty ∷ Down ∷ Disagree ∷ Points ∷ []) (Prim.Native.Nat._-_ n 1) Size
+
+named-number : (x : Refusal) → named (number x) ≡ x
+unfolding named
+named-number Size = refl
+named-number Area = refl
+named-number Long = refl
+named-number Count = refl
+named-number Node = refl
+named-number Repeat = refl
+named-number Short = refl
+named-number Empty = refl
+named-number Down = refl
+named-number Disagree = refl
+named-number Points = refl
+
+pub numbers-differ : (x y : Refusal) → number x ≡ number y → x ≡ y
+numbers-differ x y e = sym (named-number x) ∙ ap named e ∙ named-number y
+
+pub number-low : (x : Refusal) → 1 ≤ number x
+number-low Size = omega arith
+number-low Area = omega arith
+number-low Long = omega arith
+number-low Count = omega arith
+number-low Node = omega arith
+number-low Repeat = omega arith
+number-low Short = omega arith
+number-low Empty = omega arith
+number-low Down = omega arith
+number-low Disagree = omega arith
+number-low Points = omega arith
+
+answers-differ : (a b : Answer) → said a ≡ said b → a ≡ b
+answers-differ (Done v) (Done w) e = ap Done (ap (λ (s : Said). s .value) e)
+answers-differ (Done v) (Refused y) e = absurd (omega (arith, number-low y, ap (λ (s : Said). s .refusal) e))
+answers-differ (Refused x) (Done w) e = absurd (omega (arith, number-low x, ap (λ (s : Said). s .refusal) e))
+answers-differ (Refused x) (Refused y) e = ap Refused (numbers-differ x y (ap (λ (s : Said). s .refusal) e))
+
+pub laws : SizesAndRefusals
+laws = record {
+  legal-is = λ z. (
+    (λ h. let f = legal-facts z h in (f .some-read, f .read-helpers, f .some-fresh, f .enough, f .few)),
+    (λ p. legal-yes z (record { some-read = p .0; read-helpers = p .1; some-fresh = p .2; enough = p .3; few = p .4 })),
+  );
+  grid-most = λ z h. let f = legal-facts z h in (omega (arith, f .some-fresh, f .enough, f .few), omega (arith, f .enough, f .few), B-most z f);
+  stripes-enough = λ z h. stripes-enough z (legal-facts z h);
+  stripes-least = λ z h. stripes-least z (legal-facts z h);
+  stripes-none = λ z h. stripes-none z (legal-facts z h);
+  numbers-differ = numbers-differ;
+  answers-differ = answers-differ;
+  store-order = refl;
+  board-order = refl;
+  refuse-is = λ order lines x. (first-refuse lines order x, refuse-first lines order x);
+  pass-is = λ order lines. (first-clear lines order, clear-first lines order);
+}

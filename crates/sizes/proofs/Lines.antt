@@ -1,0 +1,87 @@
+-- Laws of the line that is given first.
+-- Assumes nothing.
+use Prim.Native.Nat.{ℕ}
+use mathlib.Core.Path.{_≡_, refl, sym, _∙_, ap}
+use mathlib.Core.Bool.{Bool, true, false, not}
+use mathlib.Core.List.{List, [], _∷_, _++_}
+use mathlib.Core.Logic.{_⊎_, inl, inr}
+use native.Mathlib.Omega.{arith}
+use Rattle.lists.specs.Tests.{pick}
+use Rattle.lists.specs.Lists.{All}
+use Rattle.lists.proofs.Tests.{true-false}
+use Rattle.sizes.specs.declared.Check.{Check}
+use Rattle.sizes.specs.declared.Check.the-variants.{Pass, Refuse}
+use Rattle.sizes.specs.declared.Refusal.{Refusal}
+use Rattle.sizes.specs.Refusals.{Line, holdsIn, first}
+use Rattle.sizes.specs.Laws.{First}
+
+pub refuse-pass : {x : Refusal} {c : Check} → c ≡ Refuse x → c ≡ Pass → ⊥
+refuse-pass p q = let z : _≡_ {A = ℕ} 0 1 = cc in omega arith
+
+pick-pass : (b : Bool) (x : Refusal) (c : Check) → pick b (Refuse x) c ≡ Pass → (b ≡ false) × (c ≡ Pass)
+pick-pass true x c h = absurd (refuse-pass refl h)
+pick-pass false x c h = (refl, h)
+
+module _ (lines : List Line) where
+  -- no line holds
+  abbrev pub Clear : List Refusal → Type 0
+  Clear order = All (λ y. holdsIn lines y ≡ false) order
+
+  pub first-clear : (order : List Refusal) → first order lines ≡ Pass → Clear order
+  first-clear [] h = tt
+  first-clear (x ∷ order) h = let p = pick-pass (holdsIn lines x) x (first order lines) h in (p .0, first-clear order (p .1))
+
+  pub clear-first : (order : List Refusal) → Clear order → first order lines ≡ Pass
+  clear-first [] h = refl
+  clear-first (x ∷ order) h = rw (h .0) (clear-first order (h .1))
+
+  pub first-refuse : (order : List Refusal) (x : Refusal) → first order lines ≡ Refuse x → First order lines x
+  first-refuse [] x h = absurd (refuse-pass h refl)
+  first-refuse (y ∷ order) x h = go (holdsIn lines y) refl h (first-refuse order x)
+    where
+      go : (t : Bool) → holdsIn lines y ≡ t → pick t (Refuse y) (first order lines) ≡ Refuse x → (first order lines ≡ Refuse x → First order lines x)
+          → First (y ∷ order) lines x
+      go true e k ih =
+          let q : y ≡ x = cc in
+          record { before = []; after = order; place = ap (λ (a : Refusal). a ∷ order) q; none-before = tt; applies = ap (holdsIn lines) (sym q) ∙ e }
+      go false e k ih =
+          let r = ih k in
+          record {
+            before = y ∷ r .before;
+            after = r .after;
+            place = ap (λ (l : List Refusal). y ∷ l) (r .place);
+            none-before = (e, r .none-before);
+            applies = r .applies;
+          }
+
+  pub refuse-first : (order : List Refusal) (x : Refusal) → First order lines x → first order lines ≡ Refuse x
+  refuse-first order x f = ap (λ (o : List Refusal). first o lines) (f .place) ∙ go (f .before) (f .none-before)
+    where
+      go : (before : List Refusal) → Clear before → first (before ++ (x ∷ f .after)) lines ≡ Refuse x
+      go [] h = rw (f .applies) refl
+      go (y ∷ before) h = rw (h .0) (go before (h .1))
+
+  -- the first that holds, or none
+  pub one-or-none : (order : List Refusal) → ((x : Refusal) × First order lines x) ⊎ Clear order
+  one-or-none order = go (first order lines) refl
+    where
+      go : (c : Check) → first order lines ≡ c → ((x : Refusal) × First order lines x) ⊎ Clear order
+      go Pass e = inr (first-clear order e)
+      go (Refuse x) e = inl (x, first-refuse order x e)
+
+-- two lists of lines that agree, each where none before it holds, give the same
+module _ (l m : List Line) where
+  abbrev pub Agree : List Refusal → Type 0
+  Agree [] = Unit
+  Agree (x ∷ order) = (holdsIn l x ≡ holdsIn m x) × (holdsIn m x ≡ false → Agree order)
+
+  pub first-agree : (order : List Refusal) → Agree order → first order l ≡ first order m
+  first-agree [] a = refl
+  first-agree (x ∷ order) a = go (holdsIn l x) (holdsIn m x) (a .0) refl (λ e. first-agree order (a .1 e))
+    where
+      go : (t u : Bool) → t ≡ u → holdsIn m x ≡ u → (holdsIn m x ≡ false → first order l ≡ first order m)
+          → pick t (Refuse x) (first order l) ≡ pick u (Refuse x) (first order m)
+      go true true e h f = refl
+      go false false e h f = f h
+      go true false e h f = absurd (true-false refl e)
+      go false true e h f = absurd (true-false refl (sym e))

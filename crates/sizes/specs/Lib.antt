@@ -1,0 +1,3 @@
+pub mod Sizing
+pub mod Refusals
+pub mod Laws

@@ -1,0 +1,62 @@
+-- Document 01, 'Who causes a refusal': the numbers, the lines, and which of them is given.
+-- Assumes nothing.
+use mathlib.Core.Bool.{Bool, false}
+use mathlib.Core.List.{List, [], _∷_}
+use Prim.Native.Nat.{ℕ}
+use lib.Dec.{eqb}
+use Rattle.lists.specs.Tests.{pick}
+use Rattle.sizes.specs.declared.Refusal.{Refusal}
+use Rattle.sizes.specs.declared.Refusal.the-variants.{Size, Area, Long, Count, Node, Repeat, Short, Empty, Down, Disagree, Points}
+use Rattle.sizes.specs.declared.Check.{Check}
+use Rattle.sizes.specs.declared.Check.the-variants.{Pass, Refuse}
+use Rattle.sizes.specs.declared.Answer.{Answer}
+use Rattle.sizes.specs.declared.Answer.the-variants.{Done, Refused}
+
+abbrev pub number : Refusal → ℕ
+number Size = 1
+number Area = 2
+number Long = 3
+number Count = 4
+number Node = 5
+number Repeat = 6
+number Short = 7
+number Empty = 8
+number Down = 9
+number Disagree = 10
+number Points = 11
+
+-- what an answer says: the refusal's number, 0 where it is accepted; and the number reported, 0 where it is refused
+pub record Said : Type 0 where
+  pub refusal : ℕ
+  pub value : ℕ
+
+abbrev pub said : Answer → Said
+said (Done v) = record { refusal = 0; value = v }
+said (Refused x) = record { refusal = number x; value = 0 }
+
+-- a line of the list: the refusal, and whether it applies
+infix 90 _when_
+pub record Line : Type 0 where
+  pub gives : Refusal
+  pub holds : Bool
+
+abbrev pub _when_ : Refusal → Bool → Line
+_when_ x b = record { gives = x; holds = b }
+
+-- whether a refusal's line holds among the lines of a call; a refusal that has no line there never does
+abbrev pub holdsIn : List Line → Refusal → Bool
+holdsIn [] x = false
+holdsIn (l ∷ lines) x = pick (eqb (number (l .gives)) (number x)) (l .holds) (holdsIn lines x)
+
+-- "The first that applies is given."
+abbrev pub first : List Refusal → List Line → Check
+first [] lines = Pass
+first (x ∷ order) lines = pick (holdsIn lines x) (Refuse x) (first order lines)
+
+-- "Store: 1, 2, 3, 8, 4, 5, 6, 9, 7, 10, 11."
+abbrev pub storeOrder : List Refusal
+storeOrder = Size ∷ Area ∷ Long ∷ Empty ∷ Count ∷ Node ∷ Repeat ∷ Down ∷ Short ∷ Disagree ∷ Points ∷ []
+
+-- "Board level: 1, 3, 4, 5, 6, 2, 7, 10, 11."
+abbrev pub boardOrder : List Refusal
+boardOrder = Size ∷ Long ∷ Count ∷ Node ∷ Repeat ∷ Area ∷ Short ∷ Disagree ∷ Points ∷ []

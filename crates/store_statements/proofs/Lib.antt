@@ -1,0 +1,12 @@
+pub mod Seam
+pub mod Named
+pub mod Real
+pub mod Area
+pub mod Packets
+pub mod Records
+pub mod Marks
+pub mod Repair
+pub mod Step
+pub mod StepRepair
+pub mod StepRead
+pub mod Demand3
