@@ -11,29 +11,29 @@ use lib.Dec.{eqb}
 use lib.ListN.{length, take, length-take}
 use lib.Seq.{take-at}
 use borrow.Author.Tests.{ltb-false, eqb-true}
-use Rattle.lists.specs.Tests.{pick, same, given, below, different}
 use Rattle.lists.specs.Lists.{All, Bytes, over}
+use Rattle.lists.specs.Tests.{pick, same, given, below, different}
 use Rattle.lists.proofs.Tests.{not-no, alls-hold}
-use Rattle.sizes.specs.declared.Sizes.{Sizes}
-use Rattle.sizes.specs.declared.Refusal.{Refusal}
-use Rattle.sizes.specs.declared.Refusal.the-variants.{Size, Area, Long, Count, Node, Repeat, Short, Disagree, Points as PointsRefusal}
+use Rattle.sizes.specs.Refusals.{number, said, Line, holdsIn, first, boardOrder}
+use Rattle.sizes.specs.Sizing.{stripes, legal}
+use Rattle.sizes.specs.declared.Answer.the-variants.{Done, Refused}
 use Rattle.sizes.specs.declared.Check.{Check}
 use Rattle.sizes.specs.declared.Check.the-variants.{Pass, Refuse}
-use Rattle.sizes.specs.declared.Answer.the-variants.{Done, Refused}
-use Rattle.sizes.specs.Sizing.{stripes, legal}
-use Rattle.sizes.specs.Refusals.{number, said, Line, holdsIn, first, boardOrder}
-use Rattle.sizes.proofs.Legal.{Legal, legal-facts}
+use Rattle.sizes.specs.declared.Refusal.{Refusal}
+use Rattle.sizes.specs.declared.Refusal.the-variants.{Points, Size, Area, Long, Count, Node, Repeat, Short, Disagree}
+use Rattle.sizes.specs.declared.Sizes.{Sizes}
 use Rattle.sizes.proofs.Laws.{numbers-differ, number-low}
-use Rattle.sizes.proofs.Lines.{Clear, clear-first, refuse-first, one-or-none, refuse-pass}
-use Rattle.mbcr.specs.Share.{standard, Points, share, shares}
-use Rattle.mbcr.specs.Rebuild.{helperPacket, exchangePacket, finishedShare}
+use Rattle.sizes.proofs.Legal.{Legal, legal-facts}
+use Rattle.sizes.proofs.Lines.{Clear, clear-first, refuse-first, one-or-none, never}
 use Rattle.mbcr.specs.Read.{decodedFile, readFile}
+use Rattle.mbcr.specs.Rebuild.{helperPacket, exchangePacket, finishedShare}
+use Rattle.mbcr.specs.Share.{standard, DifferentPoints, share, shares}
 use Rattle.mbcr.proofs.Points.{Boards, boards-of, standard-points}
-use Rattle.mbcr.proofs.Repair.{length-share, length-packet, length-exchange, length-finished}
 use Rattle.mbcr.proofs.Read.{read-sound, read-complete, read-none}
-use Rattle.board_statements.specs.Text.{shareText}
+use Rattle.mbcr.proofs.Repair.{length-share, length-packet, length-exchange, length-finished}
 use Rattle.board_statements.specs.Calls.{BoardOutcome, settled, fileOf, shareLines, shareCall, fileLines, fileCall, helperLines, helperCall, exchangeLines, exchangeCall, finishedLines, finishedCall, textLines, textCall}
-use Rattle.board_statements.specs.Demand1.{Ends, BoardCalls}
+use Rattle.board_statements.specs.Demand1.{BoardEnds, BoardCalls}
+use Rattle.board_statements.specs.Text.{shareText}
 use Rattle.board_statements.proofs.Runs.{own-runs, one-run, finish-runs, read-runs}
 
 -- ---- lines that do not hold
@@ -72,11 +72,11 @@ named z boards h k = boards-of z boards (not-no _ h) (not-no _ k)
 -- ---- every call ends
 
 ends : (lines : List Line) (output bytes : List ℕ) → (Passed lines → length bytes ≤ length output)
-    → Ends lines output bytes (settled (first boardOrder lines) bytes output)
+    → BoardEnds lines output bytes (settled (first boardOrder lines) bytes output)
 ends lines output bytes f = record {
   one = one-or-none lines boardOrder;
   refuses = λ x h. ap (λ (c : Check). settled c bytes output) (refuse-first lines boardOrder x h);
-  works = λ h. (ap (λ (c : Check). settled c bytes output) (clear-first lines boardOrder h), f (passed lines (Disagree ∷ PointsRefusal ∷ []) h));
+  works = λ h. (ap (λ (c : Check). settled c bytes output) (clear-first lines boardOrder h), f (passed lines (Disagree ∷ Points ∷ []) h));
 }
 
 length-file-of : (t : Bool) (L : ℕ) (l : List ℕ) → length (fileOf (pick t (some (take L l)) none)) ≤ L
@@ -85,7 +85,7 @@ length-file-of false L l = omega arith
 
 module _ (z : Sizes) (xs : List ℕ) where
   share-ends : (node : ℕ) (file output : List ℕ)
-      → Ends (shareLines z xs node file output) output (share z xs file node) (shareCall z xs node file output)
+      → BoardEnds (shareLines z xs node file output) output (share z xs file node) (shareCall z xs node file output)
   unfolding shareLines shareCall
   share-ends node file output = ends _ output _ (λ p. rw (length-share z xs (legal-of z (p .size)) file node) (ltb-false _ _ (p .short)))
 
@@ -94,60 +94,49 @@ module _ (z : Sizes) (xs : List ℕ) where
   length-read L boards held = length-file-of (same (shares z xs (decodedFile z xs L boards held) boards) held) L _
 
   file-ends : (L : ℕ) (boards held output : List ℕ)
-      → Ends (fileLines z xs L boards held output) output (fileOf (readFile z xs L boards held)) (fileCall z xs L boards held output)
+      → BoardEnds (fileLines z xs L boards held output) output (fileOf (readFile z xs L boards held)) (fileCall z xs L boards held output)
   unfolding fileLines fileCall
   file-ends L boards held output = ends _ output _ (λ p. omega (arith, length-read L boards held, ltb-false (length output) L (p .short)))
 
   helper-ends : (L helper receiver : ℕ) (held output : List ℕ)
-      → Ends (helperLines z xs L helper receiver held output) output (helperPacket z xs (stripes z L) helper receiver held) (helperCall z xs L helper receiver held output)
+      → BoardEnds (helperLines z xs L helper receiver held output) output (helperPacket z xs (stripes z L) helper receiver held) (helperCall z xs L helper receiver held output)
   unfolding helperLines helperCall
   helper-ends L helper receiver held output = ends _ output _ (λ p. rw (length-packet z xs (stripes z L) helper receiver held) (ltb-false _ _ (p .short)))
 
   exchange-ends : (L board : ℕ) (helpers packets : List ℕ) (receiver : ℕ) (output : List ℕ)
-      → Ends (exchangeLines z xs L board helpers packets receiver output) output (exchangePacket z xs (stripes z L) helpers packets receiver)
+      → BoardEnds (exchangeLines z xs L board helpers packets receiver output) output (exchangePacket z xs (stripes z L) helpers packets receiver)
       (exchangeCall z xs L board helpers packets receiver output)
   unfolding exchangeLines exchangeCall
   exchange-ends L board helpers packets receiver output =
       ends _ output _ (λ p. rw (length-exchange z xs (stripes z L) helpers packets receiver) (ltb-false _ _ (p .short)))
 
   finished-ends : (L board : ℕ) (helpers packets partners exchanges output : List ℕ)
-      → Ends (finishedLines z xs L board helpers packets partners exchanges output) output (finishedShare z xs (stripes z L) board helpers packets partners exchanges)
+      → BoardEnds (finishedLines z xs L board helpers packets partners exchanges output) output (finishedShare z xs (stripes z L) board helpers packets partners exchanges)
       (finishedCall z xs L board helpers packets partners exchanges output)
   unfolding finishedLines finishedCall
   finished-ends L board helpers packets partners exchanges output =
       ends _ output _ (λ p. rw (length-finished z xs (legal-of z (p .size)) (stripes z L) board helpers packets partners exchanges) (ltb-false _ _ (p .short)))
 
   text-ends : (L node : ℕ) (held output : List ℕ)
-      → Ends (textLines z xs L node held output) output (shareText z L node held) (textCall z xs L node held output)
+      → BoardEnds (textLines z xs L node held output) output (shareText z L node held) (textCall z xs L node held output)
   unfolding textLines textCall
   text-ends L node held output = ends _ output _ (λ p. ltb-false (length output) (length (shareText z L node held)) (p .short))
 
 -- ---- no call answers POINTS with the standard points
 
--- a line that holds only where one before it does is never given
-never : (lines : List Line) (x : Refusal) (order : List Refusal) → All (λ y. number y ≢ number x) order
-    → (Clear lines order → holdsIn lines x ≡ false) → first (order ++ (x ∷ [])) lines ≢ Refuse x
-never lines x [] a h e = refuse-pass e (clear-first lines (x ∷ []) (h tt, tt))
-never lines x (y ∷ order) a h e = go (holdsIn lines y) refl e (never lines x order (a .1))
-  where
-    go : (t : Bool) → holdsIn lines y ≡ t → pick t (Refuse y) (first (order ++ (x ∷ [])) lines) ≡ Refuse x
-        → ((Clear lines order → holdsIn lines x ≡ false) → first (order ++ (x ∷ [])) lines ≢ Refuse x) → ⊥
-    go true q e ih = a .0 (ap number (let s : y ≡ x = cc in s))
-    go false q e ih = ih (λ c. h (q, c)) e
-
 refusal-of : (c : Check) (x : Refusal) (bytes output : List ℕ) → settled c bytes output .answer .refusal ≡ number x → c ≡ Refuse x
 refusal-of Pass x bytes output e = absurd (omega (arith, number-low x))
 refusal-of (Refuse y) x bytes output e = ap Refuse (numbers-differ y x e)
 
-unequal : (lines : List Line) (bytes output : List ℕ) → (Passed lines → holdsIn lines PointsRefusal ≡ false)
+unequal : (lines : List Line) (bytes output : List ℕ) → (Passed lines → holdsIn lines Points ≡ false)
     → settled (first boardOrder lines) bytes output .answer .refusal ≢ 11
 unequal lines bytes output h e =
-    never lines PointsRefusal (seven (Disagree ∷ []))
+    never lines Points (seven (Disagree ∷ []))
     (omega arith, (omega arith, (omega arith, (omega arith, (omega arith, (omega arith, (omega arith, (omega arith, tt))))))))
-    (λ c. h (passed lines (Disagree ∷ []) c)) (refusal-of _ PointsRefusal bytes output e)
+    (λ c. h (passed lines (Disagree ∷ []) c)) (refusal-of _ Points bytes output e)
 
 module _ (z : Sizes) where
-  points-of : Legal z → Points z standard
+  points-of : Legal z → DifferentPoints z standard
   points-of f = standard-points z (f .few)
 
   share-unequal : (node : ℕ) (file output : List ℕ) → shareCall z standard node file output .answer .refusal ≢ 11
@@ -217,7 +206,7 @@ module _ (lines : List Line) (h : Only lines) where
       let p5 = only-passed .repeat in
       let p6 = clear lines Area (omega arith) (h .1 .1 .1 .1 .1 .0) in
       let p7 = only-passed .short in
-      let p9 = clear lines PointsRefusal (omega arith) (h .1 .1 .1 .1 .1 .1 .1 .1 .0) in
+      let p9 = clear lines Points (omega arith) (h .1 .1 .1 .1 .1 .1 .1 .1 .0) in
       rw (p1, p2, p3, p4, p5, p6, p7, p9)
 
 -- the outcome of a call that found this file, or none
@@ -234,7 +223,7 @@ written : (file file′ output : List ℕ) → length file ≡ length file′ �
 written file file′ output l e =
     sym (take-at file _ (length file′) l) ∙ ap (take (length file′)) e ∙ take-at file′ _ (length file′) refl
 
-module _ (z : Sizes) (xs : List ℕ) (L : ℕ) (boards held output : List ℕ) (pts : Points z xs) (bh : Bytes held)
+module _ (z : Sizes) (xs : List ℕ) (L : ℕ) (boards held output : List ℕ) (pts : DifferentPoints z xs) (bh : Bytes held)
     (h : Only (fileLines z xs L boards held output)) where
   others : Passed (fileLines z xs L boards held output)
   others = only-passed (fileLines z xs L boards held output) h

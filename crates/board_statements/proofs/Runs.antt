@@ -12,7 +12,7 @@ use Rattle.lists.proofs.Alls.{append-all, all-imp}
 use Rattle.lists.proofs.Boards.{distinct-different}
 use Rattle.sizes.specs.declared.Sizes.{Sizes}
 use Rattle.sizes.proofs.Legal.{Legal}
-use Rattle.mbcr.specs.Share.{Points, points}
+use Rattle.mbcr.specs.Share.{DifferentPoints, points}
 use Rattle.mbcr.proofs.Points.{Boards, neighbours-boards, points-distinct, boards-left}
 use Rattle.board_statements.specs.Calls.{equalPoints, ownRuns, finishRuns, readRuns}
 
@@ -40,7 +40,7 @@ module _ (xs : List ℕ) where
 
 -- ---- points of different boards
 
-module _ (z : Sizes) (xs : List ℕ) (pts : Points z xs) where
+module _ (z : Sizes) (xs : List ℕ) (pts : DifferentPoints z xs) where
   boards-apart : (boards : List ℕ) → Boards z boards → different (points xs boards) ≡ true
   boards-apart boards h = distinct-different (points xs boards) (points-distinct z xs pts boards h)
 
@@ -52,7 +52,7 @@ module _ (z : Sizes) (xs : List ℕ) (pts : Points z xs) where
       let b = boards-left z helpers partners (boards-left z (helpers ++ partners) (i ∷ []) h) in
       apart-unequal xs (finishRuns i helpers partners) (boards-apart helpers b, (boards-apart _ h, tt))
 
-module _ (z : Sizes) (xs : List ℕ) (legal : Legal z) (pts : Points z xs) where
+module _ (z : Sizes) (xs : List ℕ) (legal : Legal z) (pts : DifferentPoints z xs) where
   pub own-runs : (j : ℕ) → j < z .n → equalPoints xs (ownRuns z j) ≡ false
   own-runs j h =
       let f = neighbours-boards z j (z .d + z .r) h (legal .enough) in

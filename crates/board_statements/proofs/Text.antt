@@ -9,11 +9,11 @@ use native.Mathlib.Nat.{div-add-mod', mod-lt}
 use native.Mathlib.Omega.{arith}
 use lib.Dec.{ltb}
 use lib.ListN.{getD}
-use borrow.Author.Tests.{ltb-true, ltb-false}
+use borrow.Author.Tests.{ltb-true, ltb-false, lt-ltb, le-ltb}
 use Rattle.lists.specs.Lists.{All}
 use Rattle.lists.proofs.Alls.{append-all}
-use Rattle.board_statements.specs.Text.{digits, decimal, hexDigit, hexPair}
-use Rattle.board_statements.specs.Demand1.{value, TextLaws}
+use Rattle.board_statements.specs.Demand1.{value, TextLaws, hexValue}
+use Rattle.board_statements.specs.Text.{digits, decimal, hexDigit}
 
 -- ---- decimals
 
@@ -74,20 +74,16 @@ hex-digit v h = go (ltb v 10) refl
     go true e = let k = ltb-true v 10 e in inl (rw e (omega arith), rw e (omega arith))
     go false e = let k = ltb-false v 10 e in inr (rw e (omega arith), rw e (omega arith))
 
-hex-same : (u v : ℕ) → hexDigit u ≡ hexDigit v → u ≡ v
-hex-same u v h = go (ltb u 10) refl (ltb v 10) refl
+hex-back : (v : ℕ) → hexValue (hexDigit v) ≡ v
+hex-back v = go (ltb v 10) refl
   where
-    go : (s : Bool) → ltb u 10 ≡ s → (t : Bool) → ltb v 10 ≡ t → u ≡ v
-    go true e true f = omega (arith, rw (e, f) at h)
-    go true e false f = absurd (omega (arith, ltb-true u 10 e, ltb-false v 10 f, rw (e, f) at h))
-    go false e true f = absurd (omega (arith, ltb-false u 10 e, ltb-true v 10 f, rw (e, f) at h))
-    go false e false f = omega (arith, rw (e, f) at h)
+    go : (t : Bool) → ltb v 10 ≡ t → hexValue (hexDigit v) ≡ v
+    go true e = let k = ltb-true v 10 e in rw (e, lt-ltb (0x30 + v) 0x3A (omega arith)) (omega arith)
+    go false e = let k = ltb-false v 10 e in rw (e, le-ltb (0x57 + v) 0x3A (omega arith)) (omega arith)
 
-hex-differ : (a b : ℕ) → hexPair a ≡ hexPair b → a ≡ b
-hex-differ a b e =
-    let p = hex-same (a / 16) (b / 16) (ap (λ (l : List ℕ). getD l 0 0) e) in
-    let q = hex-same (a % 16) (b % 16) (ap (λ (l : List ℕ). getD l 1 0) e) in
-    omega (arith, div-add-mod' a 16, div-add-mod' b 16)
+decimal-none : decimal 0 ≡ 0x30 ∷ []
+unfolding decimal
+decimal-none = refl
 
 pub text-laws : TextLaws
 text-laws = record {
@@ -98,5 +94,6 @@ text-laws = record {
     hex-digit (b / 16) (omega (arith, div-add-mod' b 16)),
     (hex-digit (b % 16) (mod-lt b (omega arith)), tt),
   );
-  hex-differ = λ a b h k. hex-differ a b;
+  decimal-zero = decimal-none;
+  hex-value = λ b. omega (arith, hex-back (b / 16), hex-back (b % 16), div-add-mod' b 16);
 }

@@ -53,34 +53,33 @@ finishRuns i helpers partners = helpers ∷ (helpers ++ partners ++ (i ∷ [])) 
 abbrev pub readRuns : Sizes → List ℕ → List (List ℕ)
 readRuns z boards = boards ∷ concat (map (ownRuns z) boards)
 
-module _ (z : Sizes) where
-  -- "1 SIZE: sizes not legal"
-  abbrev pub sizeLine : Line
-  sizeLine = Size when not (legal z)
+-- "1 SIZE: sizes not legal"
+abbrev pub sizeLine : Sizes → Line
+sizeLine z = Size when not (legal z)
 
-  -- "3 LONG: L above 4,096 × B (board level)"
-  abbrev pub longLine : ℕ → Line
-  longLine L = Long when ltb (maxStripes * B z) L
+-- "3 LONG: L above 4,096 × B (board level)"
+abbrev pub longLine : Sizes → ℕ → Line
+longLine z L = Long when ltb (maxStripes * B z) L
 
-  -- "4 COUNT: a list of the wrong length": the tests are that each has the right one
-  abbrev pub countLine : List Bool → Line
-  countLine counts = Count when not (alls counts)
+-- "4 COUNT: a list of the wrong length": the tests are that each has the right one
+abbrev pub countLine : List Bool → Line
+countLine counts = Count when not (alls counts)
 
-  -- "5 NODE: a board number of n or more"
-  abbrev pub nodeLine : List ℕ → Line
-  nodeLine boards = Node when not (below (z .n) boards)
+-- "5 NODE: a board number of n or more"
+abbrev pub nodeLine : Sizes → List ℕ → Line
+nodeLine z boards = Node when not (below (z .n) boards)
 
-  -- "6 REPEAT: at board level any board twice among all those named, the worker and receiver included"
-  abbrev pub repeatLine : List ℕ → Line
-  repeatLine boards = Repeat when not (different boards)
+-- "6 REPEAT: at board level any board twice among all those named, the worker and receiver included"
+abbrev pub repeatLine : List ℕ → Line
+repeatLine boards = Repeat when not (different boards)
 
-  -- "2 AREA: a lent area, share or packet slice of another length than the sizes give": the tests are that each has the right one
-  abbrev pub areaLine : List Bool → Line
-  areaLine lengths = Area when not (alls lengths)
+-- "2 AREA: a lent area, share or packet slice of another length than the sizes give": the tests are that each has the right one
+abbrev pub areaLine : List Bool → Line
+areaLine lengths = Area when not (alls lengths)
 
-  -- "7 SHORT: output shorter than what is to be written"
-  abbrev pub shortLine : List ℕ → ℕ → Line
-  shortLine output count = Short when ltb (length output) count
+-- "7 SHORT: output shorter than what is to be written"
+abbrev pub shortLine : List ℕ → ℕ → Line
+shortLine output count = Short when ltb (length output) count
 
 module _ (z : Sizes) (xs : List ℕ) where
   open Sizes z using (n, k, d, r)
@@ -91,7 +90,7 @@ module _ (z : Sizes) (xs : List ℕ) where
       sizeLine z
       ∷ longLine z (length file)
       ∷ nodeLine z (node ∷ [])
-      ∷ shortLine z output (stripes z (length file) * α z)
+      ∷ shortLine output (stripes z (length file) * α z)
       ∷ []
 
   unfoldable pub shareCall : ℕ → List ℕ → List ℕ → BoardOutcome
@@ -102,11 +101,11 @@ module _ (z : Sizes) (xs : List ℕ) where
   fileLines L boards held output =
       sizeLine z
       ∷ longLine z L
-      ∷ countLine z (eqb (length boards) k ∷ [])
+      ∷ countLine (eqb (length boards) k ∷ [])
       ∷ nodeLine z boards
-      ∷ repeatLine z boards
-      ∷ areaLine z (eqb (length held) (k * (stripes z L * α z)) ∷ [])
-      ∷ shortLine z output L
+      ∷ repeatLine boards
+      ∷ areaLine (eqb (length held) (k * (stripes z L * α z)) ∷ [])
+      ∷ shortLine output L
       ∷ Disagree when not (given (readFile z xs L boards held))
       ∷ Points when equalPoints xs (readRuns z boards)
       ∷ []
@@ -120,9 +119,9 @@ module _ (z : Sizes) (xs : List ℕ) where
       sizeLine z
       ∷ longLine z L
       ∷ nodeLine z (helper ∷ receiver ∷ [])
-      ∷ repeatLine z (helper ∷ receiver ∷ [])
-      ∷ areaLine z (eqb (length held) (stripes z L * α z) ∷ [])
-      ∷ shortLine z output (2 * stripes z L)
+      ∷ repeatLine (helper ∷ receiver ∷ [])
+      ∷ areaLine (eqb (length held) (stripes z L * α z) ∷ [])
+      ∷ shortLine output (2 * stripes z L)
       ∷ Points when equalPoints xs (ownRuns z helper)
       ∷ []
 
@@ -135,11 +134,11 @@ module _ (z : Sizes) (xs : List ℕ) where
   exchangeLines L board helpers packets receiver output =
       sizeLine z
       ∷ longLine z L
-      ∷ countLine z (eqb (length helpers) d ∷ [])
+      ∷ countLine (eqb (length helpers) d ∷ [])
       ∷ nodeLine z (board ∷ receiver ∷ helpers)
-      ∷ repeatLine z (board ∷ receiver ∷ helpers)
-      ∷ areaLine z (eqb (length packets) (d * (2 * stripes z L)) ∷ [])
-      ∷ shortLine z output (stripes z L)
+      ∷ repeatLine (board ∷ receiver ∷ helpers)
+      ∷ areaLine (eqb (length packets) (d * (2 * stripes z L)) ∷ [])
+      ∷ shortLine output (stripes z L)
       ∷ Points when equalPoints xs (helpers ∷ [])
       ∷ []
 
@@ -152,11 +151,11 @@ module _ (z : Sizes) (xs : List ℕ) where
   finishedLines L board helpers packets partners exchanges output =
       sizeLine z
       ∷ longLine z L
-      ∷ countLine z (eqb (length helpers) d ∷ eqb (length partners) (r - 1) ∷ [])
+      ∷ countLine (eqb (length helpers) d ∷ eqb (length partners) (r - 1) ∷ [])
       ∷ nodeLine z (helpers ++ partners ++ (board ∷ []))
-      ∷ repeatLine z (helpers ++ partners ++ (board ∷ []))
-      ∷ areaLine z (eqb (length packets) (d * (2 * stripes z L)) ∷ eqb (length exchanges) ((r - 1) * stripes z L) ∷ [])
-      ∷ shortLine z output (stripes z L * α z)
+      ∷ repeatLine (helpers ++ partners ++ (board ∷ []))
+      ∷ areaLine (eqb (length packets) (d * (2 * stripes z L)) ∷ eqb (length exchanges) ((r - 1) * stripes z L) ∷ [])
+      ∷ shortLine output (stripes z L * α z)
       ∷ Points when equalPoints xs (finishRuns board helpers partners)
       ∷ []
 
@@ -171,8 +170,8 @@ module _ (z : Sizes) (xs : List ℕ) where
       sizeLine z
       ∷ longLine z L
       ∷ nodeLine z (node ∷ [])
-      ∷ areaLine z (eqb (length held) (stripes z L * α z) ∷ [])
-      ∷ shortLine z output (length (shareText z L node held))
+      ∷ areaLine (eqb (length held) (stripes z L * α z) ∷ [])
+      ∷ shortLine output (length (shareText z L node held))
       ∷ []
 
   unfoldable pub textCall : ℕ → ℕ → List ℕ → List ℕ → BoardOutcome

@@ -6,7 +6,9 @@ use mathlib.Core.Bool.{true, false}
 use mathlib.Core.Logic.{_≢_, _↔_, _⊎_}
 use mathlib.Core.List.{List, [], _∷_, _++_}
 use Prim.Native.Nat.{ℕ, _+_, _*_, _-_, _≤_, _<_}
+use lib.Dec.{ltb}
 use lib.ListN.{length, getD}
+use Rattle.lists.specs.Tests.{pick}
 use Rattle.lists.specs.Lists.{All, Bytes, over}
 use Rattle.sizes.specs.declared.Sizes.{Sizes}
 use Rattle.sizes.specs.declared.Refusal.{Refusal}
@@ -14,7 +16,7 @@ use Rattle.sizes.specs.declared.Refusal.the-variants.{Disagree}
 use Rattle.sizes.specs.declared.Answer.the-variants.{Done, Refused}
 use Rattle.sizes.specs.Refusals.{said, Line, holdsIn, boardOrder}
 use Rattle.sizes.specs.Laws.{First}
-use Rattle.mbcr.specs.Share.{standard, Points, share, shares}
+use Rattle.mbcr.specs.Share.{standard, DifferentPoints, share, shares}
 use Rattle.mbcr.specs.Rebuild.{helperPacket, exchangePacket, finishedShare}
 use Rattle.mbcr.specs.Read.{readFile}
 use Rattle.sizes.specs.Sizing.{stripes}
@@ -22,7 +24,7 @@ use Rattle.board_statements.specs.Text.{decimal, hexPair, shareText}
 use Rattle.board_statements.specs.Calls.{BoardOutcome, fileOf, shareLines, shareCall, fileLines, fileCall, helperLines, helperCall, exchangeLines, exchangeCall, finishedLines, finishedCall, textLines, textCall}
 
 -- one call: its lines, its output as it came, the bytes that it writes where it does its work, and its outcome
-pub record Ends (lines : List Line) (output bytes : List ℕ) (o : BoardOutcome) : Type 0 where
+pub record BoardEnds (lines : List Line) (output bytes : List ℕ) (o : BoardOutcome) : Type 0 where
   -- some line is the first that holds, or none holds
   pub one : ((x : Refusal) × First boardOrder lines x) ⊎ All (λ x. holdsIn lines x ≡ false) boardOrder
   -- "The first that applies is given", and all is as it came
@@ -33,22 +35,22 @@ pub record Ends (lines : List Line) (output bytes : List ℕ) (o : BoardOutcome)
 
 pub record BoardCalls : Type 0 where
   pub share-ends : (z : Sizes) (xs : List ℕ) (node : ℕ) (file output : List ℕ)
-      → Ends (shareLines z xs node file output) output (share z xs file node) (shareCall z xs node file output)
+      → BoardEnds (shareLines z xs node file output) output (share z xs file node) (shareCall z xs node file output)
   pub file-ends : (z : Sizes) (xs : List ℕ) (L : ℕ) (boards held output : List ℕ)
-      → Ends (fileLines z xs L boards held output) output (fileOf (readFile z xs L boards held)) (fileCall z xs L boards held output)
+      → BoardEnds (fileLines z xs L boards held output) output (fileOf (readFile z xs L boards held)) (fileCall z xs L boards held output)
   pub helper-ends : (z : Sizes) (xs : List ℕ) (L helper receiver : ℕ) (held output : List ℕ)
-      → Ends (helperLines z xs L helper receiver held output) output (helperPacket z xs (stripes z L) helper receiver held) (helperCall z xs L helper receiver held output)
+      → BoardEnds (helperLines z xs L helper receiver held output) output (helperPacket z xs (stripes z L) helper receiver held) (helperCall z xs L helper receiver held output)
   pub exchange-ends : (z : Sizes) (xs : List ℕ) (L board : ℕ) (helpers packets : List ℕ) (receiver : ℕ) (output : List ℕ)
-      → Ends (exchangeLines z xs L board helpers packets receiver output) output (exchangePacket z xs (stripes z L) helpers packets receiver)
+      → BoardEnds (exchangeLines z xs L board helpers packets receiver output) output (exchangePacket z xs (stripes z L) helpers packets receiver)
       (exchangeCall z xs L board helpers packets receiver output)
   pub finished-ends : (z : Sizes) (xs : List ℕ) (L board : ℕ) (helpers packets partners exchanges output : List ℕ)
-      → Ends (finishedLines z xs L board helpers packets partners exchanges output) output (finishedShare z xs (stripes z L) board helpers packets partners exchanges)
+      → BoardEnds (finishedLines z xs L board helpers packets partners exchanges output) output (finishedShare z xs (stripes z L) board helpers packets partners exchanges)
       (finishedCall z xs L board helpers packets partners exchanges output)
   pub text-ends : (z : Sizes) (xs : List ℕ) (L node : ℕ) (held output : List ℕ)
-      → Ends (textLines z xs L node held output) output (shareText z L node held) (textCall z xs L node held output)
+      → BoardEnds (textLines z xs L node held output) output (shareText z L node held) (textCall z xs L node held output)
   -- "a file from k shares": where no line but DISAGREE holds, and the points differ, it gives f exactly when f has length L and these shares,
   -- and DISAGREE exactly when there is no such file
-  pub file-exact : (z : Sizes) (xs : List ℕ) (L : ℕ) (boards held output : List ℕ) → Points z xs → Bytes held
+  pub file-exact : (z : Sizes) (xs : List ℕ) (L : ℕ) (boards held output : List ℕ) → DifferentPoints z xs → Bytes held
       → All (λ x. (x ≡ Disagree) ⊎ (holdsIn (fileLines z xs L boards held output) x ≡ false)) boardOrder
       → ((file : List ℕ) → length file ≡ L → Bytes file
       → (fileCall z xs L boards held output ≡ record { answer = said (Done L); output = over file output }) ↔ (shares z xs file boards ≡ held))
@@ -63,14 +65,20 @@ pub record BoardCalls : Type 0 where
       × ((L board : ℕ) (helpers packets partners exchanges output : List ℕ) → finishedCall z standard L board helpers packets partners exchanges output .answer .refusal ≢ 11)
       × ((L node : ℕ) (held output : List ℕ) → textCall z standard L node held output .answer .refusal ≢ 11)
 
--- "decimals with no leading zero", "lower-case hexadecimal pairs": the number by its digits; digits only; 0 leads only in 0 itself
+-- the number that decimal digits spell, after the number v
 abbrev pub value : List ℕ → ℕ → ℕ
 value [] v = v
 value (c ∷ l) v = value l (10 * v + (c - 0x30))
 
+-- the number that a hexadecimal digit spells
+abbrev pub hexValue : ℕ → ℕ
+hexValue c = pick (ltb c 0x3A) (c - 0x30) (c - 0x57)
+
+-- "decimals with no leading zero", "lower-case hexadecimal pairs"
 pub record TextLaws : Type 0 where
   pub decimal-value : (x : ℕ) → value (decimal x) 0 ≡ x
   pub decimal-digits : (x : ℕ) → All (λ c. (0x30 ≤ c) × (c ≤ 0x39)) (decimal x)
   pub decimal-first : (x : ℕ) → 1 ≤ x → 0x31 ≤ getD (decimal x) 0 0
+  pub decimal-zero : decimal 0 ≡ 0x30 ∷ []
+  pub hex-value : (b : ℕ) → 16 * hexValue (getD (hexPair b) 0 0) + hexValue (getD (hexPair b) 1 0) ≡ b
   pub hex-digits : (b : ℕ) → b < 256 → All (λ c. ((0x30 ≤ c) × (c ≤ 0x39)) ⊎ ((0x61 ≤ c) × (c ≤ 0x66))) (hexPair b)
-  pub hex-differ : (a b : ℕ) → a < 256 → b < 256 → hexPair a ≡ hexPair b → a ≡ b

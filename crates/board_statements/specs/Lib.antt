@@ -1,3 +1,4 @@
 pub mod Text
 pub mod Calls
 pub mod Demand1
+pub mod Figures

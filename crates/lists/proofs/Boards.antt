@@ -8,6 +8,7 @@ use mathlib.Core.Logic.{_≢_, _⊎_, inl, inr}
 use native.Mathlib.Omega.{arith}
 use lib.Dec.{ltb, eqb}
 use lib.ListN.{length, getD, take, drop}
+use lib.Seq.{take-at, drop-at}
 use borrow.Author.Tests.{ltb-true, lt-ltb, eqb-true, eqb-false, eq-eqb, ne-eqb, not-false, not-true}
 use Rattle.lists.specs.Tests.{pick, every, below, among, different, apart}
 use Rattle.lists.specs.Lists.{All, joined, without}
@@ -191,3 +192,11 @@ length-without x (y ∷ l) d h = go (eqb y x) refl h (λ k. length-without x l (
         let q : among l x ≡ false = subst (λ (z : ℕ). among l z ≡ false) (eqb-true y x e) (different-cons y l d .0) in
         ap (λ (t : List ℕ). suc (length t)) (without-none x l q)
     go false e k ih = ap suc (ih k)
+
+-- lists put together of pieces of the same lengths are the same just where the pieces are
+pub joined-parts : (f g : ℕ → List ℕ) (l : List ℕ) → All (λ x. length (f x) ≡ length (g x)) l → joined f l ≡ joined g l → All (λ x. f x ≡ g x) l
+joined-parts f g [] h e = tt
+joined-parts f g (x ∷ l) h e = (
+  sym (take-at (f x) (joined f l) (length (g x)) (h .0)) ∙ ap (take (length (g x))) e ∙ take-at (g x) (joined g l) (length (g x)) refl,
+  joined-parts f g l (h .1) (sym (drop-at (f x) (joined f l) (length (g x)) (h .0)) ∙ ap (drop (length (g x))) e ∙ drop-at (g x) (joined g l) (length (g x)) refl),
+)

@@ -19,7 +19,7 @@ use Rattle.polynomial.proofs.Linear.{above, interpolate-low}
 use Rattle.polynomial.proofs.Poly.{add-byte, eval-byte, interpolate-evals, interpolate-bytes, length-interpolate}
 use Rattle.mbcr.specs.Read.{through, bColumn, cRow, aColumn, decodedStripe}
 use Rattle.mbcr.specs.Rebuild.{ownF, ownG}
-use Rattle.mbcr.specs.Share.{Points, grid, points, neighbours, kept, point}
+use Rattle.mbcr.specs.Share.{DifferentPoints, grid, points, neighbours, kept, point}
 use Rattle.mbcr.proofs.Points.{Boards, length-points, points-bytes, points-distinct}
 use Rattle.mbcr.proofs.Shape.{shape, ordered}
 use Rattle.mbcr.proofs.Stripe.{f-kept, g-kept}
@@ -95,7 +95,7 @@ module _ (z : Sizes) (xs : List ℕ) (legal : Legal z) (bs : List ℕ) (lb : len
 
 -- ---- what k boards keep of a stripe
 
-module _ (z : Sizes) (xs : List ℕ) (legal : Legal z) (pts : Points z xs) (u : List ℕ) (lu : length u ≡ B z) (bu : Bytes u)
+module _ (z : Sizes) (xs : List ℕ) (legal : Legal z) (pts : DifferentPoints z xs) (u : List ℕ) (lu : length u ≡ B z) (bu : Bytes u)
     (bs : List ℕ) (boards : Boards z bs) (lb : length bs ≡ z .k)
     (w : ℕ → List ℕ) (wt : (t : ℕ) → t < z .k → w t ≡ kept z xs u (getD bs t 0)) where
   open Sizes z using (n, k, d, r)

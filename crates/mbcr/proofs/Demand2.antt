@@ -25,12 +25,12 @@ use Rattle.polynomial.proofs.Grid.{Shape}
 use Rattle.polynomial.proofs.Sums.{grid-sum}
 use Rattle.mbcr.specs.Demand2.{Named, packetsFromShares, exchangesFromShares, S, symbol, Demand2, Demand2Claim, Standard}
 use Rattle.mbcr.specs.Rebuild.{helperPacket, exchangePacket, finishedShare}
-use Rattle.mbcr.specs.Share.{Points, grid, F, share, point}
+use Rattle.mbcr.specs.Share.{DifferentPoints, grid, F, share, point}
 use Rattle.mbcr.proofs.Linear.{shares-add}
 use Rattle.mbcr.proofs.Points.{Boards, boards-of, standard-points, standard-point}
 use Rattle.mbcr.proofs.Stripe.{f-kept, g-kept, f-value, g-value}
 
-module _ (z : Sizes) (xs : List ℕ) (ok : legal z ≡ true) (pts : Points z xs) where
+module _ (z : Sizes) (xs : List ℕ) (ok : legal z ≡ true) (pts : DifferentPoints z xs) where
   open Sizes z using (n, k, d, r)
 
   facts : Legal z

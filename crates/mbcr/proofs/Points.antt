@@ -16,7 +16,7 @@ use Rattle.lists.proofs.Alls.{all-at, Distinct, distinct-of, byte-at, all-left,
 use Rattle.lists.proofs.Boards.{below-all, distinct}
 use Rattle.lists.proofs.Pieces.{length-tabulate, tabulate-at, tabulate-all}
 use Rattle.sizes.specs.declared.Sizes.{Sizes}
-use Rattle.mbcr.specs.Share.{Points, points, neighbours, point, standard}
+use Rattle.mbcr.specs.Share.{DifferentPoints, points, neighbours, point, standard}
 
 -- board numbers below n, none twice
 pub record Boards (z : Sizes) (boards : List ℕ) : Type 0 where
@@ -72,7 +72,7 @@ length-points xs bs = length-map bs (point xs)
 module _ (z : Sizes) (xs : List ℕ) where
   open Sizes z using (n)
 
-  module _ (pts : Points z xs) where
+  module _ (pts : DifferentPoints z xs) where
     pub points-bytes : (bs : List ℕ) → Boards z bs → Bytes (points xs bs)
     points-bytes bs h = go bs (h .known)
       where
@@ -99,7 +99,7 @@ boards-left z xs ys h = record { known = all-left (λ i. i < z .n) xs ys (h .kno
 -- ---- lists of points
 
 -- any n different bytes are points
-pub list-points : (z : Sizes) (xs : List ℕ) → z .n ≤ length xs → Bytes xs → different (take (z .n) xs) ≡ true → Points z xs
+pub list-points : (z : Sizes) (xs : List ℕ) → z .n ≤ length xs → Bytes xs → different (take (z .n) xs) ≡ true → DifferentPoints z xs
 list-points z xs l hb hd =
     let m : length (take (z .n) xs) ≡ z .n = length-take-le (z .n) xs l in
     record {
@@ -120,7 +120,7 @@ list-points z xs l hb hd =
 pub standard-point : (i : ℕ) → i < 32 → point standard i ≡ i
 standard-point i h = tabulate-at 32 (λ i. i) 0 i h
 
-pub standard-points : (z : Sizes) → z .n ≤ 32 → Points z standard
+pub standard-points : (z : Sizes) → z .n ≤ 32 → DifferentPoints z standard
 standard-points z h = record {
   bytes = λ i l. omega (arith, standard-point i (omega arith));
   differ = λ i j a b e. sym (standard-point i (omega arith)) ∙ e ∙ standard-point j (omega arith);

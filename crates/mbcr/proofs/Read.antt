@@ -19,7 +19,7 @@ use Rattle.sizes.specs.Sizing.{α, B, stripes}
 use Rattle.sizes.specs.declared.Sizes.{Sizes}
 use Rattle.sizes.proofs.Legal.{Legal, stripes-enough}
 use Rattle.mbcr.specs.Read.{decodedFile, readFile}
-use Rattle.mbcr.specs.Share.{Points, stripe, share, shares}
+use Rattle.mbcr.specs.Share.{DifferentPoints, stripe, share, shares}
 use Rattle.mbcr.proofs.Decode.{length-decoded, decoded-bytes, decoded-true}
 use Rattle.mbcr.proofs.Points.{Boards}
 use Rattle.mbcr.proofs.Repair.{length-share, share-piece}
@@ -40,7 +40,7 @@ module _ (z : Sizes) (xs : List ℕ) (legal : Legal z) (bs : List ℕ) (lb : len
 
 -- ---- over the shares of a file
 
-module _ (z : Sizes) (xs : List ℕ) (legal : Legal z) (pts : Points z xs) (bs : List ℕ) (boards : Boards z bs) (lb : length bs ≡ z .k) where
+module _ (z : Sizes) (xs : List ℕ) (legal : Legal z) (pts : DifferentPoints z xs) (bs : List ℕ) (boards : Boards z bs) (lb : length bs ≡ z .k) where
   open Sizes z using (n, k, d, r)
 
   pub join-stripes : (file : List ℕ) → take (length file) (join (stripes z (length file)) (λ s. stripe z file s)) ≡ file

@@ -14,7 +14,7 @@ use Rattle.sizes.specs.declared.Sizes.{Sizes}
 use Rattle.sizes.proofs.Legal.{Legal, α-moved}
 use Rattle.polynomial.specs.Polynomial.{eval}
 use Rattle.mbcr.specs.Rebuild.{helperPair, helperPacket, received, gFrom, exchangePacket, exchanged, finishedStripe, finishedShare}
-use Rattle.mbcr.specs.Share.{Points, stripe, F, kept, share, point}
+use Rattle.mbcr.specs.Share.{DifferentPoints, stripe, F, kept, share, point}
 use Rattle.mbcr.proofs.Points.{Boards, boards-left}
 use Rattle.mbcr.proofs.Shape.{length-stripe, stripe-bytes}
 use Rattle.mbcr.proofs.Stripe.{length-symbols, pair-true, exchanged-true, rebuilt-true}
@@ -60,7 +60,7 @@ module _ (z : Sizes) (xs : List ℕ) where
 abbrev pub packets : Sizes → List ℕ → List ℕ → List ℕ → ℕ → List ℕ
 packets z xs file hs i = join (length hs) (λ t. helperPacket z xs (stripes z (length file)) (getD hs t 0) i (share z xs file (getD hs t 0)))
 
-module _ (z : Sizes) (xs : List ℕ) (legal : Legal z) (pts : Points z xs) (file : List ℕ) (bf : Bytes file) where
+module _ (z : Sizes) (xs : List ℕ) (legal : Legal z) (pts : DifferentPoints z xs) (file : List ℕ) (bf : Bytes file) where
   open Sizes z using (n, k, d, r)
 
   abbrev S : ℕ

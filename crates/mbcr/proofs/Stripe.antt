@@ -18,7 +18,7 @@ use Rattle.polynomial.proofs.Grid.{Shape, GridBytes, column-at, eval-atX, atX-a
 use Rattle.polynomial.proofs.Linear.{eval-fit, eval-zero, interpolate-fit, plus-bytes, scale-bytes}
 use Rattle.polynomial.proofs.Poly.{eval-byte, evals-interpolate}
 use Rattle.mbcr.specs.Rebuild.{ownF, ownG, helperPair, gFrom, fFrom, finishedStripe}
-use Rattle.mbcr.specs.Share.{Points, grid, F, points, neighbours, symbols, kept, point}
+use Rattle.mbcr.specs.Share.{DifferentPoints, grid, F, points, neighbours, symbols, kept, point}
 use Rattle.mbcr.proofs.Points.{Boards, length-neighbours, neighbours-boards, neighbours-first, length-points, points-bytes, points-distinct, boards-left}
 use Rattle.mbcr.proofs.Shape.{shape}
 
@@ -79,7 +79,7 @@ module _ (z : Sizes) (xs : List ℕ) (legal : Legal z) where
       whole zero l = absurd (omega arith)
       whole (suc m) l = rw (neighbours-first z i m h)
 
-module _ (z : Sizes) (xs : List ℕ) (legal : Legal z) (pts : Points z xs) (u : List ℕ) (lu : length u ≡ B z) (bu : Bytes u) where
+module _ (z : Sizes) (xs : List ℕ) (legal : Legal z) (pts : DifferentPoints z xs) (u : List ℕ) (lu : length u ≡ B z) (bu : Bytes u) where
   open Sizes z using (n, k, d, r)
 
   sh : Shape k d r (grid z u)
@@ -183,7 +183,7 @@ module _ (z : Sizes) (xs : List ℕ) (legal : Legal z) (pts : Points z xs) (u : 
       (fun-ext gv)
 
 -- ---- any bytes: f and g by the bytes that a board keeps have these bytes for values
-module _ (z : Sizes) (xs : List ℕ) (legal : Legal z) (pts : Points z xs) where
+module _ (z : Sizes) (xs : List ℕ) (legal : Legal z) (pts : DifferentPoints z xs) where
   open Sizes z using (n, k, d, r)
 
   pub symbols-of : (i : ℕ) (w : List ℕ) → i < n → length w ≡ α z → Bytes w → symbols z xs i (eval (ownF z xs i w)) (eval (ownG z xs i w)) ≡ w

@@ -13,7 +13,7 @@ use Rattle.gf256.specs.Field.{mul}
 use Rattle.sizes.specs.declared.Sizes.{Sizes}
 use Rattle.sizes.specs.Sizing.{legal, α, B, stripes}
 use Rattle.polynomial.specs.Polynomial.{eval, entry, plus, sum, power}
-use Rattle.mbcr.specs.Share.{point, standard, Points, stripe, grid, F, kept, share, shares}
+use Rattle.mbcr.specs.Share.{point, standard, DifferentPoints, stripe, grid, F, kept, share, shares}
 use Rattle.mbcr.specs.Rebuild.{received, exchanged, ownF, ownG, helperPacket, exchangePacket, finishedShare}
 use Rattle.mbcr.specs.Read.{decodedFile, readFile}
 
@@ -107,8 +107,8 @@ pub record Demand2 (z : Sizes) (xs : List ℕ) : Type 0 where
       → share z xs (plus file file′) i ≡ plus (share z xs file i) (share z xs file′ i)
 
 abbrev pub Demand2Claim : Type 0
-Demand2Claim = (z : Sizes) (xs : List ℕ) → legal z ≡ true → Points z xs → Demand2 z xs
+Demand2Claim = (z : Sizes) (xs : List ℕ) → legal z ≡ true → DifferentPoints z xs → Demand2 z xs
 
 -- document 01's points are such
 abbrev pub Standard : Type 0
-Standard = (z : Sizes) → legal z ≡ true → Points z standard × ((i : ℕ) → i < z .n → point standard i ≡ i)
+Standard = (z : Sizes) → legal z ≡ true → DifferentPoints z standard × ((i : ℕ) → i < z .n → point standard i ≡ i)

@@ -23,7 +23,7 @@ abbrev pub standard : List ℕ
 standard = tabulate maxBoards (λ i. i)
 
 -- the points of n boards are bytes, and those of two boards differ
-pub record Points (z : Sizes) (xs : List ℕ) : Type 0 where
+pub record DifferentPoints (z : Sizes) (xs : List ℕ) : Type 0 where
   pub bytes : (i : ℕ) → i < z .n → point xs i < 256
   pub differ : (i j : ℕ) → i < z .n → j < z .n → point xs i ≡ point xs j → i ≡ j
 

@@ -4,16 +4,16 @@ use Prim.Native.Nat.{ℕ}
 use mathlib.Core.Path.{_≡_, refl, sym, _∙_, ap}
 use mathlib.Core.Bool.{Bool, true, false, not}
 use mathlib.Core.List.{List, [], _∷_, _++_}
-use mathlib.Core.Logic.{_⊎_, inl, inr}
+use mathlib.Core.Logic.{_≢_, _⊎_, inl, inr}
 use native.Mathlib.Omega.{arith}
-use Rattle.lists.specs.Tests.{pick}
 use Rattle.lists.specs.Lists.{All}
+use Rattle.lists.specs.Tests.{pick}
 use Rattle.lists.proofs.Tests.{true-false}
+use Rattle.sizes.specs.Laws.{First}
+use Rattle.sizes.specs.Refusals.{Line, holdsIn, first, number}
 use Rattle.sizes.specs.declared.Check.{Check}
 use Rattle.sizes.specs.declared.Check.the-variants.{Pass, Refuse}
 use Rattle.sizes.specs.declared.Refusal.{Refusal}
-use Rattle.sizes.specs.Refusals.{Line, holdsIn, first}
-use Rattle.sizes.specs.Laws.{First}
 
 pub refuse-pass : {x : Refusal} {c : Check} → c ≡ Refuse x → c ≡ Pass → ⊥
 refuse-pass p q = let z : _≡_ {A = ℕ} 0 1 = cc in omega arith
@@ -85,3 +85,14 @@ module _ (l m : List Line) where
       go false false e h f = f h
       go true false e h f = absurd (true-false refl e)
       go false true e h f = absurd (true-false refl (sym e))
+
+-- a line that holds only where one before it does is never given
+pub never : (lines : List Line) (x : Refusal) (order : List Refusal) → All (λ y. number y ≢ number x) order
+    → (Clear lines order → holdsIn lines x ≡ false) → first (order ++ (x ∷ [])) lines ≢ Refuse x
+never lines x [] a h e = refuse-pass e (clear-first lines (x ∷ []) (h tt, tt))
+never lines x (y ∷ order) a h e = go (holdsIn lines y) refl e (never lines x order (a .1))
+  where
+    go : (t : Bool) → holdsIn lines y ≡ t → pick t (Refuse y) (first (order ++ (x ∷ [])) lines) ≡ Refuse x
+        → ((Clear lines order → holdsIn lines x ≡ false) → first (order ++ (x ∷ [])) lines ≢ Refuse x) → ⊥
+    go true q e ih = a .0 (ap number (let s : y ≡ x = cc in s))
+    go false q e ih = ih (λ c. h (q, c)) e

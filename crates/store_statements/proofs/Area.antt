@@ -1,4 +1,5 @@
 -- Laws of boards' parts of an area: what was put is there, and nothing else changed.
+-- Assumes nothing.
 use Prim.Native.Nat.{ℕ, zero, suc, _+_, _-_, _*_, _≤_, _<_}
 use mathlib.Core.Path.{_≡_, refl, sym, _∙_, ap, subst}
 use mathlib.Core.Bool.{Bool, true, false}
@@ -12,8 +13,8 @@ use lib.ListN.{length, take, drop, getD, length-append, length-drop, take-append
 use lib.Seq.{length-take-le, take-at, drop-at, take-append-le, drop-append-le, drop-append-add, drop-drop, take-take, getD-take, getD-drop, ext-getD}
 use Rattle.lists.specs.Lists.{All, put}
 use Rattle.lists.specs.Tests.{pick, among}
-use Rattle.lists.proofs.Boards.{not-among-cons}
-use Rattle.lists.proofs.Put.{put-other, length-put, put-same, part-end, within}
+use Rattle.lists.proofs.Boards.{not-among-cons, among-tail, among-head}
+use Rattle.lists.proofs.Put.{put-other, length-put, put-same, part-end, within, byte-before, byte-after}
 use Rattle.lists.proofs.Tests.{true-false}
 use Rattle.store_statements.specs.Record.{Record, partLen, areaLen, putShares}
 
@@ -73,3 +74,17 @@ held-stripe w c n area i t h =
     let q : i * (c * w) + t * w ≡ (i * c + t) * w = omega arith in
     within w (n * w) (t * w) (drop (i * (c * w)) area) (part-end t w n h)
     ∙ ap (take w) (drop-drop (t * w) (i * (c * w)) area ∙ ap (λ (x : ℕ). drop x area) q)
+
+-- a byte outside the first u of the boards' parts stays
+module _ (s : Record) (share : ℕ → List ℕ) (u : ℕ) (long : (i : ℕ) → length (share i) ≡ u) (small : u ≤ partLen s) where
+  pub byte-stays : (boards area : List ℕ) → length area ≡ areaLen s → All (λ i. i < s .sizes .n) boards
+      → (p : ℕ) → ((i : ℕ) → among boards i ≡ true → (p < i * partLen s) ⊎ (i * partLen s + u ≤ p))
+      → getD (putShares s share boards area) p 0 ≡ getD area p 0
+  byte-stays [] area e h p out = refl
+  byte-stays (i ∷ boards) area e h p out =
+      let l : length (put area (i * partLen s) (share i)) ≡ length area = length-put area (i * partLen s) (share i) (fits-at s share u long small i area e (h .0)) in
+      byte-stays boards (put area (i * partLen s) (share i)) (l ∙ e) (h .1) p (λ j a. out j (among-tail i j boards a))
+      ∙ ⊎-elim
+      (λ k. byte-before area (i * partLen s) (share i) (fits-at s share u long small i area e (h .0)) p k)
+      (λ k. byte-after area (i * partLen s) (share i) (fits-at s share u long small i area e (h .0)) p (omega (arith, long i)))
+      (out i (among-head i boards))

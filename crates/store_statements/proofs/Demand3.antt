@@ -22,7 +22,7 @@ use Rattle.sizes.specs.declared.Sizes.{Sizes}
 use Rattle.sizes.proofs.Laws.{number-low}
 use Rattle.sizes.proofs.Legal.{legal-facts}
 use Rattle.sizes.proofs.Lines.{first-clear}
-use Rattle.mbcr.specs.Share.{Points, share}
+use Rattle.mbcr.specs.Share.{DifferentPoints, share}
 use Rattle.board_statements.specs.Calls.{fileOf}
 use Rattle.store_statements.specs.Calls.{recordLine, StoreOutcome, settle, refused, repairLines, repairCall, repairDone, readCall, setUpCall}
 use Rattle.store_statements.specs.Demand3.{Repaired, calls, Kept, begun, Demand3Claim}
@@ -84,7 +84,7 @@ record Run (xs : List ℕ) (w : State) (b : Book) (steps : List Step) : Type 0 w
   alike : replies xs w steps ≡ bookReplies b (calls steps)
   kept : Kept xs (final xs w steps) (bookFinal b (calls steps))
 
-module _ (xs : List ℕ) (laws : (z : Sizes) → legal z ≡ true → Points z xs → Laws xs z) where
+module _ (xs : List ℕ) (laws : (z : Sizes) → legal z ≡ true → DifferentPoints z xs → Laws xs z) where
   step : (b : Book) (area : List ℕ) → Inv xs b area → (call : Call) → Fair call → Good xs (act xs (record { kept = recordOf b; area = area }) call) (enter b call)
   step b area v (write file) ok = write-good xs laws b area v file ok
   step b area v (lose board) ok = lose-good xs laws b area v board
@@ -134,14 +134,14 @@ module _ (old : Record) (z : Sizes) (c : ℕ) (h : setUpCall old z c .answer .re
   set-up-pass =
       passes (first storeOrder (recordLine (newRecord z c) ∷ [])) old [] [] (record { answer = said (Done 0); handed = newRecord z c; area = []; output = [] }) h
 
-  set-up-sound : sound (newRecord z c) ≡ true
+  pub set-up-sound : sound (newRecord z c) ≡ true
   set-up-sound = not-no _ (first-clear (recordLine (newRecord z c) ∷ []) storeOrder set-up-pass .0)
 
   set-up-done : setUpCall old z c ≡ record { answer = said (Done 0); handed = newRecord z c; area = []; output = [] }
   unfolding setUpCall
   set-up-done = settle-pass _ _ _ set-up-pass
 
-open-inv : (xs : List ℕ) (z : Sizes) (c : ℕ) (area : List ℕ) → sound (newRecord z c) ≡ true → Points z xs → Inv xs (openBook z c (length area)) area
+open-inv : (xs : List ℕ) (z : Sizes) (c : ℕ) (area : List ℕ) → sound (newRecord z c) ≡ true → DifferentPoints z xs → Inv xs (openBook z c (length area)) area
 open-inv xs z c area s pts =
     record {
       as-long = refl;

@@ -10,3 +10,6 @@ pub mod Step
 pub mod StepRepair
 pub mod StepRead
 pub mod Demand3
+pub mod Exact
+pub mod Demand1
+pub mod Figures

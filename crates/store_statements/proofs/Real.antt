@@ -17,14 +17,14 @@ use Rattle.sizes.proofs.Legal.{legal-facts}
 use Rattle.mbcr.specs.Demand2.{Demand2, S, packetsFromShares, exchangesFromShares, Named}
 use Rattle.mbcr.specs.Read.{readFile}
 use Rattle.mbcr.specs.Rebuild.{finishedShare, helperPacket, exchangePacket}
-use Rattle.mbcr.specs.Share.{Points, share, shares}
+use Rattle.mbcr.specs.Share.{DifferentPoints, share, shares}
 use Rattle.mbcr.proofs.Demand2.{demand-2}
 use Rattle.mbcr.proofs.Points.{Boards}
 use Rattle.mbcr.proofs.Repair.{length-share, length-packet, length-exchange, length-finished}
 use Rattle.store_statements.proofs.Named.{named-boards, named-count}
 use Rattle.store_statements.proofs.Seam.{Hears, Laws, Lengths}
 
-module _ (xs : List ℕ) (z : Sizes) (ok : legal z ≡ true) (pts : Points z xs) where
+module _ (xs : List ℕ) (z : Sizes) (ok : legal z ≡ true) (pts : DifferentPoints z xs) where
   T : Demand2 z xs
   T = demand-2 z xs ok pts
 
@@ -70,5 +70,5 @@ code-lengths xs z ok =
       finished-length = length-finished z xs f;
     }
 
-pub code-laws : (xs : List ℕ) (z : Sizes) → legal z ≡ true → Points z xs → Laws xs z
+pub code-laws : (xs : List ℕ) (z : Sizes) → legal z ≡ true → DifferentPoints z xs → Laws xs z
 code-laws xs z ok pts = record { lengths = code-lengths xs z ok; rebuilt = rebuilt xs z ok pts; reads = reads xs z ok pts }

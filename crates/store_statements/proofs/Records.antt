@@ -13,8 +13,9 @@ use Rattle.lists.specs.Tests.{pick, alls, below, different, every, apart, given
 use Rattle.lists.proofs.Boards.{below-all}
 use Rattle.lists.proofs.Tests.{alls-hold, hold-alls, not-no}
 use Rattle.sizes.specs.Refusals.{first, storeOrder}
-use Rattle.sizes.specs.Sizing.{legal, maxStripes, B, α}
+use Rattle.sizes.specs.Sizing.{legal, maxStripes, B, α, stripes}
 use Rattle.sizes.specs.declared.Check.the-variants.{Pass}
+use Rattle.sizes.specs.declared.Sizes.{Sizes}
 use Rattle.sizes.proofs.Legal.{stripes-least, legal-facts}
 use Rattle.sizes.proofs.Lines.{first-clear, clear-first}
 use Rattle.board_statements.specs.Calls.{equalPoints, readRuns}
@@ -81,9 +82,11 @@ blank-if s h = go (s .written) refl
     go false e = let p = h e in hold-alls (eqb (s .length) 0 ∷ allOff (s .marks) ∷ []) (eq-eqb _ _ (p .0), (p .1, tt))
 
 -- the stripes of a file that fits lie in its boards' parts
+pub used-least : (z : Sizes) (L c : ℕ) → legal z ≡ true → L ≤ c * B z → stripes z L * α z ≤ c * α z
+used-least z L c ok h = mul-le-mul-right (α z) (stripes-least z (legal-facts z ok) L c h)
+
 pub used-fits : (s : Record) → Sound s → usedLen s ≤ partLen s
-used-fits s f =
-    mul-le-mul-right (α (s .sizes)) (stripes-least (s .sizes) (legal-facts (s .sizes) (f .is-legal)) (s .length) (s .capacity) (f .fits))
+used-fits s f = used-least (s .sizes) (s .length) (s .capacity) (f .is-legal) (f .fits)
 
 -- ---- no line holds
 

@@ -25,7 +25,7 @@ use Rattle.sizes.specs.declared.Refusal.{Refusal}
 use Rattle.sizes.specs.declared.Sizes.{Sizes}
 use Rattle.sizes.proofs.Legal.{legal-facts}
 use Rattle.sizes.proofs.Lines.{first-agree}
-use Rattle.mbcr.specs.Share.{Points, share}
+use Rattle.mbcr.specs.Share.{DifferentPoints, share}
 use Rattle.board_statements.specs.Calls.{fileOf}
 use Rattle.store_statements.specs.Calls.{StoreOutcome, settle, refused, writeLines, writeDone, writeCall, loseLines, loseCall}
 use Rattle.store_statements.specs.Ledger.{Call, write, lose, repair, read, replied, Book, recordOf, Entry, replyOf, Altered, bookLines, noted, act, enter, accept, bookLength}
@@ -41,7 +41,7 @@ use Rattle.store_statements.proofs.Seam.{Laws}
 pub record Inv (xs : List ℕ) (b : Book) (area : List ℕ) : Type 0 where
   pub as-long : length area ≡ b .areaLength
   pub is-sound : sound (recordOf b) ≡ true
-  pub points : Points (b .sizes) xs
+  pub points : DifferentPoints (b .sizes) xs
   pub bytes : Bytes (fileOf (b .file))
   pub serving : All (λ i. i < b .sizes .n) (b .service)
   pub room : given (b .file) ≡ true → b .areaLength ≡ areaLen (recordOf b)
@@ -113,7 +113,7 @@ runs-different d (i ∷ fresh) helpers =
     go true false e k = absurd (true-false refl e)
     go false true e k = absurd (true-false refl (sym e))
 
-one-below : (n x : ℕ) → below n (x ∷ []) ≡ ltb x n
+pub one-below : (n x : ℕ) → below n (x ∷ []) ≡ ltb x n
 one-below n x = go (ltb x n)
   where
     go : (t : Bool) → pick t true false ≡ t
@@ -131,7 +131,7 @@ every-same p q (x ∷ l) h = go (p x) (q x) (h x) (every-same p q l h)
     go true false e k = absurd (true-false refl e)
     go false true e k = absurd (true-false refl (sym e))
 
-module _ (xs : List ℕ) (laws : (z : Sizes) → legal z ≡ true → Points z xs → Laws xs z) (b : Book) (area : List ℕ) (v : Inv xs b area) where
+module _ (xs : List ℕ) (laws : (z : Sizes) → legal z ≡ true → DifferentPoints z xs → Laws xs z) (b : Book) (area : List ℕ) (v : Inv xs b area) where
   pub facts : Sound (recordOf b)
   facts = sound-facts (recordOf b) (v .is-sound)
 

@@ -22,7 +22,7 @@ use Rattle.sizes.specs.declared.Sizes.{Sizes}
 use Rattle.sizes.proofs.Legal.{legal-facts}
 use Rattle.sizes.proofs.Lines.{first-agree}
 use Rattle.mbcr.specs.Read.{readFile}
-use Rattle.mbcr.specs.Share.{Points, share}
+use Rattle.mbcr.specs.Share.{DifferentPoints, share}
 use Rattle.mbcr.proofs.Points.{boards-of}
 use Rattle.board_statements.specs.Calls.{fileOf, equalPoints, readRuns}
 use Rattle.board_statements.proofs.Runs.{read-runs}
@@ -34,7 +34,7 @@ use Rattle.store_statements.proofs.Records.{Sound, read-facts, blank-of
 use Rattle.store_statements.proofs.Seam.{Laws}
 use Rattle.store_statements.proofs.Step.{Inv, facts, lawful, size-off, area-same, every-same, up, Good, good-both, refusal-good, settle-pass}
 
-module _ (xs : List ℕ) (laws : (z : Sizes) → legal z ≡ true → Points z xs → Laws xs z) (b : Book) (area : List ℕ) (v : Inv xs b area) where
+module _ (xs : List ℕ) (laws : (z : Sizes) → legal z ≡ true → DifferentPoints z xs → Laws xs z) (b : Book) (area : List ℕ) (v : Inv xs b area) where
   known : Sound (recordOf b)
   known = facts xs laws b area v
 

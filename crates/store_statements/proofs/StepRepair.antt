@@ -19,7 +19,7 @@ use Rattle.sizes.specs.declared.Answer.the-variants.{Done}
 use Rattle.sizes.specs.declared.Sizes.{Sizes}
 use Rattle.sizes.proofs.Legal.{Legal, legal-facts}
 use Rattle.sizes.proofs.Lines.{first-agree}
-use Rattle.mbcr.specs.Share.{Points, share}
+use Rattle.mbcr.specs.Share.{DifferentPoints, share}
 use Rattle.board_statements.specs.Calls.{equalPoints, ownRuns, finishRuns, fileOf}
 use Rattle.board_statements.proofs.Runs.{unequal-append, unequal-concat, own-runs, finish-runs}
 use Rattle.store_statements.specs.Calls.{repairLines, repairDone, repairCall}
@@ -36,7 +36,7 @@ use Rattle.store_statements.proofs.Step.{Inv, facts, both-below, runs-d
 
 -- ---- POINTS
 
-module _ (xs : List ℕ) (z : Sizes) (legal : Legal z) (pts : Points z xs) (fresh : List ℕ) (low : All (λ x. x < z .n) fresh) (once : different fresh ≡ true) where
+module _ (xs : List ℕ) (z : Sizes) (legal : Legal z) (pts : DifferentPoints z xs) (fresh : List ℕ) (low : All (λ x. x < z .n) fresh) (once : different fresh ≡ true) where
   -- of one fresh board
   hearing-runs : (i : ℕ) (l : List ℕ) → among fresh i ≡ true → All (λ x. x < z .n) l → different l ≡ true → apart fresh l ≡ true
       → equalPoints xs (concat (map (ownRuns z) l) ++ finishRuns i l (without i fresh)) ≡ false
@@ -60,7 +60,7 @@ module _ (xs : List ℕ) (z : Sizes) (legal : Legal z) (pts : Points z xs) (fres
             (all-every (λ x. not (among fresh x)) (lib.ListN.drop (z .d) helpers) (drop-alls (λ x. not (among fresh x) ≡ true) (z .d) helpers q)),
       )
 
-pub repair-points : (xs : List ℕ) (s : Record) (fresh helpers : List ℕ) → legal (s .sizes) ≡ true → Points (s .sizes) xs
+pub repair-points : (xs : List ℕ) (s : Record) (fresh helpers : List ℕ) → legal (s .sizes) ≡ true → DifferentPoints (s .sizes) xs
     → below (s .sizes .n) (fresh ++ helpers) ≡ true → different fresh ≡ true
     → every (λ h. different (h .senders)) (hearHelpers (s .sizes .d) fresh helpers) ≡ true → apart fresh helpers ≡ true
     → equalPoints xs (repairRuns s fresh helpers) ≡ false
@@ -73,7 +73,7 @@ repair-points xs s fresh helpers ok pts low once d none =
 
 -- ---- the call
 
-module _ (xs : List ℕ) (laws : (z : Sizes) → legal z ≡ true → Points z xs → Laws xs z) (b : Book) (area : List ℕ) (v : Inv xs b area) where
+module _ (xs : List ℕ) (laws : (z : Sizes) → legal z ≡ true → DifferentPoints z xs → Laws xs z) (b : Book) (area : List ℕ) (v : Inv xs b area) where
   known : Sound (recordOf b)
   known = facts xs laws b area v
 

@@ -10,7 +10,7 @@ use Rattle.lists.specs.Lists.{joined, without, over}
 use Rattle.sizes.specs.declared.Sizes.{Sizes}
 use Rattle.sizes.specs.declared.Answer.the-variants.{Done}
 use Rattle.sizes.specs.Refusals.{said}
-use Rattle.mbcr.specs.Share.{Points, share}
+use Rattle.mbcr.specs.Share.{DifferentPoints, share}
 use Rattle.mbcr.specs.Rebuild.{helperPacket, exchangePacket}
 use Rattle.board_statements.specs.Calls.{fileOf}
 use Rattle.store_statements.specs.Record.{Record, stripeCount, held}
@@ -81,6 +81,6 @@ abbrev pub Demand3Claim : Type 0
 Demand3Claim =
     (xs : List ℕ) (old : Record) (z : Sizes) (c : ℕ) (area : List ℕ) (steps : List Step)
     → setUpCall old z c .answer .refusal ≡ 0
-    → Points z xs
+    → DifferentPoints z xs
     → Allowed xs (begun old z c area) (openBook z c (length area)) steps
     → Demand3 xs old z c area steps

@@ -1,0 +1,153 @@
+-- Further figures of the store over the definitions: for each call each refusal that it has, then each adjacent pair of the order, where both
+-- lines hold and the first is given; places in the area; each fresh board's own helpers. proofs/Figures.antt has `further-figures`.
+-- Assumes nothing.
+use mathlib.Core.Path.{_≡_}
+use mathlib.Core.Bool.{Bool, true, false}
+use mathlib.Core.List.{List, [], _∷_, _++_, map}
+use Prim.Native.Nat.{ℕ}
+use lib.ListN.{replicate}
+use Rattle.sizes.specs.declared.Sizes.{Sizes}
+use Rattle.sizes.specs.declared.Answer.the-variants.{Done, Refused}
+use Rattle.sizes.specs.Refusals.{said}
+use Rattle.mbcr.specs.Share.{standard}
+use Rattle.store_statements.specs.Record.{Record, sound, newRecord, withMarks}
+use Rattle.store_statements.specs.Packets.{sentTo, sendersOf, contents, helperPackets, exchangePackets}
+use Rattle.store_statements.specs.Calls.{StoreOutcome, setUpCall, writeCall, loseCall, repairCall, readCall}
+use Rattle.store_statements.specs.Figures.{two, twoFile, five, fiveFile, written, area, spoiled, helpers}
+
+abbrev answers : List StoreOutcome → List ℕ
+answers os = map (λ o. o .answer .refusal) os
+
+abbrev marks : List Bool → List Bool
+marks l = l ++ replicate 32 false
+
+-- a record of five boards, one stripe
+abbrev five-record : Bool → ℕ → List Bool → Record
+five-record written length on = record { sizes = five; capacity = 1; written = written; length = length; marks = marks on }
+
+-- a record that no call returns
+abbrev unsound : Record
+unsound = five-record true 13 []
+
+-- the file is written, and boards 0 and 1, then 4 too, are lost
+abbrev lost : Record
+lost = withMarks written (false ∷ false ∷ true ∷ true ∷ true ∷ replicate 27 false)
+
+abbrev lost-three : Record
+lost-three = withMarks written (false ∷ false ∷ true ∷ true ∷ replicate 28 false)
+
+-- n=6, k=2, d=2, r=2, the file 01 02 .. 08: two fresh boards with different lists of helpers
+abbrev six : Record
+six = record { sizes = record { n = 6; k = 2; d = 2; r = 2 }; capacity = 1; written = true; length = 8; marks = replicate 6 true ++ replicate 26 false }
+
+abbrev six-area : List ℕ
+six-area =
+    replicate 10 0xFF
+    ++ (0x8F ∷ 0xEC ∷ 0x76 ∷ 0x44 ∷ 0xD8
+    ∷ 0x80 ∷ 0x2F ∷ 0xB6 ∷ 0x04 ∷ 0x99
+    ∷ 0xBD ∷ 0x52 ∷ 0x0D ∷ 0x20 ∷ 0xE4
+    ∷ 0xA0 ∷ 0x0E ∷ 0x28 ∷ 0x37 ∷ 0xBD ∷ [])
+
+abbrev own : List ℕ
+own = 2 ∷ 3 ∷ 4 ∷ 5 ∷ []
+
+-- n=2, C=2, a file of one stripe
+abbrev half-full : Record
+half-full = record { sizes = two; capacity = 2; written = true; length = 2; marks = true ∷ true ∷ replicate 30 false }
+
+pub record FurtherFigures : Type 0 where
+  -- a record of a file, of no file, of an empty file, and with all boards lost; then L above C × B, a mark from n up, no file with L above 0
+  -- or with a mark, C outside its range, sizes not legal
+  pub sound-records : map sound (five-record true 12 (true ∷ []) ∷ newRecord five 1 ∷ five-record true 0 (true ∷ []) ∷ five-record true 12 [] ∷ newRecord five 4096 ∷ [])
+      ≡ true ∷ true ∷ true ∷ true ∷ true ∷ []
+  pub unsound-records :
+      map sound
+      (unsound
+      ∷ five-record true 12 (false ∷ false ∷ false ∷ false ∷ false ∷ true ∷ [])
+      ∷ five-record false 1 []
+      ∷ five-record false 0 (true ∷ [])
+      ∷ newRecord five 0
+      ∷ newRecord five 4097
+      ∷ newRecord (record { n = 4; k = 2; d = 3; r = 2 }) 1
+      ∷ [])
+      ≡ false ∷ false ∷ false ∷ false ∷ false ∷ false ∷ false ∷ []
+  -- a set-up over any record is accepted, or hands that record back
+  pub set-up-new : setUpCall unsound five 3 ≡ record { answer = said (Done 0); handed = newRecord five 3; area = []; output = [] }
+  pub set-up-refused : setUpCall unsound five 4097 ≡ record { answer = record { refusal = 1; value = 0 }; handed = unsound; area = []; output = [] }
+  -- write: 1, 2, 3; then 1 before 2, 2 before 3. "L = C × B is written, one more is LONG."
+  pub write-refusals :
+      answers
+      (writeCall standard unsound (replicate 35 0) []
+      ∷ writeCall standard (newRecord five 1) (replicate 34 0) []
+      ∷ writeCall standard (newRecord five 1) (replicate 35 0) (replicate 13 0)
+      ∷ writeCall standard unsound [] []
+      ∷ writeCall standard (newRecord five 1) [] (replicate 13 0)
+      ∷ writeCall standard (newRecord five 1) (replicate 35 0) (replicate 12 0)
+      ∷ [])
+      ≡ 1 ∷ 2 ∷ 3 ∷ 1 ∷ 2 ∷ 0 ∷ []
+  -- lose: 1, 5; 1 before 5; accepted over an area of any length, before a write, and where the board is out of service
+  pub lose-refusals :
+      answers (loseCall unsound [] 0 ∷ loseCall (newRecord five 1) [] 5 ∷ loseCall unsound [] 5 ∷ loseCall lost [] 4 ∷ loseCall (newRecord five 1) [] 4 ∷ loseCall lost [] 0 ∷ [])
+      ≡ 1 ∷ 5 ∷ 1 ∷ 0 ∷ 0 ∷ 0 ∷ []
+  -- repair: 1, 2, 8, 4 of the fresh and of the helpers, 5 of each, 6 of the fresh, of one list and of a fresh board as another's helper, 9; then
+  -- each before the next
+  pub repair-refusals :
+      answers
+      (repairCall standard unsound spoiled (0 ∷ 1 ∷ []) helpers
+      ∷ repairCall standard lost [] (0 ∷ 1 ∷ []) helpers
+      ∷ repairCall standard (newRecord five 1) spoiled (0 ∷ 1 ∷ []) helpers
+      ∷ repairCall standard lost spoiled (0 ∷ []) helpers
+      ∷ repairCall standard lost spoiled (0 ∷ 1 ∷ []) (2 ∷ 3 ∷ 4 ∷ [])
+      ∷ repairCall standard lost spoiled (0 ∷ 5 ∷ []) helpers
+      ∷ repairCall standard lost spoiled (0 ∷ 1 ∷ []) (2 ∷ 3 ∷ 4 ∷ 2 ∷ 3 ∷ 5 ∷ [])
+      ∷ repairCall standard lost spoiled (0 ∷ 0 ∷ []) helpers
+      ∷ repairCall standard lost spoiled (0 ∷ 1 ∷ []) (2 ∷ 3 ∷ 4 ∷ 2 ∷ 3 ∷ 3 ∷ [])
+      ∷ repairCall standard lost spoiled (0 ∷ 1 ∷ []) (2 ∷ 3 ∷ 4 ∷ 2 ∷ 3 ∷ 0 ∷ [])
+      ∷ repairCall standard lost-three spoiled (0 ∷ 1 ∷ []) helpers
+      ∷ repairCall standard unsound [] (0 ∷ 1 ∷ []) helpers
+      ∷ repairCall standard (newRecord five 1) [] (0 ∷ 1 ∷ []) helpers
+      ∷ repairCall standard (newRecord five 1) spoiled [] helpers
+      ∷ repairCall standard lost spoiled (9 ∷ []) helpers
+      ∷ repairCall standard lost spoiled (9 ∷ 9 ∷ []) helpers
+      ∷ repairCall standard lost-three spoiled (0 ∷ 1 ∷ []) (2 ∷ 3 ∷ 4 ∷ 2 ∷ 4 ∷ 4 ∷ [])
+      ∷ [])
+      ≡ 1 ∷ 2 ∷ 8 ∷ 4 ∷ 4 ∷ 5 ∷ 5 ∷ 6 ∷ 6 ∷ 6 ∷ 9 ∷ 1 ∷ 2 ∷ 8 ∷ 4 ∷ 5 ∷ 6 ∷ []
+  -- read: 1, 2, 8, 4 ("a read of k − 1 boards is COUNT"), 5, 6, 9, 7, 10; then each before the next
+  pub read-refusals :
+      answers
+      (readCall standard unsound spoiled (2 ∷ 3 ∷ []) (replicate 12 0)
+      ∷ readCall standard lost [] (2 ∷ 3 ∷ []) (replicate 12 0)
+      ∷ readCall standard (newRecord five 1) spoiled (2 ∷ 3 ∷ []) (replicate 12 0)
+      ∷ readCall standard lost spoiled (2 ∷ []) (replicate 12 0)
+      ∷ readCall standard lost spoiled (2 ∷ 5 ∷ []) (replicate 12 0)
+      ∷ readCall standard lost spoiled (2 ∷ 2 ∷ []) (replicate 12 0)
+      ∷ readCall standard lost spoiled (2 ∷ 1 ∷ []) (replicate 12 0)
+      ∷ readCall standard lost spoiled (2 ∷ 3 ∷ []) (replicate 11 0)
+      ∷ readCall standard written spoiled (1 ∷ 2 ∷ []) (replicate 12 0)
+      ∷ readCall standard unsound [] (2 ∷ 3 ∷ []) (replicate 12 0)
+      ∷ readCall standard (newRecord five 1) [] (2 ∷ 3 ∷ []) (replicate 12 0)
+      ∷ readCall standard (newRecord five 1) spoiled (2 ∷ []) (replicate 12 0)
+      ∷ readCall standard lost spoiled (9 ∷ []) (replicate 12 0)
+      ∷ readCall standard lost spoiled (9 ∷ 9 ∷ []) (replicate 12 0)
+      ∷ readCall standard lost spoiled (1 ∷ 1 ∷ []) (replicate 12 0)
+      ∷ readCall standard lost spoiled (2 ∷ 1 ∷ []) []
+      ∷ readCall standard written spoiled (1 ∷ 2 ∷ []) []
+      ∷ [])
+      ≡ 1 ∷ 2 ∷ 8 ∷ 4 ∷ 5 ∷ 6 ∷ 9 ∷ 7 ∷ 10 ∷ 1 ∷ 2 ∷ 8 ∷ 4 ∷ 5 ∷ 6 ∷ 9 ∷ 7 ∷ []
+  -- refusals before a write and with no board in service leave the area
+  pub refused-write : writeCall standard (newRecord five 1) (replicate 35 0xAB) (replicate 13 0)
+      ≡ record { answer = record { refusal = 3; value = 0 }; handed = newRecord five 1; area = replicate 35 0xAB; output = [] }
+  -- boards 0 and 1 are lost and their bytes spoiled; a repair: 14 bytes moved, record and area as after the write; then a read from them
+  pub losses : loseCall (loseCall written [] 0 .handed) [] 1 .handed ≡ lost
+  pub repaired : repairCall standard lost spoiled (0 ∷ 1 ∷ []) helpers ≡ record { answer = record { refusal = 0; value = 14 }; handed = written; area = area; output = [] }
+  pub read-back : readCall standard written area (1 ∷ 0 ∷ []) (replicate 14 0xEE)
+      ≡ record { answer = record { refusal = 0; value = 0 }; handed = written; area = area; output = fiveFile ++ (0xEE ∷ 0xEE ∷ []) }
+  -- "for each, its own list of d helpers": boards 0 and 1 fresh, helpers 2, 3 and 4, 5
+  pub own-helpers : map (λ i. sendersOf (sentTo i (helperPackets standard six six-area (0 ∷ 1 ∷ []) own))) (0 ∷ 1 ∷ []) ≡ (2 ∷ 3 ∷ []) ∷ (4 ∷ 5 ∷ []) ∷ []
+  pub own-partners : map (λ i. sendersOf (sentTo i (exchangePackets standard six six-area (0 ∷ 1 ∷ []) own))) (0 ∷ 1 ∷ []) ≡ (1 ∷ []) ∷ (0 ∷ []) ∷ []
+  pub own-packets : map (λ i. contents (sentTo i (helperPackets standard six six-area (0 ∷ 1 ∷ []) own))) (0 ∷ 1 ∷ [])
+      ≡ (0x07 ∷ 0x21 ∷ 0x04 ∷ 0x34 ∷ []) ∷ (0x20 ∷ 0x9D ∷ 0x28 ∷ 0x4F ∷ []) ∷ []
+  -- C = 2, S = 1: stripe s of board i starts at (i × C + s) × α, and the second stripes stay
+  pub write-places : writeCall standard (newRecord two 2) (replicate 8 0xFF) twoFile .area ≡ 0x05 ∷ 0x06 ∷ 0xFF ∷ 0xFF ∷ 0x06 ∷ 0x05 ∷ 0xFF ∷ 0xFF ∷ []
+  pub repair-places : repairCall standard half-full (0x77 ∷ 0x77 ∷ 0x77 ∷ 0x77 ∷ 0x06 ∷ 0x05 ∷ 0xFF ∷ 0xFF ∷ []) (0 ∷ []) (1 ∷ []) .area
+      ≡ 0x05 ∷ 0x06 ∷ 0x77 ∷ 0x77 ∷ 0x06 ∷ 0x05 ∷ 0xFF ∷ 0xFF ∷ []
