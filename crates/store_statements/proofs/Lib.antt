@@ -13,3 +13,4 @@ pub mod Demand3
 pub mod Exact
 pub mod Demand1
 pub mod Figures
+pub mod Stripes

@@ -41,8 +41,7 @@ module _ (xs : List ℕ) (z : Sizes) (ok : legal z ≡ true) (pts : DifferentPoi
         ≡ share z xs file i
     unfolding packetsFromShares exchangesFromShares
     rebuilt =
-        T .finished-true file bytes i (helpers i) (without i fresh) helpers
-        (
+        T .finished-true file bytes i (helpers i) (without i fresh) helpers (
           named-count z fresh (below-all (z .n) fresh (h .fresh-below)) (h .fresh-different) i e (helpers i)
               (below-all (z .n) (helpers i) (h .helpers-below i e)) (h .helpers-different i e) (h .none-fresh i e) (h .fresh-count) (h .count i e),
           all-below (z .n) (helpers i ++ without i fresh ++ (i ∷ [])) (boards .known),

@@ -52,11 +52,38 @@ module _ (xs : List ℕ) (laws : (z : Sizes) → legal z ≡ true → DifferentP
       → first storeOrder (readLines xs (recordOf b) area boards output) ≡ first storeOrder (bookLines b (read boards output))
   unfolding readLines bookLines
   read-same boards output =
-      first-agree (readLines xs (recordOf b) area boards output) (bookLines b (read boards output)) storeOrder
-      (size-off xs laws b area v, λ _. (area-same xs laws b area v, λ _. (refl, λ _. (refl, λ _. (refl, λ c. (refl, λ l. (refl, λ d.
-      (ap not (every-same (inService (recordOf b)) (among (b .service)) boards (up xs laws b area v)), λ u. (refl, λ _.
-      (ap (λ (o : Option (List ℕ)). not (given o)) (reading boards (eqb-true _ _ (not-no _ c)) (not-no _ l) (not-no _ d) (not-no _ u)), λ _.
-      (points-off boards (not-no _ l) (not-no _ d), λ _. tt)))))))))))
+      first-agree (readLines xs (recordOf b) area boards output) (bookLines b (read boards output)) storeOrder (
+        size-off xs laws b area v,
+        λ _. (
+          area-same xs laws b area v,
+          λ _. (
+            refl,
+            λ _. (
+              refl,
+              λ _. (
+                refl,
+                λ c. (
+                  refl,
+                  λ l. (
+                    refl,
+                    λ d. (
+                      ap not (every-same (inService (recordOf b)) (among (b .service)) boards (up xs laws b area v)),
+                      λ u. (
+                        refl,
+                        λ _. (
+                          ap (λ (o : Option (List ℕ)). not (given o)) (reading boards (eqb-true _ _ (not-no _ c)) (not-no _ l) (not-no _ d) (not-no _ u)),
+                          λ _.
+                              (points-off boards (not-no _ l) (not-no _ d), λ _. tt),
+                        ),
+                      ),
+                    ),
+                  ),
+                ),
+              ),
+            ),
+          ),
+        ),
+      )
 
   pub read-good : (boards output : List ℕ) → Good xs (act xs (record { kept = recordOf b; area = area }) (read boards output)) (enter b (read boards output))
   unfolding act enter accept readCall

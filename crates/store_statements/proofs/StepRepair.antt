@@ -90,12 +90,38 @@ module _ (xs : List ℕ) (laws : (z : Sizes) → legal z ≡ true → DifferentP
       → first storeOrder (repairLines xs (recordOf b) (length area) fresh helpers) ≡ first storeOrder (bookLines b (repair fresh helpers))
   unfolding repairLines bookLines
   repair-same fresh helpers =
-      first-agree (repairLines xs (recordOf b) (length area) fresh helpers) (bookLines b (repair fresh helpers)) storeOrder
-      (size-off xs laws b area v, λ _. (area-same xs laws b area v, λ _. (refl, λ _. (refl, λ _. (refl, λ _.
-      (ap not (both-below (b .sizes .n) fresh helpers), λ n.
-      (ap (λ (t : Bool). not (alls (different fresh ∷ t ∷ apart fresh helpers ∷ []))) (runs-different (b .sizes .d) fresh helpers), λ r.
-      (ap not (every-same (inService (recordOf b)) (among (b .service)) helpers (up xs laws b area v)), λ _. (refl, λ _. (refl, λ _.
-      (points-off fresh helpers n r, λ _. tt)))))))))))
+      first-agree (repairLines xs (recordOf b) (length area) fresh helpers) (bookLines b (repair fresh helpers)) storeOrder (
+        size-off xs laws b area v,
+        λ _. (
+          area-same xs laws b area v,
+          λ _. (
+            refl,
+            λ _. (
+              refl,
+              λ _. (
+                refl,
+                λ _. (
+                  ap not (both-below (b .sizes .n) fresh helpers),
+                  λ n. (
+                    ap (λ (t : Bool). not (alls (different fresh ∷ t ∷ apart fresh helpers ∷ []))) (runs-different (b .sizes .d) fresh helpers),
+                    λ r. (
+                      ap not (every-same (inService (recordOf b)) (among (b .service)) helpers (up xs laws b area v)),
+                      λ _. (
+                        refl,
+                        λ _. (
+                          refl,
+                          λ _.
+                              (points-off fresh helpers n r, λ _. tt),
+                        ),
+                      ),
+                    ),
+                  ),
+                ),
+              ),
+            ),
+          ),
+        ),
+      )
 
   repair-inv : (fresh helpers : List ℕ) → Repairs (recordOf b) (length area) fresh helpers
       → Inv xs (noted b (b .file) (fresh ++ b .service)) (repairDone xs (recordOf b) area fresh helpers .area)

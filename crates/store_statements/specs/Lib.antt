@@ -6,3 +6,4 @@ pub mod Demand1
 pub mod Demand3
 pub mod Figures
 pub mod FurtherFigures
+pub mod Stripes

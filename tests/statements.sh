@@ -1,0 +1,44 @@
+#!/bin/sh
+# docs/STATEMENTS.md is true to the tree: each file that it names is there, each name that it cites in `file: name` stands in that file, each
+# must-fail edit that it names exists and each edit of the tree is named; and the definitions a buyer reads are at most 700 lines.
+set -eu
+cd "$(dirname "$0")/.."
+page=docs/STATEMENTS.md
+bad=0
+complain() { echo "$page: $*"; bad=1; }
+
+# `crate/path: name, name`
+tr '`' '\n' <"$page" | grep -E '^[a-z0-9_]+/(src|specs|proofs)/[^ :]+: ' | sort -u >"${TMPDIR:-/tmp}/cited.$$" || true
+while IFS= read -r line; do
+    file=crates/${line%%: *}
+    if [ ! -f "$file" ]; then complain "no file $file"; continue; fi
+    for name in $(printf '%s' "${line#*: }" | tr ',' ' '); do
+        grep -qF -- "$name" "$file" || complain "$file has no $name"
+    done
+done <"${TMPDIR:-/tmp}/cited.$$"
+[ -s "${TMPDIR:-/tmp}/cited.$$" ] || complain "it cites nothing"
+rm -f "${TMPDIR:-/tmp}/cited.$$"
+
+# `edit crate/label`
+for e in $(tr '`' '\n' <"$page" | sed -n 's/^edit \([a-z0-9_]*\/[a-z0-9_]*\)$/\1/p' | sort -u); do
+    [ -f "crates/${e%/*}/must-fail/${e#*/}.edit" ] || complain "no edit $e"
+done
+for f in crates/*/must-fail/*.edit; do
+    c=${f#crates/}
+    e=${c%%/*}/$(basename "$f" .edit)
+    grep -qF "\`edit $e\`" "$page" || complain "the edit $e is not named"
+done
+
+# how much a buyer reads: definitions, theorem statements, tables; without imports, blanks and comments
+lines() { cat "$@" | grep -v -E '^[[:space:]]*(--|use |$)' | wc -l | tr -d ' '; }
+tables=$(ls crates/*/specs/*Figures.antt)
+claims=$(ls crates/*/specs/Laws.antt crates/*/specs/Demand?.antt crates/*/specs/Stripes.antt)
+definitions=$(ls crates/*/specs/*.antt | grep -v -e '/Lib.antt$' -e '/Multiples.antt$')
+for f in $tables $claims; do definitions=$(printf '%s\n' $definitions | grep -vxF "$f"); done
+d=$(lines $definitions) c=$(lines $claims) t=$(lines $tables)
+echo "definitions: $d lines, theorem statements: $c lines, tables of figures: $t lines"
+[ "$d" -le 700 ] || complain "the definitions have $d lines, more than 700"
+grep -qF "$d lines without imports" "$page" || complain "it does not say that the definitions have $d lines"
+grep -qF "Theorem statements: $c lines" "$page" || complain "it does not say that the theorem statements have $c lines"
+grep -qF "Tables of figures: $t lines" "$page" || complain "it does not say that the tables have $t lines"
+exit $bad
