@@ -13,7 +13,7 @@ while IFS= read -r line; do
     file=crates/${line%%: *}
     if [ ! -f "$file" ]; then complain "no file $file"; continue; fi
     for name in $(printf '%s' "${line#*: }" | tr ',' ' '); do
-        grep -qF -- "$name" "$file" || complain "$file has no $name"
+        grep -qwF -- "$name" "$file" || complain "$file has no $name"
     done
 done <"${TMPDIR:-/tmp}/cited.$$"
 [ -s "${TMPDIR:-/tmp}/cited.$$" ] || complain "it cites nothing"

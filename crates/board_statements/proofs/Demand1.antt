@@ -5,17 +5,18 @@ use mathlib.Core.Bool.{Bool, true, false, not}
 use mathlib.Core.Logic.{_≢_, _↔_, _⊎_, inl, inr}
 use mathlib.Core.Option.{Option, none, some}
 use mathlib.Core.List.{List, [], _∷_, _++_}
-use Prim.Native.Nat.{ℕ, _≤_}
+use Prim.Native.Nat.{ℕ, _-_, _*_, _≤_, _<_}
 use native.Mathlib.Omega.{arith}
 use lib.Dec.{eqb}
 use lib.ListN.{length, take, length-take}
 use lib.Seq.{take-at}
-use borrow.Author.Tests.{ltb-false, eqb-true}
+use borrow.Author.Tests.{ltb-false, le-ltb, eqb-true, eq-eqb}
 use Rattle.lists.specs.Lists.{All, Bytes, over}
 use Rattle.lists.specs.Tests.{pick, same, given, below, different}
-use Rattle.lists.proofs.Tests.{not-no, alls-hold}
+use Rattle.lists.proofs.Pieces.{length-joined}
+use Rattle.lists.proofs.Tests.{not-no, alls-hold, hold-alls}
 use Rattle.sizes.specs.Refusals.{number, said, Line, holdsIn, first, boardOrder}
-use Rattle.sizes.specs.Sizing.{stripes, legal}
+use Rattle.sizes.specs.Sizing.{stripes, legal, B, α}
 use Rattle.sizes.specs.declared.Answer.the-variants.{Done, Refused}
 use Rattle.sizes.specs.declared.Check.{Check}
 use Rattle.sizes.specs.declared.Check.the-variants.{Pass, Refuse}
@@ -24,15 +25,16 @@ use Rattle.sizes.specs.declared.Refusal.the-variants.{Points, Size, Area, Long,
 use Rattle.sizes.specs.declared.Sizes.{Sizes}
 use Rattle.sizes.proofs.Laws.{numbers-differ, number-low}
 use Rattle.sizes.proofs.Legal.{Legal, legal-facts}
-use Rattle.sizes.proofs.Lines.{Clear, clear-first, refuse-first, one-or-none, never}
+use Rattle.sizes.proofs.Lines.{Clear, clear-first, refuse-first, one-or-none, never, says-not, says-less, says-none, says-one, says-two, says-itself, says-no-file}
+use Rattle.mbcr.specs.Demand2.{Named}
 use Rattle.mbcr.specs.Read.{decodedFile, readFile}
 use Rattle.mbcr.specs.Rebuild.{helperPacket, exchangePacket, finishedShare}
 use Rattle.mbcr.specs.Share.{standard, DifferentPoints, share, shares}
 use Rattle.mbcr.proofs.Points.{Boards, boards-of, standard-points}
 use Rattle.mbcr.proofs.Read.{read-sound, read-complete, read-none}
 use Rattle.mbcr.proofs.Repair.{length-share, length-packet, length-exchange, length-finished}
-use Rattle.board_statements.specs.Calls.{BoardOutcome, settled, fileOf, shareLines, shareCall, fileLines, fileCall, helperLines, helperCall, exchangeLines, exchangeCall, finishedLines, finishedCall, textLines, textCall}
-use Rattle.board_statements.specs.Demand1.{BoardEnds, BoardCalls}
+use Rattle.board_statements.specs.Calls.{BoardOutcome, settled, fileOf, shareLines, shareCall, fileLines, fileCall, helperLines, helperCall, exchangeLines, exchangeCall, finishedLines, finishedCall, textLines, textCall, equalPoints, readRuns, ownRuns, finishRuns}
+use Rattle.board_statements.specs.Demand1.{BoardEnds, BoardCalls, BoardLines}
 use Rattle.board_statements.specs.Text.{shareText}
 use Rattle.board_statements.proofs.Runs.{own-runs, one-run, finish-runs, read-runs}
 
@@ -272,8 +274,156 @@ module _ (z : Sizes) (xs : List ℕ) (L : ℕ) (boards held output : List ℕ) (
       there none e q = e
       there (some f) e q = absurd (omega (arith, ap (λ (o : BoardOutcome). o .answer .refusal) (sym (call-is (some f) e) ∙ q)))
 
+-- ---- what the lines say
+
+module _ (z : Sizes) (xs : List ℕ) where
+  share-lines : (node : ℕ) (file output : List ℕ)
+      → BoardLines (shareLines z xs node file output) (legal z ≡ false) (4096 * B z < length file) ⊥ (below (z .n) (node ∷ []) ≡ false) ⊥ ⊥
+      (length output < stripes z (length file) * α z) ⊥ ⊥
+  unfolding shareLines
+  share-lines node file output = record {
+    size-is = says-not _;
+    long-is = says-less _ _;
+    count-is = says-none;
+    node-is = says-not _;
+    repeat-is = says-none;
+    area-is = says-none;
+    short-is = says-less _ _;
+    disagree-is = says-none;
+    points-is = says-none;
+  }
+
+  file-lines : (L : ℕ) (boards held output : List ℕ)
+      → BoardLines (fileLines z xs L boards held output) (legal z ≡ false) (4096 * B z < L) (length boards ≢ z .k) (below (z .n) boards ≡ false)
+      (different boards ≡ false) (length held ≢ z .k * (stripes z L * α z)) (length output < L) (readFile z xs L boards held ≡ none)
+      (equalPoints xs (readRuns z boards) ≡ true)
+  unfolding fileLines
+  file-lines L boards held output = record {
+    size-is = says-not _;
+    long-is = says-less _ _;
+    count-is = says-one _ _;
+    node-is = says-not _;
+    repeat-is = says-not _;
+    area-is = says-one _ _;
+    short-is = says-less _ _;
+    disagree-is = says-no-file _;
+    points-is = says-itself _;
+  }
+
+  helper-lines : (L helper receiver : ℕ) (held output : List ℕ)
+      → BoardLines (helperLines z xs L helper receiver held output) (legal z ≡ false) (4096 * B z < L) ⊥ (below (z .n) (helper ∷ receiver ∷ []) ≡ false)
+      (different (helper ∷ receiver ∷ []) ≡ false) (length held ≢ stripes z L * α z) (length output < 2 * stripes z L) ⊥ (equalPoints xs (ownRuns z helper) ≡ true)
+  unfolding helperLines
+  helper-lines L helper receiver held output = record {
+    size-is = says-not _;
+    long-is = says-less _ _;
+    count-is = says-none;
+    node-is = says-not _;
+    repeat-is = says-not _;
+    area-is = says-one _ _;
+    short-is = says-less _ _;
+    disagree-is = says-none;
+    points-is = says-itself _;
+  }
+
+  exchange-lines : (L board : ℕ) (helpers packets : List ℕ) (receiver : ℕ) (output : List ℕ)
+      → BoardLines (exchangeLines z xs L board helpers packets receiver output) (legal z ≡ false) (4096 * B z < L) (length helpers ≢ z .d)
+      (below (z .n) (board ∷ receiver ∷ helpers) ≡ false) (different (board ∷ receiver ∷ helpers) ≡ false) (length packets ≢ z .d * (2 * stripes z L))
+      (length output < stripes z L) ⊥ (equalPoints xs (helpers ∷ []) ≡ true)
+  unfolding exchangeLines
+  exchange-lines L board helpers packets receiver output = record {
+    size-is = says-not _;
+    long-is = says-less _ _;
+    count-is = says-one _ _;
+    node-is = says-not _;
+    repeat-is = says-not _;
+    area-is = says-one _ _;
+    short-is = says-less _ _;
+    disagree-is = says-none;
+    points-is = says-itself _;
+  }
+
+  finished-lines : (L board : ℕ) (helpers packets partners exchanges output : List ℕ)
+      → BoardLines (finishedLines z xs L board helpers packets partners exchanges output) (legal z ≡ false) (4096 * B z < L)
+      ((length helpers ≡ z .d) × (length partners ≡ z .r - 1) → ⊥) (below (z .n) (helpers ++ partners ++ (board ∷ [])) ≡ false)
+      (different (helpers ++ partners ++ (board ∷ [])) ≡ false)
+      ((length packets ≡ z .d * (2 * stripes z L)) × (length exchanges ≡ (z .r - 1) * stripes z L) → ⊥) (length output < stripes z L * α z) ⊥
+      (equalPoints xs (finishRuns board helpers partners) ≡ true)
+  unfolding finishedLines
+  finished-lines L board helpers packets partners exchanges output = record {
+    size-is = says-not _;
+    long-is = says-less _ _;
+    count-is = says-two _ _ _ _;
+    node-is = says-not _;
+    repeat-is = says-not _;
+    area-is = says-two _ _ _ _;
+    short-is = says-less _ _;
+    disagree-is = says-none;
+    points-is = says-itself _;
+  }
+
+  text-lines : (L node : ℕ) (held output : List ℕ)
+      → BoardLines (textLines z xs L node held output) (legal z ≡ false) (4096 * B z < L) ⊥ (below (z .n) (node ∷ []) ≡ false) ⊥
+      (length held ≢ stripes z L * α z) (length output < length (shareText z L node held)) ⊥ ⊥
+  unfolding textLines
+  text-lines L node held output = record {
+    size-is = says-not _;
+    long-is = says-less _ _;
+    count-is = says-none;
+    node-is = says-not _;
+    repeat-is = says-none;
+    area-is = says-one _ _;
+    short-is = says-less _ _;
+    disagree-is = says-none;
+    points-is = says-none;
+  }
+
+-- ---- the reader gives the file
+
+module _ (z : Sizes) (xs file boards output : List ℕ) (ok : legal z ≡ true) (pts : DifferentPoints z xs) (bf : Bytes file) (few : length file ≤ 4096 * B z)
+    (h : Named z (z .k) boards) (room : length file ≤ length output) where
+  found-file : readFile z xs (length file) boards (shares z xs file boards) ≡ some file
+  found-file = read-complete z xs (legal-facts z ok) pts boards (boards-of z boards (h .1) (h .2)) (h .0) (length file) (shares z xs file boards) file refl bf refl
+
+  shares-long : length (shares z xs file boards) ≡ z .k * (stripes z (length file) * α z)
+  unfolding shares
+  shares-long = length-joined (stripes z (length file) * α z) (share z xs file) (λ i. length-share z xs (legal-facts z ok) file i) boards ∙ ap (λ (m : ℕ). m * (stripes z (length file) * α z)) (h .0)
+
+  reader-gives : fileCall z xs (length file) boards (shares z xs file boards) output ≡ record { answer = said (Done (length file)); output = over file output }
+  unfolding fileCall fileLines
+  reader-gives =
+      let held : List ℕ = shares z xs file boards in
+      let c : first boardOrder (fileLines z xs (length file) boards held output) ≡ Pass = clear-first (fileLines z xs (length file) boards held output) boardOrder (
+        ap not ok,
+        (
+          le-ltb _ _ few,
+          (
+            ap not (hold-alls (eqb (length boards) (z .k) ∷ []) (eq-eqb _ _ (h .0), tt)),
+            (
+              ap not (h .1),
+              (
+                ap not (h .2),
+                (
+                  ap not (hold-alls (eqb (length held) (z .k * (stripes z (length file) * α z)) ∷ []) (eq-eqb _ _ shares-long, tt)),
+                  (le-ltb _ _ room, (ap (λ (o : Option (List ℕ)). not (given o)) found-file, (read-runs z xs (legal-facts z ok) pts boards (boards-of z boards (h .1) (h .2)), tt))),
+                ),
+              ),
+            ),
+          ),
+        ),
+      ) in
+      ap (λ (x : Check). settled x (fileOf (readFile z xs (length file) boards held)) output) c
+      ∙ ap (λ (o : Option (List ℕ)). record { answer = said (Done (length (fileOf o))); output = over (fileOf o) output }) found-file
+
 pub demand-1 : BoardCalls
 demand-1 = record {
+  share-lines = share-lines;
+  file-lines = file-lines;
+  helper-lines = helper-lines;
+  exchange-lines = exchange-lines;
+  finished-lines = finished-lines;
+  text-lines = text-lines;
+  reader-gives = reader-gives;
   share-ends = share-ends;
   file-ends = file-ends;
   helper-ends = helper-ends;

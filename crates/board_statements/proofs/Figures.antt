@@ -25,8 +25,15 @@ figures = record {
   refused-stays = refl;
   file-read = refl;
   finished-written = refl;
-  groups = refl;
+  group-a = refl;
+  group-b = refl;
+  group-c = refl;
+  stripe-counts = refl;
+  longest = refl;
+  points-refusals = refl;
   two-stripes = refl;
   two-pairs = refl;
+  two-exchanged = refl;
   text = refl;
+  longer-text = refl;
 }

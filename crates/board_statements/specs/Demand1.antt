@@ -4,24 +4,26 @@
 use mathlib.Core.Path.{_≡_}
 use mathlib.Core.Bool.{true, false}
 use mathlib.Core.Logic.{_≢_, _↔_, _⊎_}
+use mathlib.Core.Option.{none}
 use mathlib.Core.List.{List, [], _∷_, _++_}
 use Prim.Native.Nat.{ℕ, _+_, _*_, _-_, _≤_, _<_}
 use lib.Dec.{ltb}
 use lib.ListN.{length, getD}
-use Rattle.lists.specs.Tests.{pick}
+use Rattle.lists.specs.Tests.{pick, below, different}
 use Rattle.lists.specs.Lists.{All, Bytes, over}
 use Rattle.sizes.specs.declared.Sizes.{Sizes}
 use Rattle.sizes.specs.declared.Refusal.{Refusal}
-use Rattle.sizes.specs.declared.Refusal.the-variants.{Disagree}
+use Rattle.sizes.specs.declared.Refusal.the-variants.{Size, Area, Long, Count, Node, Repeat, Short, Disagree, Points}
 use Rattle.sizes.specs.declared.Answer.the-variants.{Done, Refused}
 use Rattle.sizes.specs.Refusals.{said, Line, holdsIn, boardOrder}
 use Rattle.sizes.specs.Laws.{First}
 use Rattle.mbcr.specs.Share.{standard, DifferentPoints, share, shares}
 use Rattle.mbcr.specs.Rebuild.{helperPacket, exchangePacket, finishedShare}
 use Rattle.mbcr.specs.Read.{readFile}
-use Rattle.sizes.specs.Sizing.{stripes}
+use Rattle.mbcr.specs.Demand2.{Named}
+use Rattle.sizes.specs.Sizing.{legal, α, B, stripes}
 use Rattle.board_statements.specs.Text.{decimal, hexPair, shareText}
-use Rattle.board_statements.specs.Calls.{BoardOutcome, fileOf, shareLines, shareCall, fileLines, fileCall, helperLines, helperCall, exchangeLines, exchangeCall, finishedLines, finishedCall, textLines, textCall}
+use Rattle.board_statements.specs.Calls.{BoardOutcome, fileOf, equalPoints, ownRuns, finishRuns, readRuns, shareLines, shareCall, fileLines, fileCall, helperLines, helperCall, exchangeLines, exchangeCall, finishedLines, finishedCall, textLines, textCall}
 
 -- one call: its lines, its output as it came, the bytes that it writes where it does its work, and its outcome
 pub record BoardEnds (lines : List Line) (output bytes : List ℕ) (o : BoardOutcome) : Type 0 where
@@ -33,7 +35,43 @@ pub record BoardEnds (lines : List Line) (output bytes : List ℕ) (o : BoardOut
   pub works : All (λ x. holdsIn lines x ≡ false) boardOrder
       → (o ≡ record { answer = said (Done (length bytes)); output = over bytes output }) × (length bytes ≤ length output)
 
+-- what each line of a call says, and that it has no others
+pub record BoardLines (lines : List Line) (size long count node repeat area short disagree points : Type 0) : Type 0 where
+  pub size-is : (holdsIn lines Size ≡ true) ↔ size
+  pub long-is : (holdsIn lines Long ≡ true) ↔ long
+  pub count-is : (holdsIn lines Count ≡ true) ↔ count
+  pub node-is : (holdsIn lines Node ≡ true) ↔ node
+  pub repeat-is : (holdsIn lines Repeat ≡ true) ↔ repeat
+  pub area-is : (holdsIn lines Area ≡ true) ↔ area
+  pub short-is : (holdsIn lines Short ≡ true) ↔ short
+  pub disagree-is : (holdsIn lines Disagree ≡ true) ↔ disagree
+  pub points-is : (holdsIn lines Points ≡ true) ↔ points
+
 pub record BoardCalls : Type 0 where
+  -- the lines of each call: SIZE, LONG, COUNT, NODE, REPEAT, AREA, SHORT, DISAGREE, POINTS
+  pub share-lines : (z : Sizes) (xs : List ℕ) (node : ℕ) (file output : List ℕ)
+      → BoardLines (shareLines z xs node file output) (legal z ≡ false) (4096 * B z < length file) ⊥ (below (z .n) (node ∷ []) ≡ false) ⊥ ⊥
+      (length output < stripes z (length file) * α z) ⊥ ⊥
+  pub file-lines : (z : Sizes) (xs : List ℕ) (L : ℕ) (boards held output : List ℕ)
+      → BoardLines (fileLines z xs L boards held output) (legal z ≡ false) (4096 * B z < L) (length boards ≢ z .k) (below (z .n) boards ≡ false)
+      (different boards ≡ false) (length held ≢ z .k * (stripes z L * α z)) (length output < L) (readFile z xs L boards held ≡ none)
+      (equalPoints xs (readRuns z boards) ≡ true)
+  pub helper-lines : (z : Sizes) (xs : List ℕ) (L helper receiver : ℕ) (held output : List ℕ)
+      → BoardLines (helperLines z xs L helper receiver held output) (legal z ≡ false) (4096 * B z < L) ⊥ (below (z .n) (helper ∷ receiver ∷ []) ≡ false)
+      (different (helper ∷ receiver ∷ []) ≡ false) (length held ≢ stripes z L * α z) (length output < 2 * stripes z L) ⊥ (equalPoints xs (ownRuns z helper) ≡ true)
+  pub exchange-lines : (z : Sizes) (xs : List ℕ) (L board : ℕ) (helpers packets : List ℕ) (receiver : ℕ) (output : List ℕ)
+      → BoardLines (exchangeLines z xs L board helpers packets receiver output) (legal z ≡ false) (4096 * B z < L) (length helpers ≢ z .d)
+      (below (z .n) (board ∷ receiver ∷ helpers) ≡ false) (different (board ∷ receiver ∷ helpers) ≡ false) (length packets ≢ z .d * (2 * stripes z L))
+      (length output < stripes z L) ⊥ (equalPoints xs (helpers ∷ []) ≡ true)
+  pub finished-lines : (z : Sizes) (xs : List ℕ) (L board : ℕ) (helpers packets partners exchanges output : List ℕ)
+      → BoardLines (finishedLines z xs L board helpers packets partners exchanges output) (legal z ≡ false) (4096 * B z < L)
+      ((length helpers ≡ z .d) × (length partners ≡ z .r - 1) → ⊥) (below (z .n) (helpers ++ partners ++ (board ∷ [])) ≡ false)
+      (different (helpers ++ partners ++ (board ∷ [])) ≡ false)
+      ((length packets ≡ z .d * (2 * stripes z L)) × (length exchanges ≡ (z .r - 1) * stripes z L) → ⊥) (length output < stripes z L * α z) ⊥
+      (equalPoints xs (finishRuns board helpers partners) ≡ true)
+  pub text-lines : (z : Sizes) (xs : List ℕ) (L node : ℕ) (held output : List ℕ)
+      → BoardLines (textLines z xs L node held output) (legal z ≡ false) (4096 * B z < L) ⊥ (below (z .n) (node ∷ []) ≡ false) ⊥
+      (length held ≢ stripes z L * α z) (length output < length (shareText z L node held)) ⊥ ⊥
   pub share-ends : (z : Sizes) (xs : List ℕ) (node : ℕ) (file output : List ℕ)
       → BoardEnds (shareLines z xs node file output) output (share z xs file node) (shareCall z xs node file output)
   pub file-ends : (z : Sizes) (xs : List ℕ) (L : ℕ) (boards held output : List ℕ)
@@ -48,6 +86,10 @@ pub record BoardCalls : Type 0 where
       (finishedCall z xs L board helpers packets partners exchanges output)
   pub text-ends : (z : Sizes) (xs : List ℕ) (L node : ℕ) (held output : List ℕ)
       → BoardEnds (textLines z xs L node held output) output (shareText z L node held) (textCall z xs L node held output)
+  -- "From k different boards' shares the reader gives the file they encode"
+  pub reader-gives : (z : Sizes) (xs file boards output : List ℕ) → legal z ≡ true → DifferentPoints z xs → Bytes file → length file ≤ 4096 * B z
+      → Named z (z .k) boards → length file ≤ length output
+      → fileCall z xs (length file) boards (shares z xs file boards) output ≡ record { answer = said (Done (length file)); output = over file output }
   -- "a file from k shares": where no line but DISAGREE holds, and the points differ, it gives f exactly when f has length L and these shares,
   -- and DISAGREE exactly when there is no such file
   pub file-exact : (z : Sizes) (xs : List ℕ) (L : ℕ) (boards held output : List ℕ) → DifferentPoints z xs → Bytes held

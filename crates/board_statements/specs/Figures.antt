@@ -8,10 +8,9 @@ use Prim.Native.Nat.{ℕ}
 use lib.ListN.{replicate}
 use Rattle.sizes.specs.declared.Sizes.{Sizes}
 use Rattle.sizes.specs.declared.Answer.the-variants.{Done, Refused}
-use Rattle.sizes.specs.Sizing.{legal}
+use Rattle.sizes.specs.Sizing.{legal, stripes}
 use Rattle.sizes.specs.Refusals.{said}
 use Rattle.mbcr.specs.Share.{standard, share, shares}
-use Rattle.mbcr.specs.Rebuild.{helperPacket}
 use Rattle.board_statements.specs.Text.{shareText}
 use Rattle.board_statements.specs.Calls.{BoardOutcome, shareCall, fileCall, helperCall, exchangeCall, finishedCall, textCall}
 
@@ -168,15 +167,38 @@ pub record BoardFigures : Type 0 where
       ≡ record { answer = record { refusal = 0; value = 12 }; output = file ++ (0xEE ∷ 0xEE ∷ []) }
   pub finished-written : finishedCall five standard 12 1 (2 ∷ 3 ∷ 4 ∷ []) (0x04 ∷ 0x02 ∷ 0x05 ∷ 0x03 ∷ 0x10 ∷ 0x04 ∷ []) (0 ∷ []) (0x00 ∷ []) (replicate 8 0xEE)
       ≡ record { answer = record { refusal = 0; value = 7 }; output = 0x01 ∷ 0x02 ∷ 0x03 ∷ 0x04 ∷ 0x00 ∷ 0x04 ∷ 0x05 ∷ 0xEE ∷ [] }
-  -- the order inside groups a, b and c: board 1 of a stripe with one byte 01, at place 4 (Y²), 5 (Y³) and 7 (XY²)
-  pub groups : map (λ f. share five standard f 1) (single 4 7 ∷ single 5 6 ∷ single 7 4 ∷ [])
+  -- the order inside groups a (Y, X), b (Y², Y³, XY²) and c (X²Y, X³): one byte 01 in a stripe of 00
+  pub group-a : map (λ f. share (sizes 5 2 4 1) standard f 2) (single 1 12 ∷ single 2 11 ∷ [])
+      ≡ (0x02 ∷ 0x03 ∷ 0x04 ∷ 0x00 ∷ 0x01 ∷ 0x02 ∷ 0x02 ∷ 0x02 ∷ []) ∷ (0x02 ∷ 0x02 ∷ 0x02 ∷ 0x02 ∷ 0x02 ∷ 0x03 ∷ 0x04 ∷ 0x00 ∷ []) ∷ []
+  pub group-b : map (λ f. share five standard f 1) (single 4 7 ∷ single 5 6 ∷ single 7 4 ∷ [])
       ≡ (0x01 ∷ 0x04 ∷ 0x05 ∷ 0x10 ∷ 0x00 ∷ 0x01 ∷ 0x01 ∷ [])
       ∷ (0x01 ∷ 0x08 ∷ 0x0F ∷ 0x40 ∷ 0x00 ∷ 0x01 ∷ 0x01 ∷ [])
       ∷ (0x01 ∷ 0x04 ∷ 0x05 ∷ 0x10 ∷ 0x00 ∷ 0x02 ∷ 0x03 ∷ [])
       ∷ []
-  -- two stripes, the last filled up with 00: shares, and a packet stripe by stripe
-  pub two-stripes : map (share small standard (0x05 ∷ 0x03 ∷ 0x07 ∷ [])) (0 ∷ 1 ∷ []) ≡ (0x05 ∷ 0x06 ∷ 0x07 ∷ 0x07 ∷ []) ∷ (0x06 ∷ 0x05 ∷ 0x07 ∷ 0x07 ∷ []) ∷ []
-  pub two-pairs : helperPacket small standard 2 0 1 (0x05 ∷ 0x06 ∷ 0x07 ∷ 0x07 ∷ []) ≡ 0x06 ∷ 0x05 ∷ 0x07 ∷ 0x07 ∷ []
+  pub group-c : map (λ f. share (sizes 5 2 4 1) standard f 2) (single 11 2 ∷ single 12 1 ∷ [])
+      ≡ (0x08 ∷ 0x0C ∷ 0x10 ∷ 0x00 ∷ 0x04 ∷ 0x0A ∷ 0x20 ∷ 0x00 ∷ []) ∷ (0x08 ∷ 0x08 ∷ 0x08 ∷ 0x08 ∷ 0x08 ∷ 0x0F ∷ 0x40 ∷ 0x00 ∷ []) ∷ []
+  -- "L = B is one stripe, B + 1 two"
+  pub stripe-counts : map (stripes five) (0 ∷ 1 ∷ 12 ∷ 13 ∷ 24 ∷ 25 ∷ []) ≡ 0 ∷ 1 ∷ 1 ∷ 2 ∷ 2 ∷ 3 ∷ []
+  -- "L may be 0 to 4,096 × B": 4,096 × 12 is not LONG, one more is
+  pub longest : answers (fileCall five standard 49152 [] [] [] ∷ fileCall five standard 49153 [] [] [] ∷ []) ≡ 4 ∷ 3 ∷ []
+  -- 11 POINTS, where two boards have the same point
+  pub points-refusals :
+      answers
+      (fileCall five (replicate 32 7) 12 (0 ∷ 1 ∷ []) (replicate 14 0) (replicate 12 0)
+      ∷ helperCall five (replicate 32 7) 12 2 0 (replicate 7 0) (0 ∷ 0 ∷ [])
+      ∷ exchangeCall five (replicate 32 7) 12 0 (2 ∷ 3 ∷ 4 ∷ []) (replicate 6 0) 1 (0 ∷ [])
+      ∷ finishedCall five (replicate 32 7) 12 0 (2 ∷ 3 ∷ 4 ∷ []) (replicate 6 0) (1 ∷ []) (0 ∷ []) (replicate 7 0)
+      ∷ [])
+      ≡ 11 ∷ 11 ∷ 11 ∷ 11 ∷ []
+  -- two stripes, the last filled up with 00, and output just long enough: shares, a packet stripe by stripe, an exchange packet
+  pub two-stripes : map (λ i. shareCall small standard i (0x05 ∷ 0x03 ∷ 0x07 ∷ []) (replicate 4 0xEE)) (0 ∷ 1 ∷ [])
+      ≡ record { answer = record { refusal = 0; value = 4 }; output = 0x05 ∷ 0x06 ∷ 0x07 ∷ 0x07 ∷ [] }
+      ∷ record { answer = record { refusal = 0; value = 4 }; output = 0x06 ∷ 0x05 ∷ 0x07 ∷ 0x07 ∷ [] }
+      ∷ []
+  pub two-pairs : helperCall small standard 3 0 1 (0x05 ∷ 0x06 ∷ 0x07 ∷ 0x07 ∷ []) (replicate 4 0xEE)
+      ≡ record { answer = record { refusal = 0; value = 4 }; output = 0x06 ∷ 0x05 ∷ 0x07 ∷ 0x07 ∷ [] }
+  pub two-exchanged : exchangeCall (sizes 3 1 1 2) standard 4 0 (2 ∷ []) (0x0A ∷ 0x0B ∷ 0x0C ∷ 0x0D ∷ []) 1 (0xEE ∷ 0xEE ∷ [])
+      ≡ record { answer = record { refusal = 0; value = 2 }; output = 0x0A ∷ 0x0C ∷ [] }
   -- document 01's example of a share as text
   pub text : shareText small 2 0 (share small standard (0x05 ∷ 0x03 ∷ []) 0)
       ≡ 0x6E ∷ 0x3D ∷ 0x32 ∷ 0x0A
@@ -186,3 +208,19 @@ pub record BoardFigures : Type 0 where
       ∷ 0x6E ∷ 0x6F ∷ 0x64 ∷ 0x65 ∷ 0x3D ∷ 0x30 ∷ 0x0A
       ∷ 0x6C ∷ 0x65 ∷ 0x6E ∷ 0x67 ∷ 0x74 ∷ 0x68 ∷ 0x3D ∷ 0x32 ∷ 0x0A
       ∷ 0x64 ∷ 0x61 ∷ 0x74 ∷ 0x61 ∷ 0x3D ∷ 0x30 ∷ 0x35 ∷ 0x30 ∷ 0x36 ∷ 0x0A ∷ []
+  -- n=12, k=2, d=3, r=4, node 10, L = 1, nine bytes, through the call
+  pub longer-text : textCall (sizes 12 2 3 4) standard 1 10 (0x00 ∷ 0x01 ∷ 0x0F ∷ 0x10 ∷ 0x7F ∷ 0x80 ∷ 0xAB ∷ 0xCD ∷ 0xFF ∷ []) (replicate 59 0xEE)
+      ≡ record {
+        answer = record { refusal = 0; value = 58 };
+        output =
+            0x6E ∷ 0x3D ∷ 0x31 ∷ 0x32 ∷ 0x0A
+            ∷ 0x6B ∷ 0x3D ∷ 0x32 ∷ 0x0A
+            ∷ 0x64 ∷ 0x3D ∷ 0x33 ∷ 0x0A
+            ∷ 0x72 ∷ 0x3D ∷ 0x34 ∷ 0x0A
+            ∷ 0x6E ∷ 0x6F ∷ 0x64 ∷ 0x65 ∷ 0x3D ∷ 0x31 ∷ 0x30 ∷ 0x0A
+            ∷ 0x6C ∷ 0x65 ∷ 0x6E ∷ 0x67 ∷ 0x74 ∷ 0x68 ∷ 0x3D ∷ 0x31 ∷ 0x0A
+            ∷ 0x64 ∷ 0x61 ∷ 0x74 ∷ 0x61 ∷ 0x3D
+            ∷ 0x30 ∷ 0x30 ∷ 0x30 ∷ 0x31 ∷ 0x30 ∷ 0x66 ∷ 0x31 ∷ 0x30 ∷ 0x37 ∷ 0x66 ∷ 0x38 ∷ 0x30 ∷ 0x61 ∷ 0x62 ∷ 0x63 ∷ 0x64 ∷ 0x66 ∷ 0x66
+            ∷ 0x0A
+            ∷ 0xEE ∷ [];
+      }

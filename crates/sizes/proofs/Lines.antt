@@ -1,14 +1,17 @@
 -- Laws of the line that is given first.
 -- Assumes nothing.
-use Prim.Native.Nat.{ℕ}
+use Prim.Native.Nat.{ℕ, _<_}
 use mathlib.Core.Path.{_≡_, refl, sym, _∙_, ap}
 use mathlib.Core.Bool.{Bool, true, false, not}
 use mathlib.Core.List.{List, [], _∷_, _++_}
-use mathlib.Core.Logic.{_≢_, _⊎_, inl, inr}
+use mathlib.Core.Logic.{_≢_, _↔_, _⊎_, inl, inr}
+use mathlib.Core.Option.{Option, some, none}
+use lib.Dec.{ltb, eqb}
+use borrow.Author.Tests.{ltb-true, lt-ltb, eqb-true, eqb-false, eq-eqb, ne-eqb}
 use native.Mathlib.Omega.{arith}
 use Rattle.lists.specs.Lists.{All}
-use Rattle.lists.specs.Tests.{pick}
-use Rattle.lists.proofs.Tests.{true-false}
+use Rattle.lists.specs.Tests.{pick, alls, given}
+use Rattle.lists.proofs.Tests.{true-false, hold-alls, alls-hold, is-false}
 use Rattle.sizes.specs.Laws.{First}
 use Rattle.sizes.specs.Refusals.{Line, holdsIn, first, number}
 use Rattle.sizes.specs.declared.Check.{Check}
@@ -96,3 +99,38 @@ never lines x (y ∷ order) a h e = go (holdsIn lines y) refl e (never lines x o
         → ((Clear lines order → holdsIn lines x ≡ false) → first (order ++ (x ∷ [])) lines ≢ Refuse x) → ⊥
     go true q e ih = a .0 (ap number (let s : y ≡ x = cc in s))
     go false q e ih = ih (λ c. h (q, c)) e
+
+-- ---- what a line's test says
+
+pub says-not : (b : Bool) → (not b ≡ true) ↔ (b ≡ false)
+says-not true = ((λ e. absurd (true-false e refl)), (λ e. absurd (true-false refl e)))
+says-not false = ((λ e. refl), (λ e. refl))
+
+pub says-none : (false ≡ true) ↔ ⊥
+says-none = ((λ e. true-false e refl), absurd)
+
+pub says-itself : (b : Bool) → (b ≡ true) ↔ (b ≡ true)
+says-itself b = ((λ e. e), (λ e. e))
+
+pub says-less : (a b : ℕ) → (ltb a b ≡ true) ↔ (a < b)
+says-less a b = (ltb-true a b, lt-ltb a b)
+
+pub says-differ : (a b : ℕ) → (not (eqb a b) ≡ true) ↔ (a ≢ b)
+says-differ a b = ((λ e. eqb-false a b (says-not (eqb a b) .0 e)), (λ h. says-not (eqb a b) .1 (ne-eqb a b h)))
+
+pub says-one : (a b : ℕ) → (not (alls (eqb a b ∷ [])) ≡ true) ↔ (a ≢ b)
+says-one a b = (
+  (λ e q. true-false (hold-alls (eqb a b ∷ []) (eq-eqb a b q, tt)) (says-not (alls (eqb a b ∷ [])) .0 e)),
+  (λ h. says-not (alls (eqb a b ∷ [])) .1 (is-false (alls (eqb a b ∷ [])) (λ t. h (eqb-true a b (alls-hold (eqb a b ∷ []) t .0))))),
+)
+
+pub says-two : (a b c d : ℕ) → (not (alls (eqb a b ∷ eqb c d ∷ [])) ≡ true) ↔ ((a ≡ b) × (c ≡ d) → ⊥)
+says-two a b c d = (
+  (λ e q. true-false (hold-alls (eqb a b ∷ eqb c d ∷ []) (eq-eqb a b (q .0), (eq-eqb c d (q .1), tt))) (says-not (alls (eqb a b ∷ eqb c d ∷ [])) .0 e)),
+  (λ h. says-not (alls (eqb a b ∷ eqb c d ∷ [])) .1 (is-false (alls (eqb a b ∷ eqb c d ∷ [])) (λ t.
+      let p = alls-hold (eqb a b ∷ eqb c d ∷ []) t in h (eqb-true a b (p .0), eqb-true c d (p .1 .0))))),
+)
+
+pub says-no-file : (o : Option (List ℕ)) → (not (given o) ≡ true) ↔ (o ≡ none)
+says-no-file none = ((λ e. refl), (λ e. refl))
+says-no-file (some f) = ((λ e. absurd (true-false e refl)), (λ e. let z : _≡_ {A = ℕ} 0 1 = cc in absurd (omega arith)))

@@ -12,7 +12,7 @@ use lib.Seq.{take-at, length-take-le}
 use lib.Dec.{eqb}
 use borrow.Author.Tests.{ltb-false, eqb-true, lt-ltb}
 use Rattle.lists.specs.Lists.{piece, All, tabulate}
-use Rattle.lists.specs.Tests.{among, alls, different, apart}
+use Rattle.lists.specs.Tests.{among, alls, different, apart, every, below}
 use Rattle.lists.proofs.Alls.{all-left, all-imp}
 use Rattle.lists.proofs.Boards.{below-all}
 use Rattle.lists.proofs.Pieces.{piece-join}
@@ -24,13 +24,14 @@ use Rattle.sizes.specs.declared.Check.the-variants.{Pass}
 use Rattle.sizes.specs.declared.Refusal.the-variants.{Area, Long, Empty, Count, Node, Repeat, Down, Short}
 use Rattle.sizes.specs.declared.Sizes.{Sizes}
 use Rattle.sizes.proofs.Legal.{legal-facts}
-use Rattle.sizes.proofs.Lines.{one-or-none, refuse-first, clear-first}
+use Rattle.sizes.proofs.Lines.{one-or-none, refuse-first, clear-first, says-not, says-differ, says-less, says-none, says-two, says-itself, says-no-file}
 use Rattle.mbcr.specs.Share.{share, stripe, kept}
 use Rattle.mbcr.proofs.Repair.{length-kept}
-use Rattle.store_statements.specs.Calls.{StoreOutcome, settle, refused, recordLine, setUpCall, writeLines, writeDone, writeCall, loseLines, loseDone, loseCall, repairLines, repairDone, repairCall, readLines, readDone, readCall}
-use Rattle.store_statements.specs.Demand1.{StoreEnds, Stays, storeLines, StoreCalls}
+use Rattle.board_statements.specs.Calls.{equalPoints, readRuns}
+use Rattle.store_statements.specs.Calls.{StoreOutcome, settle, refused, recordLine, setUpCall, writeLines, writeDone, writeCall, loseLines, loseDone, loseCall, repairLines, repairDone, repairCall, readLines, readDone, readCall, fileHeld}
+use Rattle.store_statements.specs.Demand1.{StoreEnds, Stays, storeLines, StoreCalls, StoreLines}
 use Rattle.store_statements.specs.Ledger.{Book, recordOf, Call, write, lose, repair, read, bookLines}
-use Rattle.store_statements.specs.Packets.{freshShare}
+use Rattle.store_statements.specs.Packets.{freshShare, repairRuns, hearHelpers}
 use Rattle.store_statements.specs.Record.{Record, newRecord, allOff, sound, inService, stripeCount, held, writtenRecord, usedLen, partLen, areaLen}
 use Rattle.store_statements.proofs.Area.{held-stripe, length-shares, byte-stays, shares-same}
 use Rattle.store_statements.proofs.Demand3.{set-up-sound, passes}
@@ -238,8 +239,87 @@ module _ (xs : List ℕ) (b : Book) (area : List ℕ) (ok : legal (b .sizes) ≡
   lines-agree (read boards output) =
       (area-same, (refl, (refl, (refl, (refl, (refl, (ap not (every-same (inService (recordOf b)) (among (b .service)) boards up), (refl, tt))))))))
 
+-- ---- what the lines say
+
+write-lines : (s : Record) (m : ℕ) (file : List ℕ)
+    → StoreLines (writeLines s m file) (sound s ≡ false) (m ≢ s .sizes .n * (s .capacity * α (s .sizes))) (s .capacity * B (s .sizes) < length file) ⊥ ⊥ ⊥ ⊥ ⊥ ⊥ ⊥ ⊥
+unfolding writeLines
+write-lines s m file = record {
+  size-is = says-not _;
+  area-is = says-differ _ _;
+  long-is = says-less _ _;
+  empty-is = says-none;
+  count-is = says-none;
+  node-is = says-none;
+  repeat-is = says-none;
+  down-is = says-none;
+  short-is = says-none;
+  disagree-is = says-none;
+  points-is = says-none;
+}
+
+lose-lines : (s : Record) (board : ℕ) → StoreLines (loseLines s board) (sound s ≡ false) ⊥ ⊥ ⊥ ⊥ (below (s .sizes .n) (board ∷ []) ≡ false) ⊥ ⊥ ⊥ ⊥ ⊥
+unfolding loseLines
+lose-lines s board = record {
+  size-is = says-not _;
+  area-is = says-none;
+  long-is = says-none;
+  empty-is = says-none;
+  count-is = says-none;
+  node-is = says-not _;
+  repeat-is = says-none;
+  down-is = says-none;
+  short-is = says-none;
+  disagree-is = says-none;
+  points-is = says-none;
+}
+
+repair-lines : (xs : List ℕ) (s : Record) (m : ℕ) (fresh helpers : List ℕ)
+    → StoreLines (repairLines xs s m fresh helpers) (sound s ≡ false) (m ≢ s .sizes .n * (s .capacity * α (s .sizes))) ⊥ (s .written ≡ false)
+    ((length fresh ≡ s .sizes .r) × (length helpers ≡ s .sizes .r * s .sizes .d) → ⊥) (below (s .sizes .n) (fresh ++ helpers) ≡ false)
+    (alls (different fresh ∷ every different (tabulate (length fresh) (λ a. piece (s .sizes .d) a helpers)) ∷ apart fresh helpers ∷ []) ≡ false)
+    (every (inService s) helpers ≡ false) ⊥ ⊥ (equalPoints xs (repairRuns s fresh helpers) ≡ true)
+unfolding repairLines
+repair-lines xs s m fresh helpers = record {
+  size-is = says-not _;
+  area-is = says-differ _ _;
+  long-is = says-none;
+  empty-is = says-not _;
+  count-is = says-two _ _ _ _;
+  node-is = says-not _;
+  repeat-is = subst (λ (t : Bool). (not (alls (different fresh ∷ every (λ h. different (h .senders)) (hearHelpers (s .sizes .d) fresh helpers) ∷ apart fresh helpers ∷ [])) ≡ true) ↔ (alls (different fresh ∷ t ∷ apart fresh helpers ∷ []) ≡ false))
+      (runs-different (s .sizes .d) fresh helpers) (says-not _);
+  down-is = says-not _;
+  short-is = says-none;
+  disagree-is = says-none;
+  points-is = says-itself _;
+}
+
+read-lines : (xs : List ℕ) (s : Record) (area boards output : List ℕ)
+    → StoreLines (readLines xs s area boards output) (sound s ≡ false) (length area ≢ s .sizes .n * (s .capacity * α (s .sizes))) ⊥ (s .written ≡ false)
+    (length boards ≢ s .sizes .k) (below (s .sizes .n) boards ≡ false) (different boards ≡ false) (every (inService s) boards ≡ false)
+    (length output < s .length) (fileHeld xs s area boards ≡ none) (equalPoints xs (readRuns (s .sizes) boards) ≡ true)
+unfolding readLines
+read-lines xs s area boards output = record {
+  size-is = says-not _;
+  area-is = says-differ _ _;
+  long-is = says-none;
+  empty-is = says-not _;
+  count-is = says-differ _ _;
+  node-is = says-not _;
+  repeat-is = says-not _;
+  down-is = says-not _;
+  short-is = says-less _ _;
+  disagree-is = says-no-file _;
+  points-is = says-itself _;
+}
+
 pub demand-1 : StoreCalls
 demand-1 = record {
+  write-lines = write-lines;
+  lose-lines = lose-lines;
+  repair-lines = repair-lines;
+  read-lines = read-lines;
   set-up-ends = set-up-ends;
   write-ends = write-ends;
   lose-ends = lose-ends;

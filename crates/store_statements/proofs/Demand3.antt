@@ -22,12 +22,13 @@ use Rattle.sizes.specs.declared.Sizes.{Sizes}
 use Rattle.sizes.proofs.Laws.{number-low}
 use Rattle.sizes.proofs.Legal.{legal-facts}
 use Rattle.sizes.proofs.Lines.{first-clear}
-use Rattle.mbcr.specs.Share.{DifferentPoints, share}
+use Rattle.mbcr.specs.Share.{DifferentPoints, share, standard}
+use Rattle.mbcr.proofs.Points.{standard-points}
 use Rattle.board_statements.specs.Calls.{fileOf}
 use Rattle.store_statements.specs.Calls.{recordLine, StoreOutcome, settle, refused, repairLines, repairCall, repairDone, readCall, setUpCall}
-use Rattle.store_statements.specs.Demand3.{Repaired, calls, Kept, begun, Demand3Claim}
+use Rattle.store_statements.specs.Demand3.{Repaired, calls, Kept, begun, Demand3Claim, Demand3Standard}
 use Rattle.store_statements.specs.Ledger.{State, Book, Step, replies, bookReplies, final, bookFinal, Call, Fair, act, recordOf, enter, Altered, outcome, bookLength, Allowed, left, openBook, write, lose, repair, read}
-use Rattle.store_statements.specs.Packets.{helperPackets, exchangePackets, hearHelpers, hearPartners, freshShare}
+use Rattle.store_statements.specs.Packets.{helperPackets, exchangePackets, hearHelpers, hearPartners, freshShare, repairPackets}
 use Rattle.store_statements.specs.Record.{Record, held, usedLen, sound, newRecord}
 use Rattle.store_statements.proofs.Area.{shares-same}
 use Rattle.store_statements.proofs.Packets.{heard-run, contents-to}
@@ -55,13 +56,15 @@ module _ (xs : List ℕ) (s : Record) (area fresh helpers : List ℕ) (pass : fi
   is-done = settle-pass _ _ _ pass
 
   repaired : Lengths xs (s .sizes) → Repaired xs s area fresh helpers
-  unfolding helperPackets exchangePackets partnersOf
+  unfolding helperPackets exchangePackets repairPackets freshShare partnersOf
   repaired l =
       let g = sound-facts s (facts .is-sound) in
       let r = legal-facts (s .sizes) (g .is-legal) .some-fresh in
       record {
         moved = ap (λ (o : StoreOutcome). o .answer) is-done;
         moved-is = moved-is xs s area fresh helpers (length area) l r facts;
+        packets-are = refl;
+        shares-are = λ i. refl;
         helpers-are = heard-run _ (s .sizes .d) fresh helpers (facts .fresh-different);
         partners-are = partners-are xs s area fresh helpers (length area) l r facts;
         helpers-send = λ i e. contents-to _ i (hearHelpers (s .sizes .d) fresh helpers);
@@ -159,6 +162,11 @@ demand-3 xs old z c area steps accepted pts ok =
     (open-inv xs z c area (set-up-sound old z c accepted) pts) ok in
     record {
       alike = r .alike;
-      kept = r .kept;
+      after = r .kept;
       repaired = λ s any fresh helpers h. accepted-repair xs s any fresh helpers h;
     }
+
+pub demand-3-standard : Demand3Standard
+demand-3-standard old z c area steps accepted ok =
+    let f = sound-facts (newRecord z c) (set-up-sound old z c accepted) in
+    demand-3 standard old z c area steps accepted (standard-points z (legal-facts z (f .is-legal) .few)) ok

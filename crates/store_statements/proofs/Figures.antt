@@ -42,6 +42,7 @@ further-figures = record {
   set-up-new = refl;
   set-up-refused = refl;
   write-refusals = refl;
+  size-cases = refl;
   lose-refusals = refl;
   repair-refusals = refl;
   read-refusals = refl;
@@ -52,6 +53,7 @@ further-figures = record {
   own-helpers = refl;
   own-partners = refl;
   own-packets = refl;
+  own-exchanged = refl;
   write-places = refl;
   repair-places = refl;
 }

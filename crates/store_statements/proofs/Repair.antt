@@ -1,4 +1,4 @@
--- An given repair: how much each fresh board gets, what it then holds, and that true shares make true shares.
+-- An accepted repair: how much each fresh board gets, what it then holds, and that true shares make true shares.
 use Prim.Native.Nat.{ℕ, suc, _+_, _-_, _*_, _≤_, _<_}
 use mathlib.Core.Path.{_≡_, refl, sym, _∙_, ap, subst}
 use mathlib.Core.Bool.{Bool, true, false, not}

@@ -5,21 +5,24 @@
 use mathlib.Core.Path.{_≡_}
 use mathlib.Core.Bool.{true, false}
 use mathlib.Core.Logic.{_≢_, _↔_, _⊎_}
-use mathlib.Core.List.{List, [], _∷_}
+use mathlib.Core.Option.{none}
+use mathlib.Core.List.{List, [], _∷_, _++_}
 use Prim.Native.Nat.{ℕ, _+_, _*_, _≤_, _<_}
 use lib.ListN.{length, take, drop, getD}
-use Rattle.lists.specs.Tests.{among}
+use Rattle.lists.specs.Tests.{every, alls, below, among, different, apart}
 use Rattle.lists.specs.Lists.{All, Bytes, tabulate, piece, over}
 use Rattle.sizes.specs.declared.Sizes.{Sizes}
 use Rattle.sizes.specs.declared.Refusal.{Refusal}
-use Rattle.sizes.specs.declared.Refusal.the-variants.{Area, Long, Count, Node, Repeat, Short, Empty, Down, Disagree}
+use Rattle.sizes.specs.declared.Refusal.the-variants.{Size, Area, Long, Count, Node, Repeat, Short, Empty, Down, Disagree, Points}
 use Rattle.sizes.specs.declared.Answer.the-variants.{Done, Refused}
 use Rattle.sizes.specs.Sizing.{maxBoards, maxStripes, legal, α, B, stripes}
 use Rattle.sizes.specs.Refusals.{said, Line, holdsIn, storeOrder}
 use Rattle.sizes.specs.Laws.{First}
 use Rattle.mbcr.specs.Share.{standard, DifferentPoints, stripe, kept, share}
+use Rattle.board_statements.specs.Calls.{equalPoints, readRuns}
+use Rattle.store_statements.specs.Packets.{repairRuns}
 use Rattle.store_statements.specs.Record.{Record, inService, sound, newRecord, writtenRecord, stripeCount, partLen, usedLen, held}
-use Rattle.store_statements.specs.Calls.{StoreOutcome, recordLine, writeLines, loseLines, repairLines, readLines, setUpCall, writeDone, writeCall, loseDone, loseCall, repairDone, repairCall, readDone, readCall}
+use Rattle.store_statements.specs.Calls.{StoreOutcome, fileHeld, recordLine, writeLines, loseLines, repairLines, readLines, setUpCall, writeDone, writeCall, loseDone, loseCall, repairDone, repairCall, readDone, readCall}
 use Rattle.store_statements.specs.Ledger.{Call, write, lose, repair, read, Book, recordOf, bookLines}
 
 -- one call: its lines; record, area and output as they came; what it does where no line holds; and its outcome
@@ -43,7 +46,34 @@ storeLines xs s area (lose board) = loseLines s board
 storeLines xs s area (repair fresh helpers) = repairLines xs s (length area) fresh helpers
 storeLines xs s area (read boards output) = readLines xs s area boards output
 
+-- what each line of a call says, and that it has no others
+pub record StoreLines (lines : List Line) (size area long empty count node repeat down short disagree points : Type 0) : Type 0 where
+  pub size-is : (holdsIn lines Size ≡ true) ↔ size
+  pub area-is : (holdsIn lines Area ≡ true) ↔ area
+  pub long-is : (holdsIn lines Long ≡ true) ↔ long
+  pub empty-is : (holdsIn lines Empty ≡ true) ↔ empty
+  pub count-is : (holdsIn lines Count ≡ true) ↔ count
+  pub node-is : (holdsIn lines Node ≡ true) ↔ node
+  pub repeat-is : (holdsIn lines Repeat ≡ true) ↔ repeat
+  pub down-is : (holdsIn lines Down ≡ true) ↔ down
+  pub short-is : (holdsIn lines Short ≡ true) ↔ short
+  pub disagree-is : (holdsIn lines Disagree ≡ true) ↔ disagree
+  pub points-is : (holdsIn lines Points ≡ true) ↔ points
+
 pub record StoreCalls : Type 0 where
+  -- the lines of each call: SIZE, AREA, LONG, EMPTY, COUNT, NODE, REPEAT, DOWN, SHORT, DISAGREE, POINTS
+  pub write-lines : (s : Record) (m : ℕ) (file : List ℕ)
+      → StoreLines (writeLines s m file) (sound s ≡ false) (m ≢ s .sizes .n * (s .capacity * α (s .sizes))) (s .capacity * B (s .sizes) < length file) ⊥ ⊥ ⊥ ⊥ ⊥ ⊥ ⊥ ⊥
+  pub lose-lines : (s : Record) (board : ℕ) → StoreLines (loseLines s board) (sound s ≡ false) ⊥ ⊥ ⊥ ⊥ (below (s .sizes .n) (board ∷ []) ≡ false) ⊥ ⊥ ⊥ ⊥ ⊥
+  pub repair-lines : (xs : List ℕ) (s : Record) (m : ℕ) (fresh helpers : List ℕ)
+      → StoreLines (repairLines xs s m fresh helpers) (sound s ≡ false) (m ≢ s .sizes .n * (s .capacity * α (s .sizes))) ⊥ (s .written ≡ false)
+      ((length fresh ≡ s .sizes .r) × (length helpers ≡ s .sizes .r * s .sizes .d) → ⊥) (below (s .sizes .n) (fresh ++ helpers) ≡ false)
+      (alls (different fresh ∷ every different (tabulate (length fresh) (λ a. piece (s .sizes .d) a helpers)) ∷ apart fresh helpers ∷ []) ≡ false)
+      (every (inService s) helpers ≡ false) ⊥ ⊥ (equalPoints xs (repairRuns s fresh helpers) ≡ true)
+  pub read-lines : (xs : List ℕ) (s : Record) (area boards output : List ℕ)
+      → StoreLines (readLines xs s area boards output) (sound s ≡ false) (length area ≢ s .sizes .n * (s .capacity * α (s .sizes))) ⊥ (s .written ≡ false)
+      (length boards ≢ s .sizes .k) (below (s .sizes .n) boards ≡ false) (different boards ≡ false) (every (inService s) boards ≡ false)
+      (length output < s .length) (fileHeld xs s area boards ≡ none) (equalPoints xs (readRuns (s .sizes) boards) ≡ true)
   pub set-up-ends : (old : Record) (z : Sizes) (c : ℕ)
       → StoreEnds (recordLine (newRecord z c) ∷ []) old [] [] (record { answer = said (Done 0); handed = newRecord z c; area = []; output = [] }) (setUpCall old z c)
   pub write-ends : (xs : List ℕ) (s : Record) (area file : List ℕ)

@@ -3,15 +3,15 @@
 use Prim.Native.Nat.{ℕ, _+_, _-_, _*_, _≤_, _<_}
 use mathlib.Core.Path.{_≡_}
 use mathlib.Core.Bool.{true}
-use mathlib.Core.List.{List, map}
+use mathlib.Core.List.{List, _++_, map}
 use lib.ListN.{length, take, drop, getD}
 use Rattle.lists.specs.Tests.{every, among, different}
 use Rattle.lists.specs.Lists.{joined, without, over}
 use Rattle.sizes.specs.declared.Sizes.{Sizes}
 use Rattle.sizes.specs.declared.Answer.the-variants.{Done}
 use Rattle.sizes.specs.Refusals.{said}
-use Rattle.mbcr.specs.Share.{DifferentPoints, share}
-use Rattle.mbcr.specs.Rebuild.{helperPacket, exchangePacket}
+use Rattle.mbcr.specs.Share.{standard, DifferentPoints, share}
+use Rattle.mbcr.specs.Rebuild.{helperPacket, exchangePacket, finishedShare}
 use Rattle.board_statements.specs.Calls.{fileOf}
 use Rattle.store_statements.specs.Record.{Record, stripeCount, held}
 use Rattle.store_statements.specs.Packets.{sentTo, sendersOf, contents, total, helperPackets, exchangePackets, repairPackets, freshShare}
@@ -41,6 +41,12 @@ pub record Repaired (xs : List ℕ) (s : Record) (area fresh helpers : List ℕ)
   -- "the bytes moved, the summed length of all packets: S × r × (2d + r − 1)"
   pub moved : repairCall xs s area fresh helpers .answer ≡ said (Done (total (repairPackets xs s area fresh helpers)))
   pub moved-is : total (repairPackets xs s area fresh helpers) ≡ stripeCount s * s .sizes .r * (2 * s .sizes .d + s .sizes .r - 1)
+  -- the packets are those of the helpers and those that fresh boards exchange, which the fresh shares are made of
+  pub packets-are : repairPackets xs s area fresh helpers ≡ helperPackets xs s area fresh helpers ++ exchangePackets xs s area fresh helpers
+  pub shares-are : (i : ℕ) → freshShare xs s area fresh helpers i
+      ≡ finishedShare (s .sizes) xs (stripeCount s) i
+      (sendersOf (sentTo i (helperPackets xs s area fresh helpers))) (contents (sentTo i (helperPackets xs s area fresh helpers)))
+      (sendersOf (sentTo i (exchangePackets xs s area fresh helpers))) (contents (sentTo i (exchangePackets xs s area fresh helpers)))
   -- the a-th fresh board's helpers are the a-th run of d, its partners the other fresh boards
   pub helpers-are : (a : ℕ) → a < length fresh
       → sendersOf (sentTo (getD fresh a 0) (helperPackets xs s area fresh helpers)) ≡ take (s .sizes .d) (drop (a * s .sizes .d) helpers)
@@ -71,7 +77,7 @@ pub record Demand3 (xs : List ℕ) (old : Record) (z : Sizes) (c : ℕ) (area : 
   -- "every call answers as document 01's ledger does"
   pub alike : replies xs (begun old z c area) steps ≡ bookReplies (openBook z c (length area)) (calls steps)
   -- "After the list"
-  pub kept : Kept xs (final xs (begun old z c area) steps) (bookFinal (openBook z c (length area)) (calls steps))
+  pub after : Kept xs (final xs (begun old z c area) steps) (bookFinal (openBook z c (length area)) (calls steps))
   -- "In each accepted repair", in this list or not
   pub repaired : (s : Record) (any fresh helpers : List ℕ) → repairCall xs s any fresh helpers .answer .refusal ≡ 0 → Repaired xs s any fresh helpers
 
@@ -84,3 +90,11 @@ Demand3Claim =
     → DifferentPoints z xs
     → Allowed xs (begun old z c area) (openBook z c (length area)) steps
     → Demand3 xs old z c area steps
+
+-- The same with document 01's points, which differ.
+abbrev pub Demand3Standard : Type 0
+Demand3Standard =
+    (old : Record) (z : Sizes) (c : ℕ) (area : List ℕ) (steps : List Step)
+    → setUpCall old z c .answer .refusal ≡ 0
+    → Allowed standard (begun old z c area) (openBook z c (length area)) steps
+    → Demand3 standard old z c area steps

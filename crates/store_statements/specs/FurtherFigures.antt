@@ -5,25 +5,22 @@ use mathlib.Core.Path.{_≡_}
 use mathlib.Core.Bool.{Bool, true, false}
 use mathlib.Core.List.{List, [], _∷_, _++_, map}
 use Prim.Native.Nat.{ℕ}
-use lib.ListN.{replicate}
+use lib.ListN.{take, replicate}
 use Rattle.sizes.specs.declared.Sizes.{Sizes}
 use Rattle.sizes.specs.declared.Answer.the-variants.{Done, Refused}
 use Rattle.sizes.specs.Refusals.{said}
 use Rattle.mbcr.specs.Share.{standard}
 use Rattle.store_statements.specs.Record.{Record, sound, newRecord, withMarks}
-use Rattle.store_statements.specs.Packets.{sentTo, sendersOf, contents, helperPackets, exchangePackets}
+use Rattle.store_statements.specs.Packets.{sentTo, sendersOf, contents, helperPackets, exchangePackets, repairPackets}
 use Rattle.store_statements.specs.Calls.{StoreOutcome, setUpCall, writeCall, loseCall, repairCall, readCall}
 use Rattle.store_statements.specs.Figures.{two, twoFile, five, fiveFile, written, area, spoiled, helpers}
 
 abbrev answers : List StoreOutcome → List ℕ
 answers os = map (λ o. o .answer .refusal) os
 
-abbrev marks : List Bool → List Bool
-marks l = l ++ replicate 32 false
-
 -- a record of five boards, one stripe
 abbrev five-record : Bool → ℕ → List Bool → Record
-five-record written length on = record { sizes = five; capacity = 1; written = written; length = length; marks = marks on }
+five-record written length on = record { sizes = five; capacity = 1; written = written; length = length; marks = take 32 (on ++ replicate 32 false) }
 
 -- a record that no call returns
 abbrev unsound : Record
@@ -85,6 +82,18 @@ pub record FurtherFigures : Type 0 where
       ∷ writeCall standard (newRecord five 1) (replicate 35 0) (replicate 12 0)
       ∷ [])
       ≡ 1 ∷ 2 ∷ 3 ∷ 1 ∷ 2 ∷ 0 ∷ []
+  -- SIZE in all its cases, for each call
+  pub size-cases :
+      map (λ s. answers (writeCall standard s (replicate 35 0) [] ∷ loseCall s [] 0 ∷ repairCall standard s spoiled (0 ∷ 1 ∷ []) helpers ∷ readCall standard s spoiled (2 ∷ 3 ∷ []) [] ∷ []))
+      (unsound
+      ∷ five-record true 12 (false ∷ false ∷ false ∷ false ∷ false ∷ true ∷ [])
+      ∷ five-record false 1 []
+      ∷ five-record false 0 (true ∷ [])
+      ∷ newRecord five 0
+      ∷ newRecord five 4097
+      ∷ newRecord (record { n = 4; k = 2; d = 3; r = 2 }) 1
+      ∷ [])
+      ≡ replicate 7 (1 ∷ 1 ∷ 1 ∷ 1 ∷ [])
   -- lose: 1, 5; 1 before 5; accepted over an area of any length, before a write, and where the board is out of service
   pub lose-refusals :
       answers (loseCall unsound [] 0 ∷ loseCall (newRecord five 1) [] 5 ∷ loseCall unsound [] 5 ∷ loseCall lost [] 4 ∷ loseCall (newRecord five 1) [] 4 ∷ loseCall lost [] 0 ∷ [])
@@ -147,6 +156,9 @@ pub record FurtherFigures : Type 0 where
   pub own-partners : map (λ i. sendersOf (sentTo i (exchangePackets standard six six-area (0 ∷ 1 ∷ []) own))) (0 ∷ 1 ∷ []) ≡ (1 ∷ []) ∷ (0 ∷ []) ∷ []
   pub own-packets : map (λ i. contents (sentTo i (helperPackets standard six six-area (0 ∷ 1 ∷ []) own))) (0 ∷ 1 ∷ [])
       ≡ (0x07 ∷ 0x21 ∷ 0x04 ∷ 0x34 ∷ []) ∷ (0x20 ∷ 0x9D ∷ 0x28 ∷ 0x4F ∷ []) ∷ []
+  -- the exchanged bytes: board 1 gets 02 from board 0, and board 0 gets 00 from board 1
+  pub own-exchanged : map (λ i. contents (sentTo i (repairPackets standard six six-area (0 ∷ 1 ∷ []) own))) (0 ∷ 1 ∷ [])
+      ≡ (0x07 ∷ 0x21 ∷ 0x04 ∷ 0x34 ∷ 0x00 ∷ []) ∷ (0x20 ∷ 0x9D ∷ 0x28 ∷ 0x4F ∷ 0x02 ∷ []) ∷ []
   -- C = 2, S = 1: stripe s of board i starts at (i × C + s) × α, and the second stripes stay
   pub write-places : writeCall standard (newRecord two 2) (replicate 8 0xFF) twoFile .area ≡ 0x05 ∷ 0x06 ∷ 0xFF ∷ 0xFF ∷ 0x06 ∷ 0x05 ∷ 0xFF ∷ 0xFF ∷ []
   pub repair-places : repairCall standard half-full (0x77 ∷ 0x77 ∷ 0x77 ∷ 0x77 ∷ 0x06 ∷ 0x05 ∷ 0xFF ∷ 0xFF ∷ []) (0 ∷ []) (1 ∷ []) .area
