@@ -1,19 +1,16 @@
 -- `polynomial::fill_inverses` meets its contract: the inverses so far, before what was there.
 -- Assumes nothing.
-use mathlib.Core.Path.{_≡_, refl, sym, ap, _∙_}
-use mathlib.Core.List.{List, _++_}
-use Prim.Native.Nat.{ℕ, _≤_, _-_}
+use mathlib.Core.Path.{_≡_, _∙_}
+use mathlib.Core.List.{_++_}
+use Prim.Native.Nat.{_≤_, _-_}
 use native.Mathlib.Omega.{arith}
 use borrow.Author.Needs.{needs}
-use lib.ListN.{length, drop, set, length-set}
+use lib.ListN.{length, drop, length-set}
 use Rattle.lists.specs.Lists.{tabulate}
 use Rattle.lists.proofs.Pieces.{fill-loop, fill-end, fill-all}
 use Rattle.gf256.specs.Field.{inverse}
 use Rattle.polynomial.proofs.fill_inverses.Statement.{statement}
 use Rattle.polynomial.proofs.fill_inverses.Tie as tie
-use Rattle.polynomial.proofs.fill_inverses.Reads as reads
-use Rattle.polynomial.proofs.fill_inverses.Lts as lts
-use Rattle.gf256.proofs.inverse.Reads as inverse-reads
 
 abbrev Inv-loop : tie.InvT-loop
 Inv-loop table₀ t₀ table t = (table ≡ tabulate t inverse ++ drop t table₀) × (t ≤ 256) × (length table ≡ length table₀)
@@ -21,31 +18,24 @@ Inv-loop table₀ t₀ table t = (table ≡ tabulate t inverse ++ drop t table�
 abbrev μ-loop : tie.MeasureT-loop
 μ-loop table₀ t₀ table t = 256 - t
 
--- src/lib.rt:42:5
 loop-holds : tie.Need-loop-holds Inv-loop μ-loop
 loop-holds c = search needs
 
--- src/lib.rt:43:35
 cast-inverse : tie.Need-cast-inverse Inv-loop μ-loop
 cast-inverse c = search needs
 
--- src/lib.rt:43:20
 inverse-requires : tie.Need-inverse-requires Inv-loop μ-loop
 inverse-requires c κs = search needs
 
--- src/lib.rt:43:9
 slice-write-table : tie.Need-slice-write-table Inv-loop μ-loop
 slice-write-table c = search needs
 
--- src/lib.rt:44:9
 add-t : tie.Need-add-t Inv-loop μ-loop
 add-t c = search needs
 
--- src/lib.rt:42:5
 loop-less : tie.Need-loop-less Inv-loop μ-loop
 loop-less c = search needs
 
--- src/lib.rt:42:5
 loop-again : tie.Need-loop-again Inv-loop μ-loop
 loop-again c =
     let l = c .before .before .loop in
@@ -55,11 +45,9 @@ loop-again c =
       length-set (l .table) (l .t) _ ∙ l .inv .2,
     )
 
--- src/lib.rt:37:1
 same-length : tie.Need-same-length Inv-loop μ-loop
 same-length c = search needs
 
--- src/lib.rt:37:1
 returns : tie.Need-returns Inv-loop μ-loop
 returns c =
     let l = c .before .loop in

@@ -1,0 +1,36 @@
+//! The board-level calls of document 01: stateless, for all input. Each meets its definition in the crate `board_statements` at document 01's
+//! points: the answer, and every byte of the output that it was lent. A refusal leaves the output as it came.
+ghost use mathlib.Core.Path.{_≡_};
+ghost use mathlib.Core.Bool.{true};
+ghost use mathlib.Core.List.{List, [], _∷_, _++_};
+ghost use Prim.Native.Nat.{_+_, _≤_};
+ghost use lib.ListN.{length};
+ghost use Rattle.mbcr.specs.Share.{standard};
+ghost use Rattle.board_statements.specs.Calls.{shareCall, helperCall, exchangeCall, finishedCall};
+ghost use Rattle.board.specs.Answers.{outcome};
+use sizes::Answer;
+use sizes::Check;
+use sizes::Sizes;
+
+// The share of board `node` of a file. Answers the number of bytes written.
+pub fn share(sizes: Sizes, node: usize, file: &[u8], out: &mut [u8]) -> Answer
+    ensures { λ r. ⌜ outcome r (now (out .exit)) ≡ shareCall sizes standard node (now (file .entry)) (now (out .entry)) ⌝ }
+{
+    if let Check::Refuse(x) = checks::check_sizes(sizes) {
+        return Answer::Refused(x);
+    }
+    if let Check::Refuse(x) = checks::check_length(sizes, file.len()) {
+        return Answer::Refused(x);
+    }
+    if let Check::Refuse(x) = checks::check_node(sizes, node) {
+        return Answer::Refused(x);
+    }
+    let stripes = checks::stripe_count(sizes, file.len());
+    let count = stripes * sizes.share_len();
+    if let Check::Refuse(x) = checks::check_room(out, count) {
+        return Answer::Refused(x);
+    }
+    let points = checks::standard_points();
+    encode::share(sizes, &points, node, file, stripes, out);
+    Answer::Done(count)
+}
