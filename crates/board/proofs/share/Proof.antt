@@ -118,8 +118,7 @@ share-requires : tie.Need-share-requires
 share-requires c κs =
     let a = c .before .before .before .before .before .before .before .before .before .before .before .before .before .before .before .before .before .before .before .before .args in
     let ok = is-legal (c .before .before .before .before .before .before .before .before .before .before .before .before .before .before .before) in
-    let l : length (c .before .before .standard-points .result) ≡ 32 = ap length (c .before .before .standard-points .ensures) in
-    (
+    let l : length (c .before .before .standard-points .result) ≡ 32 = ap length (c .before .before .standard-points .ensures) in (
       ok,
       below-all (a .sizes .n) (a .node ∷ []) (not-no _ (passed (nodeLine (a .sizes) (a .node ∷ [])) (node-on (c .before .before .before .before .before .before .before .before .before)))) .0,
       omega (arith, l, legal-facts _ ok .few),
