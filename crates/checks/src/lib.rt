@@ -204,6 +204,67 @@ pub fn check_repeat(boards: &[usize]) -> Check
     }
 }
 
+// 5 NODE of two boards and a list.
+pub fn check_nodes_with(sizes: Sizes, one: usize, other: usize, boards: &[usize]) -> Check
+    ensures { λ r. ⌜ r ≡ asked (nodeLine sizes (one ∷ other ∷ now (boards .entry))) ⌝ }
+{
+    if sizes.n <= one {
+        return Check::Refuse(Refusal::Node);
+    }
+    if sizes.n <= other {
+        return Check::Refuse(Refusal::Node);
+    }
+    check_nodes(sizes, boards)
+}
+
+// 6 REPEAT of two boards and a list.
+pub fn check_repeat_with(one: usize, other: usize, boards: &[usize]) -> Check
+    ensures { λ r. ⌜ r ≡ asked (repeatLine (one ∷ other ∷ now (boards .entry))) ⌝ }
+{
+    if other == one {
+        return Check::Refuse(Refusal::Repeat);
+    }
+    if among_from(boards, 0, one) {
+        return Check::Refuse(Refusal::Repeat);
+    }
+    if among_from(boards, 0, other) {
+        return Check::Refuse(Refusal::Repeat);
+    }
+    check_repeat(boards)
+}
+
+// 5 NODE of two lists and a board.
+pub fn check_nodes_joined(sizes: Sizes, boards: &[usize], others: &[usize], last: usize) -> Check
+    ensures { λ r. ⌜ r ≡ asked (nodeLine sizes (now (boards .entry) ++ now (others .entry) ++ (last ∷ []))) ⌝ }
+{
+    if below(sizes.n, boards) {
+        if below(sizes.n, others) {
+            return check_node(sizes, last);
+        }
+    }
+    Check::Refuse(Refusal::Node)
+}
+
+// 6 REPEAT of two lists and a board.
+pub fn check_repeat_joined(boards: &[usize], others: &[usize], last: usize) -> Check
+    ensures { λ r. ⌜ r ≡ asked (repeatLine (now (boards .entry) ++ now (others .entry) ++ (last ∷ []))) ⌝ }
+{
+    if different(boards) {
+        if different(others) {
+            if apart(others, boards) {
+                if among_from(boards, 0, last) {
+                    return Check::Refuse(Refusal::Repeat);
+                }
+                if among_from(others, 0, last) {
+                    return Check::Refuse(Refusal::Repeat);
+                }
+                return Check::Pass;
+            }
+        }
+    }
+    Check::Refuse(Refusal::Repeat)
+}
+
 // 2 AREA of one slice.
 pub fn check_lent(got: usize, want: usize) -> Check
     ensures { λ r. ⌜ r ≡ asked (areaLine (eqb got want ∷ [])) ⌝ }
