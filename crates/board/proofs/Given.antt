@@ -85,3 +85,10 @@ pub no-points : (xs : List ℕ) (n : ℕ) (x : Refusal) → xs ≡ standard → 
 no-points xs n x e h =
     let q : not (different (take n xs)) ≡ true = refused (Points when not (different (take n xs))) x h .0 in
     true-false q (ap (λ (l : List ℕ). not (different (take n l))) e ∙ ap not (standard-apart n))
+
+-- the bytes of the packets of so many boards are few
+pub few-packets : (m s b : ℕ) → m ≤ 32 → s ≤ 4096 → b ≤ 2 → m * (b * s) ≤ 262144
+few-packets m s b h k l =
+    let p : b * s ≤ 2 * s = mul-le-mul-right s l in
+    let q : m * (b * s) ≤ 32 * (b * s) = mul-le-mul-right (b * s) h in
+    omega arith

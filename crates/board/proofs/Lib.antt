@@ -1,3 +1,5 @@
 pub mod Given
 pub mod ShareCall
 pub mod HelperCall
+pub mod ExchangeCall
+pub mod FinishedCall

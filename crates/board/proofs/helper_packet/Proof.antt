@@ -180,7 +180,7 @@ slice-aggregate-helper-packet-2 : tie.Need-slice-aggregate-helper-packet-2
 slice-aggregate-helper-packet-2 c = search needs
 
 helper-packet-requires : tie.Need-helper-packet-requires
-helper-packet-requires c κs = 
+helper-packet-requires c κs =
     let a = c .before .before .before .before .before .before .before .before .before .before .before .before .before .before .before .before .before .before .before .before .before .before .before .before .before .before .before .before .before .before .before .before .before .before .before .before .args in
     let ok = is-legal (c .before .before .before .before .before .before .before .before .before .before .before .before .before .before .before .before .before .before .before .before .before .before .before .before .before .before .before .before .before .before .before) in
     let l : length (c .before .before .before .before .before .before .before .before .before .before .standard-points .result) ≡ 32 = ap length (c .before .before .before .before .before .before .before .before .before .before .standard-points .ensures) in
@@ -194,7 +194,7 @@ same-length-3 : tie.Need-same-length-3
 same-length-3 c = search needs
 
 returns-8 : tie.Need-returns-8
-returns-8 c = 
+returns-8 c =
     let a = c .before .before .before .before .before .before .before .before .before .before .before .before .before .before .before .before .before .before .before .before .before .before .before .before .before .before .before .before .before .before .before .before .before .before .before .before .before .before .before .args in
     works (a .sizes) (a .length) (a .helper) (a .receiver) (a .held .now) (a .out .now) _ _ _ (c .before .before .before .before .before .before .before .before .before .before .before .before .before .standard-points .ensures) (c .before .before .before .before .before .before .before .before .before .before .before .before .before .before .before .before .before .before .before .before .before .before .stripe-count .ensures .0) (is-legal (c .before .before .before .before .before .before .before .before .before .before .before .before .before .before .before .before .before .before .before .before .before .before .before .before .before .before .before .before .before .before .before .before .before .before))
     (size-on (c .before .before .before .before .before .before .before .before .before .before .before .before .before .before .before .before .before .before .before .before .before .before .before .before .before .before .before .before .before .before .before .before .before .before), (long-on (c .before .before .before .before .before .before .before .before .before .before .before .before .before .before .before .before .before .before .before .before .before .before .before .before .before .before .before .before .before .before .before), (nodes-on (c .before .before .before .before .before .before .before .before .before .before .before .before .before .before .before .before .before .before .before .before .before .before .before .before .before .before .before), (repeat-on (c .before .before .before .before .before .before .before .before .before .before .before .before .before .before .before .before .before .before .before .before .before .before .before), (lent-on (c .before .before .before .before .before .before .before .before .before .before .before .before .before .before .before .before .before .before), (room-on (c .before .before .before .before .before .before .before .before .before .before .before .before .before .before), tt))))))
