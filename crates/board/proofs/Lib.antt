@@ -3,3 +3,4 @@ pub mod ShareCall
 pub mod HelperCall
 pub mod ExchangeCall
 pub mod FinishedCall
+pub mod TextCall

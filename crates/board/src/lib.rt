@@ -6,7 +6,7 @@ ghost use mathlib.Core.List.{List, [], _∷_, _++_};
 ghost use Prim.Native.Nat.{_+_, _≤_};
 ghost use lib.ListN.{length};
 ghost use Rattle.mbcr.specs.Share.{standard};
-ghost use Rattle.board_statements.specs.Calls.{shareCall, helperCall, exchangeCall, finishedCall};
+ghost use Rattle.board_statements.specs.Calls.{shareCall, helperCall, exchangeCall, finishedCall, textCall};
 ghost use Rattle.board.specs.Answers.{outcome};
 use sizes::Answer;
 use sizes::Check;
@@ -205,5 +205,31 @@ pub fn finished_share(
         exchanges,
         out,
     );
+    Answer::Done(count)
+}
+
+// A board's share of a file of so many bytes, as text. Answers the number of bytes written.
+pub fn text(sizes: Sizes, length: usize, node: usize, held: &[u8], out: &mut [u8]) -> Answer
+    ensures { λ r. ⌜ outcome r (now (out .exit)) ≡ textCall sizes standard length node (now (held .entry)) (now (out .entry)) ⌝ }
+{
+    if let Check::Refuse(x) = checks::check_sizes(sizes) {
+        return Answer::Refused(x);
+    }
+    if let Check::Refuse(x) = checks::check_length(sizes, length) {
+        return Answer::Refused(x);
+    }
+    if let Check::Refuse(x) = checks::check_node(sizes, node) {
+        return Answer::Refused(x);
+    }
+    let stripes = checks::stripe_count(sizes, length);
+    let share_len = stripes * sizes.share_len();
+    if let Check::Refuse(x) = checks::check_lent(held.len(), share_len) {
+        return Answer::Refused(x);
+    }
+    let count = share_text::text_len(sizes, length, node, share_len);
+    if let Check::Refuse(x) = checks::check_room(out, count) {
+        return Answer::Refused(x);
+    }
+    share_text::write_text(sizes, length, node, held, out);
     Answer::Done(count)
 }
