@@ -4,3 +4,4 @@ pub mod HelperCall
 pub mod ExchangeCall
 pub mod FinishedCall
 pub mod TextCall
+pub mod FileCall

@@ -46,7 +46,7 @@ pub fn board_points(points: &[u8], boards: &[usize], out: &mut [u8])
 }
 
 // The first bytes of a, as many as out has.
-fn copy(a: &[u8], out: &mut [u8])
+pub fn copy(a: &[u8], out: &mut [u8])
     requires { ⌜ length (now out) ≤ length (now a) ⌝ }
     ensures { λ _. ⌜ now (out .exit) ≡ take (length (now (out .entry))) (now (a .entry)) ⌝ }
 {

@@ -57,11 +57,7 @@ pub fn hex_digit(v: u8) -> u8
     requires { ⌜ v < 16 ⌝ }
     ensures { λ r. ⌜ r ≡ hexDigit v ⌝ }
 {
-    if v < 10 {
-        48 + v
-    } else {
-        87 + v
-    }
+    if v < 10 { 48 + v } else { 87 + v }
 }
 
 // The hexadecimal pairs of a share.
@@ -108,7 +104,10 @@ pub fn text_len(sizes: Sizes, total: usize, node: usize, held: usize) -> usize
     requires { ⌜ (legal sizes ≡ true) × (node < 32) × (total ≤ 4096 * 992) × (held ≤ 4096 * 62) ⌝ }
     ensures { λ r. ⌜ ((share : List ℕ) → length share ≡ held → r ≡ length (shareText sizes total node share)) ⌝ }
 {
-    let boards = decimal_len(sizes.n) + decimal_len(sizes.k) + decimal_len(sizes.d) + decimal_len(sizes.r);
+    let boards = decimal_len(sizes.n)
+        + decimal_len(sizes.k)
+        + decimal_len(sizes.d)
+        + decimal_len(sizes.r);
     32 + boards + decimal_len(node) + decimal_len(total) + held * 2
 }
 

@@ -3,7 +3,6 @@
 use native.Mathlib.Nat.{div-add-mod', mod-lt}
 use native.Mathlib.Omega.{arith}
 use borrow.Author.Needs.{needs}
-use lib.ListN.{length, length-set}
 use Rattle.share_text.proofs.Decimals.{decimal-one, decimal-more, length-one, length-more}
 use Rattle.share_text.proofs.Writes.{one, more}
 use Prim.Native.Nat.{ℕ, _<_, _≤_}

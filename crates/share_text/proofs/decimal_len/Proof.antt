@@ -9,8 +9,6 @@ use Rattle.board_statements.specs.Text.{decimal}
 use Rattle.share_text.proofs.Decimals.{length-one, length-more}
 use Rattle.share_text.proofs.decimal_len.Statement.{statement}
 use Rattle.share_text.proofs.decimal_len.Tie as tie
-use Rattle.share_text.proofs.decimal_len.Reads as reads
-use Rattle.share_text.proofs.decimal_len.Lts as lts
 
 abbrev Inv-loop : tie.InvT-loop
 Inv-loop x count₀ y₀ count y = (count + length (decimal y) ≡ length (decimal x) + 1) × (count + y ≤ x + 1)

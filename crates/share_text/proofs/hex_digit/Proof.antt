@@ -5,8 +5,6 @@ use native.Mathlib.Omega.{arith}
 use borrow.Author.Needs.{needs}
 use Rattle.share_text.proofs.hex_digit.Statement.{statement}
 use Rattle.share_text.proofs.hex_digit.Tie as tie
-use Rattle.share_text.proofs.hex_digit.Reads as reads
-use Rattle.share_text.proofs.hex_digit.Lts as lts
 
 -- src/lib.rt:58:9
 add-result : tie.Need-add-result

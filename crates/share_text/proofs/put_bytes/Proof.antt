@@ -1,8 +1,7 @@
 -- `share_text::put_bytes` meets its contract. The loop's invariant: the bytes passed are written.
 -- Assumes nothing.
-use mathlib.Core.Path.{_≡_, refl, sym, ap, _∙_}
-use mathlib.Core.List.{List}
-use Prim.Native.Nat.{ℕ, _+_, _-_, _≤_}
+use mathlib.Core.Path.{_≡_, refl, _∙_}
+use Prim.Native.Nat.{_+_, _-_, _≤_}
 use native.Mathlib.Omega.{arith}
 use borrow.Author.Needs.{needs}
 use lib.ListN.{length, take, length-set}
@@ -11,8 +10,6 @@ use Rattle.share_text.specs.Wrote.{Wrote}
 use Rattle.share_text.proofs.Writes.{none, byte-turn}
 use Rattle.share_text.proofs.put_bytes.Statement.{statement}
 use Rattle.share_text.proofs.put_bytes.Tie as tie
-use Rattle.share_text.proofs.put_bytes.Reads as reads
-use Rattle.share_text.proofs.put_bytes.Lts as lts
 
 abbrev Inv-loop : tie.InvT-loop
 Inv-loop bytes at out₀ t₀ out t = Wrote out₀ at (take t bytes) out (at + t) × (t ≤ length bytes) × (length out ≡ length out₀)

@@ -1,6 +1,6 @@
 -- `share_text::put_data` meets its contract: three pieces, one behind the other.
 -- Assumes nothing.
-use mathlib.Core.List.{List, [], _∷_, _++_}
+use mathlib.Core.List.{[], _∷_, _++_}
 use native.Mathlib.Omega.{arith}
 use lib.ListN.{length}
 use Rattle.lists.specs.Lists.{joined}
@@ -11,10 +11,6 @@ use Rattle.share_text.proofs.Writes.{same-room, then, less}
 use borrow.Author.Needs.{needs}
 use Rattle.share_text.proofs.put_data.Statement.{statement}
 use Rattle.share_text.proofs.put_data.Tie as tie
-use Rattle.share_text.proofs.put_data.Reads as reads
-use Rattle.share_text.proofs.put_data.Lts as lts
-use Rattle.share_text.proofs.put_bytes.Reads as put-bytes-reads
-use Rattle.share_text.proofs.put_pairs.Reads as put-pairs-reads
 
 slice-aggregate-put-bytes : tie.Need-slice-aggregate-put-bytes
 slice-aggregate-put-bytes c = search needs

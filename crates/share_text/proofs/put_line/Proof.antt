@@ -2,7 +2,7 @@
 -- Assumes nothing.
 use mathlib.Core.List.{[], _∷_, _++_}
 use native.Mathlib.Omega.{arith}
-use lib.ListN.{length-set, length-append}
+use lib.ListN.{length-set}
 use Rattle.board_statements.specs.Text.{decimal}
 use Rattle.share_text.specs.Wrote.{Wrote}
 use Rattle.share_text.proofs.Lines.{length-line, line-front, line-room, line}
@@ -10,10 +10,6 @@ use Rattle.share_text.proofs.Writes.{same-room}
 use borrow.Author.Needs.{needs}
 use Rattle.share_text.proofs.put_line.Statement.{statement}
 use Rattle.share_text.proofs.put_line.Tie as tie
-use Rattle.share_text.proofs.put_line.Reads as reads
-use Rattle.share_text.proofs.put_line.Lts as lts
-use Rattle.share_text.proofs.put_bytes.Reads as put-bytes-reads
-use Rattle.share_text.proofs.put_decimal.Reads as put-decimal-reads
 
 put-bytes-requires : tie.Need-put-bytes-requires
 put-bytes-requires c κs = omega (arith, length-line (c .before .before .before .args .name .now) (decimal (c .before .before .before .args .x)))

@@ -1,8 +1,7 @@
 -- `share_text::put_pairs` meets its contract. The loop's invariant: the pairs of the bytes passed are written.
 -- Assumes nothing.
-use mathlib.Core.Path.{_≡_, refl, sym, ap, _∙_}
-use mathlib.Core.List.{List}
-use Prim.Native.Nat.{ℕ, _+_, _*_, _-_, _≤_}
+use mathlib.Core.Path.{_≡_, refl}
+use Prim.Native.Nat.{_+_, _*_, _-_, _≤_}
 use native.Mathlib.Nat.{div-add-mod', mod-lt}
 use native.Mathlib.Omega.{arith}
 use borrow.Author.Needs.{needs}
@@ -14,9 +13,6 @@ use Rattle.share_text.specs.Wrote.{Wrote}
 use Rattle.share_text.proofs.Writes.{none, length-pairs, pair-turn}
 use Rattle.share_text.proofs.put_pairs.Statement.{statement}
 use Rattle.share_text.proofs.put_pairs.Tie as tie
-use Rattle.share_text.proofs.put_pairs.Reads as reads
-use Rattle.share_text.proofs.put_pairs.Lts as lts
-use Rattle.share_text.proofs.hex_digit.Reads as hex-digit-reads
 
 abbrev Inv-loop : tie.InvT-loop
 Inv-loop share at out₀ p₀ t₀ out p t = Wrote out₀ at (joined hexPair (take t share)) out p × (t ≤ length share) × (length out ≡ length out₀) × (p ≡ at + t * 2)

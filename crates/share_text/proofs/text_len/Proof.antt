@@ -1,6 +1,5 @@
 -- `share_text::text_len` meets its contract: the lengths are the definition's, and small enough to add.
 -- Assumes nothing.
-use mathlib.Core.Path.{_≡_}
 use Prim.Native.Nat.{ℕ, _≤_}
 use native.Mathlib.Omega.{arith}
 use lib.ListN.{length}
@@ -11,9 +10,6 @@ use Rattle.share_text.proofs.Lines.{length-text}
 use borrow.Author.Needs.{needs}
 use Rattle.share_text.proofs.text_len.Statement.{statement}
 use Rattle.share_text.proofs.text_len.Tie as tie
-use Rattle.share_text.proofs.text_len.Reads as reads
-use Rattle.share_text.proofs.text_len.Lts as lts
-use Rattle.share_text.proofs.decimal_len.Reads as decimal-len-reads
 
 record Small (n k d r node total : ℕ) : Type 0 where
   for-n : length (decimal n) ≤ 33

@@ -1,8 +1,5 @@
 -- `share_text::write_text` meets its contract: the lines, one behind the other.
 -- Assumes nothing.
-use mathlib.Core.Path.{_≡_}
-use Prim.Native.Nat.{ℕ}
-use native.Mathlib.Omega.{arith}
 use lib.ListN.{length}
 use Rattle.board_statements.specs.Text.{shareText}
 use Rattle.share_text.specs.Wrote.{Wrote}
@@ -11,10 +8,6 @@ use Rattle.share_text.proofs.Writes.{same-room, room, then}
 use borrow.Author.Needs.{needs}
 use Rattle.share_text.proofs.write_text.Statement.{statement}
 use Rattle.share_text.proofs.write_text.Tie as tie
-use Rattle.share_text.proofs.write_text.Reads as reads
-use Rattle.share_text.proofs.write_text.Lts as lts
-use Rattle.share_text.proofs.put_data.Reads as put-data-reads
-use Rattle.share_text.proofs.put_line.Reads as put-line-reads
 
 fits : (c : tie.Start) → let a = c .args in Rooms (a .sizes) (a .total) (a .node) (a .share .now) (length (a .out .now))
 fits c = rooms _ _ _ _ _ (c .pre)
