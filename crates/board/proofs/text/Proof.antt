@@ -121,10 +121,9 @@ enum-told-4 : tie.Need-enum-told-4
 enum-told-4 c = search needs
 
 text-len-requires : tie.Need-text-len-requires
-text-len-requires c κs = 
+text-len-requires c κs =
     let ok = is-legal (c .before .before .before .before .before .before .before .before .before .before .before) in
-    let f = legal-facts _ ok in
-    (
+    let f = legal-facts _ ok in (
       ok,
       omega (arith, known (c .before .before .before .before .before), f .few),
       omega (arith, not-long (c .before .before .before .before .before .before .before .before), B-most _ f),
@@ -153,7 +152,7 @@ same-length-2 : tie.Need-same-length-2
 same-length-2 c = search needs
 
 returns-6 : tie.Need-returns-6
-returns-6 c = 
+returns-6 c =
     let a = c .before .before .before .before .before .before .before .before .before .before .before .before .before .before .before .before .before .before .before .before .before .before .before .before .before .args in
     works (a .sizes) (a .length) (a .node) (a .held .now) (a .out .now) _ _ (sym (count-is (c .before .before .before .before .before .before .before .before))) (size-on (c .before .before .before .before .before .before .before .before .before .before .before .before .before .before .before .before .before .before .before .before), (long-on (c .before .before .before .before .before .before .before .before .before .before .before .before .before .before .before .before .before), (node-on (c .before .before .before .before .before .before .before .before .before .before .before .before .before .before), (lent-on (c .before .before .before .before .before .before .before .before .before), (room-on (c .before .before .before .before), tt))))) (c .before .before .write-text .ensures)
 
