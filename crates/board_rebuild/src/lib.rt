@@ -47,7 +47,7 @@ pub fn helper_packet(
     }
     let mut inverses = [0u8; 256];
     polynomial::fill_inverses(&mut inverses);
-    rebuild::helper_packet(
+    helper::helper_packet(
         sizes,
         &points,
         &inverses,
@@ -100,7 +100,7 @@ pub fn exchange_packet(
     }
     let mut inverses = [0u8; 256];
     polynomial::fill_inverses(&mut inverses);
-    rebuild::exchange_packet(
+    exchange::exchange_packet(
         sizes,
         &points,
         &inverses,
@@ -167,7 +167,7 @@ pub fn finished_share(
     }
     let mut inverses = [0u8; 256];
     polynomial::fill_inverses(&mut inverses);
-    rebuild::finished_share(
+    finish::finished_share(
         sizes,
         &points,
         &inverses,

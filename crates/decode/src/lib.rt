@@ -161,7 +161,7 @@ fn stripe_from(xs: &[u8], inverses: &[u8], d: usize, w: usize, fs: &[u8], gs: &[
     highs(xs, inverses, gs, d, &mut cs[0..q]);
     low_part(xs, inverses, fs, w, &cs[0..q], d, &mut u[0..a]);
     high_part(xs, inverses, fs, w, &mut u[a..b]);
-    rebuild::copy(&cs[0..q], &mut u[b..e]);
+    helper::copy(&cs[0..q], &mut u[b..e]);
 }
 
 // f of each board, from stripe s of its share.
@@ -188,7 +188,7 @@ fn f_rows(
         let to = from + m;
         let at = t * w;
         let end = at + w;
-        rebuild::own_f(
+        helper::own_f(
             sizes,
             points,
             inverses,
@@ -224,7 +224,7 @@ fn g_rows(
         let to = from + m;
         let at = t * d;
         let end = at + d;
-        rebuild::own_g(
+        helper::own_g(
             sizes,
             points,
             inverses,
@@ -258,7 +258,7 @@ pub fn decode_stripe(
     let mut xs = [0u8; 32];
     let mut fs = [0u8; 992];
     let mut gs = [0u8; 992];
-    rebuild::board_points(points, boards, &mut xs[0..k]);
+    helper::board_points(points, boards, &mut xs[0..k]);
     f_rows(
         sizes,
         points,
@@ -308,7 +308,7 @@ fn stripe_part(
         s,
         &mut u[0..b],
     );
-    rebuild::copy(&u[0..b], out);
+    helper::copy(&u[0..b], out);
 }
 
 // The lesser of two numbers.

@@ -4,7 +4,7 @@ use native.Mathlib.Omega.{arith}
 use lib.ListN.{length, length-append}
 use borrow.Author.Needs.{needs}
 use Rattle.sizes.proofs.Legal.{legal-facts}
-use Rattle.rebuild.proofs.Made.{below-more}
+use Rattle.helper.proofs.Made.{below-more}
 use Rattle.decode.proofs.Made.{f-fit, g-fit, rows-lent, stripe-made}
 use Rattle.decode.proofs.decode_stripe.Statement.{statement}
 use Rattle.decode.proofs.decode_stripe.Tie as tie

@@ -11,7 +11,7 @@ use Rattle.lists.specs.Lists.{join, piece}
 use Rattle.sizes.specs.Sizing.{α}
 use Rattle.sizes.proofs.Legal.{legal-facts, row-fits}
 use Rattle.mbcr.specs.Rebuild.{ownG}
-use Rattle.rebuild.proofs.Made.{board-below}
+use Rattle.helper.proofs.Made.{board-below}
 use Rattle.encode.proofs.Kept.{join-loop}
 use Rattle.decode.proofs.Parts.{join-end}
 use Rattle.decode.proofs.Made.{held-part, length-held, length-g}
