@@ -21,8 +21,8 @@ use Rattle.mbcr.specs.Share.{point, points, neighbours}
 use Rattle.mbcr.specs.Rebuild.{ownF, ownG}
 use Rattle.mbcr.specs.Read.{through, bColumn, cRow, aColumn, decodedStripe}
 use Rattle.mbcr.proofs.Points.{length-neighbours, length-points}
-use Rattle.decode.proofs.Parts.{back-part, length-through}
-use Rattle.decode.specs.Steps.{turned, high, highs, above, low, lows, stripeFrom}
+use Rattle.solve.proofs.Parts.{back-part, length-through}
+use Rattle.solve.specs.Steps.{turned, high, highs, above, low, lows, stripeFrom}
 
 -- ---- stripe s of the share at place t
 

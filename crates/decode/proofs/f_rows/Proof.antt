@@ -13,7 +13,7 @@ use Rattle.sizes.proofs.Legal.{legal-facts, row-fits}
 use Rattle.mbcr.specs.Rebuild.{ownF}
 use Rattle.helper.proofs.Made.{board-below}
 use Rattle.encode.proofs.Kept.{join-loop}
-use Rattle.decode.proofs.Parts.{join-end}
+use Rattle.solve.proofs.Parts.{join-end}
 use Rattle.decode.proofs.Made.{held-part, length-held, length-f}
 use Rattle.decode.proofs.f_rows.Statement.{statement}
 use Rattle.decode.proofs.f_rows.Tie as tie

@@ -13,7 +13,7 @@ use Rattle.sizes.proofs.Legal.{legal-facts, row-fits}
 use Rattle.mbcr.specs.Rebuild.{ownG}
 use Rattle.helper.proofs.Made.{board-below}
 use Rattle.encode.proofs.Kept.{join-loop}
-use Rattle.decode.proofs.Parts.{join-end}
+use Rattle.solve.proofs.Parts.{join-end}
 use Rattle.decode.proofs.Made.{held-part, length-held, length-g}
 use Rattle.decode.proofs.g_rows.Statement.{statement}
 use Rattle.decode.proofs.g_rows.Tie as tie

@@ -1,4 +1,4 @@
--- `decode::highs` meets its contract: the pieces so far, before what was there.
+-- `solve::highs` meets its contract: the pieces so far, before what was there.
 -- Assumes nothing.
 use mathlib.Core.Path.{_≡_, refl, sym, ap}
 use mathlib.Core.List.{_++_}
@@ -9,11 +9,11 @@ use lib.ListN.{length, drop}
 use borrow.Author.Needs.{needs}
 use Rattle.lists.specs.Lists.{join}
 use Rattle.sizes.proofs.Legal.{row-fits}
-use Rattle.decode.specs.Steps.{high}
+use Rattle.solve.specs.Steps.{high}
 use Rattle.encode.proofs.Kept.{join-loop}
-use Rattle.decode.proofs.Parts.{join-end, length-through}
-use Rattle.decode.proofs.highs.Statement.{statement}
-use Rattle.decode.proofs.highs.Tie as tie
+use Rattle.solve.proofs.Parts.{join-end, length-through}
+use Rattle.solve.proofs.highs.Statement.{statement}
+use Rattle.solve.proofs.highs.Tie as tie
 
 abbrev Inv-loop : tie.InvT-loop
 Inv-loop xs inverses rows w out₀ k n j₀ out j =

@@ -1,4 +1,4 @@
--- `decode::less` meets its contract: what is filled in, before what was there.
+-- `solve::less` meets its contract: what is filled in, before what was there.
 -- Assumes nothing.
 use mathlib.Core.Path.{_≡_, ap, _∙_}
 use mathlib.Core.List.{_++_}
@@ -11,8 +11,8 @@ use Rattle.lists.proofs.Pieces.{fill-loop, fill-end, fill-all}
 use Rattle.gf256.specs.Field.{add}
 use Rattle.sizes.proofs.Legal.{row-fits}
 use Rattle.polynomial.specs.Polynomial.{eval}
-use Rattle.decode.proofs.less.Statement.{statement}
-use Rattle.decode.proofs.less.Tie as tie
+use Rattle.solve.proofs.less.Statement.{statement}
+use Rattle.solve.proofs.less.Tie as tie
 
 abbrev Inv-loop : tie.InvT-loop
 Inv-loop xs rows w p j out₀ m t₀ out t =

@@ -1,12 +1,12 @@
--- `decode::high` meets its contract: the callees' contracts, put together.
+-- `solve::high` meets its contract: the callees' contracts, put together.
 -- Assumes nothing.
 use mathlib.Core.Path.{sym, ap, _∙_}
 use Prim.Native.Nat.{ℕ, _*_}
 use borrow.Author.Needs.{needs}
 use Rattle.polynomial.specs.Polynomial.{interpolate}
-use Rattle.decode.specs.Steps.{across}
-use Rattle.decode.proofs.high.Statement.{statement}
-use Rattle.decode.proofs.high.Tie as tie
+use Rattle.solve.specs.Steps.{across}
+use Rattle.solve.proofs.high.Statement.{statement}
+use Rattle.solve.proofs.high.Tie as tie
 
 gather-requires : tie.Need-gather-requires
 gather-requires c κs =

@@ -1,4 +1,4 @@
--- `decode::turned` meets its contract: the rows so far, before what was there.
+-- `solve::turned` meets its contract: the rows so far, before what was there.
 -- Assumes nothing.
 use mathlib.Core.Path.{_≡_, refl, sym, ap, _∙_}
 use mathlib.Core.List.{_++_}
@@ -10,11 +10,11 @@ use borrow.Author.Needs.{needs}
 use Rattle.lists.specs.Lists.{join}
 use Rattle.lists.proofs.Pieces.{length-tabulate, part-piece, length-piece}
 use Rattle.sizes.proofs.Legal.{row-fits}
-use Rattle.decode.specs.Steps.{across}
+use Rattle.solve.specs.Steps.{across}
 use Rattle.encode.proofs.Kept.{join-loop}
-use Rattle.decode.proofs.Parts.{join-end}
-use Rattle.decode.proofs.turned.Statement.{statement}
-use Rattle.decode.proofs.turned.Tie as tie
+use Rattle.solve.proofs.Parts.{join-end}
+use Rattle.solve.proofs.turned.Statement.{statement}
+use Rattle.solve.proofs.turned.Tie as tie
 
 abbrev Inv-loop : tie.InvT-loop
 Inv-loop columns k n out₀ i₀ out i =

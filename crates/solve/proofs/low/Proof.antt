@@ -1,4 +1,4 @@
--- `decode::low` meets its contract: the callees' contracts, put together.
+-- `solve::low` meets its contract: the callees' contracts, put together.
 -- Assumes nothing.
 use mathlib.Core.Path.{ap, _∙_}
 use mathlib.Core.List.{List}
@@ -7,10 +7,10 @@ use native.Mathlib.Omega.{arith}
 use lib.ListN.{length, length-append, length-take, length-drop}
 use borrow.Author.Needs.{needs}
 use Rattle.polynomial.specs.Polynomial.{interpolate}
-use Rattle.decode.specs.Steps.{low}
-use Rattle.decode.proofs.Parts.{above-made}
-use Rattle.decode.proofs.low.Statement.{statement}
-use Rattle.decode.proofs.low.Tie as tie
+use Rattle.solve.specs.Steps.{low}
+use Rattle.solve.proofs.Parts.{above-made}
+use Rattle.solve.proofs.low.Statement.{statement}
+use Rattle.solve.proofs.low.Tie as tie
 
 sub-gather : tie.Need-sub-gather
 sub-gather c = search needs

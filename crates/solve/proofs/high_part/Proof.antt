@@ -1,14 +1,14 @@
--- `decode::high_part` meets its contract: the callees' contracts, put together.
+-- `solve::high_part` meets its contract: the callees' contracts, put together.
 -- Assumes nothing.
 use mathlib.Core.Path.{refl, ap, _∙_}
 use Prim.Native.Nat.{ℕ, _*_, _-_}
 use lib.ListN.{length, length-append}
 use borrow.Author.Needs.{needs}
 use Rattle.lists.proofs.Pieces.{length-join}
-use Rattle.decode.specs.Steps.{turned, highs}
-use Rattle.decode.proofs.Parts.{back-part, length-through}
-use Rattle.decode.proofs.high_part.Statement.{statement}
-use Rattle.decode.proofs.high_part.Tie as tie
+use Rattle.solve.specs.Steps.{turned, highs}
+use Rattle.solve.proofs.Parts.{back-part, length-through}
+use Rattle.solve.proofs.high_part.Statement.{statement}
+use Rattle.solve.proofs.high_part.Tie as tie
 
 sub-n : tie.Need-sub-n
 sub-n c = search needs

@@ -1,4 +1,4 @@
--- `decode::gather` meets its contract: what is filled in, before what was there.
+-- `solve::gather` meets its contract: what is filled in, before what was there.
 -- Assumes nothing.
 use mathlib.Core.Path.{_≡_, refl, _∙_}
 use mathlib.Core.List.{_++_}
@@ -9,8 +9,8 @@ use borrow.Author.Needs.{needs}
 use Rattle.lists.specs.Lists.{tabulate}
 use Rattle.lists.proofs.Pieces.{fill-loop, fill-end, fill-all}
 use Rattle.sizes.proofs.Legal.{row-fits}
-use Rattle.decode.proofs.gather.Statement.{statement}
-use Rattle.decode.proofs.gather.Tie as tie
+use Rattle.solve.proofs.gather.Statement.{statement}
+use Rattle.solve.proofs.gather.Tie as tie
 
 abbrev Inv-loop : tie.InvT-loop
 Inv-loop rows w j out₀ m t₀ out t = (out ≡ tabulate t (λ t. getD rows (t * w + j) 0) ++ drop t out₀) × (t ≤ m) × (length out ≡ length out₀)

@@ -13,7 +13,7 @@ use Rattle.lists.proofs.Pieces.{length-tabulate, length-join}
 use Rattle.sizes.specs.Sizing.{B}
 use Rattle.polynomial.specs.Polynomial.{interpolate}
 use Rattle.polynomial.proofs.Poly.{length-interpolate}
-use Rattle.decode.specs.Steps.{across, turned, highs, above, lows, stripeFrom}
+use Rattle.solve.specs.Steps.{across, turned, highs, above, lows, stripeFrom}
 
 -- at the end of a loop that puts pieces of w bytes behind each other: all of it is filled in
 pub join-end : (f : ℕ → List ℕ) (w s n : ℕ) (out₀ out : List ℕ) → s ≡ n → length out₀ ≡ n * w → out ≡ join s f ++ drop (s * w) out₀ → out ≡ join n f

@@ -1,14 +1,14 @@
--- `decode::stripe_from` meets its contract: the callees' contracts, put together.
+-- `solve::stripe_from` meets its contract: the callees' contracts, put together.
 -- Assumes nothing.
 use Prim.Native.Nat.{ℕ, _-_}
 use native.Mathlib.Nat.{mul-comm}
 use native.Mathlib.Omega.{arith}
 use lib.ListN.{length, length-append, length-take, length-drop}
 use borrow.Author.Needs.{needs}
-use Rattle.decode.specs.Steps.{highs}
-use Rattle.decode.proofs.Parts.{parts-made, copy-fits}
-use Rattle.decode.proofs.stripe_from.Statement.{statement}
-use Rattle.decode.proofs.stripe_from.Tie as tie
+use Rattle.solve.specs.Steps.{highs}
+use Rattle.solve.proofs.Parts.{parts-made, copy-fits}
+use Rattle.solve.proofs.stripe_from.Statement.{statement}
+use Rattle.solve.proofs.stripe_from.Tie as tie
 
 mul-a : tie.Need-mul-a
 mul-a c = search needs
