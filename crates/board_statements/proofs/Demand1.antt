@@ -185,7 +185,7 @@ module _ (z : Sizes) where
 abbrev Only : List Line → Type 0
 Only lines = All (λ x. (x ≡ Disagree) ⊎ (holdsIn lines x ≡ false)) boardOrder
 
-clear : (lines : List Line) (x : Refusal) → number x ≢ 10 → (x ≡ Disagree) ⊎ (holdsIn lines x ≡ false) → holdsIn lines x ≡ false
+pub clear : (lines : List Line) (x : Refusal) → number x ≢ 10 → (x ≡ Disagree) ⊎ (holdsIn lines x ≡ false) → holdsIn lines x ≡ false
 clear lines x h (inl e) = absurd (h (ap number e))
 clear lines x h (inr e) = e
 
@@ -221,7 +221,7 @@ found (some file) output = refl
 found none output = refl
 
 -- what was written is the file
-written : (file file′ output : List ℕ) → length file ≡ length file′ → over file output ≡ over file′ output → file ≡ file′
+pub written : (file file′ output : List ℕ) → length file ≡ length file′ → over file output ≡ over file′ output → file ≡ file′
 written file file′ output l e =
     sym (take-at file _ (length file′) l) ∙ ap (take (length file′)) e ∙ take-at file′ _ (length file′) refl
 

@@ -1,14 +1,14 @@
 -- A read over any area: the file is given just where the boards hold its shares. And no call answers POINTS with document 01's points.
 -- Assumes nothing.
-use Prim.Native.Nat.{ℕ, suc, _+_, _-_, _*_, _≤_, _<_}
-use mathlib.Core.Path.{_≡_, refl, sym, _∙_, ap, subst}
-use mathlib.Core.Bool.{Bool, true, false, not}
-use mathlib.Core.Logic.{_≢_, _↔_, _⊎_, inl, inr}
-use mathlib.Core.List.{List, [], _∷_, _++_}
+use Prim.Native.Nat.{ℕ, _-_, _*_, _<_}
+use mathlib.Core.Path.{_≡_, refl, sym, _∙_, ap}
+use mathlib.Core.Bool.{false, not}
+use mathlib.Core.Logic.{_≢_, _↔_, _⊎_}
+use mathlib.Core.List.{List, [], _∷_}
 use mathlib.Core.Option.{Option, some, none}
 use native.Mathlib.Omega.{arith}
-use lib.ListN.{length, drop, take, length-take, length-drop}
-use lib.Seq.{take-at, length-take-le}
+use lib.ListN.{length, drop, length-drop}
+use lib.Seq.{length-take-le}
 use borrow.Author.Tests.{eqb-true}
 use Rattle.lists.specs.Lists.{All, over, Bytes, joined}
 use Rattle.lists.specs.Tests.{pick, given, different, every, apart}
@@ -31,6 +31,7 @@ use Rattle.mbcr.specs.Demand2.{Demand2, Named}
 use Rattle.mbcr.specs.Share.{shares, share, standard, DifferentPoints}
 use Rattle.mbcr.proofs.Demand2.{demand-2}
 use Rattle.mbcr.proofs.Points.{standard-points, boards-of}
+use Rattle.board_statements.proofs.Demand1.{clear, written}
 use Rattle.board_statements.specs.Calls.{fileOf}
 use Rattle.board_statements.proofs.Runs.{read-runs}
 use Rattle.store_statements.specs.Calls.{StoreOutcome, refused, settle, readLines, fileHeld, readCall, readDone, writeCall, writeLines, writeDone, loseCall, loseLines, loseDone, repairCall, repairLines, repairDone}
@@ -44,10 +45,6 @@ use Rattle.store_statements.proofs.StepRepair.{repair-points}
 abbrev Only : List Line → Type 0
 Only lines = All (λ x. (x ≡ Disagree) ⊎ (holdsIn lines x ≡ false)) storeOrder
 
-clear : (lines : List Line) (x : Refusal) → number x ≢ 10 → (x ≡ Disagree) ⊎ (holdsIn lines x ≡ false) → holdsIn lines x ≡ false
-clear lines x h (inl e) = absurd (h (ap number e))
-clear lines x h (inr e) = e
-
 -- the outcome of a read that found this file, or none
 abbrev outcome : Record → List ℕ → Option (List ℕ) → List ℕ → StoreOutcome
 outcome s area (some file) output = record { answer = said (Done 0); handed = s; area = area; output = over file output }
@@ -58,11 +55,6 @@ found : (s : Record) (area output : List ℕ) (o : Option (List ℕ))
     ≡ outcome s area o output
 found s area output (some file) = refl
 found s area output none = refl
-
--- what was written is the file
-written : (file file′ output : List ℕ) → length file ≡ length file′ → over file output ≡ over file′ output → file ≡ file′
-written file file′ output l e =
-    sym (take-at file _ (length file′) l) ∙ ap (take (length file′)) e ∙ take-at file′ _ (length file′) refl
 
 module _ (xs : List ℕ) (s : Record) (area boards output : List ℕ) (pts : DifferentPoints (s .sizes) xs) (ba : Bytes area)
     (h : Only (readLines xs s area boards output)) where
