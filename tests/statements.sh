@@ -34,11 +34,20 @@ lines() { cat "$@" | grep -v -E '^[[:space:]]*(--|use |$)' | wc -l | tr -d ' '; 
 tables=$(ls crates/*/specs/*Figures.antt)
 claims=$(ls crates/*/specs/Laws.antt crates/*/specs/Demand?.antt crates/*/specs/Stripes.antt)
 definitions=$(ls crates/*/specs/*.antt | grep -v -e '/Lib.antt$' -e '/Multiples.antt$')
-for f in $tables $claims; do definitions=$(printf '%s\n' $definitions | grep -vxF "$f"); done
-d=$(lines $definitions) c=$(lines $claims) t=$(lines $tables)
-echo "definitions: $d lines, theorem statements: $c lines, tables of figures: $t lines"
+# what only inner functions cite: no public call's contract rests on it
+inner='crates/helper/specs/Steps.antt crates/encode/specs/Layout.antt crates/decode/specs/Agree.antt crates/solve/specs/Steps.antt
+crates/share_text/specs/Wrote.antt crates/checks/specs/Asked.antt crates/printer/specs/Machine.antt'
+for f in $tables $claims $inner; do definitions=$(printf '%s\n' $definitions | grep -vxF "$f"); done
+for f in $inner; do
+    crate=${f#crates/} name=$(basename "$f" .antt)
+    ! grep -l "·${crate%%/*}.*specs\.$name\." crates/board_*/specs/*.antt crates/store_statements/specs/*.antt crates/mbcr/specs/*.antt >/dev/null 2>&1 \
+        || complain "a definition rests on the inner $f"
+done
+d=$(lines $definitions) c=$(lines $claims) t=$(lines $tables) i=$(lines $inner)
+echo "definitions: $d lines, theorem statements: $c lines, tables of figures: $t lines, inner definitions: $i lines"
 [ "$d" -le 700 ] || complain "the definitions have $d lines, more than 700"
 grep -qF "$d lines without imports" "$page" || complain "it does not say that the definitions have $d lines"
 grep -qF "Theorem statements: $c lines" "$page" || complain "it does not say that the theorem statements have $c lines"
 grep -qF "Tables of figures: $t lines" "$page" || complain "it does not say that the tables have $t lines"
+grep -qF "Inner definitions: $i lines" "$page" || complain "it does not say that the inner definitions have $i lines"
 exit $bad

@@ -1,1 +1,4 @@
 pub mod Walks
+pub mod Answers
+pub mod Joined
+pub mod Given

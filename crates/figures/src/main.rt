@@ -41,7 +41,9 @@ fn main() {
     print_pair(at1, at0);
     let points = [0u8, 1];
     let mut values = [at0, at1];
-    polynomial::interpolate(&points, &mut values);
+    let mut inverses = [0u8; 256];
+    polynomial::fill_inverses(&mut inverses);
+    polynomial::interpolate(&inverses, &points, &mut values);
     io::write_all(1, b"the stripe again is ");
     print_pair(values[0], values[1]);
 }

@@ -1,0 +1,3 @@
+pub mod HelperCall
+pub mod ExchangeCall
+pub mod FinishedCall

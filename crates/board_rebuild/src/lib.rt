@@ -1,0 +1,183 @@
+//! Document 01, board level, stateless, for all input: a helper packet; an exchange packet; a finished share.
+//! Each call meets its definition in the crate `board_statements` at document 01's points: the answer, and every byte of the output that it
+//! was lent. A refusal leaves the output as it came.
+ghost use mathlib.Core.Path.{_≡_};
+ghost use Rattle.mbcr.specs.Share.{standard};
+ghost use Rattle.board_statements.specs.Calls.{helperCall, exchangeCall, finishedCall};
+ghost use Rattle.checks.specs.Outcomes.{outcome};
+use sizes::Answer;
+use sizes::Check;
+use sizes::Sizes;
+
+// The helper packet that a board makes of its share of a file of so many bytes, for another board. Answers the number of bytes written.
+pub fn helper_packet(
+    sizes: Sizes,
+    length: usize,
+    helper: usize,
+    receiver: usize,
+    held: &[u8],
+    out: &mut [u8],
+) -> Answer
+    ensures { λ r. ⌜ outcome r (now (out .exit)) ≡ helperCall sizes standard length helper receiver (now (held .entry)) (now (out .entry)) ⌝ }
+{
+    if let Check::Refuse(x) = checks::check_sizes(sizes) {
+        return Answer::Refused(x);
+    }
+    if let Check::Refuse(x) = checks::check_length(sizes, length) {
+        return Answer::Refused(x);
+    }
+    let named = [helper, receiver];
+    if let Check::Refuse(x) = checks::check_nodes(sizes, &named) {
+        return Answer::Refused(x);
+    }
+    if let Check::Refuse(x) = checks::check_repeat(&named) {
+        return Answer::Refused(x);
+    }
+    let stripes = checks::stripe_count(sizes, length);
+    if let Check::Refuse(x) = checks::check_lent(held.len(), stripes * sizes.share_len()) {
+        return Answer::Refused(x);
+    }
+    let count = 2 * stripes;
+    if let Check::Refuse(x) = checks::check_room(out, count) {
+        return Answer::Refused(x);
+    }
+    let points = checks::standard_points();
+    if let Check::Refuse(x) = checks::check_points(&points, sizes.n) {
+        return Answer::Refused(x);
+    }
+    let mut inverses = [0u8; 256];
+    polynomial::fill_inverses(&mut inverses);
+    helper::helper_packet(
+        sizes,
+        &points,
+        &inverses,
+        stripes,
+        helper,
+        receiver,
+        held,
+        out,
+    );
+    Answer::Done(count)
+}
+
+// The exchange packet that a board being rebuilt makes of its d helper packets, for another. Answers the number of bytes written.
+pub fn exchange_packet(
+    sizes: Sizes,
+    length: usize,
+    board: usize,
+    helpers: &[usize],
+    packets: &[u8],
+    receiver: usize,
+    out: &mut [u8],
+) -> Answer
+    ensures { λ r. ⌜ outcome r (now (out .exit)) ≡ exchangeCall sizes standard length board (now (helpers .entry)) (now (packets .entry)) receiver (now (out .entry)) ⌝ }
+{
+    if let Check::Refuse(x) = checks::check_sizes(sizes) {
+        return Answer::Refused(x);
+    }
+    if let Check::Refuse(x) = checks::check_length(sizes, length) {
+        return Answer::Refused(x);
+    }
+    if let Check::Refuse(x) = checks::check_count(helpers.len(), sizes.d) {
+        return Answer::Refused(x);
+    }
+    if let Check::Refuse(x) = checks::check_nodes_with(sizes, board, receiver, helpers) {
+        return Answer::Refused(x);
+    }
+    if let Check::Refuse(x) = checks::check_repeat_with(board, receiver, helpers) {
+        return Answer::Refused(x);
+    }
+    let stripes = checks::stripe_count(sizes, length);
+    if let Check::Refuse(x) = checks::check_lent(packets.len(), sizes.d * (2 * stripes)) {
+        return Answer::Refused(x);
+    }
+    if let Check::Refuse(x) = checks::check_room(out, stripes) {
+        return Answer::Refused(x);
+    }
+    let points = checks::standard_points();
+    if let Check::Refuse(x) = checks::check_points(&points, sizes.n) {
+        return Answer::Refused(x);
+    }
+    let mut inverses = [0u8; 256];
+    polynomial::fill_inverses(&mut inverses);
+    exchange::exchange_packet(
+        sizes,
+        &points,
+        &inverses,
+        stripes,
+        helpers,
+        packets,
+        receiver,
+        out,
+    );
+    Answer::Done(stripes)
+}
+
+// The share of a board being rebuilt, of its d helper packets and its r - 1 partners' packets. Answers the number of bytes written.
+pub fn finished_share(
+    sizes: Sizes,
+    length: usize,
+    board: usize,
+    helpers: &[usize],
+    packets: &[u8],
+    partners: &[usize],
+    exchanges: &[u8],
+    out: &mut [u8],
+) -> Answer
+    ensures { λ r. ⌜ outcome r (now (out .exit)) ≡ finishedCall sizes standard length board (now (helpers .entry)) (now (packets .entry)) (now (partners .entry)) (now (exchanges .entry)) (now (out .entry)) ⌝ }
+{
+    if let Check::Refuse(x) = checks::check_sizes(sizes) {
+        return Answer::Refused(x);
+    }
+    if let Check::Refuse(x) = checks::check_length(sizes, length) {
+        return Answer::Refused(x);
+    }
+    if let Check::Refuse(x) = checks::check_counts(
+        helpers.len(),
+        sizes.d,
+        partners.len(),
+        sizes.r - 1,
+    ) {
+        return Answer::Refused(x);
+    }
+    if let Check::Refuse(x) = checks::check_nodes_joined(sizes, helpers, partners, board) {
+        return Answer::Refused(x);
+    }
+    if let Check::Refuse(x) = checks::check_repeat_joined(helpers, partners, board) {
+        return Answer::Refused(x);
+    }
+    let stripes = checks::stripe_count(sizes, length);
+    let packets_len = sizes.d * (2 * stripes);
+    let exchanges_len = (sizes.r - 1) * stripes;
+    if let Check::Refuse(x) = checks::check_two_lent(
+        packets.len(),
+        packets_len,
+        exchanges.len(),
+        exchanges_len,
+    ) {
+        return Answer::Refused(x);
+    }
+    let count = stripes * sizes.share_len();
+    if let Check::Refuse(x) = checks::check_room(out, count) {
+        return Answer::Refused(x);
+    }
+    let points = checks::standard_points();
+    if let Check::Refuse(x) = checks::check_points(&points, sizes.n) {
+        return Answer::Refused(x);
+    }
+    let mut inverses = [0u8; 256];
+    polynomial::fill_inverses(&mut inverses);
+    finish::finished_share(
+        sizes,
+        &points,
+        &inverses,
+        stripes,
+        board,
+        helpers,
+        packets,
+        partners,
+        exchanges,
+        out,
+    );
+    Answer::Done(count)
+}

@@ -1,0 +1,2 @@
+pub mod ShareCall
+pub mod TextCall

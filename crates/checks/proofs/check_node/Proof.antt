@@ -1,0 +1,15 @@
+-- `checks::check_node` meets its contract.
+-- Assumes nothing.
+use mathlib.Core.Path.{_≡_, refl, sym, ap, _∙_}
+use borrow.Author.Tests.{lt-ltb, le-ltb}
+use Rattle.checks.proofs.check_node.Statement.{statement}
+use Rattle.checks.proofs.check_node.Tie as tie
+
+returns : tie.Need-returns
+returns c = rw (lt-ltb _ _ (c .if1 .taken)) refl
+
+returns-2 : tie.Need-returns-2
+returns-2 c = rw (le-ltb _ _ (c .if1 .left)) refl
+
+pub check-node-spec : {M : Type 1} → statement M
+check-node-spec = tie.close (tie.spec returns returns-2)

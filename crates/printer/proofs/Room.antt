@@ -1,0 +1,38 @@
+-- The share call with any room that is enough: the same is told of it.
+-- Assumes nothing.
+use mathlib.Core.Path.{_≡_, refl, sym, ap, _∙_}
+use mathlib.Core.List.{List, [], _∷_}
+use Prim.Native.Nat.{ℕ, _*_, _≤_}
+use native.Mathlib.Omega.{arith}
+use lib.ListN.{length}
+use lib.Seq.{take-at}
+use borrow.Author.Tests.{le-ltb}
+use Rattle.lists.specs.Lists.{fit}
+use Rattle.lists.proofs.Pieces.{length-fit}
+use Rattle.sizes.specs.declared.Sizes.{Sizes}
+use Rattle.sizes.specs.declared.Check.{Check}
+use Rattle.sizes.specs.declared.Check.the-variants.{Pass, Refuse}
+use Rattle.sizes.specs.declared.Refusal.the-variants.{Short}
+use Rattle.sizes.specs.Sizing.{α, stripes}
+use Rattle.sizes.specs.Refusals.{_when_, first, boardOrder}
+use Rattle.mbcr.specs.Share.{standard, share}
+use Rattle.board_statements.specs.Text.{shareText}
+use Rattle.board_statements.specs.Calls.{settled, sizeLine, longLine, nodeLine, shareLines, shareCall}
+use Rattle.printer.specs.Printer.{told, shared}
+
+told-same : (z : Sizes) (L node : ℕ) (c : Check) (bytes a b : List ℕ) → told z L node (settled c bytes a) ≡ told z L node (settled c bytes b)
+told-same z L node (Refuse x) bytes a b = refl
+told-same z L node Pass bytes a b = ap (shareText z L node) (take-at bytes _ (length bytes) refl ∙ sym (take-at bytes _ (length bytes) refl))
+
+module _ (z : Sizes) (node : ℕ) (file output : List ℕ) (enough : stripes z (length file) * α z ≤ length output) where
+  lines-same : shareLines z standard node file (fit (stripes z (length file) * α z) []) ≡ shareLines z standard node file output
+  unfolding shareLines
+  lines-same =
+      let n = length-fit (stripes z (length file) * α z) [] in
+      ap (λ t. sizeLine z ∷ longLine z (length file) ∷ nodeLine z (node ∷ []) ∷ Short when t ∷ []) (le-ltb (length (fit (stripes z (length file) * α z) [])) (stripes z (length file) * α z) (omega arith) ∙ sym (le-ltb _ _ enough))
+
+  pub any-room : shared z node file ≡ told z (length file) node (shareCall z standard node file output)
+  unfolding shared shareCall
+  any-room =
+      ap (λ l. told z (length file) node (settled (first boardOrder l) (share z standard file node) (fit (stripes z (length file) * α z) []))) lines-same
+      ∙ told-same z (length file) node (first boardOrder (shareLines z standard node file output)) (share z standard file node) _ output

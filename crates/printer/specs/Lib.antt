@@ -1,0 +1,4 @@
+pub mod Printer
+pub mod Machine
+pub mod Laws
+pub mod Figures
