@@ -31,10 +31,6 @@ five = sizes 5 2 3 2
 abbrev file : List ℕ
 file = replicate 11 0 ++ (1 ∷ [])
 
--- one byte 01 in a stripe of 00, after so many bytes
-abbrev single : ℕ → ℕ → List ℕ
-single before after = replicate before 0 ++ (1 ∷ []) ++ replicate after 0
-
 -- "L may be 0 to 4,096 × B": one more than 4,096 × 2
 abbrev long : ℕ
 long = 8193
@@ -72,7 +68,7 @@ pub record BoardFigures : Type 0 where
       ∷ fileCall five standard 12 (1 ∷ 1 ∷ []) [] []
       ∷ fileCall five standard 12 (0 ∷ 1 ∷ []) (0 ∷ altered) (replicate 12 0)
       ∷ fileCall five standard 12 (0 ∷ 1 ∷ []) (shares five standard file (0 ∷ 1 ∷ [])) (replicate 11 0)
-      ∷ fileCall five standard 12 (0 ∷ 1 ∷ []) altered (replicate 12 0)
+      ∷ fileCall small standard 1 (0 ∷ []) (0x05 ∷ 0x06 ∷ []) (0 ∷ [])
       ∷ fileCall tight standard long (0 ∷ []) [] []
       ∷ fileCall small standard long [] [] []
       ∷ fileCall five standard 12 (9 ∷ []) [] []
@@ -161,22 +157,13 @@ pub record BoardFigures : Type 0 where
       ∷ textCall small standard 2 0 [] []
       ∷ [])
       ≡ 1 ∷ 3 ∷ 5 ∷ 2 ∷ 7 ∷ 1 ∷ 3 ∷ 5 ∷ 2 ∷ []
-  -- a refusal leaves the output; an accepted call answers its bytes, and output beyond them stays
-  pub refused-stays : fileCall five standard 12 (0 ∷ 1 ∷ []) altered (replicate 14 0xEE) ≡ record { answer = record { refusal = 10; value = 0 }; output = replicate 14 0xEE }
-  pub file-read : fileCall five standard 12 (1 ∷ 4 ∷ []) (shares five standard file (1 ∷ 4 ∷ [])) (replicate 14 0xEE)
-      ≡ record { answer = record { refusal = 0; value = 12 }; output = file ++ (0xEE ∷ 0xEE ∷ []) }
+  -- a refusal leaves the output; an accepted call answers its bytes, and output beyond them stays (the file 05 03, of which L = 1 leaves 03 in
+  -- the padding; the file 05 03 07)
+  pub refused-stays : fileCall small standard 1 (0 ∷ []) (0x05 ∷ 0x06 ∷ []) (replicate 3 0xEE) ≡ record { answer = record { refusal = 10; value = 0 }; output = replicate 3 0xEE }
+  pub file-read : fileCall small standard 3 (1 ∷ []) (0x06 ∷ 0x05 ∷ 0x07 ∷ 0x07 ∷ []) (replicate 4 0xEE)
+      ≡ record { answer = record { refusal = 0; value = 3 }; output = 0x05 ∷ 0x03 ∷ 0x07 ∷ 0xEE ∷ [] }
   pub finished-written : finishedCall five standard 12 1 (2 ∷ 3 ∷ 4 ∷ []) (0x04 ∷ 0x02 ∷ 0x05 ∷ 0x03 ∷ 0x10 ∷ 0x04 ∷ []) (0 ∷ []) (0x00 ∷ []) (replicate 8 0xEE)
       ≡ record { answer = record { refusal = 0; value = 7 }; output = 0x01 ∷ 0x02 ∷ 0x03 ∷ 0x04 ∷ 0x00 ∷ 0x04 ∷ 0x05 ∷ 0xEE ∷ [] }
-  -- the order inside groups a (Y, X), b (Y², Y³, XY²) and c (X²Y, X³): one byte 01 in a stripe of 00
-  pub group-a : map (λ f. share (sizes 5 2 4 1) standard f 2) (single 1 12 ∷ single 2 11 ∷ [])
-      ≡ (0x02 ∷ 0x03 ∷ 0x04 ∷ 0x00 ∷ 0x01 ∷ 0x02 ∷ 0x02 ∷ 0x02 ∷ []) ∷ (0x02 ∷ 0x02 ∷ 0x02 ∷ 0x02 ∷ 0x02 ∷ 0x03 ∷ 0x04 ∷ 0x00 ∷ []) ∷ []
-  pub group-b : map (λ f. share five standard f 1) (single 4 7 ∷ single 5 6 ∷ single 7 4 ∷ [])
-      ≡ (0x01 ∷ 0x04 ∷ 0x05 ∷ 0x10 ∷ 0x00 ∷ 0x01 ∷ 0x01 ∷ [])
-      ∷ (0x01 ∷ 0x08 ∷ 0x0F ∷ 0x40 ∷ 0x00 ∷ 0x01 ∷ 0x01 ∷ [])
-      ∷ (0x01 ∷ 0x04 ∷ 0x05 ∷ 0x10 ∷ 0x00 ∷ 0x02 ∷ 0x03 ∷ [])
-      ∷ []
-  pub group-c : map (λ f. share (sizes 5 2 4 1) standard f 2) (single 11 2 ∷ single 12 1 ∷ [])
-      ≡ (0x08 ∷ 0x0C ∷ 0x10 ∷ 0x00 ∷ 0x04 ∷ 0x0A ∷ 0x20 ∷ 0x00 ∷ []) ∷ (0x08 ∷ 0x08 ∷ 0x08 ∷ 0x08 ∷ 0x08 ∷ 0x0F ∷ 0x40 ∷ 0x00 ∷ []) ∷ []
   -- "L = B is one stripe, B + 1 two"
   pub stripe-counts : map (stripes five) (0 ∷ 1 ∷ 12 ∷ 13 ∷ 24 ∷ 25 ∷ []) ≡ 0 ∷ 1 ∷ 1 ∷ 2 ∷ 2 ∷ 3 ∷ []
   -- "L may be 0 to 4,096 × B": 4,096 × 12 is not LONG, one more is

@@ -7,3 +7,4 @@ pub mod Read
 pub mod Places
 pub mod Linear
 pub mod Demand2
+pub mod Figures

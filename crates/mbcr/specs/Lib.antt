@@ -2,3 +2,4 @@ pub mod Share
 pub mod Rebuild
 pub mod Read
 pub mod Demand2
+pub mod Figures

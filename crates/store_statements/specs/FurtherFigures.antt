@@ -48,9 +48,12 @@ six-area =
 abbrev own : List ℕ
 own = 2 ∷ 3 ∷ 4 ∷ 5 ∷ []
 
--- n=2, C=2, a file of one stripe
-abbrev half-full : Record
-half-full = record { sizes = two; capacity = 2; written = true; length = 2; marks = true ∷ true ∷ replicate 30 false }
+-- n=2, C=2, a file of one stripe and so many bytes; its area after the file 05 03 is written
+abbrev half-full : ℕ → Record
+half-full length = record { sizes = two; capacity = 2; written = true; length = length; marks = true ∷ true ∷ replicate 30 false }
+
+abbrev half-full-area : List ℕ
+half-full-area = 0x05 ∷ 0x06 ∷ 0xFF ∷ 0xFF ∷ 0x06 ∷ 0x05 ∷ 0xFF ∷ 0xFF ∷ []
 
 pub record FurtherFigures : Type 0 where
   -- a record of a file, of no file, of an empty file, and with all boards lost; then L above C × B, a mark from n up, no file with L above 0
@@ -132,7 +135,7 @@ pub record FurtherFigures : Type 0 where
       ∷ readCall standard lost spoiled (2 ∷ 2 ∷ []) (replicate 12 0)
       ∷ readCall standard lost spoiled (2 ∷ 1 ∷ []) (replicate 12 0)
       ∷ readCall standard lost spoiled (2 ∷ 3 ∷ []) (replicate 11 0)
-      ∷ readCall standard written spoiled (1 ∷ 2 ∷ []) (replicate 12 0)
+      ∷ readCall standard (half-full 1) half-full-area (0 ∷ []) (0 ∷ [])
       ∷ readCall standard unsound [] (2 ∷ 3 ∷ []) (replicate 12 0)
       ∷ readCall standard (newRecord five 1) [] (2 ∷ 3 ∷ []) (replicate 12 0)
       ∷ readCall standard (newRecord five 1) spoiled (2 ∷ []) (replicate 12 0)
@@ -146,11 +149,12 @@ pub record FurtherFigures : Type 0 where
   -- refusals before a write and with no board in service leave the area
   pub refused-write : writeCall standard (newRecord five 1) (replicate 35 0xAB) (replicate 13 0)
       ≡ record { answer = record { refusal = 3; value = 0 }; handed = newRecord five 1; area = replicate 35 0xAB; output = [] }
-  -- boards 0 and 1 are lost and their bytes spoiled; a repair: 14 bytes moved, record and area as after the write; then a read from them
+  -- boards 0 and 1 are lost and their bytes spoiled; a repair: 14 bytes moved, record and area as after the write
   pub losses : loseCall (loseCall written [] 0 .handed) [] 1 .handed ≡ lost
   pub repaired : repairCall standard lost spoiled (0 ∷ 1 ∷ []) helpers ≡ record { answer = record { refusal = 0; value = 14 }; handed = written; area = area; output = [] }
-  pub read-back : readCall standard written area (1 ∷ 0 ∷ []) (replicate 14 0xEE)
-      ≡ record { answer = record { refusal = 0; value = 0 }; handed = written; area = area; output = fiveFile ++ (0xEE ∷ 0xEE ∷ []) }
+  -- a read of the file 05 03 from board 1, past the end of which the output stays
+  pub read-back : readCall standard (half-full 2) half-full-area (1 ∷ []) (replicate 3 0xEE)
+      ≡ record { answer = record { refusal = 0; value = 0 }; handed = half-full 2; area = half-full-area; output = 0x05 ∷ 0x03 ∷ 0xEE ∷ [] }
   -- "for each, its own list of d helpers": boards 0 and 1 fresh, helpers 2, 3 and 4, 5
   pub own-helpers : map (λ i. sendersOf (sentTo i (helperPackets standard six six-area (0 ∷ 1 ∷ []) own))) (0 ∷ 1 ∷ []) ≡ (2 ∷ 3 ∷ []) ∷ (4 ∷ 5 ∷ []) ∷ []
   pub own-partners : map (λ i. sendersOf (sentTo i (exchangePackets standard six six-area (0 ∷ 1 ∷ []) own))) (0 ∷ 1 ∷ []) ≡ (1 ∷ []) ∷ (0 ∷ []) ∷ []
@@ -160,6 +164,6 @@ pub record FurtherFigures : Type 0 where
   pub own-exchanged : map (λ i. contents (sentTo i (repairPackets standard six six-area (0 ∷ 1 ∷ []) own))) (0 ∷ 1 ∷ [])
       ≡ (0x07 ∷ 0x21 ∷ 0x04 ∷ 0x34 ∷ 0x00 ∷ []) ∷ (0x20 ∷ 0x9D ∷ 0x28 ∷ 0x4F ∷ 0x02 ∷ []) ∷ []
   -- C = 2, S = 1: stripe s of board i starts at (i × C + s) × α, and the second stripes stay
-  pub write-places : writeCall standard (newRecord two 2) (replicate 8 0xFF) twoFile .area ≡ 0x05 ∷ 0x06 ∷ 0xFF ∷ 0xFF ∷ 0x06 ∷ 0x05 ∷ 0xFF ∷ 0xFF ∷ []
-  pub repair-places : repairCall standard half-full (0x77 ∷ 0x77 ∷ 0x77 ∷ 0x77 ∷ 0x06 ∷ 0x05 ∷ 0xFF ∷ 0xFF ∷ []) (0 ∷ []) (1 ∷ []) .area
+  pub write-places : writeCall standard (newRecord two 2) (replicate 8 0xFF) twoFile .area ≡ half-full-area
+  pub repair-places : repairCall standard (half-full 2) (0x77 ∷ 0x77 ∷ 0x77 ∷ 0x77 ∷ 0x06 ∷ 0x05 ∷ 0xFF ∷ 0xFF ∷ []) (0 ∷ []) (1 ∷ []) .area
       ≡ 0x05 ∷ 0x06 ∷ 0x77 ∷ 0x77 ∷ 0x06 ∷ 0x05 ∷ 0xFF ∷ 0xFF ∷ []

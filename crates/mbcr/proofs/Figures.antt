@@ -1,0 +1,27 @@
+-- The code's figures: antt computes all but the first.
+-- Assumes nothing.
+use mathlib.Core.Path.{_≡_, refl}
+use native.Mathlib.Omega.{arith}
+use Rattle.lists.specs.Lists.{piece}
+use Rattle.gf256.specs.Field.{add, product, reduce, mul, squares, inverse}
+use Rattle.sizes.specs.Sizing.{legal, B, stripes}
+use Rattle.mbcr.specs.Share.{stripe, grid, F, neighbours, symbols, kept, share, shares}
+use Rattle.mbcr.specs.Rebuild.{received, exchanged, ownF, ownG, helperPair, helperPacket, gFrom, exchangePacket, fFrom, finishedStripe, finishedShare}
+use Rattle.mbcr.specs.Read.{through, bColumn, cRow, aColumn, decodedStripe, decodedFile, readFile}
+use Rattle.mbcr.specs.Figures.{CodeFigures}
+
+pub figures : CodeFigures
+unfolding piece add product reduce mul squares inverse legal B stripes stripe grid F neighbours symbols kept share shares received exchanged ownF ownG helperPair helperPacket gFrom exchangePacket fFrom finishedStripe finishedShare through bColumn cRow aColumn decodedStripe decodedFile readFile
+figures = record {
+  one-point = λ p. omega (arith, p .differ 0 1 (omega arith) (omega arith) refl);
+  group-a = refl;
+  group-b = refl;
+  group-c = refl;
+  past-the-last = refl;
+  filled-up = refl;
+  pair = refl;
+  exchange = refl;
+  finished = refl;
+  read = refl;
+  disagrees = refl;
+}
