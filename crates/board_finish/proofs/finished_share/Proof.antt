@@ -22,9 +22,9 @@ use Rattle.board_statements.specs.Calls.{sizeLine, longLine, countLine, nodeLin
 use Rattle.checks.specs.Asked.{asked}
 use Rattle.checks.proofs.Answers.{passed}
 use Rattle.checks.proofs.Given.{as-many, few-bytes, has-room, no-points, few-packets}
-use Rattle.board_rebuild.proofs.FinishedCall.{refuses, works}
-use Rattle.board_rebuild.proofs.finished_share.Statement.{statement}
-use Rattle.board_rebuild.proofs.finished_share.Tie as tie
+use Rattle.board_finish.proofs.FinishedCall.{refuses, works}
+use Rattle.board_finish.proofs.finished_share.Statement.{statement}
+use Rattle.board_finish.proofs.finished_share.Tie as tie
 
 -- what is known past each check
 size-on : (c : tie.After-enum-told) → asked (sizeLine (c .before .before .before .before .before .before .before .before .args .sizes)) ≡ Pass
@@ -82,8 +82,8 @@ returns-2 c = let a = c .before .before .before .before .before .before .before 
 enum-told-2 : tie.Need-enum-told-2
 enum-told-2 c = search needs
 
-sub-check-counts : tie.Need-sub-check-counts
-sub-check-counts c = let ok = is-legal (c .before .before .before .before) in omega (arith, legal-facts _ ok .some-fresh)
+sub-others : tie.Need-sub-others
+sub-others c = let ok = is-legal (c .before .before .before .before) in omega (arith, legal-facts _ ok .some-fresh)
 
 check-counts-requires : tie.Need-check-counts-requires
 check-counts-requires c κs = search needs
@@ -239,4 +239,4 @@ returns-9 c =
     (c .before .before .finished-share .ensures)
 
 pub finished-share-spec : {M : Type 1} → statement M
-finished-share-spec = tie.close (tie.spec check-sizes-requires enum-known-x returns enum-told check-length-requires enum-known-x-2 returns-2 enum-told-2 sub-check-counts check-counts-requires enum-known-x-3 returns-3 enum-told-3 check-nodes-joined-requires enum-known-x-4 returns-4 enum-told-4 check-repeat-joined-requires enum-known-x-5 returns-5 enum-told-5 stripe-count-requires mul-packets-len mul-packets-len-2 sub-exchanges-len mul-exchanges-len check-two-lent-requires enum-known-x-6 returns-6 enum-told-6 share-len-requires mul-count check-room-requires enum-known-x-7 same-length returns-7 enum-told-7 standard-points-requires slice-aggregate-check-points check-points-requires enum-known-x-8 same-length-2 returns-8 enum-told-8 slice-aggregate-fill-inverses fill-inverses-requires slice-aggregate-finished-share slice-aggregate-finished-share-2 finished-share-requires same-length-3 returns-9)
+finished-share-spec = tie.close (tie.spec check-sizes-requires enum-known-x returns enum-told check-length-requires enum-known-x-2 returns-2 enum-told-2 sub-others check-counts-requires enum-known-x-3 returns-3 enum-told-3 check-nodes-joined-requires enum-known-x-4 returns-4 enum-told-4 check-repeat-joined-requires enum-known-x-5 returns-5 enum-told-5 stripe-count-requires mul-packets-len mul-packets-len-2 sub-exchanges-len mul-exchanges-len check-two-lent-requires enum-known-x-6 returns-6 enum-told-6 share-len-requires mul-count check-room-requires enum-known-x-7 same-length returns-7 enum-told-7 standard-points-requires slice-aggregate-check-points check-points-requires enum-known-x-8 same-length-2 returns-8 enum-told-8 slice-aggregate-fill-inverses fill-inverses-requires slice-aggregate-finished-share slice-aggregate-finished-share-2 finished-share-requires same-length-3 returns-9)

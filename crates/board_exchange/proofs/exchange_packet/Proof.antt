@@ -20,9 +20,9 @@ use Rattle.board_statements.specs.Calls.{sizeLine, longLine, countLine, nodeLin
 use Rattle.checks.specs.Asked.{asked}
 use Rattle.checks.proofs.Answers.{passed}
 use Rattle.checks.proofs.Given.{no-points, few-packets}
-use Rattle.board_rebuild.proofs.ExchangeCall.{refuses, works}
-use Rattle.board_rebuild.proofs.exchange_packet.Statement.{statement}
-use Rattle.board_rebuild.proofs.exchange_packet.Tie as tie
+use Rattle.board_exchange.proofs.ExchangeCall.{refuses, works}
+use Rattle.board_exchange.proofs.exchange_packet.Statement.{statement}
+use Rattle.board_exchange.proofs.exchange_packet.Tie as tie
 
 -- what is known past each check
 size-on : (c : tie.After-enum-told) → asked (sizeLine (c .before .before .before .before .before .before .args .sizes)) ≡ Pass

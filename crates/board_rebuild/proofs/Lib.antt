@@ -1,3 +1,0 @@
-pub mod HelperCall
-pub mod ExchangeCall
-pub mod FinishedCall
