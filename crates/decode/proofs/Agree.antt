@@ -27,7 +27,7 @@ use Rattle.mbcr.specs.Read.{decodedStripe, decodedFile, readFile}
 use Rattle.mbcr.proofs.Repair.{length-kept}
 use Rattle.mbcr.proofs.Decode.{length-decoded}
 use Rattle.mbcr.proofs.Read.{length-decoded-file}
-use Rattle.solve.proofs.Parts.{put-next}
+use Rattle.columns.proofs.Parts.{put-next}
 use Rattle.decode.specs.Agree.{stripeRead}
 
 -- ---- a loop over tests

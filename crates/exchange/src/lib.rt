@@ -14,7 +14,7 @@ ghost use Rattle.gf256.specs.Field.{inverse};
 ghost use Rattle.sizes.specs.Sizing.{legal};
 ghost use Rattle.polynomial.specs.Polynomial.{eval, interpolate};
 ghost use Rattle.mbcr.specs.Rebuild.{received, exchanged, exchangePacket};
-ghost use Rattle.helper.specs.Steps.{exchangeOf};
+ghost use Rattle.own.specs.Steps.{exchangeOf};
 
 // Byte b of the pair for stripe s in each of d helper packets.
 pub fn received(sizes: Sizes, stripes: usize, b: usize, s: usize, packets: &[u8], out: &mut [u8])
@@ -94,7 +94,7 @@ pub fn exchange_packet(
     let d = sizes.d;
     let mut xs = [0u8; 32];
     let mut vs = [0u8; 32];
-    helper::board_points(points, helpers, &mut xs[0..d]);
+    own::board_points(points, helpers, &mut xs[0..d]);
     exchange_in(
         sizes,
         &xs[0..d],

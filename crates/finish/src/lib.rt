@@ -15,7 +15,7 @@ ghost use Rattle.sizes.specs.Sizing.{legal, α};
 ghost use Rattle.polynomial.specs.Polynomial.{eval, evals, interpolate};
 ghost use Rattle.mbcr.specs.Share.{points as pointsOf, neighbours};
 ghost use Rattle.mbcr.specs.Rebuild.{received, exchanged, finishedStripe, finishedShare};
-ghost use Rattle.helper.specs.Steps.{stripeOf, shareOf};
+ghost use Rattle.own.specs.Steps.{stripeOf, shareOf};
 
 // The values of the polynomial p at the points xs.
 fn values(p: &[u8], xs: &[u8], out: &mut [u8])
@@ -37,8 +37,8 @@ pub fn all_points(points: &[u8], helpers: &[usize], partners: &[usize], i: usize
 {
     let d = helpers.len();
     let last = d + partners.len();
-    helper::board_points(points, helpers, &mut out[0..d]);
-    helper::board_points(points, partners, &mut out[d..last]);
+    own::board_points(points, helpers, &mut out[0..d]);
+    own::board_points(points, partners, &mut out[d..last]);
     out[last] = points[i];
 }
 
@@ -96,9 +96,9 @@ fn stripe_work(
 {
     let d = firsts.len();
     let last = f.len() - 1;
-    helper::copy(firsts, g);
-    helper::copy(seconds, &mut f[0..d]);
-    helper::copy(sent, &mut f[d..last]);
+    own::copy(firsts, g);
+    own::copy(seconds, &mut f[0..d]);
+    own::copy(sent, &mut f[d..last]);
     finished_stripe_in(all, xs, inverses, x, g, f, out);
 }
 
@@ -154,7 +154,7 @@ pub fn finished_stripe(
     let mut all = [0u8; 32];
     let mut xs = [0u8; 32];
     all_points(points, helpers, partners, i, &mut all[0..m]);
-    helper::neighbour_points(sizes, points, i, m, &mut xs);
+    own::neighbour_points(sizes, points, i, m, &mut xs);
     finished_stripe_of(
         &all[0..m],
         &xs[0..m],
@@ -253,7 +253,7 @@ pub fn finished_share(
     let mut g = [0u8; 32];
     let mut f = [0u8; 32];
     all_points(points, helpers, partners, i, &mut all[0..m]);
-    helper::neighbour_points(sizes, points, i, m, &mut xs);
+    own::neighbour_points(sizes, points, i, m, &mut xs);
     share_in(
         sizes,
         &all[0..m],

@@ -11,7 +11,7 @@ use Rattle.sizes.proofs.Legal.{legal-facts, α-most}
 use Rattle.lists.specs.Tests.{same}
 use Rattle.mbcr.specs.Share.{kept}
 use Rattle.mbcr.proofs.Repair.{length-kept}
-use Rattle.solve.proofs.Parts.{back-part}
+use Rattle.columns.proofs.Parts.{back-part}
 use Rattle.decode.proofs.Agree.{stripe-first}
 use Rattle.decode.proofs.board_agrees.Statement.{statement}
 use Rattle.decode.proofs.board_agrees.Tie as tie

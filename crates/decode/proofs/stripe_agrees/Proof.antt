@@ -14,8 +14,8 @@ use Rattle.sizes.proofs.Legal.{legal-facts, row-fits}
 use Rattle.lists.specs.Tests.{alls, same}
 use Rattle.mbcr.specs.Share.{kept}
 use Rattle.decode.specs.Agree.{boardAgrees, stripeAgrees}
-use Rattle.helper.proofs.Made.{board-below}
-use Rattle.decode.proofs.Made.{held-part}
+use Rattle.own.proofs.Made.{board-below}
+use Rattle.rows.proofs.Made.{held-part}
 use Rattle.decode.proofs.Agree.{alls-no, alls-next, alls-end}
 use Rattle.decode.proofs.stripe_agrees.Statement.{statement}
 use Rattle.decode.proofs.stripe_agrees.Tie as tie

@@ -9,7 +9,7 @@ use Rattle.sizes.specs.Sizing.{B}
 use Rattle.sizes.proofs.Legal.{legal-facts, B-most}
 use Rattle.lists.specs.Tests.{pick}
 use Rattle.mbcr.proofs.Decode.{length-decoded}
-use Rattle.solve.proofs.Parts.{back-part}
+use Rattle.columns.proofs.Parts.{back-part}
 use Rattle.decode.proofs.stripe_part.Statement.{statement}
 use Rattle.decode.proofs.stripe_part.Tie as tie
 

@@ -3,7 +3,7 @@
 use mathlib.Core.Path.{refl}
 use native.Mathlib.Omega.{arith}
 use Rattle.sizes.proofs.Legal.{legal-facts}
-use Rattle.encode.proofs.Kept.{share-made}
+use Rattle.grid.proofs.Kept.{share-made}
 use borrow.Author.Needs.{needs}
 use Rattle.encode.proofs.share.Statement.{statement}
 use Rattle.encode.proofs.share.Tie as tie

@@ -2,7 +2,7 @@
 -- Assumes nothing.
 use native.Mathlib.Omega.{arith}
 use lib.ListN.{replicate}
-use Rattle.encode.proofs.Kept.{parts-worked}
+use Rattle.grid.proofs.Kept.{parts-worked}
 use borrow.Author.Needs.{needs}
 use Rattle.encode.proofs.share_stripe.Statement.{statement}
 use Rattle.encode.proofs.share_stripe.Tie as tie

@@ -3,7 +3,7 @@
 use mathlib.Core.Path.{refl, _∙_}
 use native.Mathlib.Omega.{arith}
 use Rattle.sizes.proofs.Legal.{legal-facts}
-use Rattle.encode.proofs.Kept.{stripe-made}
+use Rattle.grid.proofs.Kept.{stripe-made}
 use borrow.Author.Needs.{needs}
 use Rattle.encode.proofs.share_stripe_of.Statement.{statement}
 use Rattle.encode.proofs.share_stripe_of.Tie as tie

@@ -5,7 +5,7 @@ use mathlib.Core.List.{List, _++_}
 use Prim.Native.Nat.{ℕ}
 use lib.ListN.{drop, length-append}
 use Rattle.sizes.proofs.Legal.{legal-facts}
-use Rattle.helper.proofs.Made.{below-more, exchange-own}
+use Rattle.own.proofs.Made.{below-more, exchange-own}
 use borrow.Author.Needs.{needs}
 use Rattle.exchange.proofs.exchange_packet.Statement.{statement}
 use Rattle.exchange.proofs.exchange_packet.Tie as tie

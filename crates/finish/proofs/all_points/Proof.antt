@@ -1,7 +1,7 @@
 -- `finish::all_points` meets its contract: the callees' contracts, put together.
 -- Assumes nothing.
 use lib.ListN.{length-set}
-use Rattle.helper.proofs.Made.{all-made}
+use Rattle.own.proofs.Made.{all-made}
 use borrow.Author.Needs.{needs}
 use Rattle.finish.proofs.all_points.Statement.{statement}
 use Rattle.finish.proofs.all_points.Tie as tie

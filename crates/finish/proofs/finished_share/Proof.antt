@@ -6,7 +6,7 @@ use Prim.Native.Nat.{ℕ, _*_}
 use lib.ListN.{drop, length-append}
 use Rattle.sizes.specs.Sizing.{α}
 use Rattle.sizes.proofs.Legal.{legal-facts}
-use Rattle.helper.proofs.Made.{below-more, share-own}
+use Rattle.own.proofs.Made.{below-more, share-own}
 use borrow.Author.Needs.{needs}
 use Rattle.finish.proofs.finished_share.Statement.{statement}
 use Rattle.finish.proofs.finished_share.Tie as tie

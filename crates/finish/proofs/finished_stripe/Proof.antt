@@ -3,7 +3,7 @@
 use mathlib.Core.Path.{_∙_}
 use lib.ListN.{length-append}
 use Rattle.sizes.proofs.Legal.{legal-facts}
-use Rattle.helper.proofs.Made.{below-more, finished-own}
+use Rattle.own.proofs.Made.{below-more, finished-own}
 use borrow.Author.Needs.{needs}
 use Rattle.finish.proofs.finished_stripe.Statement.{statement}
 use Rattle.finish.proofs.finished_stripe.Tie as tie

@@ -3,7 +3,7 @@
 use native.Mathlib.Omega.{arith}
 use Prim.Native.Nat.{_-_}
 use lib.ListN.{length, length-set}
-use Rattle.helper.proofs.Made.{stripe-made}
+use Rattle.own.proofs.Made.{stripe-made}
 use borrow.Author.Needs.{needs}
 use Rattle.finish.proofs.finished_stripe_in.Statement.{statement}
 use Rattle.finish.proofs.finished_stripe_in.Tie as tie

@@ -11,8 +11,8 @@ use Rattle.lists.specs.Lists.{join}
 use Rattle.sizes.specs.Sizing.{α}
 use Rattle.sizes.proofs.Legal.{row-fits}
 use Rattle.mbcr.specs.Rebuild.{received, exchanged}
-use Rattle.helper.specs.Steps.{stripeOf}
-use Rattle.helper.proofs.Made.{length-stripeOf, share-turn, share-made}
+use Rattle.own.specs.Steps.{stripeOf}
+use Rattle.own.proofs.Made.{length-stripeOf, share-turn, share-made}
 use Rattle.finish.proofs.share_in.Statement.{statement}
 use Rattle.finish.proofs.share_in.Tie as tie
 

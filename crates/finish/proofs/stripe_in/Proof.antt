@@ -2,7 +2,7 @@
 -- Assumes nothing.
 use native.Mathlib.Omega.{arith}
 use lib.ListN.{length}
-use Rattle.helper.proofs.Made.{stripe-step}
+use Rattle.own.proofs.Made.{stripe-step}
 use borrow.Author.Needs.{needs}
 use Rattle.finish.proofs.stripe_in.Statement.{statement}
 use Rattle.finish.proofs.stripe_in.Tie as tie

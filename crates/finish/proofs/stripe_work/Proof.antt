@@ -1,7 +1,7 @@
 -- `finish::stripe_work` meets its contract: the callees' contracts, put together.
 -- Assumes nothing.
 use lib.ListN.{length}
-use Rattle.helper.proofs.Made.{work-made}
+use Rattle.own.proofs.Made.{work-made}
 use borrow.Author.Needs.{needs}
 use Rattle.finish.proofs.stripe_work.Statement.{statement}
 use Rattle.finish.proofs.stripe_work.Tie as tie

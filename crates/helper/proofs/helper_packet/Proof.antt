@@ -5,7 +5,7 @@ use mathlib.Core.List.{List, _++_}
 use Prim.Native.Nat.{ℕ, _*_}
 use lib.ListN.{drop}
 use Rattle.sizes.proofs.Legal.{legal-facts}
-use Rattle.helper.proofs.Made.{held-length, packet-own}
+use Rattle.own.proofs.Made.{held-length, packet-own}
 use borrow.Author.Needs.{needs}
 use Rattle.helper.proofs.helper_packet.Statement.{statement}
 use Rattle.helper.proofs.helper_packet.Tie as tie

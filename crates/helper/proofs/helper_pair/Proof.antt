@@ -2,7 +2,7 @@
 -- Assumes nothing.
 use mathlib.Core.Path.{_∙_}
 use Rattle.sizes.proofs.Legal.{legal-facts}
-use Rattle.helper.proofs.Made.{pair-own}
+use Rattle.own.proofs.Made.{pair-own}
 use borrow.Author.Needs.{needs}
 use Rattle.helper.proofs.helper_pair.Statement.{statement}
 use Rattle.helper.proofs.helper_pair.Tie as tie

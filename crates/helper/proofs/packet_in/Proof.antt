@@ -9,8 +9,8 @@ use lib.ListN.{length, drop, set, length-set}
 use Rattle.lists.specs.Lists.{join, piece}
 use Rattle.lists.proofs.Pieces.{two-turn, part-piece}
 use Rattle.sizes.proofs.Legal.{row-fits}
-use Rattle.helper.specs.Steps.{pairOf}
-use Rattle.helper.proofs.Made.{packet-made}
+use Rattle.own.specs.Steps.{pairOf}
+use Rattle.own.proofs.Made.{packet-made}
 use Rattle.helper.proofs.packet_in.Statement.{statement}
 use Rattle.helper.proofs.packet_in.Tie as tie
 

@@ -5,8 +5,8 @@ use native.Mathlib.Nat.{mul-comm}
 use native.Mathlib.Omega.{arith}
 use lib.ListN.{length, length-append, length-take, length-drop}
 use borrow.Author.Needs.{needs}
-use Rattle.solve.specs.Steps.{highs}
-use Rattle.solve.proofs.Parts.{parts-made, copy-fits}
+use Rattle.columns.specs.Steps.{highs}
+use Rattle.columns.proofs.Parts.{parts-made, copy-fits}
 use Rattle.solve.proofs.stripe_from.Statement.{statement}
 use Rattle.solve.proofs.stripe_from.Tie as tie
 
