@@ -50,10 +50,10 @@ pub fn text(sizes: Sizes, length: usize, node: usize, held: &[u8], out: &mut [u8
     if let Check::Refuse(x) = checks::check_lent(held.len(), share_len) {
         return Answer::Refused(x);
     }
-    let count = share_text::text_len(sizes, length, node, share_len);
-    if let Check::Refuse(x) = checks::check_room(out, count) {
+    let text_len = share_text::text_len(sizes, length, node, share_len);
+    if let Check::Refuse(x) = checks::check_room(out, text_len) {
         return Answer::Refused(x);
     }
     share_text::write_text(sizes, length, node, held, out);
-    Answer::Done(count)
+    Answer::Done(text_len)
 }

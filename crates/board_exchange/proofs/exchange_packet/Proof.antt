@@ -40,8 +40,8 @@ not-long c = ltb-false _ _ (passed (longLine (c .before .before .before .before 
 count-on : (c : tie.After-enum-told3) → asked (countLine (eqb (length (c .before .before .before .before .before .before .before .before .before .before .before .before .args .helpers .now)) (c .before .before .before .before .before .before .before .before .before .before .before .before .args .sizes .d) ∷ [])) ≡ Pass
 count-on c = sym (c .before .before .check-count .ensures) ∙ c .enum-told3 .given .1
 
-nodes-on : (c : tie.After-enum-told4) → asked (nodeLine (c .before .before .before .before .before .before .before .before .before .before .before .before .before .before .before .args .sizes) (c .before .before .before .before .before .before .before .before .before .before .before .before .before .before .before .args .board ∷ c .before .before .before .before .before .before .before .before .before .before .before .before .before .before .before .args .receiver ∷ c .before .before .before .before .before .before .before .before .before .before .before .before .before .before .before .args .helpers .now)) ≡ Pass
-nodes-on c = sym (c .before .before .check-nodes-with .ensures) ∙ c .enum-told4 .given .1
+nodes-on : (c : tie.After-enum-told5) → asked (nodeLine (c .before .before .before .before .before .before .before .before .before .before .before .before .before .before .before .before .before .before .args .sizes) (c .before .before .before .before .before .before .before .before .before .before .before .before .before .before .before .before .before .before .args .board ∷ c .before .before .before .before .before .before .before .before .before .before .before .before .before .before .before .before .before .before .args .receiver ∷ c .before .before .before .before .before .before .before .before .before .before .before .before .before .before .before .before .before .before .args .helpers .now)) ≡ Pass
+nodes-on c = sym (c .before .before .before .before .before .check-nodes-with .ensures) ∙ c .before .before .before .enum-told4 .given .1
 
 repeat-on : (c : tie.After-enum-told5) → asked (repeatLine (c .before .before .before .before .before .before .before .before .before .before .before .before .before .before .before .before .before .before .args .board ∷ c .before .before .before .before .before .before .before .before .before .before .before .before .before .before .before .before .before .before .args .receiver ∷ c .before .before .before .before .before .before .before .before .before .before .before .before .before .before .before .before .before .before .args .helpers .now)) ≡ Pass
 repeat-on c = sym (c .before .before .check-repeat-with .ensures) ∙ c .enum-told5 .given .1
@@ -107,7 +107,7 @@ enum-known-x-5 : tie.Need-enum-known-x-5
 enum-known-x-5 c = search needs
 
 returns-5 : tie.Need-returns-5
-returns-5 c = let a = c .before .before .before .before .before .before .before .before .before .before .before .before .before .before .before .before .before .before .before .args in refuses (a .sizes) (a .length) (a .board) (a .helpers .now) (a .packets .now) (a .receiver) (a .out .now) 4 _ ((size-on (c .before .before .before .before .before .before .before .before .before .before .before .before .before), (long-on (c .before .before .before .before .before .before .before .before .before .before), (count-on (c .before .before .before .before .before .before .before), (nodes-on (c .before .before .before .before), (sym (c .before .before .before .check-repeat-with .ensures) ∙ c .before .x5 .given .1))))))
+returns-5 c = let a = c .before .before .before .before .before .before .before .before .before .before .before .before .before .before .before .before .before .before .before .args in refuses (a .sizes) (a .length) (a .board) (a .helpers .now) (a .packets .now) (a .receiver) (a .out .now) 4 _ ((size-on (c .before .before .before .before .before .before .before .before .before .before .before .before .before), (long-on (c .before .before .before .before .before .before .before .before .before .before), (count-on (c .before .before .before .before .before .before .before), (sym (c .before .before .before .before .before .before .check-nodes-with .ensures) ∙ c .before .before .before .before .enum-told4 .given .1, (sym (c .before .before .before .check-repeat-with .ensures) ∙ c .before .x5 .given .1))))))
 
 enum-told-5 : tie.Need-enum-told-5
 enum-told-5 c = search needs
@@ -128,7 +128,7 @@ enum-known-x-6 : tie.Need-enum-known-x-6
 enum-known-x-6 c = search needs
 
 returns-6 : tie.Need-returns-6
-returns-6 c = let a = c .before .before .before .before .before .before .before .before .before .before .before .before .before .before .before .before .before .before .before .before .before .before .before .before .args in refuses (a .sizes) (a .length) (a .board) (a .helpers .now) (a .packets .now) (a .receiver) (a .out .now) 5 _ ((size-on (c .before .before .before .before .before .before .before .before .before .before .before .before .before .before .before .before .before .before), (long-on (c .before .before .before .before .before .before .before .before .before .before .before .before .before .before .before), (count-on (c .before .before .before .before .before .before .before .before .before .before .before .before), (nodes-on (c .before .before .before .before .before .before .before .before .before), (repeat-on (c .before .before .before .before .before .before), (ap (λ m. asked (areaLine (eqb (length (a .packets .now)) (a .sizes .d * (2 * m)) ∷ []))) (sym (c .before .before .before .before .before .stripe-count .ensures .0)) ∙ sym (c .before .before .before .check-lent .ensures) ∙ c .before .x6 .given .1)))))))
+returns-6 c = let a = c .before .before .before .before .before .before .before .before .before .before .before .before .before .before .before .before .before .before .before .before .before .before .before .before .args in refuses (a .sizes) (a .length) (a .board) (a .helpers .now) (a .packets .now) (a .receiver) (a .out .now) 5 _ ((size-on (c .before .before .before .before .before .before .before .before .before .before .before .before .before .before .before .before .before .before), (long-on (c .before .before .before .before .before .before .before .before .before .before .before .before .before .before .before), (count-on (c .before .before .before .before .before .before .before .before .before .before .before .before), (nodes-on (c .before .before .before .before .before .before), (repeat-on (c .before .before .before .before .before .before), (ap (λ m. asked (areaLine (eqb (length (a .packets .now)) (a .sizes .d * (2 * m)) ∷ []))) (sym (c .before .before .before .before .before .stripe-count .ensures .0)) ∙ sym (c .before .before .before .check-lent .ensures) ∙ c .before .x6 .given .1)))))))
 
 enum-told-6 : tie.Need-enum-told-6
 enum-told-6 c = search needs
@@ -143,7 +143,7 @@ same-length : tie.Need-same-length
 same-length c = search needs
 
 returns-7 : tie.Need-returns-7
-returns-7 c = let a = c .before .before .before .before .before .before .before .before .before .before .before .before .before .before .before .before .before .before .before .before .before .before .before .before .before .before .before .before .args in refuses (a .sizes) (a .length) (a .board) (a .helpers .now) (a .packets .now) (a .receiver) (a .out .now) 6 _ ((size-on (c .before .before .before .before .before .before .before .before .before .before .before .before .before .before .before .before .before .before .before .before .before .before), (long-on (c .before .before .before .before .before .before .before .before .before .before .before .before .before .before .before .before .before .before .before), (count-on (c .before .before .before .before .before .before .before .before .before .before .before .before .before .before .before .before), (nodes-on (c .before .before .before .before .before .before .before .before .before .before .before .before .before), (repeat-on (c .before .before .before .before .before .before .before .before .before .before), (lent-on (c .before .before .before .before .before), (ap (λ m. asked (shortLine (a .out .now) m)) (sym (c .before .before .before .before .before .before .before .before .before .stripe-count .ensures .0)) ∙ sym (c .before .before .before .check-room .ensures) ∙ c .before .x7 .given .1))))))))
+returns-7 c = let a = c .before .before .before .before .before .before .before .before .before .before .before .before .before .before .before .before .before .before .before .before .before .before .before .before .before .before .before .before .args in refuses (a .sizes) (a .length) (a .board) (a .helpers .now) (a .packets .now) (a .receiver) (a .out .now) 6 _ ((size-on (c .before .before .before .before .before .before .before .before .before .before .before .before .before .before .before .before .before .before .before .before .before .before), (long-on (c .before .before .before .before .before .before .before .before .before .before .before .before .before .before .before .before .before .before .before), (count-on (c .before .before .before .before .before .before .before .before .before .before .before .before .before .before .before .before), (nodes-on (c .before .before .before .before .before .before .before .before .before .before), (repeat-on (c .before .before .before .before .before .before .before .before .before .before), (lent-on (c .before .before .before .before .before), (ap (λ m. asked (shortLine (a .out .now) m)) (sym (c .before .before .before .before .before .before .before .before .before .stripe-count .ensures .0)) ∙ sym (c .before .before .before .check-room .ensures) ∙ c .before .x7 .given .1))))))))
 
 enum-told-7 : tie.Need-enum-told-7
 enum-told-7 c = search needs
@@ -186,7 +186,7 @@ exchange-packet-requires c κs =
     let a = c .before .before .before .before .before .before .before .before .before .before .before .before .before .before .before .before .before .before .before .before .before .before .before .before .before .before .before .before .before .before .before .before .before .before .before .before .before .before .args in
     let ok = is-legal (c .before .before .before .before .before .before .before .before .before .before .before .before .before .before .before .before .before .before .before .before .before .before .before .before .before .before .before .before .before .before .before .before) in
     let l : length (c .before .before .before .before .before .before .before .before .before .before .standard-points .result) ≡ 32 = ap length (c .before .before .before .before .before .before .before .before .before .before .standard-points .ensures) in
-    let known = not-no _ (passed (nodeLine (a .sizes) (a .board ∷ a .receiver ∷ a .helpers .now)) (nodes-on (c .before .before .before .before .before .before .before .before .before .before .before .before .before .before .before .before .before .before .before .before .before .before .before))) in
+    let known = not-no _ (passed (nodeLine (a .sizes) (a .board ∷ a .receiver ∷ a .helpers .now)) (nodes-on (c .before .before .before .before .before .before .before .before .before .before .before .before .before .before .before .before .before .before .before .before))) in
     let each = below-all (a .sizes .n) (a .board ∷ a .receiver ∷ a .helpers .now) known in
     let many = c .before .before .before .before .before .before .before .before .before .before .before .before .before .before .before .before .before .before .before .stripe-count .ensures .0 in
     let count : length (a .helpers .now) ≡ a .sizes .d = eqb-true _ _ (alls-hold (eqb (length (a .helpers .now)) (a .sizes .d) ∷ []) (not-no _ (passed (countLine (eqb (length (a .helpers .now)) (a .sizes .d) ∷ [])) (count-on (c .before .before .before .before .before .before .before .before .before .before .before .before .before .before .before .before .before .before .before .before .before .before .before .before .before .before)))) .0) in
@@ -210,7 +210,7 @@ returns-9 : tie.Need-returns-9
 returns-9 c =
     let a = c .before .before .before .before .before .before .before .before .before .before .before .before .before .before .before .before .before .before .before .before .before .before .before .before .before .before .before .before .before .before .before .before .before .before .before .before .before .before .before .before .before .args in
     works (a .sizes) (a .length) (a .board) (a .helpers .now) (a .packets .now) (a .receiver) (a .out .now) _ _ _ _ (c .before .before .before .before .before .before .before .before .before .before .before .before .before .standard-points .ensures) (c .before .before .before .before .before .before .before .before .before .before .before .before .before .before .before .before .before .before .before .before .before .before .stripe-count .ensures .0) (c .before .before .before .before .before .before .before .before .before .before .before .before .before .before .before .before .before .before .before .before .before .before .stripe-count .ensures .0) (is-legal (c .before .before .before .before .before .before .before .before .before .before .before .before .before .before .before .before .before .before .before .before .before .before .before .before .before .before .before .before .before .before .before .before .before .before .before))
-    (size-on (c .before .before .before .before .before .before .before .before .before .before .before .before .before .before .before .before .before .before .before .before .before .before .before .before .before .before .before .before .before .before .before .before .before .before .before), (long-on (c .before .before .before .before .before .before .before .before .before .before .before .before .before .before .before .before .before .before .before .before .before .before .before .before .before .before .before .before .before .before .before .before), (count-on (c .before .before .before .before .before .before .before .before .before .before .before .before .before .before .before .before .before .before .before .before .before .before .before .before .before .before .before .before .before), (nodes-on (c .before .before .before .before .before .before .before .before .before .before .before .before .before .before .before .before .before .before .before .before .before .before .before .before .before .before), (repeat-on (c .before .before .before .before .before .before .before .before .before .before .before .before .before .before .before .before .before .before .before .before .before .before .before), (lent-on (c .before .before .before .before .before .before .before .before .before .before .before .before .before .before .before .before .before .before), (room-on (c .before .before .before .before .before .before .before .before .before .before .before .before .before .before), tt)))))))
+    (size-on (c .before .before .before .before .before .before .before .before .before .before .before .before .before .before .before .before .before .before .before .before .before .before .before .before .before .before .before .before .before .before .before .before .before .before .before), (long-on (c .before .before .before .before .before .before .before .before .before .before .before .before .before .before .before .before .before .before .before .before .before .before .before .before .before .before .before .before .before .before .before .before), (count-on (c .before .before .before .before .before .before .before .before .before .before .before .before .before .before .before .before .before .before .before .before .before .before .before .before .before .before .before .before .before), (nodes-on (c .before .before .before .before .before .before .before .before .before .before .before .before .before .before .before .before .before .before .before .before .before .before .before), (repeat-on (c .before .before .before .before .before .before .before .before .before .before .before .before .before .before .before .before .before .before .before .before .before .before .before), (lent-on (c .before .before .before .before .before .before .before .before .before .before .before .before .before .before .before .before .before .before), (room-on (c .before .before .before .before .before .before .before .before .before .before .before .before .before .before), tt)))))))
     (c .before .before .exchange-packet .ensures)
 
 pub exchange-packet-spec : {M : Type 1} → statement M
