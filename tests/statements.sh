@@ -35,7 +35,7 @@ tables=$(ls crates/*/specs/*Figures.antt)
 claims=$(ls crates/*/specs/Laws.antt crates/*/specs/Demand?.antt crates/*/specs/Stripes.antt)
 definitions=$(ls crates/*/specs/*.antt | grep -v -e '/Lib.antt$' -e '/Multiples.antt$')
 # what only inner functions cite: no public call's contract rests on it
-inner='crates/helper/specs/Steps.antt crates/encode/specs/Layout.antt crates/decode/specs/Agree.antt crates/solve/specs/Steps.antt
+inner='crates/own/specs/Steps.antt crates/grid/specs/Layout.antt crates/decode/specs/Agree.antt crates/columns/specs/Steps.antt
 crates/share_text/specs/Wrote.antt crates/checks/specs/Asked.antt crates/printer/specs/Machine.antt'
 for f in $tables $claims $inner; do definitions=$(printf '%s\n' $definitions | grep -vxF "$f"); done
 for f in $inner; do
