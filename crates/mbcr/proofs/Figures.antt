@@ -22,6 +22,7 @@ figures = record {
   pair = refl;
   exchange = refl;
   finished = refl;
+  finished-by-exchange = refl;
   read = refl;
   disagrees = refl;
 }

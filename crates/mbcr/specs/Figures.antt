@@ -42,6 +42,9 @@ pub record CodeFigures : Type 0 where
   pub exchange : exchangePacket (sizes 6 2 2 2) standard 1 (2 ∷ 3 ∷ []) (0x07 ∷ 0x21 ∷ 0x04 ∷ 0x34 ∷ []) 1 ≡ 0x02 ∷ []
   pub finished : finishedShare five standard 1 1 (2 ∷ 3 ∷ 4 ∷ []) (0x04 ∷ 0x02 ∷ 0x05 ∷ 0x03 ∷ 0x10 ∷ 0x04 ∷ []) (0 ∷ []) (0x00 ∷ [])
       ≡ 0x01 ∷ 0x02 ∷ 0x03 ∷ 0x04 ∷ 0x00 ∷ 0x04 ∷ 0x05 ∷ []
+  -- the exchanged byte is 02, n=6, k=d=r=2, the file 01 02 .. 08
+  pub finished-by-exchange : finishedShare (sizes 6 2 2 2) standard 1 1 (4 ∷ 5 ∷ []) (0x20 ∷ 0x9D ∷ 0x28 ∷ 0x4F ∷ []) (0 ∷ []) (0x02 ∷ [])
+      ≡ 0x08 ∷ 0x76 ∷ 0x58 ∷ 0x9D ∷ 0x10 ∷ []
   -- F = 1 + 2Y + 3Y² + 4X, n=3, k=1, d=2, r=1: a file from board 0's share, and no file of three bytes, whose padding would be 04
   pub read : readFile (sizes 3 1 2 1) standard 4 (0 ∷ []) (0x01 ∷ 0x00 ∷ 0x09 ∷ 0x05 ∷ []) ≡ some (0x01 ∷ 0x02 ∷ 0x03 ∷ 0x04 ∷ [])
   pub disagrees : readFile (sizes 3 1 2 1) standard 3 (0 ∷ []) (0x01 ∷ 0x00 ∷ 0x09 ∷ 0x05 ∷ []) ≡ none

@@ -47,6 +47,7 @@ further-figures = record {
   repair-refusals = refl;
   read-refusals = refl;
   refused-write = refl;
+  refused-repair = refl;
   losses = refl;
   repaired = refl;
   read-back = refl;

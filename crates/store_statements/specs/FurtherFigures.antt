@@ -146,9 +146,10 @@ pub record FurtherFigures : Type 0 where
       ∷ readCall standard written spoiled (1 ∷ 2 ∷ []) []
       ∷ [])
       ≡ 1 ∷ 2 ∷ 8 ∷ 4 ∷ 5 ∷ 6 ∷ 9 ∷ 7 ∷ 10 ∷ 1 ∷ 2 ∷ 8 ∷ 4 ∷ 5 ∷ 6 ∷ 9 ∷ 7 ∷ []
-  -- refusals before a write and with no board in service leave the area
+  -- a refused write and a refused repair leave record and area
   pub refused-write : writeCall standard (newRecord five 1) (replicate 35 0xAB) (replicate 13 0)
       ≡ record { answer = record { refusal = 3; value = 0 }; handed = newRecord five 1; area = replicate 35 0xAB; output = [] }
+  pub refused-repair : repairCall standard lost spoiled (0 ∷ []) helpers ≡ record { answer = record { refusal = 4; value = 0 }; handed = lost; area = spoiled; output = [] }
   -- boards 0 and 1 are lost and their bytes spoiled; a repair: 14 bytes moved, record and area as after the write
   pub losses : loseCall (loseCall written [] 0 .handed) [] 1 .handed ≡ lost
   pub repaired : repairCall standard lost spoiled (0 ∷ 1 ∷ []) helpers ≡ record { answer = record { refusal = 0; value = 14 }; handed = written; area = area; output = [] }
