@@ -48,7 +48,7 @@ pub fn exchange_packet(
         return Answer::Refused(x);
     }
     let mut inverses = [0u8; 256];
-    polynomial::fill_inverses(&mut inverses);
+    interpolation::fill_inverses(&mut inverses);
     exchange::exchange_packet(
         sizes,
         &points,

@@ -58,7 +58,7 @@ pub fn finished_share(
         return Answer::Refused(x);
     }
     let mut inverses = [0u8; 256];
-    polynomial::fill_inverses(&mut inverses);
+    interpolation::fill_inverses(&mut inverses);
     finish::finished_share(
         sizes,
         &points,

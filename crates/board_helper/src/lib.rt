@@ -46,7 +46,7 @@ pub fn helper_packet(
         return Answer::Refused(x);
     }
     let mut inverses = [0u8; 256];
-    polynomial::fill_inverses(&mut inverses);
+    interpolation::fill_inverses(&mut inverses);
     helper::helper_packet(
         sizes,
         &points,

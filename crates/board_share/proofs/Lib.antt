@@ -1,2 +1,1 @@
 pub mod ShareCall
-pub mod TextCall

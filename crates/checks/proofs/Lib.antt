@@ -1,4 +1,3 @@
-pub mod Walks
 pub mod Answers
 pub mod Joined
 pub mod Given

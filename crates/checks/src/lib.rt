@@ -1,14 +1,13 @@
-//! Tests on lists of board numbers, and the checks of the refusals' lines. A check answers the refusal where its line holds.
+//! The checks of the refusals' lines. A check answers the refusal where its line holds.
 ghost use mathlib.Core.Path.{_≡_};
-ghost use mathlib.Core.List.{List, [], _∷_, _++_};
+ghost use mathlib.Core.List.{[], _∷_, _++_};
 ghost use Prim.Native.Nat.{_+_, _*_, _≤_};
 ghost use lib.ListN.{length, drop};
 ghost use mathlib.Core.Bool.{true, not};
 ghost use lib.Dec.{eqb};
 ghost use lib.ListN.{take};
-ghost use Rattle.lists.specs.Tests.{below, among, different, apart};
-ghost use Rattle.lists.specs.Lists.{tabulate};
-ghost use Rattle.sizes.specs.Sizing.{legal, α, B, stripes};
+ghost use Rattle.lists.specs.Tests.{different};
+ghost use Rattle.sizes.specs.Sizing.{legal, B, stripes};
 ghost use Rattle.sizes.specs.Refusals.{_when_};
 ghost use Rattle.mbcr.specs.Share.{standard};
 ghost use Rattle.board_statements.specs.Calls.{sizeLine, longLine, countLine, nodeLine, repeatLine, areaLine, shortLine};
@@ -16,62 +15,6 @@ ghost use Rattle.checks.specs.Asked.{asked};
 use sizes::Check;
 use sizes::Refusal;
 use sizes::Sizes;
-
-// Whether each board is below n.
-pub fn below(n: usize, boards: &[usize]) -> bool
-    ensures { λ r. ⌜ r ≡ below n (now (boards .entry)) ⌝ }
-{
-    let mut i = 0;
-    while i < boards.len() {
-        if n <= boards[i] {
-            return false;
-        }
-        i += 1;
-    }
-    true
-}
-
-// Whether board x stands at place `from` or after it.
-pub fn among_from(boards: &[usize], from: usize, x: usize) -> bool
-    ensures { λ r. ⌜ r ≡ among (drop from (now (boards .entry))) x ⌝ }
-{
-    let mut i = from;
-    while i < boards.len() {
-        if boards[i] == x {
-            return true;
-        }
-        i += 1;
-    }
-    false
-}
-
-// Whether no board stands twice.
-pub fn different(boards: &[usize]) -> bool
-    ensures { λ r. ⌜ r ≡ different (now (boards .entry)) ⌝ }
-{
-    let mut i = 0;
-    while i < boards.len() {
-        if among_from(boards, i + 1, boards[i]) {
-            return false;
-        }
-        i += 1;
-    }
-    true
-}
-
-// Whether none of the named boards stands among the others.
-pub fn apart(boards: &[usize], named: &[usize]) -> bool
-    ensures { λ r. ⌜ r ≡ apart (now (boards .entry)) (now (named .entry)) ⌝ }
-{
-    let mut i = 0;
-    while i < named.len() {
-        if among_from(boards, 0, named[i]) {
-            return false;
-        }
-        i += 1;
-    }
-    true
-}
 
 // The boards to the beginning of out.
 pub fn copy_boards(boards: &[usize], out: &mut [usize])
@@ -186,7 +129,7 @@ pub fn check_node(sizes: Sizes, node: usize) -> Check
 pub fn check_nodes(sizes: Sizes, boards: &[usize]) -> Check
     ensures { λ r. ⌜ r ≡ asked (nodeLine sizes (now (boards .entry))) ⌝ }
 {
-    if below(sizes.n, boards) {
+    if board_tests::below(sizes.n, boards) {
         Check::Pass
     } else {
         Check::Refuse(Refusal::Node)
@@ -197,7 +140,7 @@ pub fn check_nodes(sizes: Sizes, boards: &[usize]) -> Check
 pub fn check_repeat(boards: &[usize]) -> Check
     ensures { λ r. ⌜ r ≡ asked (repeatLine (now (boards .entry))) ⌝ }
 {
-    if different(boards) {
+    if board_tests::different(boards) {
         Check::Pass
     } else {
         Check::Refuse(Refusal::Repeat)
@@ -224,10 +167,10 @@ pub fn check_repeat_with(one: usize, other: usize, boards: &[usize]) -> Check
     if other == one {
         return Check::Refuse(Refusal::Repeat);
     }
-    if among_from(boards, 0, one) {
+    if board_tests::among_from(boards, 0, one) {
         return Check::Refuse(Refusal::Repeat);
     }
-    if among_from(boards, 0, other) {
+    if board_tests::among_from(boards, 0, other) {
         return Check::Refuse(Refusal::Repeat);
     }
     check_repeat(boards)
@@ -237,8 +180,8 @@ pub fn check_repeat_with(one: usize, other: usize, boards: &[usize]) -> Check
 pub fn check_nodes_joined(sizes: Sizes, boards: &[usize], others: &[usize], last: usize) -> Check
     ensures { λ r. ⌜ r ≡ asked (nodeLine sizes (now (boards .entry) ++ now (others .entry) ++ (last ∷ []))) ⌝ }
 {
-    if below(sizes.n, boards) {
-        if below(sizes.n, others) {
+    if board_tests::below(sizes.n, boards) {
+        if board_tests::below(sizes.n, others) {
             return check_node(sizes, last);
         }
     }
@@ -249,13 +192,13 @@ pub fn check_nodes_joined(sizes: Sizes, boards: &[usize], others: &[usize], last
 pub fn check_repeat_joined(boards: &[usize], others: &[usize], last: usize) -> Check
     ensures { λ r. ⌜ r ≡ asked (repeatLine (now (boards .entry) ++ now (others .entry) ++ (last ∷ []))) ⌝ }
 {
-    if different(boards) {
-        if different(others) {
-            if apart(others, boards) {
-                if among_from(boards, 0, last) {
+    if board_tests::different(boards) {
+        if board_tests::different(others) {
+            if board_tests::apart(others, boards) {
+                if board_tests::among_from(boards, 0, last) {
                     return Check::Refuse(Refusal::Repeat);
                 }
-                if among_from(others, 0, last) {
+                if board_tests::among_from(others, 0, last) {
                     return Check::Refuse(Refusal::Repeat);
                 }
                 return Check::Pass;
@@ -302,39 +245,11 @@ pub fn check_points(points: &[u8], n: usize) -> Check
     requires { ⌜ n ≤ length (now points) ⌝ }
     ensures { λ r. ⌜ r ≡ asked (Refusal.Points when not (different (take n (now (points .entry))))) ⌝ }
 {
-    if points_differ(&points[0..n]) {
+    if board_tests::points_differ(&points[0..n]) {
         Check::Pass
     } else {
         Check::Refuse(Refusal::Points)
     }
-}
-
-// Whether point x stands at place `from` or after it.
-fn point_from(points: &[u8], from: usize, x: u8) -> bool
-    ensures { λ r. ⌜ r ≡ among (drop from (now (points .entry))) x ⌝ }
-{
-    let mut i = from;
-    while i < points.len() {
-        if points[i] == x {
-            return true;
-        }
-        i += 1;
-    }
-    false
-}
-
-// Whether no point stands twice.
-fn points_differ(points: &[u8]) -> bool
-    ensures { λ r. ⌜ r ≡ different (now (points .entry)) ⌝ }
-{
-    let mut i = 0;
-    while i < points.len() {
-        if point_from(points, i + 1, points[i]) {
-            return false;
-        }
-        i += 1;
-    }
-    true
 }
 
 // S of a length that is not LONG.

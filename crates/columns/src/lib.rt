@@ -28,7 +28,7 @@ pub fn high(xs: &[u8], inverses: &[u8], rows: &[u8], w: usize, j: usize, out: &m
     ensures { λ _. ⌜ now (out .exit) ≡ high (now (xs .entry)) (length (now (xs .entry))) w (now (rows .entry)) j ⌝ }
 {
     gather(rows, w, j, out);
-    polynomial::interpolate(inverses, xs, out);
+    interpolation::interpolate(inverses, xs, out);
 }
 
 // The polynomials through the bytes from k on of each row, where k is the number of points.
@@ -57,8 +57,8 @@ pub fn less(xs: &[u8], rows: &[u8], w: usize, p: &[u8], j: usize, out: &mut [u8]
     let mut t: usize = 0;
     while t < m {
         let at = t * w + j;
-        let v = polynomial::eval(p, xs[t]);
-        out[t] = gf256::add(rows[at], v);
+        let v = interpolation::eval(p, xs[t]);
+        out[t] = gf256_mul::add(rows[at], v);
         t += 1;
     }
 }
@@ -81,7 +81,7 @@ pub fn low(
     let mut p = [0u8; 32];
     gather(cs, k, j, &mut p[k..d]);
     less(xs, rows, w, &p[0..d], j, out);
-    polynomial::interpolate(inverses, xs, out);
+    interpolation::interpolate(inverses, xs, out);
 }
 
 // The same for each j below k.

@@ -18,8 +18,8 @@ pub fn horner_row(x: u8, row: &[u8], acc: &mut [u8])
 {
     let mut j: usize = 0;
     while j < acc.len() {
-        let t = gf256::mul(x, acc[j]);
-        acc[j] = gf256::add(row[j], t);
+        let t = gf256_mul::mul(x, acc[j]);
+        acc[j] = gf256_mul::add(row[j], t);
         j += 1;
     }
 }
@@ -72,8 +72,8 @@ pub fn horner_points(c: u8, xs: &[u8], acc: &mut [u8])
 {
     let mut t: usize = 0;
     while t < acc.len() {
-        let v = gf256::mul(xs[t], acc[t]);
-        acc[t] = gf256::add(c, v);
+        let v = gf256_mul::mul(xs[t], acc[t]);
+        acc[t] = gf256_mul::add(c, v);
         t += 1;
     }
 }

@@ -51,8 +51,8 @@ pub fn exchange_byte(xs: &[u8], inverses: &[u8], x: u8, vs: &mut [u8]) -> u8
     requires { ⌜ (now inverses ≡ tabulate 256 inverse) × (length (now xs) ≡ length (now vs)) ⌝ }
     ensures { λ v. ⌜ v ≡ eval (interpolate (now (xs .entry)) (now (vs .entry))) x ⌝ }
 {
-    polynomial::interpolate(inverses, xs, vs);
-    polynomial::eval(vs, x)
+    interpolation::interpolate(inverses, xs, vs);
+    interpolation::eval(vs, x)
 }
 
 // The exchange packet for the board with the point x, to the beginning of out. vs is for work.

@@ -12,7 +12,7 @@ fn print_product(a: u8, b: u8) {
     io::write_all(1, b" x ");
     print_byte(b);
     io::write_all(1, b" = ");
-    print_byte(gf256::mul(a, b));
+    print_byte(gf256_mul::mul(a, b));
     io::write_all(1, b"\n");
 }
 
@@ -30,11 +30,11 @@ fn main() {
     print_product(0x02, 0x8E);
     print_product(0x00, 0xFF);
     io::write_all(1, b"inverse of 02 = ");
-    print_byte(gf256::inverse(0x02));
+    print_byte(gf256_rows::inverse(0x02));
     io::write_all(1, b"\n");
     let stripe = [0x05u8, 0x03];
-    let at0 = polynomial::eval(&stripe, 0);
-    let at1 = polynomial::eval(&stripe, 1);
+    let at0 = interpolation::eval(&stripe, 0);
+    let at1 = interpolation::eval(&stripe, 1);
     io::write_all(1, b"board 0 keeps ");
     print_pair(at0, at1);
     io::write_all(1, b"board 1 keeps ");
@@ -42,8 +42,8 @@ fn main() {
     let points = [0u8, 1];
     let mut values = [at0, at1];
     let mut inverses = [0u8; 256];
-    polynomial::fill_inverses(&mut inverses);
-    polynomial::interpolate(&inverses, &points, &mut values);
+    interpolation::fill_inverses(&mut inverses);
+    interpolation::interpolate(&inverses, &points, &mut values);
     io::write_all(1, b"the stripe again is ");
     print_pair(values[0], values[1]);
 }

@@ -25,7 +25,7 @@ fn values(p: &[u8], xs: &[u8], out: &mut [u8])
     let m = xs.len();
     let mut t: usize = 0;
     while t < m {
-        out[t] = polynomial::eval(p, xs[t]);
+        out[t] = interpolation::eval(p, xs[t]);
         t += 1;
     }
 }
@@ -71,9 +71,9 @@ pub fn finished_stripe_in(
     let d = g.len();
     let m = f.len();
     let last = m - 1;
-    polynomial::interpolate(inverses, &all[0..d], g);
-    f[last] = polynomial::eval(g, x);
-    polynomial::interpolate(inverses, all, f);
+    interpolation::interpolate(inverses, &all[0..d], g);
+    f[last] = interpolation::eval(g, x);
+    interpolation::interpolate(inverses, all, f);
     values(f, xs, &mut out[0..m]);
     values(g, &xs[1..d], &mut out[m..]);
 }

@@ -7,5 +7,3 @@ pub mod Inverses
 pub mod Laws
 mod Powers
 mod Remainder
-mod Rows
-mod Steps

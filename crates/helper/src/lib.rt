@@ -36,9 +36,9 @@ fn pair_in(
 {
     let m = xs.len();
     own::own_f_in(xs, inverses, w, f);
-    let a = polynomial::eval(f, x);
+    let a = interpolation::eval(f, x);
     own::own_g_in(ys, inverses, m, w, g);
-    let b = polynomial::eval(g, x);
+    let b = interpolation::eval(g, x);
     Pair {
         first: a,
         second: b,

@@ -78,7 +78,7 @@ pub fn own_f_in(xs: &[u8], inverses: &[u8], w: &[u8], p: &mut [u8])
     ensures { λ _. ⌜ now (p .exit) ≡ fOf (now (xs .entry)) (now (w .entry)) ⌝ }
 {
     copy(w, p);
-    polynomial::interpolate(inverses, xs, p);
+    interpolation::interpolate(inverses, xs, p);
 }
 
 // g by the bytes w that a board keeps of a stripe, of which m are of f, from the points ys of its d neighbours, in place of what is in p.
@@ -87,7 +87,7 @@ pub fn own_g_in(ys: &[u8], inverses: &[u8], m: usize, w: &[u8], p: &mut [u8])
     ensures { λ _. ⌜ now (p .exit) ≡ gOf (now (ys .entry)) m (now (w .entry)) ⌝ }
 {
     ends(w, m, p);
-    polynomial::interpolate(inverses, ys, p);
+    interpolation::interpolate(inverses, ys, p);
 }
 
 // f of board j by the bytes w that it keeps of a stripe, in place of what is in p.

@@ -2,5 +2,4 @@ pub mod Poly
 pub mod Linear
 pub mod Grid
 pub mod Sums
-pub mod Loops
 pub mod Laws

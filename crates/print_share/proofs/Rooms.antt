@@ -13,8 +13,8 @@ use Rattle.sizes.specs.declared.Sizes.{Sizes}
 use Rattle.sizes.specs.Sizing.{legal, α, B, stripes}
 use Rattle.sizes.proofs.Legal.{Legal, legal-facts, B-most, B-pos}
 use Rattle.board_statements.specs.Text.{decimal, shareText}
-use Rattle.share_text.proofs.Decimals.{length-one, length-more}
-use Rattle.share_text.proofs.Lines.{length-text}
+use Rattle.text_lines.proofs.Decimals.{length-one, length-more}
+use Rattle.text_lines.proofs.Lines.{length-text}
 
 -- one digit more
 longer : (m b : ℕ) → ((y : ℕ) → y < b → length (decimal y) ≤ m) → (x : ℕ) → x < 10 * b → length (decimal x) ≤ m + 1

@@ -27,9 +27,9 @@ use Rattle.mbcr.specs.Share.{standard, share}
 use Rattle.mbcr.proofs.Repair.{length-share}
 use Rattle.board_statements.specs.Text.{shareText}
 use Rattle.board_statements.specs.Calls.{BoardOutcome, settled, shareLines, shareCall, textLines, textCall}
-use Rattle.share_text.specs.Wrote.{Wrote}
-use Rattle.share_text.proofs.Lines.{from-start}
-use Rattle.share_text.proofs.Writes.{same-room}
+use Rattle.text_lines.specs.Wrote.{Wrote}
+use Rattle.text_lines.proofs.Lines.{from-start}
+use Rattle.text_lines.proofs.Writes.{same-room}
 use Rattle.checks.specs.Outcomes.{outcome}
 use Rattle.printer.specs.declared.Parser.{Parser}
 use Rattle.printer.specs.Printer.{refusedLine, maxFile, told, shared}

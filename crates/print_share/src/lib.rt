@@ -1,10 +1,9 @@
-//! The share printer over lent slices: its input a part at a time, and its output. The file's bytes stand at the beginning of a slice of
+//! The share printer's output over lent slices. The file's bytes stand at the beginning of a slice of
 //! 16,384, as many as the parser has counted. Lent the lengths that each contract names, a call does what the crate `printer` defines; lent
 //! others, it is still safe.
 ghost use mathlib.Core.Path.{_≡_};
 ghost use mathlib.Core.Bool.{true};
-ghost use mathlib.Core.List.{List, _++_};
-ghost use Prim.Native.Nat.{ℕ, _≤_};
+ghost use Prim.Native.Nat.{_≤_};
 ghost use lib.ListN.{length, take};
 ghost use Rattle.sizes.specs.declared.Check.the-variants.{Pass};
 ghost use Rattle.sizes.specs.Sizing.{legal};
@@ -13,43 +12,10 @@ ghost use Rattle.mbcr.specs.Share.{standard};
 ghost use Rattle.board_statements.specs.Text.{shareText};
 ghost use Rattle.board_statements.specs.Calls.{textLines};
 ghost use Rattle.printer.specs.Printer.{refusedLine, shared};
-ghost use Rattle.printer.specs.Machine.{fed, keep, runs, decided};
+ghost use Rattle.printer.specs.Machine.{decided};
 use printer::Parser;
 use sizes::Answer;
 use sizes::Sizes;
-
-// Keeps a byte of the file, where it is one, before the parser is fed with it.
-fn keep(p: Parser, b: u8, file: &mut [u8])
-    ensures { λ _. ⌜ length (now (file .exit)) ≡ length (now (file .entry)) ⌝ }
-    ensures { λ _. ⌜ (length (now (file .entry)) ≡ 16384 → take (fed p b .count) (now (file .exit)) ≡ keep p (take (p .count) (now (file .entry))) b) ⌝ }
-{
-    if p.bad {
-        return;
-    }
-    if p.left != 0 {
-        return;
-    }
-    let at = p.count;
-    if at < file.len() {
-        file[at] = b;
-    }
-}
-
-// The parser after a part of the input; the part's bytes of the file are kept.
-pub fn feed_all(p: Parser, input: &[u8], file: &mut [u8]) -> Parser
-    ensures { λ _. ⌜ length (now (file .exit)) ≡ length (now (file .entry)) ⌝ }
-    ensures { λ q. ⌜ (length (now (file .entry)) ≡ 16384 → (rest : List ℕ) → runs q (take (q .count) (now (file .exit))) rest ≡ runs p (take (p .count) (now (file .entry))) (now (input .entry) ++ rest)) ⌝ }
-{
-    let mut q = p;
-    let mut t: usize = 0;
-    while t < input.len() {
-        let b = input[t];
-        keep(q, b, file);
-        q = printer::feed(q, b);
-        t += 1;
-    }
-    q
-}
 
 // The line of a refusal, to the beginning of out. Answers how many bytes it has.
 fn refused(x: u8, out: &mut [u8]) -> usize
@@ -60,7 +26,7 @@ fn refused(x: u8, out: &mut [u8]) -> usize
     if out.len() < 300 {
         return 0;
     }
-    share_text::put_line(b"refused", number, 0, out)
+    text_lines::put_line(b"refused", number, 0, out)
 }
 
 // The text of a share that the board has, to the beginning of out. Answers how many bytes it has.
@@ -68,7 +34,7 @@ fn text(z: Sizes, total: usize, node: usize, held: &[u8], out: &mut [u8]) -> usi
     ensures { λ r. ⌜ r ≤ length (now (out .exit)) ⌝ }
     ensures { λ r. ⌜ (first boardOrder (textLines z standard total node (now (held .entry)) (now (out .entry))) ≡ Pass → take r (now (out .exit)) ≡ shareText z total node (now (held .entry))) ⌝ }
 {
-    let answer = board_share::text(z, total, node, held, out);
+    let answer = board_text::text(z, total, node, held, out);
     match answer {
         Answer::Done(count) => {
             if out.len() < count {

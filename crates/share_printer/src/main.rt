@@ -20,7 +20,7 @@ fn read_some(p: Parser, file: &mut [u8]) -> Step {
     }
     let n = io::count(got, &input);
     Step {
-        parser: print_share::feed_all(p, &input[..n], file),
+        parser: print_feed::feed_all(p, &input[..n], file),
         more: true,
     }
 }

@@ -1,114 +1,24 @@
-//! Share text, written into a lent slice: decimals, hexadecimal pairs, lines, and the whole text. A function that writes answers the place
-//! behind what it wrote.
+//! Share text, written whole into a lent slice, and its length.
 ghost use mathlib.Core.Path.{_≡_};
 ghost use mathlib.Core.Bool.{true};
-ghost use mathlib.Core.List.{List, [], _∷_};
-ghost use Prim.Native.Nat.{ℕ, _+_, _*_, _≤_, _<_};
+ghost use mathlib.Core.List.{List};
+ghost use Prim.Native.Nat.{ℕ, _*_, _≤_, _<_};
 ghost use lib.ListN.{length};
-ghost use Rattle.lists.specs.Lists.{joined, over};
+ghost use Rattle.lists.specs.Lists.{over};
 ghost use Rattle.sizes.specs.Sizing.{legal};
-ghost use Rattle.board_statements.specs.Text.{decimal, hexDigit, hexPair, textLine, shareText};
-ghost use Rattle.share_text.specs.Wrote.{Wrote};
+ghost use Rattle.board_statements.specs.Text.{shareText};
 use sizes::Sizes;
-
-// How many digits the decimal of x has.
-pub fn decimal_len(x: usize) -> usize
-    ensures { λ r. ⌜ r ≡ length (decimal x) ⌝ }
-{
-    let mut count: usize = 1;
-    let mut y = x;
-    while 10 <= y {
-        y = y / 10;
-        count += 1;
-    }
-    count
-}
-
-// The decimal of x.
-pub fn put_decimal(x: usize, at: usize, out: &mut [u8]) -> usize
-    requires { ⌜ at + length (decimal x) ≤ length (now out) ⌝ }
-    ensures { λ r. ⌜ Wrote (now (out .entry)) at (decimal x) (now (out .exit)) r ⌝ }
-{
-    if x < 10 {
-        out[at] = 48 + x as u8;
-        return at + 1;
-    }
-    let last = put_decimal(x / 10, at, out);
-    out[last] = 48 + (x % 10) as u8;
-    last + 1
-}
-
-// Bytes as they are.
-pub fn put_bytes(bytes: &[u8], at: usize, out: &mut [u8]) -> usize
-    requires { ⌜ at + length (now bytes) ≤ length (now out) ⌝ }
-    ensures { λ r. ⌜ Wrote (now (out .entry)) at (now (bytes .entry)) (now (out .exit)) r ⌝ }
-{
-    let mut t: usize = 0;
-    while t < bytes.len() {
-        let p = at + t;
-        out[p] = bytes[t];
-        t += 1;
-    }
-    at + t
-}
-
-// A digit of a pair: 0 to 9, then a to f.
-pub fn hex_digit(v: u8) -> u8
-    requires { ⌜ v < 16 ⌝ }
-    ensures { λ r. ⌜ r ≡ hexDigit v ⌝ }
-{
-    if v < 10 { 48 + v } else { 87 + v }
-}
-
-// The hexadecimal pairs of a share.
-pub fn put_pairs(share: &[u8], at: usize, out: &mut [u8]) -> usize
-    requires { ⌜ at + length (joined hexPair (now share)) ≤ length (now out) ⌝ }
-    ensures { λ r. ⌜ Wrote (now (out .entry)) at (joined hexPair (now (share .entry))) (now (out .exit)) r ⌝ }
-{
-    let mut p = at;
-    let mut t: usize = 0;
-    while t < share.len() {
-        out[p] = hex_digit(share[t] / 16);
-        out[p + 1] = hex_digit(share[t] % 16);
-        p += 2;
-        t += 1;
-    }
-    p
-}
-
-// The line of a number: its name, =, the decimal and byte 0A.
-pub fn put_line(name: &[u8], x: usize, at: usize, out: &mut [u8]) -> usize
-    requires { ⌜ at + length (textLine (now name) (decimal x)) ≤ length (now out) ⌝ }
-    ensures { λ r. ⌜ Wrote (now (out .entry)) at (textLine (now (name .entry)) (decimal x)) (now (out .exit)) r ⌝ }
-{
-    let equals = put_bytes(name, at, out);
-    out[equals] = b'=';
-    let end = put_decimal(x, equals + 1, out);
-    out[end] = b'\n';
-    end + 1
-}
-
-// The data line of a share.
-pub fn put_data(share: &[u8], at: usize, out: &mut [u8]) -> usize
-    requires { ⌜ at + length (textLine (0x64 ∷ 0x61 ∷ 0x74 ∷ 0x61 ∷ []) (joined hexPair (now share))) ≤ length (now out) ⌝ }
-    ensures { λ r. ⌜ Wrote (now (out .entry)) at (textLine (0x64 ∷ 0x61 ∷ 0x74 ∷ 0x61 ∷ []) (joined hexPair (now (share .entry)))) (now (out .exit)) r ⌝ }
-{
-    let value = put_bytes(b"data=", at, out);
-    let end = put_pairs(share, value, out);
-    out[end] = b'\n';
-    end + 1
-}
 
 // How many bytes the text of a share of `held` bytes has.
 pub fn text_len(sizes: Sizes, total: usize, node: usize, held: usize) -> usize
     requires { ⌜ (legal sizes ≡ true) × (node < 32) × (total ≤ 4096 * 992) × (held ≤ 4096 * 62) ⌝ }
     ensures { λ r. ⌜ ((share : List ℕ) → length share ≡ held → r ≡ length (shareText sizes total node share)) ⌝ }
 {
-    let boards = decimal_len(sizes.n)
-        + decimal_len(sizes.k)
-        + decimal_len(sizes.d)
-        + decimal_len(sizes.r);
-    32 + boards + decimal_len(node) + decimal_len(total) + held * 2
+    let boards = text_lines::decimal_len(sizes.n)
+        + text_lines::decimal_len(sizes.k)
+        + text_lines::decimal_len(sizes.d)
+        + text_lines::decimal_len(sizes.r);
+    32 + boards + text_lines::decimal_len(node) + text_lines::decimal_len(total) + held * 2
 }
 
 // The text of a share, to the beginning of out.
@@ -116,11 +26,11 @@ pub fn write_text(sizes: Sizes, total: usize, node: usize, share: &[u8], out: &m
     requires { ⌜ length (shareText sizes total node (now share)) ≤ length (now out) ⌝ }
     ensures { λ _. ⌜ now (out .exit) ≡ over (shareText sizes total node (now (share .entry))) (now (out .entry)) ⌝ }
 {
-    let k = put_line(b"n", sizes.n, 0, out);
-    let d = put_line(b"k", sizes.k, k, out);
-    let r = put_line(b"d", sizes.d, d, out);
-    let board = put_line(b"r", sizes.r, r, out);
-    let length = put_line(b"node", node, board, out);
-    let data = put_line(b"length", total, length, out);
-    put_data(share, data, out);
+    let k = text_lines::put_line(b"n", sizes.n, 0, out);
+    let d = text_lines::put_line(b"k", sizes.k, k, out);
+    let r = text_lines::put_line(b"d", sizes.d, d, out);
+    let board = text_lines::put_line(b"r", sizes.r, r, out);
+    let length = text_lines::put_line(b"node", node, board, out);
+    let data = text_lines::put_line(b"length", total, length, out);
+    text_lines::put_data(share, data, out);
 }

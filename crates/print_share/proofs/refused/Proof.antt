@@ -6,7 +6,7 @@ use native.Mathlib.Omega.{arith}
 use lib.ListN.{length, length-append}
 use borrow.Author.Needs.{needs}
 use Rattle.board_statements.specs.Text.{decimal}
-use Rattle.share_text.proofs.Decimals.{decimal-most}
+use Rattle.text_lines.proofs.Decimals.{decimal-most}
 use Rattle.printer.specs.Printer.{refusedLine}
 use Rattle.print_share.proofs.Telling.{wrote-within, wrote-taken}
 use Rattle.print_share.proofs.refused.Statement.{statement}

@@ -5,8 +5,8 @@ use native.Mathlib.Omega.{arith}
 use lib.ListN.{length}
 use Rattle.sizes.proofs.Legal.{legal-facts}
 use Rattle.board_statements.specs.Text.{decimal}
-use Rattle.share_text.proofs.Decimals.{decimal-most}
-use Rattle.share_text.proofs.Lines.{length-text}
+use Rattle.text_lines.proofs.Decimals.{decimal-most}
+use Rattle.text_lines.proofs.Lines.{length-text}
 use borrow.Author.Needs.{needs}
 use Rattle.share_text.proofs.text_len.Statement.{statement}
 use Rattle.share_text.proofs.text_len.Tie as tie

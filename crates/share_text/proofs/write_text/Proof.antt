@@ -2,9 +2,9 @@
 -- Assumes nothing.
 use lib.ListN.{length}
 use Rattle.board_statements.specs.Text.{shareText}
-use Rattle.share_text.specs.Wrote.{Wrote}
-use Rattle.share_text.proofs.Lines.{Rooms, rooms, toN, toK, toD, toR, toNode, toLength, toData, from-start}
-use Rattle.share_text.proofs.Writes.{same-room, room, then}
+use Rattle.text_lines.specs.Wrote.{Wrote}
+use Rattle.text_lines.proofs.Lines.{Rooms, rooms, toN, toK, toD, toR, toNode, toLength, toData, from-start}
+use Rattle.text_lines.proofs.Writes.{same-room, room, then}
 use borrow.Author.Needs.{needs}
 use Rattle.share_text.proofs.write_text.Statement.{statement}
 use Rattle.share_text.proofs.write_text.Tie as tie

@@ -1,0 +1,34 @@
+-- `print_share::keep` meets its contract, case by case.
+-- Assumes nothing.
+use mathlib.Core.Path.{refl}
+use native.Mathlib.Omega.{arith}
+use lib.ListN.{length-set}
+use borrow.Author.Needs.{needs}
+use Rattle.print_feed.proofs.Kept.{kept-bad, kept-line, kept-byte, kept-full}
+use Rattle.print_feed.proofs.keep.Statement.{statement}
+use Rattle.print_feed.proofs.keep.Tie as tie
+
+returns : tie.Need-returns
+returns c = let a = c .before .args in (refl, λ n. kept-bad (a .p) (a .b) (a .file .now) (c .if1 .taken))
+
+returns-2 : tie.Need-returns-2
+returns-2 c = let a = c .before .before .before .args in (refl, λ n. kept-line (a .p) (a .b) (a .file .now) (c .before .before .if1 .left) (c .if2 .taken))
+
+slice-write-file : tie.Need-slice-write-file
+slice-write-file c = search needs
+
+same-length : tie.Need-same-length
+same-length c = search needs
+
+returns-3 : tie.Need-returns-3
+returns-3 c =
+    let a = c .before .before .before .before .args in
+    (length-set (a .file .now) (a .p .count) (a .b), λ n. kept-byte (a .p) (a .b) (a .file .now) (c .before .before .before .if1 .left) (c .before .if2 .left) n (c .if3 .taken))
+
+returns-4 : tie.Need-returns-4
+returns-4 c =
+    let a = c .before .before .before .before .args in
+    (refl, λ n. kept-full (a .p) (a .b) (a .file .now) (c .before .before .before .if1 .left) (c .before .if2 .left) n (c .if3 .left))
+
+pub keep-spec : {M : Type 1} → statement M
+keep-spec = tie.close (tie.spec returns returns-2 slice-write-file same-length returns-3 returns-4)

@@ -1,0 +1,136 @@
+-- `share_text::put_decimal` meets its contract: the digits of the tenth, then the last digit. The measure is the number.
+-- Assumes nothing.
+use native.Mathlib.Nat.{div-add-mod', mod-lt}
+use native.Mathlib.Omega.{arith}
+use borrow.Author.Needs.{needs}
+use Rattle.text_lines.proofs.Decimals.{decimal-one, decimal-more, length-one, length-more}
+use Rattle.text_lines.proofs.Writes.{one, more}
+use Prim.Native.Nat.{ℕ, _<_, _≤_}
+use borrow.Fn.Kinds.{In}
+use borrow.Fn.PlainCycle.{Measures, is, falls, and}
+use Rattle.text_lines.proofs.put_decimal.Reads as put-decimal
+use Rattle.text_lines.proofs.put_decimal.Kinds as put-decimal-kinds
+use Rattle.text_lines.proofs.+put_decimal.Lts-put_decimal as put-decimal-lts
+use Rattle.text_lines.proofs.+put_decimal.{statement}
+use Rattle.text_lines.proofs.+put_decimal.Tie.{close}
+
+abbrev μ-put-decimal : Measures 1 put-decimal-kinds.ps ℕ
+μ-put-decimal κs a = a .0
+
+abbrev put-decimal-at : ℕ → In 1 put-decimal-kinds.ps
+put-decimal-at t =
+    and 1 put-decimal-kinds.ps (is 1 put-decimal-kinds.ps μ-put-decimal t) put-decimal.Pre
+
+abbrev put-decimal-below : ℕ → In 1 put-decimal-kinds.ps
+put-decimal-below t =
+    and 1 put-decimal-kinds.ps (falls 1 put-decimal-kinds.ps _<_ μ-put-decimal t) put-decimal.Pre
+
+put-decimal-cast-out : (t : ℕ) → put-decimal-lts.Need-cast-out (
+  put-decimal-below t,
+  put-decimal.Post,
+) (put-decimal-at t) put-decimal.Post
+put-decimal-cast-out t c = search needs
+
+put-decimal-add-out : (t : ℕ) → put-decimal-lts.Need-add-out (
+  put-decimal-below t,
+  put-decimal.Post,
+) (put-decimal-at t) put-decimal.Post
+put-decimal-add-out t c = search needs
+
+put-decimal-slice-write-out : (t : ℕ) → put-decimal-lts.Need-slice-write-out (
+  put-decimal-below t,
+  put-decimal.Post,
+) (put-decimal-at t) put-decimal.Post
+put-decimal-slice-write-out t c = omega (arith, length-one (c .before .before .args .x) (c .if1 .taken))
+
+put-decimal-add-result : (t : ℕ) → put-decimal-lts.Need-add-result (
+  put-decimal-below t,
+  put-decimal.Post,
+) (put-decimal-at t) put-decimal.Post
+put-decimal-add-result t c = omega (arith, length-one (c .before .before .args .x) (c .if1 .taken))
+
+put-decimal-same-length : (t : ℕ) → put-decimal-lts.Need-same-length (
+  put-decimal-below t,
+  put-decimal.Post,
+) (put-decimal-at t) put-decimal.Post
+put-decimal-same-length t c = search needs
+
+put-decimal-returns : (t : ℕ) → put-decimal-lts.Need-returns (
+  put-decimal-below t,
+  put-decimal.Post,
+) (put-decimal-at t) put-decimal.Post
+put-decimal-returns t c =
+    let a = c .before .before .args in
+    rw (decimal-one (a .x) (c .if1 .taken)) (one (a .out .now) (a .at) _ (omega (arith, length-one (a .x) (c .if1 .taken))))
+
+put-decimal-put-decimal-requires : (t : ℕ) → put-decimal-lts.Need-put-decimal-requires (
+  put-decimal-below t,
+  put-decimal.Post,
+) (put-decimal-at t) put-decimal.Post
+put-decimal-put-decimal-requires t c κs =
+    let a = c .before .before .before .args in
+    (omega (arith, div-add-mod' (a .x) 10), omega (arith, length-more (a .x) (omega arith)))
+
+put-decimal-cast-out-2 : (t : ℕ) → put-decimal-lts.Need-cast-out-2 (
+  put-decimal-below t,
+  put-decimal.Post,
+) (put-decimal-at t) put-decimal.Post
+put-decimal-cast-out-2 t c = omega (arith, mod-lt (c .before .before .before .before .before .before .args .x) {m = 10} (omega arith))
+
+put-decimal-add-out-2 : (t : ℕ) → put-decimal-lts.Need-add-out-2 (
+  put-decimal-below t,
+  put-decimal.Post,
+) (put-decimal-at t) put-decimal.Post
+put-decimal-add-out-2 t c = omega (arith, mod-lt (c .before .before .before .before .before .before .args .x) {m = 10} (omega arith))
+
+put-decimal-slice-write-out-2 : (t : ℕ) → put-decimal-lts.Need-slice-write-out-2 (
+  put-decimal-below t,
+  put-decimal.Post,
+) (put-decimal-at t) put-decimal.Post
+put-decimal-slice-write-out-2 t c =
+    let a = c .before .before .before .before .before .before .args in
+    omega (arith, length-more (a .x) (omega arith))
+
+put-decimal-add-result-2 : (t : ℕ) → put-decimal-lts.Need-add-result-2 (
+  put-decimal-below t,
+  put-decimal.Post,
+) (put-decimal-at t) put-decimal.Post
+put-decimal-add-result-2 t c =
+    let a = c .before .before .before .before .before .before .args in
+    omega (arith, length-more (a .x) (omega arith))
+
+put-decimal-same-length-2 : (t : ℕ) → put-decimal-lts.Need-same-length-2 (
+  put-decimal-below t,
+  put-decimal.Post,
+) (put-decimal-at t) put-decimal.Post
+put-decimal-same-length-2 t c = search needs
+
+put-decimal-returns-2 : (t : ℕ) → put-decimal-lts.Need-returns-2 (
+  put-decimal-below t,
+  put-decimal.Post,
+) (put-decimal-at t) put-decimal.Post
+put-decimal-returns-2 t c =
+    let a = c .before .before .before .before .before .before .args in
+    let h : 10 ≤ a .x = omega arith in
+    rw (decimal-more (a .x) h) (more (c .before .before .put-decimal .ensures) _ (rw (decimal-more (a .x) h) at (c .before .before .before .before .before .before .pre .1)))
+
+pub +put-decimal-spec : {M : Type 1} → statement M
++put-decimal-spec = close μ-put-decimal λ t. put-decimal-lts.spec (
+  put-decimal-below t,
+  put-decimal.Post,
+)
+    (put-decimal-at t)
+    put-decimal.Post
+    (put-decimal-cast-out t)
+    (put-decimal-add-out t)
+    (put-decimal-slice-write-out t)
+    (put-decimal-add-result t)
+    (put-decimal-same-length t)
+    (put-decimal-returns t)
+    (put-decimal-put-decimal-requires t)
+    (put-decimal-cast-out-2 t)
+    (put-decimal-add-out-2 t)
+    (put-decimal-slice-write-out-2 t)
+    (put-decimal-add-result-2 t)
+    (put-decimal-same-length-2 t)
+    (put-decimal-returns-2 t)
