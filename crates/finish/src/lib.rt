@@ -1,46 +1,19 @@
 // Rebuilding, the last step of document 01: what a fresh board writes.
 // The definitions are those of the crate mbcr, over any bytes and any points. Where the points of boards are the same for each stripe, an
-// inner function takes them as a list, and the crate helper's specs/Steps.antt says what it works out.
+// inner function takes them as a list, and the crate own's specs/Steps.antt says what it works out.
 // Assumes nothing.
 use sizes::Sizes;
 ghost use mathlib.Core.Path.{_≡_};
 ghost use mathlib.Core.Bool.{true};
-ghost use mathlib.Core.List.{[], _∷_, _++_};
+ghost use mathlib.Core.List.{_++_};
 ghost use Prim.Native.Nat.{_+_, _-_, _*_, _<_, _≤_};
 ghost use lib.ListN.{length, take, drop};
 ghost use Rattle.lists.specs.Tests.{below};
 ghost use Rattle.lists.specs.Lists.{tabulate};
 ghost use Rattle.gf256.specs.Field.{inverse};
 ghost use Rattle.sizes.specs.Sizing.{legal, α};
-ghost use Rattle.polynomial.specs.Polynomial.{eval, evals, interpolate};
-ghost use Rattle.mbcr.specs.Share.{points as pointsOf, neighbours};
-ghost use Rattle.mbcr.specs.Rebuild.{received, exchanged, finishedStripe, finishedShare};
+ghost use Rattle.mbcr.specs.Rebuild.{received, exchanged, finishedShare};
 ghost use Rattle.own.specs.Steps.{stripeOf, shareOf};
-
-// The values of the polynomial p at the points xs.
-fn values(p: &[u8], xs: &[u8], out: &mut [u8])
-    requires { ⌜ length (now out) ≡ length (now xs) ⌝ }
-    ensures { λ _. ⌜ now (out .exit) ≡ evals (now (p .entry)) (now (xs .entry)) ⌝ }
-{
-    let m = xs.len();
-    let mut t: usize = 0;
-    while t < m {
-        out[t] = interpolation::eval(p, xs[t]);
-        t += 1;
-    }
-}
-
-// The points of helpers, of partners and of board i.
-pub fn all_points(points: &[u8], helpers: &[usize], partners: &[usize], i: usize, out: &mut [u8])
-    requires { ⌜ (below (length (now points)) (now helpers) ≡ true) × (below (length (now points)) (now partners) ≡ true) × (i < length (now points)) × (length (now out) ≡ length (now helpers) + length (now partners) + 1) ⌝ }
-    ensures { λ _. ⌜ now (out .exit) ≡ pointsOf (now (points .entry)) (now (helpers .entry) ++ now (partners .entry) ++ (i ∷ [])) ⌝ }
-{
-    let d = helpers.len();
-    let last = d + partners.len();
-    own::board_points(points, helpers, &mut out[0..d]);
-    own::board_points(points, partners, &mut out[d..last]);
-    out[last] = points[i];
-}
 
 // The second bytes of the helpers for stripe s and those of the partners, in all places of f but the last.
 fn gather(sizes: Sizes, stripes: usize, s: usize, packets: &[u8], exchanges: &[u8], f: &mut [u8])
@@ -51,120 +24,6 @@ fn gather(sizes: Sizes, stripes: usize, s: usize, packets: &[u8], exchanges: &[u
     let last = f.len() - 1;
     exchange::received(sizes, stripes, 1, s, packets, &mut f[0..d]);
     exchange::exchanged(sizes, stripes, s, exchanges, &mut f[d..last]);
-}
-
-// The bytes of a stripe that the board with the point x writes: from the points `all` of its helpers, its partners and itself, and xs of
-// its neighbours. g has the first bytes, and f the second and those of the partners, in all places but the last; in their places are then
-// its g and f.
-pub fn finished_stripe_in(
-    all: &[u8],
-    xs: &[u8],
-    inverses: &[u8],
-    x: u8,
-    g: &mut [u8],
-    f: &mut [u8],
-    out: &mut [u8],
-)
-    requires { ⌜ (now inverses ≡ tabulate 256 inverse) × (1 ≤ length (now g)) × (length (now g) ≤ length (now f)) × (length (now all) ≡ length (now f)) × (length (now xs) ≡ length (now f)) × (length (now out) ≡ length (now f) + (length (now g) - 1)) ⌝ }
-    ensures { λ _. ⌜ now (out .exit) ≡ stripeOf (length (now (g .entry))) x (now (all .entry)) (now (xs .entry)) (now (g .entry)) (take (length (now (f .entry)) - 1) (now (f .entry))) ⌝ }
-{
-    let d = g.len();
-    let m = f.len();
-    let last = m - 1;
-    interpolation::interpolate(inverses, &all[0..d], g);
-    f[last] = interpolation::eval(g, x);
-    interpolation::interpolate(inverses, all, f);
-    values(f, xs, &mut out[0..m]);
-    values(g, &xs[1..d], &mut out[m..]);
-}
-
-// The same, of bytes that stay. g and f are for work.
-fn stripe_work(
-    all: &[u8],
-    xs: &[u8],
-    inverses: &[u8],
-    x: u8,
-    firsts: &[u8],
-    seconds: &[u8],
-    sent: &[u8],
-    g: &mut [u8],
-    f: &mut [u8],
-    out: &mut [u8],
-)
-    requires { ⌜ (now inverses ≡ tabulate 256 inverse) × (1 ≤ length (now firsts)) × (length (now seconds) ≡ length (now firsts)) × (length (now f) ≡ length (now seconds) + length (now sent) + 1) × (length (now g) ≡ length (now firsts)) × (length (now all) ≡ length (now f)) × (length (now xs) ≡ length (now f)) × (length (now out) ≡ length (now f) + (length (now g) - 1)) ⌝ }
-    ensures { λ _. ⌜ now (out .exit) ≡ stripeOf (length (now (firsts .entry))) x (now (all .entry)) (now (xs .entry)) (now (firsts .entry)) (now (seconds .entry) ++ now (sent .entry)) ⌝ }
-{
-    let d = firsts.len();
-    let last = f.len() - 1;
-    own::copy(firsts, g);
-    own::copy(seconds, &mut f[0..d]);
-    own::copy(sent, &mut f[d..last]);
-    finished_stripe_in(all, xs, inverses, x, g, f, out);
-}
-
-// The same, with space of its own.
-pub fn finished_stripe_of(
-    all: &[u8],
-    xs: &[u8],
-    inverses: &[u8],
-    x: u8,
-    firsts: &[u8],
-    seconds: &[u8],
-    sent: &[u8],
-    out: &mut [u8],
-)
-    requires { ⌜ (now inverses ≡ tabulate 256 inverse) × (1 ≤ length (now firsts)) × (length (now seconds) ≡ length (now firsts)) × (length (now all) ≡ length (now seconds) + length (now sent) + 1) × (length (now all) ≤ 32) × (length (now xs) ≡ length (now all)) × (length (now out) ≡ length (now all) + (length (now firsts) - 1)) ⌝ }
-    ensures { λ _. ⌜ now (out .exit) ≡ stripeOf (length (now (firsts .entry))) x (now (all .entry)) (now (xs .entry)) (now (firsts .entry)) (now (seconds .entry) ++ now (sent .entry)) ⌝ }
-{
-    let d = firsts.len();
-    let m = all.len();
-    let mut g = [0u8; 32];
-    let mut f = [0u8; 32];
-    stripe_work(
-        all,
-        xs,
-        inverses,
-        x,
-        firsts,
-        seconds,
-        sent,
-        &mut g[0..d],
-        &mut f[0..m],
-        out,
-    );
-}
-
-// The bytes of a stripe that board i writes: from the first and second bytes of d helpers and those of r − 1 partners.
-pub fn finished_stripe(
-    sizes: Sizes,
-    points: &[u8],
-    inverses: &[u8],
-    i: usize,
-    helpers: &[usize],
-    firsts: &[u8],
-    seconds: &[u8],
-    partners: &[usize],
-    sent: &[u8],
-    out: &mut [u8],
-)
-    requires { ⌜ (legal sizes ≡ true) × (sizes .n ≤ length (now points)) × (now inverses ≡ tabulate 256 inverse) × (i < sizes .n) × (length (now helpers) ≡ sizes .d) × (below (sizes .n) (now helpers) ≡ true) × (length (now partners) ≡ sizes .r - 1) × (below (sizes .n) (now partners) ≡ true) × (length (now firsts) ≡ sizes .d) × (length (now seconds) ≡ sizes .d) × (length (now sent) ≡ sizes .r - 1) × (length (now out) ≡ α sizes) ⌝ }
-    ensures { λ _. ⌜ now (out .exit) ≡ finishedStripe sizes (now (points .entry)) i (now (helpers .entry)) (now (firsts .entry)) (now (seconds .entry)) (now (partners .entry)) (now (sent .entry)) ⌝ }
-{
-    let m = sizes.d + sizes.r;
-    let mut all = [0u8; 32];
-    let mut xs = [0u8; 32];
-    all_points(points, helpers, partners, i, &mut all[0..m]);
-    own::neighbour_points(sizes, points, i, m, &mut xs);
-    finished_stripe_of(
-        &all[0..m],
-        &xs[0..m],
-        inverses,
-        points[i],
-        firsts,
-        seconds,
-        sent,
-        out,
-    );
 }
 
 // Stripe s of the share that the board with the point x writes, from the packets of its helpers and its partners. g and f are for work.
@@ -187,7 +46,7 @@ fn stripe_in(
 {
     exchange::received(sizes, stripes, 0, s, packets, g);
     gather(sizes, stripes, s, packets, exchanges, f);
-    finished_stripe_in(all, xs, inverses, x, g, f, out);
+    finish_in::finished_stripe_in(all, xs, inverses, x, g, f, out);
 }
 
 // The share that the board with the point x writes, to the beginning of out. g and f are for work.
@@ -252,7 +111,7 @@ pub fn finished_share(
     let mut xs = [0u8; 32];
     let mut g = [0u8; 32];
     let mut f = [0u8; 32];
-    all_points(points, helpers, partners, i, &mut all[0..m]);
+    finish_in::all_points(points, helpers, partners, i, &mut all[0..m]);
     own::neighbour_points(sizes, points, i, m, &mut xs);
     share_in(
         sizes,

@@ -1,8 +1,8 @@
 -- `finish::finished_stripe_of` meets its contract: it lends space.
 -- Assumes nothing.
 use borrow.Author.Needs.{needs}
-use Rattle.finish.proofs.finished_stripe_of.Statement.{statement}
-use Rattle.finish.proofs.finished_stripe_of.Tie as tie
+use Rattle.finish_stripe.proofs.finished_stripe_of.Statement.{statement}
+use Rattle.finish_stripe.proofs.finished_stripe_of.Tie as tie
 
 sub-stripe-work : tie.Need-sub-stripe-work
 sub-stripe-work c = search needs

@@ -3,8 +3,8 @@
 use lib.ListN.{length-set}
 use Rattle.own.proofs.Made.{all-made}
 use borrow.Author.Needs.{needs}
-use Rattle.finish.proofs.all_points.Statement.{statement}
-use Rattle.finish.proofs.all_points.Tie as tie
+use Rattle.finish_in.proofs.all_points.Statement.{statement}
+use Rattle.finish_in.proofs.all_points.Tie as tie
 
 add-last : tie.Need-add-last
 add-last c = search needs

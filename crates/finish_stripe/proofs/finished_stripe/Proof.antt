@@ -5,8 +5,8 @@ use lib.ListN.{length-append}
 use Rattle.sizes.proofs.Legal.{legal-facts}
 use Rattle.own.proofs.Made.{below-more, finished-own}
 use borrow.Author.Needs.{needs}
-use Rattle.finish.proofs.finished_stripe.Statement.{statement}
-use Rattle.finish.proofs.finished_stripe.Tie as tie
+use Rattle.finish_stripe.proofs.finished_stripe.Statement.{statement}
+use Rattle.finish_stripe.proofs.finished_stripe.Tie as tie
 
 add-m : tie.Need-add-m
 add-m c = search needs

@@ -5,8 +5,8 @@ use Prim.Native.Nat.{_-_}
 use lib.ListN.{length, length-set}
 use Rattle.own.proofs.Made.{stripe-made}
 use borrow.Author.Needs.{needs}
-use Rattle.finish.proofs.finished_stripe_in.Statement.{statement}
-use Rattle.finish.proofs.finished_stripe_in.Tie as tie
+use Rattle.finish_in.proofs.finished_stripe_in.Statement.{statement}
+use Rattle.finish_in.proofs.finished_stripe_in.Tie as tie
 
 sub-last : tie.Need-sub-last
 sub-last c = search needs

@@ -9,8 +9,8 @@ use lib.ListN.{length, getD, drop, length-set}
 use Rattle.lists.specs.Lists.{tabulate}
 use Rattle.lists.proofs.Pieces.{fill-loop, fill-end, fill-all, tabulate-map}
 use Rattle.polynomial.specs.Polynomial.{eval}
-use Rattle.finish.proofs.values.Statement.{statement}
-use Rattle.finish.proofs.values.Tie as tie
+use Rattle.finish_in.proofs.values.Statement.{statement}
+use Rattle.finish_in.proofs.values.Tie as tie
 
 abbrev Inv-loop : tie.InvT-loop
 Inv-loop p xs out₀ m t₀ out t = (out ≡ tabulate t (λ t. eval p (getD xs t 0)) ++ drop t out₀) × (t ≤ m) × (length out ≡ length out₀)

@@ -3,8 +3,8 @@
 use lib.ListN.{length}
 use Rattle.own.proofs.Made.{work-made}
 use borrow.Author.Needs.{needs}
-use Rattle.finish.proofs.stripe_work.Statement.{statement}
-use Rattle.finish.proofs.stripe_work.Tie as tie
+use Rattle.finish_stripe.proofs.stripe_work.Statement.{statement}
+use Rattle.finish_stripe.proofs.stripe_work.Tie as tie
 
 sub-last : tie.Need-sub-last
 sub-last c = search needs
