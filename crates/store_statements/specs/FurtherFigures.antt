@@ -13,7 +13,40 @@ use Rattle.mbcr.specs.Share.{standard}
 use Rattle.store_statements.specs.Record.{Record, sound, newRecord, withMarks}
 use Rattle.store_statements.specs.Packets.{sentTo, sendersOf, contents, helperPackets, exchangePackets, repairPackets}
 use Rattle.store_statements.specs.Calls.{StoreOutcome, setUpCall, writeCall, loseCall, repairCall, readCall}
-use Rattle.store_statements.specs.Figures.{two, twoFile, five, fiveFile, written, area, spoiled, helpers}
+
+-- "n=2, k=d=r=1, file 05 03"
+abbrev pub two : Sizes
+two = record { n = 2; k = 1; d = 1; r = 1 }
+
+abbrev pub twoFile : List ℕ
+twoFile = 0x05 ∷ 0x03 ∷ []
+
+-- "n=5, k=2, d=3, r=2 .. File: eleven bytes 00, then 01, so F = X²Y"
+abbrev pub five : Sizes
+five = record { n = 5; k = 2; d = 3; r = 2 }
+
+abbrev pub fiveFile : List ℕ
+fiveFile = replicate 11 0 ++ (1 ∷ [])
+
+-- the record and the area after this file is written on five boards of one stripe
+abbrev pub written : Record
+written = record { sizes = five; capacity = 1; written = true; length = 12; marks = replicate 5 true ++ replicate 27 false }
+
+abbrev pub boards234 : List ℕ
+boards234 =
+    0x08 ∷ 0x0C ∷ 0x10 ∷ 0x00 ∷ 0x04 ∷ 0x0A ∷ 0x20
+    ∷ 0x0F ∷ 0x14 ∷ 0x00 ∷ 0x05 ∷ 0x0A ∷ 0x30 ∷ 0x00
+    ∷ 0x40 ∷ 0x00 ∷ 0x10 ∷ 0x20 ∷ 0x30 ∷ 0x00 ∷ 0x04 ∷ []
+
+abbrev pub area : List ℕ
+area = replicate 7 0 ++ (0x01 ∷ 0x02 ∷ 0x03 ∷ 0x04 ∷ 0x00 ∷ 0x04 ∷ 0x05 ∷ []) ++ boards234
+
+-- "boards 0 and 1 fresh, helpers 2, 3, 4", all bytes of the fresh boards spoiled
+abbrev pub spoiled : List ℕ
+spoiled = replicate 14 0x77 ++ boards234
+
+abbrev pub helpers : List ℕ
+helpers = 2 ∷ 3 ∷ 4 ∷ 2 ∷ 3 ∷ 4 ∷ []
 
 abbrev answers : List StoreOutcome → List ℕ
 answers os = map (λ o. o .answer .refusal) os
@@ -33,20 +66,18 @@ lost = withMarks written (false ∷ false ∷ true ∷ true ∷ true ∷ replica
 abbrev lost-three : Record
 lost-three = withMarks written (false ∷ false ∷ true ∷ true ∷ replicate 28 false)
 
--- n=6, k=2, d=2, r=2, the file 01 02 .. 08: two fresh boards with different lists of helpers
-abbrev six : Record
-six = record { sizes = record { n = 6; k = 2; d = 2; r = 2 }; capacity = 1; written = true; length = 8; marks = replicate 6 true ++ replicate 26 false }
+-- n=4, k=1, d=1, r=2, the file 01 02 03, F = 1 + 2Y + 3Y²: boards 0 and 1 are lost and spoiled, and have different helpers
+abbrev four : List Bool → Record
+four on = record { sizes = record { n = 4; k = 1; d = 1; r = 2 }; capacity = 1; written = true; length = 3; marks = take 32 (on ++ replicate 32 false) }
 
-abbrev six-area : List ℕ
-six-area =
-    replicate 10 0xFF
-    ++ (0x8F ∷ 0xEC ∷ 0x76 ∷ 0x44 ∷ 0xD8
-    ∷ 0x80 ∷ 0x2F ∷ 0xB6 ∷ 0x04 ∷ 0x99
-    ∷ 0xBD ∷ 0x52 ∷ 0x0D ∷ 0x20 ∷ 0xE4
-    ∷ 0xA0 ∷ 0x0E ∷ 0x28 ∷ 0x37 ∷ 0xBD ∷ [])
+abbrev four-lost : Record
+four-lost = four (false ∷ false ∷ true ∷ true ∷ [])
 
-abbrev own : List ℕ
-own = 2 ∷ 3 ∷ 4 ∷ 5 ∷ []
+abbrev boards23 : List ℕ
+boards23 = 0x09 ∷ 0x08 ∷ 0x01 ∷ 0x08 ∷ 0x01 ∷ 0x00 ∷ []
+
+abbrev four-spoiled : List ℕ
+four-spoiled = replicate 6 0x77 ++ boards23
 
 -- n=2, C=2, a file of one stripe and so many bytes; its area after the file 05 03 is written
 abbrev half-full : ℕ → Record
@@ -150,20 +181,23 @@ pub record FurtherFigures : Type 0 where
   pub refused-write : writeCall standard (newRecord five 1) (replicate 35 0xAB) (replicate 13 0)
       ≡ record { answer = record { refusal = 3; value = 0 }; handed = newRecord five 1; area = replicate 35 0xAB; output = [] }
   pub refused-repair : repairCall standard lost spoiled (0 ∷ []) helpers ≡ record { answer = record { refusal = 4; value = 0 }; handed = lost; area = spoiled; output = [] }
-  -- boards 0 and 1 are lost and their bytes spoiled; a repair: 14 bytes moved, record and area as after the write
-  pub losses : loseCall (loseCall written [] 0 .handed) [] 1 .handed ≡ lost
-  pub repaired : repairCall standard lost spoiled (0 ∷ 1 ∷ []) helpers ≡ record { answer = record { refusal = 0; value = 14 }; handed = written; area = area; output = [] }
+  -- two losses, then a repair: 6 bytes moved, and all boards hold their shares
+  pub losses : loseCall (loseCall (four (replicate 4 true)) [] 0 .handed) [] 1 .handed ≡ four-lost
+  pub repaired : repairCall standard four-lost four-spoiled (0 ∷ 1 ∷ []) (2 ∷ 3 ∷ [])
+      ≡ record {
+        answer = record { refusal = 0; value = 6 };
+        handed = four (replicate 4 true);
+        area = (0x01 ∷ 0x00 ∷ 0x09 ∷ 0x00 ∷ 0x09 ∷ 0x08 ∷ []) ++ boards23;
+        output = [];
+      }
   -- a read of the file 05 03 from board 1, past the end of which the output stays
   pub read-back : readCall standard (half-full 2) half-full-area (1 ∷ []) (replicate 3 0xEE)
       ≡ record { answer = record { refusal = 0; value = 0 }; handed = half-full 2; area = half-full-area; output = 0x05 ∷ 0x03 ∷ 0xEE ∷ [] }
-  -- "for each, its own list of d helpers": boards 0 and 1 fresh, helpers 2, 3 and 4, 5
-  pub own-helpers : map (λ i. sendersOf (sentTo i (helperPackets standard six six-area (0 ∷ 1 ∷ []) own))) (0 ∷ 1 ∷ []) ≡ (2 ∷ 3 ∷ []) ∷ (4 ∷ 5 ∷ []) ∷ []
-  pub own-partners : map (λ i. sendersOf (sentTo i (exchangePackets standard six six-area (0 ∷ 1 ∷ []) own))) (0 ∷ 1 ∷ []) ≡ (1 ∷ []) ∷ (0 ∷ []) ∷ []
-  pub own-packets : map (λ i. contents (sentTo i (helperPackets standard six six-area (0 ∷ 1 ∷ []) own))) (0 ∷ 1 ∷ [])
-      ≡ (0x07 ∷ 0x21 ∷ 0x04 ∷ 0x34 ∷ []) ∷ (0x20 ∷ 0x9D ∷ 0x28 ∷ 0x4F ∷ []) ∷ []
-  -- the exchanged bytes: board 1 gets 02 from board 0, and board 0 gets 00 from board 1
-  pub own-exchanged : map (λ i. contents (sentTo i (repairPackets standard six six-area (0 ∷ 1 ∷ []) own))) (0 ∷ 1 ∷ [])
-      ≡ (0x07 ∷ 0x21 ∷ 0x04 ∷ 0x34 ∷ 0x00 ∷ []) ∷ (0x20 ∷ 0x9D ∷ 0x28 ∷ 0x4F ∷ 0x02 ∷ []) ∷ []
+  -- "for each, its own list of d helpers": boards 0 and 1 fresh, helpers 2 and 3; 01 goes from board 0 to board 1, 00 from board 1 to board 0
+  pub own-helpers : map (λ i. sendersOf (sentTo i (helperPackets standard four-lost four-spoiled (0 ∷ 1 ∷ []) (2 ∷ 3 ∷ [])))) (0 ∷ 1 ∷ []) ≡ (2 ∷ []) ∷ (3 ∷ []) ∷ []
+  pub own-partners : map (λ i. sendersOf (sentTo i (exchangePackets standard four-lost four-spoiled (0 ∷ 1 ∷ []) (2 ∷ 3 ∷ [])))) (0 ∷ 1 ∷ []) ≡ (1 ∷ []) ∷ (0 ∷ []) ∷ []
+  pub own-packets : map (λ i. contents (sentTo i (repairPackets standard four-lost four-spoiled (0 ∷ 1 ∷ []) (2 ∷ 3 ∷ [])))) (0 ∷ 1 ∷ [])
+      ≡ (0x01 ∷ 0x09 ∷ 0x00 ∷ []) ∷ (0x00 ∷ 0x08 ∷ 0x01 ∷ []) ∷ []
   -- C = 2, S = 1: stripe s of board i starts at (i × C + s) × α, and the second stripes stay
   pub write-places : writeCall standard (newRecord two 2) (replicate 8 0xFF) twoFile .area ≡ half-full-area
   pub repair-places : repairCall standard (half-full 2) (0x77 ∷ 0x77 ∷ 0x77 ∷ 0x77 ∷ 0x06 ∷ 0x05 ∷ 0xFF ∷ 0xFF ∷ []) (0 ∷ []) (1 ∷ []) .area

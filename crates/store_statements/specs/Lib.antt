@@ -4,6 +4,5 @@ pub mod Calls
 pub mod Ledger
 pub mod Demand1
 pub mod Demand3
-pub mod Figures
 pub mod FurtherFigures
 pub mod Stripes

@@ -1,53 +1,18 @@
 -- Document 01, 'Figures to meet': those marked M, in one table over the definitions. "Marked M are proved": proofs/Figures.antt has `figures`.
 -- Assumes nothing.
 use mathlib.Core.Path.{_≡_}
-use mathlib.Core.Bool.{true, false}
 use mathlib.Core.List.{List, [], _∷_, _++_}
 use Prim.Native.Nat.{ℕ}
 use lib.ListN.{replicate}
 use Rattle.gf256.specs.Field.{mul}
-use Rattle.sizes.specs.declared.Sizes.{Sizes}
 use Rattle.sizes.specs.declared.Answer.the-variants.{Done}
 use Rattle.sizes.specs.Sizing.{α, B}
 use Rattle.sizes.specs.Refusals.{said}
 use Rattle.mbcr.specs.Share.{standard, share}
-use Rattle.store_statements.specs.Record.{Record, newRecord}
+use Rattle.store_statements.specs.Record.{newRecord}
 use Rattle.store_statements.specs.Packets.{sentTo, contents, total, repairPackets}
 use Rattle.store_statements.specs.Calls.{writeCall}
-
--- "n=2, k=d=r=1, file 05 03"
-abbrev pub two : Sizes
-two = record { n = 2; k = 1; d = 1; r = 1 }
-
-abbrev pub twoFile : List ℕ
-twoFile = 0x05 ∷ 0x03 ∷ []
-
--- "n=5, k=2, d=3, r=2 .. File: eleven bytes 00, then 01, so F = X²Y"
-abbrev pub five : Sizes
-five = record { n = 5; k = 2; d = 3; r = 2 }
-
-abbrev pub fiveFile : List ℕ
-fiveFile = replicate 11 0 ++ (1 ∷ [])
-
--- the record and the area after this file is written on five boards of one stripe
-abbrev pub written : Record
-written = record { sizes = five; capacity = 1; written = true; length = 12; marks = replicate 5 true ++ replicate 27 false }
-
-abbrev pub boards234 : List ℕ
-boards234 =
-    0x08 ∷ 0x0C ∷ 0x10 ∷ 0x00 ∷ 0x04 ∷ 0x0A ∷ 0x20
-    ∷ 0x0F ∷ 0x14 ∷ 0x00 ∷ 0x05 ∷ 0x0A ∷ 0x30 ∷ 0x00
-    ∷ 0x40 ∷ 0x00 ∷ 0x10 ∷ 0x20 ∷ 0x30 ∷ 0x00 ∷ 0x04 ∷ []
-
-abbrev pub area : List ℕ
-area = replicate 7 0 ++ (0x01 ∷ 0x02 ∷ 0x03 ∷ 0x04 ∷ 0x00 ∷ 0x04 ∷ 0x05 ∷ []) ++ boards234
-
--- "boards 0 and 1 fresh, helpers 2, 3, 4", all bytes of the fresh boards spoiled
-abbrev pub spoiled : List ℕ
-spoiled = replicate 14 0x77 ++ boards234
-
-abbrev pub helpers : List ℕ
-helpers = 2 ∷ 3 ∷ 4 ∷ 2 ∷ 3 ∷ 4 ∷ []
+use Rattle.store_statements.specs.FurtherFigures.{two, twoFile, five, fiveFile, written, area, spoiled, helpers}
 
 pub record MarkedFigures : Type 0 where
   pub m1 : mul 0x80 0x02 ≡ 0x1D

@@ -1,0 +1,2 @@
+pub mod MarkedFigures
+pub mod LongFigures
