@@ -27,10 +27,10 @@ pub fn text(sizes: Sizes, length: usize, node: usize, held: &[u8], out: &mut [u8
     if let Check::Refuse(x) = checks::check_lent(held.len(), share_len) {
         return Answer::Refused(x);
     }
-    let text_len = share_text::text_len(sizes, length, node, share_len);
+    let text_len = text_writer::text_len(sizes, length, node, share_len);
     if let Check::Refuse(x) = checks::check_room(out, text_len) {
         return Answer::Refused(x);
     }
-    share_text::write_text(sizes, length, node, held, out);
+    text_writer::write_text(sizes, length, node, held, out);
     Answer::Done(text_len)
 }

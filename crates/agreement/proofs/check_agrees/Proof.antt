@@ -1,4 +1,4 @@
--- `board_file::check_agrees` meets its contract.
+-- `agreement::check_agrees` meets its contract.
 -- Assumes nothing.
 use mathlib.Core.Path.{_≡_, refl, sym, ap, _∙_}
 use mathlib.Core.Bool.{not}

@@ -1,4 +1,4 @@
--- `board_share::text` meets its contract: each early return is the first line that holds, and past them the text is written.
+-- `board_text::text` meets its contract: each early return is the first line that holds, and past them the text is written.
 -- Assumes nothing.
 use Prim.Native.Nat.{ℕ, _+_, _-_, _*_, _≤_, _<_}
 use mathlib.Core.Path.{_≡_, refl, sym, ap, _∙_}

@@ -1,4 +1,4 @@
--- `solve::high` meets its contract: the callees' contracts, put together.
+-- `columns::high` meets its contract: the callees' contracts, put together.
 -- Assumes nothing.
 use mathlib.Core.Path.{sym, ap, _∙_}
 use Prim.Native.Nat.{ℕ, _*_}

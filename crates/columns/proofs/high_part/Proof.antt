@@ -1,4 +1,4 @@
--- `solve::high_part` meets its contract: the callees' contracts, put together.
+-- `columns::high_part` meets its contract: the callees' contracts, put together.
 -- Assumes nothing.
 use mathlib.Core.Path.{refl, ap, _∙_}
 use Prim.Native.Nat.{ℕ, _*_, _-_}

@@ -1,4 +1,4 @@
--- `solve::low` meets its contract: the callees' contracts, put together.
+-- `columns::low` meets its contract: the callees' contracts, put together.
 -- Assumes nothing.
 use mathlib.Core.Path.{ap, _∙_}
 use mathlib.Core.List.{List}

@@ -1,4 +1,4 @@
--- `solve::low_part` meets its contract: the callees' contracts, put together.
+-- `columns::low_part` meets its contract: the callees' contracts, put together.
 -- Assumes nothing.
 use mathlib.Core.Path.{refl, ap, _∙_}
 use Prim.Native.Nat.{ℕ, _*_}

@@ -1,4 +1,4 @@
--- `encode::at_x` meets its contract: f is the polynomial of the rows from a on.
+-- `evaluate::at_x` meets its contract: f is the polynomial of the rows from a on.
 -- Assumes nothing.
 use mathlib.Core.Path.{_≡_, sym, ap, _∙_}
 use Prim.Native.Nat.{ℕ, _≤_, _-_}

@@ -1,4 +1,4 @@
--- `encode::at_y` meets its contract: g has the values of the rows without their first j coefficients.
+-- `evaluate::at_y` meets its contract: g has the values of the rows without their first j coefficients.
 -- Assumes nothing.
 use mathlib.Core.Path.{_≡_, sym, ap, _∙_}
 use Prim.Native.Nat.{ℕ, _≤_, _-_, _+_, _*_}

@@ -1,4 +1,4 @@
--- `encode::f_values` meets its contract: the callees' contracts, put together.
+-- `evaluate::f_values` meets its contract: the callees' contracts, put together.
 -- Assumes nothing.
 use lib.ListN.{length}
 use Rattle.grid.proofs.Kept.{f-made}

@@ -1,4 +1,4 @@
--- `encode::g_values` meets its contract: the callees' contracts, put together.
+-- `evaluate::g_values` meets its contract: the callees' contracts, put together.
 -- Assumes nothing.
 use mathlib.Core.Path.{ap, _∙_}
 use mathlib.Core.List.{List}

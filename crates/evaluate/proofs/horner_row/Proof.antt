@@ -1,4 +1,4 @@
--- `encode::horner_row` meets its contract: what is done, before the sum of what is left, is the answer.
+-- `evaluate::horner_row` meets its contract: what is done, before the sum of what is left, is the answer.
 -- Assumes nothing.
 use mathlib.Core.Path.{_≡_, sym, _∙_}
 use mathlib.Core.List.{_++_}

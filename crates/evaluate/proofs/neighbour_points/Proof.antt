@@ -1,4 +1,4 @@
--- `encode::neighbour_points` meets its contract: what is filled in, before what was there.
+-- `evaluate::neighbour_points` meets its contract: what is filled in, before what was there.
 -- Assumes nothing.
 use mathlib.Core.Path.{_≡_, refl, sym, _∙_}
 use mathlib.Core.List.{_++_}

@@ -1,4 +1,4 @@
--- `encode::values` meets its contract: out has the values of the coefficients from i on.
+-- `evaluate::values` meets its contract: out has the values of the coefficients from i on.
 -- Assumes nothing.
 use mathlib.Core.Path.{_≡_, sym, ap, _∙_}
 use Prim.Native.Nat.{ℕ, _≤_}

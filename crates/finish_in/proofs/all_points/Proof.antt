@@ -1,4 +1,4 @@
--- `finish::all_points` meets its contract: the callees' contracts, put together.
+-- `finish_in::all_points` meets its contract: the callees' contracts, put together.
 -- Assumes nothing.
 use lib.ListN.{length-set}
 use Rattle.own.proofs.Made.{all-made}

@@ -1,4 +1,4 @@
--- `finish::finished_stripe_in` meets its contract: the callees' contracts, put together.
+-- `finish_in::finished_stripe_in` meets its contract: the callees' contracts, put together.
 -- Assumes nothing.
 use native.Mathlib.Omega.{arith}
 use Prim.Native.Nat.{_-_}

@@ -1,4 +1,4 @@
--- `finish::finished_stripe` meets its contract: the callees' contracts, put together.
+-- `finish_stripe::finished_stripe` meets its contract: the callees' contracts, put together.
 -- Assumes nothing.
 use mathlib.Core.Path.{_∙_}
 use lib.ListN.{length-append}

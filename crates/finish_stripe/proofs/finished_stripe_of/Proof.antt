@@ -1,4 +1,4 @@
--- `finish::finished_stripe_of` meets its contract: it lends space.
+-- `finish_stripe::finished_stripe_of` meets its contract: it lends space.
 -- Assumes nothing.
 use borrow.Author.Needs.{needs}
 use Rattle.finish_stripe.proofs.finished_stripe_of.Statement.{statement}

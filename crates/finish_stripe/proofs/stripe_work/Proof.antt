@@ -1,4 +1,4 @@
--- `finish::stripe_work` meets its contract: the callees' contracts, put together.
+-- `finish_stripe::stripe_work` meets its contract: the callees' contracts, put together.
 -- Assumes nothing.
 use lib.ListN.{length}
 use Rattle.own.proofs.Made.{work-made}

@@ -1,4 +1,4 @@
--- `gf256::add` meets its contract: the sum is the exclusive or.
+-- `gf256_mul::add` meets its contract: the sum is the exclusive or.
 -- Assumes nothing.
 use borrow.Author.Needs.{needs}
 use Rattle.gf256.specs.Field.{add}

@@ -1,4 +1,4 @@
--- `gf256::double` meets its contract: a shift, and 1D for the bit that left.
+-- `gf256_mul::double` meets its contract: a shift, and 1D for the bit that left.
 -- Assumes nothing.
 use borrow.Author.Needs.{needs}
 use Rattle.gf256.specs.Field.{add}

@@ -1,4 +1,4 @@
--- `gf256::if_odd` meets its contract: the lowest bit of v is 0 or 1.
+-- `gf256_mul::if_odd` meets its contract: the lowest bit of v is 0 or 1.
 -- Assumes nothing.
 use Rattle.gf256_mul.proofs.Steps.{even, odd}
 use Rattle.gf256_mul.proofs.if_odd.Statement.{statement}

@@ -1,4 +1,4 @@
--- `gf256::mul` meets its contract: the multiples of a, taken at the bits of b.
+-- `gf256_mul::mul` meets its contract: the multiples of a, taken at the bits of b.
 -- Assumes nothing.
 use borrow.Author.Needs.{needs}
 use Rattle.gf256_mul.proofs.mul.Statement.{statement}

@@ -1,4 +1,4 @@
--- `gf256::times` meets its contract: a product is the sum of the multiples at the eight bits of a factor.
+-- `gf256_mul::times` meets its contract: a product is the sum of the multiples at the eight bits of a factor.
 -- Assumes nothing.
 use Rattle.gf256.specs.Field.{add}
 use Rattle.gf256_mul.proofs.Steps.{mul-bits}

@@ -1,4 +1,4 @@
--- `gf256::add_scaled` meets its contract. The loop's invariant: the j symbols that are done, then `addScaled` of what is left, are the answer.
+-- `gf256_rows::add_scaled` meets its contract. The loop's invariant: the j symbols that are done, then `addScaled` of what is left, are the answer.
 -- Assumes nothing.
 use mathlib.Core.Path.{_≡_, refl, sym, _∙_}
 use Prim.Native.Nat.{_≤_, _-_}

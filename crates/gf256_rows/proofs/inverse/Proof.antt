@@ -1,4 +1,4 @@
--- `gf256::inverse` meets its contract: the body nests the products as `squares` does.
+-- `gf256_rows::inverse` meets its contract: the body nests the products as `squares` does.
 -- Assumes nothing.
 use borrow.Author.Needs.{needs}
 use Rattle.gf256.specs.Field.{inverse, squares}

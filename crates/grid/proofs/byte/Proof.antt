@@ -1,4 +1,4 @@
--- `encode::byte` meets its contract.
+-- `grid::byte` meets its contract.
 -- Assumes nothing.
 use mathlib.Core.Path.{sym}
 use lib.ListN.{List·getD-eq-default}

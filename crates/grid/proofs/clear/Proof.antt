@@ -1,4 +1,4 @@
--- `encode::clear` meets its contract: what is filled in, before what was there.
+-- `grid::clear` meets its contract: what is filled in, before what was there.
 -- Assumes nothing.
 use mathlib.Core.Path.{_≡_, refl, _∙_}
 use mathlib.Core.List.{_++_}

@@ -1,4 +1,4 @@
--- `encode::coefficient` meets its contract: the place of each group, and no coefficient elsewhere.
+-- `grid::coefficient` meets its contract: the place of each group, and no coefficient elsewhere.
 -- Assumes nothing.
 use Prim.Native.Nat.{_+_, _*_, _-_, _<_}
 use mathlib.Core.Path.{_∙_}

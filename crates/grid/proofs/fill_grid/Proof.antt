@@ -1,4 +1,4 @@
--- `encode::fill_grid` meets its contract: the rows so far, before zeros.
+-- `grid::fill_grid` meets its contract: the rows so far, before zeros.
 -- Assumes nothing.
 use mathlib.Core.Path.{_≡_, refl, ap, _∙_}
 use mathlib.Core.List.{[], _++_}

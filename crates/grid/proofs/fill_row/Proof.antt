@@ -1,4 +1,4 @@
--- `encode::fill_row` meets its contract: the cells so far, before what was there.
+-- `grid::fill_row` meets its contract: the cells so far, before what was there.
 -- Assumes nothing.
 use mathlib.Core.Path.{_≡_, _∙_}
 use mathlib.Core.List.{_++_}

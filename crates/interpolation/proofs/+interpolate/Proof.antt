@@ -1,4 +1,4 @@
--- `polynomial::interpolate` meets its contract.
+-- `interpolation::interpolate` meets its contract.
 -- Assumes nothing.
 use mathlib.Core.Path.{_∙_}
 use native.Mathlib.Omega.{arith}

@@ -1,4 +1,4 @@
--- `polynomial::eval` meets its contract.
+-- `interpolation::eval` meets its contract.
 use mathlib.Core.Path.{_≡_, refl, sym, ap, _∙_}
 use mathlib.Core.List.{List}
 use Prim.Native.Nat.{ℕ, suc, _≤_, _<_, _-_}

@@ -1,4 +1,4 @@
--- `polynomial::fill_inverses` meets its contract: the inverses so far, before what was there.
+-- `interpolation::fill_inverses` meets its contract: the inverses so far, before what was there.
 -- Assumes nothing.
 use mathlib.Core.Path.{_≡_, _∙_}
 use mathlib.Core.List.{_++_}

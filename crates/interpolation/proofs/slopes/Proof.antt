@@ -1,4 +1,4 @@
--- `polynomial::slopes` meets its contract.
+-- `interpolation::slopes` meets its contract.
 -- Assumes nothing.
 use mathlib.Core.Path.{_≡_, sym, _∙_}
 use mathlib.Core.List.{_++_}

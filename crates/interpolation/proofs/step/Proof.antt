@@ -1,4 +1,4 @@
--- `polynomial::step` meets its contract.
+-- `interpolation::step` meets its contract.
 -- Assumes nothing.
 use mathlib.Core.Path.{_≡_, refl, sym, ap, _∙_}
 use mathlib.Core.List.{List, _++_}

@@ -1,4 +1,4 @@
--- `helper::ends` meets its contract: what is filled in, before what was there.
+-- `own::ends` meets its contract: what is filled in, before what was there.
 -- Assumes nothing.
 use mathlib.Core.Path.{_≡_, _∙_}
 use mathlib.Core.List.{_++_}

@@ -1,4 +1,4 @@
--- `helper::neighbour_points` meets its contract: what is filled in, before what was there.
+-- `own::neighbour_points` meets its contract: what is filled in, before what was there.
 -- Assumes nothing.
 use mathlib.Core.Path.{_≡_, refl, ap, _∙_}
 use mathlib.Core.List.{List, _++_}

@@ -1,4 +1,4 @@
--- `helper::own_f_in` meets its contract: the callees' contracts, put together.
+-- `own::own_f_in` meets its contract: the callees' contracts, put together.
 -- Assumes nothing.
 use borrow.Author.Needs.{needs}
 use Rattle.own.proofs.own_f_in.Statement.{statement}

@@ -1,4 +1,4 @@
--- `print_share::feed_all` meets its contract. The loop's invariant: the parser and what is kept do with the rest of the input what they did with
+-- `print_feed::feed_all` meets its contract. The loop's invariant: the parser and what is kept do with the rest of the input what they did with
 -- the whole of it at first.
 -- Assumes nothing.
 use mathlib.Core.Path.{_≡_, refl, sym, ap, _∙_}

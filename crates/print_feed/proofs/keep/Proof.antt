@@ -1,4 +1,4 @@
--- `print_share::keep` meets its contract, case by case.
+-- `print_feed::keep` meets its contract, case by case.
 -- Assumes nothing.
 use mathlib.Core.Path.{refl}
 use native.Mathlib.Omega.{arith}

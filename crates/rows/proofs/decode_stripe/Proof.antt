@@ -1,4 +1,4 @@
--- `decode::decode_stripe` meets its contract: the callees' contracts, put together.
+-- `rows::decode_stripe` meets its contract: the callees' contracts, put together.
 -- Assumes nothing.
 use native.Mathlib.Omega.{arith}
 use lib.ListN.{length, length-append}

@@ -1,4 +1,4 @@
--- `share_text::put_decimal` meets its contract: the digits of the tenth, then the last digit. The measure is the number.
+-- `text_lines::put_decimal` meets its contract: the digits of the tenth, then the last digit. The measure is the number.
 -- Assumes nothing.
 use native.Mathlib.Nat.{div-add-mod', mod-lt}
 use native.Mathlib.Omega.{arith}

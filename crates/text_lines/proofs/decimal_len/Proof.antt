@@ -1,4 +1,4 @@
--- `share_text::decimal_len` meets its contract. The loop's invariant: the digits counted and those of y are one more than those of x.
+-- `text_lines::decimal_len` meets its contract. The loop's invariant: the digits counted and those of y are one more than those of x.
 -- Assumes nothing.
 use mathlib.Core.Path.{_≡_}
 use Prim.Native.Nat.{_+_, _≤_}

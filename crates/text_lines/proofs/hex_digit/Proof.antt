@@ -1,4 +1,4 @@
--- `share_text::hex_digit` meets its contract, by the definition's own test.
+-- `text_lines::hex_digit` meets its contract, by the definition's own test.
 -- Assumes nothing.
 use borrow.Author.Tests.{lt-ltb, le-ltb}
 use native.Mathlib.Omega.{arith}

@@ -1,4 +1,4 @@
--- `share_text::put_bytes` meets its contract. The loop's invariant: the bytes passed are written.
+-- `text_lines::put_bytes` meets its contract. The loop's invariant: the bytes passed are written.
 -- Assumes nothing.
 use mathlib.Core.Path.{_≡_, refl, _∙_}
 use Prim.Native.Nat.{_+_, _-_, _≤_}

@@ -1,4 +1,4 @@
--- `share_text::put_data` meets its contract: three pieces, one behind the other.
+-- `text_lines::put_data` meets its contract: three pieces, one behind the other.
 -- Assumes nothing.
 use mathlib.Core.List.{[], _∷_, _++_}
 use native.Mathlib.Omega.{arith}

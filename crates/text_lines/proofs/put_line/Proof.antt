@@ -1,4 +1,4 @@
--- `share_text::put_line` meets its contract: four pieces, one behind the other.
+-- `text_lines::put_line` meets its contract: four pieces, one behind the other.
 -- Assumes nothing.
 use mathlib.Core.List.{[], _∷_, _++_}
 use native.Mathlib.Omega.{arith}

@@ -1,4 +1,4 @@
--- `share_text::put_pairs` meets its contract. The loop's invariant: the pairs of the bytes passed are written.
+-- `text_lines::put_pairs` meets its contract. The loop's invariant: the pairs of the bytes passed are written.
 -- Assumes nothing.
 use mathlib.Core.Path.{_≡_, refl}
 use Prim.Native.Nat.{_+_, _*_, _-_, _≤_}

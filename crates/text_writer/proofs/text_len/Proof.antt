@@ -1,4 +1,4 @@
--- `share_text::text_len` meets its contract: the lengths are the definition's, and small enough to add.
+-- `text_writer::text_len` meets its contract: the lengths are the definition's, and small enough to add.
 -- Assumes nothing.
 use Prim.Native.Nat.{ℕ, _≤_}
 use native.Mathlib.Omega.{arith}
@@ -8,8 +8,8 @@ use Rattle.board_statements.specs.Text.{decimal}
 use Rattle.text_lines.proofs.Decimals.{decimal-most}
 use Rattle.text_lines.proofs.Lines.{length-text}
 use borrow.Author.Needs.{needs}
-use Rattle.share_text.proofs.text_len.Statement.{statement}
-use Rattle.share_text.proofs.text_len.Tie as tie
+use Rattle.text_writer.proofs.text_len.Statement.{statement}
+use Rattle.text_writer.proofs.text_len.Tie as tie
 
 record Small (n k d r node total : ℕ) : Type 0 where
   for-n : length (decimal n) ≤ 33

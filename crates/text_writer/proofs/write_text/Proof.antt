@@ -1,4 +1,4 @@
--- `share_text::write_text` meets its contract: the lines, one behind the other.
+-- `text_writer::write_text` meets its contract: the lines, one behind the other.
 -- Assumes nothing.
 use lib.ListN.{length}
 use Rattle.board_statements.specs.Text.{shareText}
@@ -6,8 +6,8 @@ use Rattle.text_lines.specs.Wrote.{Wrote}
 use Rattle.text_lines.proofs.Lines.{Rooms, rooms, toN, toK, toD, toR, toNode, toLength, toData, from-start}
 use Rattle.text_lines.proofs.Writes.{same-room, room, then}
 use borrow.Author.Needs.{needs}
-use Rattle.share_text.proofs.write_text.Statement.{statement}
-use Rattle.share_text.proofs.write_text.Tie as tie
+use Rattle.text_writer.proofs.write_text.Statement.{statement}
+use Rattle.text_writer.proofs.write_text.Tie as tie
 
 fits : (c : tie.Start) → let a = c .args in Rooms (a .sizes) (a .total) (a .node) (a .share .now) (length (a .out .now))
 fits c = rooms _ _ _ _ _ (c .pre)
