@@ -57,7 +57,7 @@ pub fn share_stripe_of(sizes: Sizes, points: &[u8], i: usize, file: &[u8], s: us
 {
     let m = sizes.d + sizes.r;
     let mut xs = [0u8; 32];
-    evaluate::neighbour_points(sizes, points, i, &mut xs);
+    neighbours::neighbour_points(sizes, points, i, m, &mut xs);
     stripe_values(sizes, file, s, &xs[0..m], out);
 }
 
@@ -68,6 +68,6 @@ pub fn share(sizes: Sizes, points: &[u8], i: usize, file: &[u8], count: usize, o
 {
     let m = sizes.d + sizes.r;
     let mut xs = [0u8; 32];
-    evaluate::neighbour_points(sizes, points, i, &mut xs);
+    neighbours::neighbour_points(sizes, points, i, m, &mut xs);
     stripes_values(sizes, file, count, &xs[0..m], out);
 }

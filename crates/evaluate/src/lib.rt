@@ -7,9 +7,7 @@ ghost use lib.ListN.{length, getD, take, drop};
 ghost use Rattle.lists.specs.Lists.{tabulate, fit};
 ghost use Rattle.gf256.specs.Field.{add, mul};
 ghost use Rattle.polynomial.specs.Polynomial.{plus, scale, evals, atX, atY};
-ghost use Rattle.mbcr.specs.Share.{points, neighbours};
 ghost use Rattle.grid.specs.Layout.{rows};
-use sizes::Sizes;
 
 // A row plus x times what is in acc, in its place.
 pub fn horner_row(x: u8, row: &[u8], acc: &mut [u8])
@@ -88,20 +86,6 @@ pub fn values(p: &[u8], xs: &[u8], out: &mut [u8])
     while i > 0 {
         i -= 1;
         horner_points(p[i], xs, out);
-    }
-}
-
-// The points of as many boards as out is long, from board i on, modulo n.
-pub fn neighbour_points(sizes: Sizes, pts: &[u8], i: usize, out: &mut [u8])
-    requires { ⌜ (i < sizes .n) × (sizes .n ≤ 32) × (sizes .n ≤ length (now pts)) × (length (now out) ≤ 32) ⌝ }
-    ensures { λ _. ⌜ now (out .exit) ≡ points (now (pts .entry)) (neighbours sizes i (length (now (out .entry)))) ⌝ }
-{
-    let n = sizes.n;
-    let mut t: usize = 0;
-    while t < out.len() {
-        let b = (i + t) % n;
-        out[t] = pts[b];
-        t += 1;
     }
 }
 

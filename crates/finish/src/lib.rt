@@ -112,7 +112,7 @@ pub fn finished_share(
     let mut g = [0u8; 32];
     let mut f = [0u8; 32];
     finish_in::all_points(points, helpers, partners, i, &mut all[0..m]);
-    own::neighbour_points(sizes, points, i, m, &mut xs);
+    neighbours::neighbour_points(sizes, points, i, m, &mut xs);
     share_in(
         sizes,
         &all[0..m],

@@ -89,7 +89,7 @@ pub fn finished_stripe(
     let mut all = [0u8; 32];
     let mut xs = [0u8; 32];
     finish_in::all_points(points, helpers, partners, i, &mut all[0..m]);
-    own::neighbour_points(sizes, points, i, m, &mut xs);
+    neighbours::neighbour_points(sizes, points, i, m, &mut xs);
     finished_stripe_of(
         &all[0..m],
         &xs[0..m],

@@ -155,20 +155,21 @@ module _ (z : Sizes) (legal : Legal z) (u : List ℕ) (lu : length u ≡ B z) wh
 module _ (z : Sizes) (legal : Legal z) (pts : List ℕ) (i : ℕ) (h : i < z .n) (file : List ℕ) where
   open Sizes z using (d, r)
 
-  -- the points come from the first of 32 neighbours
-  pub stripe-made : (xs : List ℕ) (w s : ℕ) → w ≡ 32 → xs ≡ points pts (neighbours z i w)
+  -- the points stand at the beginning of a longer list
+  pub stripe-made : (xs rest : List ℕ) (s : ℕ) → xs ≡ points pts (neighbours z i (d + r)) ++ rest
       → worked d (laid (grid z (stripe z file s))) (take (d + r - 0) (drop 0 xs)) ≡ kept z pts (stripe z file s) i
-  stripe-made xs w s ew ex =
+  stripe-made xs rest s ex =
       ap (worked d (laid (grid z (stripe z file s))))
-      (ap₂ (λ (a : ℕ) (l : List ℕ). take a l) (sub-zero (d + r)) ex ∙ neighbours-take z pts i (d + r) w (omega (arith, legal .enough, legal .few)))
+      (ap₂ (λ (a : ℕ) (l : List ℕ). take a l) (sub-zero (d + r)) ex
+      ∙ take-at (points pts (neighbours z i (d + r))) rest (d + r) (length-points pts (neighbours z i (d + r)) ∙ length-neighbours z i (d + r)))
       ∙ worked-kept z legal (stripe z file s) (length-stripe z file s) pts i h
 
-  pub share-made : (xs : List ℕ) (w count : ℕ) (out rest : List ℕ) → w ≡ 32 → xs ≡ points pts (neighbours z i w) → count ≡ stripes z (length file)
+  pub share-made : (xs after : List ℕ) (count : ℕ) (out rest : List ℕ) → xs ≡ points pts (neighbours z i (d + r)) ++ after → count ≡ stripes z (length file)
       → out ≡ join count (λ s. worked d (laid (grid z (stripe z file s))) (take (d + r - 0) (drop 0 xs))) ++ rest → out ≡ share z pts file i ++ rest
   unfolding share
-  share-made xs w count out rest ew ex ec eo =
+  share-made xs after count out rest ex ec eo =
       eo ∙ ap (λ (l : List ℕ). l ++ rest)
-      (join-ext count _ (λ s. kept z pts (stripe z file s) i) (λ s l. stripe-made xs w s ew ex)
+      (join-ext count _ (λ s. kept z pts (stripe z file s) i) (λ s l. stripe-made xs after s ex)
       ∙ ap (λ (m : ℕ). join m (λ s. kept z pts (stripe z file s) i)) ec)
 
 -- as many bytes as the board keeps of a stripe

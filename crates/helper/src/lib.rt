@@ -100,8 +100,8 @@ pub fn helper_pair(
     let m = d + sizes.r;
     let mut xs = [0u8; 32];
     let mut ys = [0u8; 32];
-    own::neighbour_points(sizes, points, j, m, &mut xs);
-    own::neighbour_points(sizes, points, j, d, &mut ys);
+    neighbours::neighbour_points(sizes, points, j, m, &mut xs);
+    neighbours::neighbour_points(sizes, points, j, d, &mut ys);
     helper_pair_in(&xs[0..m], &ys[0..d], inverses, points[i], w)
 }
 
@@ -123,8 +123,8 @@ pub fn helper_packet(
     let m = d + sizes.r;
     let mut xs = [0u8; 32];
     let mut ys = [0u8; 32];
-    own::neighbour_points(sizes, points, j, m, &mut xs);
-    own::neighbour_points(sizes, points, j, d, &mut ys);
+    neighbours::neighbour_points(sizes, points, j, m, &mut xs);
+    neighbours::neighbour_points(sizes, points, j, d, &mut ys);
     packet_in(
         &xs[0..m],
         &ys[0..d],

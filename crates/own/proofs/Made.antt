@@ -52,10 +52,6 @@ set-last (suc k) (x ∷ l) v e = ap {B = List ℕ} (λ l. x ∷ l) (set-last k l
 
 -- ---- the points of boards
 
-pub neighbours-made : (z : Sizes) (xs : List ℕ) (i m : ℕ) → tabulate m (λ t. getD xs ((i + t) % z .n) 0) ≡ points xs (neighbours z i m)
-unfolding neighbours
-neighbours-made z xs i m = sym (map-tabulate (point xs) m (λ t. (i + t) % z .n))
-
 pub board-below : (n : ℕ) (boards : List ℕ) (t : ℕ) → below n boards ≡ true → t < length boards → getD boards t 0 < n
 board-below n boards t h l = all-at (λ x. x < n) 0 boards (below-all n boards h) t l
 

@@ -12,23 +12,9 @@ ghost use Rattle.lists.specs.Tests.{below};
 ghost use Rattle.lists.specs.Lists.{tabulate};
 ghost use Rattle.gf256.specs.Field.{inverse};
 ghost use Rattle.sizes.specs.Sizing.{legal, α};
-ghost use Rattle.mbcr.specs.Share.{points as pointsOf, neighbours};
+ghost use Rattle.mbcr.specs.Share.{points as pointsOf};
 ghost use Rattle.mbcr.specs.Rebuild.{ownF, ownG};
 ghost use Rattle.own.specs.Steps.{fOf, gOf};
-
-// The points of the m boards from i on, modulo n, to the beginning of out.
-pub fn neighbour_points(sizes: Sizes, points: &[u8], i: usize, m: usize, out: &mut [u8])
-    requires { ⌜ (i < sizes .n) × (m ≤ sizes .n) × (sizes .n ≤ 32) × (sizes .n ≤ length (now points)) × (m ≤ length (now out)) ⌝ }
-    ensures { λ _. ⌜ now (out .exit) ≡ pointsOf (now (points .entry)) (neighbours sizes i m) ++ drop m (now (out .entry)) ⌝ }
-{
-    let n = sizes.n;
-    let mut t: usize = 0;
-    while t < m {
-        let b = (i + t) % n;
-        out[t] = points[b];
-        t += 1;
-    }
-}
 
 // The points of boards.
 pub fn board_points(points: &[u8], boards: &[usize], out: &mut [u8])
@@ -97,7 +83,7 @@ pub fn own_f(sizes: Sizes, points: &[u8], inverses: &[u8], j: usize, w: &[u8], p
 {
     let m = sizes.d + sizes.r;
     let mut xs = [0u8; 32];
-    neighbour_points(sizes, points, j, m, &mut xs);
+    neighbours::neighbour_points(sizes, points, j, m, &mut xs);
     own_f_in(&xs[0..m], inverses, w, p);
 }
 
@@ -109,6 +95,6 @@ pub fn own_g(sizes: Sizes, points: &[u8], inverses: &[u8], j: usize, w: &[u8], p
     let d = sizes.d;
     let m = d + sizes.r;
     let mut ys = [0u8; 32];
-    neighbour_points(sizes, points, j, d, &mut ys);
+    neighbours::neighbour_points(sizes, points, j, d, &mut ys);
     own_g_in(&ys[0..d], inverses, m, w, p);
 }

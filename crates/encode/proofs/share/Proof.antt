@@ -18,7 +18,7 @@ neighbour-points-requires : tie.Need-neighbour-points-requires
 neighbour-points-requires c κs =
     let s = c .before .before .before .before .before in
     let f = legal-facts _ (s .pre .0) in
-    (s .pre .1, f .few, s .pre .2, search needs)
+    (s .pre .1, f .enough, f .few, s .pre .2, search needs)
 
 sub-stripes-values : tie.Need-sub-stripes-values
 sub-stripes-values c = search needs
@@ -43,7 +43,7 @@ returns c =
     let p = v .before .before .before .before .before in
     let s = p .before .before .before .before .before .before in
     let a = s .args in
-    share-made (a .sizes) (legal-facts _ (s .pre .0)) (a .points .now) (a .i) (s .pre .1) (a .file .now) _ _ (a .count) _ _ refl (p .neighbour-points .ensures) (s .pre .3) (v .stripes-values .ensures)
+    share-made (a .sizes) (legal-facts _ (s .pre .0)) (a .points .now) (a .i) (s .pre .1) (a .file .now) _ _ (a .count) _ _ (p .neighbour-points .ensures) (s .pre .3) (v .stripes-values .ensures)
 
 pub share-spec : {M : Type 1} → statement M
 share-spec =

@@ -18,7 +18,7 @@ neighbour-points-requires : tie.Need-neighbour-points-requires
 neighbour-points-requires c κs =
     let s = c .before .before .before .before .before in
     let f = legal-facts _ (s .pre .0) in
-    (s .pre .1, f .few, s .pre .2, search needs)
+    (s .pre .1, f .enough, f .few, s .pre .2, search needs)
 
 sub-stripe-values : tie.Need-sub-stripe-values
 sub-stripe-values c = search needs
@@ -43,7 +43,7 @@ returns c =
     let p = v .before .before .before .before .before in
     let s = p .before .before .before .before .before .before in
     let a = s .args in
-    v .stripe-values .ensures ∙ stripe-made (a .sizes) (legal-facts _ (s .pre .0)) (a .points .now) (a .i) (s .pre .1) (a .file .now) _ _ (a .s) refl (p .neighbour-points .ensures)
+    v .stripe-values .ensures ∙ stripe-made (a .sizes) (legal-facts _ (s .pre .0)) (a .points .now) (a .i) (s .pre .1) (a .file .now) _ _ (a .s) (p .neighbour-points .ensures)
 
 pub share-stripe-of-spec : {M : Type 1} → statement M
 share-stripe-of-spec =

@@ -16,23 +16,18 @@ Inv-loop x count₀ y₀ count y = (count + length (decimal y) ≡ length (decim
 abbrev μ-loop : tie.MeasureT-loop
 μ-loop x count₀ y₀ count y = y
 
--- src/lib.rt:17:5
 loop-holds : tie.Need-loop-holds Inv-loop μ-loop
 loop-holds c = (omega arith, omega arith)
 
--- src/lib.rt:19:9
 add-count : tie.Need-add-count Inv-loop μ-loop
 add-count c = omega (arith, div-add-mod' (c .before .loop .y) 10)
 
--- src/lib.rt:17:5
 loop-less : tie.Need-loop-less Inv-loop μ-loop
 loop-less c = omega (arith, div-add-mod' (c .before .loop .y) 10)
 
--- src/lib.rt:17:5
 loop-again : tie.Need-loop-again Inv-loop μ-loop
 loop-again c = (omega (arith, length-more (c .before .loop .y) (omega arith)), omega (arith, div-add-mod' (c .before .loop .y) 10))
 
--- src/lib.rt:12:1
 returns : tie.Need-returns Inv-loop μ-loop
 returns c = omega (arith, length-one (c .before .loop .y) (omega arith))
 

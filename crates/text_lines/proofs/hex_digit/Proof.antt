@@ -6,19 +6,15 @@ use borrow.Author.Needs.{needs}
 use Rattle.text_lines.proofs.hex_digit.Statement.{statement}
 use Rattle.text_lines.proofs.hex_digit.Tie as tie
 
--- src/lib.rt:58:9
 add-result : tie.Need-add-result
 add-result c = search needs
 
--- src/lib.rt:60:9
 add-result-2 : tie.Need-add-result-2
 add-result-2 c = search needs
 
--- src/lib.rt:53:1
 returns : tie.Need-returns
 returns c = rw (lt-ltb _ 10 (c .if1 .taken))
 
--- src/lib.rt:53:1
 returns-2 : tie.Need-returns-2
 returns-2 c = rw (le-ltb (c .before .args .v) 10 (omega arith))
 

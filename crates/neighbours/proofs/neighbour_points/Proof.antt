@@ -1,23 +1,23 @@
--- `evaluate::neighbour_points` meets its contract: what is filled in, before what was there.
+-- `neighbours::neighbour_points` meets its contract: what is filled in, before what was there.
 -- Assumes nothing.
-use mathlib.Core.Path.{_≡_, refl, sym, _∙_}
-use mathlib.Core.List.{_++_}
-use Prim.Native.Nat.{_≤_, _-_, _+_, _%_}
-use native.Mathlib.Omega.{arith}
-use lib.ListN.{length, getD, drop, length-set}
+use mathlib.Core.Path.{_≡_, refl, ap, _∙_}
+use mathlib.Core.List.{List, _++_}
+use Prim.Native.Nat.{ℕ, _≤_, _-_, _+_, _%_}
 use native.Mathlib.Nat.{mod-lt}
+use native.Mathlib.Omega.{arith}
 use borrow.Author.Needs.{needs}
+use lib.ListN.{length, getD, drop, length-set}
 use Rattle.lists.specs.Lists.{tabulate}
-use Rattle.lists.proofs.Pieces.{fill-loop, fill-end, fill-all, map-tabulate}
-use Rattle.mbcr.specs.Share.{neighbours}
-use Rattle.evaluate.proofs.neighbour_points.Statement.{statement}
-use Rattle.evaluate.proofs.neighbour_points.Tie as tie
+use Rattle.lists.proofs.Pieces.{fill-loop, fill-end}
+use Rattle.neighbours.proofs.Neighbours.{neighbours-made}
+use Rattle.neighbours.proofs.neighbour_points.Statement.{statement}
+use Rattle.neighbours.proofs.neighbour_points.Tie as tie
 
 abbrev Inv-loop : tie.InvT-loop
-Inv-loop pts i out₀ n t₀ out t = (out ≡ tabulate t (λ t. getD pts ((i + t) % n) 0) ++ drop t out₀) × (t ≤ length out₀) × (length out ≡ length out₀)
+Inv-loop points i m out₀ n t₀ out t = (out ≡ tabulate t (λ t. getD points ((i + t) % n) 0) ++ drop t out₀) × (t ≤ m) × (length out ≡ length out₀)
 
 abbrev μ-loop : tie.MeasureT-loop
-μ-loop pts i out₀ n t₀ out t = length out₀ - t
+μ-loop points i m out₀ n t₀ out t = m - t
 
 loop-holds : tie.Need-loop-holds Inv-loop μ-loop
 loop-holds c = search needs
@@ -30,8 +30,8 @@ rem-b c = search needs
 
 shared-slice-read-out : tie.Need-shared-slice-read-out Inv-loop μ-loop
 shared-slice-read-out c =
-    let s = c .before .before .before in
-    omega (arith, mod-lt (s .args .i + c .before .before .loop .t) {m = s .args .sizes .n} (omega arith))
+    let a = c .before .before .before .args in
+    omega (arith, mod-lt (a .i + c .before .before .loop .t) {m = a .sizes .n} (omega arith))
 
 slice-write-out : tie.Need-slice-write-out Inv-loop μ-loop
 slice-write-out c = search needs
@@ -54,13 +54,10 @@ same-length : tie.Need-same-length Inv-loop μ-loop
 same-length c = search needs
 
 returns : tie.Need-returns Inv-loop μ-loop
-unfolding neighbours
 returns c =
     let a = c .before .before .args in
-    let m = length (a .out .now) in
-    fill-end _ (a .out .now) (c .before .loop .out) (c .before .loop .t) m (omega arith) (c .before .loop .inv .0)
-    ∙ fill-all _ (a .out .now) m (omega arith)
-    ∙ sym (map-tabulate (λ i. getD (a .pts .now) i 0) m (λ t. (a .i + t) % a .sizes .n))
+    fill-end _ _ (c .before .loop .out) (c .before .loop .t) (a .m) (omega arith) (c .before .loop .inv .0)
+    ∙ ap (λ (l : List ℕ). l ++ drop (a .m) (a .out .now)) (neighbours-made (a .sizes) (a .points .now) (a .i) (a .m))
 
 pub neighbour-points-spec : {M : Type 1} → statement M
 neighbour-points-spec =
