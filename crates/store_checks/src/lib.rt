@@ -4,6 +4,7 @@ ghost use mathlib.Core.Bool.{true, false, not};
 ghost use Prim.Native.Nat.{_*_, _≤_};
 ghost use lib.Dec.{ltb};
 ghost use lib.ListN.{length, getD, drop};
+ghost use Rattle.lists.specs.Lists.{tabulate};
 ghost use Rattle.lists.specs.Tests.{every};
 ghost use Rattle.sizes.specs.declared.Refusal.the-variants.{Long, Empty, Down};
 ghost use Rattle.sizes.specs.Sizing.{legal, B};
@@ -134,5 +135,25 @@ pub fn check_service(marks: &[bool], boards: &[usize]) -> Check
         Check::Pass
     } else {
         Check::Refuse(Refusal::Down)
+    }
+}
+
+// The marks of the first n boards on, the others off.
+pub fn first_on(n: usize) -> [bool; 32]
+    ensures { λ r. ⌜ r ≡ tabulate 32 (λ i. ltb i n) ⌝ }
+{
+    let mut marks = [false; 32];
+    turn_on(n, &mut marks);
+    marks
+}
+
+// Each mark by its board's number.
+fn turn_on(n: usize, marks: &mut [bool])
+    ensures { λ _. ⌜ now (marks .exit) ≡ tabulate (length (now (marks .entry))) (λ i. ltb i n) ⌝ }
+{
+    let mut i: usize = 0;
+    while i < marks.len() {
+        marks[i] = i < n;
+        i += 1;
     }
 }

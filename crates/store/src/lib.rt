@@ -1,0 +1,130 @@
+//! Document 01, the store: its record, and the calls as methods by value. Each hands on a record beside its answer, and meets its definition in
+//! the crate `store_statements` at document 01's points, for all input: the answer, the record, and every lent byte.
+ghost use mathlib.Core.Path.{_≡_};
+ghost use mathlib.Core.List.{List, []};
+ghost use Prim.Native.Nat.{ℕ};
+ghost use Rattle.mbcr.specs.Share.{standard};
+ghost use Rattle.store_statements.specs.Calls.{setUpCall, writeCall, loseCall};
+ghost use Rattle.store.specs.Handing.{recordIn, outcome};
+use sizes::Answer;
+use sizes::Check;
+use sizes::Sizes;
+
+// The sizes, the capacity in stripes, whether a file was accepted, its length, and a mark for each board: in service or not.
+pub struct Store {
+    pub sizes: Sizes,
+    pub capacity: usize,
+    pub written: bool,
+    pub length: usize,
+    pub marks: [bool; 32],
+}
+
+// What a call hands on: the record after it, and its answer.
+pub struct Handed {
+    pub store: Store,
+    pub answer: Answer,
+}
+
+impl Store {
+    // A store of these sizes and this capacity, with no file. The record that it is handed is not examined.
+    pub fn set_up(self, sizes: Sizes, capacity: usize) -> Handed
+        ensures { λ r. ⌜ outcome r [] [] ≡ setUpCall (recordIn self) sizes capacity ⌝ }
+    {
+        let marks = [false; 32];
+        if let Check::Refuse(x) = store_checks::check_record(sizes, capacity, false, 0, &marks) {
+            return Handed {
+                store: self,
+                answer: Answer::Refused(x),
+            };
+        }
+        Handed {
+            store: Store {
+                sizes: sizes,
+                capacity: capacity,
+                written: false,
+                length: 0,
+                marks: marks,
+            },
+            answer: Answer::Done(0),
+        }
+    }
+
+    // Writes a file: each board gets its share, and all n come into service.
+    pub fn write(self, area: &mut [u8], file: &[u8]) -> Handed
+        ensures { λ r. ⌜ outcome r (now (area .exit)) [] ≡ writeCall standard (recordIn self) (now (area .entry)) (now (file .entry)) ⌝ }
+    {
+        let sizes = self.sizes;
+        let capacity = self.capacity;
+        let marks = self.marks;
+        if let Check::Refuse(x) = store_checks::check_record(
+            sizes,
+            capacity,
+            self.written,
+            self.length,
+            &marks,
+        ) {
+            return Handed {
+                store: self,
+                answer: Answer::Refused(x),
+            };
+        }
+        let part_len = capacity * sizes.share_len();
+        if let Check::Refuse(x) = checks::check_lent(area.len(), sizes.n * part_len) {
+            return Handed {
+                store: self,
+                answer: Answer::Refused(x),
+            };
+        }
+        if let Check::Refuse(x) = store_checks::check_fits(sizes, capacity, file.len()) {
+            return Handed {
+                store: self,
+                answer: Answer::Refused(x),
+            };
+        }
+        let points = checks::standard_points();
+        let count = checks::stripe_count(sizes, file.len());
+        store_write::write_shares(sizes, capacity, &points, file, count, area);
+        Handed {
+            store: Store {
+                sizes: sizes,
+                capacity: capacity,
+                written: true,
+                length: file.len(),
+                marks: store_checks::first_on(sizes.n),
+            },
+            answer: Answer::Done(0),
+        }
+    }
+
+    // Takes a board out of service.
+    pub fn lose(self, board: usize) -> Handed
+        ensures { λ r. ⌜ ((area : List ℕ) → outcome r area [] ≡ loseCall (recordIn self) area board) ⌝ }
+    {
+        let sizes = self.sizes;
+        let marks = self.marks;
+        if let Check::Refuse(x) = store_checks::check_record(
+            sizes,
+            self.capacity,
+            self.written,
+            self.length,
+            &marks,
+        ) {
+            return Handed {
+                store: self,
+                answer: Answer::Refused(x),
+            };
+        }
+        if let Check::Refuse(x) = checks::check_node(sizes, board) {
+            return Handed {
+                store: self,
+                answer: Answer::Refused(x),
+            };
+        }
+        let mut next = self;
+        next.marks[board] = false;
+        Handed {
+            store: next,
+            answer: Answer::Done(0),
+        }
+    }
+}
