@@ -1,16 +1,25 @@
 -- From what the checks answered to what a call of the store hands on: the first line that holds, or the work.
 -- Assumes nothing.
-use Prim.Native.Nat.{ℕ}
-use mathlib.Core.Path.{_≡_, refl, sym, ap, _∙_}
+use Prim.Native.Nat.{ℕ, _*_}
+use mathlib.Core.Path.{_≡_, refl, sym, ap, ap₂, _∙_}
+use mathlib.Core.Bool.{Bool, true, false, not}
 use mathlib.Core.List.{List, [], _∷_}
+use lib.Dec.{ltb}
+use lib.ListN.{length}
+use Rattle.lists.specs.Lists.{tabulate, put}
 use Rattle.sizes.specs.declared.Sizes.{Sizes}
 use Rattle.sizes.specs.declared.Refusal.{Refusal}
+use Rattle.sizes.specs.declared.Refusal.the-variants.{Area, Long}
 use Rattle.sizes.specs.declared.Check.{Check}
 use Rattle.sizes.specs.declared.Answer.the-variants.{Done}
-use Rattle.sizes.specs.Refusals.{said, Line}
-use Rattle.board_statements.specs.Calls.{nodeLine}
-use Rattle.store_statements.specs.Record.{Record, newRecord}
-use Rattle.store_statements.specs.Calls.{StoreOutcome, refused, settle, recordLine, loseLines, loseDone, loseCall, setUpCall}
+use Rattle.sizes.specs.Sizing.{B}
+use Rattle.sizes.specs.Refusals.{said, Line, _when_}
+use Rattle.mbcr.specs.Share.{standard, share}
+use Rattle.board_statements.specs.Calls.{nodeLine, areaLine}
+use Rattle.store_statements.specs.Record.{Record, newRecord, writtenRecord, partLen, putShares}
+use Rattle.store_statements.specs.Calls.{StoreOutcome, refused, settle, recordLine, lentLine, writeLines, writeDone, writeCall, loseLines, loseDone, loseCall, setUpCall}
+use Rattle.checks.specs.Asked.{asked}
+use Rattle.store_checks.specs.Parts.{recordOf}
 use Rattle.checks.proofs.Given.{chain, Passed, Refuses, chain-refuse, chain-pass}
 
 pub refuse-at : (lines : List Line) (i : ℕ) (x : Refusal) (out : Refusal → StoreOutcome) (done : StoreOutcome) → Refuses lines i x → out x ≡ settle (chain lines) out done
@@ -46,3 +55,46 @@ module _ (s : Record) (z : Sizes) (c : ℕ) where
 
   pub set-up-works : Passed (recordLine (newRecord z c) ∷ []) → new ≡ setUpCall s z c
   set-up-works p = done-at (recordLine (newRecord z c) ∷ []) (refused s [] []) new p ∙ set-up-is
+
+-- ---- write
+
+pub area-one : (b : Bool) → asked (areaLine (b ∷ [])) ≡ asked (Area when not b)
+area-one true = refl
+area-one false = refl
+
+-- only the length of a board's part decides where a share goes
+puts-same : (s t : Record) (f : ℕ → List ℕ) (boards area : List ℕ) → partLen s ≡ partLen t → putShares s f boards area ≡ putShares t f boards area
+puts-same s t f [] area e = refl
+puts-same s t f (i ∷ boards) area e = puts-same s t f boards (put area (i * partLen s) (f i)) e ∙ ap (λ (m : ℕ). putShares t f boards (put area (i * m) (f i))) e
+
+module _ (s : Record) (area file : List ℕ) where
+  abbrev pub writes : List Line
+  writes = recordLine s ∷ lentLine s (length area) ∷ (Long when ltb (s .capacity * B (s .sizes)) (length file)) ∷ []
+
+  write-is : settle (chain writes) (refused s area []) (writeDone standard s area file) ≡ writeCall standard s area file
+  unfolding writeLines writeCall
+  write-is = refl
+
+  pub write-refuses : (i : ℕ) (x : Refusal) → Refuses writes i x → refused s area [] x ≡ writeCall standard s area file
+  write-refuses i x h = refuse-at writes i x (refused s area []) (writeDone standard s area file) h ∙ write-is
+
+  -- what a write hands on with these marks and this area
+  abbrev pub made : List Bool → List ℕ → StoreOutcome
+  made marks after =
+      record {
+        answer = said (Done 0);
+        handed = record { sizes = s .sizes; capacity = s .capacity; written = true; length = length file; marks = marks };
+        area = after;
+        output = [];
+      }
+
+  pub write-works : (marks : List Bool) (points after : List ℕ) → Passed writes → marks ≡ tabulate 32 (λ i. ltb i (s .sizes .n)) → points ≡ standard
+      → after ≡ putShares (recordOf (s .sizes) (s .capacity) true 0 []) (share (s .sizes) points file) (tabulate (s .sizes .n) (λ i. i)) area
+      → made marks after ≡ writeCall standard s area file
+  write-works marks points after p em ep ea =
+      ap₂ made em
+      (ea
+      ∙ ap (λ (xs : List ℕ). putShares (recordOf (s .sizes) (s .capacity) true 0 []) (share (s .sizes) xs file) (tabulate (s .sizes .n) (λ i. i)) area) ep
+      ∙ puts-same (recordOf (s .sizes) (s .capacity) true 0 []) (writtenRecord s (length file)) (share (s .sizes) standard file) (tabulate (s .sizes .n) (λ i. i)) area refl)
+      ∙ done-at writes (refused s area []) (writeDone standard s area file) p
+      ∙ write-is
