@@ -4,15 +4,18 @@ use Prim.Native.Nat.{ℕ, _+_, _*_, _-_, _≤_, _<_}
 use mathlib.Core.Path.{_≡_, refl, sym, ap, ap₂, _∙_}
 use mathlib.Core.Bool.{true}
 use mathlib.Core.List.{List, [], _∷_, _++_, map, append-nil}
-use native.Mathlib.Nat.{mul-le-mul-right}
+use native.Mathlib.Nat.{mul-le-mul-left, le-trans}
 use native.Mathlib.Omega.{arith}
+use lib.Dec.{leb}
 use lib.ListN.{length, getD, take, drop, length-drop, length-map, drop-of-length-le}
 use lib.Seq.{drop-drop, length-take-le}
-use Rattle.lists.specs.Tests.{below}
+use borrow.Author.Tests.{leb-true}
+use Rattle.lists.specs.Tests.{every, below}
 use Rattle.lists.specs.Lists.{tabulate, join, piece}
-use Rattle.lists.proofs.Alls.{take-alls, drop-alls}
+use Rattle.lists.proofs.Alls.{all-at, take-alls, drop-alls}
+use Rattle.lists.proofs.Tests.{every-all}
 use Rattle.lists.proofs.Boards.{below-all, all-below}
-use Rattle.lists.proofs.Pieces.{fill-end, fill-all, tabulate-map, part-piece, length-piece}
+use Rattle.lists.proofs.Pieces.{length-tabulate, tabulate-at, fill-end, fill-all, tabulate-map, part-piece, length-piece}
 use Rattle.sizes.specs.declared.Sizes.{Sizes}
 use Rattle.sizes.proofs.Legal.{Legal, row-fits}
 use Rattle.polynomial.specs.Polynomial.{eval}
@@ -75,7 +78,17 @@ pub cut-long : (d a m : ℕ) (l : List ℕ) → a < m → length l ≡ m * d →
 cut-long d a m l h e = ap length (part-piece d a l) ∙ length-piece d a l (omega (arith, row-fits a m d h))
 
 -- the runs of all fresh boards are few
-pub few-runs : (z : Sizes) → Legal z → z .r * z .d ≤ 1024
+most-test : every (λ r. leb (r * (32 - r)) 256) (tabulate 32 (λ r. r)) ≡ true
+most-test = refl
+
+most : (r : ℕ) → r < 32 → r * (32 - r) ≤ 256
+most r h =
+    let rs : List ℕ = tabulate 32 (λ r. r) in
+    let e : getD rs r 0 ≡ r = tabulate-at 32 (λ r. r) 0 r h in
+    let t : leb (getD rs r 0 * (32 - getD rs r 0)) 256 ≡ true =
+    all-at (λ r. leb (r * (32 - r)) 256 ≡ true) 0 rs (every-all (λ r. leb (r * (32 - r)) 256) rs most-test) r (rw length-tabulate h) in
+    leb-true (r * (32 - r)) 256 (rw e at t)
+
+pub few-runs : (z : Sizes) → Legal z → z .r * z .d ≤ 256
 few-runs z f =
-    let p : z .r * z .d ≤ 32 * z .d = mul-le-mul-right (z .d) (omega (arith, f .enough, f .few)) in
-    omega (arith, p, f .enough, f .few)
+    le-trans (mul-le-mul-left (z .r) (omega (arith, f .enough, f .few))) (most (z .r) (omega (arith, f .some-read, f .read-helpers, f .enough, f .few)))

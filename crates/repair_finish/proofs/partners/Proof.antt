@@ -35,7 +35,7 @@ place c = let b = past-below (c .before .before .before .before .before .before 
 run-end : (c : tie.After-past Inv-loop μ-loop) → c .past .result * c .before .before .before .before .before .before .before .before .args .sizes .d + c .before .before .before .before .before .before .before .before .args .sizes .d ≤ c .before .before .before .before .before .before .before .before .args .sizes .r * c .before .before .before .before .before .before .before .before .args .sizes .d
 run-end c = row-fits (c .past .result) (c .before .before .before .before .before .before .before .before .args .sizes .r) (c .before .before .before .before .before .before .before .before .args .sizes .d) (place c)
 
-runs-few : (c : tie.After-past Inv-loop μ-loop) → c .before .before .before .before .before .before .before .before .args .sizes .r * c .before .before .before .before .before .before .before .before .args .sizes .d ≤ 1024
+runs-few : (c : tie.After-past Inv-loop μ-loop) → c .before .before .before .before .before .before .before .before .args .sizes .r * c .before .before .before .before .before .before .before .before .args .sizes .d ≤ 256
 runs-few c = few-runs (c .before .before .before .before .before .before .before .before .args .sizes) (legal-facts _ (c .before .before .before .before .before .before .before .before .pre .0))
 
 sub-m : tie.Need-sub-m Inv-loop μ-loop

@@ -30,7 +30,7 @@ abbrev μ-loop : tie.MeasureT-loop
 run-end : (c : tie.In-loop Inv-loop μ-loop) → c .before .loop .a * c .before .before .before .before .before .before .args .sizes .d + c .before .before .before .before .before .before .args .sizes .d ≤ c .before .before .before .before .before .before .args .sizes .r * c .before .before .before .before .before .before .args .sizes .d
 run-end c = row-fits (c .before .loop .a) (c .before .before .before .before .before .before .args .sizes .r) (c .before .before .before .before .before .before .args .sizes .d) (c .loop-test .taken)
 
-runs-few : (c : tie.In-loop Inv-loop μ-loop) → c .before .before .before .before .before .before .args .sizes .r * c .before .before .before .before .before .before .args .sizes .d ≤ 1024
+runs-few : (c : tie.In-loop Inv-loop μ-loop) → c .before .before .before .before .before .before .args .sizes .r * c .before .before .before .before .before .before .args .sizes .d ≤ 256
 runs-few c = few-runs (c .before .before .before .before .before .before .args .sizes) (legal-facts _ (c .before .before .before .before .before .before .pre .0))
 
 d-few : (c : tie.In-loop Inv-loop μ-loop) → c .before .before .before .before .before .before .args .sizes .d ≤ 32
