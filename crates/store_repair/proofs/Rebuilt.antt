@@ -3,10 +3,9 @@
 use Prim.Native.Nat.{ℕ, _+_, _*_, _-_, _≤_, _<_}
 use mathlib.Core.Path.{_≡_, refl, sym, ap, ap₂, _∙_}
 use mathlib.Core.List.{List, [], _∷_, _++_, map}
-use native.Mathlib.Nat.{sub-zero}
 use native.Mathlib.Omega.{arith}
-use lib.ListN.{length, getD, take, drop, length-map}
-use lib.Seq.{take-all}
+use lib.ListN.{length, getD, take, drop, replicate, length-map}
+use lib.Seq.{take-all, length-take-le}
 use Rattle.lists.specs.Lists.{All, join, piece}
 use Rattle.lists.proofs.Alls.{all-imp, take-alls, drop-alls}
 use Rattle.lists.proofs.Pieces.{join-ext, length-join, length-piece}
@@ -15,9 +14,10 @@ use Rattle.sizes.specs.Sizing.{α}
 use Rattle.sizes.proofs.Legal.{Legal, row-fits}
 use Rattle.polynomial.specs.Polynomial.{eval}
 use Rattle.mbcr.specs.Share.{point}
-use Rattle.mbcr.specs.Rebuild.{ownF, ownG, finishedStripe}
+use Rattle.mbcr.specs.Rebuild.{ownF, ownG, gFrom, finishedStripe}
 use Rattle.mbcr.proofs.Stripe.{length-symbols}
 use Rattle.repair_hear.specs.Turns.{polysOf, stripeAt, puts}
+use Rattle.repair_finish.proofs.Made.{front-is, length-poly}
 use Rattle.store_repair.specs.Rebuilt.{allFirsts, allSeconds, rebuilt}
 use Rattle.store_repair.proofs.Puts.{puts-same}
 
@@ -58,12 +58,12 @@ module _ (z : Sizes) (xs : List ℕ) (fresh helpers : List ℕ) where
         ap₂ {C = List ℕ} (λ (f s : List ℕ). stripeAt z xs fresh helpers f s (polysOf z xs helpers f) a) firsts-same seconds-same
 
   -- put together of what was worked out
-  module _ (own : ℕ → List ℕ) (firsts seconds gs : List ℕ) (ef : firsts ≡ allFirsts z xs own fresh helpers) (es : seconds ≡ allSeconds z xs own fresh helpers) (eg : gs ≡ polysOf z xs helpers firsts) where
+  module _ (own : ℕ → List ℕ) (firsts seconds gs : List ℕ) (ef : firsts ≡ allFirsts z xs own fresh helpers) (es : seconds ≡ allSeconds z xs own fresh helpers) (eg : gs ≡ polysOf z xs helpers (allFirsts z xs own fresh helpers)) where
     stripe-rebuilt : (a : ℕ) → stripeAt z xs fresh helpers firsts seconds gs a ≡ rebuilt z xs own fresh helpers a
     unfolding rebuilt
     stripe-rebuilt a =
         ap (λ (g : List ℕ). stripeAt z xs fresh helpers firsts seconds g a) eg
-        ∙ ap₂ {C = List ℕ} (λ (f s : List ℕ). stripeAt z xs fresh helpers f s (polysOf z xs helpers f) a) ef es
+        ∙ ap₂ {C = List ℕ} (λ (f s : List ℕ). stripeAt z xs fresh helpers f s (polysOf z xs helpers (allFirsts z xs own fresh helpers)) a) ef es
 
     pub puts-rebuilt : (p : ℕ → ℕ) (m : ℕ) (l : List ℕ) → puts p (stripeAt z xs fresh helpers firsts seconds gs) m l ≡ puts p (rebuilt z xs own fresh helpers) m l
     puts-rebuilt p m l = puts-same p p _ _ m l (λ a h. refl) (λ a h. stripe-rebuilt a)
@@ -78,6 +78,30 @@ module _ (z : Sizes) (xs : List ℕ) (fresh helpers : List ℕ) where
   pub length-seconds : (own : ℕ → List ℕ) → length helpers ≡ z .r * z .d → length (allSeconds z xs own fresh helpers) ≡ z .r * z .d
   length-seconds own l = long-run own _ l
 
--- a copy of all
-pub copied-all : (m : ℕ) (gs ys : List ℕ) → length ys ≡ m → length gs ≡ m → take (length gs) ys ≡ ys
-copied-all m gs ys e l = take-all (length gs) ys (omega arith)
+-- ---- the working arrays of 256 bytes: m bytes at their front
+
+pub front-length : (m : ℕ) (ys zs fs : List ℕ) → ys ≡ fs → length fs ≡ m → length (take (m - 0) (ys ++ zs)) ≡ m
+front-length m ys zs fs e l = ap length (front-is m ys zs (ap length e ∙ l)) ∙ ap length e ∙ l
+
+abbrev blank : List ℕ
+blank = replicate 256 0
+
+-- the front is what was put there
+pub front-same : (m : ℕ) (ys zs fs : List ℕ) → ys ≡ fs → length fs ≡ m → take (m - 0) (ys ++ zs) ≡ fs
+front-same m ys zs fs e l = front-is m ys zs (ap length e ∙ l) ∙ e
+
+pub copy-room : (m : ℕ) (ys zs fs : List ℕ) → m ≤ 256 → ys ≡ fs → length fs ≡ m → length (take (m - 0) blank) ≤ length (take (m - 0) (ys ++ zs))
+copy-room m ys zs fs h e l = omega (arith, length-take-le (m - 0) blank (omega arith), front-length m ys zs fs e l)
+
+pub copied-is : (m : ℕ) (ys zs fs copy : List ℕ) → m ≤ 256 → ys ≡ fs → length fs ≡ m → copy ≡ take (length (take (m - 0) blank)) (take (m - 0) (ys ++ zs)) → copy ≡ fs
+copied-is m ys zs fs copy h e l k =
+    k
+    ∙ take-all (length (take (m - 0) blank)) (take (m - 0) (ys ++ zs)) (omega (arith, length-take-le (m - 0) blank (omega arith), front-length m ys zs fs e l))
+    ∙ front-is m ys zs (ap length e ∙ l)
+    ∙ e
+
+-- g of all fresh boards
+pub length-polys : (z : Sizes) (xs helpers firsts : List ℕ) → length helpers ≡ z .r * z .d → length firsts ≡ z .r * z .d → length (polysOf z xs helpers firsts) ≡ z .r * z .d
+unfolding gFrom
+length-polys z xs helpers firsts lh lf =
+    length-join (z .r) (z .d) _ (λ a k. length-poly xs helpers firsts (z .d) a (z .r) (omega (arith, lh)) (omega (arith, lf)) (row-fits a (z .r) (z .d) k))

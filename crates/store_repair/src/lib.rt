@@ -115,16 +115,7 @@ pub fn repair_shares(
     let part = capacity * (2 * sizes.d + sizes.r - 1);
     let mut s: usize = 0;
     while s < stripes {
-        repair_stripe(
-            sizes,
-            points,
-            inverses,
-            part,
-            s,
-            fresh,
-            helpers,
-            area,
-        );
+        repair_stripe(sizes, points, inverses, part, s, fresh, helpers, area);
         s += 1;
     }
 }
