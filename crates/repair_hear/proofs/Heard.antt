@@ -1,13 +1,13 @@
 -- What helpers send of a stripe, one after another: the turns of the loops, and what they come to.
 -- Assumes nothing.
 use Prim.Native.Nat.{ℕ, _+_, _*_, _-_, _≤_, _<_}
-use mathlib.Core.Path.{_≡_, refl, sym, ap, ap₂, _∙_}
+use mathlib.Core.Path.{_≡_, refl, sym, ap, _∙_}
 use mathlib.Core.Bool.{true}
 use mathlib.Core.List.{List, [], _∷_, _++_, map, append-nil}
 use native.Mathlib.Nat.{mul-le-mul-left, le-trans}
 use native.Mathlib.Omega.{arith}
 use lib.Dec.{leb}
-use lib.ListN.{length, getD, take, drop, length-drop, length-map, drop-of-length-le}
+use lib.ListN.{length, getD, take, drop, length-drop, drop-of-length-le}
 use lib.Seq.{drop-drop, length-take-le}
 use borrow.Author.Tests.{leb-true}
 use Rattle.lists.specs.Tests.{every, below}
@@ -21,7 +21,6 @@ use Rattle.sizes.proofs.Legal.{Legal, row-fits}
 use Rattle.polynomial.specs.Polynomial.{eval}
 use Rattle.mbcr.specs.Share.{point}
 use Rattle.mbcr.specs.Rebuild.{ownF, ownG, helperPair}
-use Rattle.repair_hear.specs.Turns.{firstsOf, secondsOf}
 
 -- the t-th of each
 abbrev pub firstAt : Sizes → List ℕ → (ℕ → List ℕ) → ℕ → List ℕ → ℕ → ℕ

@@ -1,9 +1,9 @@
 -- A turn of the loop over the stripes: one stripe more of each fresh board, from helpers whose parts no turn has changed.
 -- Assumes nothing.
 use Prim.Native.Nat.{ℕ, zero, suc, _+_, _*_, _-_, _≤_, _<_}
-use mathlib.Core.Path.{_≡_, refl, sym, ap, ap₂, subst, _∙_}
+use mathlib.Core.Path.{_≡_, refl, sym, ap, subst, _∙_}
 use mathlib.Core.Bool.{Bool, true, false, not}
-use mathlib.Core.List.{List, [], _∷_, _++_, append-nil}
+use mathlib.Core.List.{List, [], _++_, append-nil}
 use mathlib.Core.Logic.{_⊎_, inl, inr, ⊎-elim}
 use native.Mathlib.Nat.{eq-or-lt-of-le}
 use native.Mathlib.Decide.{decLt}
@@ -11,7 +11,7 @@ use native.Mathlib.Omega.{arith}
 use lib.ListN.{length, getD, take, drop, take-append-drop}
 use lib.Seq.{drop-drop}
 use Rattle.lists.specs.Tests.{among, below, different, apart}
-use Rattle.lists.specs.Lists.{All, join, piece, put}
+use Rattle.lists.specs.Lists.{join, piece, put}
 use Rattle.lists.proofs.Boards.{all-among, among-all, getD-among}
 use Rattle.lists.proofs.Laws.{tests-mean}
 use Rattle.lists.proofs.Pieces.{length-join}

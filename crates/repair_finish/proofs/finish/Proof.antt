@@ -1,23 +1,18 @@
 -- `repair_finish::finish` meets its contract: the callees' contracts, put together.
 -- Assumes nothing.
-use Prim.Native.Nat.{ℕ, suc, _+_, _*_, _-_, _≤_, _<_}
-use mathlib.Core.Path.{_≡_, refl, sym, ap, ap₂, _∙_}
-use mathlib.Core.Bool.{Bool, true, false, not}
-use mathlib.Core.List.{List, [], _∷_, _++_}
+use Prim.Native.Nat.{_+_, _*_, _-_, _≤_}
+use mathlib.Core.Path.{ap, _∙_}
 use lib.Seq.{length-take-le}
-use native.Mathlib.Nat.{sub-zero, zero-mul, mul-le-mul-right}
+use native.Mathlib.Nat.{sub-zero}
 use native.Mathlib.Omega.{arith}
 use borrow.Author.Needs.{needs}
-use lib.ListN.{length, getD, take, drop, length-append}
+use lib.ListN.{length, length-append}
 use Rattle.lists.specs.Tests.{below}
-use Rattle.lists.specs.Lists.{tabulate, piece}
 use Rattle.lists.proofs.Pieces.{part-piece, length-tabulate}
 use Rattle.sizes.proofs.Legal.{legal-facts, row-fits}
 use Rattle.own.proofs.Made.{board-below}
-use Rattle.repair_hear.specs.Turns.{past}
 use Rattle.repair_hear.proofs.Heard.{few-runs, below-part, cut-long}
 use Rattle.repair_finish.proofs.Made.{front-is, partners-below, stripe-is}
-use borrow.Author.Needs.{needs}
 use Rattle.repair_finish.proofs.finish.Statement.{statement}
 use Rattle.repair_finish.proofs.finish.Tie as tie
 

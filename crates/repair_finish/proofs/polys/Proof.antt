@@ -1,15 +1,14 @@
 -- `repair_finish::polys` meets its contract. The loop's invariant: g of the fresh boards so far, before the first bytes of the others.
 -- Assumes nothing.
-use Prim.Native.Nat.{ℕ, suc, _+_, _*_, _-_, _≤_, _<_}
+use Prim.Native.Nat.{ℕ, _+_, _*_, _-_, _≤_, _<_}
 use mathlib.Core.Path.{_≡_, refl, sym, ap, ap₂, _∙_}
-use mathlib.Core.Bool.{Bool, true, false, not}
-use mathlib.Core.List.{List, [], _∷_, _++_}
+use mathlib.Core.List.{_++_}
 use lib.Seq.{length-take-le}
-use native.Mathlib.Nat.{sub-zero, zero-mul, mul-le-mul-right}
+use native.Mathlib.Nat.{sub-zero, zero-mul}
 use native.Mathlib.Omega.{arith}
 use borrow.Author.Needs.{needs}
-use lib.ListN.{length, getD, take, drop, length-append, length-drop}
-use Rattle.lists.specs.Lists.{join, piece}
+use lib.ListN.{length, drop, length-append, length-drop}
+use Rattle.lists.specs.Lists.{join}
 use Rattle.lists.proofs.Pieces.{part-piece}
 use Rattle.sizes.proofs.Legal.{legal-facts, row-fits}
 use Rattle.own.proofs.Made.{below-more}

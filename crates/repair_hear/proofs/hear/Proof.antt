@@ -1,17 +1,16 @@
 -- `repair_hear::hear` meets its contract. The loop's invariant: the bytes of the helpers so far, before what was there.
 -- Assumes nothing.
-use Prim.Native.Nat.{ℕ, suc, _+_, _*_, _-_, _≤_, _<_}
-use mathlib.Core.Path.{_≡_, refl, sym, ap, ap₂, _∙_}
-use mathlib.Core.Bool.{Bool, true, false, not}
-use mathlib.Core.List.{List, [], _∷_, _++_}
-use native.Mathlib.Nat.{zero-mul, mul-le-mul-right}
+use Prim.Native.Nat.{_+_, _*_, _-_, _≤_}
+use mathlib.Core.Path.{_≡_, ap, _∙_}
+use mathlib.Core.List.{_++_}
+use native.Mathlib.Nat.{mul-le-mul-right}
 use native.Mathlib.Omega.{arith}
 use borrow.Author.Needs.{needs}
-use lib.ListN.{length, getD, take, drop, length-set}
+use lib.ListN.{length, getD, drop, length-set}
 use Rattle.lists.specs.Lists.{tabulate, piece}
 use Rattle.lists.proofs.Pieces.{fill-loop}
 use Rattle.sizes.specs.Sizing.{α}
-use Rattle.sizes.proofs.Legal.{legal-facts, row-fits, α-most}
+use Rattle.sizes.proofs.Legal.{legal-facts, row-fits}
 use Rattle.own.proofs.Made.{board-below}
 use Rattle.repair_hear.proofs.Heard.{firstAt, secondAt, cut-piece, piece-long, pair-first, pair-second, heard-all}
 use Rattle.repair_hear.proofs.hear.Statement.{statement}

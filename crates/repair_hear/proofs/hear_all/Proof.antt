@@ -1,14 +1,13 @@
 -- `repair_hear::hear_all` meets its contract. The loop's invariant: the runs of the fresh boards so far, before what was there.
 -- Assumes nothing.
-use Prim.Native.Nat.{ℕ, suc, _+_, _*_, _-_, _≤_, _<_}
-use mathlib.Core.Path.{_≡_, refl, sym, ap, ap₂, _∙_}
-use mathlib.Core.Bool.{Bool, true, false, not}
-use mathlib.Core.List.{List, [], _∷_, _++_}
-use native.Mathlib.Nat.{zero-mul, mul-le-mul-right}
+use Prim.Native.Nat.{ℕ, _+_, _*_, _-_, _≤_}
+use mathlib.Core.Path.{_≡_, refl, sym, ap, _∙_}
+use mathlib.Core.List.{List, _++_}
+use native.Mathlib.Nat.{zero-mul}
 use native.Mathlib.Omega.{arith}
 use borrow.Author.Needs.{needs}
-use lib.ListN.{length, getD, take, drop, length-map}
-use Rattle.lists.specs.Lists.{tabulate, join, piece}
+use lib.ListN.{length, getD, drop, length-map}
+use Rattle.lists.specs.Lists.{join, piece}
 use Rattle.lists.proofs.Pieces.{part-piece, length-piece}
 use Rattle.sizes.specs.Sizing.{α}
 use Rattle.sizes.proofs.Legal.{legal-facts, row-fits}

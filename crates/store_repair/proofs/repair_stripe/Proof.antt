@@ -1,23 +1,18 @@
 -- `store_repair::repair_stripe` meets its contract: the callees' contracts, put together.
 -- Assumes nothing.
-use Prim.Native.Nat.{ℕ, suc, _+_, _*_, _-_, _≤_, _<_}
-use mathlib.Core.Path.{_≡_, refl, sym, ap, ap₂, _∙_}
-use mathlib.Core.Bool.{Bool, true, false, not}
-use mathlib.Core.List.{List, [], _∷_, _++_}
-use native.Mathlib.Nat.{sub-zero, zero-mul, mul-le-mul-right}
+use Prim.Native.Nat.{_+_, _*_, _-_, _≤_}
+use mathlib.Core.Path.{ap, _∙_}
+use native.Mathlib.Nat.{sub-zero}
 use native.Mathlib.Omega.{arith}
 use borrow.Author.Needs.{needs}
-use lib.ListN.{length, getD, take, drop, replicate, length-append}
+use lib.ListN.{length, getD, drop, replicate, length-append}
 use lib.Seq.{length-take-le}
 use Rattle.lists.specs.Lists.{piece}
 use Rattle.sizes.specs.Sizing.{α}
 use Rattle.sizes.proofs.Legal.{legal-facts}
 use Rattle.repair_hear.specs.Turns.{polysOf}
 use Rattle.repair_hear.proofs.Heard.{few-runs}
-use Rattle.repair_finish.proofs.Made.{front-is}
-use Rattle.store_repair.specs.Rebuilt.{allFirsts, allSeconds}
 use Rattle.store_repair.proofs.Rebuilt.{puts-rebuilt, length-firsts, length-seconds, front-length, front-same, copy-room, copied-is, length-polys}
-use borrow.Author.Needs.{needs}
 use Rattle.store_repair.proofs.repair_stripe.Statement.{statement}
 use Rattle.store_repair.proofs.repair_stripe.Tie as tie
 
