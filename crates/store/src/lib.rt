@@ -4,7 +4,7 @@ ghost use mathlib.Core.Path.{_≡_};
 ghost use mathlib.Core.List.{List, []};
 ghost use Prim.Native.Nat.{ℕ};
 ghost use Rattle.mbcr.specs.Share.{standard};
-ghost use Rattle.store_statements.specs.Calls.{setUpCall, writeCall, loseCall};
+ghost use Rattle.store_statements.specs.Calls.{setUpCall, writeCall, loseCall, readCall};
 ghost use Rattle.store.specs.Handing.{recordIn, outcome};
 use sizes::Answer;
 use sizes::Check;
@@ -124,6 +124,110 @@ impl Store {
         next.marks[board] = false;
         Handed {
             store: next,
+            answer: Answer::Done(0),
+        }
+    }
+    // Reads the file from k boards: it goes to the beginning of the output, the rest of which stays.
+    pub fn read(self, area: &[u8], boards: &[usize], out: &mut [u8]) -> Handed
+        ensures { λ r. ⌜ outcome r (now (area .entry)) (now (out .exit)) ≡ readCall standard (recordIn self) (now (area .entry)) (now (boards .entry)) (now (out .entry)) ⌝ }
+    {
+        let sizes = self.sizes;
+        let capacity = self.capacity;
+        let length = self.length;
+        let marks = self.marks;
+        if let Check::Refuse(x) = store_checks::check_record(
+            sizes,
+            capacity,
+            self.written,
+            length,
+            &marks,
+        ) {
+            return Handed {
+                store: self,
+                answer: Answer::Refused(x),
+            };
+        }
+        let part_len = capacity * sizes.share_len();
+        if let Check::Refuse(x) = checks::check_lent(area.len(), sizes.n * part_len) {
+            return Handed {
+                store: self,
+                answer: Answer::Refused(x),
+            };
+        }
+        if let Check::Refuse(x) = store_checks::check_written(self.written) {
+            return Handed {
+                store: self,
+                answer: Answer::Refused(x),
+            };
+        }
+        if let Check::Refuse(x) = checks::check_count(boards.len(), sizes.k) {
+            return Handed {
+                store: self,
+                answer: Answer::Refused(x),
+            };
+        }
+        if let Check::Refuse(x) = checks::check_nodes(sizes, boards) {
+            return Handed {
+                store: self,
+                answer: Answer::Refused(x),
+            };
+        }
+        if let Check::Refuse(x) = checks::check_repeat(boards) {
+            return Handed {
+                store: self,
+                answer: Answer::Refused(x),
+            };
+        }
+        if let Check::Refuse(x) = store_checks::check_service(&marks, boards) {
+            return Handed {
+                store: self,
+                answer: Answer::Refused(x),
+            };
+        }
+        if let Check::Refuse(x) = checks::check_room(out, length) {
+            return Handed {
+                store: self,
+                answer: Answer::Refused(x),
+            };
+        }
+        let points = checks::standard_points();
+        let mut inverses = [0u8; 256];
+        interpolation::fill_inverses(&mut inverses);
+        let count = checks::stripe_count(sizes, length);
+        if let Check::Refuse(x) = store_decode::check_agrees(
+            sizes,
+            capacity,
+            &points,
+            &inverses,
+            length,
+            count,
+            boards,
+            area,
+        ) {
+            return Handed {
+                store: self,
+                answer: Answer::Refused(x),
+            };
+        }
+        if let Check::Refuse(x) = checks::check_points(&points, sizes.n) {
+            return Handed {
+                store: self,
+                answer: Answer::Refused(x),
+            };
+        }
+        store_decode::file(
+            sizes,
+            capacity,
+            &points,
+            &inverses,
+            length,
+            count,
+            boards,
+            area,
+            out,
+        );
+        Handed {
+            store: self,
             answer: Answer::Done(0),
         }
     }
