@@ -4,7 +4,7 @@ ghost use mathlib.Core.Path.{_≡_};
 ghost use mathlib.Core.List.{List, []};
 ghost use Prim.Native.Nat.{ℕ};
 ghost use Rattle.mbcr.specs.Share.{standard};
-ghost use Rattle.store_statements.specs.Calls.{setUpCall, writeCall, loseCall, readCall};
+ghost use Rattle.store_statements.specs.Calls.{setUpCall, writeCall, loseCall, repairCall, readCall};
 ghost use Rattle.store.specs.Handing.{recordIn, outcome};
 use sizes::Answer;
 use sizes::Check;
@@ -127,6 +127,102 @@ impl Store {
             answer: Answer::Done(0),
         }
     }
+    // Rebuilds the fresh boards together, each from its own run of d helpers, and puts them in service. Answers the bytes that are moved.
+    pub fn repair(self, area: &mut [u8], fresh: &[usize], helpers: &[usize]) -> Handed
+        ensures { λ r. ⌜ outcome r (now (area .exit)) [] ≡ repairCall standard (recordIn self) (now (area .entry)) (now (fresh .entry)) (now (helpers .entry)) ⌝ }
+    {
+        let sizes = self.sizes;
+        let capacity = self.capacity;
+        let written = self.written;
+        let length = self.length;
+        let mut marks = self.marks;
+        if let Check::Refuse(x) = store_checks::check_record(
+            sizes,
+            capacity,
+            written,
+            length,
+            &marks,
+        ) {
+            return Handed {
+                store: self,
+                answer: Answer::Refused(x),
+            };
+        }
+        let part_len = capacity * sizes.share_len();
+        if let Check::Refuse(x) = checks::check_lent(area.len(), sizes.n * part_len) {
+            return Handed {
+                store: self,
+                answer: Answer::Refused(x),
+            };
+        }
+        if let Check::Refuse(x) = store_checks::check_written(written) {
+            return Handed {
+                store: self,
+                answer: Answer::Refused(x),
+            };
+        }
+        if let Check::Refuse(x) = checks::check_counts(
+            fresh.len(),
+            sizes.r,
+            helpers.len(),
+            sizes.r * sizes.d,
+        ) {
+            return Handed {
+                store: self,
+                answer: Answer::Refused(x),
+            };
+        }
+        if let Check::Refuse(x) = repair_checks::check_two_lists(sizes, fresh, helpers) {
+            return Handed {
+                store: self,
+                answer: Answer::Refused(x),
+            };
+        }
+        if let Check::Refuse(x) = repair_checks::check_fresh(sizes.d, fresh, helpers) {
+            return Handed {
+                store: self,
+                answer: Answer::Refused(x),
+            };
+        }
+        if let Check::Refuse(x) = store_checks::check_service(&marks, helpers) {
+            return Handed {
+                store: self,
+                answer: Answer::Refused(x),
+            };
+        }
+        let points = checks::standard_points();
+        if let Check::Refuse(x) = checks::check_points(&points, sizes.n) {
+            return Handed {
+                store: self,
+                answer: Answer::Refused(x),
+            };
+        }
+        let mut inverses = [0u8; 256];
+        interpolation::fill_inverses(&mut inverses);
+        let stripes = checks::stripe_count(sizes, length);
+        store_repair::repair_shares(
+            sizes,
+            capacity,
+            &points,
+            &inverses,
+            stripes,
+            fresh,
+            helpers,
+            area,
+        );
+        repair_checks::marks_on(fresh, &mut marks);
+        Handed {
+            store: Store {
+                sizes: sizes,
+                capacity: capacity,
+                written: written,
+                length: length,
+                marks: marks,
+            },
+            answer: Answer::Done(stripes * sizes.r * (2 * sizes.d + sizes.r - 1)),
+        }
+    }
+
     // Reads the file from k boards: it goes to the beginning of the output, the rest of which stays.
     pub fn read(self, area: &[u8], boards: &[usize], out: &mut [u8]) -> Handed
         ensures { λ r. ⌜ outcome r (now (area .entry)) (now (out .exit)) ≡ readCall standard (recordIn self) (now (area .entry)) (now (boards .entry)) (now (out .entry)) ⌝ }
