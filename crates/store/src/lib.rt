@@ -102,31 +102,32 @@ impl Store {
     {
         let sizes = self.sizes;
         let marks = self.marks;
+        let mut next = self;
         if let Check::Refuse(x) = store_checks::check_record(
             sizes,
-            self.capacity,
-            self.written,
-            self.length,
+            next.capacity,
+            next.written,
+            next.length,
             &marks,
         ) {
             return Handed {
-                store: self,
+                store: next,
                 answer: Answer::Refused(x),
             };
         }
         if let Check::Refuse(x) = checks::check_node(sizes, board) {
             return Handed {
-                store: self,
+                store: next,
                 answer: Answer::Refused(x),
             };
         }
-        let mut next = self;
         next.marks[board] = false;
         Handed {
             store: next,
             answer: Answer::Done(0),
         }
     }
+
     // Rebuilds the fresh boards together, each from its own run of d helpers, and puts them in service. Answers the bytes that are moved.
     pub fn repair(self, area: &mut [u8], fresh: &[usize], helpers: &[usize]) -> Handed
         ensures { λ r. ⌜ outcome r (now (area .exit)) [] ≡ repairCall standard (recordIn self) (now (area .entry)) (now (fresh .entry)) (now (helpers .entry)) ⌝ }

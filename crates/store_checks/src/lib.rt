@@ -94,11 +94,10 @@ pub fn check_fits(sizes: Sizes, capacity: usize, got: usize) -> Check
 pub fn check_written(written: bool) -> Check
     ensures { λ r. ⌜ r ≡ asked (Empty when not written) ⌝ }
 {
-    if written {
-        Check::Pass
-    } else {
-        Check::Refuse(Refusal::Empty)
+    if !written {
+        return Check::Refuse(Refusal::Empty);
     }
+    Check::Pass
 }
 
 // The mark of a board; off where it has none.
