@@ -1,0 +1,41 @@
+-- The archive's record in eight words: n, k, d, r, capacity, written, length, marks.
+-- Assumes nothing.
+use mathlib.Core.Bool.{Bool, true, false}
+use mathlib.Core.List.{List, [], _∷_}
+use Prim.Native.Nat.{ℕ, zero, suc, _+_, _*_, _/_, _%_}
+use lib.Dec.{ltb, eqb}
+use lib.ListN.{length, getD}
+use Rattle.lists.specs.Tests.{pick, alls}
+use Rattle.sizes.specs.declared.Sizes.{Sizes}
+use Rattle.sizes.specs.Sizing.{maxBoards}
+use Rattle.store_statements.specs.Record.{Record}
+
+-- the lowest m bits of a number, the lowest first
+abbrev pub bits : ℕ → ℕ → List Bool
+bits zero w = []
+bits (suc m) w = eqb (w % 2) 1 ∷ bits m (w / 2)
+
+-- the number that has these bits
+abbrev pub number : List Bool → ℕ
+number [] = 0
+number (b ∷ marks) = pick b 1 0 + 2 * number marks
+
+-- eight words, of which written is 0 or 1 and marks is below 2^32
+unfoldable pub isRecord : List ℕ → Bool
+isRecord ws = alls (eqb (length ws) 8 ∷ ltb (getD ws 5 0) 2 ∷ ltb (getD ws 7 0) 4294967296 ∷ [])
+
+-- the record that they tell: bit i of the marks is board i's
+abbrev pub recordFrom : List ℕ → Record
+recordFrom ws =
+    record {
+      sizes = record { n = getD ws 0 0; k = getD ws 1 0; d = getD ws 2 0; r = getD ws 3 0 };
+      capacity = getD ws 4 0;
+      written = eqb (getD ws 5 0) 1;
+      length = getD ws 6 0;
+      marks = bits maxBoards (getD ws 7 0);
+    }
+
+-- the words that tell a record
+abbrev pub wordsOf : Record → List ℕ
+wordsOf s =
+    s .sizes .n ∷ s .sizes .k ∷ s .sizes .d ∷ s .sizes .r ∷ s .capacity ∷ pick (s .written) 1 0 ∷ s .length ∷ number (s .marks) ∷ []

@@ -1,0 +1,89 @@
+//! The archive's record in eight words.
+ghost use mathlib.Core.Path.{_≡_};
+ghost use mathlib.Core.Bool.{true};
+ghost use Prim.Native.Nat.{_≤_};
+ghost use lib.ListN.{length};
+ghost use Rattle.store.specs.Handing.{recordIn};
+ghost use Rattle.words.specs.Words.{bits, number, isRecord, recordFrom, wordsOf};
+use sizes::Sizes;
+use store::Store;
+
+// Whether the words are a record's.
+pub fn is_record(words: &[u64]) -> bool
+    ensures { λ b. ⌜ b ≡ isRecord (now (words .entry)) ⌝ }
+{
+    if words.len() != 8 {
+        return false;
+    }
+    if 1 < words[5] {
+        return false;
+    }
+    words[7] < 4294967296
+}
+
+// The marks by the bits of a word, the lowest first.
+fn fill_marks(word: u64, marks: &mut [bool])
+    ensures { λ _. ⌜ now (marks .exit) ≡ bits (length (now (marks .entry))) word ⌝ }
+{
+    let mut rest = word;
+    let mut i: usize = 0;
+    while i < marks.len() {
+        marks[i] = rest % 2 == 1;
+        rest = rest / 2;
+        i += 1;
+    }
+}
+
+// The word that has the marks as its bits.
+fn marks_word(marks: &[bool]) -> u64
+    requires { ⌜ length (now marks) ≤ 32 ⌝ }
+    ensures { λ w. ⌜ w ≡ number (now (marks .entry)) ⌝ }
+{
+    let mut word: u64 = 0;
+    let mut i = marks.len();
+    while 0 < i {
+        i -= 1;
+        word = word * 2;
+        if marks[i] {
+            word += 1;
+        }
+    }
+    word
+}
+
+// The store that a record's words tell.
+pub fn store_of(words: &[u64]) -> Store
+    requires { ⌜ isRecord (now words) ≡ true ⌝ }
+    ensures { λ s. ⌜ recordIn s ≡ recordFrom (now (words .entry)) ⌝ }
+{
+    let mut marks = [false; 32];
+    fill_marks(words[7], &mut marks);
+    Store {
+        sizes: Sizes {
+            n: words[0] as usize,
+            k: words[1] as usize,
+            d: words[2] as usize,
+            r: words[3] as usize,
+        },
+        capacity: words[4] as usize,
+        written: words[5] == 1,
+        length: words[6] as usize,
+        marks: marks,
+    }
+}
+
+// The words that tell a store's record.
+pub fn put_words(store: Store, words: &mut [u64])
+    requires { ⌜ length (now words) ≡ 8 ⌝ }
+    ensures { λ _. ⌜ now (words .exit) ≡ wordsOf (recordIn store) ⌝ }
+{
+    let marks = store.marks;
+    words[0] = store.sizes.n as u64;
+    words[1] = store.sizes.k as u64;
+    words[2] = store.sizes.d as u64;
+    words[3] = store.sizes.r as u64;
+    words[4] = store.capacity as u64;
+    words[5] = store.written as u64;
+    words[6] = store.length as u64;
+    words[7] = marks_word(&marks);
+}
