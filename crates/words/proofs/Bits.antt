@@ -1,1 +1,111 @@
--- x
+-- Bits of a number and numbers of bits: the turns of the loops, and that one is the other's way back.
+-- Assumes nothing.
+use Prim.Native.Nat.{ℕ, zero, suc, _+_, _*_, _-_, _/_, _%_, _≤_, _<_}
+use mathlib.Core.Path.{_≡_, refl, sym, ap, ap₂, _∙_}
+use mathlib.Core.Bool.{Bool, true, false}
+use mathlib.Core.List.{List, [], _∷_, _++_}
+use native.Mathlib.Numerals.{add-one}
+use native.Mathlib.Omega.{arith}
+use lib.Dec.{eqb, ltb}
+use lib.ListN.{length, getD, drop, set, length-drop}
+use lib.Seq.{drop-cons}
+use borrow.Author.Tests.{eq-eqb, ne-eqb, eqb-true, lt-ltb, le-ltb, ltb-true}
+use Rattle.lists.specs.Tests.{pick}
+use Rattle.lists.proofs.Tests.{alls-hold}
+use Rattle.words.specs.Words.{bits, number, isRecord}
+
+-- ---- what makes eight words a record
+
+pub not-eight : (ws : List ℕ) → (length ws ≡ 8 → ⊥) → false ≡ isRecord ws
+unfolding isRecord
+not-eight ws h = rw (ne-eqb (length ws) 8 h) refl
+
+pub not-written : (ws : List ℕ) → length ws ≡ 8 → 1 < getD ws 5 0 → false ≡ isRecord ws
+unfolding isRecord
+not-written ws e h = rw (eq-eqb (length ws) 8 e, le-ltb (getD ws 5 0) 2 (omega arith)) refl
+
+last-test : (b : Bool) → b ≡ pick b true false
+last-test true = refl
+last-test false = refl
+
+pub by-marks : (ws : List ℕ) → length ws ≡ 8 → getD ws 5 0 ≤ 1 → ltb (getD ws 7 0) 4294967296 ≡ isRecord ws
+unfolding isRecord
+by-marks ws e h = rw (eq-eqb (length ws) 8 e, lt-ltb (getD ws 5 0) 2 (omega arith)) (last-test (ltb (getD ws 7 0) 4294967296))
+
+pub record Words (ws : List ℕ) : Type 0 where
+  pub eight : length ws ≡ 8
+  pub flag : getD ws 5 0 < 2
+  pub marks-few : getD ws 7 0 < 4294967296
+
+pub words-facts : (ws : List ℕ) → isRecord ws ≡ true → Words ws
+unfolding isRecord
+words-facts ws h =
+    let e = alls-hold (eqb (length ws) 8 ∷ ltb (getD ws 5 0) 2 ∷ ltb (getD ws 7 0) 4294967296 ∷ []) h in
+    record { eight = eqb-true _ _ (e .0); flag = ltb-true _ _ (e .1 .0); marks-few = ltb-true _ _ (e .1 .1 .0) }
+
+-- ---- the loop that fills in marks
+
+-- the number that is left after i bits
+abbrev pub rest : ℕ → ℕ → ℕ
+rest zero w = w
+rest (suc i) w = rest i (w / 2)
+
+rest-next : (i w : ℕ) → rest i w / 2 ≡ rest (suc i) w
+rest-next zero w = refl
+rest-next (suc i) w = rest-next i (w / 2)
+
+bits-next : (i w : ℕ) → bits i w ++ (eqb (rest i w % 2) 1 ∷ []) ≡ bits (suc i) w
+bits-next zero w = refl
+bits-next (suc i) w = ap (λ (l : List Bool). eqb (w % 2) 1 ∷ l) (bits-next i (w / 2))
+
+set-next : (i w : ℕ) (l : List Bool) → i < length l → set (bits i w ++ drop i l) i (eqb (rest i w % 2) 1) ≡ bits (suc i) w ++ drop (suc i) l
+set-next zero w [] h = absurd (omega arith)
+set-next zero w (x ∷ l) h = refl
+set-next (suc i) w [] h = absurd (omega arith)
+set-next (suc i) w (x ∷ l) h = ap (λ (r : List Bool). eqb (w % 2) 1 ∷ r) (set-next i (w / 2) l (omega arith))
+
+pub fill-next : (i w : ℕ) (l₀ l : List Bool) (v : Bool) → i < length l₀ → v ≡ eqb (rest i w % 2) 1 → l ≡ bits i w ++ drop i l₀ → set l i v ≡ bits (i + 1) w ++ drop (i + 1) l₀
+fill-next i w l₀ l v h ev el = ap₂ {C = List Bool} (λ (x : List Bool) (b : Bool). set x i b) el ev ∙ set-next i w l₀ h ∙ ap (λ (m : ℕ). bits m w ++ drop m l₀) (sym (add-one i))
+
+pub half-next : (i w r : ℕ) → r ≡ rest i w → r / 2 ≡ rest (i + 1) w
+half-next i w r e = ap (λ (m : ℕ). m / 2) e ∙ rest-next i w ∙ ap (λ (m : ℕ). rest m w) (sym (add-one i))
+
+-- ---- the loop that makes a number
+
+pub number-next : (marks : List Bool) (i : ℕ) → i < length marks → number (drop i marks) ≡ pick (getD marks i false) 1 0 + 2 * number (drop (i + 1) marks)
+number-next marks i h = ap number (drop-cons marks i false h) ∙ ap (λ (m : ℕ). pick (getD marks i false) 1 0 + 2 * number (drop m marks)) (sym (add-one i))
+
+abbrev power : ℕ → ℕ
+power zero = 1
+power (suc m) = 2 * power m
+
+bit-few : (b : Bool) → pick b 1 0 ≤ 1
+bit-few true = omega arith
+bit-few false = omega arith
+
+number-under : (m : ℕ) (l : List Bool) → length l ≤ m → number l < power m
+number-under zero [] h = omega arith
+number-under zero (b ∷ l) h = absurd (omega arith)
+number-under (suc m) [] h = let p = number-under m [] (omega arith) in omega (arith, p)
+number-under (suc m) (b ∷ l) h = let p = number-under m l (omega arith) in omega (arith, p, bit-few b)
+
+pub number-few : (l : List Bool) → length l ≤ 32 → number l < 4294967296
+number-few l h = number-under 32 l h
+
+pub rest-few : (marks : List Bool) (i : ℕ) → length marks ≤ 32 → number (drop i marks) < 4294967296
+rest-few marks i h = number-few (drop i marks) (omega (arith, h, length-drop i marks))
+
+-- a turn of that loop
+pub word-on : (marks : List Bool) (i w : ℕ) → 0 < i → i ≤ length marks → getD marks (i - 1) false ≡ true → w ≡ number (drop i marks) → w * 2 + 1 ≡ number (drop (i - 1) marks)
+word-on marks i w h k e ew =
+    let p : i - 1 + 1 ≡ i = omega arith in
+    let n = number-next marks (i - 1) (omega arith) in
+    let q : number (drop (i - 1) marks) ≡ 1 + 2 * number (drop i marks) = n ∙ ap₂ (λ (b : Bool) (m : ℕ). pick b 1 0 + 2 * number (drop m marks)) e p in
+    omega (arith, q, ew)
+
+pub word-off : (marks : List Bool) (i w : ℕ) → 0 < i → i ≤ length marks → getD marks (i - 1) false ≡ false → w ≡ number (drop i marks) → w * 2 ≡ number (drop (i - 1) marks)
+word-off marks i w h k e ew =
+    let p : i - 1 + 1 ≡ i = omega arith in
+    let n = number-next marks (i - 1) (omega arith) in
+    let q : number (drop (i - 1) marks) ≡ 0 + 2 * number (drop i marks) = n ∙ ap₂ (λ (b : Bool) (m : ℕ). pick b 1 0 + 2 * number (drop m marks)) e p in
+    omega (arith, q, ew)
