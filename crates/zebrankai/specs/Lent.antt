@@ -1,0 +1,50 @@
+-- The archive's calls of the store: what each answers, and words, area and output after it. The record stands in eight words.
+-- Assumes nothing.
+use mathlib.Core.List.{List, []}
+use Prim.Native.Nat.{ℕ}
+use lib.Dec.{eqb}
+use lib.ListN.{length}
+use Rattle.lists.specs.Tests.{pick}
+use Rattle.sizes.specs.declared.Sizes.{Sizes}
+use Rattle.sizes.specs.declared.Refusal.the-variants.{Size}
+use Rattle.sizes.specs.declared.Answer.the-variants.{Refused}
+use Rattle.sizes.specs.Refusals.{said}
+use Rattle.mbcr.specs.Share.{standard}
+use Rattle.store_statements.specs.Record.{newRecord}
+use Rattle.store_statements.specs.Calls.{StoreOutcome, setUpCall, writeCall, loseCall, repairCall, readCall}
+use Rattle.answer_word.specs.Answers.{wordOf}
+use Rattle.words.specs.Words.{isRecord, recordFrom, wordsOf}
+
+pub record Lent : Type 0 where
+  pub answer : ℕ
+  pub words : List ℕ
+  pub area : List ℕ
+  pub output : List ℕ
+
+-- "Words that are no record .. are SIZE", and nothing changes
+abbrev pub noRecord : List ℕ → List ℕ → List ℕ → Lent
+noRecord ws area output = record { answer = wordOf (said (Refused Size)); words = ws; area = area; output = output }
+
+-- what the store's call gives, with its record in words
+abbrev pub inWords : StoreOutcome → Lent
+inWords o = record { answer = wordOf (o .answer); words = wordsOf (o .handed); area = o .area; output = o .output }
+
+-- "set up takes any eight words": they are not examined, and stay where it refuses
+unfoldable pub zbkSetUp : List ℕ → Sizes → ℕ → Lent
+zbkSetUp ws z c =
+    let o = setUpCall (newRecord z c) z c in
+    pick (eqb (length ws) 8)
+    (record { answer = wordOf (o .answer); words = pick (eqb (wordOf (o .answer)) 0) (wordsOf (o .handed)) ws; area = []; output = [] })
+    (noRecord ws [] [])
+
+unfoldable pub zbkWrite : List ℕ → List ℕ → List ℕ → Lent
+zbkWrite ws area file = pick (isRecord ws) (inWords (writeCall standard (recordFrom ws) area file)) (noRecord ws area [])
+
+unfoldable pub zbkLose : List ℕ → ℕ → Lent
+zbkLose ws board = pick (isRecord ws) (inWords (loseCall (recordFrom ws) [] board)) (noRecord ws [] [])
+
+unfoldable pub zbkRepair : List ℕ → List ℕ → List ℕ → List ℕ → Lent
+zbkRepair ws area fresh helpers = pick (isRecord ws) (inWords (repairCall standard (recordFrom ws) area fresh helpers)) (noRecord ws area [])
+
+unfoldable pub zbkRead : List ℕ → List ℕ → List ℕ → List ℕ → Lent
+zbkRead ws area boards output = pick (isRecord ws) (inWords (readCall standard (recordFrom ws) area boards output)) (noRecord ws area output)
