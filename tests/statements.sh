@@ -36,7 +36,8 @@ claims=$(ls crates/*/specs/Laws.antt crates/*/specs/Demand?.antt crates/*/specs/
 definitions=$(ls crates/*/specs/*.antt | grep -v -e '/Lib.antt$' -e '/Multiples.antt$')
 # what only inner functions cite: no public call's contract rests on it
 inner='crates/own/specs/Steps.antt crates/grid/specs/Layout.antt crates/decode/specs/Agree.antt crates/columns/specs/Steps.antt
-crates/text_lines/specs/Wrote.antt crates/checks/specs/Asked.antt crates/printer/specs/Machine.antt'
+crates/text_lines/specs/Wrote.antt crates/checks/specs/Asked.antt crates/printer/specs/Machine.antt crates/store_checks/specs/Parts.antt
+crates/repair_hear/specs/Turns.antt crates/store_repair/specs/Rebuilt.antt'
 for f in $tables $claims $inner; do definitions=$(printf '%s\n' $definitions | grep -vxF "$f"); done
 for f in $inner; do
     crate=${f#crates/} name=$(basename "$f" .antt)

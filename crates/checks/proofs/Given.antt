@@ -39,12 +39,12 @@ Refuses [] i x = ⊥
 Refuses (l ∷ lines) zero x = asked l ≡ Refuse x
 Refuses (l ∷ lines) (suc i) x = (asked l ≡ Pass) × Refuses lines i x
 
-chain-refuse : (lines : List Line) (i : ℕ) (x : Refusal) → Refuses lines i x → chain lines ≡ Refuse x
+pub chain-refuse : (lines : List Line) (i : ℕ) (x : Refusal) → Refuses lines i x → chain lines ≡ Refuse x
 chain-refuse [] i x h = absurd h
 chain-refuse (l ∷ lines) zero x h = let q = refused l x h in rw (q .0) (ap (λ (r : Refusal). Refuse r) (q .1))
 chain-refuse (l ∷ lines) (suc i) x h = rw (passed l (h .0)) (chain-refuse lines i x (h .1))
 
-chain-pass : (lines : List Line) → Passed lines → chain lines ≡ Pass
+pub chain-pass : (lines : List Line) → Passed lines → chain lines ≡ Pass
 chain-pass [] p = refl
 chain-pass (m ∷ lines) p = rw (passed m (p .0)) (chain-pass lines (p .1))
 

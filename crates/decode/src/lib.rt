@@ -15,7 +15,7 @@ ghost use Rattle.mbcr.specs.Share.{kept};
 ghost use Rattle.decode.specs.Agree.{stripeAgrees, stripeRead};
 
 // The first bytes of a stripe, as many as out is long.
-fn stripe_part(
+pub fn stripe_part(
     sizes: Sizes,
     points: &[u8],
     inverses: &[u8],
@@ -44,7 +44,7 @@ fn stripe_part(
 }
 
 // The lesser of two numbers.
-fn least(a: usize, b: usize) -> usize
+pub fn least(a: usize, b: usize) -> usize
     ensures { λ r. ⌜ r ≡ a - (a - b) ⌝ }
 {
     if a < b { a } else { b }
@@ -139,7 +139,7 @@ fn stripe_agrees(
 }
 
 // Whether stripe s of each share is what its board keeps of the stripe that they decode to, cut to a file of len bytes.
-fn stripe_read(
+pub fn stripe_read(
     sizes: Sizes,
     points: &[u8],
     inverses: &[u8],

@@ -1,0 +1,1 @@
+// A repair by places is the repair by packets: no code, one theorem.

@@ -1,0 +1,4 @@
+pub mod Settled
+pub mod ReadCall
+pub mod RepairCall
+pub mod Demand3

@@ -1,0 +1,51 @@
+-- Demand 3 of the code: what holds of any list of calls of the methods. A run is what the calls gave back, each by its method's contract.
+-- proofs/Demand3.antt has `code-demand-3 : CodeDemand3`.
+-- Assumes nothing.
+use mathlib.Core.Path.{_≡_}
+use mathlib.Core.List.{List, [], _∷_, map}
+use Prim.Native.Nat.{ℕ}
+use lib.ListN.{length}
+use Rattle.sizes.specs.declared.Sizes.{Sizes}
+use Rattle.sizes.specs.Refusals.{said}
+use Rattle.mbcr.specs.Share.{standard}
+use Rattle.store_statements.specs.Calls.{StoreOutcome, setUpCall, writeCall, loseCall, repairCall, readCall}
+use Rattle.store_statements.specs.Ledger.{Call, write, lose, repair, read, Step, State, Reply, replyOf, Allowed, openBook, bookReplies, bookFinal}
+use Rattle.store_statements.specs.Demand3.{Kept, begun, calls}
+use Rattle.store.specs.declared.Store.{Store}
+use Rattle.store.specs.declared.Handed.{Handed}
+use Rattle.store.specs.Handing.{recordIn, outcome}
+
+-- what one call gave back: what it hands on, and area and output as it left them
+pub record Given : Type 0 where
+  pub handed : Handed
+  pub area : List ℕ
+  pub output : List ℕ
+
+abbrev pub gave : Given → StoreOutcome
+gave h = outcome (h .handed) (h .area) (h .output)
+
+-- the contract of the call's method, for a call on this store with this area
+abbrev pub Meets : Store → List ℕ → Call → Given → Type 0
+Meets s area (write file) h = gave h ≡ writeCall standard (recordIn s) area file
+Meets s area (lose board) h = gave h ≡ loseCall (recordIn s) area board
+Meets s area (repair fresh helpers) h = gave h ≡ repairCall standard (recordIn s) area fresh helpers
+Meets s area (read boards output) h = gave h ≡ readCall standard (recordIn s) area boards output
+
+-- each call is on the store that the call before it handed on
+abbrev pub Run : Store → List Step → List Given → Type 0
+Run s [] [] = Unit
+Run s [] (h ∷ hs) = ⊥
+Run s (t ∷ ts) [] = ⊥
+Run s (t ∷ ts) (h ∷ hs) = Meets s (t .area) (t .call) h × Run (h .handed .store) ts hs
+
+-- where it ends
+abbrev pub ending : Store → List ℕ → List Given → State
+ending s area [] = record { kept = recordIn s; area = area }
+ending s area (h ∷ hs) = ending (h .handed .store) (h .area) hs
+
+abbrev pub CodeDemand3 : Type 0
+CodeDemand3 =
+    (old : Store) (z : Sizes) (c : ℕ) (new : Handed) → outcome new [] [] ≡ setUpCall (recordIn old) z c → said (new .answer) .refusal ≡ 0
+    → (area : List ℕ) (steps : List Step) (run : List Given) → Allowed standard (begun (recordIn old) z c area) (openBook z c (length area)) steps → Run (new .store) steps run
+    → (map (λ h. replyOf (gave h)) run ≡ bookReplies (openBook z c (length area)) (calls steps))
+    × Kept standard (ending (new .store) area run) (bookFinal (openBook z c (length area)) (calls steps))

@@ -1,0 +1,158 @@
+//! The checks of the store's lines, over the parts of its record. A check answers the refusal where its line holds.
+ghost use mathlib.Core.Path.{_≡_};
+ghost use mathlib.Core.Bool.{true, false, not};
+ghost use Prim.Native.Nat.{_*_, _≤_};
+ghost use lib.Dec.{ltb};
+ghost use lib.ListN.{length, getD, drop};
+ghost use Rattle.lists.specs.Lists.{tabulate};
+ghost use Rattle.lists.specs.Tests.{every};
+ghost use Rattle.sizes.specs.declared.Refusal.the-variants.{Long, Empty, Down};
+ghost use Rattle.sizes.specs.Sizing.{legal, B};
+ghost use Rattle.sizes.specs.Refusals.{_when_};
+ghost use Rattle.store_statements.specs.Record.{allOff, sound};
+ghost use Rattle.store_statements.specs.Calls.{recordLine};
+ghost use Rattle.checks.specs.Asked.{asked};
+ghost use Rattle.store_checks.specs.Parts.{recordOf};
+use sizes::Check;
+use sizes::Refusal;
+use sizes::Sizes;
+
+// Whether some mark at place `from` or after it is on.
+pub fn some_on(marks: &[bool], from: usize) -> bool
+    ensures { λ r. ⌜ not r ≡ allOff (drop from (now (marks .entry))) ⌝ }
+{
+    let mut i = from;
+    while i < marks.len() {
+        if marks[i] {
+            return true;
+        }
+        i += 1;
+    }
+    false
+}
+
+// Whether a record of these parts, with legal sizes, is one that calls return.
+fn sound_in(sizes: Sizes, capacity: usize, written: bool, length: usize, marks: &[bool]) -> bool
+    requires { ⌜ legal sizes ≡ true ⌝ }
+    ensures { λ r. ⌜ r ≡ sound (recordOf sizes capacity written length (now (marks .entry))) ⌝ }
+{
+    if capacity < 1 {
+        return false;
+    }
+    if Sizes::MAX_STRIPES < capacity {
+        return false;
+    }
+    if capacity * sizes.stripe_len() < length {
+        return false;
+    }
+    if some_on(marks, sizes.n) {
+        return false;
+    }
+    if written {
+        return true;
+    }
+    if 0 < length {
+        return false;
+    }
+    if some_on(marks, 0) {
+        return false;
+    }
+    true
+}
+
+// 1 SIZE of a record of these parts.
+pub fn check_record(
+    sizes: Sizes,
+    capacity: usize,
+    written: bool,
+    length: usize,
+    marks: &[bool],
+) -> Check
+    ensures { λ r. ⌜ r ≡ asked (recordLine (recordOf sizes capacity written length (now (marks .entry)))) ⌝ }
+{
+    if sizes.legal() {
+        if sound_in(sizes, capacity, written, length, marks) {
+            return Check::Pass;
+        }
+    }
+    Check::Refuse(Refusal::Size)
+}
+
+// 3 LONG, the store.
+pub fn check_fits(sizes: Sizes, capacity: usize, got: usize) -> Check
+    requires { ⌜ (legal sizes ≡ true) × (capacity ≤ 4096) ⌝ }
+    ensures { λ r. ⌜ r ≡ asked (Long when ltb (capacity * B sizes) got) ⌝ }
+{
+    if capacity * sizes.stripe_len() < got {
+        Check::Refuse(Refusal::Long)
+    } else {
+        Check::Pass
+    }
+}
+
+// 8 EMPTY.
+pub fn check_written(written: bool) -> Check
+    ensures { λ r. ⌜ r ≡ asked (Empty when not written) ⌝ }
+{
+    if !written {
+        return Check::Refuse(Refusal::Empty);
+    }
+    Check::Pass
+}
+
+// The mark of a board; off where it has none.
+fn mark_of(marks: &[bool], board: usize) -> bool
+    ensures { λ r. ⌜ r ≡ getD (now (marks .entry)) board false ⌝ }
+{
+    if board < marks.len() {
+        marks[board]
+    } else {
+        false
+    }
+}
+
+// Whether each board is in service.
+fn all_on(marks: &[bool], boards: &[usize]) -> bool
+    ensures { λ r. ⌜ r ≡ every (λ i. getD (now (marks .entry)) i false) (now (boards .entry)) ⌝ }
+{
+    let mut t: usize = 0;
+    while t < boards.len() {
+        if mark_of(marks, boards[t]) {
+            t += 1;
+        } else {
+            return false;
+        }
+    }
+    true
+}
+
+// 9 DOWN.
+pub fn check_service(marks: &[bool], boards: &[usize]) -> Check
+    ensures { λ r. ⌜ r ≡ asked (Down when not (every (λ i. getD (now (marks .entry)) i false) (now (boards .entry)))) ⌝ }
+{
+    if all_on(marks, boards) {
+        Check::Pass
+    } else {
+        Check::Refuse(Refusal::Down)
+    }
+}
+
+// The marks of the first n boards on, the others off.
+pub fn first_on(n: usize) -> [bool; 32]
+    ensures { λ r. ⌜ r ≡ tabulate 32 (λ i. ltb i n) ⌝ }
+{
+    let mut marks = [false; 32];
+    turn_on(n, &mut marks);
+    marks
+}
+
+// Each mark by its board's number.
+fn turn_on(n: usize, marks: &mut [bool])
+    ensures { λ _. ⌜ now (marks .exit) ≡ tabulate (length (now (marks .entry))) (λ i. ltb i n) ⌝ }
+{
+    let mut i: usize = 0;
+    while i < marks.len() {
+        marks[i] = i < n;
+        i += 1;
+    }
+}
