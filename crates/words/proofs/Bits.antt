@@ -75,11 +75,11 @@ half-next i w r e = ap (λ (m : ℕ). m / 2) e ∙ rest-next i w ∙ ap (λ (m :
 pub number-next : (marks : List Bool) (i : ℕ) → i < length marks → number (drop i marks) ≡ pick (getD marks i false) 1 0 + 2 * number (drop (i + 1) marks)
 number-next marks i h = ap number (drop-cons marks i false h) ∙ ap (λ (m : ℕ). pick (getD marks i false) 1 0 + 2 * number (drop m marks)) (sym (add-one i))
 
-abbrev power : ℕ → ℕ
+abbrev pub power : ℕ → ℕ
 power zero = 1
 power (suc m) = 2 * power m
 
-bit-few : (b : Bool) → pick b 1 0 ≤ 1
+pub bit-few : (b : Bool) → pick b 1 0 ≤ 1
 bit-few true = omega arith
 bit-few false = omega arith
 

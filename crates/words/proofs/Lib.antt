@@ -1,2 +1,3 @@
 pub mod Bits
 pub mod Eight
+pub mod Laws
