@@ -1,1 +1,4 @@
+pub mod Bounds
+pub mod Words
 pub mod Worded
+pub mod Laws

@@ -1,1 +1,3 @@
+pub mod Archive
 pub mod Lent
+pub mod Laws

@@ -1,11 +1,176 @@
-//! The archive for C and Rust: every call of the board level and of the store under a C name, without `requires`. A slice is a pointer and a
-//! length; the record is a lent slice of eight words; the answer is one word, the refusal's number in its low eight bits and the number reported
-//! above them.
+//! The archive for C and Rust: every call of the board level and of the store under a C name, for all input, without `requires`.
+//! Each meets its definition at document 01's points, in the crates `board_statements` and `store_statements`: the answer as one word, and
+//! every word and byte that it was lent. A slice is a pointer and a length. A record is a lent slice of eight words: n, k, d, r, capacity,
+//! written, length, marks. An answer has the refusal's number in its low eight bits, 0 where there is none, and the number reported above them.
 ghost use mathlib.Core.Path.{_≡_};
 ghost use mathlib.Core.List.{[]};
+ghost use Rattle.mbcr.specs.Share.{standard};
+ghost use Rattle.board_statements.specs.Calls.{shareCall, fileCall, helperCall, exchangeCall, finishedCall, textCall};
+ghost use Rattle.answer_word.specs.Answers.{wordOf};
+ghost use Rattle.zebrankai.specs.Archive.{sizesOf};
 ghost use Rattle.zebrankai.specs.Lent.{zbkSetUp, zbkWrite, zbkLose, zbkRepair, zbkRead};
 use sizes::Sizes;
 use store::Store;
+
+// The share of board `node` of a file. Reports the number of bytes written.
+#[no_mangle]
+pub extern "C" fn zbk_share(
+    n: usize,
+    k: usize,
+    d: usize,
+    r: usize,
+    node: usize,
+    file: &[u8],
+    out: &mut [u8],
+) -> u64
+    ensures { λ w. ⌜ (w ≡ wordOf (shareCall (sizesOf n k d r) standard node (now (file .entry)) (now (out .entry)) .answer)) × (now (out .exit) ≡ shareCall (sizesOf n k d r) standard node (now (file .entry)) (now (out .entry)) .output) ⌝ }
+{
+    let sizes = Sizes {
+        n: n,
+        k: k,
+        d: d,
+        r: r,
+    };
+    answer_word::word_of(board_share::share(sizes, node, file, out))
+}
+
+// The file of so many bytes that k shares give, or DISAGREE where no such file has them. Reports the number of bytes written.
+#[no_mangle]
+pub extern "C" fn zbk_file(
+    n: usize,
+    k: usize,
+    d: usize,
+    r: usize,
+    len: usize,
+    boards: &[usize],
+    shares: &[u8],
+    out: &mut [u8],
+) -> u64
+    ensures { λ w. ⌜ (w ≡ wordOf (fileCall (sizesOf n k d r) standard len (now (boards .entry)) (now (shares .entry)) (now (out .entry)) .answer)) × (now (out .exit) ≡ fileCall (sizesOf n k d r) standard len (now (boards .entry)) (now (shares .entry)) (now (out .entry)) .output) ⌝ }
+{
+    let sizes = Sizes {
+        n: n,
+        k: k,
+        d: d,
+        r: r,
+    };
+    answer_word::word_of(board_file::file(sizes, len, boards, shares, out))
+}
+
+// The helper packet that a board makes of its share of a file of so many bytes, for another board. Reports the number of bytes written.
+#[no_mangle]
+pub extern "C" fn zbk_helper_packet(
+    n: usize,
+    k: usize,
+    d: usize,
+    r: usize,
+    len: usize,
+    helper: usize,
+    receiver: usize,
+    share: &[u8],
+    out: &mut [u8],
+) -> u64
+    ensures { λ w. ⌜ (w ≡ wordOf (helperCall (sizesOf n k d r) standard len helper receiver (now (share .entry)) (now (out .entry)) .answer)) × (now (out .exit) ≡ helperCall (sizesOf n k d r) standard len helper receiver (now (share .entry)) (now (out .entry)) .output) ⌝ }
+{
+    let sizes = Sizes {
+        n: n,
+        k: k,
+        d: d,
+        r: r,
+    };
+    answer_word::word_of(board_helper::helper_packet(sizes, len, helper, receiver, share, out))
+}
+
+// The exchange packet that a board being rebuilt makes of its d helper packets, for another. Reports the number of bytes written.
+#[no_mangle]
+pub extern "C" fn zbk_exchange_packet(
+    n: usize,
+    k: usize,
+    d: usize,
+    r: usize,
+    len: usize,
+    board: usize,
+    helpers: &[usize],
+    packets: &[u8],
+    receiver: usize,
+    out: &mut [u8],
+) -> u64
+    ensures { λ w. ⌜ (w ≡ wordOf (exchangeCall (sizesOf n k d r) standard len board (now (helpers .entry)) (now (packets .entry)) receiver (now (out .entry)) .answer)) × (now (out .exit) ≡ exchangeCall (sizesOf n k d r) standard len board (now (helpers .entry)) (now (packets .entry)) receiver (now (out .entry)) .output) ⌝ }
+{
+    let sizes = Sizes {
+        n: n,
+        k: k,
+        d: d,
+        r: r,
+    };
+    answer_word::word_of(board_exchange::exchange_packet(
+        sizes,
+        len,
+        board,
+        helpers,
+        packets,
+        receiver,
+        out,
+    ))
+}
+
+// The share of a board being rebuilt, of its d helper packets and its r - 1 partners' packets. Reports the number of bytes written.
+#[no_mangle]
+pub extern "C" fn zbk_finished_share(
+    n: usize,
+    k: usize,
+    d: usize,
+    r: usize,
+    len: usize,
+    board: usize,
+    helpers: &[usize],
+    packets: &[u8],
+    partners: &[usize],
+    exchanges: &[u8],
+    out: &mut [u8],
+) -> u64
+    ensures { λ w. ⌜ (w ≡ wordOf (finishedCall (sizesOf n k d r) standard len board (now (helpers .entry)) (now (packets .entry)) (now (partners .entry)) (now (exchanges .entry)) (now (out .entry)) .answer)) × (now (out .exit) ≡ finishedCall (sizesOf n k d r) standard len board (now (helpers .entry)) (now (packets .entry)) (now (partners .entry)) (now (exchanges .entry)) (now (out .entry)) .output) ⌝ }
+{
+    let sizes = Sizes {
+        n: n,
+        k: k,
+        d: d,
+        r: r,
+    };
+    answer_word::word_of(board_finish::finished_share(
+        sizes,
+        len,
+        board,
+        helpers,
+        packets,
+        partners,
+        exchanges,
+        out,
+    ))
+}
+
+// A board's share of a file of so many bytes, as text. Reports the number of bytes written.
+#[no_mangle]
+pub extern "C" fn zbk_share_text(
+    n: usize,
+    k: usize,
+    d: usize,
+    r: usize,
+    len: usize,
+    node: usize,
+    share: &[u8],
+    out: &mut [u8],
+) -> u64
+    ensures { λ w. ⌜ (w ≡ wordOf (textCall (sizesOf n k d r) standard len node (now (share .entry)) (now (out .entry)) .answer)) × (now (out .exit) ≡ textCall (sizesOf n k d r) standard len node (now (share .entry)) (now (out .entry)) .output) ⌝ }
+{
+    let sizes = Sizes {
+        n: n,
+        k: k,
+        d: d,
+        r: r,
+    };
+    answer_word::word_of(board_text::text(sizes, len, node, share, out))
+}
 
 // The word of SIZE, for words that are no record.
 const NO_RECORD: u64 = 1;
@@ -20,7 +185,7 @@ pub extern "C" fn zbk_set_up(
     r: usize,
     capacity: usize,
 ) -> u64
-    ensures { λ w. ⌜ record { answer = w; words = now (ws .exit); area = []; output = [] } ≡ zbkSetUp (now (ws .entry)) (record { n = n; k = k; d = d; r = r }) capacity ⌝ }
+    ensures { λ w. ⌜ record { answer = w; words = now (ws .exit); area = []; output = [] } ≡ zbkSetUp (now (ws .entry)) (sizesOf n k d r) capacity ⌝ }
 {
     if ws.len() != 8 {
         return NO_RECORD;

@@ -1,0 +1,137 @@
+-- What the calls report is small: the lines SIZE and LONG leave few stripes, and a stripe is few bytes.
+-- Assumes nothing.
+use Prim.Native.Nat.{ℕ, _*_, _≤_, _<_}
+use mathlib.Core.Path.{_≡_, refl}
+use mathlib.Core.Bool.{Bool, true, false, not}
+use mathlib.Core.Option.{some, none}
+use mathlib.Core.List.{List, [], _∷_}
+use native.Mathlib.Nat.{mul-le-mul, mul-le-mul-left, le-trans}
+use native.Mathlib.Omega.{arith}
+use lib.Dec.{ltb, eqb}
+use lib.ListN.{length, take, length-take}
+use borrow.Author.Tests.{ltb-false, eqb-true}
+use Rattle.lists.specs.Tests.{pick, same}
+use Rattle.lists.proofs.Tests.{not-no, alls-hold}
+use Rattle.lists.proofs.Boards.{below-all}
+use Rattle.sizes.specs.declared.Sizes.{Sizes}
+use Rattle.sizes.specs.declared.Check.{Check}
+use Rattle.sizes.specs.declared.Check.the-variants.{Pass, Refuse}
+use Rattle.sizes.specs.Sizing.{legal, α, B, stripes}
+use Rattle.sizes.specs.Refusals.{Line, first, boardOrder}
+use Rattle.sizes.proofs.Legal.{Legal, legal-facts, stripes-least, B-most, α-most}
+use Rattle.sizes.proofs.Lines.{Clear, first-clear}
+use Rattle.mbcr.specs.Share.{share, shares}
+use Rattle.mbcr.specs.Rebuild.{helperPacket, exchangePacket, finishedShare}
+use Rattle.mbcr.specs.Read.{decodedFile, readFile}
+use Rattle.mbcr.proofs.Repair.{length-share, length-packet, length-exchange, length-finished}
+use Rattle.board_statements.specs.Text.{shareText}
+use Rattle.board_statements.specs.Calls.{settled, fileOf, shareLines, shareCall, fileLines, fileCall, helperLines, helperCall, exchangeLines, exchangeCall, finishedLines, finishedCall, textLines, textCall}
+use Rattle.text_lines.proofs.Decimals.{decimal-most}
+use Rattle.text_lines.proofs.Lines.{length-text}
+
+-- what a word has room for above a refusal's number: 2^56
+abbrev pub Fits : ℕ → Type 0
+Fits v = v < 72057594037927936
+
+-- a refusal reports nothing, so only the bytes of a call that no line stops count
+settled-fits : (lines : List Line) (bytes output : List ℕ) → (Clear lines boardOrder → Fits (length bytes))
+    → Fits (settled (first boardOrder lines) bytes output .answer .value)
+settled-fits lines bytes output h = go (first boardOrder lines) refl
+  where
+    go : (c : Check) → first boardOrder lines ≡ c → Fits (settled c bytes output .answer .value)
+    go Pass e = h (first-clear lines boardOrder e)
+    go (Refuse x) e = omega arith
+
+-- what the lines SIZE and LONG leave
+record Few (z : Sizes) (L : ℕ) : Type 0 where
+  allowed : Legal z
+  most-stripes : stripes z L ≤ 4096
+  most-bytes : L ≤ 4063232
+
+few : (z : Sizes) (L : ℕ) → not (legal z) ≡ false → ltb (4096 * B z) L ≡ false → Few z L
+few z L size long =
+    let f = legal-facts z (not-no (legal z) size) in
+    let h : L ≤ 4096 * B z = ltb-false (4096 * B z) L long in
+    record {
+      allowed = f;
+      most-stripes = stripes-least z f L 4096 h;
+      most-bytes = le-trans h (mul-le-mul-left 4096 (B-most z f));
+    }
+
+-- the bytes of a share are few
+few-in-share : (z : Sizes) (L : ℕ) → Few z L → stripes z L * α z ≤ 253952
+few-in-share z L f = mul-le-mul (f .most-stripes) (α-most z (f .allowed))
+
+-- a file that is found has no more than L bytes
+length-found : (t : Bool) (L : ℕ) (l : List ℕ) → length (fileOf (pick t (some (take L l)) none)) ≤ L
+length-found true L l = simp length-take (omega arith)
+length-found false L l = omega arith
+
+length-file : (z : Sizes) (xs : List ℕ) (L : ℕ) (boards held : List ℕ) → length (fileOf (readFile z xs L boards held)) ≤ L
+unfolding readFile decodedFile
+length-file z xs L boards held = length-found (same (shares z xs (decodedFile z xs L boards held) boards) held) L _
+
+-- the text is few bytes
+text-few : (z : Sizes) (L node : ℕ) (held : List ℕ) → Few z L → node < z .n → length held ≡ stripes z L * α z → Fits (length (shareText z L node held))
+text-few z L node held f h e =
+    let m = few-in-share z L f in
+    let g = f .allowed in
+    omega (
+      arith,
+      length-text z L node held,
+      decimal-most (z .n),
+      decimal-most (z .k),
+      decimal-most (z .d),
+      decimal-most (z .r),
+      decimal-most node,
+      decimal-most L,
+      f .most-bytes,
+      g .some-read,
+      g .read-helpers,
+      g .some-fresh,
+      g .enough,
+      g .few,
+    )
+
+module _ (z : Sizes) (xs : List ℕ) where
+  pub share-fits : (node : ℕ) (file output : List ℕ) → Fits (shareCall z xs node file output .answer .value)
+  unfolding shareLines shareCall
+  share-fits node file output = settled-fits (shareLines z xs node file output) (share z xs file node) output (λ h.
+      let f = few z (length file) (h .0) (h .1 .0) in
+      omega (arith, length-share z xs (f .allowed) file node, few-in-share z (length file) f))
+
+  pub file-fits : (L : ℕ) (boards held output : List ℕ) → Fits (fileCall z xs L boards held output .answer .value)
+  unfolding fileLines fileCall
+  file-fits L boards held output = settled-fits (fileLines z xs L boards held output) (fileOf (readFile z xs L boards held)) output (λ h.
+      let f = few z L (h .0) (h .1 .0) in
+      omega (arith, length-file z xs L boards held, f .most-bytes))
+
+  pub helper-fits : (L helper receiver : ℕ) (held output : List ℕ) → Fits (helperCall z xs L helper receiver held output .answer .value)
+  unfolding helperLines helperCall
+  helper-fits L helper receiver held output = settled-fits (helperLines z xs L helper receiver held output) (helperPacket z xs (stripes z L) helper receiver held) output (λ h.
+      let f = few z L (h .0) (h .1 .0) in
+      omega (arith, length-packet z xs (stripes z L) helper receiver held, f .most-stripes))
+
+  pub exchange-fits : (L board : ℕ) (helpers packets : List ℕ) (receiver : ℕ) (output : List ℕ)
+      → Fits (exchangeCall z xs L board helpers packets receiver output .answer .value)
+  unfolding exchangeLines exchangeCall
+  exchange-fits L board helpers packets receiver output =
+      settled-fits (exchangeLines z xs L board helpers packets receiver output) (exchangePacket z xs (stripes z L) helpers packets receiver) output (λ h.
+      let f = few z L (h .0) (h .1 .0) in
+      omega (arith, length-exchange z xs (stripes z L) helpers packets receiver, f .most-stripes))
+
+  pub finished-fits : (L board : ℕ) (helpers packets partners exchanges output : List ℕ)
+      → Fits (finishedCall z xs L board helpers packets partners exchanges output .answer .value)
+  unfolding finishedLines finishedCall
+  finished-fits L board helpers packets partners exchanges output =
+      settled-fits (finishedLines z xs L board helpers packets partners exchanges output)
+      (finishedShare z xs (stripes z L) board helpers packets partners exchanges) output (λ h.
+      let f = few z L (h .0) (h .1 .0) in
+      omega (arith, length-finished z xs (f .allowed) (stripes z L) board helpers packets partners exchanges, few-in-share z L f))
+
+  pub text-fits : (L node : ℕ) (held output : List ℕ) → Fits (textCall z xs L node held output .answer .value)
+  unfolding textLines textCall
+  text-fits L node held output = settled-fits (textLines z xs L node held output) (shareText z L node held) output (λ h.
+      text-few z L node held (few z L (h .0) (h .1 .0))
+      (below-all (z .n) (node ∷ []) (not-no _ (h .1 .1 .1 .0)) .0)
+      (eqb-true _ _ (alls-hold (eqb (length held) (stripes z L * α z) ∷ []) (not-no _ (h .1 .1 .1 .1 .1 .0)) .0)))

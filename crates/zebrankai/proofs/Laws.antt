@@ -1,0 +1,70 @@
+-- On a refusal no word and no byte changes.
+-- Assumes nothing.
+use Prim.Native.Nat.{ℕ}
+use mathlib.Core.Path.{_≡_, refl, ap}
+use mathlib.Core.Bool.{Bool, true, false}
+use mathlib.Core.List.{List, []}
+use native.Mathlib.Omega.{arith}
+use lib.Dec.{eqb}
+use lib.ListN.{length}
+use borrow.Author.Tests.{eqb-true}
+use Rattle.lists.specs.Tests.{pick}
+use Rattle.sizes.specs.declared.Sizes.{Sizes}
+use Rattle.sizes.specs.declared.Check.{Check}
+use Rattle.sizes.specs.declared.Check.the-variants.{Pass, Refuse}
+use Rattle.sizes.specs.declared.Answer.the-variants.{Refused}
+use Rattle.sizes.specs.Refusals.{said, first, storeOrder}
+use Rattle.mbcr.specs.Share.{standard}
+use Rattle.store_statements.specs.Record.{newRecord}
+use Rattle.store_statements.specs.Calls.{StoreOutcome, refused, settle, writeLines, writeDone, writeCall, loseLines, loseDone, loseCall, repairLines, repairDone, repairCall, readLines, readDone, readCall, setUpCall}
+use Rattle.answer_word.specs.Answers.{wordOf}
+use Rattle.words.specs.Words.{isRecord, recordFrom, wordsOf}
+use Rattle.words.proofs.Laws.{word-laws}
+use Rattle.zebrankai.specs.Lent.{noRecord, inWords, zbkSetUp, zbkWrite, zbkLose, zbkRepair, zbkRead}
+use Rattle.zebrankai.specs.Laws.{Keeps, ArchiveLaws}
+
+-- words that come back
+module _ (ws area output : List ℕ) (done : StoreOutcome) (accepts : done .answer .refusal ≡ 0) where
+  back : isRecord ws ≡ true → (t : Check) → Keeps (inWords (settle t (refused (recordFrom ws) area output) done)) ws area output
+  back is Pass h = absurd (h (done .answer .value) (omega (arith, accepts)))
+  back is (Refuse x) h = ap (λ (l : List ℕ). record { answer = wordOf (said (Refused x)); words = l; area = area; output = output }) (word-laws .words-back ws is)
+
+  either : (t : Check) (b : Bool) → isRecord ws ≡ b
+      → Keeps (pick b (inWords (settle t (refused (recordFrom ws) area output) done)) (noRecord ws area output)) ws area output
+  either t true is = back is t
+  either t false is = λ h. refl
+
+set-up-keeps : (ws : List ℕ) (z : Sizes) (c : ℕ) → Keeps (zbkSetUp ws z c) ws [] []
+unfolding zbkSetUp
+set-up-keeps ws z c = go (eqb (length ws) 8) (wordOf (o .answer)) (eqb (wordOf (o .answer)) 0) refl
+  where
+    o : StoreOutcome
+    o = setUpCall (newRecord z c) z c
+
+    go : (t : Bool) (w : ℕ) (b : Bool) → eqb w 0 ≡ b
+        → Keeps (pick t (record { answer = w; words = pick b (wordsOf (o .handed)) ws; area = []; output = [] }) (noRecord ws [] [])) ws [] []
+    go true w true e h = absurd (h 0 (omega (arith, eqb-true w 0 e)))
+    go true w false e h = refl
+    go false w b e h = refl
+
+write-keeps : (ws area file : List ℕ) → Keeps (zbkWrite ws area file) ws area []
+unfolding zbkWrite writeCall
+write-keeps ws area file =
+    either ws area [] (writeDone standard (recordFrom ws) area file) refl (first storeOrder (writeLines (recordFrom ws) (length area) file)) (isRecord ws) refl
+
+lose-keeps : (ws : List ℕ) (board : ℕ) → Keeps (zbkLose ws board) ws [] []
+unfolding zbkLose loseCall
+lose-keeps ws board = either ws [] [] (loseDone (recordFrom ws) [] board) refl (first storeOrder (loseLines (recordFrom ws) board)) (isRecord ws) refl
+
+repair-keeps : (ws area fresh helpers : List ℕ) → Keeps (zbkRepair ws area fresh helpers) ws area []
+unfolding zbkRepair repairCall
+repair-keeps ws area fresh helpers =
+    either ws area [] (repairDone standard (recordFrom ws) area fresh helpers) refl (first storeOrder (repairLines standard (recordFrom ws) (length area) fresh helpers)) (isRecord ws) refl
+
+read-keeps : (ws area boards output : List ℕ) → Keeps (zbkRead ws area boards output) ws area output
+unfolding zbkRead readCall
+read-keeps ws area boards output =
+    either ws area output (readDone standard (recordFrom ws) area boards output) refl (first storeOrder (readLines standard (recordFrom ws) area boards output)) (isRecord ws) refl
+
+pub archive-laws : ArchiveLaws
+archive-laws = record { set-up-keeps = set-up-keeps; write-keeps = write-keeps; lose-keeps = lose-keeps; repair-keeps = repair-keeps; read-keeps = read-keeps }
