@@ -8,7 +8,10 @@ fn main() {
     let named = env::var_os("ZBK_ARCHIVE").unwrap_or("target/staticlib/libzebrankai.a".into());
     let archive = top.join(named);
     let archive = archive.canonicalize().unwrap_or_else(|error| {
-        panic!("the archive {}: {error}. Build it with 'rt staticlib zebrankai', or set ZBK_ARCHIVE.", archive.display())
+        panic!(
+            "the archive {}: {error}. Build it with 'rt staticlib zebrankai', or set ZBK_ARCHIVE.",
+            archive.display()
+        )
     });
     let folder = archive.parent().expect("a file has a folder");
     let name = archive.file_name().expect("a file has a name");

@@ -257,16 +257,9 @@ fn ask(call: &Call, record: &mut Guarded<u64>, area: &mut Guarded<u8>, out: &mut
             Call::SetUp { sizes: s, capacity } => zbk_set_up(record, words, s.n, s.k, s.d, s.r, *capacity),
             Call::Write { file } => zbk_write(record, words, area, area_len, file.as_ptr(), file.len()),
             Call::Lose { board } => zbk_lose(record, words, *board),
-            Call::Repair { fresh, helpers } => zbk_repair(
-                record,
-                words,
-                area,
-                area_len,
-                fresh.as_ptr(),
-                fresh.len(),
-                helpers.as_ptr(),
-                helpers.len(),
-            ),
+            Call::Repair { fresh, helpers } => {
+                zbk_repair(record, words, area, area_len, fresh.as_ptr(), fresh.len(), helpers.as_ptr(), helpers.len())
+            }
             Call::Read { boards } => {
                 zbk_read(record, words, area, area_len, boards.as_ptr(), boards.len(), out, out_len)
             }

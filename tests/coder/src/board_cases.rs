@@ -19,7 +19,7 @@ struct Scene {
 
 pub fn run(trial: &mut Trial, random: &mut Random) {
     let sizes = draw::sizes(random);
-    let most = random.pick(&[1, 1, 2, 3, 8]);
+    let most = draw::stripes(random, sizes);
     let length = draw::length(random, sizes, most);
     let scene = Scene { sizes, file: random.bytes(length) };
     for _ in 0..CALLS {

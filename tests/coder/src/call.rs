@@ -23,10 +23,32 @@ pub mod refusal {
 /// A call with all its arguments but those that it may change.
 #[derive(Clone, Debug)]
 pub enum Call {
-    Share { sizes: Sizes, node: usize, file: Vec<u8> },
-    File { sizes: Sizes, length: usize, boards: Vec<usize>, shares: Vec<u8> },
-    Helper { sizes: Sizes, length: usize, helper: usize, receiver: usize, share: Vec<u8> },
-    Exchange { sizes: Sizes, length: usize, board: usize, helpers: Vec<usize>, packets: Vec<u8>, receiver: usize },
+    Share {
+        sizes: Sizes,
+        node: usize,
+        file: Vec<u8>,
+    },
+    File {
+        sizes: Sizes,
+        length: usize,
+        boards: Vec<usize>,
+        shares: Vec<u8>,
+    },
+    Helper {
+        sizes: Sizes,
+        length: usize,
+        helper: usize,
+        receiver: usize,
+        share: Vec<u8>,
+    },
+    Exchange {
+        sizes: Sizes,
+        length: usize,
+        board: usize,
+        helpers: Vec<usize>,
+        packets: Vec<u8>,
+        receiver: usize,
+    },
     Finished {
         sizes: Sizes,
         length: usize,
@@ -36,12 +58,29 @@ pub enum Call {
         partners: Vec<usize>,
         partner_packets: Vec<u8>,
     },
-    Text { sizes: Sizes, length: usize, node: usize, share: Vec<u8> },
-    SetUp { sizes: Sizes, capacity: usize },
-    Write { file: Vec<u8> },
-    Lose { board: usize },
-    Repair { fresh: Vec<usize>, helpers: Vec<usize> },
-    Read { boards: Vec<usize> },
+    Text {
+        sizes: Sizes,
+        length: usize,
+        node: usize,
+        share: Vec<u8>,
+    },
+    SetUp {
+        sizes: Sizes,
+        capacity: usize,
+    },
+    Write {
+        file: Vec<u8>,
+    },
+    Lose {
+        board: usize,
+    },
+    Repair {
+        fresh: Vec<usize>,
+        helpers: Vec<usize>,
+    },
+    Read {
+        boards: Vec<usize>,
+    },
 }
 
 /// The C names of the calls, in the order of `Call::place`, each with the refusals that it can give.

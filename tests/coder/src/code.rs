@@ -203,7 +203,8 @@ pub fn finished_share(
     let xs: Vec<u8> = kept[d + r..].iter().map(|&(x, _)| x).collect();
     let by_f = factors(&at, &ys).times(&known);
     let by_g = factors(&points(helpers), &xs).times(&firsts);
-    let share = Matrix::new(sizes.share_len(), stripes, |t, s| if t < d + r { by_f.at(t, s) } else { by_g.at(t - d - r, s) });
+    let share =
+        Matrix::new(sizes.share_len(), stripes, |t, s| if t < d + r { by_f.at(t, s) } else { by_g.at(t - d - r, s) });
     joined(&share)
 }
 

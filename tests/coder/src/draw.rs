@@ -1,14 +1,14 @@
 //! What cases are drawn from: sizes with their extremes, lengths, board numbers, and bytes that are true, damaged or arbitrary.
 
-use crate::code::{Sizes, MAX_BOARDS};
+use crate::code::{Sizes, MAX_BOARDS, MAX_STRIPES};
 use crate::random::Random;
 
 /// Legal sizes: mostly few boards, sometimes up to 32, and often at an extreme, k = d, d + r = n or r = 1.
 pub fn sizes(random: &mut Random) -> Sizes {
     loop {
         let n = match random.below(100) {
-            0..=1 => random.within(17, MAX_BOARDS),
-            2..=13 => random.within(9, 16),
+            0..=9 => random.within(17, MAX_BOARDS),
+            10..=34 => random.within(9, 16),
             _ => random.within(2, 8),
         };
         let mut d = random.within(1, n - 1);
@@ -24,9 +24,18 @@ pub fn sizes(random: &mut Random) -> Sizes {
         let k = if random.once_in(3) { d } else { random.within(1, d) };
         let sizes = Sizes::new(n, k, d, r);
         // Gaussian elimination takes its time on the largest stripes: most of them are drawn again
-        if sizes.stripe_len() <= 200 || random.once_in(8) {
+        if sizes.stripe_len() <= 300 || random.once_in(6) {
             return sizes;
         }
+    }
+}
+
+/// The most stripes of a case's files: mostly few, sometimes many, and all 4,096 where stripes are short.
+pub fn stripes(random: &mut Random, sizes: Sizes) -> usize {
+    match random.below(60) {
+        0 if sizes.n <= 4 => MAX_STRIPES,
+        1 if sizes.n <= 8 => random.within(9, 100),
+        _ => random.pick(&[1, 1, 2, 3, 8]),
     }
 }
 
@@ -48,7 +57,8 @@ pub fn length(random: &mut Random, sizes: Sizes, stripes: usize) -> usize {
 /// A board number that may be anything: near n, near 32, one that is below n once cut to a byte or to four bytes, the greatest.
 pub fn any_number(random: &mut Random, n: usize) -> usize {
     let below = random.below(n.clamp(1, MAX_BOARDS));
-    let choices = [n, n.saturating_add(1), 31, 32, 33, 255, 256 + below, (1 << 32) + below, 1 << 63, usize::MAX, below, below];
+    let choices =
+        [n, n.saturating_add(1), 31, 32, 33, 255, 256 + below, (1 << 32) + below, 1 << 63, usize::MAX, below, below];
     random.pick(&choices)
 }
 

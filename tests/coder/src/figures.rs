@@ -86,9 +86,9 @@ fn shares(trial: &mut Trial) {
     for (node, share) in X2Y_SHARES.iter().enumerate() {
         writes(trial, &format!("M{}", node + 7), Call::Share { sizes: FIVE, node, file: X2Y.to_vec() }, share);
     }
-    for a in 0..5 {
-        for b in (0..5).filter(|&b| b != a) {
-            let shares = [X2Y_SHARES[a], X2Y_SHARES[b]].concat();
+    for (a, first) in X2Y_SHARES.iter().enumerate() {
+        for (b, second) in X2Y_SHARES.iter().enumerate().filter(|&(b, _)| b != a) {
+            let shares = [*first, *second].concat();
             let call = Call::File { sizes: FIVE, length: 12, boards: vec![a, b], shares };
             writes(trial, "the file of M7 to M11 from two boards", call, &X2Y);
         }

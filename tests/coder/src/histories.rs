@@ -23,7 +23,7 @@ struct History {
 
 pub fn run(trial: &mut Trial, random: &mut Random) {
     let sizes = draw::sizes(random);
-    let capacity = random.pick(&[1, 2, 2, 3, 6]);
+    let capacity = draw::stripes(random, sizes);
     let Some(mut history) = History::new(trial, random, sizes, capacity) else { return };
     let calls = random.within(20, 80);
     for _ in 0..calls {

@@ -1,11 +1,11 @@
 //! The unrelated coder: holds the archive to a coder that shares no method with it, and reports each mismatch with what repeats it.
 //!
-//!     coder [--seed N] [--calls N] [--only CASE] [--wrong answer|byte|word] [--verbose]
+//!     coder [--seed N] [--calls N] [--only CASE] [--wrong answer|byte|word] [--trace] [--verbose]
 //!
 //! First the figures of document 01 are run, then random cases until so many calls are made: single calls at board level, single calls of the
 //! store over made-up records and areas, and long histories against a ledger. Each case draws from its own seed, made of the run's seed and
 //! the case's number: `--only` repeats one case. `--wrong` alters what the archive answers to one call, to show that this is reported.
-//! `--verbose` prints how often each call gave each refusal. The last line counts calls and mismatches; the exit code is 1 where there is a
+//! `--trace` prints each call before it is made, `--verbose` how often each call gave each refusal. The last line counts calls and mismatches; the exit code is 1 where there is a
 //! mismatch, or where in a run of 20,000 calls or more some refusal was never met.
 
 mod archive;
@@ -37,11 +37,12 @@ struct Options {
     calls: u64,
     only: Option<u64>,
     wrong: Option<WrongKind>,
+    trace: bool,
     verbose: bool,
 }
 
 fn options() -> Result<Options, String> {
-    let mut options = Options { seed: 1, calls: 120_000, only: None, wrong: None, verbose: false };
+    let mut options = Options { seed: 1, calls: 200_000, only: None, wrong: None, trace: false, verbose: false };
     let mut words = std::env::args().skip(1);
     while let Some(word) = words.next() {
         let mut number = || {
@@ -52,6 +53,7 @@ fn options() -> Result<Options, String> {
             "--seed" => options.seed = number()?,
             "--calls" => options.calls = number()?,
             "--only" => options.only = Some(number()?),
+            "--trace" => options.trace = true,
             "--verbose" => options.verbose = true,
             "--wrong" => options.wrong = Some(wrong_kind(words.next())?),
             _ => return Err(format!("{word}: not an option")),
@@ -92,6 +94,7 @@ fn main() -> ExitCode {
     let at = 1 + Random::of_case(options.seed, u64::MAX).next() % (options.calls.max(4) * 3 / 4);
     let wrong = options.wrong.map(|kind| Wrong { at, kind });
     let mut trial = Trial::new(options.seed, options.calls, wrong);
+    trial.trace = options.trace;
     if let Some(case) = options.only {
         run_case(&mut trial, case);
     } else {

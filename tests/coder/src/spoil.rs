@@ -50,13 +50,9 @@ fn parts(call: &mut Call) -> Parts<'_> {
             slices: vec![packets, partner_packets],
             ..none
         },
-        Call::Text { sizes, length, node, share } => Parts {
-            sizes: Some(sizes),
-            length: Some(length),
-            numbers: vec![node],
-            slices: vec![share],
-            ..none
-        },
+        Call::Text { sizes, length, node, share } => {
+            Parts { sizes: Some(sizes), length: Some(length), numbers: vec![node], slices: vec![share], ..none }
+        }
         Call::SetUp { sizes, capacity } => Parts { sizes: Some(sizes), capacity: Some(capacity), ..none },
         Call::Write { file } => Parts { slices: vec![file], ..none },
         Call::Lose { board } => Parts { numbers: vec![board], ..none },
@@ -95,6 +91,14 @@ fn spoil_arguments(random: &mut Random, sizes: Sizes, mut parts: Parts) {
         3 => {
             let place = random.below(parts.numbers.len());
             *parts.numbers[place] = draw::any_number(random, sizes.n);
+        }
+        4 if parts.lists.len() == 2 && random.once_in(3) => {
+            let [one, other] = &mut parts.lists[..] else { unreachable!("there are two") };
+            if random.once_in(2) {
+                share_a_board(random, one, other);
+            } else {
+                share_a_board(random, other, one);
+            }
         }
         4 => {
             let place = random.below(parts.lists.len());
@@ -169,6 +173,14 @@ fn spoil_list(random: &mut Random, n: usize, list: &mut Vec<usize>) {
             list[place] = draw::any_number(random, n);
         }
         _ => list.push(draw::any_number(random, n)),
+    }
+}
+
+/// Puts a board of one list into another: a fresh board among the helpers, or a helper among the partners.
+fn share_a_board(random: &mut Random, from: &[usize], to: &mut [usize]) {
+    if !from.is_empty() && !to.is_empty() {
+        let place = random.below(to.len());
+        to[place] = random.pick(from);
     }
 }
 

@@ -30,6 +30,11 @@ pub fn words(sizes: Sizes, capacity: usize, file_len: Option<usize>, in_service:
     [&numbers[..], &[u64::from(file_len.is_some()), file_len.unwrap_or(0) as u64, marks]].concat()
 }
 
+/// "a capacity C of 1 to 4,096 stripes".
+fn in_range(capacity: usize) -> bool {
+    (1..=MAX_STRIPES).contains(&capacity)
+}
+
 impl Record {
     /// None where the words are no record that a call returns: SIZE.
     fn read(words: &[u64]) -> Option<Record> {
@@ -39,7 +44,7 @@ impl Record {
         }
         let sizes = Sizes::new(number(0)?, number(1)?, number(2)?, number(3)?);
         let capacity = number(word::CAPACITY)?;
-        if !sizes.legal() || capacity < 1 || capacity > MAX_STRIPES {
+        if !sizes.legal() || !in_range(capacity) {
             return None;
         }
         let length = number(word::LENGTH)?;
@@ -90,7 +95,7 @@ pub fn expect(call: &Call, lent: &Lent) -> Outcome {
 }
 
 fn set_up(sizes: Sizes, capacity: usize, lent: &Lent) -> Result<Outcome, u8> {
-    if lent.record.len() != word::COUNT || !sizes.legal() || capacity < 1 || capacity > MAX_STRIPES {
+    if lent.record.len() != word::COUNT || !sizes.legal() || !in_range(capacity) {
         return Err(SIZE);
     }
     let record = words(sizes, capacity, None, &[]);
@@ -172,8 +177,7 @@ fn repair(fresh: &[usize], helpers: &[usize], lent: &Lent) -> Result<Outcome, u8
     for (a, &board) in fresh.iter().enumerate() {
         let others = || (0..fresh.len()).filter(|&b| b != a);
         let partners: Vec<usize> = others().map(|b| fresh[b]).collect();
-        let exchanged: Vec<u8> =
-            others().flat_map(|b| code::exchange_packet(lists[b], &packets[b], board)).collect();
+        let exchanged: Vec<u8> = others().flat_map(|b| code::exchange_packet(lists[b], &packets[b], board)).collect();
         let share = code::finished_share(sizes, board, lists[a], &packets[a], &partners, &exchanged);
         after.area[record.share(board)].copy_from_slice(&share);
         moved += packets[a].len() + exchanged.len();

@@ -13,7 +13,7 @@ const CALLS: usize = 10;
 
 pub fn run(trial: &mut Trial, random: &mut Random) {
     let sizes = draw::sizes(random);
-    let capacity = random.pick(&[1, 1, 2, 3, 5]);
+    let capacity = draw::stripes(random, sizes);
     let length = draw::length(random, sizes, capacity);
     let file = random.bytes(length);
     let area = area(random, sizes, capacity, &file);

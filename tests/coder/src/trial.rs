@@ -12,6 +12,15 @@ pub enum Place {
     Case(u64),
 }
 
+impl fmt::Display for Place {
+    fn fmt(&self, to: &mut fmt::Formatter) -> fmt::Result {
+        match self {
+            Place::Figure(name) => write!(to, "figure '{name}'"),
+            Place::Case(case) => write!(to, "case {case}"),
+        }
+    }
+}
+
 /// A deliberate fault, to try the harness: what is altered in what the archive answers, at the first call from `at` on that has it.
 #[derive(Clone, Copy)]
 pub struct Wrong {
@@ -36,6 +45,8 @@ pub struct Trial {
     /// how often each call was accepted (0) or refused with each number, alike by the archive and by the coder
     pub met: [[u64; refusal::COUNTED]; CALLS.len()],
     pub place: Place,
+    /// whether each call is printed before it is made, to find one that does not come back
+    pub trace: bool,
     wrong: Option<Wrong>,
     goal: u64,
     started: Instant,
@@ -52,6 +63,7 @@ impl Trial {
             mismatches: 0,
             met: [[0; refusal::COUNTED]; CALLS.len()],
             place: Place::Figure(String::new()),
+            trace: false,
             wrong,
             goal,
             started: Instant::now(),
@@ -62,6 +74,9 @@ impl Trial {
     /// Does a call through the archive and holds it to what is expected. True where all is alike.
     pub fn check(&mut self, call: &Call, lent: &Lent, expected: &Outcome) -> bool {
         self.calls += 1;
+        if self.trace {
+            println!("call {} {}: {call} over {}", self.calls, self.place, Short(lent));
+        }
         let mut performed = archive::perform(call, lent);
         self.falsify(&mut performed.outcome);
         self.show_progress();
@@ -84,7 +99,10 @@ impl Trial {
         match &self.place {
             Place::Figure(name) => println!("MISMATCH call {} figure '{name}': {what}", self.calls),
             Place::Case(case) => {
-                println!("MISMATCH call {} case {case} (repeat: --seed {} --only {case}): {what}", self.calls, self.seed)
+                println!(
+                    "MISMATCH call {} case {case} (repeat: --seed {} --only {case}): {what}",
+                    self.calls, self.seed
+                )
             }
         }
     }
@@ -128,7 +146,13 @@ impl Trial {
     fn show_progress(&mut self) {
         if self.last_progress.elapsed() >= PROGRESS {
             self.last_progress = Instant::now();
-            println!("coder: {} of {} calls, {} mismatches, {} s", self.calls, self.goal, self.mismatches, self.seconds());
+            println!(
+                "coder: {} of {} calls, {} mismatches, {} s",
+                self.calls,
+                self.goal,
+                self.mismatches,
+                self.seconds()
+            );
         }
     }
 

@@ -14,21 +14,16 @@ fn check_boards(sizes: Sizes, named: impl Iterator<Item = usize> + Clone) -> Res
     refuse_if(repeats(named), Refusal::Repeat)
 }
 
-/// The share of a file, with no checks: `out` has its length.
-pub fn encode(sizes: Sizes, node: usize, file: &[u8], out: &mut [u8]) {
-    let points = neighbours(sizes, node);
-    for (bytes, held) in file.chunks(sizes.stripe_len()).zip(out.chunks_mut(sizes.share_len())) {
-        stripe::encode(sizes, &stripe::fill(sizes, bytes), &points, held);
-    }
-}
-
 /// One share of a file.
 pub fn share(sizes: Sizes, node: usize, file: &[u8], out: &mut [u8]) -> Result<usize, Refusal> {
     check_length(sizes, file.len())?;
     refuse_if(node >= sizes.n, Refusal::Node)?;
     let count = sizes.stripes(file.len()) * sizes.share_len();
     refuse_if(out.len() < count, Refusal::Short)?;
-    encode(sizes, node, file, &mut out[..count]);
+    let points = neighbours(sizes, node);
+    for (bytes, held) in file.chunks(sizes.stripe_len()).zip(out.chunks_mut(sizes.share_len())) {
+        stripe::encode(sizes, &stripe::fill(sizes, bytes), &points, held);
+    }
     Ok(count)
 }
 

@@ -2,6 +2,7 @@
 
 use crate::board;
 use crate::sizes::{refuse_if, repeats, Refusal, Sizes, MAX_BOARDS, MAX_STRIPES};
+use crate::stripe::{self, neighbours};
 
 /// The words of a record: n, k, d, r, capacity, written, length, marks.
 const WORDS: usize = 8;
@@ -78,8 +79,16 @@ pub fn write(words: &mut [u64], area: &mut [u8], file: &[u8]) -> Result<usize, R
     let sizes = record.sizes;
     refuse_if(file.len() > record.capacity * sizes.stripe_len(), Refusal::Long)?;
     record.length = file.len();
-    for node in 0..sizes.n {
-        board::encode(sizes, node, file, record.share_mut(area, node));
+    let mut points = [[0; MAX_BOARDS]; MAX_BOARDS];
+    for (node, points) in points.iter_mut().enumerate() {
+        *points = neighbours(sizes, node);
+    }
+    for (s, bytes) in file.chunks(sizes.stripe_len()).enumerate() {
+        let grid = stripe::fill(sizes, bytes);
+        for (node, points) in points[..sizes.n].iter().enumerate() {
+            let start = node * record.board_len() + s * sizes.share_len();
+            stripe::encode(sizes, &grid, points, &mut area[start..][..sizes.share_len()]);
+        }
     }
     words[WRITTEN] = 1;
     words[LENGTH] = file.len() as u64;
