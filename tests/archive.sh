@@ -34,8 +34,9 @@ strict='-Wall -Wextra -Werror -Iinclude'
 # shellcheck disable=SC2086 # the options are words
 step "the C example compiles" gcc -std=c11 -pedantic $strict examples/c/shelf.c "$archive" -o "$work/shelf"
 step "the C example writes, loses, repairs and reads" "$work/shelf"
-if command -v valgrind >/dev/null; then
-    step "valgrind finds nothing in it" valgrind --error-exitcode=1 --leak-check=full "$work/shelf"
+valgrind=$(command -v valgrind || true)
+if [ -n "$valgrind" ]; then
+    step "valgrind finds nothing in it" "$valgrind" --error-exitcode=1 --leak-check=full "$work/shelf"
 else
     echo "skipped valgrind: it is not on this machine"
 fi
@@ -60,6 +61,9 @@ step "the unrelated coder compiles" cargo build --offline --quiet --release -j1 
 coder=target/cargo/release/coder
 echo "the unrelated coder, figures and random calls:"
 "$coder" --verbose
+if [ -n "$valgrind" ]; then
+    step "valgrind finds nothing in its first calls" "$valgrind" --error-exitcode=1 "$coder" --seed 2 --calls 400
+fi
 
 # falsified SEED KIND: the coder reports just the call whose answer it altered itself
 falsified() {

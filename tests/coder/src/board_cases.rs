@@ -17,8 +17,7 @@ struct Scene {
     file: Vec<u8>,
 }
 
-pub fn run(trial: &mut Trial, random: &mut Random) {
-    let sizes = draw::sizes(random);
+pub fn run(trial: &mut Trial, random: &mut Random, sizes: Sizes) {
     let most = draw::stripes(random, sizes);
     let length = draw::length(random, sizes, most);
     let scene = Scene { sizes, file: random.bytes(length) };

@@ -3,6 +3,20 @@
 use crate::code::{Sizes, MAX_BOARDS, MAX_STRIPES};
 use crate::random::Random;
 
+/// Sizes at the ends of what is legal; the first cases of a run have these.
+pub const EXTREMES: [Sizes; 10] = [
+    Sizes { n: 2, k: 1, d: 1, r: 1 },
+    Sizes { n: 3, k: 1, d: 1, r: 2 },
+    Sizes { n: 32, k: 1, d: 1, r: 1 },
+    Sizes { n: 32, k: 1, d: 1, r: 31 },
+    Sizes { n: 32, k: 1, d: 31, r: 1 },
+    Sizes { n: 32, k: 31, d: 31, r: 1 },
+    Sizes { n: 32, k: 16, d: 16, r: 16 },
+    Sizes { n: 32, k: 8, d: 24, r: 8 },
+    Sizes { n: 32, k: 24, d: 30, r: 2 },
+    Sizes { n: 31, k: 15, d: 15, r: 2 },
+];
+
 /// Legal sizes: mostly few boards, sometimes up to 32, and often at an extreme, k = d, d + r = n or r = 1.
 pub fn sizes(random: &mut Random) -> Sizes {
     loop {

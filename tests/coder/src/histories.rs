@@ -21,8 +21,7 @@ struct History {
     generators: Vec<Matrix>,
 }
 
-pub fn run(trial: &mut Trial, random: &mut Random) {
-    let sizes = draw::sizes(random);
+pub fn run(trial: &mut Trial, random: &mut Random, sizes: Sizes) {
     let capacity = draw::stripes(random, sizes);
     let Some(mut history) = History::new(trial, random, sizes, capacity) else { return };
     let calls = random.within(20, 80);
@@ -72,8 +71,9 @@ impl History {
     fn step(&mut self, trial: &mut Trial, random: &mut Random) -> bool {
         let in_service: Vec<usize> = self.book.in_service.iter().copied().collect();
         let mut call = store_cases::call(random, self.book.sizes, self.book.capacity, &in_service);
-        if let Call::SetUp { .. } = call {
-            // set up stands in no list of document 01; a loss instead
+        // set up stands in no list of document 01; and a write ends a chain of rebuilds on rebuilds, so that most are losses instead
+        let ends_chain = matches!(call, Call::Write { .. }) && self.book.file.is_some() && !random.once_in(4);
+        if ends_chain || matches!(call, Call::SetUp { .. }) {
             call = Call::Lose { board: random.below(self.book.sizes.n) };
         }
         if random.once_in(3) {

@@ -5,8 +5,10 @@
 //! First the figures of document 01 are run, then random cases until so many calls are made: single calls at board level, single calls of the
 //! store over made-up records and areas, and long histories against a ledger. Each case draws from its own seed, made of the run's seed and
 //! the case's number: `--only` repeats one case. `--wrong` alters what the archive answers to one call, to show that this is reported.
-//! `--trace` prints each call before it is made, `--verbose` how often each call gave each refusal. The last line counts calls and mismatches; the exit code is 1 where there is a
-//! mismatch, or where in a run of 20,000 calls or more some refusal was never met.
+//! `--trace` prints each call before it is made, `--verbose` how often each call gave each refusal.
+//!
+//! The last line counts calls and mismatches. The exit code is 1 where there is a mismatch, or where in a run of 20,000 calls or more some
+//! refusal that a call can give was never met.
 
 mod archive;
 mod board;
@@ -42,7 +44,7 @@ struct Options {
 }
 
 fn options() -> Result<Options, String> {
-    let mut options = Options { seed: 1, calls: 200_000, only: None, wrong: None, trace: false, verbose: false };
+    let mut options = Options { seed: 1, calls: 300_000, only: None, wrong: None, trace: false, verbose: false };
     let mut words = std::env::args().skip(1);
     while let Some(word) = words.next() {
         let mut number = || {
@@ -71,14 +73,21 @@ fn wrong_kind(word: Option<String>) -> Result<WrongKind, String> {
     }
 }
 
-/// Runs one case, which kind by its own numbers.
+/// Runs one case by its own numbers. The first ones are all kinds at extreme sizes, the others one kind at drawn sizes.
 fn run_case(trial: &mut Trial, case: u64) {
     let mut random = Random::of_case(trial.seed, case);
     trial.place = Place::Case(case);
+    if let Some(&sizes) = draw::EXTREMES.get(case as usize) {
+        board_cases::run(trial, &mut random, sizes);
+        store_cases::run(trial, &mut random, sizes);
+        histories::run(trial, &mut random, sizes);
+        return;
+    }
+    let sizes = draw::sizes(&mut random);
     match random.below(9) {
-        0 => histories::run(trial, &mut random),
-        1..=4 => store_cases::run(trial, &mut random),
-        _ => board_cases::run(trial, &mut random),
+        0 => histories::run(trial, &mut random, sizes),
+        1..=4 => store_cases::run(trial, &mut random, sizes),
+        _ => board_cases::run(trial, &mut random, sizes),
     }
 }
 

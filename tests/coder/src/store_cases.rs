@@ -11,8 +11,7 @@ use crate::trial::Trial;
 /// How many calls a case makes.
 const CALLS: usize = 10;
 
-pub fn run(trial: &mut Trial, random: &mut Random) {
-    let sizes = draw::sizes(random);
+pub fn run(trial: &mut Trial, random: &mut Random, sizes: Sizes) {
     let capacity = draw::stripes(random, sizes);
     let length = draw::length(random, sizes, capacity);
     let file = random.bytes(length);
