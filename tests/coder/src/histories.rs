@@ -69,20 +69,35 @@ impl History {
 
     /// One call, mostly a right one; false where the archive answered otherwise.
     fn step(&mut self, trial: &mut Trial, random: &mut Random) -> bool {
-        let in_service: Vec<usize> = self.book.in_service.iter().copied().collect();
-        let mut call = store_cases::call(random, self.book.sizes, self.book.capacity, &in_service);
-        // set up stands in no list of document 01; and a write ends a chain of rebuilds on rebuilds, so that most are losses instead
-        let ends_chain = matches!(call, Call::Write { .. }) && self.book.file.is_some() && !random.once_in(4);
-        if ends_chain || matches!(call, Call::SetUp { .. }) {
-            call = Call::Lose { board: random.below(self.book.sizes.n) };
-        }
-        if random.once_in(3) {
+        let mut call = self.draw_call(random);
+        if random.once_in(4) {
             // the record and the area are those that the last call left, so only the arguments are spoilt
             spoil(random, self.book.sizes, &mut call, &mut Lent::default());
         }
         let length = self.book.file.as_ref().map_or(0, Vec::len);
         self.lent.out = if let Call::Read { .. } = call { draw::output(random, length) } else { Vec::new() };
         self.check(trial, &call)
+    }
+
+    /// Mostly losses, repairs and reads, so that boards are rebuilt from rebuilt boards; writes are few. Boards are mostly lost only as far as
+    /// those in service can still rebuild them.
+    fn draw_call(&self, random: &mut Random) -> Call {
+        let Sizes { n, d, r, .. } = self.book.sizes;
+        let in_service: Vec<usize> = self.book.in_service.iter().copied().collect();
+        let lost = n - in_service.len();
+        let all: Vec<usize> = (0..n).collect();
+        // d helpers are left beside the boards that are lost or fresh
+        let can_repair = lost.max(r) + d <= n;
+        let can_lose = (lost + 1).max(r) + d <= n;
+        match random.below(20) {
+            0 => store_cases::write_call(random, self.book.sizes, self.book.capacity),
+            1 => store_cases::repair_call(random, self.book.sizes, &all),
+            2 => store_cases::read_call(random, self.book.sizes, &all),
+            3..=9 if can_lose || random.once_in(10) => Call::Lose { board: random.below(n) },
+            3..=14 if can_repair => store_cases::repair_call(random, self.book.sizes, &in_service),
+            3..=14 => store_cases::write_call(random, self.book.sizes, self.book.capacity),
+            _ => store_cases::read_call(random, self.book.sizes, &in_service),
+        }
     }
 
     fn check(&mut self, trial: &mut Trial, call: &Call) -> bool {

@@ -18,6 +18,17 @@ struct Parts<'a> {
     slices: Vec<&'a mut Vec<u8>>,
 }
 
+impl Parts<'_> {
+    /// Every board that the call names.
+    fn named(&self) -> Vec<usize> {
+        let mut boards: Vec<usize> = self.numbers.iter().map(|number| **number).collect();
+        for list in &self.lists {
+            boards.extend(list.iter());
+        }
+        boards
+    }
+}
+
 fn parts(call: &mut Call) -> Parts<'_> {
     let none = Parts::default();
     match call {
@@ -90,7 +101,9 @@ fn spoil_arguments(random: &mut Random, sizes: Sizes, mut parts: Parts) {
         2 => *parts.capacity.expect("it is there") = random.pick(&[0, 1, 4096, 4097, 1 << 32, usize::MAX]),
         3 => {
             let place = random.below(parts.numbers.len());
-            *parts.numbers[place] = draw::any_number(random, sizes.n);
+            let named = parts.named();
+            let again = random.once_in(3);
+            *parts.numbers[place] = if again { random.pick(&named) } else { draw::any_number(random, sizes.n) };
         }
         4 if parts.lists.len() == 2 && random.once_in(3) => {
             let [one, other] = &mut parts.lists[..] else { unreachable!("there are two") };

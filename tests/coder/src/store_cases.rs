@@ -48,23 +48,27 @@ fn area(random: &mut Random, sizes: Sizes, capacity: usize, file: &[u8]) -> Vec<
 }
 
 /// A call of the store with lists that are right, as far as there are boards in service for them; sometimes any boards are taken.
-pub fn call(random: &mut Random, sizes: Sizes, capacity: usize, in_service: &[usize]) -> Call {
+fn call(random: &mut Random, sizes: Sizes, capacity: usize, in_service: &[usize]) -> Call {
     let all: Vec<usize> = (0..sizes.n).collect();
-    let in_service = if random.once_in(8) { &all } else { in_service };
+    let boards = if random.once_in(8) { &all } else { in_service };
     match random.below(8) {
         0 => Call::SetUp { sizes, capacity },
         1 => Call::Lose { board: random.below(sizes.n) },
-        2 => {
-            let length = draw::length(random, sizes, capacity) + usize::from(random.once_in(8));
-            Call::Write { file: random.bytes(length) }
-        }
-        3..=4 => repair_call(random, sizes, in_service),
-        _ => Call::Read { boards: random.choose(in_service.to_vec(), sizes.k) },
+        2 => write_call(random, sizes, capacity),
+        3..=4 => repair_call(random, sizes, boards),
+        _ => read_call(random, sizes, boards),
     }
 }
 
+/// A write, sometimes of a file that is too long by one byte.
+pub fn write_call(random: &mut Random, sizes: Sizes, capacity: usize) -> Call {
+    let too_long = random.once_in(12);
+    let length = if too_long { capacity * sizes.stripe_len() + 1 } else { draw::length(random, sizes, capacity) };
+    Call::Write { file: random.bytes(length) }
+}
+
 /// A repair: boards out of service first, each with helpers of its own out of those in service.
-fn repair_call(random: &mut Random, sizes: Sizes, in_service: &[usize]) -> Call {
+pub fn repair_call(random: &mut Random, sizes: Sizes, in_service: &[usize]) -> Call {
     let out_of_service = (0..sizes.n).filter(|board| !in_service.contains(board)).collect();
     let mut fresh = random.choose(out_of_service, sizes.r);
     let others = random.choose(in_service.to_vec(), sizes.r - fresh.len());
@@ -72,4 +76,9 @@ fn repair_call(random: &mut Random, sizes: Sizes, in_service: &[usize]) -> Call 
     let left: Vec<usize> = in_service.iter().copied().filter(|board| !fresh.contains(board)).collect();
     let helpers = (0..sizes.r).flat_map(|_| random.choose(left.clone(), sizes.d)).collect();
     Call::Repair { fresh, helpers }
+}
+
+/// A read from k of these boards.
+pub fn read_call(random: &mut Random, sizes: Sizes, boards: &[usize]) -> Call {
+    Call::Read { boards: random.choose(boards.to_vec(), sizes.k) }
 }
