@@ -172,19 +172,44 @@ pub fn perform(call: &Call, lent: &Lent) -> Performed {
     let mut record = Guarded::new(&lent.record, 0xA5A5_5A5A_C3C3_3C3C);
     let mut area = Guarded::new(&lent.area, 0xA5);
     let mut out = Guarded::new(&lent.out, 0xC3);
-    let answer = ask(call, &mut record, &mut area, &mut out);
+    let answer = match call {
+        Call::SetUp { .. } | Call::Write { .. } | Call::Lose { .. } | Call::Repair { .. } | Call::Read { .. } => {
+            ask_store(call, &mut record, &mut area, &mut out)
+        }
+        _ => ask_board(call, &mut out),
+    };
     let kept_inside = record.intact() && area.intact() && out.intact();
     let lent = Lent { record: record.content(), area: area.content(), out: out.content() };
     Performed { outcome: Outcome { answer, lent }, kept_inside }
 }
 
-/// The call itself.
-fn ask(call: &Call, record: &mut Guarded<u64>, area: &mut Guarded<u8>, out: &mut Guarded<u8>) -> u64 {
+// Safety, for both functions below: each pointer is followed by the number of elements that it points to, none is null, and record, area and
+// out are three vectors of their own.
+
+/// A call of the store.
+fn ask_store(call: &Call, record: &mut Guarded<u64>, area: &mut Guarded<u8>, out: &mut Guarded<u8>) -> u64 {
     let (words, record) = (record.len(), record.pointer());
     let (area_len, area) = (area.len(), area.pointer());
     let (out_len, out) = (out.len(), out.pointer());
-    // Safety: each pointer is followed by the number of elements that it points to, none is null, and record, area and out are three vectors
-    // of their own.
+    unsafe {
+        match call {
+            Call::SetUp { sizes: s, capacity } => zbk_set_up(record, words, s.n, s.k, s.d, s.r, *capacity),
+            Call::Write { file } => zbk_write(record, words, area, area_len, file.as_ptr(), file.len()),
+            Call::Lose { board } => zbk_lose(record, words, *board),
+            Call::Repair { fresh, helpers } => {
+                zbk_repair(record, words, area, area_len, fresh.as_ptr(), fresh.len(), helpers.as_ptr(), helpers.len())
+            }
+            Call::Read { boards } => {
+                zbk_read(record, words, area, area_len, boards.as_ptr(), boards.len(), out, out_len)
+            }
+            _ => unreachable!("a board-level call"),
+        }
+    }
+}
+
+/// A board-level call.
+fn ask_board(call: &Call, out: &mut Guarded<u8>) -> u64 {
+    let (out_len, out) = (out.len(), out.pointer());
     unsafe {
         match call {
             Call::Share { sizes: s, node, file } => {
@@ -254,15 +279,7 @@ fn ask(call: &Call, record: &mut Guarded<u64>, area: &mut Guarded<u8>, out: &mut
             Call::Text { sizes: s, length, node, share } => {
                 zbk_share_text(s.n, s.k, s.d, s.r, *length, *node, share.as_ptr(), share.len(), out, out_len)
             }
-            Call::SetUp { sizes: s, capacity } => zbk_set_up(record, words, s.n, s.k, s.d, s.r, *capacity),
-            Call::Write { file } => zbk_write(record, words, area, area_len, file.as_ptr(), file.len()),
-            Call::Lose { board } => zbk_lose(record, words, *board),
-            Call::Repair { fresh, helpers } => {
-                zbk_repair(record, words, area, area_len, fresh.as_ptr(), fresh.len(), helpers.as_ptr(), helpers.len())
-            }
-            Call::Read { boards } => {
-                zbk_read(record, words, area, area_len, boards.as_ptr(), boards.len(), out, out_len)
-            }
+            _ => unreachable!("a call of the store"),
         }
     }
 }

@@ -38,6 +38,32 @@ pub enum WrongKind {
     Word,
 }
 
+impl Wrong {
+    /// Alters one bit of an outcome, and says where; none where the outcome has nothing of the kind.
+    fn alter(&self, outcome: &mut Outcome) -> Option<String> {
+        let turn = self.at as usize;
+        let Outcome { answer, lent } = outcome;
+        match self.kind {
+            WrongKind::Answer => {
+                *answer ^= 1 << (turn % 12);
+                Some(format!("bit {} of the answer", turn % 12))
+            }
+            WrongKind::Byte => {
+                let (name, bytes) =
+                    if lent.area.is_empty() { ("output", &mut lent.out) } else { ("area", &mut lent.area) };
+                let place = turn.checked_rem(bytes.len())?;
+                bytes[place] ^= 1 << (turn % 8);
+                Some(format!("byte {place} of the {name}"))
+            }
+            WrongKind::Word => {
+                let place = turn.checked_rem(lent.record.len())?;
+                lent.record[place] ^= 1 << (turn % 64);
+                Some(format!("word {place} of the record"))
+            }
+        }
+    }
+}
+
 pub struct Trial {
     pub seed: u64,
     pub calls: u64,
@@ -96,51 +122,21 @@ impl Trial {
     /// Reports something that is not as it must be.
     pub fn report(&mut self, what: &str) {
         self.mismatches += 1;
-        match &self.place {
-            Place::Figure(name) => println!("MISMATCH call {} figure '{name}': {what}", self.calls),
-            Place::Case(case) => {
-                println!(
-                    "MISMATCH call {} case {case} (repeat: --seed {} --only {case}): {what}",
-                    self.calls, self.seed
-                )
-            }
-        }
+        let repeat = match self.place {
+            Place::Figure(_) => String::new(),
+            Place::Case(case) => format!(" (repeat: --seed {} --only {case})", self.seed),
+        };
+        println!("MISMATCH call {} {}{repeat}: {what}", self.calls, self.place);
     }
 
     /// The deliberate fault, once, where one is asked for.
     fn falsify(&mut self, outcome: &mut Outcome) {
-        let Some(Wrong { at, kind }) = self.wrong else { return };
-        if self.calls < at {
-            return;
+        if let Some(wrong) = self.wrong.filter(|wrong| self.calls >= wrong.at) {
+            if let Some(what) = wrong.alter(outcome) {
+                println!("WRONG call {}: {what} is altered on purpose", self.calls);
+                self.wrong = None;
+            }
         }
-        let turn = at as usize;
-        let lent = &mut outcome.lent;
-        let bytes = lent.area.len() + lent.out.len();
-        let what = match kind {
-            WrongKind::Answer => {
-                outcome.answer ^= 1 << (turn % 12);
-                format!("bit {} of the answer", turn % 12)
-            }
-            WrongKind::Byte if bytes > 0 => {
-                let place = turn % bytes;
-                let area_len = lent.area.len();
-                if place < area_len {
-                    lent.area[place] ^= 1 << (turn % 8);
-                    format!("byte {place} of the area")
-                } else {
-                    lent.out[place - area_len] ^= 1 << (turn % 8);
-                    format!("byte {} of the output", place - area_len)
-                }
-            }
-            WrongKind::Word if !lent.record.is_empty() => {
-                let place = turn % lent.record.len();
-                lent.record[place] ^= 1 << (turn % 64);
-                format!("word {place} of the record")
-            }
-            _ => return,
-        };
-        println!("WRONG call {}: {what} is altered on purpose", self.calls);
-        self.wrong = None;
     }
 
     fn show_progress(&mut self) {
@@ -202,6 +198,7 @@ fn difference(performed: &Performed, expected: &Outcome) -> Option<String> {
     if !performed.kept_inside {
         return Some("wrote outside of what it was lent".to_string());
     }
+    assert_eq!(got.lent.record.len(), expected.lent.record.len(), "the coder expects another count of words");
     let word = |(i, (got, due)): (usize, (&u64, &u64))| format!("word {i} of the record is {got}, expected {due}");
     let record = got.lent.record.iter().zip(&expected.lent.record);
     record
