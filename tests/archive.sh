@@ -24,11 +24,7 @@ step() {
 }
 
 archive=${ZBK_ARCHIVE:-target/staticlib/libzebrankai.a}
-if [ -n "${ZBK_ARCHIVE:-}" ]; then
-    step "the archive is there: $archive" test -f "$archive"
-else
-    step "the archive is proved and built" rt staticlib zebrankai
-fi
+step "the archive: $archive" sh tests/prove_archive.sh
 
 strict='-Wall -Wextra -Werror -Iinclude'
 # shellcheck disable=SC2086 # the options are words

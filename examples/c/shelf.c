@@ -11,10 +11,14 @@
 #include <stdlib.h>
 #include <string.h>
 
-enum { N = 7, K = 3, D = 4, R = 2 };                 /* boards, read, helpers, fresh */
-enum { SHARE = 2 * D + R - 1, STRIPE = K * (2 * D + R - K) }; /* bytes of a share for each stripe, file bytes that a stripe carries */
-enum { CAPACITY = 8 };                                /* stripes that a board has room for */
-enum { AREA = N * CAPACITY * SHARE };
+/* boards, boards that give the file back, helpers of each fresh board, boards rebuilt together */
+enum { N = 7, K = 3, D = 4, R = 2 };
+
+/* bytes of a share for each stripe, and file bytes that a stripe carries */
+enum { SHARE = 2 * D + R - 1, STRIPE = K * (2 * D + R - K) };
+
+/* stripes that each board has room for, and the bytes of all boards */
+enum { CAPACITY = 8, AREA = N * CAPACITY * SHARE };
 
 static const char stock[] = "aspirin 100 mg: 42 boxes\n"
                             "ibuprofen 400 mg: 17 boxes\n"
