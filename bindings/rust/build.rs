@@ -5,8 +5,8 @@ use std::path::PathBuf;
 
 fn main() {
     let top = PathBuf::from(env::var("CARGO_MANIFEST_DIR").expect("cargo sets it")).join("../..");
-    let named = env::var_os("ZBK_ARCHIVE").unwrap_or("target/staticlib/libzebrankai.a".into());
-    let archive = top.join(named);
+    let named = env::var_os("ZBK_ARCHIVE").filter(|name| !name.is_empty());
+    let archive = top.join(named.unwrap_or("target/staticlib/libzebrankai.a".into()));
     let archive = archive.canonicalize().unwrap_or_else(|error| {
         panic!(
             "the archive {}: {error}. Build it with 'rt staticlib zebrankai', or set ZBK_ARCHIVE.",

@@ -31,6 +31,7 @@ pub fn run(trial: &mut Trial, random: &mut Random, sizes: Sizes) {
             return;
         }
     }
+    history.alter(random);
     history.read_any(trial, random);
 }
 
