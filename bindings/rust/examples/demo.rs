@@ -1,0 +1,120 @@
+//! The demo: a small stock file on eight shelf boards. Two boards are lost and rebuilt together, then two others, and the file is read back
+//! from the four rebuilt boards only. Prints what happens, board by board, and how many bytes the bus carried.
+
+use std::error::Error;
+use zebrankai::{Record, Sizes};
+
+/// Eight boards; any four give the file back; each fresh board hears six helpers; two are rebuilt together.
+const SIZES: Sizes = Sizes { n: 8, k: 4, d: 6, r: 2 };
+
+/// Stripes that each board has room for.
+const CAPACITY: usize = 16;
+
+const STOCK: &str = "aspirin 100 mg: 42 boxes
+ibuprofen 400 mg: 17 boxes
+paracetamol 500 mg: 0 boxes
+saline 0.9 %, 500 ml: 120 bags
+gloves, size M: 36 packs
+insulin pens: 8 boxes
+thermometer covers: 250 pieces
+";
+
+/// The shelf: the store's record, the memory of all boards, and the boards that were rebuilt.
+struct Shelf {
+    record: Record,
+    area: Vec<u8>,
+    rebuilt: Vec<usize>,
+}
+
+fn main() -> Result<(), Box<dyn Error>> {
+    let file = STOCK.as_bytes();
+    println!("The stock file has {} lines, {} bytes:\n", STOCK.lines().count(), file.len());
+    for line in STOCK.lines() {
+        println!("    {line}");
+    }
+    let mut shelf = Shelf::write(file)?;
+    println!("\n1. It is written to {} boards. Any {} of them give it back.\n", SIZES.n, SIZES.k);
+    shelf.print_boards();
+
+    shelf.swap(2, [2, 5])?;
+    shelf.swap(4, [0, 7])?;
+
+    println!("\n6. The file is read from the four rebuilt boards only: 2, 5, 0 and 7.\n");
+    let mut read = vec![0; shelf.record.length()];
+    shelf.record.read(&shelf.area, &[2, 5, 0, 7], &mut read)?;
+    for line in String::from_utf8_lossy(&read).lines() {
+        println!("    {line}");
+    }
+    if read != file {
+        return Err("the file that was read is not the file that was written".into());
+    }
+    println!("\nAll {} bytes are as they were written: no count was lost, none was made up.", read.len());
+    Ok(())
+}
+
+impl Shelf {
+    /// Sets up a store and writes a file to it.
+    fn write(file: &[u8]) -> Result<Shelf, Box<dyn Error>> {
+        // what boards hold before the first write does not matter
+        let mut area = vec![0xEE; SIZES.area_len(CAPACITY)];
+        let mut record = Record::set_up(SIZES, CAPACITY)?;
+        record.write(&mut area, file)?;
+        Ok(Shelf { record, area, rebuilt: Vec::new() })
+    }
+
+    /// Bytes of a board's share.
+    fn share_len(&self) -> usize {
+        SIZES.stripes(self.record.length()) * SIZES.share_len()
+    }
+
+    /// One line for each board: out of service, or how its share begins.
+    fn print_boards(&self) {
+        for (board, bytes) in self.area.chunks(CAPACITY * SIZES.share_len()).enumerate() {
+            if self.record.in_service(board) {
+                let begin: Vec<String> = bytes[..8].iter().map(|byte| format!("{byte:02x}")).collect();
+                let rebuilt = if self.rebuilt.contains(&board) { "  (rebuilt)" } else { "" };
+                println!("    board {board}: keeps {} bytes: {} ..{rebuilt}", self.share_len(), begin.join(" "));
+            } else {
+                println!("    board {board}: out of service");
+            }
+        }
+    }
+
+    /// Takes two boards out, and rebuilds new ones in their places together. `step` is the number of the first of the two steps.
+    fn swap(&mut self, step: usize, boards: [usize; 2]) -> Result<(), Box<dyn Error>> {
+        let [one, other] = boards;
+        for board in boards {
+            self.record.lose(board)?;
+            let length = CAPACITY * SIZES.share_len();
+            self.area[board * length..][..length].fill(0xEE);
+        }
+        println!("\n{step}. Boards {one} and {other} fail and are swapped for new ones, which hold nothing of use.\n");
+        self.print_boards();
+
+        println!("\n{}. The new boards are rebuilt together.\n", step + 1);
+        let helpers: Vec<usize> = (0..SIZES.n).filter(|board| !boards.contains(board)).collect();
+        let moved = self.record.repair(&mut self.area, &boards, &helpers.repeat(2))?;
+        self.rebuilt.extend(boards);
+        self.print_packets(one, other, &helpers);
+        self.print_packets(other, one, &helpers);
+        let whole = 2 * self.record.length();
+        println!(
+            "    The bus carried {moved} bytes. Fetching the whole file for each of the two boards would take {whole}:"
+        );
+        println!("    this way the bus carries {} % of that.\n", (100 * moved).div_ceil(whole));
+        self.print_boards();
+        Ok(())
+    }
+
+    /// What a fresh board hears.
+    fn print_packets(&self, board: usize, partner: usize, helpers: &[usize]) {
+        let length = self.record.length();
+        let names: Vec<String> = helpers.iter().map(usize::to_string).collect();
+        println!(
+            "    board {board} hears {} bytes from each of the boards {}, then {} bytes from new board {partner}",
+            SIZES.helper_packet_len(length),
+            names.join(", "),
+            SIZES.exchange_packet_len(length)
+        );
+    }
+}

@@ -1,0 +1,135 @@
+//! The calls of single boards. They keep no record: each is given the sizes and the file's length. Each writes to the first bytes of `out`
+//! and answers how many; the rest of `out` stays. Lists of shares and packets are one slice, the pieces one after another in the order of
+//! their list of boards.
+
+use crate::refusal::result;
+use crate::{sys, Refusal, Sizes};
+
+// Safety, for every call below: a slice is handed over as its pointer and its length, so it is valid for as many elements; the pointer of a
+// slice is never null; and `out` is lent to this call alone, so it overlaps nothing else.
+
+/// The share of board `node` of a file.
+pub fn share(sizes: Sizes, node: usize, file: &[u8], out: &mut [u8]) -> Result<usize, Refusal> {
+    let Sizes { n, k, d, r } = sizes;
+    result(unsafe { sys::zbk_share(n, k, d, r, node, file.as_ptr(), file.len(), out.as_mut_ptr(), out.len()) })
+}
+
+/// The file of `length` bytes that k boards' shares give; refused with [`Refusal::Disagree`] where no file of that length has them.
+pub fn file(sizes: Sizes, length: usize, boards: &[usize], shares: &[u8], out: &mut [u8]) -> Result<usize, Refusal> {
+    let Sizes { n, k, d, r } = sizes;
+    result(unsafe {
+        sys::zbk_file(
+            n,
+            k,
+            d,
+            r,
+            length,
+            boards.as_ptr(),
+            boards.len(),
+            shares.as_ptr(),
+            shares.len(),
+            out.as_mut_ptr(),
+            out.len(),
+        )
+    })
+}
+
+/// What `helper` sends to the fresh board `receiver`, from its own share.
+pub fn helper_packet(
+    sizes: Sizes,
+    length: usize,
+    helper: usize,
+    receiver: usize,
+    share: &[u8],
+    out: &mut [u8],
+) -> Result<usize, Refusal> {
+    let Sizes { n, k, d, r } = sizes;
+    result(unsafe {
+        sys::zbk_helper_packet(
+            n,
+            k,
+            d,
+            r,
+            length,
+            helper,
+            receiver,
+            share.as_ptr(),
+            share.len(),
+            out.as_mut_ptr(),
+            out.len(),
+        )
+    })
+}
+
+/// What the fresh board `board` sends to the fresh board `receiver`, from the packets of its d helpers.
+pub fn exchange_packet(
+    sizes: Sizes,
+    length: usize,
+    board: usize,
+    helpers: &[usize],
+    packets: &[u8],
+    receiver: usize,
+    out: &mut [u8],
+) -> Result<usize, Refusal> {
+    let Sizes { n, k, d, r } = sizes;
+    result(unsafe {
+        sys::zbk_exchange_packet(
+            n,
+            k,
+            d,
+            r,
+            length,
+            board,
+            helpers.as_ptr(),
+            helpers.len(),
+            packets.as_ptr(),
+            packets.len(),
+            receiver,
+            out.as_mut_ptr(),
+            out.len(),
+        )
+    })
+}
+
+/// The share of the fresh board `board`, from the packets of its d helpers and of the r − 1 other fresh boards.
+#[allow(clippy::too_many_arguments)]
+pub fn finished_share(
+    sizes: Sizes,
+    length: usize,
+    board: usize,
+    helpers: &[usize],
+    packets: &[u8],
+    partners: &[usize],
+    partner_packets: &[u8],
+    out: &mut [u8],
+) -> Result<usize, Refusal> {
+    let Sizes { n, k, d, r } = sizes;
+    result(unsafe {
+        sys::zbk_finished_share(
+            n,
+            k,
+            d,
+            r,
+            length,
+            board,
+            helpers.as_ptr(),
+            helpers.len(),
+            packets.as_ptr(),
+            packets.len(),
+            partners.as_ptr(),
+            partners.len(),
+            partner_packets.as_ptr(),
+            partner_packets.len(),
+            out.as_mut_ptr(),
+            out.len(),
+        )
+    })
+}
+
+/// A share as text: seven lines, the sizes, the board, the length and the share in hexadecimal.
+pub fn share_text(sizes: Sizes, length: usize, node: usize, share: &[u8], out: &mut [u8]) -> Result<usize, Refusal> {
+    let Sizes { n, k, d, r } = sizes;
+    result(unsafe {
+        sys::zbk_share_text(n, k, d, r, length, node, share.as_ptr(), share.len(), out.as_mut_ptr(), out.len())
+    })
+}

@@ -1,0 +1,45 @@
+//! A stock store for picking robots, proved: a file is spread over n shelf boards so that any k of them give it back, and r fresh boards are
+//! rebuilt together, each from d helpers and the other fresh boards (arXiv 1207.0879, section IV). This crate is a thin safe layer over the
+//! archive `libzebrankai.a`, whose calls end on all input and are proved to give what their definitions say.
+//!
+//! [`Record`] is the store: set up, write, lose, repair, read over an area that the caller lends. The functions of [`board`] are the calls
+//! that single boards make, with no record. Every call answers with its result or with one [`Refusal`], and after a refusal nothing has
+//! changed: no word of the record, no byte of a lent buffer.
+//!
+//! ```
+//! use zebrankai::{Record, Refusal, Sizes};
+//!
+//! let sizes = Sizes { n: 7, k: 3, d: 4, r: 2 };
+//! let stock = b"aspirin 100 mg: 42 boxes\n";
+//!
+//! let mut area = vec![0; sizes.area_len(8)];
+//! let mut record = Record::set_up(sizes, 8)?;
+//! record.write(&mut area, stock)?;
+//!
+//! record.lose(1)?;
+//! record.lose(4)?;
+//! let mut file = vec![0; record.length()];
+//! assert_eq!(record.read(&area, &[4, 1, 6], &mut file), Err(Refusal::Down));
+//!
+//! // four helpers for board 1, then four for board 4
+//! let moved = record.repair(&mut area, &[1, 4], &[0, 2, 3, 5, 6, 5, 3, 2])?;
+//! assert_eq!(moved, sizes.stripes(stock.len()) * 2 * sizes.share_len());
+//!
+//! record.read(&area, &[4, 1, 6], &mut file)?;
+//! assert_eq!(file, stock);
+//! # Ok::<(), Refusal>(())
+//! ```
+//!
+//! The archive is linked by `build.rs`: `target/staticlib/libzebrankai.a` of this repository, which `rt staticlib zebrankai` makes, or the
+//! file that the environment variable `ZBK_ARCHIVE` names.
+#![warn(missing_docs)]
+
+pub mod board;
+mod record;
+mod refusal;
+mod sizes;
+mod sys;
+
+pub use record::Record;
+pub use refusal::Refusal;
+pub use sizes::{Sizes, MAX_BOARDS, MAX_STRIPES};

@@ -1,0 +1,114 @@
+//! The store: a record of eight words, over an area that the caller lends to each call.
+
+use crate::refusal::result;
+use crate::{sys, Refusal, Sizes};
+
+/// The record of a store: its sizes, its capacity, whether a file was written and how long it is, and which boards are in service. It
+/// belongs to one area of [`Sizes::area_len`] bytes, in which the boards stand one after another; give each call the area as the last call
+/// left it. A record can be kept as its [`words`](Record::words).
+#[derive(Clone, Copy, Debug, PartialEq, Eq, Hash)]
+pub struct Record {
+    words: [u64; 8],
+}
+
+// Safety, for every call below: a slice is handed over as its pointer and its length, so it is valid for as many elements; the pointer of a
+// slice is never null; and the record, an area to change and an output are each lent to this call alone, so they overlap nothing else.
+
+impl Record {
+    /// A new store with no file and no board in service. `capacity` is the number of stripes that each board has room for, 1 to 4,096.
+    pub fn set_up(sizes: Sizes, capacity: usize) -> Result<Record, Refusal> {
+        let mut record = Record { words: [0; 8] };
+        let Sizes { n, k, d, r } = sizes;
+        let words = &mut record.words;
+        result(unsafe { sys::zbk_set_up(words.as_mut_ptr(), words.len(), n, k, d, r, capacity) })?;
+        Ok(record)
+    }
+
+    /// A record of words that were kept. Any words are taken; the calls refuse those that no call hands out, with [`Refusal::Size`].
+    pub fn from_words(words: [u64; 8]) -> Record {
+        Record { words }
+    }
+
+    /// The words: n, k, d, r, capacity, written (0 or 1), length, marks (bit i for board i).
+    pub fn words(&self) -> [u64; 8] {
+        self.words
+    }
+
+    /// The sizes of the store.
+    pub fn sizes(&self) -> Sizes {
+        let [n, k, d, r, ..] = self.words.map(|word| word as usize);
+        Sizes { n, k, d, r }
+    }
+
+    /// The stripes that each board has room for.
+    pub fn capacity(&self) -> usize {
+        self.words[4] as usize
+    }
+
+    /// Whether a file was written.
+    pub fn has_file(&self) -> bool {
+        self.words[5] == 1
+    }
+
+    /// The length of the last file written; 0 where there is none.
+    pub fn length(&self) -> usize {
+        self.words[6] as usize
+    }
+
+    /// Whether a board is in service.
+    pub fn in_service(&self, board: usize) -> bool {
+        board < 64 && self.words[7] >> board & 1 == 1
+    }
+
+    /// Writes a file: every board gets its share and comes into service.
+    pub fn write(&mut self, area: &mut [u8], file: &[u8]) -> Result<(), Refusal> {
+        let words = &mut self.words;
+        result(unsafe {
+            sys::zbk_write(words.as_mut_ptr(), words.len(), area.as_mut_ptr(), area.len(), file.as_ptr(), file.len())
+        })
+        .map(drop)
+    }
+
+    /// Takes a board out of service.
+    pub fn lose(&mut self, board: usize) -> Result<(), Refusal> {
+        let words = &mut self.words;
+        result(unsafe { sys::zbk_lose(words.as_mut_ptr(), words.len(), board) }).map(drop)
+    }
+
+    /// Rebuilds r fresh boards together, in service or not before. `helpers` has r × d numbers: the d helpers of the first fresh board, then
+    /// those of the second, and so on. All fresh boards come into service; answers the bytes moved between boards.
+    pub fn repair(&mut self, area: &mut [u8], fresh: &[usize], helpers: &[usize]) -> Result<usize, Refusal> {
+        let words = &mut self.words;
+        result(unsafe {
+            sys::zbk_repair(
+                words.as_mut_ptr(),
+                words.len(),
+                area.as_mut_ptr(),
+                area.len(),
+                fresh.as_ptr(),
+                fresh.len(),
+                helpers.as_ptr(),
+                helpers.len(),
+            )
+        })
+    }
+
+    /// Reads the file from k boards into the first [`length`](Record::length) bytes of `out`; the rest of `out` stays.
+    pub fn read(&self, area: &[u8], boards: &[usize], out: &mut [u8]) -> Result<(), Refusal> {
+        // the call is lent a copy, since a read hands on the record as it came
+        let mut words = self.words;
+        result(unsafe {
+            sys::zbk_read(
+                words.as_mut_ptr(),
+                words.len(),
+                area.as_ptr(),
+                area.len(),
+                boards.as_ptr(),
+                boards.len(),
+                out.as_mut_ptr(),
+                out.len(),
+            )
+        })
+        .map(drop)
+    }
+}

@@ -1,0 +1,111 @@
+//! The refusals, and what an answer of the archive says.
+
+use std::error::Error;
+use std::fmt;
+
+/// Why a call was refused. Where several hold, document 01's order says which is given.
+#[derive(Clone, Copy, Debug, PartialEq, Eq, Hash)]
+#[repr(u8)]
+pub enum Refusal {
+    /// The sizes are not legal, the capacity is out of range, or the record is one that no call hands out.
+    Size = 1,
+    /// A lent area, share or packet slice has another length than the sizes give.
+    Area = 2,
+    /// The file is too long.
+    Long = 3,
+    /// A list has the wrong number of boards.
+    Count = 4,
+    /// A board number is n or more.
+    Node = 5,
+    /// A board is named twice.
+    Repeat = 6,
+    /// The output is too short.
+    Short = 7,
+    /// No file was written yet.
+    Empty = 8,
+    /// A named board is out of service.
+    Down = 9,
+    /// The shares belong to no file of this length.
+    Disagree = 10,
+    /// Two equal points in one interpolation; it never happens with this code's points.
+    Points = 11,
+}
+
+impl Refusal {
+    /// All refusals, in the order of their numbers.
+    pub const ALL: [Refusal; 11] = [
+        Refusal::Size,
+        Refusal::Area,
+        Refusal::Long,
+        Refusal::Count,
+        Refusal::Node,
+        Refusal::Repeat,
+        Refusal::Short,
+        Refusal::Empty,
+        Refusal::Down,
+        Refusal::Disagree,
+        Refusal::Points,
+    ];
+
+    /// The refusal with a number; none where no refusal has it.
+    pub fn from_number(number: u8) -> Option<Refusal> {
+        Refusal::ALL.into_iter().find(|refusal| refusal.number() == number)
+    }
+
+    /// The refusal's number, as document 01 gives it.
+    pub fn number(self) -> u8 {
+        self as u8
+    }
+
+    /// The refusal's name, as document 01 gives it.
+    pub fn name(self) -> &'static str {
+        match self {
+            Refusal::Size => "SIZE",
+            Refusal::Area => "AREA",
+            Refusal::Long => "LONG",
+            Refusal::Count => "COUNT",
+            Refusal::Node => "NODE",
+            Refusal::Repeat => "REPEAT",
+            Refusal::Short => "SHORT",
+            Refusal::Empty => "EMPTY",
+            Refusal::Down => "DOWN",
+            Refusal::Disagree => "DISAGREE",
+            Refusal::Points => "POINTS",
+        }
+    }
+
+    /// What it means, in one plain sentence.
+    pub fn sentence(self) -> &'static str {
+        match self {
+            Refusal::Size => {
+                "The sizes are not legal, the capacity is not 1 to 4,096 stripes, or the record is one that no call hands out."
+            }
+            Refusal::Area => "The area, or a slice of shares or packets, has another length than the sizes give.",
+            Refusal::Long => "The file is longer than the store's capacity, or than 4,096 stripes at board level.",
+            Refusal::Count => "A list has the wrong number of boards.",
+            Refusal::Node => "A board number is n or more.",
+            Refusal::Repeat => "A board is named twice where each must be another one.",
+            Refusal::Short => "The output is shorter than what is to be written.",
+            Refusal::Empty => "A repair or a read before any file was written.",
+            Refusal::Down => "A board to read from, or a helper, is out of service.",
+            Refusal::Disagree => "No file of this length has these shares.",
+            Refusal::Points => "Two equal points in one interpolation; it never happens with this code's points.",
+        }
+    }
+}
+
+impl fmt::Display for Refusal {
+    fn fmt(&self, to: &mut fmt::Formatter) -> fmt::Result {
+        write!(to, "{} ({}): {}", self.name(), self.number(), self.sentence())
+    }
+}
+
+impl Error for Refusal {}
+
+/// What an answer of the archive says: the refusal's number is in its low eight bits, what an accepted call reports above them.
+pub(crate) fn result(answer: u64) -> Result<usize, Refusal> {
+    match (answer & 255) as u8 {
+        0 => Ok((answer >> 8) as usize),
+        number => Err(Refusal::from_number(number).expect("the archive answers with document 01's numbers only")),
+    }
+}

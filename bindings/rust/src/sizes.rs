@@ -1,0 +1,75 @@
+//! The sizes of the code, and the lengths that follow from them.
+
+/// The most boards.
+pub const MAX_BOARDS: usize = 32;
+
+/// The most stripes of a file, and the greatest capacity of a store.
+pub const MAX_STRIPES: usize = 4096;
+
+/// n boards, numbered 0 to n − 1; k read; d helpers; r fresh boards. Legal: 1 ≤ k ≤ d, r ≥ 1, d + r ≤ n ≤ 32. The calls refuse sizes that
+/// are not legal; the lengths here are then 0.
+#[derive(Clone, Copy, Debug, PartialEq, Eq, Hash)]
+pub struct Sizes {
+    /// boards
+    pub n: usize,
+    /// boards that give the file back
+    pub k: usize,
+    /// helpers of each fresh board
+    pub d: usize,
+    /// boards rebuilt together
+    pub r: usize,
+}
+
+impl Sizes {
+    /// Whether the calls accept these sizes.
+    pub fn is_legal(self) -> bool {
+        let Sizes { n, k, d, r } = self;
+        n <= MAX_BOARDS && d < n && r <= n - d && 1 <= r && 1 <= k && k <= d
+    }
+
+    /// Bytes of a share for each stripe: 2d + r − 1.
+    pub fn share_len(self) -> usize {
+        if self.is_legal() {
+            2 * self.d + self.r - 1
+        } else {
+            0
+        }
+    }
+
+    /// Bytes of the file that a stripe carries: k(2d + r − k).
+    pub fn stripe_len(self) -> usize {
+        if self.is_legal() {
+            self.k * (2 * self.d + self.r - self.k)
+        } else {
+            0
+        }
+    }
+
+    /// The stripes of a file of `length` bytes: the least number that holds them.
+    pub fn stripes(self, length: usize) -> usize {
+        match self.stripe_len() {
+            0 => 0,
+            stripe_len => length.div_ceil(stripe_len),
+        }
+    }
+
+    /// The longest file of `stripes` stripes.
+    pub fn longest(self, stripes: usize) -> usize {
+        stripes * self.stripe_len()
+    }
+
+    /// Bytes of a helper packet for a file of `length` bytes: two for each stripe.
+    pub fn helper_packet_len(self, length: usize) -> usize {
+        2 * self.stripes(length)
+    }
+
+    /// Bytes of an exchange packet for a file of `length` bytes: one for each stripe.
+    pub fn exchange_packet_len(self, length: usize) -> usize {
+        self.stripes(length)
+    }
+
+    /// Bytes of the area of a store with room for `capacity` stripes on each board.
+    pub fn area_len(self, capacity: usize) -> usize {
+        self.n * capacity * self.share_len()
+    }
+}

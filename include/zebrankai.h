@@ -1,0 +1,144 @@
+/*
+ * zebrankai.h: the calls of the archive libzebrankai.a for C and C++.
+ *
+ * A stock store for picking robots: a file is spread over n shelf boards so that any k of them give it back, and r fresh boards are rebuilt
+ * together, each from d helpers and the other fresh boards (arXiv 1207.0879, section IV).
+ *
+ * Sizes:   n boards, numbered 0 to n - 1; k read; d helpers; r fresh boards. Legal: 1 <= k <= d, r >= 1, d + r <= n <= 32.
+ * Share:   2d + r - 1 bytes for each stripe.          Stripe: carries k(2d + r - k) bytes of the file.
+ * Stripes: S, the least number of stripes that hold the file's length.
+ *
+ * What every call keeps to:
+ * - It ends on all input, made-up records and lists included, with its result or with one refusal.
+ * - It answers one number. zbk_refusal(answer) is 0 where the call was accepted, else the refusal's number. zbk_value(answer) is what an
+ *   accepted call reports: the bytes written by a board-level call, the bytes moved by a repair, else 0.
+ * - After a refusal no word of the record and no byte of any buffer has changed.
+ * - It keeps nothing between calls and allocates nothing.
+ *
+ * What the caller owes: a pointer is followed by the number of its elements, and points to that many; it is not NULL, also where that number
+ * is 0; and what a call may change (record, area, out) does not overlap anything else that the call is lent.
+ *
+ * Lists of shares and packets are one buffer each, the pieces one after another in the order of their list of boards.
+ */
+#ifndef ZEBRANKAI_H
+#define ZEBRANKAI_H
+
+#include <stddef.h>
+#include <stdint.h>
+
+#ifdef __cplusplus
+extern "C" {
+#endif
+
+/* Limits of the sizes, and the words of a record. */
+enum {
+    ZBK_MAX_BOARDS = 32,
+    ZBK_MAX_STRIPES = 4096,
+    ZBK_RECORD_WORDS = 8
+};
+
+/* Why a call was refused. Where several hold, document 01's order says which is given. */
+enum zbk_refusal_number {
+    /* The call was accepted. */
+    ZBK_ACCEPTED = 0,
+    /* The sizes are not legal, the capacity is not 1 to 4,096 stripes, or the record is one that no call hands out. */
+    ZBK_SIZE = 1,
+    /* The area, or a slice of shares or packets, has another length than the sizes give. */
+    ZBK_AREA = 2,
+    /* The file is longer than the store's capacity, or than 4,096 stripes at board level. */
+    ZBK_LONG = 3,
+    /* A list has the wrong number of boards. */
+    ZBK_COUNT = 4,
+    /* A board number is n or more. */
+    ZBK_NODE = 5,
+    /* A board is named twice where each must be another one. */
+    ZBK_REPEAT = 6,
+    /* The output is shorter than what is to be written. */
+    ZBK_SHORT = 7,
+    /* A repair or a read before any file was written. */
+    ZBK_EMPTY = 8,
+    /* A board to read from, or a helper, is out of service. */
+    ZBK_DOWN = 9,
+    /* No file of this length has these shares. */
+    ZBK_DISAGREE = 10,
+    /* Two equal points in one interpolation; it never happens with this code's points. */
+    ZBK_POINTS = 11
+};
+
+/* The words of a record, by place. Keep them together with the area; change them only by the calls. */
+enum zbk_record_word {
+    ZBK_WORD_N = 0,
+    ZBK_WORD_K = 1,
+    ZBK_WORD_D = 2,
+    ZBK_WORD_R = 3,
+    /* stripes that each board has room for */
+    ZBK_WORD_CAPACITY = 4,
+    /* 1 where a file was written, else 0 */
+    ZBK_WORD_WRITTEN = 5,
+    /* the length of that file */
+    ZBK_WORD_LENGTH = 6,
+    /* bit i is set where board i is in service */
+    ZBK_WORD_MARKS = 7
+};
+
+/* The refusal's number in an answer: 0 where the call was accepted. */
+static inline unsigned zbk_refusal(uint64_t answer) { return (unsigned)(answer & 255); }
+
+/* What an accepted call reports. */
+static inline uint64_t zbk_value(uint64_t answer) { return answer >> 8; }
+
+/* Board level: these calls keep no record. `length` is the file's length. Each writes to the first bytes of out and reports how many; the
+ * rest of out stays. */
+
+/* The share of board `node` of a file: S(2d + r - 1) bytes. */
+uint64_t zbk_share(size_t n, size_t k, size_t d, size_t r, size_t node, const uint8_t *file, size_t file_len, uint8_t *out, size_t out_len);
+
+/* The file of `length` bytes that k boards' shares give; refused where no file of that length has them. */
+uint64_t zbk_file(size_t n, size_t k, size_t d, size_t r, size_t length, const size_t *boards, size_t boards_count, const uint8_t *shares,
+                  size_t shares_len, uint8_t *out, size_t out_len);
+
+/* What `helper` sends to the fresh board `receiver`, from its own share: 2S bytes. */
+uint64_t zbk_helper_packet(size_t n, size_t k, size_t d, size_t r, size_t length, size_t helper, size_t receiver, const uint8_t *share,
+                           size_t share_len, uint8_t *out, size_t out_len);
+
+/* What the fresh board `board` sends to the fresh board `receiver`, from the packets of its d helpers: S bytes. */
+uint64_t zbk_exchange_packet(size_t n, size_t k, size_t d, size_t r, size_t length, size_t board, const size_t *helpers,
+                             size_t helpers_count, const uint8_t *packets, size_t packets_len, size_t receiver, uint8_t *out,
+                             size_t out_len);
+
+/* The share of the fresh board `board`, from the packets of its d helpers and of the r - 1 other fresh boards: S(2d + r - 1) bytes. */
+uint64_t zbk_finished_share(size_t n, size_t k, size_t d, size_t r, size_t length, size_t board, const size_t *helpers,
+                            size_t helpers_count, const uint8_t *packets, size_t packets_len, const size_t *partners,
+                            size_t partners_count, const uint8_t *partner_packets, size_t partner_packets_len, uint8_t *out,
+                            size_t out_len);
+
+/* A share as text: seven lines, the sizes, the board, the length and the share in hexadecimal. */
+uint64_t zbk_share_text(size_t n, size_t k, size_t d, size_t r, size_t length, size_t node, const uint8_t *share, size_t share_len,
+                        uint8_t *out, size_t out_len);
+
+/* The store: a record of eight words, and an area of n × capacity × (2d + r - 1) bytes that holds the boards one after another. Each call
+ * is given the record and the area as the last call left them. */
+
+/* A new store with no file: all eight words are written, and what they were before does not matter. */
+uint64_t zbk_set_up(uint64_t *record, size_t record_words, size_t n, size_t k, size_t d, size_t r, size_t capacity);
+
+/* Writes a file: every board gets its share and comes into service. */
+uint64_t zbk_write(uint64_t *record, size_t record_words, uint8_t *area, size_t area_len, const uint8_t *file, size_t file_len);
+
+/* Takes a board out of service. */
+uint64_t zbk_lose(uint64_t *record, size_t record_words, size_t board);
+
+/* Rebuilds r fresh boards together. `helpers` has r × d numbers: the d helpers of the first fresh board, then those of the second, and so
+ * on. All fresh boards come into service; reports the bytes moved between boards. */
+uint64_t zbk_repair(uint64_t *record, size_t record_words, uint8_t *area, size_t area_len, const size_t *fresh, size_t fresh_count,
+                    const size_t *helpers, size_t helpers_count);
+
+/* Reads the file from k boards into the first bytes of out; the rest of out stays. The record and the area do not change. */
+uint64_t zbk_read(uint64_t *record, size_t record_words, const uint8_t *area, size_t area_len, const size_t *boards, size_t boards_count,
+                  uint8_t *out, size_t out_len);
+
+#ifdef __cplusplus
+}
+#endif
+
+#endif

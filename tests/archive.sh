@@ -1,0 +1,83 @@
+#!/bin/sh
+# All that stands on the archive: the C header and the C example, the Rust bindings, the demo, and the unrelated coder, which runs the figures
+# of document 01 and random calls through the archive and must report no mismatch, and must report one that is made on purpose. Proves and
+# builds the archive first; ZBK_ARCHIVE names another one to use instead, seen from the top folder. One line for each step; ends with exit
+# code 1 where a step fails.
+set -eu
+cd "$(dirname "$0")/.."
+CARGO_TARGET_DIR=$PWD/target/cargo
+export CARGO_TARGET_DIR
+work=target/archive
+mkdir -p "$work"
+
+# step NAME COMMAND...: runs a command quietly; what it said is shown where it fails
+step() {
+    name=$1
+    shift
+    if "$@" >"$work/log" 2>&1; then
+        echo "ok $name"
+    else
+        cat "$work/log"
+        echo "FAIL $name"
+        exit 1
+    fi
+}
+
+archive=${ZBK_ARCHIVE:-target/staticlib/libzebrankai.a}
+step "the archive: $archive" sh tests/prove_archive.sh
+
+strict='-Wall -Wextra -Werror -Iinclude'
+# shellcheck disable=SC2086 # the options are words
+step "the C example compiles" gcc -std=c11 -pedantic $strict examples/c/shelf.c "$archive" -o "$work/shelf"
+step "the C example writes, loses, repairs and reads" "$work/shelf"
+valgrind=$(command -v valgrind || true)
+if [ -n "$valgrind" ]; then
+    step "valgrind finds nothing in it" "$valgrind" --error-exitcode=1 --leak-check=full "$work/shelf"
+else
+    echo "skipped valgrind: it is not on this machine"
+fi
+
+# the header in C++: a set up is accepted
+cat >"$work/header.cc" <<'END'
+#include "zebrankai.h"
+int main() {
+    uint64_t record[ZBK_RECORD_WORDS] = {0};
+    return static_cast<int>(zbk_refusal(zbk_set_up(record, ZBK_RECORD_WORDS, 5, 2, 3, 2, 1)));
+}
+END
+# shellcheck disable=SC2086
+step "the header compiles as C++" g++ -std=c++11 $strict "$work/header.cc" "$archive" -o "$work/header"
+step "and links" "$work/header"
+
+step "the Rust bindings' tests" cargo test --offline --quiet -j1 --manifest-path bindings/rust/Cargo.toml
+step "the demo" cargo run --offline --quiet --release -j1 --manifest-path bindings/rust/Cargo.toml --example demo
+step "the bench compiles" cargo build --offline --quiet --release -j1 --manifest-path tests/bench/Cargo.toml
+step "the unrelated coder compiles" cargo build --offline --quiet --release -j1 --manifest-path tests/coder/Cargo.toml
+
+coder=target/cargo/release/coder
+echo "the unrelated coder, figures and random calls:"
+"$coder" --verbose
+if [ -n "$valgrind" ]; then
+    step "valgrind finds nothing in its first calls" "$valgrind" --error-exitcode=1 "$coder" --seed 2 --calls 400
+fi
+
+# falsified SEED KIND: the coder reports just the call whose answer it altered itself
+falsified() {
+    status=0
+    "$coder" --seed "$1" --calls 4000 --wrong "$2" || status=$?
+    [ "$status" -eq 1 ]
+}
+for kind in answer byte word; do
+    for seed in 1 2 3 4; do
+        name="a wrong $kind is reported (seed $seed)"
+        step "$name" falsified "$seed" "$kind"
+        altered=$(sed -n 's/^WRONG call \([0-9]*\):.*/\1/p' "$work/log")
+        reported=$(sed -n 's/^MISMATCH call \([0-9]*\) .*/\1/p' "$work/log")
+        if [ -z "$altered" ] || [ "$altered" != "$reported" ]; then
+            cat "$work/log"
+            echo "FAIL $name: altered at call '$altered', reported at '$reported'"
+            exit 1
+        fi
+    done
+done
+echo "archive: all passed"

@@ -1,0 +1,218 @@
+//! The code of document 01 by linear algebra. A share is a matrix times the stripe, the matrix by direct evaluation of F's monomials at the
+//! board's points. Reading solves that linear system. What a helper or a fresh board sends, and what a fresh board keeps, are fixed sums of
+//! the bytes it has; the factors of each sum are the solution of a linear system too. Nothing is interpolated.
+
+use crate::field::FIELD;
+use crate::matrix::{Matrix, Solutions};
+
+pub const MAX_BOARDS: usize = 32;
+pub const MAX_STRIPES: usize = 4096;
+
+/// n boards, k read, d helpers, r fresh boards; legal or not.
+#[derive(Clone, Copy, Debug, PartialEq, Eq)]
+pub struct Sizes {
+    pub n: usize,
+    pub k: usize,
+    pub d: usize,
+    pub r: usize,
+}
+
+impl Sizes {
+    pub fn new(n: usize, k: usize, d: usize, r: usize) -> Sizes {
+        Sizes { n, k, d, r }
+    }
+
+    /// "1 ≤ k ≤ d, r ≥ 1, d + r ≤ n ≤ 32", over the integers.
+    pub fn legal(self) -> bool {
+        let sum = self.d as u128 + self.r as u128;
+        1 <= self.k && self.k <= self.d && self.r >= 1 && sum <= self.n as u128 && self.n <= MAX_BOARDS
+    }
+
+    /// α: "A share has α = 2d + r − 1 bytes per stripe".
+    pub fn share_len(self) -> usize {
+        2 * self.d + self.r - 1
+    }
+
+    /// B: "a stripe carries B = k(2d + r − k) file bytes".
+    pub fn stripe_len(self) -> usize {
+        self.k * (2 * self.d + self.r - self.k)
+    }
+
+    /// S: "the least number with S × B ≥ L".
+    pub fn stripes(self, length: usize) -> usize {
+        (0..).find(|&s| s * self.stripe_len() >= length).expect("some number is large enough")
+    }
+
+    /// "L may be 0 to 4,096 × B."
+    pub fn longest(self) -> usize {
+        MAX_STRIPES * self.stripe_len()
+    }
+
+    /// The powers of X and of Y of the stripe's bytes, in document 01's order.
+    fn monomials(self) -> Vec<(usize, usize)> {
+        let Sizes { k, d, r, .. } = self;
+        let mut list = Vec::new();
+        for i in 0..k {
+            list.extend((0..k).map(|j| (i, j)));
+        }
+        for i in 0..k {
+            list.extend((k..d + r).map(|j| (i, j)));
+        }
+        for i in k..d {
+            list.extend((0..k).map(|j| (i, j)));
+        }
+        list
+    }
+
+    /// The points (x, y) at which a board keeps values of F.
+    fn places(self, board: usize) -> Vec<(u8, u8)> {
+        let point = |t: usize| ((board + t) % self.n) as u8;
+        let own = board as u8;
+        let row = (0..self.d + self.r).map(|t| (own, point(t)));
+        let column = (1..self.d).map(|t| (point(t), own));
+        row.chain(column).collect()
+    }
+}
+
+/// The matrix that makes a board's share of a stripe: a row for each byte kept, a column for each byte of the stripe.
+pub fn generator(sizes: Sizes, board: usize) -> Matrix {
+    let monomials = sizes.monomials();
+    let places = sizes.places(board);
+    Matrix::new(places.len(), monomials.len(), |t, m| {
+        let ((x, y), (i, j)) = (places[t], monomials[m]);
+        FIELD.product(FIELD.power(x, i), FIELD.power(y, j))
+    })
+}
+
+/// A file's stripes, each a column, the last filled up with 00.
+fn stripes_of(sizes: Sizes, file: &[u8]) -> Matrix {
+    let length = sizes.stripe_len();
+    Matrix::new(length, sizes.stripes(file.len()), |t, s| file.get(s * length + t).copied().unwrap_or(0))
+}
+
+/// Pieces of `width` bytes, one for each stripe, as the columns of a matrix.
+fn columns_of(bytes: &[u8], width: usize) -> Matrix {
+    Matrix::new(width, bytes.len() / width, |t, s| bytes[s * width + t])
+}
+
+/// The columns of a matrix, one after another.
+fn joined(matrix: &Matrix) -> Vec<u8> {
+    let turned = matrix.transposed();
+    (0..matrix.columns()).flat_map(|s| turned.row(s).to_vec()).collect()
+}
+
+/// A board's share of a file, by a generator that is at hand.
+pub fn share_by(sizes: Sizes, generator: &Matrix, file: &[u8]) -> Vec<u8> {
+    joined(&generator.times(&stripes_of(sizes, file)))
+}
+
+/// A board's share of a file.
+pub fn share(sizes: Sizes, board: usize, file: &[u8]) -> Vec<u8> {
+    share_by(sizes, &generator(sizes, board), file)
+}
+
+/// The file of `length` bytes that has these shares, one after another in the order of the boards; none where no file has them.
+pub fn file(sizes: Sizes, length: usize, boards: &[usize], shares: &[u8]) -> Option<Vec<u8>> {
+    if sizes.stripes(length) == 0 {
+        return Some(Vec::new());
+    }
+    let width = sizes.share_len();
+    let each: Vec<Matrix> = boards.iter().map(|&board| generator(sizes, board)).collect();
+    let equations = Matrix::new(boards.len() * width, sizes.stripe_len(), |e, m| each[e / width].at(e % width, m));
+    let held: Vec<Matrix> = shares.chunks(shares.len() / boards.len()).map(|share| columns_of(share, width)).collect();
+    let values = Matrix::new(boards.len() * width, sizes.stripes(length), |e, s| held[e / width].at(e % width, s));
+    match equations.solve(&values) {
+        Solutions::None => None,
+        Solutions::Unsettled => panic!("{sizes:?}: the shares of boards {boards:?} do not settle a stripe"),
+        Solutions::One(stripes) => {
+            let mut bytes = joined(&stripes);
+            let padding = bytes.split_off(length);
+            padding.iter().all(|&byte| byte == 0).then_some(bytes)
+        }
+    }
+}
+
+/// For each target, the factors by which a polynomial of degree below the number of points has its value there as a sum of its values at the
+/// points: they are what makes the sum right for 1, X, X², and so on. A row for each target, a column for each point.
+fn factors(points: &[u8], targets: &[u8]) -> Matrix {
+    let powers = |at: &[u8]| Matrix::new(points.len(), at.len(), |e, t| FIELD.power(at[t], e));
+    match powers(points).solve(&powers(targets)) {
+        Solutions::One(found) => found.transposed(),
+        _ => panic!("the points {points:?} are not all different"),
+    }
+}
+
+fn points(boards: &[usize]) -> Vec<u8> {
+    boards.iter().map(|&board| board as u8).collect()
+}
+
+/// What `helper` sends to `receiver`, from any bytes in the place of its share.
+pub fn helper_packet(sizes: Sizes, helper: usize, receiver: usize, share: &[u8]) -> Vec<u8> {
+    let Sizes { d, r, .. } = sizes;
+    let kept = sizes.places(helper);
+    let ys: Vec<u8> = kept[..d + r].iter().map(|&(_, y)| y).collect();
+    // g's values: byte 0, then the last d − 1
+    let of_g: Vec<usize> = (0..d).map(|t| if t == 0 { 0 } else { d + r + t - 1 }).collect();
+    let xs: Vec<u8> = of_g.iter().map(|&place| kept[place].0).collect();
+    let by_f = factors(&ys, &[receiver as u8]);
+    let by_g = factors(&xs, &[receiver as u8]);
+    // the first byte is F(x_helper, y_receiver), a value of the helper's f; the second is F(x_receiver, y_helper), one of its g
+    let sums = Matrix::new(2, sizes.share_len(), |which, place| match which {
+        0 if place < d + r => by_f.at(0, place),
+        1 => of_g.iter().position(|&p| p == place).map_or(0, |t| by_g.at(0, t)),
+        _ => 0,
+    });
+    joined(&sums.times(&columns_of(share, sizes.share_len())))
+}
+
+/// The packets of helpers, one after another, as a matrix: a row for each helper, `which` of each pair, a column for each stripe.
+fn of_pairs(packets: &[u8], helpers: usize, which: usize) -> Matrix {
+    let stripes = packets.len() / helpers / 2;
+    Matrix::new(helpers, stripes, |h, s| packets[2 * (h * stripes + s) + which])
+}
+
+/// What a fresh board sends to `receiver`, from any bytes in the place of its helpers' packets: g's value at the receiver's point, g being
+/// settled by the first bytes at the helpers' points.
+pub fn exchange_packet(helpers: &[usize], packets: &[u8], receiver: usize) -> Vec<u8> {
+    joined(&factors(&points(helpers), &[receiver as u8]).times(&of_pairs(packets, helpers.len(), 0)))
+}
+
+/// What a fresh board keeps, from any bytes in the place of its helpers' and partners' packets.
+pub fn finished_share(
+    sizes: Sizes,
+    board: usize,
+    helpers: &[usize],
+    packets: &[u8],
+    partners: &[usize],
+    partner_packets: &[u8],
+) -> Vec<u8> {
+    let Sizes { d, r, .. } = sizes;
+    let firsts = of_pairs(packets, d, 0);
+    let seconds = of_pairs(packets, d, 1);
+    let stripes = firsts.columns();
+    let own = factors(&points(helpers), &[board as u8]).times(&firsts);
+    // f's values at the helpers' points, the partners', and its own
+    let known = Matrix::new(d + r, stripes, |t, s| match t {
+        t if t < d => seconds.at(t, s),
+        t if t < d + r - 1 => partner_packets[(t - d) * stripes + s],
+        _ => own.at(0, s),
+    });
+    let at = points(&[helpers, partners, &[board]].concat());
+    let kept = sizes.places(board);
+    let ys: Vec<u8> = kept[..d + r].iter().map(|&(_, y)| y).collect();
+    let xs: Vec<u8> = kept[d + r..].iter().map(|&(x, _)| x).collect();
+    let by_f = factors(&at, &ys).times(&known);
+    let by_g = factors(&points(helpers), &xs).times(&firsts);
+    let share =
+        Matrix::new(sizes.share_len(), stripes, |t, s| if t < d + r { by_f.at(t, s) } else { by_g.at(t - d - r, s) });
+    joined(&share)
+}
+
+/// A share as text: "Seven lines, each ended by byte 0A".
+pub fn share_text(sizes: Sizes, length: usize, node: usize, share: &[u8]) -> Vec<u8> {
+    let data: String = share.iter().map(|byte| format!("{byte:02x}")).collect();
+    let Sizes { n, k, d, r } = sizes;
+    let numbers = [("n", n), ("k", k), ("d", d), ("r", r), ("node", node), ("length", length)];
+    let lines: String = numbers.iter().map(|(name, number)| format!("{name}={number}\n")).collect();
+    format!("{lines}data={data}\n").into_bytes()
+}

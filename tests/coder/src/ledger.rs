@@ -1,0 +1,102 @@
+//! The ledger of document 01: a plain book kept beside the store. It is fed the sizes, the capacity, the area's length and each call's
+//! arguments other than record and area, and never an answer. It keeps the last file accepted and the boards in service.
+
+use crate::call::refusal::{AREA, COUNT, DOWN, EMPTY, LONG, NODE, REPEAT, SHORT};
+use crate::call::Call;
+use crate::code::Sizes;
+use std::collections::BTreeSet;
+
+pub struct Book {
+    pub sizes: Sizes,
+    pub capacity: usize,
+    pub area_len: usize,
+    pub file: Option<Vec<u8>>,
+    pub in_service: BTreeSet<usize>,
+}
+
+/// What the book answers: the answer, and all bytes of a read's output.
+pub struct Reply {
+    pub answer: u64,
+    pub out: Vec<u8>,
+}
+
+impl Book {
+    pub fn new(sizes: Sizes, capacity: usize, area_len: usize) -> Book {
+        Book { sizes, capacity, area_len, file: None, in_service: BTreeSet::new() }
+    }
+
+    /// The number of the first line that holds for a call, "1, 2, 3, 8, 4, 5, 6, 9, 7, 10, 11"; "1, 10 and 11 never hold in it".
+    fn refusal(&self, call: &Call, out: usize) -> Option<u8> {
+        let Sizes { n, k, d, r } = self.sizes;
+        let wrong_area = self.area_len != n * self.capacity * self.sizes.share_len();
+        let known = |boards: &[usize]| boards.iter().all(|board| (0..n).contains(board));
+        let serving = |boards: &[usize]| boards.iter().all(|board| self.in_service.contains(board));
+        let different = |boards: &[usize]| boards.iter().collect::<BTreeSet<_>>().len() == boards.len();
+        let lines: Vec<(u8, bool)> = match call {
+            Call::Write { file } => {
+                vec![(AREA, wrong_area), (LONG, file.len() > self.capacity * self.sizes.stripe_len())]
+            }
+            Call::Lose { board } => vec![(NODE, !known(&[*board]))],
+            Call::Repair { fresh, helpers } => {
+                let own_list_differs = helpers.chunks(d).all(different);
+                let apart = fresh.iter().all(|board| !helpers.contains(board));
+                vec![
+                    (AREA, wrong_area),
+                    (EMPTY, self.file.is_none()),
+                    (COUNT, (fresh.len(), helpers.len()) != (r, r * d)),
+                    (NODE, !known(fresh) || !known(helpers)),
+                    (REPEAT, !different(fresh) || !own_list_differs || !apart),
+                    (DOWN, !serving(helpers)),
+                ]
+            }
+            Call::Read { boards } => vec![
+                (AREA, wrong_area),
+                (EMPTY, self.file.is_none()),
+                (COUNT, boards.len() != k),
+                (NODE, !known(boards)),
+                (REPEAT, !different(boards)),
+                (DOWN, !serving(boards)),
+                (SHORT, out < self.file_len()),
+            ],
+            _ => unreachable!("a call that stands in no list of document 01"),
+        };
+        lines.into_iter().find(|(_, holds)| *holds).map(|(number, _)| number)
+    }
+
+    fn file_len(&self) -> usize {
+        self.file.as_ref().map_or(0, Vec::len)
+    }
+
+    /// S × r × (2d + r − 1).
+    fn moved(&self) -> usize {
+        self.sizes.stripes(self.file_len()) * self.sizes.r * (2 * self.sizes.d + self.sizes.r - 1)
+    }
+
+    /// Enters a call: what the store must answer, and the output of a read after it.
+    pub fn enter(&mut self, call: &Call, out: &[u8]) -> Reply {
+        let mut reply = Reply { answer: 0, out: out.to_vec() };
+        if let Some(number) = self.refusal(call, out.len()) {
+            reply.answer = u64::from(number);
+            return reply;
+        }
+        match call {
+            Call::Write { file } => {
+                self.file = Some(file.clone());
+                self.in_service = (0..self.sizes.n).collect();
+            }
+            Call::Lose { board } => {
+                self.in_service.remove(board);
+            }
+            Call::Repair { fresh, .. } => {
+                self.in_service.extend(fresh);
+                reply.answer = (self.moved() as u64) << 8;
+            }
+            Call::Read { .. } => {
+                let file = self.file.as_ref().expect("EMPTY does not hold");
+                reply.out[..file.len()].copy_from_slice(file);
+            }
+            _ => unreachable!("a call that stands in no list of document 01"),
+        }
+        reply
+    }
+}

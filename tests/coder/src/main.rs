@@ -1,0 +1,136 @@
+//! The unrelated coder: holds the archive to a coder that shares no method with it, and reports each mismatch with what repeats it.
+//!
+//!     coder [--seed N] [--calls N] [--only CASE] [--wrong answer|byte|word] [--trace] [--verbose]
+//!
+//! First the figures of document 01 are run, then random cases until so many calls are made: single calls at board level, single calls of the
+//! store over made-up records and areas, and long histories against a ledger. Each case draws from its own seed, made of the run's seed and
+//! the case's number: `--only` repeats one case. `--wrong` alters what the archive answers to one call, to show that this is reported.
+//! `--trace` prints each call before it is made, `--verbose` how often each call gave each refusal.
+//!
+//! The last line counts calls and mismatches. The exit code is 1 where there is a mismatch, or where in a run of 20,000 calls or more some
+//! refusal that a call can give was never met.
+
+mod archive;
+mod board;
+mod board_cases;
+mod call;
+mod code;
+mod draw;
+mod field;
+mod figures;
+mod histories;
+mod ledger;
+mod matrix;
+mod random;
+mod spoil;
+mod store;
+mod store_cases;
+mod trial;
+
+use random::Random;
+use std::process::ExitCode;
+use trial::{Place, Trial, Wrong, WrongKind};
+
+/// From how many calls on every refusal of every call must have been met.
+const ENOUGH: u64 = 20_000;
+
+struct Options {
+    seed: u64,
+    calls: u64,
+    only: Option<u64>,
+    wrong: Option<WrongKind>,
+    trace: bool,
+    verbose: bool,
+}
+
+fn options() -> Result<Options, String> {
+    let mut options = Options { seed: 1, calls: 300_000, only: None, wrong: None, trace: false, verbose: false };
+    let mut words = std::env::args().skip(1);
+    while let Some(word) = words.next() {
+        let mut number = || {
+            let value = words.next().ok_or(format!("{word} wants a number"))?;
+            value.parse::<u64>().map_err(|_| format!("{word} {value}: not a number"))
+        };
+        match word.as_str() {
+            "--seed" => options.seed = number()?,
+            "--calls" => options.calls = number()?,
+            "--only" => options.only = Some(number()?),
+            "--trace" => options.trace = true,
+            "--verbose" => options.verbose = true,
+            "--wrong" => options.wrong = Some(wrong_kind(words.next())?),
+            _ => return Err(format!("{word}: not an option")),
+        }
+    }
+    Ok(options)
+}
+
+fn wrong_kind(word: Option<String>) -> Result<WrongKind, String> {
+    match word.as_deref() {
+        Some("answer") => Ok(WrongKind::Answer),
+        Some("byte") => Ok(WrongKind::Byte),
+        Some("word") => Ok(WrongKind::Word),
+        _ => Err("--wrong wants answer, byte or word".to_string()),
+    }
+}
+
+/// Runs one case by its own numbers. The first ones are all kinds at extreme sizes, the others one kind at drawn sizes.
+fn run_case(trial: &mut Trial, case: u64) {
+    let mut random = Random::of_case(trial.seed, case);
+    trial.place = Place::Case(case);
+    if let Some(&sizes) = draw::EXTREMES.get(case as usize) {
+        board_cases::run(trial, &mut random, sizes);
+        store_cases::run(trial, &mut random, sizes);
+        histories::run(trial, &mut random, sizes);
+        return;
+    }
+    let sizes = draw::sizes(&mut random);
+    match random.below(9) {
+        0 => histories::run(trial, &mut random, sizes),
+        1..=4 => store_cases::run(trial, &mut random, sizes),
+        _ => board_cases::run(trial, &mut random, sizes),
+    }
+}
+
+fn main() -> ExitCode {
+    let options = match options() {
+        Ok(options) => options,
+        Err(problem) => {
+            eprintln!("coder: {problem}");
+            return ExitCode::from(2);
+        }
+    };
+    // a fault in the first three quarters, so that a call that fits it follows
+    let at = 1 + Random::of_case(options.seed, u64::MAX).next() % (options.calls.max(4) * 3 / 4);
+    let wrong = options.wrong.map(|kind| Wrong { at, kind });
+    let mut trial = Trial::new(options.seed, options.calls, wrong);
+    trial.trace = options.trace;
+    if let Some(case) = options.only {
+        run_case(&mut trial, case);
+    } else {
+        figures::run(&mut trial);
+        let mut case = 0;
+        while trial.calls < options.calls {
+            run_case(&mut trial, case);
+            case += 1;
+        }
+    }
+    finish(&trial, &options)
+}
+
+/// The table, what was never met, and the last line.
+fn finish(trial: &Trial, options: &Options) -> ExitCode {
+    if options.verbose {
+        trial.print_table();
+    }
+    let missing = trial.never_met();
+    let incomplete = options.only.is_none() && trial.calls >= ENOUGH && !missing.is_empty();
+    if incomplete {
+        println!("coder: never met: {}", missing.join(", "));
+    }
+    println!("coder: {} calls, {} mismatches (seed {})", trial.calls, trial.mismatches, trial.seed);
+    if incomplete || trial.mismatches > 0 {
+        ExitCode::FAILURE
+    } else {
+        ExitCode::SUCCESS
+    }
+}

@@ -1,0 +1,260 @@
+//! Spoils the arguments of a call: illegal sizes, lengths out of range, wrong lists and numbers, slices of another length, made-up records.
+//! What must be answered then is the model's to say.
+
+use crate::call::{Call, Lent};
+use crate::code::Sizes;
+use crate::draw;
+use crate::random::Random;
+use crate::store::word;
+
+/// The arguments of a call, by what they are.
+#[derive(Default)]
+struct Parts<'a> {
+    sizes: Option<&'a mut Sizes>,
+    length: Option<&'a mut usize>,
+    capacity: Option<&'a mut usize>,
+    numbers: Vec<&'a mut usize>,
+    lists: Vec<&'a mut Vec<usize>>,
+    slices: Vec<&'a mut Vec<u8>>,
+}
+
+impl Parts<'_> {
+    /// Every board that the call names.
+    fn named(&self) -> Vec<usize> {
+        let mut boards: Vec<usize> = self.numbers.iter().map(|number| **number).collect();
+        for list in &self.lists {
+            boards.extend(list.iter());
+        }
+        boards
+    }
+}
+
+fn parts(call: &mut Call) -> Parts<'_> {
+    let none = Parts::default();
+    match call {
+        Call::Share { sizes, node, file } => {
+            Parts { sizes: Some(sizes), numbers: vec![node], slices: vec![file], ..none }
+        }
+        Call::File { sizes, length, boards, shares } => {
+            Parts { sizes: Some(sizes), length: Some(length), lists: vec![boards], slices: vec![shares], ..none }
+        }
+        Call::Helper { sizes, length, helper, receiver, share } => Parts {
+            sizes: Some(sizes),
+            length: Some(length),
+            numbers: vec![helper, receiver],
+            slices: vec![share],
+            ..none
+        },
+        Call::Exchange { sizes, length, board, helpers, packets, receiver } => Parts {
+            sizes: Some(sizes),
+            length: Some(length),
+            numbers: vec![board, receiver],
+            lists: vec![helpers],
+            slices: vec![packets],
+            ..none
+        },
+        Call::Finished { sizes, length, board, helpers, packets, partners, partner_packets } => Parts {
+            sizes: Some(sizes),
+            length: Some(length),
+            numbers: vec![board],
+            lists: vec![helpers, partners],
+            slices: vec![packets, partner_packets],
+            ..none
+        },
+        Call::Text { sizes, length, node, share } => {
+            Parts { sizes: Some(sizes), length: Some(length), numbers: vec![node], slices: vec![share], ..none }
+        }
+        Call::SetUp { sizes, capacity } => Parts { sizes: Some(sizes), capacity: Some(capacity), ..none },
+        Call::Write { file } => Parts { slices: vec![file], ..none },
+        Call::Lose { board } => Parts { numbers: vec![board], ..none },
+        Call::Repair { fresh, helpers } => Parts { lists: vec![fresh, helpers], ..none },
+        Call::Read { boards } => Parts { lists: vec![boards], ..none },
+    }
+}
+
+/// Spoils a call and what it is lent in no, one or several places; `sizes` are those that the call was made for.
+pub fn spoil(random: &mut Random, sizes: Sizes, call: &mut Call, lent: &mut Lent) {
+    let places = random.pick(&[0, 0, 0, 0, 1, 1, 1, 2, 2, 3]);
+    for _ in 0..places {
+        if !lent.record.is_empty() && random.once_in(3) {
+            spoil_store(random, sizes, lent);
+        } else {
+            spoil_arguments(random, sizes, parts(call));
+        }
+    }
+}
+
+fn spoil_arguments(random: &mut Random, sizes: Sizes, mut parts: Parts) {
+    // every kind that the call has is as likely as the others
+    let kinds = [
+        parts.sizes.is_some(),
+        parts.length.is_some(),
+        parts.capacity.is_some(),
+        !parts.numbers.is_empty(),
+        !parts.lists.is_empty(),
+        !parts.slices.is_empty(),
+    ];
+    let there: Vec<usize> = (0..kinds.len()).filter(|&kind| kinds[kind]).collect();
+    match random.pick(&there) {
+        0 => *parts.sizes.expect("it is there") = spoilt_sizes(random, sizes),
+        1 => spoil_length(random, sizes, parts.length.expect("it is there")),
+        2 => *parts.capacity.expect("it is there") = random.pick(&[0, 1, 4096, 4097, 1 << 32, usize::MAX]),
+        3 => {
+            let place = random.below(parts.numbers.len());
+            let named = parts.named();
+            let again = random.once_in(3);
+            *parts.numbers[place] = if again { random.pick(&named) } else { draw::any_number(random, sizes.n) };
+        }
+        4 if parts.lists.len() == 2 && random.once_in(3) => {
+            let [one, other] = &mut parts.lists[..] else { unreachable!("there are two") };
+            if random.once_in(2) {
+                share_a_board(random, one, other);
+            } else {
+                share_a_board(random, other, one);
+            }
+        }
+        4 => {
+            let place = random.below(parts.lists.len());
+            spoil_list(random, sizes.n, parts.lists[place]);
+        }
+        _ => {
+            let place = random.below(parts.slices.len());
+            spoil_slice(random, sizes, parts.slices[place]);
+        }
+    }
+}
+
+/// Other sizes than these legal ones, mostly not legal.
+fn spoilt_sizes(random: &mut Random, sizes: Sizes) -> Sizes {
+    let Sizes { n, k, d, r } = sizes;
+    match random.below(14) {
+        0 => Sizes { n: 33, ..sizes },
+        1 => Sizes { n: d + r - 1, ..sizes },
+        2 => Sizes { k: d + 1, ..sizes },
+        3 => Sizes { k: 0, ..sizes },
+        4 => Sizes { r: 0, ..sizes },
+        5 => Sizes { r: n - d + 1, ..sizes },
+        // sums that wrap round in 64 bits
+        6 => Sizes { r: usize::MAX, ..sizes },
+        7 => Sizes { d: usize::MAX, ..sizes },
+        8 => Sizes { d: usize::MAX - r + 1, ..sizes },
+        // sizes that are legal once cut to a byte or to four bytes
+        9 => Sizes { n: n + 256, ..sizes },
+        10 => Sizes { n: n + (1 << 32), k: k + (1 << 32), d: d + (1 << 32), r },
+        11 => Sizes { n: d, k: d, d: n, r },
+        12 => Sizes { k: k.max(2) - 1, ..sizes },
+        _ => draw::sizes(random),
+    }
+}
+
+fn spoil_length(random: &mut Random, sizes: Sizes, length: &mut usize) {
+    let (now, stripe, longest) = (*length, sizes.stripe_len(), sizes.longest());
+    let choices = [
+        0,
+        1,
+        stripe - 1,
+        stripe,
+        stripe + 1,
+        now.wrapping_sub(1),
+        now.saturating_sub(1),
+        now.wrapping_add(1),
+        now.wrapping_add(1),
+        longest,
+        longest + 1,
+        longest + 1,
+        now.wrapping_add(1 << 32),
+        1 << 63,
+        usize::MAX,
+    ];
+    *length = random.pick(&choices);
+}
+
+fn spoil_list(random: &mut Random, n: usize, list: &mut Vec<usize>) {
+    match random.below(6) {
+        0 => list.push(random.below(n)),
+        1 => {
+            list.pop();
+        }
+        2 if list.len() > 1 => {
+            // one of them once more
+            let (from, to) = (random.below(list.len()), random.below(list.len()));
+            list[to] = list[from];
+        }
+        3 => list.clear(),
+        _ if !list.is_empty() => {
+            let place = random.below(list.len());
+            list[place] = draw::any_number(random, n);
+        }
+        _ => list.push(draw::any_number(random, n)),
+    }
+}
+
+/// Puts a board of one list into another: a fresh board among the helpers, or a helper among the partners.
+fn share_a_board(random: &mut Random, from: &[usize], to: &mut [usize]) {
+    if !from.is_empty() && !to.is_empty() {
+        let place = random.below(to.len());
+        to[place] = random.pick(from);
+    }
+}
+
+fn spoil_slice(random: &mut Random, sizes: Sizes, slice: &mut Vec<u8>) {
+    let now = slice.len();
+    let longest = sizes.longest();
+    let length = match random.below(8) {
+        0 => 0,
+        1..=2 => now.saturating_sub(1),
+        3..=4 => now + 1,
+        5 => now + sizes.share_len(),
+        // a file that is too long by one byte
+        6 if longest < 200_000 => longest + 1,
+        _ => random.within(0, 2 * now),
+    };
+    slice.resize(length, 0x5A);
+}
+
+fn spoil_store(random: &mut Random, sizes: Sizes, lent: &mut Lent) {
+    if random.once_in(3) {
+        let now = lent.area.len();
+        let length = random.pick(&[0, now.saturating_sub(1), now + 1, now + sizes.share_len(), 2 * now]);
+        lent.area.resize(length, 0x5A);
+    } else if random.once_in(5) {
+        let count = random.pick(&[0, 1, 7, 9, 16]);
+        lent.record.resize(count, 1);
+    } else if lent.record.len() == word::COUNT {
+        spoil_words(random, sizes, &mut lent.record);
+    }
+}
+
+/// Makes up a record: legal or not.
+fn spoil_words(random: &mut Random, sizes: Sizes, words: &mut [u64]) {
+    let most = words[word::CAPACITY].wrapping_mul(sizes.stripe_len() as u64);
+    let any = random.below(64);
+    let bit = random.pick(&[sizes.n, 31, 32, 33, 63, any]);
+    match random.below(11) {
+        0 => words[word::LENGTH] = most.wrapping_add(1),
+        1 => words[word::LENGTH] = random.pick(&[0, most, u64::MAX, 1 << 32]),
+        2 => words[word::MARKS] |= 1 << bit,
+        3 => words[word::MARKS] = random.next() & ((1 << sizes.n) - 1),
+        4 => words[word::MARKS] = 0,
+        5 => words[word::WRITTEN] = random.pick(&[2, 256, 257, 1 << 32, u64::MAX]),
+        6 => words[word::WRITTEN] ^= 1,
+        7 => words[word::CAPACITY] = random.pick(&[0, 4097, 1 << 32, u64::MAX]),
+        8 => {
+            // no file
+            words[word::WRITTEN] = 0;
+            words[word::LENGTH] = 0;
+            words[word::MARKS] = 0;
+        }
+        9 => {
+            let place = random.below(word::COUNT);
+            words[place] = random.next();
+        }
+        _ => {
+            let made_up = spoilt_sizes(random, sizes);
+            let numbers = [made_up.n, made_up.k, made_up.d, made_up.r];
+            for (word, number) in words.iter_mut().zip(numbers) {
+                *word = number as u64;
+            }
+        }
+    }
+}

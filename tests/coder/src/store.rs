@@ -1,0 +1,217 @@
+//! The coder's own model of the five calls of the store, over any record and any area: what each answers and leaves, refusals in document
+//! 01's order.
+
+use crate::call::refusal::{AREA, COUNT, DISAGREE, DOWN, EMPTY, LONG, NODE, REPEAT, SHORT, SIZE};
+use crate::call::{Call, Lent, Outcome};
+use crate::code::{self, Sizes, MAX_STRIPES};
+
+/// The places of a record's words.
+pub mod word {
+    pub const CAPACITY: usize = 4;
+    pub const WRITTEN: usize = 5;
+    pub const LENGTH: usize = 6;
+    pub const MARKS: usize = 7;
+    pub const COUNT: usize = 8;
+}
+
+/// A record that calls return.
+struct Record {
+    sizes: Sizes,
+    capacity: usize,
+    written: bool,
+    length: usize,
+    marks: Vec<bool>,
+}
+
+/// The words of a record.
+pub fn words(sizes: Sizes, capacity: usize, file_len: Option<usize>, in_service: &[usize]) -> Vec<u64> {
+    let marks = in_service.iter().fold(0, |marks, &board| marks | 1u64 << board);
+    let numbers = [sizes.n, sizes.k, sizes.d, sizes.r, capacity].map(|number| number as u64);
+    [&numbers[..], &[u64::from(file_len.is_some()), file_len.unwrap_or(0) as u64, marks]].concat()
+}
+
+/// "a capacity C of 1 to 4,096 stripes".
+fn in_range(capacity: usize) -> bool {
+    (1..=MAX_STRIPES).contains(&capacity)
+}
+
+impl Record {
+    /// None where the words are no record that a call returns: SIZE.
+    fn read(words: &[u64]) -> Option<Record> {
+        let number = |place: usize| usize::try_from(words[place]).ok();
+        if words.len() != word::COUNT {
+            return None;
+        }
+        let sizes = Sizes::new(number(0)?, number(1)?, number(2)?, number(3)?);
+        let capacity = number(word::CAPACITY)?;
+        if !sizes.legal() || !in_range(capacity) {
+            return None;
+        }
+        let length = number(word::LENGTH)?;
+        let written = words[word::WRITTEN] == 1;
+        let marks: Vec<bool> = (0..64).map(|board| words[word::MARKS] >> board & 1 == 1).collect();
+        let no_record = words[word::WRITTEN] > 1
+            || length > capacity * sizes.stripe_len()
+            || marks[sizes.n..].contains(&true)
+            || (!written && (length > 0 || marks.contains(&true)));
+        (!no_record).then_some(Record { sizes, capacity, written, length, marks })
+    }
+
+    /// Where the share of a board starts and ends in the area.
+    fn share(&self, board: usize) -> std::ops::Range<usize> {
+        let start = board * self.capacity * self.sizes.share_len();
+        start..start + self.sizes.stripes(self.length) * self.sizes.share_len()
+    }
+
+    fn area_len(&self) -> usize {
+        self.sizes.n * self.capacity * self.sizes.share_len()
+    }
+
+    fn some_down(&self, boards: &[usize]) -> bool {
+        boards.iter().any(|&board| !self.marks[board])
+    }
+
+    fn words(&self) -> Vec<u64> {
+        let in_service: Vec<usize> = (0..self.sizes.n).filter(|&board| self.marks[board]).collect();
+        words(self.sizes, self.capacity, self.written.then_some(self.length), &in_service)
+    }
+}
+
+fn has_repeat(list: &[usize]) -> bool {
+    (0..list.len()).any(|i| list[i + 1..].contains(&list[i]))
+}
+
+/// What a call of the store answers and leaves.
+pub fn expect(call: &Call, lent: &Lent) -> Outcome {
+    let result = match call {
+        Call::SetUp { sizes, capacity } => set_up(*sizes, *capacity, lent),
+        Call::Write { file } => write(file, lent),
+        Call::Lose { board } => lose(*board, lent),
+        Call::Repair { fresh, helpers } => repair(fresh, helpers, lent),
+        Call::Read { boards } => read(boards, lent),
+        _ => unreachable!("a board-level call"),
+    };
+    result.unwrap_or_else(|number| Outcome::refused(number, lent))
+}
+
+fn set_up(sizes: Sizes, capacity: usize, lent: &Lent) -> Result<Outcome, u8> {
+    if lent.record.len() != word::COUNT || !sizes.legal() || !in_range(capacity) {
+        return Err(SIZE);
+    }
+    let record = words(sizes, capacity, None, &[]);
+    Ok(Outcome::accepted(0, Lent { record, ..lent.clone() }))
+}
+
+/// The record and the area's length: 1, then 2.
+fn opened(lent: &Lent) -> Result<Record, u8> {
+    let record = Record::read(&lent.record).ok_or(SIZE)?;
+    if lent.area.len() != record.area_len() {
+        return Err(AREA);
+    }
+    Ok(record)
+}
+
+fn write(file: &[u8], lent: &Lent) -> Result<Outcome, u8> {
+    let mut record = opened(lent)?;
+    if file.len() > record.capacity * record.sizes.stripe_len() {
+        return Err(LONG);
+    }
+    record.written = true;
+    record.length = file.len();
+    let mut after = lent.clone();
+    for board in 0..record.sizes.n {
+        record.marks[board] = true;
+        after.area[record.share(board)].copy_from_slice(&code::share(record.sizes, board, file));
+    }
+    after.record = record.words();
+    Ok(Outcome::accepted(0, after))
+}
+
+fn lose(board: usize, lent: &Lent) -> Result<Outcome, u8> {
+    let mut record = Record::read(&lent.record).ok_or(SIZE)?;
+    if board >= record.sizes.n {
+        return Err(NODE);
+    }
+    record.marks[board] = false;
+    Ok(Outcome::accepted(0, Lent { record: record.words(), ..lent.clone() }))
+}
+
+/// "Store: 1, 2, 3, 8, 4, 5, 6, 9, 7, 10, 11."
+fn check_repair(record: &Record, fresh: &[usize], helpers: &[usize]) -> Result<(), u8> {
+    let Sizes { n, d, r, .. } = record.sizes;
+    if !record.written {
+        return Err(EMPTY);
+    }
+    if fresh.len() != r || helpers.len() != r * d {
+        return Err(COUNT);
+    }
+    if fresh.iter().chain(helpers).any(|&board| board >= n) {
+        return Err(NODE);
+    }
+    let fresh_helps = helpers.iter().any(|helper| fresh.contains(helper));
+    if has_repeat(fresh) || fresh_helps || helpers.chunks(d).any(has_repeat) {
+        return Err(REPEAT);
+    }
+    if record.some_down(helpers) {
+        return Err(DOWN);
+    }
+    Ok(())
+}
+
+fn repair(fresh: &[usize], helpers: &[usize], lent: &Lent) -> Result<Outcome, u8> {
+    let mut record = opened(lent)?;
+    check_repair(&record, fresh, helpers)?;
+    let sizes = record.sizes;
+    // the helper packets of each fresh board, one after another, all from the area before the call
+    let lists: Vec<&[usize]> = helpers.chunks(sizes.d).collect();
+    let packets: Vec<Vec<u8>> = fresh
+        .iter()
+        .zip(&lists)
+        .map(|(&board, list)| {
+            let sent = |&helper: &usize| code::helper_packet(sizes, helper, board, &lent.area[record.share(helper)]);
+            list.iter().flat_map(sent).collect()
+        })
+        .collect();
+    let mut after = lent.clone();
+    let mut moved = 0;
+    for (a, &board) in fresh.iter().enumerate() {
+        let others = || (0..fresh.len()).filter(|&b| b != a);
+        let partners: Vec<usize> = others().map(|b| fresh[b]).collect();
+        let exchanged: Vec<u8> = others().flat_map(|b| code::exchange_packet(lists[b], &packets[b], board)).collect();
+        let share = code::finished_share(sizes, board, lists[a], &packets[a], &partners, &exchanged);
+        after.area[record.share(board)].copy_from_slice(&share);
+        moved += packets[a].len() + exchanged.len();
+    }
+    for &board in fresh {
+        record.marks[board] = true;
+    }
+    after.record = record.words();
+    Ok(Outcome::accepted(moved, after))
+}
+
+fn read(boards: &[usize], lent: &Lent) -> Result<Outcome, u8> {
+    let record = opened(lent)?;
+    if !record.written {
+        return Err(EMPTY);
+    }
+    if boards.len() != record.sizes.k {
+        return Err(COUNT);
+    }
+    if boards.iter().any(|&board| board >= record.sizes.n) {
+        return Err(NODE);
+    }
+    if has_repeat(boards) {
+        return Err(REPEAT);
+    }
+    if record.some_down(boards) {
+        return Err(DOWN);
+    }
+    if lent.out.len() < record.length {
+        return Err(SHORT);
+    }
+    let shares: Vec<u8> = boards.iter().flat_map(|&board| lent.area[record.share(board)].to_vec()).collect();
+    let file = code::file(record.sizes, record.length, boards, &shares).ok_or(DISAGREE)?;
+    let mut after = lent.clone();
+    after.out[..file.len()].copy_from_slice(&file);
+    Ok(Outcome::accepted(0, after))
+}

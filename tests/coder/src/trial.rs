@@ -1,0 +1,216 @@
+//! Holds the archive to what is expected, call by call; counts, reports mismatches with what repeats them, and shows progress.
+
+use crate::archive::{self, Performed};
+use crate::call::{refusal, Call, Lent, Outcome, CALLS};
+use std::fmt;
+use std::time::{Duration, Instant};
+
+/// What a run is doing when it makes a call.
+#[derive(Clone)]
+pub enum Place {
+    Figure(String),
+    Case(u64),
+}
+
+impl fmt::Display for Place {
+    fn fmt(&self, to: &mut fmt::Formatter) -> fmt::Result {
+        match self {
+            Place::Figure(name) => write!(to, "figure '{name}'"),
+            Place::Case(case) => write!(to, "case {case}"),
+        }
+    }
+}
+
+/// A deliberate fault, to try the harness: what is altered in what the archive answers, at the first call from `at` on that has it.
+#[derive(Clone, Copy)]
+pub struct Wrong {
+    pub at: u64,
+    pub kind: WrongKind,
+}
+
+#[derive(Clone, Copy, Debug)]
+pub enum WrongKind {
+    /// the answer itself
+    Answer,
+    /// a byte of the area or of the output
+    Byte,
+    /// a word of the record
+    Word,
+}
+
+impl Wrong {
+    /// Alters one bit of an outcome, and says where; none where the outcome has nothing of the kind.
+    fn alter(&self, outcome: &mut Outcome) -> Option<String> {
+        let turn = self.at as usize;
+        let Outcome { answer, lent } = outcome;
+        match self.kind {
+            WrongKind::Answer => {
+                *answer ^= 1 << (turn % 12);
+                Some(format!("bit {} of the answer", turn % 12))
+            }
+            WrongKind::Byte => {
+                let (name, bytes) =
+                    if lent.area.is_empty() { ("output", &mut lent.out) } else { ("area", &mut lent.area) };
+                let place = turn.checked_rem(bytes.len())?;
+                bytes[place] ^= 1 << (turn % 8);
+                Some(format!("byte {place} of the {name}"))
+            }
+            WrongKind::Word => {
+                let place = turn.checked_rem(lent.record.len())?;
+                lent.record[place] ^= 1 << (turn % 64);
+                Some(format!("word {place} of the record"))
+            }
+        }
+    }
+}
+
+pub struct Trial {
+    pub seed: u64,
+    pub calls: u64,
+    pub mismatches: u64,
+    /// how often each call was accepted (0) or refused with each number, alike by the archive and by the coder
+    pub met: [[u64; refusal::COUNTED]; CALLS.len()],
+    pub place: Place,
+    /// whether each call is printed before it is made, to find one that does not come back
+    pub trace: bool,
+    wrong: Option<Wrong>,
+    goal: u64,
+    started: Instant,
+    last_progress: Instant,
+}
+
+const PROGRESS: Duration = Duration::from_secs(5);
+
+impl Trial {
+    pub fn new(seed: u64, goal: u64, wrong: Option<Wrong>) -> Trial {
+        Trial {
+            seed,
+            calls: 0,
+            mismatches: 0,
+            met: [[0; refusal::COUNTED]; CALLS.len()],
+            place: Place::Figure(String::new()),
+            trace: false,
+            wrong,
+            goal,
+            started: Instant::now(),
+            last_progress: Instant::now(),
+        }
+    }
+
+    /// Does a call through the archive and holds it to what is expected. True where all is alike.
+    pub fn check(&mut self, call: &Call, lent: &Lent, expected: &Outcome) -> bool {
+        self.calls += 1;
+        if self.trace {
+            println!("call {} {}: {call} over {}", self.calls, self.place, Short(lent));
+        }
+        let mut performed = archive::perform(call, lent);
+        self.falsify(&mut performed.outcome);
+        self.show_progress();
+        match difference(&performed, expected) {
+            None => {
+                let number = (expected.answer & 255) as usize;
+                self.met[call.place()][number] += 1;
+                true
+            }
+            Some(what) => {
+                self.report(&format!("{call} over {}: {what}", Short(lent)));
+                false
+            }
+        }
+    }
+
+    /// Reports something that is not as it must be.
+    pub fn report(&mut self, what: &str) {
+        self.mismatches += 1;
+        let repeat = match self.place {
+            Place::Figure(_) => String::new(),
+            Place::Case(case) => format!(" (repeat: --seed {} --only {case})", self.seed),
+        };
+        println!("MISMATCH call {} {}{repeat}: {what}", self.calls, self.place);
+    }
+
+    /// The deliberate fault, once, where one is asked for.
+    fn falsify(&mut self, outcome: &mut Outcome) {
+        if let Some(wrong) = self.wrong.filter(|wrong| self.calls >= wrong.at) {
+            if let Some(what) = wrong.alter(outcome) {
+                println!("WRONG call {}: {what} is altered on purpose", self.calls);
+                self.wrong = None;
+            }
+        }
+    }
+
+    fn show_progress(&mut self) {
+        if self.last_progress.elapsed() >= PROGRESS {
+            self.last_progress = Instant::now();
+            println!(
+                "coder: {} of {} calls, {} mismatches, {} s",
+                self.calls,
+                self.goal,
+                self.mismatches,
+                self.seconds()
+            );
+        }
+    }
+
+    pub fn seconds(&self) -> u64 {
+        self.started.elapsed().as_secs()
+    }
+
+    /// The outcomes that some call can have and that were never met.
+    pub fn never_met(&self) -> Vec<String> {
+        let mut missing = Vec::new();
+        for ((name, numbers), met) in CALLS.iter().zip(&self.met) {
+            for &number in [refusal::ACCEPTED].iter().chain(*numbers) {
+                if met[usize::from(number)] == 0 {
+                    missing.push(format!("{name} {number}"));
+                }
+            }
+        }
+        missing
+    }
+
+    /// How often each call was accepted, and refused with each number.
+    pub fn print_table(&self) {
+        println!("{:20} {}", "refusal", (0..refusal::COUNTED).map(|number| format!("{number:>7}")).collect::<String>());
+        for ((name, _), met) in CALLS.iter().zip(&self.met) {
+            println!("{name:20} {}", met.iter().map(|count| format!("{count:>7}")).collect::<String>());
+        }
+    }
+}
+
+/// What is lent, in short form.
+struct Short<'a>(&'a Lent);
+
+impl fmt::Display for Short<'_> {
+    fn fmt(&self, to: &mut fmt::Formatter) -> fmt::Result {
+        let Lent { record, area, out } = self.0;
+        write!(to, "record={record:?} area[{}] out[{}]", area.len(), out.len())
+    }
+}
+
+/// The first difference, in words.
+fn difference(performed: &Performed, expected: &Outcome) -> Option<String> {
+    let got = &performed.outcome;
+    let number = |answer: u64| format!("refusal {} value {}", answer & 255, answer >> 8);
+    if got.answer != expected.answer {
+        return Some(format!("answered {}, expected {}", number(got.answer), number(expected.answer)));
+    }
+    if !performed.kept_inside {
+        return Some("wrote outside of what it was lent".to_string());
+    }
+    assert_eq!(got.lent.record.len(), expected.lent.record.len(), "the coder expects another count of words");
+    let word = |(i, (got, due)): (usize, (&u64, &u64))| format!("word {i} of the record is {got}, expected {due}");
+    let record = got.lent.record.iter().zip(&expected.lent.record);
+    record
+        .enumerate()
+        .find(|(_, (got, due))| got != due)
+        .map(word)
+        .or_else(|| first_byte("area", &got.lent.area, &expected.lent.area))
+        .or_else(|| first_byte("output", &got.lent.out, &expected.lent.out))
+}
+
+fn first_byte(name: &str, got: &[u8], due: &[u8]) -> Option<String> {
+    assert_eq!(got.len(), due.len(), "the coder expects another length of the {name}");
+    let place = (0..got.len()).find(|&i| got[i] != due[i])?;
+    Some(format!("byte {place} of the {name} is {:02x}, expected {:02x}", got[place], due[place]))
+}

@@ -1,0 +1,12 @@
+//! A plain Rust coder of the same algorithm as the archive: polynomials interpolated and evaluated, stripe by stripe, with tables of
+//! logarithms for the field. Nothing of it is proved. The bench measures the archive beside it, and `tests/standin` gives it the archive's C
+//! names, so that the programs above the archive can be tried without a prover.
+
+pub mod board;
+pub mod field;
+pub mod polynomial;
+pub mod sizes;
+pub mod store;
+pub mod stripe;
+
+pub use sizes::{Refusal, Sizes};

@@ -1,0 +1,71 @@
+//! Sizes, refusals, and the checks on lists that both levels share.
+
+/// n boards, k read, d helpers, r fresh boards.
+#[derive(Clone, Copy)]
+pub struct Sizes {
+    pub n: usize,
+    pub k: usize,
+    pub d: usize,
+    pub r: usize,
+}
+
+/// Document 01's refusals, with their numbers.
+#[derive(Clone, Copy, Debug, PartialEq, Eq)]
+#[repr(u8)]
+pub enum Refusal {
+    Size = 1,
+    Area = 2,
+    Long = 3,
+    Count = 4,
+    Node = 5,
+    Repeat = 6,
+    Short = 7,
+    Empty = 8,
+    Down = 9,
+    Disagree = 10,
+}
+
+pub const MAX_BOARDS: usize = 32;
+pub const MAX_STRIPES: usize = 4096;
+
+impl Sizes {
+    pub fn legal(self) -> bool {
+        let Sizes { n, k, d, r } = self;
+        n <= MAX_BOARDS && d < n && r <= n - d && r >= 1 && k >= 1 && k <= d
+    }
+
+    /// Bytes of a share for each stripe.
+    pub fn share_len(self) -> usize {
+        2 * self.d + self.r - 1
+    }
+
+    /// Bytes of the file that a stripe carries.
+    pub fn stripe_len(self) -> usize {
+        self.k * (2 * self.d + self.r - self.k)
+    }
+
+    pub fn stripes(self, length: usize) -> usize {
+        length.div_ceil(self.stripe_len())
+    }
+}
+
+/// Refuses where the condition holds.
+pub fn refuse_if(condition: bool, refusal: Refusal) -> Result<(), Refusal> {
+    if condition {
+        Err(refusal)
+    } else {
+        Ok(())
+    }
+}
+
+/// Whether some board stands twice in a list; the numbers are below 32.
+pub fn repeats(boards: impl IntoIterator<Item = usize>) -> bool {
+    let mut seen = 0u32;
+    for board in boards {
+        if seen >> board & 1 == 1 {
+            return true;
+        }
+        seen |= 1 << board;
+    }
+    false
+}
