@@ -38,17 +38,20 @@ definitions=$(ls crates/*/specs/*.antt | grep -v -e '/Lib.antt$' -e '/Multiples.
 inner='crates/own/specs/Steps.antt crates/grid/specs/Layout.antt crates/decode/specs/Agree.antt crates/columns/specs/Steps.antt
 crates/text_lines/specs/Wrote.antt crates/checks/specs/Asked.antt crates/printer/specs/Machine.antt crates/store_checks/specs/Parts.antt
 crates/repair_hear/specs/Turns.antt crates/store_repair/specs/Rebuilt.antt'
-for f in $tables $claims $inner; do definitions=$(printf '%s\n' $definitions | grep -vxF "$f"); done
+# the archive's words, beside the calls that they are for
+archive='crates/answer_word/specs/Answers.antt crates/words/specs/Words.antt crates/zebrankai/specs/Archive.antt crates/zebrankai/specs/Lent.antt'
+for f in $tables $claims $inner $archive; do definitions=$(printf '%s\n' $definitions | grep -vxF "$f"); done
 for f in $inner; do
     crate=${f#crates/} name=$(basename "$f" .antt)
     ! grep -l "·${crate%%/*}.*specs\.$name\." crates/board_*/specs/*.antt crates/store_statements/specs/*.antt crates/mbcr/specs/*.antt >/dev/null 2>&1 \
         || complain "a definition rests on the inner $f"
 done
-d=$(lines $definitions) c=$(lines $claims) t=$(lines $tables) i=$(lines $inner)
-echo "definitions: $d lines, theorem statements: $c lines, tables of figures: $t lines, inner definitions: $i lines"
+d=$(lines $definitions) c=$(lines $claims) t=$(lines $tables) i=$(lines $inner) a=$(lines $archive)
+echo "definitions: $d lines, theorem statements: $c lines, tables of figures: $t lines, inner definitions: $i lines, the archive: $a lines"
 [ "$d" -le 700 ] || complain "the definitions have $d lines, more than 700"
 grep -qF "$d lines without imports" "$page" || complain "it does not say that the definitions have $d lines"
 grep -qF "Theorem statements: $c lines" "$page" || complain "it does not say that the theorem statements have $c lines"
 grep -qF "Tables of figures: $t lines" "$page" || complain "it does not say that the tables have $t lines"
+grep -qF "The archive: $a lines" "$page" || complain "it does not say that the archive's definitions have $a lines"
 grep -qF "Inner definitions: $i lines" "$page" || complain "it does not say that the inner definitions have $i lines"
 exit $bad
