@@ -15,8 +15,11 @@
  * - After a refusal no word of the record and no byte of any buffer has changed.
  * - It keeps nothing between calls and allocates nothing.
  *
- * What the caller owes: a pointer is followed by the number of its elements, and points to that many; it is not NULL, also where that number
- * is 0; and what a call may change (record, area, out) does not overlap anything else that the call is lent.
+ * What the caller owes: a pointer is followed by the number of its elements, and points to that many, aligned as their type asks; it is not
+ * NULL, also where that number is 0; and what a call may change (record, area, out) does not overlap anything else that the call is lent, and
+ * no other thread uses it meanwhile. The record must be writable in every call that takes it, a read and a refusal included: such a call may
+ * write words again as they are. A call takes less than 16 kB of stack, as measured. size_t
+ * has 64 bits.
  *
  * Lists of shares and packets are one buffer each, the pieces one after another in the order of their list of boards.
  */
@@ -25,6 +28,10 @@
 
 #include <stddef.h>
 #include <stdint.h>
+
+#if SIZE_MAX != UINT64_MAX
+#error "the archive is for machines where size_t has 64 bits"
+#endif
 
 #ifdef __cplusplus
 extern "C" {
@@ -37,7 +44,8 @@ enum {
     ZBK_RECORD_WORDS = 8
 };
 
-/* Why a call was refused. Where several hold, document 01's order says which is given. */
+/* Why a call was refused. Where several hold, the first is given: of the store in the order 1, 2, 3, 8, 4, 5, 6, 9, 7, 10, 11, at board level
+ * in the order 1, 3, 4, 5, 6, 2, 7, 10, 11. */
 enum zbk_refusal_number {
     /* The call was accepted. */
     ZBK_ACCEPTED = 0,
@@ -112,11 +120,12 @@ uint64_t zbk_finished_share(size_t n, size_t k, size_t d, size_t r, size_t lengt
                             size_t partners_count, const uint8_t *partner_packets, size_t partner_packets_len, uint8_t *out,
                             size_t out_len);
 
-/* A share as text: seven lines, the sizes, the board, the length and the share in hexadecimal. */
+/* A share as text: seven lines, the sizes, the board, the length and the share in hexadecimal: two bytes for each byte of the share, and at
+ * most 128 more. */
 uint64_t zbk_share_text(size_t n, size_t k, size_t d, size_t r, size_t length, size_t node, const uint8_t *share, size_t share_len,
                         uint8_t *out, size_t out_len);
 
-/* The store: a record of eight words, and an area of n × capacity × (2d + r - 1) bytes that holds the boards one after another. Each call
+/* The store: a record of eight words (another number of words is refused with ZBK_SIZE), and an area of n * capacity * (2d + r - 1) bytes that holds the boards one after another. Each call
  * is given the record and the area as the last call left them. */
 
 /* A new store with no file: all eight words are written, and what they were before does not matter. */
@@ -128,12 +137,12 @@ uint64_t zbk_write(uint64_t *record, size_t record_words, uint8_t *area, size_t 
 /* Takes a board out of service. */
 uint64_t zbk_lose(uint64_t *record, size_t record_words, size_t board);
 
-/* Rebuilds r fresh boards together. `helpers` has r × d numbers: the d helpers of the first fresh board, then those of the second, and so
+/* Rebuilds r fresh boards together. `helpers` has r * d numbers: the d helpers of the first fresh board, then those of the second, and so
  * on. All fresh boards come into service; reports the bytes moved between boards. */
 uint64_t zbk_repair(uint64_t *record, size_t record_words, uint8_t *area, size_t area_len, const size_t *fresh, size_t fresh_count,
                     const size_t *helpers, size_t helpers_count);
 
-/* Reads the file from k boards into the first bytes of out; the rest of out stays. The record and the area do not change. */
+/* Reads the file from k boards into the first bytes of out; the rest of out stays. What record and area say does not change. */
 uint64_t zbk_read(uint64_t *record, size_t record_words, const uint8_t *area, size_t area_len, const size_t *boards, size_t boards_count,
                   uint8_t *out, size_t out_len);
 

@@ -50,7 +50,10 @@ step "the header compiles as C++" g++ -std=c++11 $strict "$work/header.cc" "$arc
 step "and links" "$work/header"
 
 step "the Rust bindings' tests" cargo test --offline --quiet -j1 --manifest-path bindings/rust/Cargo.toml
-step "the demo" cargo run --offline --quiet --release -j1 --manifest-path bindings/rust/Cargo.toml --example demo
+step "the demo compiles" cargo build --offline --quiet --release -j1 --manifest-path bindings/rust/Cargo.toml --example demo
+# demo: it prints what stands in tests/demo.stdout
+demo() { target/cargo/release/examples/demo | diff tests/demo.stdout -; }
+step "the demo prints what it must" demo
 step "the bench compiles" cargo build --offline --quiet --release -j1 --manifest-path tests/bench/Cargo.toml
 step "the unrelated coder compiles" cargo build --offline --quiet --release -j1 --manifest-path tests/coder/Cargo.toml
 

@@ -43,7 +43,7 @@ run() {
 
 # reported EDIT: the coder reports a mismatch
 reported() {
-    slip "$1"
+    slip "$1" || exit 1
     run
     cp "tests/plain/src/$(field file "$1")" "$work/tests/plain/src/"
     grep -q '^MISMATCH' "$work/log"

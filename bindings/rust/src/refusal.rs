@@ -3,7 +3,8 @@
 use std::error::Error;
 use std::fmt;
 
-/// Why a call was refused. Where several hold, document 01's order says which is given.
+/// Why a call was refused. Where several hold, the first is given: of the store in the order 1, 2, 3, 8, 4, 5, 6, 9, 7, 10, 11, at board
+/// level in the order 1, 3, 4, 5, 6, 2, 7, 10, 11.
 #[derive(Clone, Copy, Debug, PartialEq, Eq, Hash)]
 #[repr(u8)]
 pub enum Refusal {
@@ -52,12 +53,12 @@ impl Refusal {
         Refusal::ALL.into_iter().find(|refusal| refusal.number() == number)
     }
 
-    /// The refusal's number, as document 01 gives it.
+    /// The refusal's number.
     pub fn number(self) -> u8 {
         self as u8
     }
 
-    /// The refusal's name, as document 01 gives it.
+    /// The refusal's name.
     pub fn name(self) -> &'static str {
         match self {
             Refusal::Size => "SIZE",

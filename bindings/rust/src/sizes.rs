@@ -53,14 +53,14 @@ impl Sizes {
         }
     }
 
-    /// The longest file of `stripes` stripes.
+    /// The longest file of `stripes` stripes; a number that is too great for `usize` is cut to the greatest.
     pub fn longest(self, stripes: usize) -> usize {
-        stripes * self.stripe_len()
+        stripes.saturating_mul(self.stripe_len())
     }
 
     /// Bytes of a helper packet for a file of `length` bytes: two for each stripe.
     pub fn helper_packet_len(self, length: usize) -> usize {
-        2 * self.stripes(length)
+        self.stripes(length).saturating_mul(2)
     }
 
     /// Bytes of an exchange packet for a file of `length` bytes: one for each stripe.
@@ -68,8 +68,15 @@ impl Sizes {
         self.stripes(length)
     }
 
-    /// Bytes of the area of a store with room for `capacity` stripes on each board.
+    /// Bytes of the area of a store with room for `capacity` stripes on each board; a number that is too great for `usize` is cut to the
+    /// greatest.
     pub fn area_len(self, capacity: usize) -> usize {
-        self.n * capacity * self.share_len()
+        self.n.saturating_mul(capacity).saturating_mul(self.share_len())
+    }
+
+    /// Bytes that are enough for the text of a share of a file of `length` bytes: two for each byte of the share, and at most 128 for the
+    /// rest.
+    pub fn text_room(self, length: usize) -> usize {
+        self.stripes(length).saturating_mul(2 * self.share_len()).saturating_add(128)
     }
 }

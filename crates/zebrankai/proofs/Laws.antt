@@ -13,15 +13,20 @@ use Rattle.sizes.specs.declared.Sizes.{Sizes}
 use Rattle.sizes.specs.declared.Check.{Check}
 use Rattle.sizes.specs.declared.Check.the-variants.{Pass, Refuse}
 use Rattle.sizes.specs.declared.Answer.the-variants.{Refused}
-use Rattle.sizes.specs.Refusals.{said, first, storeOrder}
-use Rattle.mbcr.specs.Share.{standard}
+use Rattle.sizes.specs.Refusals.{said, first, storeOrder, boardOrder}
+use Rattle.sizes.specs.Sizing.{stripes}
+use Rattle.mbcr.specs.Share.{standard, share}
+use Rattle.mbcr.specs.Rebuild.{helperPacket, exchangePacket, finishedShare}
+use Rattle.mbcr.specs.Read.{readFile}
+use Rattle.board_statements.specs.Calls.{settled, fileOf, shareLines, shareCall, fileLines, fileCall, helperLines, helperCall, exchangeLines, exchangeCall, finishedLines, finishedCall, textLines, textCall}
+use Rattle.board_statements.specs.Text.{shareText}
 use Rattle.store_statements.specs.Record.{newRecord}
 use Rattle.store_statements.specs.Calls.{StoreOutcome, refused, settle, writeLines, writeDone, writeCall, loseLines, loseDone, loseCall, repairLines, repairDone, repairCall, readLines, readDone, readCall, setUpCall}
 use Rattle.answer_word.specs.Answers.{wordOf}
 use Rattle.words.specs.Words.{isRecord, recordFrom, wordsOf}
 use Rattle.words.proofs.Laws.{word-laws}
 use Rattle.zebrankai.specs.Lent.{noRecord, inWords, zbkSetUp, zbkWrite, zbkLose, zbkRepair, zbkRead}
-use Rattle.zebrankai.specs.Laws.{Keeps, ArchiveLaws}
+use Rattle.zebrankai.specs.Laws.{Keeps, Leaves, ArchiveLaws}
 
 -- words that come back
 module _ (ws area output : List ℕ) (done : StoreOutcome) (accepts : done .answer .refusal ≡ 0) where
@@ -66,5 +71,51 @@ unfolding zbkRead readCall
 read-keeps ws area boards output =
     either ws area output (readDone standard (recordFrom ws) area boards output) refl (first storeOrder (readLines standard (recordFrom ws) area boards output)) (isRecord ws) refl
 
+-- ---- board level
+
+kept : (t : Check) (bytes out : List ℕ) → Leaves (settled t bytes out) out
+kept (Refuse x) bytes out h = refl
+kept Pass bytes out h = absurd (h (length bytes) (omega arith))
+
+share-leaves : (z : Sizes) (node : ℕ) (file out : List ℕ) → Leaves (shareCall z standard node file out) out
+unfolding shareCall
+share-leaves z node file out = kept (first boardOrder (shareLines z standard node file out)) (share z standard file node) out
+
+file-leaves : (z : Sizes) (L : ℕ) (boards shares out : List ℕ) → Leaves (fileCall z standard L boards shares out) out
+unfolding fileCall
+file-leaves z L boards shares out = kept (first boardOrder (fileLines z standard L boards shares out)) (fileOf (readFile z standard L boards shares)) out
+
+helper-leaves : (z : Sizes) (L helper receiver : ℕ) (share out : List ℕ) → Leaves (helperCall z standard L helper receiver share out) out
+unfolding helperCall
+helper-leaves z L helper receiver held out = kept (first boardOrder (helperLines z standard L helper receiver held out)) (helperPacket z standard (stripes z L) helper receiver held) out
+
+exchange-leaves : (z : Sizes) (L board : ℕ) (helpers packets : List ℕ) (receiver : ℕ) (out : List ℕ)
+    → Leaves (exchangeCall z standard L board helpers packets receiver out) out
+unfolding exchangeCall
+exchange-leaves z L board helpers packets receiver out =
+    kept (first boardOrder (exchangeLines z standard L board helpers packets receiver out)) (exchangePacket z standard (stripes z L) helpers packets receiver) out
+
+finished-leaves : (z : Sizes) (L board : ℕ) (helpers packets partners exchanges out : List ℕ)
+    → Leaves (finishedCall z standard L board helpers packets partners exchanges out) out
+unfolding finishedCall
+finished-leaves z L board helpers packets partners exchanges out =
+    kept (first boardOrder (finishedLines z standard L board helpers packets partners exchanges out)) (finishedShare z standard (stripes z L) board helpers packets partners exchanges) out
+
+text-leaves : (z : Sizes) (L node : ℕ) (share out : List ℕ) → Leaves (textCall z standard L node share out) out
+unfolding textCall
+text-leaves z L node held out = kept (first boardOrder (textLines z standard L node held out)) (shareText z L node held) out
+
 pub archive-laws : ArchiveLaws
-archive-laws = record { set-up-keeps = set-up-keeps; write-keeps = write-keeps; lose-keeps = lose-keeps; repair-keeps = repair-keeps; read-keeps = read-keeps }
+archive-laws = record {
+  share-leaves = share-leaves;
+  file-leaves = file-leaves;
+  helper-leaves = helper-leaves;
+  exchange-leaves = exchange-leaves;
+  finished-leaves = finished-leaves;
+  text-leaves = text-leaves;
+  set-up-keeps = set-up-keeps;
+  write-keeps = write-keeps;
+  lose-keeps = lose-keeps;
+  repair-keeps = repair-keeps;
+  read-keeps = read-keeps;
+}

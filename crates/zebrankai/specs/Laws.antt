@@ -1,17 +1,32 @@
--- The archive's calls of the store: "On a refusal no word and no byte changes." An answer that is no multiple of 256 is a refusal.
+-- "On a refusal no word and no byte changes", for all eleven calls. An answer that is no multiple of 256 is a refusal.
 -- proofs/Laws.antt has `archive-laws : ArchiveLaws`.
 -- Assumes nothing.
 use mathlib.Core.Path.{_≡_}
 use mathlib.Core.List.{List, []}
 use Prim.Native.Nat.{ℕ, _*_}
 use Rattle.sizes.specs.declared.Sizes.{Sizes}
+use Rattle.mbcr.specs.Share.{standard}
+use Rattle.board_statements.specs.Calls.{BoardOutcome, shareCall, fileCall, helperCall, exchangeCall, finishedCall, textCall}
+use Rattle.answer_word.specs.Answers.{wordOf}
 use Rattle.zebrankai.specs.Lent.{Lent, zbkSetUp, zbkWrite, zbkLose, zbkRepair, zbkRead}
 
 -- where it answers a refusal, words, area and output are these
 abbrev pub Keeps : Lent → List ℕ → List ℕ → List ℕ → Type 0
 Keeps o ws area output = ((v : ℕ) → o .answer ≡ 256 * v → ⊥) → o ≡ record { answer = o .answer; words = ws; area = area; output = output }
 
+-- the same at board level, whose calls take no record
+abbrev pub Leaves : BoardOutcome → List ℕ → Type 0
+Leaves o output = ((v : ℕ) → wordOf (o .answer) ≡ 256 * v → ⊥) → o .output ≡ output
+
 pub record ArchiveLaws : Type 0 where
+  pub share-leaves : (z : Sizes) (node : ℕ) (file out : List ℕ) → Leaves (shareCall z standard node file out) out
+  pub file-leaves : (z : Sizes) (L : ℕ) (boards shares out : List ℕ) → Leaves (fileCall z standard L boards shares out) out
+  pub helper-leaves : (z : Sizes) (L helper receiver : ℕ) (share out : List ℕ) → Leaves (helperCall z standard L helper receiver share out) out
+  pub exchange-leaves : (z : Sizes) (L board : ℕ) (helpers packets : List ℕ) (receiver : ℕ) (out : List ℕ)
+      → Leaves (exchangeCall z standard L board helpers packets receiver out) out
+  pub finished-leaves : (z : Sizes) (L board : ℕ) (helpers packets partners exchanges out : List ℕ)
+      → Leaves (finishedCall z standard L board helpers packets partners exchanges out) out
+  pub text-leaves : (z : Sizes) (L node : ℕ) (share out : List ℕ) → Leaves (textCall z standard L node share out) out
   pub set-up-keeps : (ws : List ℕ) (z : Sizes) (c : ℕ) → Keeps (zbkSetUp ws z c) ws [] []
   pub write-keeps : (ws area file : List ℕ) → Keeps (zbkWrite ws area file) ws area []
   pub lose-keeps : (ws : List ℕ) (board : ℕ) → Keeps (zbkLose ws board) ws [] []

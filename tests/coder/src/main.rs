@@ -29,6 +29,7 @@ mod trial;
 
 use random::Random;
 use std::process::ExitCode;
+use std::sync::atomic::{AtomicU64, Ordering};
 use trial::{Place, Trial, Wrong, WrongKind};
 
 /// From how many calls on every refusal of every call must have been met.
@@ -73,10 +74,26 @@ fn wrong_kind(word: Option<String>) -> Result<WrongKind, String> {
     }
 }
 
+/// The case that is run, for the message where the coder breaks off.
+static CASE: AtomicU64 = AtomicU64::new(u64::MAX);
+
+/// Says which seed and case repeat it where the coder breaks off.
+fn tell_where(seed: u64) {
+    let usual = std::panic::take_hook();
+    std::panic::set_hook(Box::new(move |broken| {
+        match CASE.load(Ordering::Relaxed) {
+            u64::MAX => println!("coder: broke off in a figure (seed {seed})"),
+            case => println!("coder: broke off in case {case}; repeat with --seed {seed} --only {case} --trace"),
+        }
+        usual(broken);
+    }));
+}
+
 /// Runs one case by its own numbers. The first ones are all kinds at extreme sizes, the others one kind at drawn sizes.
 fn run_case(trial: &mut Trial, case: u64) {
     let mut random = Random::of_case(trial.seed, case);
     trial.place = Place::Case(case);
+    CASE.store(case, Ordering::Relaxed);
     if let Some(&sizes) = draw::EXTREMES.get(case as usize) {
         board_cases::run(trial, &mut random, sizes);
         store_cases::run(trial, &mut random, sizes);
@@ -99,6 +116,7 @@ fn main() -> ExitCode {
             return ExitCode::from(2);
         }
     };
+    tell_where(options.seed);
     // a fault in the first three quarters, so that a call that fits it follows
     let at = 1 + Random::of_case(options.seed, u64::MAX).next() % (options.calls.max(4) * 3 / 4);
     let wrong = options.wrong.map(|kind| Wrong { at, kind });

@@ -97,17 +97,16 @@ fn points_of(boards: &[usize]) -> Row {
     points
 }
 
-/// g of a fresh board in stripe s, from its helpers' packets.
-fn g_of(sizes: Sizes, at: &Row, packets: &[u8], stripes: usize, s: usize) -> Row {
-    stripe::own_g(&at[..sizes.d], (0..sizes.d).map(|h| packets[2 * (h * stripes + s)]))
+/// g of a fresh board in each stripe, from its helpers' packets.
+pub fn all_g(sizes: Sizes, helpers: &[usize], packets: &[u8], stripes: usize) -> Vec<Row> {
+    let at = points_of(helpers);
+    let first = |h: usize, s: usize| packets[2 * (h * stripes + s)];
+    (0..stripes).map(|s| stripe::own_g(&at[..sizes.d], (0..sizes.d).map(|h| first(h, s)))).collect()
 }
 
-/// An exchange packet, with no checks: `out` has its length.
-pub fn exchange(sizes: Sizes, helpers: &[usize], packets: &[u8], receiver: usize, out: &mut [u8]) {
-    let at = points_of(helpers);
-    let stripes = out.len();
-    for (s, byte) in out.iter_mut().enumerate() {
-        let g = g_of(sizes, &at, packets, stripes, s);
+/// An exchange packet of a board with this g in each stripe.
+pub fn exchange(sizes: Sizes, gs: &[Row], receiver: usize, out: &mut [u8]) {
+    for (byte, g) in out.iter_mut().zip(gs) {
         *byte = value(&g[..sizes.d], receiver as u8);
     }
 }
@@ -129,14 +128,16 @@ pub fn exchange_packet(
     let stripes = sizes.stripes(length);
     refuse_if(packets.len() != sizes.d * 2 * stripes, Refusal::Area)?;
     refuse_if(out.len() < stripes, Refusal::Short)?;
-    exchange(sizes, helpers, packets, receiver, &mut out[..stripes]);
+    exchange(sizes, &all_g(sizes, helpers, packets, stripes), receiver, &mut out[..stripes]);
     Ok(stripes)
 }
 
-/// A finished share, with no checks: `out` has its length.
+/// A finished share of a board with this g in each stripe, with no checks: `out` has its length.
+#[allow(clippy::too_many_arguments)]
 pub fn finish(
     sizes: Sizes,
     board: usize,
+    gs: &[Row],
     helpers: &[usize],
     packets: &[u8],
     partners: &[usize],
@@ -149,7 +150,6 @@ pub fn finish(
     at[d..d + r - 1].copy_from_slice(&points_of(partners)[..r - 1]);
     let stripes = out.len() / sizes.share_len();
     for (s, held) in out.chunks_mut(sizes.share_len()).enumerate() {
-        let g = g_of(sizes, &at, packets, stripes, s);
         let mut values = [0; MAX_BOARDS];
         for h in 0..d {
             values[h] = packets[2 * (h * stripes + s) + 1];
@@ -157,7 +157,7 @@ pub fn finish(
         for p in 0..r - 1 {
             values[d + p] = partner_packets[p * stripes + s];
         }
-        stripe::finish(sizes, &points, &g, &at, &values, held);
+        stripe::finish(sizes, &points, &gs[s], &at, &values, held);
     }
 }
 
@@ -181,7 +181,8 @@ pub fn finished_share(
     refuse_if(wrong, Refusal::Area)?;
     let count = stripes * sizes.share_len();
     refuse_if(out.len() < count, Refusal::Short)?;
-    finish(sizes, board, helpers, packets, partners, partner_packets, &mut out[..count]);
+    let gs = all_g(sizes, helpers, packets, stripes);
+    finish(sizes, board, &gs, helpers, packets, partners, partner_packets, &mut out[..count]);
     Ok(count)
 }
 

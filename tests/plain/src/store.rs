@@ -128,19 +128,19 @@ pub fn repair(words: &mut [u64], area: &mut [u8], fresh: &[usize], helpers: &[us
             board::help(sizes, helper, board, record.share(area, helper), packet);
         }
     }
+    let received = |a: usize| &packets[a * d * 2 * stripes..][..d * 2 * stripes];
+    let gs: Vec<_> = (0..r).map(|a| board::all_g(sizes, &helpers[a * d..][..d], received(a), stripes)).collect();
     let mut moved = packets.len();
     for (a, &board) in fresh.iter().enumerate() {
         let mut partners = Vec::with_capacity(r - 1);
         let mut exchanged = vec![0; (r - 1) * stripes];
         for (b, &partner) in fresh.iter().enumerate().filter(|&(b, _)| b != a) {
             let packet = &mut exchanged[partners.len() * stripes..][..stripes];
-            let received = &packets[b * d * 2 * stripes..][..d * 2 * stripes];
-            board::exchange(sizes, &helpers[b * d..][..d], received, board, packet);
+            board::exchange(sizes, &gs[b], board, packet);
             partners.push(partner);
         }
-        let received = &packets[a * d * 2 * stripes..][..d * 2 * stripes];
         let out = record.share_mut(area, board);
-        board::finish(sizes, board, &helpers[a * d..][..d], received, &partners, &exchanged, out);
+        board::finish(sizes, board, &gs[a], &helpers[a * d..][..d], received(a), &partners, &exchanged, out);
         moved += exchanged.len();
     }
     for &board in fresh {
