@@ -22,7 +22,7 @@ use Rattle.sizes.specs.Sizing.{α}
 use Rattle.sizes.proofs.Legal.{Legal, row-fits}
 use Rattle.repair_hear.specs.Turns.{puts}
 use Rattle.store_repair.specs.Rebuilt.{rebuilt}
-use Rattle.store_repair.proofs.Puts.{puts-same, puts-stripe, puts-other, length-puts}
+use Rattle.store_repair.proofs.Puts.{puts-same, puts-stripe, puts-other}
 use Rattle.store_repair.proofs.Rebuilt.{length-rebuilt, rebuilt-same}
 
 put-none : (l : List ℕ) (at : ℕ) → put l at [] ≡ l
@@ -77,9 +77,6 @@ module _ (z : Sizes) (legal : Legal z) (xs fresh helpers area₀ : List ℕ) (pa
 
   joined-long : (s a : ℕ) → length (join s (stripeOf a)) ≡ s * α z
   joined-long s a = length-join s (α z) (stripeOf a) (λ t h. long a t)
-
-  pub up-to-long : (s : ℕ) → s * α z ≤ part → length (upTo s) ≡ length area₀
-  up-to-long s room = length-puts at (λ a. join s (stripeOf a)) (z .r) area₀ (λ a h. omega (arith, ends a h, joined-long s a, room))
 
   -- what a helper holds stays
   helper-stays : (s j : ℕ) → s * α z + α z ≤ part → among helpers j ≡ true → piece (α z) s (drop (j * part) (upTo s)) ≡ piece (α z) s (drop (j * part) area₀)
