@@ -128,7 +128,7 @@ uint64_t zbk_share_text(size_t n, size_t k, size_t d, size_t r, size_t length, s
 /* The store: a record of eight words (another number of words is refused with ZBK_SIZE), and an area of n * capacity * (2d + r - 1) bytes that holds the boards one after another. Each call
  * is given the record and the area as the last call left them. */
 
-/* A new store with no file: all eight words are written, and what they were before does not matter. */
+/* A new store with no file: where it is accepted all eight words are written, and what they were before does not matter. */
 uint64_t zbk_set_up(uint64_t *record, size_t record_words, size_t n, size_t k, size_t d, size_t r, size_t capacity);
 
 /* Writes a file: every board gets its share and comes into service. */

@@ -10,7 +10,7 @@ use Rattle.sizes.specs.Refusals.{said}
 use Rattle.mbcr.specs.Share.{standard}
 use Rattle.store_statements.specs.Calls.{StoreOutcome, setUpCall, writeCall, loseCall, repairCall, readCall}
 use Rattle.store_statements.specs.Ledger.{Call, write, lose, repair, read, Step, State, Reply, replyOf, Allowed, openBook, bookReplies, bookFinal}
-use Rattle.store_statements.specs.Demand3.{Kept, begun, calls}
+use Rattle.store_statements.specs.Demand3.{Kept, Repaired, begun, calls}
 use Rattle.store.specs.declared.Store.{Store}
 use Rattle.store.specs.declared.Handed.{Handed}
 use Rattle.store.specs.Handing.{recordIn, outcome}
@@ -43,9 +43,13 @@ abbrev pub ending : Store → List ℕ → List Given → State
 ending s area [] = record { kept = recordIn s; area = area }
 ending s area (h ∷ hs) = ending (h .handed .store) (h .area) hs
 
+-- the answers of a run are the ledger's; where it ends, boards in service hold their shares; and in each accepted repair of the method, in the
+-- run or not, fresh boards get the packets and hold the shares that demand 3 says
 abbrev pub CodeDemand3 : Type 0
 CodeDemand3 =
     (old : Store) (z : Sizes) (c : ℕ) (new : Handed) → outcome new [] [] ≡ setUpCall (recordIn old) z c → said (new .answer) .refusal ≡ 0
     → (area : List ℕ) (steps : List Step) (run : List Given) → Allowed standard (begun (recordIn old) z c area) (openBook z c (length area)) steps → Run (new .store) steps run
     → (map (λ h. replyOf (gave h)) run ≡ bookReplies (openBook z c (length area)) (calls steps))
     × Kept standard (ending (new .store) area run) (bookFinal (openBook z c (length area)) (calls steps))
+    × ((s : Store) (any fresh helpers : List ℕ) (h : Given) → Meets s any (repair fresh helpers) h → said (h .handed .answer) .refusal ≡ 0
+    → Repaired standard (recordIn s) any fresh helpers)
