@@ -10,7 +10,10 @@ pub mod Step
 pub mod StepRepair
 pub mod StepRead
 pub mod Demand3
+pub mod Premises
+pub mod LedgerLaws
 pub mod Exact
 pub mod Demand1
 pub mod Figures
+pub mod LedgerFigures
 pub mod Stripes

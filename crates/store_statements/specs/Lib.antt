@@ -4,5 +4,8 @@ pub mod Calls
 pub mod Ledger
 pub mod Demand1
 pub mod Demand3
+pub mod Premises
+pub mod LedgerLaws
 pub mod FurtherFigures
+pub mod LedgerFigures
 pub mod Stripes

@@ -1,0 +1,87 @@
+-- Demand 3 of the archive: what holds of any list of its store calls, each on the words and the area that the last one left, bytes of boards
+-- out of service altered between them. proofs/Demand3.antt has `archive-demand-3 : ArchiveDemand3` and `archive-premises`.
+-- Assumes nothing.
+use mathlib.Core.Path.{_≡_}
+use mathlib.Core.Bool.{true}
+use mathlib.Core.List.{List, [], _∷_, map}
+use Prim.Native.Nat.{ℕ}
+use lib.ListN.{length}
+use Rattle.lists.specs.Lists.{All, Bytes}
+use Rattle.sizes.specs.declared.Sizes.{Sizes}
+use Rattle.mbcr.specs.Share.{standard}
+use Rattle.store_statements.specs.Ledger.{Call, write, lose, repair, read, Reply, Book, State, Step, Altered, Fair, openBook, enter, bookReplies, bookFinal}
+use Rattle.store_statements.specs.Demand3.{Kept, calls}
+use Rattle.store_statements.specs.Premises.{files}
+use Rattle.answer_word.specs.Answers.{wordOf}
+use Rattle.words.specs.Words.{isRecord, recordFrom}
+use Rattle.zebrankai.specs.Lent.{Lent, zbkSetUp, zbkWrite, zbkLose, zbkRepair, zbkRead}
+
+-- a call of the archive on these words and this area; losing is lent no area, so it stays
+abbrev pub zbk : List ℕ → List ℕ → Call → Lent
+zbk ws area (write file) = zbkWrite ws area file
+zbk ws area (lose board) = let o = zbkLose ws board in record { answer = o .answer; words = o .words; area = area; output = o .output }
+zbk ws area (repair fresh helpers) = zbkRepair ws area fresh helpers
+zbk ws area (read boards output) = zbkRead ws area boards output
+
+-- the calls one after another: each on the words that the last one left, and the area as its step has it
+abbrev pub lents : List ℕ → List Step → List Lent
+lents ws [] = []
+lents ws (t ∷ ts) = zbk ws (t .area) (t .call) ∷ lents (zbk ws (t .area) (t .call) .words) ts
+
+-- each area is the one that the last call left, altered at most in bytes of boards out of service by the book, in the record that the words
+-- tell; a file to write is of bytes
+abbrev pub AllowedLents : List ℕ → List ℕ → Book → List Step → Type 0
+AllowedLents ws area b [] = Unit
+AllowedLents ws area b (t ∷ ts) =
+    Altered b (recordFrom ws) area (t .area) × Fair (t .call)
+    × AllowedLents (zbk ws (t .area) (t .call) .words) (zbk ws (t .area) (t .call) .area) (enter b (t .call) .book) ts
+
+-- words and area after the calls
+abbrev pub lastWords : List ℕ → List Lent → List ℕ
+lastWords ws [] = ws
+lastWords ws (o ∷ os) = lastWords (o .words) os
+
+abbrev pub lastArea : List ℕ → List Lent → List ℕ
+lastArea area [] = area
+lastArea area (o ∷ os) = lastArea (o .area) os
+
+-- an answer word, and all bytes of the output after the call
+pub record Told : Type 0 where
+  pub answer : ℕ
+  pub output : List ℕ
+
+abbrev pub told : Lent → Told
+told o = record { answer = o .answer; output = o .output }
+
+abbrev pub inWord : Reply → Told
+inWord r = record { answer = wordOf (r .answer); output = r .output }
+
+-- After an accepted set-up, of a list of calls: every answer is the word of the ledger's reply, every output the ledger's; the last words are a
+-- record's, and demand 3's ending holds of the record that they tell and of the last area.
+pub record ArchiveRun (ws : List ℕ) (z : Sizes) (c : ℕ) (area : List ℕ) (steps : List Step) : Type 0 where
+  pub alike : map told (lents (zbkSetUp ws z c .words) steps) ≡ map inWord (bookReplies (openBook z c (length area)) (calls steps))
+  pub are-words : isRecord (lastWords (zbkSetUp ws z c .words) (lents (zbkSetUp ws z c .words) steps)) ≡ true
+  pub after : Kept standard
+      (record {
+        kept = recordFrom (lastWords (zbkSetUp ws z c .words) (lents (zbkSetUp ws z c .words) steps));
+        area = lastArea area (lents (zbkSetUp ws z c .words) steps);
+      })
+      (bookFinal (openBook z c (length area)) (calls steps))
+
+abbrev pub ArchiveDemand3 : Type 0
+ArchiveDemand3 =
+    (ws : List ℕ) (z : Sizes) (c : ℕ) (area : List ℕ) (steps : List Step)
+    → zbkSetUp ws z c .answer ≡ 0
+    → AllowedLents (zbkSetUp ws z c .words) area (openBook z c (length area)) steps
+    → ArchiveRun ws z c area steps
+
+-- the steps of these calls with nothing altered between them
+abbrev pub unalteredLents : List ℕ → List ℕ → List Call → List Step
+unalteredLents ws area [] = []
+unalteredLents ws area (call ∷ cs) = record { area = area; call = call } ∷ unalteredLents (zbk ws area call .words) (zbk ws area call .area) cs
+
+-- the premises can be met: every list of calls whose files are of bytes is allowed, with nothing altered
+pub record ArchivePremises : Type 0 where
+  pub all-allowed : (ws : List ℕ) (z : Sizes) (c : ℕ) (area : List ℕ) (cs : List Call) → All Bytes (files cs)
+      → AllowedLents (zbkSetUp ws z c .words) area (openBook z c (length area)) (unalteredLents (zbkSetUp ws z c .words) area cs)
+  pub same-calls : (ws area : List ℕ) (cs : List Call) → calls (unalteredLents ws area cs) ≡ cs
