@@ -75,7 +75,7 @@ module _ (xs : List ℕ) (s : Record) (area fresh helpers : List ℕ) (pass : fi
             (all-left (λ x. x < s .sizes .n) fresh helpers (below-all (s .sizes .n) (fresh ++ helpers) (facts .named-below))) i e;
       }
 
-accepted-repair : (xs : List ℕ) (s : Record) (area fresh helpers : List ℕ) → repairCall xs s area fresh helpers .answer .refusal ≡ 0 → Repaired xs s area fresh helpers
+pub accepted-repair : (xs : List ℕ) (s : Record) (area fresh helpers : List ℕ) → repairCall xs s area fresh helpers .answer .refusal ≡ 0 → Repaired xs s area fresh helpers
 unfolding repairCall
 accepted-repair xs s area fresh helpers h =
     let p = passes (first storeOrder (repairLines xs s (length area) fresh helpers)) s area [] (repairDone xs s area fresh helpers) h in
