@@ -15,5 +15,8 @@ use Rattle.zebrankai.specs.Lent.{zbkSetUp, zbkWrite, zbkLose, zbkRepair,
 use Rattle.zebrankai.specs.Figures.{ArchiveFigures}
 
 pub archive-figures : ArchiveFigures
-unfolding piece put add product reduce mul squares inverse legal B stripes stripe grid F neighbours symbols kept share shares received exchanged ownF ownG helperPair helperPacket gFrom exchangePacket fFrom finishedStripe finishedShare through bColumn cRow aColumn decodedStripe decodedFile readFile sound helperPackets exchangePackets repairPackets freshShare writeLines loseLines repairLines readLines setUpCall writeCall loseCall repairCall readCall isRecord zbkSetUp zbkWrite zbkLose zbkRepair zbkRead
+unfolding piece put add product reduce mul squares inverse legal B stripes stripe grid F neighbours symbols kept share shares received
+    exchanged ownF ownG helperPair helperPacket gFrom exchangePacket fFrom finishedStripe finishedShare through bColumn cRow aColumn
+    decodedStripe decodedFile readFile sound helperPackets exchangePackets repairPackets freshShare writeLines loseLines repairLines
+    readLines setUpCall writeCall loseCall repairCall readCall isRecord zbkSetUp zbkWrite zbkLose zbkRepair zbkRead
 archive-figures = record { set-up = refl; set-up-refused = refl; lost = refl; not-lost = refl; listed = refl }
