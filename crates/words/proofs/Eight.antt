@@ -36,24 +36,16 @@ words-put s ws w m l ew em =
     all-set ws (s .sizes .n) (s .sizes .k) (s .sizes .d) (s .sizes .r) (s .capacity) w (s .length) m l
     ∙ ap₂ {C = List ℕ} (λ (x y : ℕ). s .sizes .n ∷ s .sizes .k ∷ s .sizes .d ∷ s .sizes .r ∷ s .capacity ∷ x ∷ s .length ∷ y ∷ []) ew em
 
--- the record as it is taken from them
-pub told : (ws : List ℕ) (marks : List Bool) → marks ≡ bits 32 (getD ws 7 0)
-    → record {
+-- the record as it is taken from them, but for the marks
+abbrev from-words : List ℕ → List Bool → Record
+from-words ws marks =
+    record {
       sizes = record { n = getD ws 0 0; k = getD ws 1 0; d = getD ws 2 0; r = getD ws 3 0 };
       capacity = getD ws 4 0;
       written = eqb (getD ws 5 0) 1;
       length = getD ws 6 0;
       marks = marks;
     }
-    ≡ recordFrom ws
-told ws marks e =
-    ap
-    (λ (m : List Bool).
-    record {
-      sizes = record { n = getD ws 0 0; k = getD ws 1 0; d = getD ws 2 0; r = getD ws 3 0 };
-      capacity = getD ws 4 0;
-      written = eqb (getD ws 5 0) 1;
-      length = getD ws 6 0;
-      marks = m;
-    })
-    e
+
+pub told : (ws : List ℕ) (marks : List Bool) → marks ≡ bits 32 (getD ws 7 0) → from-words ws marks ≡ recordFrom ws
+told ws marks e = ap (from-words ws) e
