@@ -27,7 +27,7 @@ use Rattle.mbcr.proofs.Points.{standard-points}
 use Rattle.board_statements.specs.Calls.{fileOf}
 use Rattle.store_statements.specs.Calls.{recordLine, StoreOutcome, settle, refused, repairLines, repairCall, repairDone, readCall, setUpCall}
 use Rattle.store_statements.specs.Demand3.{Repaired, calls, Kept, begun, Demand3Claim, Demand3Standard}
-use Rattle.store_statements.specs.Ledger.{State, Book, Step, replies, bookReplies, final, bookFinal, Call, Fair, act, bookRecord, enter, Altered, stepped, bookLength, Allowed, left, openBook, write, lose, repair, read}
+use Rattle.store_statements.specs.Ledger.{State, Book, Step, replies, bookReplies, final, bookFinal, Call, Fair, act, bookRecord, enter, Altered, stepOutcome, bookLength, Allowed, left, openBook, write, lose, repair, read}
 use Rattle.store_statements.specs.Packets.{helperPackets, exchangePackets, hearHelpers, hearPartners, freshShare, repairPackets}
 use Rattle.store_statements.specs.Record.{Record, held, usedLen, sound, newRecord}
 use Rattle.store_statements.proofs.Area.{shares-same}
@@ -99,7 +99,7 @@ module _ (xs : List ℕ) (laws : (z : Sizes) → legal z ≡ true → DifferentP
 
   -- a step from any record that is the one that the book tells
   one : (w : State) (b : Book) (t : Step) → w .kept ≡ bookRecord b → Inv xs b (w .area) → Altered b (w .kept) (w .area) (t .area) → Fair (t .call)
-      → Good xs (stepped xs w t) (enter b (t .call))
+      → Good xs (stepOutcome xs w t) (enter b (t .call))
   one w b t e v a ok =
       subst
       (λ (s : Record). Good xs (act xs (record { kept = s; area = t .area }) (t .call)) (enter b (t .call)))
@@ -126,7 +126,7 @@ module _ (xs : List ℕ) (laws : (z : Sizes) → legal z ≡ true → DifferentP
   run [] w b e v a = record { alike = refl; kept = kept-at w b e v }
   run (t ∷ ts) w b e v a =
       let g = one w b t e v (a .0) (a .1) in
-      let r = run ts (left (stepped xs w t)) (enter b (t .call) .book) (g .same-record) (g .inv) (a .2) in
+      let r = run ts (left (stepOutcome xs w t)) (enter b (t .call) .book) (g .same-record) (g .inv) (a .2) in
       record { alike = let x = g .alike in let y = r .alike in cc; kept = r .kept }
 
 -- ---- the start

@@ -23,7 +23,7 @@ use Rattle.mbcr.specs.Share.{standard}
 use Rattle.store_statements.specs.Record.{Record, newRecord, turnOn}
 use Rattle.store_statements.specs.Packets.{total, repairPackets}
 use Rattle.store_statements.specs.Calls.{StoreOutcome, settle, refused, recordLine, writeLines, writeDone, writeCall, loseLines, loseDone, loseCall, repairLines, repairDone, repairCall, readLines, readDone, readCall, setUpCall}
-use Rattle.store_statements.specs.Ledger.{Call, write, lose, repair, read, Book, State, Step, Altered, Allowed, left, act, stepped, replies, final, openBook, enter, bookFinal}
+use Rattle.store_statements.specs.Ledger.{Call, write, lose, repair, read, Book, State, Step, Altered, Allowed, left, act, stepOutcome, replies, final, openBook, enter, bookFinal}
 use Rattle.board_statements.specs.Calls.{fileOf}
 use Rattle.store_statements.specs.Demand3.{Kept, Demand3, begun, calls}
 use Rattle.store_statements.proofs.Demand3.{demand-3-standard, accepted-repair}
@@ -92,11 +92,11 @@ record Tells (ws area : List ℕ) (w : State) : Type 0 where
   area-is : area ≡ w .area
   full : length (w .kept .marks) ≡ 32
 
-one : (ws area : List ℕ) (w : State) (t : Step) → Tells ws area w → zbk ws (t .area) (t .call) ≡ inWords (stepped standard w t)
+one : (ws area : List ℕ) (w : State) (t : Step) → Tells ws area w → zbk ws (t .area) (t .call) ≡ inWords (stepOutcome standard w t)
 one ws area w t h = ap (λ (l : List ℕ). zbk l (t .area) (t .call)) (h .words-are) ∙ zbk-is (w .kept) (h .full) (t .area) (t .call)
 
 next : (ws area : List ℕ) (w : State) (t : Step) → Tells ws area w
-    → Tells (zbk ws (t .area) (t .call) .words) (zbk ws (t .area) (t .call) .area) (left (stepped standard w t))
+    → Tells (zbk ws (t .area) (t .call) .words) (zbk ws (t .area) (t .call) .area) (left (stepOutcome standard w t))
 next ws area w t h =
     let e = one ws area w t h in
     record {
@@ -113,19 +113,19 @@ allowed ws area w b [] h a = tt
 allowed ws area w b (t ∷ ts) h a = (
   subst (λ (l : List ℕ). Altered b (w .kept) l (t .area)) (h .area-is) (subst (λ (s : Record). Altered b s area (t .area)) (back ws area w h) (a .0)),
   a .1,
-  allowed (zbk ws (t .area) (t .call) .words) (zbk ws (t .area) (t .call) .area) (left (stepped standard w t)) (enter b (t .call) .book) ts (next ws area w t h) (a .2),
+  allowed (zbk ws (t .area) (t .call) .words) (zbk ws (t .area) (t .call) .area) (left (stepOutcome standard w t)) (enter b (t .call) .book) ts (next ws area w t h) (a .2),
 )
 
 answers : (ws area : List ℕ) (w : State) (steps : List Step) → Tells ws area w → map told (lents ws steps) ≡ map inWord (replies standard w steps)
 answers ws area w [] h = refl
 answers ws area w (t ∷ ts) h =
     ap₂ {C = List Told} (λ x l. x ∷ l) (ap told (one ws area w t h))
-    (answers (zbk ws (t .area) (t .call) .words) (zbk ws (t .area) (t .call) .area) (left (stepped standard w t)) ts (next ws area w t h))
+    (answers (zbk ws (t .area) (t .call) .words) (zbk ws (t .area) (t .call) .area) (left (stepOutcome standard w t)) ts (next ws area w t h))
 
 ends : (ws area : List ℕ) (w : State) (steps : List Step) → Tells ws area w
     → Tells (lastWords ws (lents ws steps)) (lastArea area (lents ws steps)) (final standard w steps)
 ends ws area w [] h = h
-ends ws area w (t ∷ ts) h = ends (zbk ws (t .area) (t .call) .words) (zbk ws (t .area) (t .call) .area) (left (stepped standard w t)) ts (next ws area w t h)
+ends ws area w (t ∷ ts) h = ends (zbk ws (t .area) (t .call) .words) (zbk ws (t .area) (t .call) .area) (left (stepOutcome standard w t)) ts (next ws area w t h)
 
 -- ---- the start
 
