@@ -11,9 +11,10 @@ use Rattle.sizes.specs.declared.Sizes.{Sizes}
 use Rattle.sizes.specs.declared.Refusal.{Refusal}
 use Rattle.sizes.specs.declared.Refusal.the-variants.{Area, Long}
 use Rattle.sizes.specs.declared.Check.{Check}
+use Rattle.sizes.specs.declared.Check.the-variants.{Pass, Refuse}
 use Rattle.sizes.specs.declared.Answer.the-variants.{Done}
 use Rattle.sizes.specs.Sizing.{B}
-use Rattle.sizes.specs.Refusals.{said, Line, _when_}
+use Rattle.sizes.specs.Refusals.{said, Line, _when_, first, storeOrder}
 use Rattle.mbcr.specs.Share.{standard, share}
 use Rattle.board_statements.specs.Calls.{nodeLine, areaLine}
 use Rattle.store_statements.specs.Record.{Record, newRecord, writtenRecord, partLen, putShares}
@@ -27,6 +28,13 @@ refuse-at lines i x out done h = sym (ap (λ (c : Check). settle c out done) (ch
 
 pub done-at : (lines : List Line) (out : Refusal → StoreOutcome) (done : StoreOutcome) → Passed lines → done ≡ settle (chain lines) out done
 done-at lines out done p = sym (ap (λ (c : Check). settle c out done) (chain-pass lines p))
+
+-- a call whose check refuses, and one whose check passes
+pub refused-by : {c : Check} {x : Refusal} (out : Refusal → StoreOutcome) (done : StoreOutcome) → c ≡ Refuse x → out x ≡ settle c out done
+refused-by out done e = sym (ap (λ (k : Check). settle k out done) e)
+
+pub done-by : {c : Check} (out : Refusal → StoreOutcome) (done : StoreOutcome) → c ≡ Pass → done ≡ settle c out done
+done-by out done e = sym (ap (λ (k : Check). settle k out done) e)
 
 module _ (s : Record) (board : ℕ) (area : List ℕ) where
   abbrev pub loses : List Line
@@ -68,15 +76,12 @@ puts-same s t f [] area e = refl
 puts-same s t f (i ∷ boards) area e = puts-same s t f boards (put area (i * partLen s) (f i)) e ∙ ap (λ (m : ℕ). putShares t f boards (put area (i * m) (f i))) e
 
 module _ (s : Record) (area file : List ℕ) where
-  abbrev pub writes : List Line
-  writes = recordLine s ∷ lentLine s (length area) ∷ (Long when ltb (s .capacity * B (s .sizes)) (length file)) ∷ []
+  abbrev pub checked : Check
+  checked = first storeOrder (writeLines s (length area) file)
 
-  write-is : settle (chain writes) (refused s area []) (writeDone standard s area file) ≡ writeCall standard s area file
-  unfolding writeLines writeCall
-  write-is = refl
-
-  pub write-refuses : (i : ℕ) (x : Refusal) → Refuses writes i x → refused s area [] x ≡ writeCall standard s area file
-  write-refuses i x h = refuse-at writes i x (refused s area []) (writeDone standard s area file) h ∙ write-is
+  pub write-refuses : {x : Refusal} → checked ≡ Refuse x → refused s area [] x ≡ writeCall standard s area file
+  unfolding writeCall
+  write-refuses e = refused-by (refused s area []) (writeDone standard s area file) e
 
   -- what a write hands on with these marks and this area
   abbrev pub made : List Bool → List ℕ → StoreOutcome
@@ -88,13 +93,13 @@ module _ (s : Record) (area file : List ℕ) where
         output = [];
       }
 
-  pub write-works : (marks : List Bool) (points after : List ℕ) → Passed writes → marks ≡ tabulate 32 (λ i. ltb i (s .sizes .n)) → points ≡ standard
+  pub write-works : (marks : List Bool) (points after : List ℕ) → checked ≡ Pass → marks ≡ tabulate 32 (λ i. ltb i (s .sizes .n)) → points ≡ standard
       → after ≡ putShares (recordOf (s .sizes) (s .capacity) true 0 []) (share (s .sizes) points file) (tabulate (s .sizes .n) (λ i. i)) area
       → made marks after ≡ writeCall standard s area file
+  unfolding writeCall
   write-works marks points after p em ep ea =
       ap₂ made em
       (ea
       ∙ ap (λ (xs : List ℕ). putShares (recordOf (s .sizes) (s .capacity) true 0 []) (share (s .sizes) xs file) (tabulate (s .sizes .n) (λ i. i)) area) ep
       ∙ puts-same (recordOf (s .sizes) (s .capacity) true 0 []) (writtenRecord s (length file)) (share (s .sizes) standard file) (tabulate (s .sizes .n) (λ i. i)) area refl)
-      ∙ done-at writes (refused s area []) (writeDone standard s area file) p
-      ∙ write-is
+      ∙ done-by (refused s area []) (writeDone standard s area file) p

@@ -56,26 +56,15 @@ impl Store {
         let sizes = self.sizes;
         let capacity = self.capacity;
         let marks = self.marks;
-        if let Check::Refuse(x) = store_checks::check_record(
+        if let Check::Refuse(x) = write_check::check_write(
             sizes,
             capacity,
             self.written,
             self.length,
             &marks,
+            area.len(),
+            file,
         ) {
-            return Handed {
-                store: self,
-                answer: Answer::Refused(x),
-            };
-        }
-        let part_len = capacity * sizes.share_len();
-        if let Check::Refuse(x) = checks::check_lent(area.len(), sizes.n * part_len) {
-            return Handed {
-                store: self,
-                answer: Answer::Refused(x),
-            };
-        }
-        if let Check::Refuse(x) = store_checks::check_fits(sizes, capacity, file.len()) {
             return Handed {
                 store: self,
                 answer: Answer::Refused(x),
@@ -232,86 +221,27 @@ impl Store {
         let capacity = self.capacity;
         let length = self.length;
         let marks = self.marks;
-        if let Check::Refuse(x) = store_checks::check_record(
+        let points = checks::standard_points();
+        let mut inverses = [0u8; 256];
+        interpolation::fill_inverses(&mut inverses);
+        if let Check::Refuse(x) = read_check::check_read(
             sizes,
             capacity,
             self.written,
             length,
             &marks,
-        ) {
-            return Handed {
-                store: self,
-                answer: Answer::Refused(x),
-            };
-        }
-        let part_len = capacity * sizes.share_len();
-        if let Check::Refuse(x) = checks::check_lent(area.len(), sizes.n * part_len) {
-            return Handed {
-                store: self,
-                answer: Answer::Refused(x),
-            };
-        }
-        if let Check::Refuse(x) = store_checks::check_written(self.written) {
-            return Handed {
-                store: self,
-                answer: Answer::Refused(x),
-            };
-        }
-        if let Check::Refuse(x) = checks::check_count(boards.len(), sizes.k) {
-            return Handed {
-                store: self,
-                answer: Answer::Refused(x),
-            };
-        }
-        if let Check::Refuse(x) = checks::check_nodes(sizes, boards) {
-            return Handed {
-                store: self,
-                answer: Answer::Refused(x),
-            };
-        }
-        if let Check::Refuse(x) = checks::check_repeat(boards) {
-            return Handed {
-                store: self,
-                answer: Answer::Refused(x),
-            };
-        }
-        if let Check::Refuse(x) = store_checks::check_service(&marks, boards) {
-            return Handed {
-                store: self,
-                answer: Answer::Refused(x),
-            };
-        }
-        if let Check::Refuse(x) = checks::check_room(out, length) {
-            return Handed {
-                store: self,
-                answer: Answer::Refused(x),
-            };
-        }
-        let points = checks::standard_points();
-        let mut inverses = [0u8; 256];
-        interpolation::fill_inverses(&mut inverses);
-        let count = checks::stripe_count(sizes, length);
-        if let Check::Refuse(x) = store_decode::check_agrees(
-            sizes,
-            capacity,
             &points,
             &inverses,
-            length,
-            count,
-            boards,
             area,
+            boards,
+            out,
         ) {
             return Handed {
                 store: self,
                 answer: Answer::Refused(x),
             };
         }
-        if let Check::Refuse(x) = checks::check_points(&points, sizes.n) {
-            return Handed {
-                store: self,
-                answer: Answer::Refused(x),
-            };
-        }
+        let count = checks::stripe_count(sizes, length);
         store_decode::file(
             sizes,
             capacity,

@@ -30,6 +30,10 @@ pub record StoreOutcome : Type 0 where
   pub area : List ℕ
   pub output : List ℕ
 
+-- a call that is accepted: the number that it reports, the record that it hands on, and the lent bytes after it
+abbrev pub accepted : ℕ → Record → List ℕ → List ℕ → StoreOutcome
+accepted v s area output = record { answer = said (Done v); handed = s; area = area; output = output }
+
 -- "All refusals behave alike: the number is answered, the record comes back unchanged, and lent memory is untouched."
 abbrev pub refused : Record → List ℕ → List ℕ → Refusal → StoreOutcome
 refused s area output x = record { answer = said (Refused x); handed = s; area = area; output = output }
@@ -103,25 +107,20 @@ readLines xs s area boards output =
 -- "Set up, given sizes and C": "the record it is handed is not examined, and comes back only with a refusal"
 unfoldable pub setUpCall : Record → Sizes → ℕ → StoreOutcome
 setUpCall s z c =
-    settle (first storeOrder (recordLine (newRecord z c) ∷ [])) (refused s [] [])
-    (record { answer = said (Done 0); handed = newRecord z c; area = []; output = [] })
+    settle (first storeOrder (recordLine (newRecord z c) ∷ [])) (refused s [] []) (accepted 0 (newRecord z c) [] [])
 
 -- "Write: the first S stripes of every board get its share; all n come into service. Other bytes stay."
 abbrev pub writeDone : List ℕ → Record → List ℕ → List ℕ → StoreOutcome
 writeDone xs s area file =
-    record {
-      answer = said (Done 0);
-      handed = writtenRecord s (length file);
-      area = putShares (writtenRecord s (length file)) (share (s .sizes) xs file) (tabulate (s .sizes .n) (λ i. i)) area;
-      output = [];
-    }
+    accepted 0 (writtenRecord s (length file))
+    (putShares (writtenRecord s (length file)) (share (s .sizes) xs file) (tabulate (s .sizes .n) (λ i. i)) area) []
 
 unfoldable pub writeCall : List ℕ → Record → List ℕ → List ℕ → StoreOutcome
 writeCall xs s area file = settle (first storeOrder (writeLines s (length area) file)) (refused s area []) (writeDone xs s area file)
 
 -- "Lose a board: its mark goes off; already off is accepted."
 abbrev pub loseDone : Record → List ℕ → ℕ → StoreOutcome
-loseDone s area board = record { answer = said (Done 0); handed = withMarks s (set (s .marks) board false); area = area; output = [] }
+loseDone s area board = accepted 0 (withMarks s (set (s .marks) board false)) area []
 
 unfoldable pub loseCall : Record → List ℕ → ℕ → StoreOutcome
 loseCall s area board = settle (first storeOrder (loseLines s board)) (refused s area []) (loseDone s area board)
@@ -130,12 +129,8 @@ loseCall s area board = settle (first storeOrder (loseLines s board)) (refused s
 -- packets". All packets are made from the area before the call.
 abbrev pub repairDone : List ℕ → Record → List ℕ → List ℕ → List ℕ → StoreOutcome
 repairDone xs s area fresh helpers =
-    record {
-      answer = said (Done (total (repairPackets xs s area fresh helpers)));
-      handed = withMarks s (turnOn fresh (s .marks));
-      area = putShares s (freshShare xs s area fresh helpers) fresh area;
-      output = [];
-    }
+    accepted (total (repairPackets xs s area fresh helpers)) (withMarks s (turnOn fresh (s .marks)))
+    (putShares s (freshShare xs s area fresh helpers) fresh area) []
 
 unfoldable pub repairCall : List ℕ → Record → List ℕ → List ℕ → List ℕ → StoreOutcome
 repairCall xs s area fresh helpers =
@@ -143,8 +138,7 @@ repairCall xs s area fresh helpers =
 
 -- "Read: k boards; the file goes to the first L bytes of the output, the rest of it stays."
 abbrev pub readDone : List ℕ → Record → List ℕ → List ℕ → List ℕ → StoreOutcome
-readDone xs s area boards output =
-    record { answer = said (Done 0); handed = s; area = area; output = over (fileOf (fileHeld xs s area boards)) output }
+readDone xs s area boards output = accepted 0 s area (over (fileOf (fileHeld xs s area boards)) output)
 
 unfoldable pub readCall : List ℕ → Record → List ℕ → List ℕ → List ℕ → StoreOutcome
 readCall xs s area boards output =
