@@ -8,10 +8,10 @@ ghost use lib.Dec.{eqb};
 ghost use lib.ListN.{take};
 ghost use Rattle.lists.specs.Tests.{different};
 ghost use Rattle.sizes.specs.Sizing.{legal, B, stripes};
-ghost use Rattle.sizes.specs.Refusals.{_when_};
+ghost use Rattle.sizes.specs.Refusals.{_when_, first, boardOrder};
 ghost use Rattle.mbcr.specs.Share.{standard};
 ghost use Rattle.board_statements.specs.Calls.{sizeLine, longLine, countLine, nodeLine, repeatLine, areaLine, shortLine};
-ghost use Rattle.checks.specs.Asked.{asked};
+ghost use Rattle.checks.specs.Asked.{asked, statedLines};
 use sizes::Check;
 use sizes::Refusal;
 use sizes::Sizes;
@@ -91,6 +91,16 @@ pub fn check_length(sizes: Sizes, len: usize) -> Check
     } else {
         Check::Pass
     }
+}
+
+// 1 SIZE and 3 LONG, of the sizes and the length that every board-level call is given.
+pub fn check_stated(sizes: Sizes, len: usize) -> Check
+    ensures { λ r. ⌜ r ≡ first boardOrder (statedLines sizes len) ⌝ }
+{
+    if let Check::Refuse(size) = check_sizes(sizes) {
+        return Check::Refuse(size);
+    }
+    check_length(sizes, len)
 }
 
 // 4 COUNT of one list.
