@@ -25,7 +25,7 @@ use Rattle.sizes.specs.declared.Refusal.the-variants.{Points, Size, Area, Long,
 use Rattle.sizes.specs.declared.Sizes.{Sizes}
 use Rattle.sizes.proofs.Laws.{numbers-differ, number-low}
 use Rattle.sizes.proofs.Legal.{Legal, legal-facts}
-use Rattle.sizes.proofs.Lines.{Clear, clear-first, refuse-first, one-or-none, never, says-not, says-less, says-none, says-one, says-two, says-itself, says-no-file}
+use Rattle.sizes.proofs.Lines.{Clear, clear-first, refuse-first, one-or-none, never, says-not, says-less, says-one, says-two, says-itself, says-no-file}
 use Rattle.mbcr.specs.Demand2.{Named}
 use Rattle.mbcr.specs.Read.{decodedFile, readFile}
 use Rattle.mbcr.specs.Rebuild.{helperPacket, exchangePacket, finishedShare}
@@ -34,8 +34,10 @@ use Rattle.mbcr.proofs.Points.{Boards, boards-of, standard-points}
 use Rattle.mbcr.proofs.Read.{read-sound, read-complete, read-none}
 use Rattle.mbcr.proofs.Repair.{length-share, length-packet, length-exchange, length-finished}
 use Rattle.board_statements.specs.Calls.{BoardOutcome, settled, fileOf, shareLines, shareCall, fileLines, fileCall, helperLines, helperCall, exchangeLines, exchangeCall, finishedLines, finishedCall, textLines, textCall, equalPoints, readRuns, ownRuns, finishRuns}
-use Rattle.board_statements.specs.Demand1.{BoardEnds, BoardCalls, BoardLines}
+use Rattle.board_statements.specs.Claims.{LinesSay}
+use Rattle.board_statements.specs.Demand1.{BoardEnds, BoardCalls, shareClaims, fileClaims, helperClaims, exchangeClaims, finishedClaims, textClaims}
 use Rattle.board_statements.specs.Text.{shareText}
+use Rattle.board_statements.proofs.Claims.{lines-say}
 use Rattle.board_statements.proofs.Runs.{own-runs, one-run, finish-runs, read-runs}
 
 -- ---- lines that do not hold
@@ -277,106 +279,101 @@ module _ (z : Sizes) (xs : List ℕ) (L : ℕ) (boards held output : List ℕ) (
 -- ---- what the lines say
 
 module _ (z : Sizes) (xs : List ℕ) where
-  share-lines : (node : ℕ) (file output : List ℕ)
-      → BoardLines (shareLines z xs node file output) (legal z ≡ false) (4096 * B z < length file) ⊥ (below (z .n) (node ∷ []) ≡ false) ⊥ ⊥
-      (length output < stripes z (length file) * α z) ⊥ ⊥
+  share-lines : (node : ℕ) (file output : List ℕ) → LinesSay (shareLines z xs node file output) (shareClaims z xs node file output)
   unfolding shareLines
-  share-lines node file output = record {
-    size-is = says-not _;
-    long-is = says-less _ _;
-    count-is = says-none;
-    node-is = says-not _;
-    repeat-is = says-none;
-    area-is = says-none;
-    short-is = says-less _ _;
-    disagree-is = says-none;
-    points-is = says-none;
-  }
+  share-lines node file output =
+      lines-say (shareLines z xs node file output) (shareClaims z xs node file output)
+      (refl, says-not _, (refl, says-less _ _, (refl, says-not _, (refl, says-less _ _, tt))))
 
-  file-lines : (L : ℕ) (boards held output : List ℕ)
-      → BoardLines (fileLines z xs L boards held output) (legal z ≡ false) (4096 * B z < L) (length boards ≢ z .k) (below (z .n) boards ≡ false)
-      (different boards ≡ false) (length held ≢ z .k * (stripes z L * α z)) (length output < L) (readFile z xs L boards held ≡ none)
-      (equalPoints xs (readRuns z boards) ≡ true)
+  file-lines : (L : ℕ) (boards held output : List ℕ) → LinesSay (fileLines z xs L boards held output) (fileClaims z xs L boards held output)
   unfolding fileLines
-  file-lines L boards held output = record {
-    size-is = says-not _;
-    long-is = says-less _ _;
-    count-is = says-one _ _;
-    node-is = says-not _;
-    repeat-is = says-not _;
-    area-is = says-one _ _;
-    short-is = says-less _ _;
-    disagree-is = says-no-file _;
-    points-is = says-itself _;
-  }
+  file-lines L boards held output =
+      lines-say (fileLines z xs L boards held output) (fileClaims z xs L boards held output) (
+        refl,
+        says-not _,
+        (
+          refl,
+          says-less _ _,
+          (
+            refl,
+            says-one _ _,
+            (
+              refl,
+              says-not _,
+              (
+                refl,
+                says-not _,
+                (refl, says-one _ _, (refl, says-less _ _, (refl, says-no-file _, (refl, says-itself _, tt)))),
+              ),
+            ),
+          ),
+        ),
+      )
 
   helper-lines : (L helper receiver : ℕ) (held output : List ℕ)
-      → BoardLines (helperLines z xs L helper receiver held output) (legal z ≡ false) (4096 * B z < L) ⊥ (below (z .n) (helper ∷ receiver ∷ []) ≡ false)
-      (different (helper ∷ receiver ∷ []) ≡ false) (length held ≢ stripes z L * α z) (length output < 2 * stripes z L) ⊥ (equalPoints xs (ownRuns z helper) ≡ true)
+      → LinesSay (helperLines z xs L helper receiver held output) (helperClaims z xs L helper receiver held output)
   unfolding helperLines
-  helper-lines L helper receiver held output = record {
-    size-is = says-not _;
-    long-is = says-less _ _;
-    count-is = says-none;
-    node-is = says-not _;
-    repeat-is = says-not _;
-    area-is = says-one _ _;
-    short-is = says-less _ _;
-    disagree-is = says-none;
-    points-is = says-itself _;
-  }
+  helper-lines L helper receiver held output =
+      lines-say (helperLines z xs L helper receiver held output) (helperClaims z xs L helper receiver held output)
+      (refl, says-not _, (refl, says-less _ _, (refl, says-not _, (refl, says-not _, (refl, says-one _ _, (refl, says-less _ _, (refl, says-itself _, tt)))))))
 
   exchange-lines : (L board : ℕ) (helpers packets : List ℕ) (receiver : ℕ) (output : List ℕ)
-      → BoardLines (exchangeLines z xs L board helpers packets receiver output) (legal z ≡ false) (4096 * B z < L) (length helpers ≢ z .d)
-      (below (z .n) (board ∷ receiver ∷ helpers) ≡ false) (different (board ∷ receiver ∷ helpers) ≡ false) (length packets ≢ z .d * (2 * stripes z L))
-      (length output < stripes z L) ⊥ (equalPoints xs (helpers ∷ []) ≡ true)
+      → LinesSay (exchangeLines z xs L board helpers packets receiver output) (exchangeClaims z xs L board helpers packets receiver output)
   unfolding exchangeLines
-  exchange-lines L board helpers packets receiver output = record {
-    size-is = says-not _;
-    long-is = says-less _ _;
-    count-is = says-one _ _;
-    node-is = says-not _;
-    repeat-is = says-not _;
-    area-is = says-one _ _;
-    short-is = says-less _ _;
-    disagree-is = says-none;
-    points-is = says-itself _;
-  }
+  exchange-lines L board helpers packets receiver output =
+      lines-say (exchangeLines z xs L board helpers packets receiver output) (exchangeClaims z xs L board helpers packets receiver output) (
+        refl,
+        says-not _,
+        (
+          refl,
+          says-less _ _,
+          (
+            refl,
+            says-one _ _,
+            (
+              refl,
+              says-not _,
+              (
+                refl,
+                says-not _,
+                (refl, says-one _ _, (refl, says-less _ _, (refl, says-itself _, tt))),
+              ),
+            ),
+          ),
+        ),
+      )
 
   finished-lines : (L board : ℕ) (helpers packets partners exchanges output : List ℕ)
-      → BoardLines (finishedLines z xs L board helpers packets partners exchanges output) (legal z ≡ false) (4096 * B z < L)
-      ((length helpers ≡ z .d) × (length partners ≡ z .r - 1) → ⊥) (below (z .n) (helpers ++ partners ++ (board ∷ [])) ≡ false)
-      (different (helpers ++ partners ++ (board ∷ [])) ≡ false)
-      ((length packets ≡ z .d * (2 * stripes z L)) × (length exchanges ≡ (z .r - 1) * stripes z L) → ⊥) (length output < stripes z L * α z) ⊥
-      (equalPoints xs (finishRuns board helpers partners) ≡ true)
+      → LinesSay (finishedLines z xs L board helpers packets partners exchanges output) (finishedClaims z xs L board helpers packets partners exchanges output)
   unfolding finishedLines
-  finished-lines L board helpers packets partners exchanges output = record {
-    size-is = says-not _;
-    long-is = says-less _ _;
-    count-is = says-two _ _ _ _;
-    node-is = says-not _;
-    repeat-is = says-not _;
-    area-is = says-two _ _ _ _;
-    short-is = says-less _ _;
-    disagree-is = says-none;
-    points-is = says-itself _;
-  }
+  finished-lines L board helpers packets partners exchanges output =
+      lines-say (finishedLines z xs L board helpers packets partners exchanges output) (finishedClaims z xs L board helpers packets partners exchanges output) (
+        refl,
+        says-not _,
+        (
+          refl,
+          says-less _ _,
+          (
+            refl,
+            says-two _ _ _ _,
+            (
+              refl,
+              says-not _,
+              (
+                refl,
+                says-not _,
+                (refl, says-two _ _ _ _, (refl, says-less _ _, (refl, says-itself _, tt))),
+              ),
+            ),
+          ),
+        ),
+      )
 
-  text-lines : (L node : ℕ) (held output : List ℕ)
-      → BoardLines (textLines z xs L node held output) (legal z ≡ false) (4096 * B z < L) ⊥ (below (z .n) (node ∷ []) ≡ false) ⊥
-      (length held ≢ stripes z L * α z) (length output < length (shareText z L node held)) ⊥ ⊥
+  text-lines : (L node : ℕ) (held output : List ℕ) → LinesSay (textLines z xs L node held output) (textClaims z xs L node held output)
   unfolding textLines
-  text-lines L node held output = record {
-    size-is = says-not _;
-    long-is = says-less _ _;
-    count-is = says-none;
-    node-is = says-not _;
-    repeat-is = says-none;
-    area-is = says-one _ _;
-    short-is = says-less _ _;
-    disagree-is = says-none;
-    points-is = says-none;
-  }
+  text-lines L node held output =
+      lines-say (textLines z xs L node held output) (textClaims z xs L node held output)
+      (refl, says-not _, (refl, says-less _ _, (refl, says-not _, (refl, says-one _ _, (refl, says-less _ _, tt)))))
 
 -- ---- the reader gives the file
 

@@ -22,6 +22,7 @@ use Rattle.mbcr.specs.Rebuild.{helperPacket, exchangePacket, finishedShare}
 use Rattle.mbcr.specs.Read.{readFile}
 use Rattle.mbcr.specs.Demand2.{Named}
 use Rattle.sizes.specs.Sizing.{maxStripes, legal, α, B, stripes}
+use Rattle.board_statements.specs.Claims.{Claim, _means_, LinesSay}
 use Rattle.board_statements.specs.Text.{decimal, hexPair, shareText}
 use Rattle.board_statements.specs.Calls.{BoardOutcome, fileOf, equalPoints, ownRuns, finishRuns, readRuns, shareLines, shareCall, fileLines, fileCall, helperLines, helperCall, exchangeLines, exchangeCall, finishedLines, finishedCall, textLines, textCall}
 
@@ -35,43 +36,87 @@ pub record BoardEnds (lines : List Line) (output bytes : List ℕ) (o : BoardOut
   pub works : All (λ x. holdsIn lines x ≡ false) boardOrder
       → (o ≡ record { answer = said (Done (length bytes)); output = over bytes output }) × (length bytes ≤ length output)
 
--- what each line of a call says, and that it has no others
-pub record BoardLines (lines : List Line) (size long count node repeat area short disagree points : Type 0) : Type 0 where
-  pub size-is : (holdsIn lines Size ≡ true) ↔ size
-  pub long-is : (holdsIn lines Long ≡ true) ↔ long
-  pub count-is : (holdsIn lines Count ≡ true) ↔ count
-  pub node-is : (holdsIn lines Node ≡ true) ↔ node
-  pub repeat-is : (holdsIn lines Repeat ≡ true) ↔ repeat
-  pub area-is : (holdsIn lines Area ≡ true) ↔ area
-  pub short-is : (holdsIn lines Short ≡ true) ↔ short
-  pub disagree-is : (holdsIn lines Disagree ≡ true) ↔ disagree
-  pub points-is : (holdsIn lines Points ≡ true) ↔ points
+-- what the lines of each call say
+module _ (z : Sizes) (xs : List ℕ) where
+  abbrev pub shareClaims : ℕ → List ℕ → List ℕ → List Claim
+  shareClaims node file output =
+      Size means (legal z ≡ false)
+      ∷ Long means (maxStripes * B z < length file)
+      ∷ Node means (below (z .n) (node ∷ []) ≡ false)
+      ∷ Short means (length output < stripes z (length file) * α z)
+      ∷ []
+
+  abbrev pub fileClaims : ℕ → List ℕ → List ℕ → List ℕ → List Claim
+  fileClaims L boards held output =
+      Size means (legal z ≡ false)
+      ∷ Long means (maxStripes * B z < L)
+      ∷ Count means (length boards ≢ z .k)
+      ∷ Node means (below (z .n) boards ≡ false)
+      ∷ Repeat means (different boards ≡ false)
+      ∷ Area means (length held ≢ z .k * (stripes z L * α z))
+      ∷ Short means (length output < L)
+      ∷ Disagree means (readFile z xs L boards held ≡ none)
+      ∷ Points means (equalPoints xs (readRuns z boards) ≡ true)
+      ∷ []
+
+  abbrev pub helperClaims : ℕ → ℕ → ℕ → List ℕ → List ℕ → List Claim
+  helperClaims L helper receiver held output =
+      Size means (legal z ≡ false)
+      ∷ Long means (maxStripes * B z < L)
+      ∷ Node means (below (z .n) (helper ∷ receiver ∷ []) ≡ false)
+      ∷ Repeat means (different (helper ∷ receiver ∷ []) ≡ false)
+      ∷ Area means (length held ≢ stripes z L * α z)
+      ∷ Short means (length output < 2 * stripes z L)
+      ∷ Points means (equalPoints xs (ownRuns z helper) ≡ true)
+      ∷ []
+
+  abbrev pub exchangeClaims : ℕ → ℕ → List ℕ → List ℕ → ℕ → List ℕ → List Claim
+  exchangeClaims L board helpers packets receiver output =
+      Size means (legal z ≡ false)
+      ∷ Long means (maxStripes * B z < L)
+      ∷ Count means (length helpers ≢ z .d)
+      ∷ Node means (below (z .n) (board ∷ receiver ∷ helpers) ≡ false)
+      ∷ Repeat means (different (board ∷ receiver ∷ helpers) ≡ false)
+      ∷ Area means (length packets ≢ z .d * (2 * stripes z L))
+      ∷ Short means (length output < stripes z L)
+      ∷ Points means (equalPoints xs (helpers ∷ []) ≡ true)
+      ∷ []
+
+  abbrev pub finishedClaims : ℕ → ℕ → List ℕ → List ℕ → List ℕ → List ℕ → List ℕ → List Claim
+  finishedClaims L board helpers packets partners exchanges output =
+      Size means (legal z ≡ false)
+      ∷ Long means (maxStripes * B z < L)
+      ∷ Count means ((length helpers ≡ z .d) × (length partners ≡ z .r - 1) → ⊥)
+      ∷ Node means (below (z .n) (helpers ++ partners ++ (board ∷ [])) ≡ false)
+      ∷ Repeat means (different (helpers ++ partners ++ (board ∷ [])) ≡ false)
+      ∷ Area means ((length packets ≡ z .d * (2 * stripes z L)) × (length exchanges ≡ (z .r - 1) * stripes z L) → ⊥)
+      ∷ Short means (length output < stripes z L * α z)
+      ∷ Points means (equalPoints xs (finishRuns board helpers partners) ≡ true)
+      ∷ []
+
+  abbrev pub textClaims : ℕ → ℕ → List ℕ → List ℕ → List Claim
+  textClaims L node held output =
+      Size means (legal z ≡ false)
+      ∷ Long means (maxStripes * B z < L)
+      ∷ Node means (below (z .n) (node ∷ []) ≡ false)
+      ∷ Area means (length held ≢ stripes z L * α z)
+      ∷ Short means (length output < length (shareText z L node held))
+      ∷ []
 
 pub record BoardCalls : Type 0 where
-  -- the lines of each call: SIZE, LONG, COUNT, NODE, REPEAT, AREA, SHORT, DISAGREE, POINTS
+  -- the lines of each call say this, and it has no others
   pub share-lines : (z : Sizes) (xs : List ℕ) (node : ℕ) (file output : List ℕ)
-      → BoardLines (shareLines z xs node file output) (legal z ≡ false) (maxStripes * B z < length file) ⊥ (below (z .n) (node ∷ []) ≡ false) ⊥ ⊥
-      (length output < stripes z (length file) * α z) ⊥ ⊥
+      → LinesSay (shareLines z xs node file output) (shareClaims z xs node file output)
   pub file-lines : (z : Sizes) (xs : List ℕ) (L : ℕ) (boards held output : List ℕ)
-      → BoardLines (fileLines z xs L boards held output) (legal z ≡ false) (maxStripes * B z < L) (length boards ≢ z .k) (below (z .n) boards ≡ false)
-      (different boards ≡ false) (length held ≢ z .k * (stripes z L * α z)) (length output < L) (readFile z xs L boards held ≡ none)
-      (equalPoints xs (readRuns z boards) ≡ true)
+      → LinesSay (fileLines z xs L boards held output) (fileClaims z xs L boards held output)
   pub helper-lines : (z : Sizes) (xs : List ℕ) (L helper receiver : ℕ) (held output : List ℕ)
-      → BoardLines (helperLines z xs L helper receiver held output) (legal z ≡ false) (maxStripes * B z < L) ⊥ (below (z .n) (helper ∷ receiver ∷ []) ≡ false)
-      (different (helper ∷ receiver ∷ []) ≡ false) (length held ≢ stripes z L * α z) (length output < 2 * stripes z L) ⊥ (equalPoints xs (ownRuns z helper) ≡ true)
+      → LinesSay (helperLines z xs L helper receiver held output) (helperClaims z xs L helper receiver held output)
   pub exchange-lines : (z : Sizes) (xs : List ℕ) (L board : ℕ) (helpers packets : List ℕ) (receiver : ℕ) (output : List ℕ)
-      → BoardLines (exchangeLines z xs L board helpers packets receiver output) (legal z ≡ false) (maxStripes * B z < L) (length helpers ≢ z .d)
-      (below (z .n) (board ∷ receiver ∷ helpers) ≡ false) (different (board ∷ receiver ∷ helpers) ≡ false) (length packets ≢ z .d * (2 * stripes z L))
-      (length output < stripes z L) ⊥ (equalPoints xs (helpers ∷ []) ≡ true)
+      → LinesSay (exchangeLines z xs L board helpers packets receiver output) (exchangeClaims z xs L board helpers packets receiver output)
   pub finished-lines : (z : Sizes) (xs : List ℕ) (L board : ℕ) (helpers packets partners exchanges output : List ℕ)
-      → BoardLines (finishedLines z xs L board helpers packets partners exchanges output) (legal z ≡ false) (maxStripes * B z < L)
-      ((length helpers ≡ z .d) × (length partners ≡ z .r - 1) → ⊥) (below (z .n) (helpers ++ partners ++ (board ∷ [])) ≡ false)
-      (different (helpers ++ partners ++ (board ∷ [])) ≡ false)
-      ((length packets ≡ z .d * (2 * stripes z L)) × (length exchanges ≡ (z .r - 1) * stripes z L) → ⊥) (length output < stripes z L * α z) ⊥
-      (equalPoints xs (finishRuns board helpers partners) ≡ true)
+      → LinesSay (finishedLines z xs L board helpers packets partners exchanges output) (finishedClaims z xs L board helpers packets partners exchanges output)
   pub text-lines : (z : Sizes) (xs : List ℕ) (L node : ℕ) (held output : List ℕ)
-      → BoardLines (textLines z xs L node held output) (legal z ≡ false) (maxStripes * B z < L) ⊥ (below (z .n) (node ∷ []) ≡ false) ⊥
-      (length held ≢ stripes z L * α z) (length output < length (shareText z L node held)) ⊥ ⊥
+      → LinesSay (textLines z xs L node held output) (textClaims z xs L node held output)
   pub share-ends : (z : Sizes) (xs : List ℕ) (node : ℕ) (file output : List ℕ)
       → BoardEnds (shareLines z xs node file output) output (share z xs file node) (shareCall z xs node file output)
   pub file-ends : (z : Sizes) (xs : List ℕ) (L : ℕ) (boards held output : List ℕ)

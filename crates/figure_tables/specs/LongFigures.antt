@@ -11,7 +11,7 @@ use Rattle.board_statements.specs.Calls.{fileCall}
 use Rattle.store_statements.specs.Record.{Record, withMarks}
 use Rattle.store_statements.specs.Packets.{sentTo, sendersOf, contents, helperPackets, exchangePackets, repairPackets}
 use Rattle.store_statements.specs.Calls.{loseCall, repairCall, readCall}
-use Rattle.store_statements.specs.FurtherFigures.{five, fiveFile, written, area, spoiled, helpers}
+use Rattle.store_statements.specs.FurtherFigures.{five, fiveFile, written, area, spoiled, helpers, gives}
 
 -- n=6, k=2, d=2, r=2, the file 01 02 .. 08: two fresh boards with different lists of helpers
 abbrev six : Record
@@ -42,12 +42,12 @@ pub record LongFigures : Type 0 where
   pub file-read : fileCall five standard 12 (1 ∷ 4 ∷ []) (shares five standard fiveFile (1 ∷ 4 ∷ [])) (replicate 14 0xEE)
       ≡ record { answer = record { refusal = 0; value = 12 }; output = fiveFile ++ (0xEE ∷ 0xEE ∷ []) }
   pub store-disagrees : readCall standard written spoiled (1 ∷ 2 ∷ []) (replicate 14 0xEE)
-      ≡ record { answer = record { refusal = 10; value = 0 }; handed = written; area = spoiled; output = replicate 14 0xEE }
+      ≡ gives 10 0 written spoiled (replicate 14 0xEE)
   pub store-read : readCall standard written area (1 ∷ 0 ∷ []) (replicate 14 0xEE)
-      ≡ record { answer = record { refusal = 0; value = 0 }; handed = written; area = area; output = fiveFile ++ (0xEE ∷ 0xEE ∷ []) }
+      ≡ gives 0 0 written area (fiveFile ++ (0xEE ∷ 0xEE ∷ []))
   -- boards 0 and 1 are lost and their bytes spoiled; a repair: 14 bytes moved, record and area as after the write
   pub losses : loseCall (loseCall written [] 0 .handed) [] 1 .handed ≡ lost
-  pub repaired : repairCall standard lost spoiled (0 ∷ 1 ∷ []) helpers ≡ record { answer = record { refusal = 0; value = 14 }; handed = written; area = area; output = [] }
+  pub repaired : repairCall standard lost spoiled (0 ∷ 1 ∷ []) helpers ≡ gives 0 14 written area []
   -- "for each, its own list of d helpers": boards 0 and 1 fresh, helpers 2, 3 and 4, 5
   pub own-helpers : map (λ i. sendersOf (sentTo i (helperPackets standard six six-area (0 ∷ 1 ∷ []) own))) (0 ∷ 1 ∷ []) ≡ (2 ∷ 3 ∷ []) ∷ (4 ∷ 5 ∷ []) ∷ []
   pub own-partners : map (λ i. sendersOf (sentTo i (exchangePackets standard six six-area (0 ∷ 1 ∷ []) own))) (0 ∷ 1 ∷ []) ≡ (1 ∷ []) ∷ (0 ∷ []) ∷ []

@@ -12,7 +12,7 @@ use Rattle.mbcr.specs.Share.{standard, share}
 use Rattle.store_statements.specs.Record.{newRecord}
 use Rattle.store_statements.specs.Packets.{sentTo, contents, total, repairPackets}
 use Rattle.store_statements.specs.Calls.{writeCall}
-use Rattle.store_statements.specs.FurtherFigures.{two, twoFile, five, fiveFile, written, area, spoiled, helpers}
+use Rattle.store_statements.specs.FurtherFigures.{two, twoFile, five, fiveFile, written, area, spoiled, helpers, gives}
 
 pub record MarkedFigures : Type 0 where
   pub m1 : mul 0x80 0x02 ≡ 0x1D
@@ -27,7 +27,7 @@ pub record MarkedFigures : Type 0 where
   pub m9 : share five standard fiveFile 2 ≡ 0x08 ∷ 0x0C ∷ 0x10 ∷ 0x00 ∷ 0x04 ∷ 0x0A ∷ 0x20 ∷ []
   pub m10 : share five standard fiveFile 3 ≡ 0x0F ∷ 0x14 ∷ 0x00 ∷ 0x05 ∷ 0x0A ∷ 0x30 ∷ 0x00 ∷ []
   pub m11 : share five standard fiveFile 4 ≡ 0x40 ∷ 0x00 ∷ 0x10 ∷ 0x20 ∷ 0x30 ∷ 0x00 ∷ 0x04 ∷ []
-  pub m7-to-m11 : writeCall standard (newRecord five 1) (replicate 35 0xFF) fiveFile ≡ record { answer = said (Done 0); handed = written; area = area; output = [] }
+  pub m7-to-m11 : writeCall standard (newRecord five 1) (replicate 35 0xFF) fiveFile ≡ gives 0 0 written area []
   -- "board 1 gets 04 02, 05 03, 10 04, then 00 from board 0. Moved: 14."
   pub m12-gets : contents (sentTo 1 (repairPackets standard written spoiled (0 ∷ 1 ∷ []) helpers))
       ≡ 0x04 ∷ 0x02 ∷ 0x05 ∷ 0x03 ∷ 0x10 ∷ 0x04 ∷ 0x00 ∷ []

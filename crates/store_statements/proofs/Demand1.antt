@@ -24,12 +24,14 @@ use Rattle.sizes.specs.declared.Check.the-variants.{Pass}
 use Rattle.sizes.specs.declared.Refusal.the-variants.{Area, Long, Empty, Count, Node, Repeat, Down, Short}
 use Rattle.sizes.specs.declared.Sizes.{Sizes}
 use Rattle.sizes.proofs.Legal.{legal-facts}
-use Rattle.sizes.proofs.Lines.{one-or-none, refuse-first, clear-first, says-not, says-differ, says-less, says-none, says-two, says-itself, says-no-file}
+use Rattle.sizes.proofs.Lines.{one-or-none, refuse-first, clear-first, says-not, says-differ, says-less, says-two, says-itself, says-no-file}
 use Rattle.mbcr.specs.Share.{share, stripe, kept}
 use Rattle.mbcr.proofs.Repair.{length-kept}
 use Rattle.board_statements.specs.Calls.{equalPoints, readRuns}
-use Rattle.store_statements.specs.Calls.{StoreOutcome, settle, refused, recordLine, setUpCall, writeLines, writeDone, writeCall, loseLines, loseDone, loseCall, repairLines, repairDone, repairCall, readLines, readDone, readCall, fileHeld}
-use Rattle.store_statements.specs.Demand1.{StoreEnds, Stays, storeLines, StoreCalls, StoreLines}
+use Rattle.store_statements.specs.Calls.{StoreOutcome, settle, accepted, refused, recordLine, setUpCall, writeLines, writeDone, writeCall, loseLines, loseDone, loseCall, repairLines, repairDone, repairCall, readLines, readDone, readCall, fileHeld}
+use Rattle.board_statements.specs.Claims.{LinesSay}
+use Rattle.board_statements.proofs.Claims.{lines-say}
+use Rattle.store_statements.specs.Demand1.{StoreEnds, Stays, storeLines, StoreCalls, writeClaims, loseClaims, repairClaims, readClaims}
 use Rattle.store_statements.specs.Ledger.{Book, bookRecord, Call, write, lose, repair, read, bookLines}
 use Rattle.store_statements.specs.Packets.{freshShare, repairRuns, hearHelpers}
 use Rattle.store_statements.specs.Record.{Record, newRecord, allOff, sound, inService, stripeCount, held, writtenRecord, usedLen, partLen, areaLen}
@@ -55,7 +57,7 @@ ends lines s area output done z = record {
 }
 
 set-up-ends : (old : Record) (z : Sizes) (c : ℕ)
-    → StoreEnds (recordLine (newRecord z c) ∷ []) old [] [] (record { answer = said (Done 0); handed = newRecord z c; area = []; output = [] }) (setUpCall old z c)
+    → StoreEnds (recordLine (newRecord z c) ∷ []) old [] [] (accepted 0 (newRecord z c) [] []) (setUpCall old z c)
 unfolding setUpCall
 set-up-ends old z c = ends _ old [] [] _ refl
 
@@ -241,78 +243,81 @@ module _ (xs : List ℕ) (b : Book) (area : List ℕ) (ok : legal (b .sizes) ≡
 
 -- ---- what the lines say
 
-write-lines : (s : Record) (m : ℕ) (file : List ℕ)
-    → StoreLines (writeLines s m file) (sound s ≡ false) (m ≢ s .sizes .n * (s .capacity * α (s .sizes))) (s .capacity * B (s .sizes) < length file) ⊥ ⊥ ⊥ ⊥ ⊥ ⊥ ⊥ ⊥
+write-lines : (s : Record) (m : ℕ) (file : List ℕ) → LinesSay (writeLines s m file) (writeClaims s m file)
 unfolding writeLines
-write-lines s m file = record {
-  size-is = says-not _;
-  area-is = says-differ _ _;
-  long-is = says-less _ _;
-  empty-is = says-none;
-  count-is = says-none;
-  node-is = says-none;
-  repeat-is = says-none;
-  down-is = says-none;
-  short-is = says-none;
-  disagree-is = says-none;
-  points-is = says-none;
-}
+write-lines s m file =
+    lines-say (writeLines s m file) (writeClaims s m file) (refl, says-not _, (refl, says-differ _ _, (refl, says-less _ _, tt)))
 
-lose-lines : (s : Record) (board : ℕ) → StoreLines (loseLines s board) (sound s ≡ false) ⊥ ⊥ ⊥ ⊥ (below (s .sizes .n) (board ∷ []) ≡ false) ⊥ ⊥ ⊥ ⊥ ⊥
+lose-lines : (s : Record) (board : ℕ) → LinesSay (loseLines s board) (loseClaims s board)
 unfolding loseLines
-lose-lines s board = record {
-  size-is = says-not _;
-  area-is = says-none;
-  long-is = says-none;
-  empty-is = says-none;
-  count-is = says-none;
-  node-is = says-not _;
-  repeat-is = says-none;
-  down-is = says-none;
-  short-is = says-none;
-  disagree-is = says-none;
-  points-is = says-none;
-}
+lose-lines s board = lines-say (loseLines s board) (loseClaims s board) (refl, says-not _, (refl, says-not _, tt))
+
+-- REPEAT by the runs of helpers, as the ledger has them
+repeat-says : (s : Record) (fresh helpers : List ℕ)
+    → (not (alls (different fresh ∷ every (λ h. different (h .senders)) (hearHelpers (s .sizes .d) fresh helpers) ∷ apart fresh helpers ∷ [])) ≡ true)
+    ↔ (alls (different fresh ∷ every different (tabulate (length fresh) (λ a. piece (s .sizes .d) a helpers)) ∷ apart fresh helpers ∷ []) ≡ false)
+repeat-says s fresh helpers =
+    subst
+    (λ (t : Bool).
+    (not (alls (different fresh ∷ every (λ h. different (h .senders)) (hearHelpers (s .sizes .d) fresh helpers) ∷ apart fresh helpers ∷ [])) ≡ true)
+    ↔ (alls (different fresh ∷ t ∷ apart fresh helpers ∷ []) ≡ false))
+    (runs-different (s .sizes .d) fresh helpers) (says-not _)
 
 repair-lines : (xs : List ℕ) (s : Record) (m : ℕ) (fresh helpers : List ℕ)
-    → StoreLines (repairLines xs s m fresh helpers) (sound s ≡ false) (m ≢ s .sizes .n * (s .capacity * α (s .sizes))) ⊥ (s .written ≡ false)
-    ((length fresh ≡ s .sizes .r) × (length helpers ≡ s .sizes .r * s .sizes .d) → ⊥) (below (s .sizes .n) (fresh ++ helpers) ≡ false)
-    (alls (different fresh ∷ every different (tabulate (length fresh) (λ a. piece (s .sizes .d) a helpers)) ∷ apart fresh helpers ∷ []) ≡ false)
-    (every (inService s) helpers ≡ false) ⊥ ⊥ (equalPoints xs (repairRuns s fresh helpers) ≡ true)
+    → LinesSay (repairLines xs s m fresh helpers) (repairClaims s xs m fresh helpers)
 unfolding repairLines
-repair-lines xs s m fresh helpers = record {
-  size-is = says-not _;
-  area-is = says-differ _ _;
-  long-is = says-none;
-  empty-is = says-not _;
-  count-is = says-two _ _ _ _;
-  node-is = says-not _;
-  repeat-is = subst (λ (t : Bool). (not (alls (different fresh ∷ every (λ h. different (h .senders)) (hearHelpers (s .sizes .d) fresh helpers) ∷ apart fresh helpers ∷ [])) ≡ true) ↔ (alls (different fresh ∷ t ∷ apart fresh helpers ∷ []) ≡ false))
-      (runs-different (s .sizes .d) fresh helpers) (says-not _);
-  down-is = says-not _;
-  short-is = says-none;
-  disagree-is = says-none;
-  points-is = says-itself _;
-}
+repair-lines xs s m fresh helpers =
+    lines-say (repairLines xs s m fresh helpers) (repairClaims s xs m fresh helpers) (
+      refl,
+      says-not _,
+      (
+        refl,
+        says-differ _ _,
+        (
+          refl,
+          says-not _,
+          (
+            refl,
+            says-two _ _ _ _,
+            (
+              refl,
+              says-not _,
+              (refl, repeat-says s fresh helpers, (refl, says-not _, (refl, says-itself _, tt))),
+            ),
+          ),
+        ),
+      ),
+    )
 
 read-lines : (xs : List ℕ) (s : Record) (area boards output : List ℕ)
-    → StoreLines (readLines xs s area boards output) (sound s ≡ false) (length area ≢ s .sizes .n * (s .capacity * α (s .sizes))) ⊥ (s .written ≡ false)
-    (length boards ≢ s .sizes .k) (below (s .sizes .n) boards ≡ false) (different boards ≡ false) (every (inService s) boards ≡ false)
-    (length output < s .length) (fileHeld xs s area boards ≡ none) (equalPoints xs (readRuns (s .sizes) boards) ≡ true)
+    → LinesSay (readLines xs s area boards output) (readClaims s xs area boards output)
 unfolding readLines
-read-lines xs s area boards output = record {
-  size-is = says-not _;
-  area-is = says-differ _ _;
-  long-is = says-none;
-  empty-is = says-not _;
-  count-is = says-differ _ _;
-  node-is = says-not _;
-  repeat-is = says-not _;
-  down-is = says-not _;
-  short-is = says-less _ _;
-  disagree-is = says-no-file _;
-  points-is = says-itself _;
-}
+read-lines xs s area boards output =
+    lines-say (readLines xs s area boards output) (readClaims s xs area boards output) (
+      refl,
+      says-not _,
+      (
+        refl,
+        says-differ _ _,
+        (
+          refl,
+          says-not _,
+          (
+            refl,
+            says-differ _ _,
+            (
+              refl,
+              says-not _,
+              (
+                refl,
+                says-not _,
+                (refl, says-not _, (refl, says-less _ _, (refl, says-no-file _, (refl, says-itself _, tt)))),
+              ),
+            ),
+          ),
+        ),
+      ),
+    )
 
 pub demand-1 : StoreCalls
 demand-1 = record {

@@ -25,7 +25,7 @@ use Rattle.sizes.proofs.Lines.{first-clear}
 use Rattle.mbcr.specs.Share.{DifferentPoints, share, standard}
 use Rattle.mbcr.proofs.Points.{standard-points}
 use Rattle.board_statements.specs.Calls.{fileOf}
-use Rattle.store_statements.specs.Calls.{recordLine, StoreOutcome, settle, refused, repairLines, repairCall, repairDone, readCall, setUpCall}
+use Rattle.store_statements.specs.Calls.{recordLine, StoreOutcome, settle, accepted, refused, repairLines, repairCall, repairDone, readCall, setUpCall}
 use Rattle.store_statements.specs.Demand3.{Repaired, calls, Kept, begun, Demand3Claim, Demand3Standard}
 use Rattle.store_statements.specs.Ledger.{State, Book, Step, replies, bookReplies, final, bookFinal, Call, Fair, act, bookRecord, enter, Altered, stepOutcome, bookLength, Allowed, left, openBook, write, lose, repair, read}
 use Rattle.store_statements.specs.Packets.{helperPackets, exchangePackets, hearHelpers, hearPartners, freshShare, repairPackets}
@@ -117,7 +117,7 @@ module _ (xs : List ℕ) (laws : (z : Sizes) → legal z ≡ true → DifferentP
         gives = λ now k. subst
             (λ (s : Record). (boards output : List ℕ) → length boards ≡ b .sizes .k → different boards ≡ true → every (among (b .service)) boards ≡ true
             → bookLength b ≤ length output
-            → readCall xs s now boards output ≡ record { answer = said (Done 0); handed = s; area = now; output = over (fileOf (b .file)) output })
+            → readCall xs s now boards output ≡ accepted 0 s now (over (fileOf (b .file)) output))
             (sym e)
             (read-gives xs laws b now (altered-at w b now e v k));
       }
@@ -135,12 +135,12 @@ module _ (old : Record) (z : Sizes) (c : ℕ) (h : setUpCall old z c .answer .re
   set-up-pass : first storeOrder (recordLine (newRecord z c) ∷ []) ≡ Pass
   unfolding setUpCall
   set-up-pass =
-      passes (first storeOrder (recordLine (newRecord z c) ∷ [])) old [] [] (record { answer = said (Done 0); handed = newRecord z c; area = []; output = [] }) h
+      passes (first storeOrder (recordLine (newRecord z c) ∷ [])) old [] [] (accepted 0 (newRecord z c) [] []) h
 
   pub set-up-sound : sound (newRecord z c) ≡ true
   set-up-sound = not-no _ (first-clear (recordLine (newRecord z c) ∷ []) storeOrder set-up-pass .0)
 
-  set-up-done : setUpCall old z c ≡ record { answer = said (Done 0); handed = newRecord z c; area = []; output = [] }
+  set-up-done : setUpCall old z c ≡ accepted 0 (newRecord z c) [] []
   unfolding setUpCall
   set-up-done = settle-pass _ _ _ set-up-pass
 

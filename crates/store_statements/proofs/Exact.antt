@@ -34,7 +34,7 @@ use Rattle.mbcr.proofs.Points.{standard-points, boards-of}
 use Rattle.board_statements.proofs.Demand1.{clear, written}
 use Rattle.board_statements.specs.Calls.{fileOf}
 use Rattle.board_statements.proofs.Runs.{read-runs}
-use Rattle.store_statements.specs.Calls.{StoreOutcome, refused, settle, readLines, fileHeld, readCall, readDone, writeCall, writeLines, writeDone, loseCall, loseLines, loseDone, repairCall, repairLines, repairDone}
+use Rattle.store_statements.specs.Calls.{StoreOutcome, accepted, refused, settle, readLines, fileHeld, readCall, readDone, writeCall, writeLines, writeDone, loseCall, loseLines, loseDone, repairCall, repairLines, repairDone}
 use Rattle.store_statements.specs.Packets.{hearHelpers}
 use Rattle.store_statements.specs.Record.{Record, held, usedLen, partLen, sound}
 use Rattle.store_statements.proofs.Records.{Reads, Sound, sound-facts, used-fits}
@@ -47,11 +47,11 @@ Only lines = All (λ x. (x ≡ Disagree) ⊎ (holdsIn lines x ≡ false)) storeO
 
 -- the outcome of a read that found this file, or none
 abbrev outcome : Record → List ℕ → Option (List ℕ) → List ℕ → StoreOutcome
-outcome s area (some file) output = record { answer = said (Done 0); handed = s; area = area; output = over file output }
+outcome s area (some file) output = accepted 0 s area (over file output)
 outcome s area none output = refused s area output Disagree
 
 found : (s : Record) (area output : List ℕ) (o : Option (List ℕ))
-    → settle (pick (not (given o)) (Refuse Disagree) Pass) (refused s area output) (record { answer = said (Done 0); handed = s; area = area; output = over (fileOf o) output })
+    → settle (pick (not (given o)) (Refuse Disagree) Pass) (refused s area output) (accepted 0 s area (over (fileOf o) output))
     ≡ outcome s area o output
 found s area output (some file) = refl
 found s area output none = refl
@@ -128,12 +128,12 @@ module _ (xs : List ℕ) (s : Record) (area boards output : List ℕ) (pts : Dif
       back a = sym (joined-all (held s area) (share (s .sizes) xs file) boards a)
 
   gives : (file : List ℕ) → length file ≡ s .length → Bytes file
-      → (readCall xs s area boards output ≡ record { answer = said (Done 0); handed = s; area = area; output = over file output })
+      → (readCall xs s area boards output ≡ accepted 0 s area (over file output))
       ↔ All (λ i. held s area i ≡ share (s .sizes) xs file i) boards
   gives file l bf = (there (fileHeld xs s area boards) refl, back)
     where
       there : (o : Option (List ℕ)) → fileHeld xs s area boards ≡ o
-          → readCall xs s area boards output ≡ record { answer = said (Done 0); handed = s; area = area; output = over file output }
+          → readCall xs s area boards output ≡ accepted 0 s area (over file output)
           → All (λ i. held s area i ≡ share (s .sizes) xs file i) boards
       there none e q = absurd (omega (arith, ap (λ (o : StoreOutcome). o .answer .refusal) (sym (call-is none e) ∙ q)))
       there (some f) e q =
@@ -142,10 +142,10 @@ module _ (xs : List ℕ) (s : Record) (area boards output : List ℕ) (pts : Dif
           shares-all file l .0 (ap (λ (f : List ℕ). shares (s .sizes) xs f boards) (sym same) ∙ p .2)
 
       back : All (λ i. held s area i ≡ share (s .sizes) xs file i) boards
-          → readCall xs s area boards output ≡ record { answer = said (Done 0); handed = s; area = area; output = over file output }
+          → readCall xs s area boards output ≡ accepted 0 s area (over file output)
       back a = call-is (some file) (T .read-file (s .length) boards (joined (held s area) boards) file held-bytes named .1 (l, bf, shares-all file l .1 a))
 
-  refuses : (readCall xs s area boards output ≡ record { answer = said (Refused Disagree); handed = s; area = area; output = output })
+  refuses : (readCall xs s area boards output ≡ refused s area output Disagree)
       ↔ ((file : List ℕ) → length file ≡ s .length → Bytes file → All (λ i. held s area i ≡ share (s .sizes) xs file i) boards → ⊥)
   refuses = (
     (λ q file l bf a. none-is .0 (there (fileHeld xs s area boards) refl q) file l bf (shares-all file l .1 a)),
@@ -156,14 +156,14 @@ module _ (xs : List ℕ) (s : Record) (area boards output : List ℕ) (pts : Dif
       none-is = T .read-none (s .length) boards (joined (held s area) boards) held-bytes named
 
       there : (o : Option (List ℕ)) → fileHeld xs s area boards ≡ o
-          → readCall xs s area boards output ≡ record { answer = said (Refused Disagree); handed = s; area = area; output = output } → fileHeld xs s area boards ≡ none
+          → readCall xs s area boards output ≡ refused s area output Disagree → fileHeld xs s area boards ≡ none
       there none e q = e
       there (some f) e q = absurd (omega (arith, ap (λ (o : StoreOutcome). o .answer .refusal) (sym (call-is (some f) e) ∙ q)))
 
   pub read-exact : ((file : List ℕ) → length file ≡ s .length → Bytes file
-      → (readCall xs s area boards output ≡ record { answer = said (Done 0); handed = s; area = area; output = over file output })
+      → (readCall xs s area boards output ≡ accepted 0 s area (over file output))
       ↔ All (λ i. held s area i ≡ share (s .sizes) xs file i) boards)
-      × ((readCall xs s area boards output ≡ record { answer = said (Refused Disagree); handed = s; area = area; output = output })
+      × ((readCall xs s area boards output ≡ refused s area output Disagree)
       ↔ ((file : List ℕ) → length file ≡ s .length → Bytes file → All (λ i. held s area i ≡ share (s .sizes) xs file i) boards → ⊥))
   read-exact = (gives, refuses)
 

@@ -26,7 +26,7 @@ use Rattle.mbcr.specs.Share.{DifferentPoints, share}
 use Rattle.mbcr.proofs.Points.{boards-of}
 use Rattle.board_statements.specs.Calls.{fileOf, equalPoints, readRuns}
 use Rattle.board_statements.proofs.Runs.{read-runs}
-use Rattle.store_statements.specs.Calls.{fileHeld, readLines, readCall}
+use Rattle.store_statements.specs.Calls.{accepted, fileHeld, readLines, readCall}
 use Rattle.store_statements.specs.Ledger.{read, Book, bookRecord, bookLength, bookLines, act, enter, accept}
 use Rattle.store_statements.specs.Record.{held, inService}
 use Rattle.store_statements.proofs.Marks.{off-none, marksOf}
@@ -107,7 +107,7 @@ module _ (xs : List ℕ) (laws : (z : Sizes) → legal z ≡ true → DifferentP
   pub read-gives : (boards output : List ℕ) → length boards ≡ b .sizes .k → different boards ≡ true → every (among (b .service)) boards ≡ true
       → bookLength b ≤ length output
       → readCall xs (bookRecord b) area boards output
-      ≡ record { answer = said (Done 0); handed = bookRecord b; area = area; output = over (fileOf (b .file)) output }
+      ≡ accepted 0 (bookRecord b) area (over (fileOf (b .file)) output)
   unfolding readCall
   read-gives boards output c d u r =
       let w = some-written boards c u in
@@ -126,4 +126,4 @@ module _ (xs : List ℕ) (laws : (z : Sizes) → legal z ≡ true → DifferentP
         room = r;
       }) (ap (given) file) (points-off boards l d) in
       settle-pass _ _ _ p
-      ∙ ap (λ (x : Option (List ℕ)). record { answer = said (Done 0); handed = bookRecord b; area = area; output = over (fileOf x) output }) file
+      ∙ ap (λ (x : Option (List ℕ)). accepted 0 (bookRecord b) area (over (fileOf x) output)) file

@@ -20,9 +20,10 @@ use Rattle.sizes.specs.Refusals.{said, Line, holdsIn, storeOrder}
 use Rattle.sizes.specs.Laws.{First}
 use Rattle.mbcr.specs.Share.{standard, DifferentPoints, stripe, kept, share}
 use Rattle.board_statements.specs.Calls.{equalPoints, readRuns}
+use Rattle.board_statements.specs.Claims.{Claim, _means_, LinesSay}
 use Rattle.store_statements.specs.Packets.{repairRuns}
 use Rattle.store_statements.specs.Record.{Record, inService, sound, newRecord, writtenRecord, stripeCount, partLen, usedLen, held}
-use Rattle.store_statements.specs.Calls.{StoreOutcome, fileHeld, recordLine, writeLines, loseLines, repairLines, readLines, setUpCall, writeDone, writeCall, loseDone, loseCall, repairDone, repairCall, readDone, readCall}
+use Rattle.store_statements.specs.Calls.{StoreOutcome, accepted, refused, fileHeld, recordLine, writeLines, loseLines, repairLines, readLines, setUpCall, writeDone, writeCall, loseDone, loseCall, repairDone, repairCall, readDone, readCall}
 use Rattle.store_statements.specs.Ledger.{Call, write, lose, repair, read, Book, bookRecord, bookLines}
 
 -- one call: its lines; record, area and output as they came; what it does where no line holds; and its outcome
@@ -46,36 +47,53 @@ storeLines xs s area (lose board) = loseLines s board
 storeLines xs s area (repair fresh helpers) = repairLines xs s (length area) fresh helpers
 storeLines xs s area (read boards output) = readLines xs s area boards output
 
--- what each line of a call says, and that it has no others
-pub record StoreLines (lines : List Line) (size area long empty count node repeat down short disagree points : Type 0) : Type 0 where
-  pub size-is : (holdsIn lines Size ≡ true) ↔ size
-  pub area-is : (holdsIn lines Area ≡ true) ↔ area
-  pub long-is : (holdsIn lines Long ≡ true) ↔ long
-  pub empty-is : (holdsIn lines Empty ≡ true) ↔ empty
-  pub count-is : (holdsIn lines Count ≡ true) ↔ count
-  pub node-is : (holdsIn lines Node ≡ true) ↔ node
-  pub repeat-is : (holdsIn lines Repeat ≡ true) ↔ repeat
-  pub down-is : (holdsIn lines Down ≡ true) ↔ down
-  pub short-is : (holdsIn lines Short ≡ true) ↔ short
-  pub disagree-is : (holdsIn lines Disagree ≡ true) ↔ disagree
-  pub points-is : (holdsIn lines Points ≡ true) ↔ points
+-- what the lines of each call say
+module _ (s : Record) where
+  -- the first two of them, where an area is lent
+  abbrev pub lentClaims : ℕ → List Claim
+  lentClaims m = Size means (sound s ≡ false) ∷ Area means (m ≢ s .sizes .n * (s .capacity * α (s .sizes))) ∷ []
+
+  abbrev pub writeClaims : ℕ → List ℕ → List Claim
+  writeClaims m file = lentClaims m ++ (Long means (s .capacity * B (s .sizes) < length file) ∷ [])
+
+  abbrev pub loseClaims : ℕ → List Claim
+  loseClaims board = Size means (sound s ≡ false) ∷ Node means (below (s .sizes .n) (board ∷ []) ≡ false) ∷ []
+
+  abbrev pub repairClaims : List ℕ → ℕ → List ℕ → List ℕ → List Claim
+  repairClaims xs m fresh helpers =
+      lentClaims m
+      ++ (Empty means (s .written ≡ false)
+      ∷ Count means ((length fresh ≡ s .sizes .r) × (length helpers ≡ s .sizes .r * s .sizes .d) → ⊥)
+      ∷ Node means (below (s .sizes .n) (fresh ++ helpers) ≡ false)
+      ∷ Repeat means
+      (alls (different fresh ∷ every different (tabulate (length fresh) (λ a. piece (s .sizes .d) a helpers)) ∷ apart fresh helpers ∷ []) ≡ false)
+      ∷ Down means (every (inService s) helpers ≡ false)
+      ∷ Points means (equalPoints xs (repairRuns s fresh helpers) ≡ true)
+      ∷ [])
+
+  abbrev pub readClaims : List ℕ → List ℕ → List ℕ → List ℕ → List Claim
+  readClaims xs area boards output =
+      lentClaims (length area)
+      ++ (Empty means (s .written ≡ false)
+      ∷ Count means (length boards ≢ s .sizes .k)
+      ∷ Node means (below (s .sizes .n) boards ≡ false)
+      ∷ Repeat means (different boards ≡ false)
+      ∷ Down means (every (inService s) boards ≡ false)
+      ∷ Short means (length output < s .length)
+      ∷ Disagree means (fileHeld xs s area boards ≡ none)
+      ∷ Points means (equalPoints xs (readRuns (s .sizes) boards) ≡ true)
+      ∷ [])
 
 pub record StoreCalls : Type 0 where
-  -- the lines of each call: SIZE, AREA, LONG, EMPTY, COUNT, NODE, REPEAT, DOWN, SHORT, DISAGREE, POINTS
-  pub write-lines : (s : Record) (m : ℕ) (file : List ℕ)
-      → StoreLines (writeLines s m file) (sound s ≡ false) (m ≢ s .sizes .n * (s .capacity * α (s .sizes))) (s .capacity * B (s .sizes) < length file) ⊥ ⊥ ⊥ ⊥ ⊥ ⊥ ⊥ ⊥
-  pub lose-lines : (s : Record) (board : ℕ) → StoreLines (loseLines s board) (sound s ≡ false) ⊥ ⊥ ⊥ ⊥ (below (s .sizes .n) (board ∷ []) ≡ false) ⊥ ⊥ ⊥ ⊥ ⊥
+  -- the lines of each call say this, and it has no others
+  pub write-lines : (s : Record) (m : ℕ) (file : List ℕ) → LinesSay (writeLines s m file) (writeClaims s m file)
+  pub lose-lines : (s : Record) (board : ℕ) → LinesSay (loseLines s board) (loseClaims s board)
   pub repair-lines : (xs : List ℕ) (s : Record) (m : ℕ) (fresh helpers : List ℕ)
-      → StoreLines (repairLines xs s m fresh helpers) (sound s ≡ false) (m ≢ s .sizes .n * (s .capacity * α (s .sizes))) ⊥ (s .written ≡ false)
-      ((length fresh ≡ s .sizes .r) × (length helpers ≡ s .sizes .r * s .sizes .d) → ⊥) (below (s .sizes .n) (fresh ++ helpers) ≡ false)
-      (alls (different fresh ∷ every different (tabulate (length fresh) (λ a. piece (s .sizes .d) a helpers)) ∷ apart fresh helpers ∷ []) ≡ false)
-      (every (inService s) helpers ≡ false) ⊥ ⊥ (equalPoints xs (repairRuns s fresh helpers) ≡ true)
+      → LinesSay (repairLines xs s m fresh helpers) (repairClaims s xs m fresh helpers)
   pub read-lines : (xs : List ℕ) (s : Record) (area boards output : List ℕ)
-      → StoreLines (readLines xs s area boards output) (sound s ≡ false) (length area ≢ s .sizes .n * (s .capacity * α (s .sizes))) ⊥ (s .written ≡ false)
-      (length boards ≢ s .sizes .k) (below (s .sizes .n) boards ≡ false) (different boards ≡ false) (every (inService s) boards ≡ false)
-      (length output < s .length) (fileHeld xs s area boards ≡ none) (equalPoints xs (readRuns (s .sizes) boards) ≡ true)
+      → LinesSay (readLines xs s area boards output) (readClaims s xs area boards output)
   pub set-up-ends : (old : Record) (z : Sizes) (c : ℕ)
-      → StoreEnds (recordLine (newRecord z c) ∷ []) old [] [] (record { answer = said (Done 0); handed = newRecord z c; area = []; output = [] }) (setUpCall old z c)
+      → StoreEnds (recordLine (newRecord z c) ∷ []) old [] [] (accepted 0 (newRecord z c) [] []) (setUpCall old z c)
   pub write-ends : (xs : List ℕ) (s : Record) (area file : List ℕ)
       → StoreEnds (writeLines s (length area) file) s area [] (writeDone xs s area file) (writeCall xs s area file)
   pub lose-ends : (s : Record) (area : List ℕ) (board : ℕ) → StoreEnds (loseLines s board) s area [] (loseDone s area board) (loseCall s area board)
@@ -106,9 +124,9 @@ pub record StoreCalls : Type 0 where
   pub read-exact : (xs : List ℕ) (s : Record) (area boards output : List ℕ) → DifferentPoints (s .sizes) xs → Bytes area
       → All (λ x. (x ≡ Disagree) ⊎ (holdsIn (readLines xs s area boards output) x ≡ false)) storeOrder
       → ((file : List ℕ) → length file ≡ s .length → Bytes file
-      → (readCall xs s area boards output ≡ record { answer = said (Done 0); handed = s; area = area; output = over file output })
+      → (readCall xs s area boards output ≡ accepted 0 s area (over file output))
       ↔ All (λ i. held s area i ≡ share (s .sizes) xs file i) boards)
-      × ((readCall xs s area boards output ≡ record { answer = said (Refused Disagree); handed = s; area = area; output = output })
+      × ((readCall xs s area boards output ≡ refused s area output Disagree)
       ↔ ((file : List ℕ) → length file ≡ s .length → Bytes file → All (λ i. held s area i ≡ share (s .sizes) xs file i) boards → ⊥))
   -- the ledger's lines are the store's: for each refusal but 1, 10 and 11, by any book that tells legal sizes and names boards below n
   pub lines-agree : (xs : List ℕ) (b : Book) (area : List ℕ) (call : Call) → legal (b .sizes) ≡ true → All (λ i. i < b .sizes .n) (b .service) → length area ≡ b .areaLength

@@ -15,7 +15,7 @@ use Rattle.mbcr.specs.Rebuild.{helperPacket, exchangePacket, finishedShare}
 use Rattle.board_statements.specs.Calls.{fileOf}
 use Rattle.store_statements.specs.Record.{Record, stripeCount, held}
 use Rattle.store_statements.specs.Packets.{sentTo, sendersOf, contents, total, helperPackets, exchangePackets, repairPackets, freshShare}
-use Rattle.store_statements.specs.Calls.{StoreOutcome, setUpCall, repairCall, readCall}
+use Rattle.store_statements.specs.Calls.{StoreOutcome, accepted, setUpCall, repairCall, readCall}
 use Rattle.store_statements.specs.Ledger.{Call, Book, State, Step, Altered, Allowed, openBook, bookLength, bookRecord, replies, final, bookReplies, bookFinal}
 
 -- After the list, also where bytes of boards out of service were altered since the last call: `now` is the area.
@@ -34,7 +34,7 @@ pub record Kept (xs : List ℕ) (w : State) (b : Book) : Type 0 where
       → every (among (b .service)) boards ≡ true
       → bookLength b ≤ length output
       → readCall xs (w .kept) now boards output
-      ≡ record { answer = said (Done 0); handed = w .kept; area = now; output = over (fileOf (b .file)) output }
+      ≡ accepted 0 (w .kept) now (over (fileOf (b .file)) output)
 
 -- An accepted repair, over any record and any area.
 pub record Repaired (xs : List ℕ) (s : Record) (area fresh helpers : List ℕ) : Type 0 where

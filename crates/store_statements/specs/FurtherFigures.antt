@@ -48,6 +48,10 @@ spoiled = replicate 14 0x77 ++ boards234
 abbrev pub helpers : List ℕ
 helpers = 2 ∷ 3 ∷ 4 ∷ 2 ∷ 3 ∷ 4 ∷ []
 
+-- an outcome by the refusal's number or 0, the number reported, record, area and output
+abbrev pub gives : ℕ → ℕ → Record → List ℕ → List ℕ → StoreOutcome
+gives refusal value handed area output = record { answer = record { refusal = refusal; value = value }; handed = handed; area = area; output = output }
+
 abbrev answers : List StoreOutcome → List ℕ
 answers os = map (λ o. o .answer .refusal) os
 
@@ -103,8 +107,8 @@ pub record FurtherFigures : Type 0 where
       ∷ [])
       ≡ false ∷ false ∷ false ∷ false ∷ false ∷ false ∷ false ∷ []
   -- a set-up over any record is accepted, or hands that record back
-  pub set-up-new : setUpCall unsound five 3 ≡ record { answer = said (Done 0); handed = newRecord five 3; area = []; output = [] }
-  pub set-up-refused : setUpCall unsound five 4097 ≡ record { answer = record { refusal = 1; value = 0 }; handed = unsound; area = []; output = [] }
+  pub set-up-new : setUpCall unsound five 3 ≡ gives 0 0 (newRecord five 3) [] []
+  pub set-up-refused : setUpCall unsound five 4097 ≡ gives 1 0 unsound [] []
   -- write: 1, 2, 3; then 1 before 2, 2 before 3. "L = C × B is written, one more is LONG."
   pub write-refusals :
       answers
@@ -190,20 +194,15 @@ pub record FurtherFigures : Type 0 where
       ≡ 11 ∷ 11 ∷ []
   -- a refused write and a refused repair leave record and area
   pub refused-write : writeCall standard (newRecord five 1) (replicate 35 0xAB) (replicate 13 0)
-      ≡ record { answer = record { refusal = 3; value = 0 }; handed = newRecord five 1; area = replicate 35 0xAB; output = [] }
-  pub refused-repair : repairCall standard lost spoiled (0 ∷ []) helpers ≡ record { answer = record { refusal = 4; value = 0 }; handed = lost; area = spoiled; output = [] }
+      ≡ gives 3 0 (newRecord five 1) (replicate 35 0xAB) []
+  pub refused-repair : repairCall standard lost spoiled (0 ∷ []) helpers ≡ gives 4 0 lost spoiled []
   -- two losses, then a repair: 6 bytes moved, and all boards hold their shares
   pub losses : loseCall (loseCall (four (replicate 4 true)) [] 0 .handed) [] 1 .handed ≡ four-lost
   pub repaired : repairCall standard four-lost four-spoiled (0 ∷ 1 ∷ []) (2 ∷ 3 ∷ [])
-      ≡ record {
-        answer = record { refusal = 0; value = 6 };
-        handed = four (replicate 4 true);
-        area = (0x01 ∷ 0x00 ∷ 0x09 ∷ 0x00 ∷ 0x09 ∷ 0x08 ∷ []) ++ boards23;
-        output = [];
-      }
+      ≡ gives 0 6 (four (replicate 4 true)) ((0x01 ∷ 0x00 ∷ 0x09 ∷ 0x00 ∷ 0x09 ∷ 0x08 ∷ []) ++ boards23) []
   -- a read of the file 05 03 from board 1, past the end of which the output stays
   pub read-back : readCall standard (half-full 2) half-full-area (1 ∷ []) (replicate 3 0xEE)
-      ≡ record { answer = record { refusal = 0; value = 0 }; handed = half-full 2; area = half-full-area; output = 0x05 ∷ 0x03 ∷ 0xEE ∷ [] }
+      ≡ gives 0 0 (half-full 2) half-full-area (0x05 ∷ 0x03 ∷ 0xEE ∷ [])
   -- "for each, its own list of d helpers": boards 0 and 1 fresh, helpers 2 and 3; 01 goes from board 0 to board 1, 00 from board 1 to board 0
   pub own-helpers : map (λ i. sendersOf (sentTo i (helperPackets standard four-lost four-spoiled (0 ∷ 1 ∷ []) (2 ∷ 3 ∷ [])))) (0 ∷ 1 ∷ []) ≡ (2 ∷ []) ∷ (3 ∷ []) ∷ []
   pub own-partners : map (λ i. sendersOf (sentTo i (exchangePackets standard four-lost four-spoiled (0 ∷ 1 ∷ []) (2 ∷ 3 ∷ [])))) (0 ∷ 1 ∷ []) ≡ (1 ∷ []) ∷ (0 ∷ []) ∷ []
