@@ -12,19 +12,19 @@ use sizes::Sizes;
 // The exchange packet that a board being rebuilt makes of its d helper packets, for another. Answers the number of bytes written.
 pub fn exchange_packet(
     sizes: Sizes,
-    length: usize,
+    len: usize,
     board: usize,
     helpers: &[usize],
     packets: &[u8],
     receiver: usize,
     out: &mut [u8],
 ) -> Answer
-    ensures { λ r. ⌜ outcome r (now (out .exit)) ≡ exchangeCall sizes standard length board (now (helpers .entry)) (now (packets .entry)) receiver (now (out .entry)) ⌝ }
+    ensures { λ r. ⌜ outcome r (now (out .exit)) ≡ exchangeCall sizes standard len board (now (helpers .entry)) (now (packets .entry)) receiver (now (out .entry)) ⌝ }
 {
     if let Check::Refuse(x) = checks::check_sizes(sizes) {
         return Answer::Refused(x);
     }
-    if let Check::Refuse(x) = checks::check_length(sizes, length) {
+    if let Check::Refuse(x) = checks::check_length(sizes, len) {
         return Answer::Refused(x);
     }
     if let Check::Refuse(x) = checks::check_count(helpers.len(), sizes.d) {
@@ -36,7 +36,7 @@ pub fn exchange_packet(
     if let Check::Refuse(x) = checks::check_repeat_with(board, receiver, helpers) {
         return Answer::Refused(x);
     }
-    let stripes = checks::stripe_count(sizes, length);
+    let stripes = checks::stripe_count(sizes, len);
     if let Check::Refuse(x) = checks::check_lent(packets.len(), sizes.d * (2 * stripes)) {
         return Answer::Refused(x);
     }

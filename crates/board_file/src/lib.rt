@@ -2,7 +2,6 @@
 //! The call meets its definition in the crate `board_statements` at document 01's points: the answer, and every byte of the output that it
 //! was lent. A refusal leaves the output as it came.
 ghost use mathlib.Core.Path.{_≡_};
-ghost use lib.ListN.{length};
 ghost use Rattle.mbcr.specs.Share.{standard};
 ghost use Rattle.board_statements.specs.Calls.{fileCall};
 ghost use Rattle.checks.specs.Outcomes.{outcome};
@@ -11,13 +10,13 @@ use sizes::Check;
 use sizes::Sizes;
 
 // The file of so many bytes that k shares give, or DISAGREE where no such file has them. Answers the number of bytes written.
-pub fn file(sizes: Sizes, length: usize, boards: &[usize], held: &[u8], out: &mut [u8]) -> Answer
-    ensures { λ r. ⌜ outcome r (now (out .exit)) ≡ fileCall sizes standard length (now (boards .entry)) (now (held .entry)) (now (out .entry)) ⌝ }
+pub fn file(sizes: Sizes, len: usize, boards: &[usize], held: &[u8], out: &mut [u8]) -> Answer
+    ensures { λ r. ⌜ outcome r (now (out .exit)) ≡ fileCall sizes standard len (now (boards .entry)) (now (held .entry)) (now (out .entry)) ⌝ }
 {
     if let Check::Refuse(x) = checks::check_sizes(sizes) {
         return Answer::Refused(x);
     }
-    if let Check::Refuse(x) = checks::check_length(sizes, length) {
+    if let Check::Refuse(x) = checks::check_length(sizes, len) {
         return Answer::Refused(x);
     }
     if let Check::Refuse(x) = checks::check_count(boards.len(), sizes.k) {
@@ -29,12 +28,12 @@ pub fn file(sizes: Sizes, length: usize, boards: &[usize], held: &[u8], out: &mu
     if let Check::Refuse(x) = checks::check_repeat(boards) {
         return Answer::Refused(x);
     }
-    let stripes = checks::stripe_count(sizes, length);
+    let stripes = checks::stripe_count(sizes, len);
     let share_len = stripes * sizes.share_len();
     if let Check::Refuse(x) = checks::check_lent(held.len(), sizes.k * share_len) {
         return Answer::Refused(x);
     }
-    if let Check::Refuse(x) = checks::check_room(out, length) {
+    if let Check::Refuse(x) = checks::check_room(out, len) {
         return Answer::Refused(x);
     }
     let points = checks::standard_points();
@@ -44,7 +43,7 @@ pub fn file(sizes: Sizes, length: usize, boards: &[usize], held: &[u8], out: &mu
         sizes,
         &points,
         &inverses,
-        length,
+        len,
         stripes,
         boards,
         held,
@@ -54,15 +53,6 @@ pub fn file(sizes: Sizes, length: usize, boards: &[usize], held: &[u8], out: &mu
     if let Check::Refuse(x) = checks::check_points(&points, sizes.n) {
         return Answer::Refused(x);
     }
-    decode::file(
-        sizes,
-        &points,
-        &inverses,
-        length,
-        stripes,
-        boards,
-        held,
-        out,
-    );
-    Answer::Done(length)
+    decode::file(sizes, &points, &inverses, len, stripes, boards, held, out);
+    Answer::Done(len)
 }

@@ -12,7 +12,7 @@ use sizes::Sizes;
 // The share of a board being rebuilt, of its d helper packets and its r - 1 partners' packets. Answers the number of bytes written.
 pub fn finished_share(
     sizes: Sizes,
-    length: usize,
+    len: usize,
     board: usize,
     helpers: &[usize],
     packets: &[u8],
@@ -20,12 +20,12 @@ pub fn finished_share(
     exchanges: &[u8],
     out: &mut [u8],
 ) -> Answer
-    ensures { λ r. ⌜ outcome r (now (out .exit)) ≡ finishedCall sizes standard length board (now (helpers .entry)) (now (packets .entry)) (now (partners .entry)) (now (exchanges .entry)) (now (out .entry)) ⌝ }
+    ensures { λ r. ⌜ outcome r (now (out .exit)) ≡ finishedCall sizes standard len board (now (helpers .entry)) (now (packets .entry)) (now (partners .entry)) (now (exchanges .entry)) (now (out .entry)) ⌝ }
 {
     if let Check::Refuse(x) = checks::check_sizes(sizes) {
         return Answer::Refused(x);
     }
-    if let Check::Refuse(x) = checks::check_length(sizes, length) {
+    if let Check::Refuse(x) = checks::check_length(sizes, len) {
         return Answer::Refused(x);
     }
     let others = sizes.r - 1;
@@ -38,7 +38,7 @@ pub fn finished_share(
     if let Check::Refuse(x) = checks::check_repeat_joined(helpers, partners, board) {
         return Answer::Refused(x);
     }
-    let stripes = checks::stripe_count(sizes, length);
+    let stripes = checks::stripe_count(sizes, len);
     let packets_len = sizes.d * (2 * stripes);
     let exchanges_len = (sizes.r - 1) * stripes;
     if let Check::Refuse(x) = checks::check_two_lent(

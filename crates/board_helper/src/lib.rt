@@ -12,18 +12,18 @@ use sizes::Sizes;
 // The helper packet that a board makes of its share of a file of so many bytes, for another board. Answers the number of bytes written.
 pub fn helper_packet(
     sizes: Sizes,
-    length: usize,
+    len: usize,
     helper: usize,
     receiver: usize,
     held: &[u8],
     out: &mut [u8],
 ) -> Answer
-    ensures { λ r. ⌜ outcome r (now (out .exit)) ≡ helperCall sizes standard length helper receiver (now (held .entry)) (now (out .entry)) ⌝ }
+    ensures { λ r. ⌜ outcome r (now (out .exit)) ≡ helperCall sizes standard len helper receiver (now (held .entry)) (now (out .entry)) ⌝ }
 {
     if let Check::Refuse(x) = checks::check_sizes(sizes) {
         return Answer::Refused(x);
     }
-    if let Check::Refuse(x) = checks::check_length(sizes, length) {
+    if let Check::Refuse(x) = checks::check_length(sizes, len) {
         return Answer::Refused(x);
     }
     let named = [helper, receiver];
@@ -33,7 +33,7 @@ pub fn helper_packet(
     if let Check::Refuse(x) = checks::check_repeat(&named) {
         return Answer::Refused(x);
     }
-    let stripes = checks::stripe_count(sizes, length);
+    let stripes = checks::stripe_count(sizes, len);
     if let Check::Refuse(x) = checks::check_lent(held.len(), stripes * sizes.share_len()) {
         return Answer::Refused(x);
     }

@@ -21,7 +21,7 @@ use Rattle.mbcr.specs.Share.{standard, DifferentPoints, share, shares}
 use Rattle.mbcr.specs.Rebuild.{helperPacket, exchangePacket, finishedShare}
 use Rattle.mbcr.specs.Read.{readFile}
 use Rattle.mbcr.specs.Demand2.{Named}
-use Rattle.sizes.specs.Sizing.{legal, α, B, stripes}
+use Rattle.sizes.specs.Sizing.{maxStripes, legal, α, B, stripes}
 use Rattle.board_statements.specs.Text.{decimal, hexPair, shareText}
 use Rattle.board_statements.specs.Calls.{BoardOutcome, fileOf, equalPoints, ownRuns, finishRuns, readRuns, shareLines, shareCall, fileLines, fileCall, helperLines, helperCall, exchangeLines, exchangeCall, finishedLines, finishedCall, textLines, textCall}
 
@@ -50,27 +50,27 @@ pub record BoardLines (lines : List Line) (size long count node repeat area shor
 pub record BoardCalls : Type 0 where
   -- the lines of each call: SIZE, LONG, COUNT, NODE, REPEAT, AREA, SHORT, DISAGREE, POINTS
   pub share-lines : (z : Sizes) (xs : List ℕ) (node : ℕ) (file output : List ℕ)
-      → BoardLines (shareLines z xs node file output) (legal z ≡ false) (4096 * B z < length file) ⊥ (below (z .n) (node ∷ []) ≡ false) ⊥ ⊥
+      → BoardLines (shareLines z xs node file output) (legal z ≡ false) (maxStripes * B z < length file) ⊥ (below (z .n) (node ∷ []) ≡ false) ⊥ ⊥
       (length output < stripes z (length file) * α z) ⊥ ⊥
   pub file-lines : (z : Sizes) (xs : List ℕ) (L : ℕ) (boards held output : List ℕ)
-      → BoardLines (fileLines z xs L boards held output) (legal z ≡ false) (4096 * B z < L) (length boards ≢ z .k) (below (z .n) boards ≡ false)
+      → BoardLines (fileLines z xs L boards held output) (legal z ≡ false) (maxStripes * B z < L) (length boards ≢ z .k) (below (z .n) boards ≡ false)
       (different boards ≡ false) (length held ≢ z .k * (stripes z L * α z)) (length output < L) (readFile z xs L boards held ≡ none)
       (equalPoints xs (readRuns z boards) ≡ true)
   pub helper-lines : (z : Sizes) (xs : List ℕ) (L helper receiver : ℕ) (held output : List ℕ)
-      → BoardLines (helperLines z xs L helper receiver held output) (legal z ≡ false) (4096 * B z < L) ⊥ (below (z .n) (helper ∷ receiver ∷ []) ≡ false)
+      → BoardLines (helperLines z xs L helper receiver held output) (legal z ≡ false) (maxStripes * B z < L) ⊥ (below (z .n) (helper ∷ receiver ∷ []) ≡ false)
       (different (helper ∷ receiver ∷ []) ≡ false) (length held ≢ stripes z L * α z) (length output < 2 * stripes z L) ⊥ (equalPoints xs (ownRuns z helper) ≡ true)
   pub exchange-lines : (z : Sizes) (xs : List ℕ) (L board : ℕ) (helpers packets : List ℕ) (receiver : ℕ) (output : List ℕ)
-      → BoardLines (exchangeLines z xs L board helpers packets receiver output) (legal z ≡ false) (4096 * B z < L) (length helpers ≢ z .d)
+      → BoardLines (exchangeLines z xs L board helpers packets receiver output) (legal z ≡ false) (maxStripes * B z < L) (length helpers ≢ z .d)
       (below (z .n) (board ∷ receiver ∷ helpers) ≡ false) (different (board ∷ receiver ∷ helpers) ≡ false) (length packets ≢ z .d * (2 * stripes z L))
       (length output < stripes z L) ⊥ (equalPoints xs (helpers ∷ []) ≡ true)
   pub finished-lines : (z : Sizes) (xs : List ℕ) (L board : ℕ) (helpers packets partners exchanges output : List ℕ)
-      → BoardLines (finishedLines z xs L board helpers packets partners exchanges output) (legal z ≡ false) (4096 * B z < L)
+      → BoardLines (finishedLines z xs L board helpers packets partners exchanges output) (legal z ≡ false) (maxStripes * B z < L)
       ((length helpers ≡ z .d) × (length partners ≡ z .r - 1) → ⊥) (below (z .n) (helpers ++ partners ++ (board ∷ [])) ≡ false)
       (different (helpers ++ partners ++ (board ∷ [])) ≡ false)
       ((length packets ≡ z .d * (2 * stripes z L)) × (length exchanges ≡ (z .r - 1) * stripes z L) → ⊥) (length output < stripes z L * α z) ⊥
       (equalPoints xs (finishRuns board helpers partners) ≡ true)
   pub text-lines : (z : Sizes) (xs : List ℕ) (L node : ℕ) (held output : List ℕ)
-      → BoardLines (textLines z xs L node held output) (legal z ≡ false) (4096 * B z < L) ⊥ (below (z .n) (node ∷ []) ≡ false) ⊥
+      → BoardLines (textLines z xs L node held output) (legal z ≡ false) (maxStripes * B z < L) ⊥ (below (z .n) (node ∷ []) ≡ false) ⊥
       (length held ≢ stripes z L * α z) (length output < length (shareText z L node held)) ⊥ ⊥
   pub share-ends : (z : Sizes) (xs : List ℕ) (node : ℕ) (file output : List ℕ)
       → BoardEnds (shareLines z xs node file output) output (share z xs file node) (shareCall z xs node file output)
@@ -87,7 +87,7 @@ pub record BoardCalls : Type 0 where
   pub text-ends : (z : Sizes) (xs : List ℕ) (L node : ℕ) (held output : List ℕ)
       → BoardEnds (textLines z xs L node held output) output (shareText z L node held) (textCall z xs L node held output)
   -- "From k different boards' shares the reader gives the file they encode"
-  pub reader-gives : (z : Sizes) (xs file boards output : List ℕ) → legal z ≡ true → DifferentPoints z xs → Bytes file → length file ≤ 4096 * B z
+  pub reader-gives : (z : Sizes) (xs file boards output : List ℕ) → legal z ≡ true → DifferentPoints z xs → Bytes file → length file ≤ maxStripes * B z
       → Named z (z .k) boards → length file ≤ length output
       → fileCall z xs (length file) boards (shares z xs file boards) output ≡ record { answer = said (Done (length file)); output = over file output }
   -- "a file from k shares": where no line but DISAGREE holds, and the points differ, it gives f exactly when f has length L and these shares,

@@ -10,27 +10,27 @@ use sizes::Check;
 use sizes::Sizes;
 
 // A board's share of a file of so many bytes, as text. Answers the number of bytes written.
-pub fn text(sizes: Sizes, length: usize, node: usize, held: &[u8], out: &mut [u8]) -> Answer
-    ensures { λ r. ⌜ outcome r (now (out .exit)) ≡ textCall sizes standard length node (now (held .entry)) (now (out .entry)) ⌝ }
+pub fn text(sizes: Sizes, len: usize, node: usize, held: &[u8], out: &mut [u8]) -> Answer
+    ensures { λ r. ⌜ outcome r (now (out .exit)) ≡ textCall sizes standard len node (now (held .entry)) (now (out .entry)) ⌝ }
 {
     if let Check::Refuse(x) = checks::check_sizes(sizes) {
         return Answer::Refused(x);
     }
-    if let Check::Refuse(x) = checks::check_length(sizes, length) {
+    if let Check::Refuse(x) = checks::check_length(sizes, len) {
         return Answer::Refused(x);
     }
     if let Check::Refuse(x) = checks::check_node(sizes, node) {
         return Answer::Refused(x);
     }
-    let stripes = checks::stripe_count(sizes, length);
+    let stripes = checks::stripe_count(sizes, len);
     let share_len = stripes * sizes.share_len();
     if let Check::Refuse(x) = checks::check_lent(held.len(), share_len) {
         return Answer::Refused(x);
     }
-    let text_len = text_writer::text_len(sizes, length, node, share_len);
+    let text_len = text_writer::text_len(sizes, len, node, share_len);
     if let Check::Refuse(x) = checks::check_room(out, text_len) {
         return Answer::Refused(x);
     }
-    text_writer::write_text(sizes, length, node, held, out);
+    text_writer::write_text(sizes, len, node, held, out);
     Answer::Done(text_len)
 }

@@ -82,11 +82,11 @@ pub fn check_sizes(sizes: Sizes) -> Check
 }
 
 // 3 LONG, board level.
-pub fn check_length(sizes: Sizes, length: usize) -> Check
+pub fn check_length(sizes: Sizes, len: usize) -> Check
     requires { ⌜ legal sizes ≡ true ⌝ }
-    ensures { λ r. ⌜ r ≡ asked (longLine sizes length) ⌝ }
+    ensures { λ r. ⌜ r ≡ asked (longLine sizes len) ⌝ }
 {
-    if Sizes::MAX_STRIPES * sizes.stripe_len() < length {
+    if Sizes::MAX_STRIPES * sizes.stripe_len() < len {
         Check::Refuse(Refusal::Long)
     } else {
         Check::Pass
@@ -253,10 +253,10 @@ pub fn check_points(points: &[u8], n: usize) -> Check
 }
 
 // S of a length that is not LONG.
-pub fn stripe_count(sizes: Sizes, length: usize) -> usize
-    requires { ⌜ (legal sizes ≡ true) × (length ≤ 4096 * B sizes) ⌝ }
-    ensures { λ r. ⌜ (r ≡ stripes sizes length) × (r ≤ 4096) ⌝ }
+pub fn stripe_count(sizes: Sizes, len: usize) -> usize
+    requires { ⌜ (legal sizes ≡ true) × (len ≤ 4096 * B sizes) ⌝ }
+    ensures { λ r. ⌜ (r ≡ stripes sizes len) × (r ≤ 4096) ⌝ }
 {
     let stripe = sizes.stripe_len();
-    (length + (stripe - 1)) / stripe
+    (len + (stripe - 1)) / stripe
 }

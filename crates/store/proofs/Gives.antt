@@ -1,31 +1,24 @@
 -- What demand 3 says, said of what the methods gave.
 -- Assumes nothing.
-use mathlib.Core.Path.{_≡_, refl, sym, ap, _∙_}
+use mathlib.Core.Path.{_≡_, sym, ap, _∙_}
 use mathlib.Core.Bool.{true}
 use mathlib.Core.List.{List, []}
 use Prim.Native.Nat.{ℕ}
-use Rattle.sizes.specs.Sizing.{legal, B}
 use Rattle.sizes.specs.Refusals.{said, Said}
 use Rattle.mbcr.specs.Share.{standard}
-use Rattle.store_statements.specs.Record.{held, sound, newRecord}
-use Rattle.store_statements.specs.Calls.{StoreOutcome, setUpCall}
+use Rattle.store_statements.specs.Record.{held}
+use Rattle.store_statements.specs.Calls.{StoreOutcome}
 use Rattle.store_statements.specs.Ledger.{repair, read}
-use Rattle.store_statements.specs.Demand3.{Demand3, Repaired}
-use Rattle.store_statements.specs.FurtherFigures.{two}
-use Rattle.store_statements.proofs.Demand3.{demand-3-standard}
+use Rattle.store_statements.specs.Demand3.{Repaired}
+use Rattle.store_statements.proofs.Demand3.{accepted-repair}
 use Rattle.store.specs.declared.Store.{Store}
 use Rattle.store.specs.Handing.{recordIn}
 use Rattle.store.specs.Demand3.{Given, gave, Meets}
 use Rattle.store.specs.Gives.{CodeGives}
 
--- what demand 3 says of any repair, in a list or not: here the list is empty
-of-any : Demand3 standard (newRecord two 1) two 1 [] []
-unfolding legal B sound setUpCall
-of-any = demand-3-standard (newRecord two 1) two 1 [] [] refl tt
-
 module _ (s : Store) (area fresh helpers : List ℕ) (h : Given) (m : Meets s area (repair fresh helpers) h) (ok : said (h .handed .answer) .refusal ≡ 0) where
   is-repaired : Repaired standard (recordIn s) area fresh helpers
-  is-repaired = of-any .repaired (recordIn s) area fresh helpers (ap (λ (o : StoreOutcome). o .answer .refusal) (sym m) ∙ ok)
+  is-repaired = accepted-repair standard (recordIn s) area fresh helpers (ap (λ (o : StoreOutcome). o .answer .refusal) (sym m) ∙ ok)
 
 pub code-gives : CodeGives
 code-gives = record {

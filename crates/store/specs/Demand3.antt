@@ -13,7 +13,7 @@ use Rattle.store_statements.specs.Ledger.{Call, write, lose, repair, read, Step
 use Rattle.store_statements.specs.Demand3.{Kept, Repaired, begun, calls}
 use Rattle.store.specs.declared.Store.{Store}
 use Rattle.store.specs.declared.Handed.{Handed}
-use Rattle.store.specs.Handing.{recordIn, outcome}
+use Rattle.store.specs.Handing.{recordIn, outcomeIn}
 
 -- what one call gave back: what it hands on, and area and output as it left them
 pub record Given : Type 0 where
@@ -22,7 +22,7 @@ pub record Given : Type 0 where
   pub output : List ℕ
 
 abbrev pub gave : Given → StoreOutcome
-gave h = outcome (h .handed) (h .area) (h .output)
+gave h = outcomeIn (h .handed) (h .area) (h .output)
 
 -- the contract of the call's method, for a call on this store with this area
 abbrev pub Meets : Store → List ℕ → Call → Given → Type 0
@@ -47,7 +47,7 @@ ending s area (h ∷ hs) = ending (h .handed .store) (h .area) hs
 -- run or not, fresh boards get the packets and hold the shares that demand 3 says
 abbrev pub CodeDemand3 : Type 0
 CodeDemand3 =
-    (old : Store) (z : Sizes) (c : ℕ) (new : Handed) → outcome new [] [] ≡ setUpCall (recordIn old) z c → said (new .answer) .refusal ≡ 0
+    (old : Store) (z : Sizes) (c : ℕ) (new : Handed) → outcomeIn new [] [] ≡ setUpCall (recordIn old) z c → said (new .answer) .refusal ≡ 0
     → (area : List ℕ) (steps : List Step) (run : List Given) → Allowed standard (begun (recordIn old) z c area) (openBook z c (length area)) steps → Run (new .store) steps run
     → (map (λ h. replyOf (gave h)) run ≡ bookReplies (openBook z c (length area)) (calls steps))
     × Kept standard (ending (new .store) area run) (bookFinal (openBook z c (length area)) (calls steps))

@@ -5,7 +5,7 @@ ghost use mathlib.Core.List.{List, []};
 ghost use Prim.Native.Nat.{ℕ};
 ghost use Rattle.mbcr.specs.Share.{standard};
 ghost use Rattle.store_statements.specs.Calls.{setUpCall, writeCall, loseCall, repairCall, readCall};
-ghost use Rattle.store.specs.Handing.{recordIn, outcome};
+ghost use Rattle.store.specs.Handing.{recordIn, outcomeIn};
 use sizes::Answer;
 use sizes::Check;
 use sizes::Sizes;
@@ -28,7 +28,7 @@ pub struct Handed {
 impl Store {
     // A store of these sizes and this capacity, with no file. The record that it is handed is not examined.
     pub fn set_up(self, sizes: Sizes, capacity: usize) -> Handed
-        ensures { λ r. ⌜ outcome r [] [] ≡ setUpCall (recordIn self) sizes capacity ⌝ }
+        ensures { λ r. ⌜ outcomeIn r [] [] ≡ setUpCall (recordIn self) sizes capacity ⌝ }
     {
         let marks = [false; 32];
         if let Check::Refuse(x) = store_checks::check_record(sizes, capacity, false, 0, &marks) {
@@ -51,7 +51,7 @@ impl Store {
 
     // Writes a file: each board gets its share, and all n come into service.
     pub fn write(self, area: &mut [u8], file: &[u8]) -> Handed
-        ensures { λ r. ⌜ outcome r (now (area .exit)) [] ≡ writeCall standard (recordIn self) (now (area .entry)) (now (file .entry)) ⌝ }
+        ensures { λ r. ⌜ outcomeIn r (now (area .exit)) [] ≡ writeCall standard (recordIn self) (now (area .entry)) (now (file .entry)) ⌝ }
     {
         let sizes = self.sizes;
         let capacity = self.capacity;
@@ -98,7 +98,7 @@ impl Store {
 
     // Takes a board out of service.
     pub fn lose(self, board: usize) -> Handed
-        ensures { λ r. ⌜ ((area : List ℕ) → outcome r area [] ≡ loseCall (recordIn self) area board) ⌝ }
+        ensures { λ r. ⌜ ((area : List ℕ) → outcomeIn r area [] ≡ loseCall (recordIn self) area board) ⌝ }
     {
         let sizes = self.sizes;
         let marks = self.marks;
@@ -130,7 +130,7 @@ impl Store {
 
     // Rebuilds the fresh boards together, each from its own run of d helpers, and puts them in service. Answers the bytes that are moved.
     pub fn repair(self, area: &mut [u8], fresh: &[usize], helpers: &[usize]) -> Handed
-        ensures { λ r. ⌜ outcome r (now (area .exit)) [] ≡ repairCall standard (recordIn self) (now (area .entry)) (now (fresh .entry)) (now (helpers .entry)) ⌝ }
+        ensures { λ r. ⌜ outcomeIn r (now (area .exit)) [] ≡ repairCall standard (recordIn self) (now (area .entry)) (now (fresh .entry)) (now (helpers .entry)) ⌝ }
     {
         let sizes = self.sizes;
         let capacity = self.capacity;
@@ -226,7 +226,7 @@ impl Store {
 
     // Reads the file from k boards: it goes to the beginning of the output, the rest of which stays.
     pub fn read(self, area: &[u8], boards: &[usize], out: &mut [u8]) -> Handed
-        ensures { λ r. ⌜ outcome r (now (area .entry)) (now (out .exit)) ≡ readCall standard (recordIn self) (now (area .entry)) (now (boards .entry)) (now (out .entry)) ⌝ }
+        ensures { λ r. ⌜ outcomeIn r (now (area .entry)) (now (out .exit)) ≡ readCall standard (recordIn self) (now (area .entry)) (now (boards .entry)) (now (out .entry)) ⌝ }
     {
         let sizes = self.sizes;
         let capacity = self.capacity;

@@ -32,9 +32,9 @@ pub fn some_on(marks: &[bool], from: usize) -> bool
 }
 
 // Whether a record of these parts, with legal sizes, is one that calls return.
-fn sound_in(sizes: Sizes, capacity: usize, written: bool, length: usize, marks: &[bool]) -> bool
+fn sound_in(sizes: Sizes, capacity: usize, written: bool, len: usize, marks: &[bool]) -> bool
     requires { ⌜ legal sizes ≡ true ⌝ }
-    ensures { λ r. ⌜ r ≡ sound (recordOf sizes capacity written length (now (marks .entry))) ⌝ }
+    ensures { λ r. ⌜ r ≡ sound (recordOf sizes capacity written len (now (marks .entry))) ⌝ }
 {
     if capacity < 1 {
         return false;
@@ -42,7 +42,7 @@ fn sound_in(sizes: Sizes, capacity: usize, written: bool, length: usize, marks: 
     if Sizes::MAX_STRIPES < capacity {
         return false;
     }
-    if capacity * sizes.stripe_len() < length {
+    if capacity * sizes.stripe_len() < len {
         return false;
     }
     if some_on(marks, sizes.n) {
@@ -51,7 +51,7 @@ fn sound_in(sizes: Sizes, capacity: usize, written: bool, length: usize, marks: 
     if written {
         return true;
     }
-    if 0 < length {
+    if 0 < len {
         return false;
     }
     if some_on(marks, 0) {
@@ -65,13 +65,13 @@ pub fn check_record(
     sizes: Sizes,
     capacity: usize,
     written: bool,
-    length: usize,
+    len: usize,
     marks: &[bool],
 ) -> Check
-    ensures { λ r. ⌜ r ≡ asked (recordLine (recordOf sizes capacity written length (now (marks .entry)))) ⌝ }
+    ensures { λ r. ⌜ r ≡ asked (recordLine (recordOf sizes capacity written len (now (marks .entry)))) ⌝ }
 {
     if sizes.legal() {
-        if sound_in(sizes, capacity, written, length, marks) {
+        if sound_in(sizes, capacity, written, len, marks) {
             return Check::Pass;
         }
     }

@@ -30,7 +30,7 @@ use Rattle.mbcr.proofs.Repair.{length-kept}
 use Rattle.board_statements.specs.Calls.{equalPoints, readRuns}
 use Rattle.store_statements.specs.Calls.{StoreOutcome, settle, refused, recordLine, setUpCall, writeLines, writeDone, writeCall, loseLines, loseDone, loseCall, repairLines, repairDone, repairCall, readLines, readDone, readCall, fileHeld}
 use Rattle.store_statements.specs.Demand1.{StoreEnds, Stays, storeLines, StoreCalls, StoreLines}
-use Rattle.store_statements.specs.Ledger.{Book, recordOf, Call, write, lose, repair, read, bookLines}
+use Rattle.store_statements.specs.Ledger.{Book, bookRecord, Call, write, lose, repair, read, bookLines}
 use Rattle.store_statements.specs.Packets.{freshShare, repairRuns, hearHelpers}
 use Rattle.store_statements.specs.Record.{Record, newRecord, allOff, sound, inService, stripeCount, held, writtenRecord, usedLen, partLen, areaLen}
 use Rattle.store_statements.proofs.Area.{held-stripe, length-shares, byte-stays, shares-same}
@@ -204,15 +204,15 @@ repair-stays xs s area fresh helpers h =
 -- ---- the ledger's lines
 
 module _ (xs : List ℕ) (b : Book) (area : List ℕ) (ok : legal (b .sizes) ≡ true) (low : All (λ i. i < b .sizes .n) (b .service)) (as-long : length area ≡ b .areaLength) where
-  up : (i : ℕ) → inService (recordOf b) i ≡ among (b .service) i
+  up : (i : ℕ) → inService (bookRecord b) i ≡ among (b .service) i
   up i =
       mark-at (b .service) i
       (all-imp (λ x. x < b .sizes .n) (λ x. x < maxBoards) (λ x h. let k = legal-facts (b .sizes) ok .few in omega arith) (b .service) low)
 
-  area-same : not (eqb (length area) (areaLen (recordOf b))) ≡ not (eqb (b .areaLength) (areaLen (recordOf b)))
-  area-same = ap (λ (m : ℕ). not (eqb m (areaLen (recordOf b)))) as-long
+  area-same : not (eqb (length area) (areaLen (bookRecord b))) ≡ not (eqb (b .areaLength) (areaLen (bookRecord b)))
+  area-same = ap (λ (m : ℕ). not (eqb m (areaLen (bookRecord b)))) as-long
 
-  lines-agree : (call : Call) → All (λ x. holdsIn (storeLines xs (recordOf b) area call) x ≡ holdsIn (bookLines b call) x)
+  lines-agree : (call : Call) → All (λ x. holdsIn (storeLines xs (bookRecord b) area call) x ≡ holdsIn (bookLines b call) x)
       (Area ∷ Long ∷ Empty ∷ Count ∷ Node ∷ Repeat ∷ Down ∷ Short ∷ [])
   unfolding storeLines writeLines loseLines repairLines readLines bookLines
   lines-agree (write file) = (area-same, (refl, (refl, (refl, (refl, (refl, (refl, (refl, tt))))))))
@@ -229,7 +229,7 @@ module _ (xs : List ℕ) (b : Book) (area : List ℕ) (ok : legal (b .sizes) ≡
             ap not (both-below (b .sizes .n) fresh helpers),
             (
               ap (λ (t : Bool). not (alls (different fresh ∷ t ∷ apart fresh helpers ∷ []))) (runs-different (b .sizes .d) fresh helpers),
-              (ap not (every-same (inService (recordOf b)) (among (b .service)) helpers up), (refl, tt)),
+              (ap not (every-same (inService (bookRecord b)) (among (b .service)) helpers up), (refl, tt)),
             ),
           ),
         ),
@@ -237,7 +237,7 @@ module _ (xs : List ℕ) (b : Book) (area : List ℕ) (ok : legal (b .sizes) ≡
     ),
   )
   lines-agree (read boards output) =
-      (area-same, (refl, (refl, (refl, (refl, (refl, (ap not (every-same (inService (recordOf b)) (among (b .service)) boards up), (refl, tt))))))))
+      (area-same, (refl, (refl, (refl, (refl, (refl, (ap not (every-same (inService (bookRecord b)) (among (b .service)) boards up), (refl, tt))))))))
 
 -- ---- what the lines say
 

@@ -27,7 +27,7 @@ use Rattle.mbcr.proofs.Points.{standard-points}
 use Rattle.board_statements.specs.Calls.{fileOf}
 use Rattle.store_statements.specs.Calls.{recordLine, StoreOutcome, settle, refused, repairLines, repairCall, repairDone, readCall, setUpCall}
 use Rattle.store_statements.specs.Demand3.{Repaired, calls, Kept, begun, Demand3Claim, Demand3Standard}
-use Rattle.store_statements.specs.Ledger.{State, Book, Step, replies, bookReplies, final, bookFinal, Call, Fair, act, recordOf, enter, Altered, outcome, bookLength, Allowed, left, openBook, write, lose, repair, read}
+use Rattle.store_statements.specs.Ledger.{State, Book, Step, replies, bookReplies, final, bookFinal, Call, Fair, act, bookRecord, enter, Altered, stepOutcome, bookLength, Allowed, left, openBook, write, lose, repair, read}
 use Rattle.store_statements.specs.Packets.{helperPackets, exchangePackets, hearHelpers, hearPartners, freshShare, repairPackets}
 use Rattle.store_statements.specs.Record.{Record, held, usedLen, sound, newRecord}
 use Rattle.store_statements.proofs.Area.{shares-same}
@@ -75,7 +75,7 @@ module _ (xs : List ℕ) (s : Record) (area fresh helpers : List ℕ) (pass : fi
             (all-left (λ x. x < s .sizes .n) fresh helpers (below-all (s .sizes .n) (fresh ++ helpers) (facts .named-below))) i e;
       }
 
-accepted-repair : (xs : List ℕ) (s : Record) (area fresh helpers : List ℕ) → repairCall xs s area fresh helpers .answer .refusal ≡ 0 → Repaired xs s area fresh helpers
+pub accepted-repair : (xs : List ℕ) (s : Record) (area fresh helpers : List ℕ) → repairCall xs s area fresh helpers .answer .refusal ≡ 0 → Repaired xs s area fresh helpers
 unfolding repairCall
 accepted-repair xs s area fresh helpers h =
     let p = passes (first storeOrder (repairLines xs s (length area) fresh helpers)) s area [] (repairDone xs s area fresh helpers) h in
@@ -88,25 +88,25 @@ record Run (xs : List ℕ) (w : State) (b : Book) (steps : List Step) : Type 0 w
   kept : Kept xs (final xs w steps) (bookFinal b (calls steps))
 
 module _ (xs : List ℕ) (laws : (z : Sizes) → legal z ≡ true → DifferentPoints z xs → Laws xs z) where
-  step : (b : Book) (area : List ℕ) → Inv xs b area → (call : Call) → Fair call → Good xs (act xs (record { kept = recordOf b; area = area }) call) (enter b call)
+  step : (b : Book) (area : List ℕ) → Inv xs b area → (call : Call) → Fair call → Good xs (act xs (record { kept = bookRecord b; area = area }) call) (enter b call)
   step b area v (write file) ok = write-good xs laws b area v file ok
   step b area v (lose board) ok = lose-good xs laws b area v board
   step b area v (repair fresh helpers) ok = repair-good xs laws b area v fresh helpers
   step b area v (read boards output) ok = read-good xs laws b area v boards output
 
-  altered-at : (w : State) (b : Book) (now : List ℕ) → w .kept ≡ recordOf b → Inv xs b (w .area) → Altered b (w .kept) (w .area) now → Inv xs b now
+  altered-at : (w : State) (b : Book) (now : List ℕ) → w .kept ≡ bookRecord b → Inv xs b (w .area) → Altered b (w .kept) (w .area) now → Inv xs b now
   altered-at w b now e v k = altered xs b (w .area) now v (subst (λ (s : Record). Altered b s (w .area) now) e k)
 
   -- a step from any record that is the one that the book tells
-  one : (w : State) (b : Book) (t : Step) → w .kept ≡ recordOf b → Inv xs b (w .area) → Altered b (w .kept) (w .area) (t .area) → Fair (t .call)
-      → Good xs (outcome xs w t) (enter b (t .call))
+  one : (w : State) (b : Book) (t : Step) → w .kept ≡ bookRecord b → Inv xs b (w .area) → Altered b (w .kept) (w .area) (t .area) → Fair (t .call)
+      → Good xs (stepOutcome xs w t) (enter b (t .call))
   one w b t e v a ok =
       subst
       (λ (s : Record). Good xs (act xs (record { kept = s; area = t .area }) (t .call)) (enter b (t .call)))
       (sym e)
       (step b (t .area) (altered-at w b (t .area) e v a) (t .call) ok)
 
-  kept-at : (w : State) (b : Book) → w .kept ≡ recordOf b → Inv xs b (w .area) → Kept xs w b
+  kept-at : (w : State) (b : Book) → w .kept ≡ bookRecord b → Inv xs b (w .area) → Kept xs w b
   kept-at w b e v =
       record {
         same-record = e;
@@ -122,11 +122,11 @@ module _ (xs : List ℕ) (laws : (z : Sizes) → legal z ≡ true → DifferentP
             (read-gives xs laws b now (altered-at w b now e v k));
       }
 
-  run : (steps : List Step) (w : State) (b : Book) → w .kept ≡ recordOf b → Inv xs b (w .area) → Allowed xs w b steps → Run xs w b steps
+  run : (steps : List Step) (w : State) (b : Book) → w .kept ≡ bookRecord b → Inv xs b (w .area) → Allowed xs w b steps → Run xs w b steps
   run [] w b e v a = record { alike = refl; kept = kept-at w b e v }
   run (t ∷ ts) w b e v a =
       let g = one w b t e v (a .0) (a .1) in
-      let r = run ts (left (outcome xs w t)) (enter b (t .call) .book) (g .same-record) (g .inv) (a .2) in
+      let r = run ts (left (stepOutcome xs w t)) (enter b (t .call) .book) (g .same-record) (g .inv) (a .2) in
       record { alike = let x = g .alike in let y = r .alike in cc; kept = r .kept }
 
 -- ---- the start

@@ -19,7 +19,7 @@ use Rattle.mbcr.specs.Read.{through, bColumn, cRow, aColumn, decodedStripe, dec
 use Rattle.store_statements.specs.Record.{Record, part, sound}
 use Rattle.store_statements.specs.Packets.{helperPackets, exchangePackets, repairPackets, freshShare}
 use Rattle.store_statements.specs.Calls.{writeLines, loseLines, repairLines, readLines, setUpCall, writeCall, loseCall, repairCall, readCall}
-use Rattle.store_statements.specs.Ledger.{Call, write, lose, repair, read, Book, State, Step, Altered, Fair, Allowed, left, outcome, bookLines, accept, enter, act}
+use Rattle.store_statements.specs.Ledger.{Call, write, lose, repair, read, Book, State, Step, Altered, Fair, Allowed, left, stepOutcome, bookLines, accept, enter, act}
 use Rattle.store_statements.specs.LedgerFigures.{start, opened, steps, LedgerFigures}
 
 -- ---- the premises of a list, tested
@@ -37,7 +37,7 @@ abbrev allows : State → Book → List Step → Bool
 allows w b [] = true
 allows w b (t ∷ ts) =
     pick (agrees b (w .kept) (w .area) (t .area))
-    (pick (bytes (t .call)) (allows (left (outcome standard w t)) (enter b (t .call) .book) ts) false)
+    (pick (bytes (t .call)) (allows (left (stepOutcome standard w t)) (enter b (t .call) .book) ts) false)
     false
 
 agree : (b : Book) (s : Record) (old new : List ℕ) → agrees b s old new ≡ true → Altered b s old new
@@ -58,9 +58,9 @@ fair (read boards output) e = tt
 allow : (w : State) (b : Book) (ts : List Step) → allows w b ts ≡ true → Allowed standard w b ts
 allow w b [] e = tt
 allow w b (t ∷ ts) e =
-    let h = both (agrees b (w .kept) (w .area) (t .area)) (pick (bytes (t .call)) (allows (left (outcome standard w t)) (enter b (t .call) .book) ts) false) e in
-    let g = both (bytes (t .call)) (allows (left (outcome standard w t)) (enter b (t .call) .book) ts) (h .1) in
-    (agree b (w .kept) (w .area) (t .area) (h .0), fair (t .call) (g .0), allow (left (outcome standard w t)) (enter b (t .call) .book) ts (g .1))
+    let h = both (agrees b (w .kept) (w .area) (t .area)) (pick (bytes (t .call)) (allows (left (stepOutcome standard w t)) (enter b (t .call) .book) ts) false) e in
+    let g = both (bytes (t .call)) (allows (left (stepOutcome standard w t)) (enter b (t .call) .book) ts) (h .1) in
+    (agree b (w .kept) (w .area) (t .area) (h .0), fair (t .call) (g .0), allow (left (stepOutcome standard w t)) (enter b (t .call) .book) ts (g .1))
 
 -- ---- the figures
 

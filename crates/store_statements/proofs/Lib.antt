@@ -12,6 +12,7 @@ pub mod StepRead
 pub mod Demand3
 pub mod Premises
 pub mod LedgerLaws
+pub mod MarkLaws
 pub mod Exact
 pub mod Demand1
 pub mod Figures

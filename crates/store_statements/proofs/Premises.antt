@@ -12,21 +12,24 @@ use lib.Seq.{getD-take, getD-drop, ext-getD}
 use Rattle.lists.specs.Tests.{among}
 use Rattle.lists.specs.Lists.{All, Bytes}
 use Rattle.store_statements.specs.Record.{Record, part, partLen}
-use Rattle.store_statements.specs.Ledger.{Call, write, lose, repair, read, Book, State, Step, Altered, Allowed, left, act, enter, openBook}
+use Rattle.store_statements.specs.Ledger.{Call, write, lose, repair, read, Book, State, Step, Altered, Fair, Allowed, left, act, enter, openBook}
 use Rattle.store_statements.specs.Demand3.{begun, calls}
 use Rattle.store_statements.specs.Premises.{files, unaltered, AgreeInService, Premises}
 
-as-it-was : (b : Book) (s : Record) (area : List ℕ) → Altered b s area area
+pub as-it-was : (b : Book) (s : Record) (area : List ℕ) → Altered b s area area
 as-it-was b s area = record { as-long = refl; in-service = λ i e. refl }
+
+-- a call whose file is of bytes is fair
+pub fair : (call : Call) (cs : List Call) → All Bytes (files (call ∷ cs)) → Fair call × All Bytes (files cs)
+fair (write file) cs h = h
+fair (lose board) cs h = (tt, h)
+fair (repair fresh helpers) cs h = (tt, h)
+fair (read boards output) cs h = (tt, h)
 
 all-allowed : (xs : List ℕ) (w : State) (b : Book) (cs : List Call) → All Bytes (files cs) → Allowed xs w b (unaltered xs w cs)
 all-allowed xs w b [] h = tt
-all-allowed xs w b (write file ∷ cs) h = (as-it-was b (w .kept) (w .area), h .0, all-allowed xs (left (act xs w (write file))) (enter b (write file) .book) cs (h .1))
-all-allowed xs w b (lose board ∷ cs) h = (as-it-was b (w .kept) (w .area), tt, all-allowed xs (left (act xs w (lose board))) (enter b (lose board) .book) cs h)
-all-allowed xs w b (repair fresh helpers ∷ cs) h =
-    (as-it-was b (w .kept) (w .area), tt, all-allowed xs (left (act xs w (repair fresh helpers))) (enter b (repair fresh helpers) .book) cs h)
-all-allowed xs w b (read boards output ∷ cs) h =
-    (as-it-was b (w .kept) (w .area), tt, all-allowed xs (left (act xs w (read boards output))) (enter b (read boards output) .book) cs h)
+all-allowed xs w b (call ∷ cs) h =
+    let f = fair call cs h in (as-it-was b (w .kept) (w .area), f .0, all-allowed xs (left (act xs w call)) (enter b call .book) cs (f .1))
 
 same-calls : (xs : List ℕ) (w : State) (cs : List Call) → calls (unaltered xs w cs) ≡ cs
 same-calls xs w [] = refl

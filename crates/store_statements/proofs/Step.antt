@@ -28,7 +28,7 @@ use Rattle.sizes.proofs.Lines.{first-agree}
 use Rattle.mbcr.specs.Share.{DifferentPoints, share}
 use Rattle.board_statements.specs.Calls.{fileOf}
 use Rattle.store_statements.specs.Calls.{StoreOutcome, settle, refused, writeLines, writeDone, writeCall, loseLines, loseCall}
-use Rattle.store_statements.specs.Ledger.{Call, write, lose, repair, read, replied, Book, recordOf, Entry, replyOf, Altered, bookLines, noted, act, enter, accept, bookLength}
+use Rattle.store_statements.specs.Ledger.{Call, write, lose, repair, read, replied, Book, bookRecord, Entry, replyOf, Altered, bookLines, noted, act, enter, accept, bookLength}
 use Rattle.store_statements.specs.Packets.{hearHelpers}
 use Rattle.store_statements.specs.Record.{sound, areaLen, held, usedLen, partLen, inService, Record, writtenRecord}
 use Rattle.store_statements.proofs.Area.{length-shares, shares-same}
@@ -40,23 +40,23 @@ use Rattle.store_statements.proofs.Seam.{Laws}
 
 pub record Inv (xs : List ℕ) (b : Book) (area : List ℕ) : Type 0 where
   pub as-long : length area ≡ b .areaLength
-  pub is-sound : sound (recordOf b) ≡ true
+  pub is-sound : sound (bookRecord b) ≡ true
   pub points : DifferentPoints (b .sizes) xs
   pub bytes : Bytes (fileOf (b .file))
   pub serving : All (λ i. i < b .sizes .n) (b .service)
-  pub room : given (b .file) ≡ true → b .areaLength ≡ areaLen (recordOf b)
-  pub holds : (i : ℕ) → among (b .service) i ≡ true → held (recordOf b) area i ≡ share (b .sizes) xs (fileOf (b .file)) i
+  pub room : given (b .file) ≡ true → b .areaLength ≡ areaLen (bookRecord b)
+  pub holds : (i : ℕ) → among (b .service) i ≡ true → held (bookRecord b) area i ≡ share (b .sizes) xs (fileOf (b .file)) i
 
 -- what a call's outcome and its entry have to be
 pub record Good (xs : List ℕ) (o : StoreOutcome) (e : Entry) : Type 0 where
   pub alike : replyOf o ≡ e .reply
-  pub same-record : o .handed ≡ recordOf (e .book)
+  pub same-record : o .handed ≡ bookRecord (e .book)
   pub inv : Inv xs (e .book) (o .area)
 
 -- bytes of boards out of service do not matter
-pub altered : (xs : List ℕ) (b : Book) (old new : List ℕ) → Inv xs b old → Altered b (recordOf b) old new → Inv xs b new
+pub altered : (xs : List ℕ) (b : Book) (old new : List ℕ) → Inv xs b old → Altered b (bookRecord b) old new → Inv xs b new
 altered xs b old new v a =
-    let f = sound-facts (recordOf b) (v .is-sound) in
+    let f = sound-facts (bookRecord b) (v .is-sound) in
     record {
       as-long = a .as-long ∙ v .as-long;
       is-sound = v .is-sound;
@@ -65,9 +65,9 @@ altered xs b old new v a =
       serving = v .serving;
       room = v .room;
       holds = λ i e.
-          sym (take-take (usedLen (recordOf b)) (partLen (recordOf b)) (drop (i * partLen (recordOf b)) new) (used-fits (recordOf b) f))
-          ∙ ap (take (usedLen (recordOf b))) (a .in-service i e)
-          ∙ take-take (usedLen (recordOf b)) (partLen (recordOf b)) (drop (i * partLen (recordOf b)) old) (used-fits (recordOf b) f)
+          sym (take-take (usedLen (bookRecord b)) (partLen (bookRecord b)) (drop (i * partLen (bookRecord b)) new) (used-fits (bookRecord b) f))
+          ∙ ap (take (usedLen (bookRecord b))) (a .in-service i e)
+          ∙ take-take (usedLen (bookRecord b)) (partLen (bookRecord b)) (drop (i * partLen (bookRecord b)) old) (used-fits (bookRecord b) f)
           ∙ v .holds i e;
     }
 
@@ -132,8 +132,8 @@ every-same p q (x ∷ l) h = go (p x) (q x) (h x) (every-same p q l h)
     go false true e k = absurd (true-false refl (sym e))
 
 module _ (xs : List ℕ) (laws : (z : Sizes) → legal z ≡ true → DifferentPoints z xs → Laws xs z) (b : Book) (area : List ℕ) (v : Inv xs b area) where
-  pub facts : Sound (recordOf b)
-  facts = sound-facts (recordOf b) (v .is-sound)
+  pub facts : Sound (bookRecord b)
+  facts = sound-facts (bookRecord b) (v .is-sound)
 
   pub lawful : Laws xs (b .sizes)
   lawful = laws (b .sizes) (facts .is-legal) (v .points)
@@ -141,32 +141,32 @@ module _ (xs : List ℕ) (laws : (z : Sizes) → legal z ≡ true → DifferentP
   pub few : b .sizes .n ≤ maxBoards
   few = legal-facts (b .sizes) (facts .is-legal) .few
 
-  pub up : (i : ℕ) → inService (recordOf b) i ≡ among (b .service) i
+  pub up : (i : ℕ) → inService (bookRecord b) i ≡ among (b .service) i
   up i = mark-at (b .service) i (all-imp (λ x. x < b .sizes .n) (λ x. x < maxBoards) (λ x h. let k = few in omega arith) (b .service) (v .serving))
 
   -- a refusal leaves all as it was
-  pub refusal-good : (output : List ℕ) (x : Refusal) → Good xs (refused (recordOf b) area output x) (replied (said (Refused x)) output b)
+  pub refusal-good : (output : List ℕ) (x : Refusal) → Good xs (refused (bookRecord b) area output x) (replied (said (Refused x)) output b)
   refusal-good output x = record { alike = refl; same-record = refl; inv = v }
 
-  pub size-off : not (sound (recordOf b)) ≡ false
+  pub size-off : not (sound (bookRecord b)) ≡ false
   size-off = ap not (v .is-sound)
 
-  pub area-same : not (eqb (length area) (areaLen (recordOf b))) ≡ not (eqb (b .areaLength) (areaLen (recordOf b)))
-  area-same = ap (λ (m : ℕ). not (eqb m (areaLen (recordOf b)))) (v .as-long)
+  pub area-same : not (eqb (length area) (areaLen (bookRecord b))) ≡ not (eqb (b .areaLength) (areaLen (bookRecord b)))
+  area-same = ap (λ (m : ℕ). not (eqb m (areaLen (bookRecord b)))) (v .as-long)
 
   -- ---- write
 
-  write-same : (file : List ℕ) → first storeOrder (writeLines (recordOf b) (length area) file) ≡ first storeOrder (bookLines b (write file))
+  write-same : (file : List ℕ) → first storeOrder (writeLines (bookRecord b) (length area) file) ≡ first storeOrder (bookLines b (write file))
   unfolding writeLines bookLines
   write-same file =
-      first-agree (writeLines (recordOf b) (length area) file) (bookLines b (write file)) storeOrder
+      first-agree (writeLines (bookRecord b) (length area) file) (bookLines b (write file)) storeOrder
       (size-off, λ _. (area-same, λ _. (refl, λ _. (refl, λ _. (refl, λ _. (refl, λ _. (refl, λ _. (refl, λ _. (refl, λ _. (refl, λ _. (refl, λ _. tt)))))))))))
 
-  write-inv : (file : List ℕ) → Bytes file → Writes (recordOf b) (length area) file
-      → Inv xs (noted b (some file) (tabulate (b .sizes .n) (λ i. i))) (writeDone xs (recordOf b) area file .area)
+  write-inv : (file : List ℕ) → Bytes file → Writes (bookRecord b) (length area) file
+      → Inv xs (noted b (some file) (tabulate (b .sizes .n) (λ i. i))) (writeDone xs (bookRecord b) area file .area)
   write-inv file ok w =
       let all : List ℕ = tabulate (b .sizes .n) (λ i. i) in
-      let new : Record = recordOf (noted b (some file) all) in
+      let new : Record = bookRecord (noted b (some file) all) in
       let is : Sound new = record {
         is-legal = facts .is-legal;
         cap-low = facts .cap-low;
@@ -176,35 +176,35 @@ module _ (xs : List ℕ) (laws : (z : Sizes) → legal z ≡ true → DifferentP
         blank = refl;
       } in
       record {
-        as-long = length-shares (writtenRecord (recordOf b) (length file)) (share (b .sizes) xs file) (usedLen new) (lawful .lengths .share-length file) (used-fits new is) all area (w .area-is) low ∙ v .as-long;
+        as-long = length-shares (writtenRecord (bookRecord b) (length file)) (share (b .sizes) xs file) (usedLen new) (lawful .lengths .share-length file) (used-fits new is) all area (w .area-is) low ∙ v .as-long;
         is-sound = facts-sound new is;
         points = v .points;
         bytes = ok;
         serving = low;
         room = λ e. sym (v .as-long) ∙ w .area-is;
         holds = λ i e.
-            shares-same (writtenRecord (recordOf b) (length file)) (share (b .sizes) xs file) (usedLen new) (lawful .lengths .share-length file) (used-fits new is) all area (w .area-is) low i e;
+            shares-same (writtenRecord (bookRecord b) (length file)) (share (b .sizes) xs file) (usedLen new) (lawful .lengths .share-length file) (used-fits new is) all area (w .area-is) low i e;
       }
     where
       low : All (λ x. x < b .sizes .n) (tabulate (b .sizes .n) (λ i. i))
       low = first-below (b .sizes .n) (b .sizes .n) (omega arith)
 
-  pub write-good : (file : List ℕ) → Bytes file → Good xs (act xs (record { kept = recordOf b; area = area }) (write file)) (enter b (write file))
+  pub write-good : (file : List ℕ) → Bytes file → Good xs (act xs (record { kept = bookRecord b; area = area }) (write file)) (enter b (write file))
   unfolding act enter accept writeCall
   write-good file ok =
       good-both xs _ _ _ _ _ _ (write-same file) (refusal-good [])
       (λ e. record {
         alike = refl;
         same-record = ap (λ (m : List Bool). record { sizes = b .sizes; capacity = b .capacity; written = true; length = length file; marks = m }) (marks-all (b .sizes .n));
-        inv = write-inv file ok (write-facts (recordOf b) (length area) file e);
+        inv = write-inv file ok (write-facts (bookRecord b) (length area) file e);
       })
 
   -- ---- lose
 
-  lose-same : (board : ℕ) → first storeOrder (loseLines (recordOf b) board) ≡ first storeOrder (bookLines b (lose board))
+  lose-same : (board : ℕ) → first storeOrder (loseLines (bookRecord b) board) ≡ first storeOrder (bookLines b (lose board))
   unfolding loseLines bookLines
   lose-same board =
-      first-agree (loseLines (recordOf b) board) (bookLines b (lose board)) storeOrder
+      first-agree (loseLines (bookRecord b) board) (bookLines b (lose board)) storeOrder
       (size-off, λ _. (refl, λ _. (refl, λ _. (refl, λ _. (refl, λ _. (ap not (one-below (b .sizes .n) board), λ _. (refl, λ _. (refl, λ _. (refl, λ _. (refl, λ _. (refl, λ _. tt)))))))))))
 
   lose-inv : (board : ℕ) → Inv xs (noted b (b .file) (without board (b .service))) area
@@ -218,9 +218,9 @@ module _ (xs : List ℕ) (laws : (z : Sizes) → legal z ≡ true → DifferentP
           fits = facts .fits;
           beyond = off-from (b .sizes .n) (marksOf rest) (λ i e. all-among (λ x. x < b .sizes .n) rest i low (sym (mark-at rest i low-32) ∙ e));
           blank = blank-if new (λ w. (
-            blank-length (recordOf b) (facts .blank) w,
+            blank-length (bookRecord b) (facts .blank) w,
             off-above (marksOf rest) (λ i e.
-                off-none (marksOf (b .service)) i (blank-off (recordOf b) (facts .blank) w) (up i ∙ before i (sym (mark-at rest i low-32) ∙ e))),
+                off-none (marksOf (b .service)) i (blank-off (bookRecord b) (facts .blank) w) (up i ∙ before i (sym (mark-at rest i low-32) ∙ e))),
           ));
         });
         points = v .points;
@@ -234,7 +234,7 @@ module _ (xs : List ℕ) (laws : (z : Sizes) → legal z ≡ true → DifferentP
       rest = without board (b .service)
 
       new : Record
-      new = recordOf (noted b (b .file) rest)
+      new = bookRecord (noted b (b .file) rest)
 
       low : All (λ x. x < b .sizes .n) (without board (b .service))
       low = all-without (λ x. x < b .sizes .n) board (b .service) (v .serving)
@@ -249,7 +249,7 @@ module _ (xs : List ℕ) (laws : (z : Sizes) → legal z ≡ true → DifferentP
           go true k = absurd (true-false k refl)
           go false k = k
 
-  pub lose-good : (board : ℕ) → Good xs (act xs (record { kept = recordOf b; area = area }) (lose board)) (enter b (lose board))
+  pub lose-good : (board : ℕ) → Good xs (act xs (record { kept = bookRecord b; area = area }) (lose board)) (enter b (lose board))
   unfolding act enter accept loseCall
   lose-good board =
       good-both xs _ _ _ _ _ _ (lose-same board) (refusal-good [])

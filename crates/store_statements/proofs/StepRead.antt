@@ -27,7 +27,7 @@ use Rattle.mbcr.proofs.Points.{boards-of}
 use Rattle.board_statements.specs.Calls.{fileOf, equalPoints, readRuns}
 use Rattle.board_statements.proofs.Runs.{read-runs}
 use Rattle.store_statements.specs.Calls.{fileHeld, readLines, readCall}
-use Rattle.store_statements.specs.Ledger.{read, Book, recordOf, bookLength, bookLines, act, enter, accept}
+use Rattle.store_statements.specs.Ledger.{read, Book, bookRecord, bookLength, bookLines, act, enter, accept}
 use Rattle.store_statements.specs.Record.{held, inService}
 use Rattle.store_statements.proofs.Marks.{off-none, marksOf}
 use Rattle.store_statements.proofs.Records.{Sound, read-facts, blank-off, reads-pass}
@@ -35,13 +35,13 @@ use Rattle.store_statements.proofs.Seam.{Laws}
 use Rattle.store_statements.proofs.Step.{Inv, facts, lawful, size-off, area-same, every-same, up, Good, good-both, refusal-good, settle-pass}
 
 module _ (xs : List ℕ) (laws : (z : Sizes) → legal z ≡ true → DifferentPoints z xs → Laws xs z) (b : Book) (area : List ℕ) (v : Inv xs b area) where
-  known : Sound (recordOf b)
+  known : Sound (bookRecord b)
   known = facts xs laws b area v
 
   reading : (boards : List ℕ) → length boards ≡ b .sizes .k → below (b .sizes .n) boards ≡ true → different boards ≡ true → every (among (b .service)) boards ≡ true
-      → fileHeld xs (recordOf b) area boards ≡ some (fileOf (b .file))
+      → fileHeld xs (bookRecord b) area boards ≡ some (fileOf (b .file))
   reading boards c l d u =
-      let m = joined-all (held (recordOf b) area) (share (b .sizes) xs (fileOf (b .file))) boards
+      let m = joined-all (held (bookRecord b) area) (share (b .sizes) xs (fileOf (b .file))) boards
       (all-imp (λ i. among (b .service) i ≡ true) _ (λ i e. v .holds i e) boards (every-all (among (b .service)) boards u)) in
       ap (readFile (b .sizes) xs (bookLength b) boards) m ∙ lawful xs laws b area v .reads (fileOf (b .file)) (v .bytes) boards c l d
 
@@ -49,10 +49,10 @@ module _ (xs : List ℕ) (laws : (z : Sizes) → legal z ≡ true → DifferentP
   points-off boards l d = read-runs (b .sizes) xs (legal-facts (b .sizes) (known .is-legal)) (v .points) boards (boards-of (b .sizes) boards l d)
 
   read-same : (boards output : List ℕ)
-      → first storeOrder (readLines xs (recordOf b) area boards output) ≡ first storeOrder (bookLines b (read boards output))
+      → first storeOrder (readLines xs (bookRecord b) area boards output) ≡ first storeOrder (bookLines b (read boards output))
   unfolding readLines bookLines
   read-same boards output =
-      first-agree (readLines xs (recordOf b) area boards output) (bookLines b (read boards output)) storeOrder (
+      first-agree (readLines xs (bookRecord b) area boards output) (bookLines b (read boards output)) storeOrder (
         size-off xs laws b area v,
         λ _. (
           area-same xs laws b area v,
@@ -67,7 +67,7 @@ module _ (xs : List ℕ) (laws : (z : Sizes) → legal z ≡ true → DifferentP
                   λ l. (
                     refl,
                     λ d. (
-                      ap not (every-same (inService (recordOf b)) (among (b .service)) boards (up xs laws b area v)),
+                      ap not (every-same (inService (bookRecord b)) (among (b .service)) boards (up xs laws b area v)),
                       λ u. (
                         refl,
                         λ _. (
@@ -85,12 +85,12 @@ module _ (xs : List ℕ) (laws : (z : Sizes) → legal z ≡ true → DifferentP
         ),
       )
 
-  pub read-good : (boards output : List ℕ) → Good xs (act xs (record { kept = recordOf b; area = area }) (read boards output)) (enter b (read boards output))
+  pub read-good : (boards output : List ℕ) → Good xs (act xs (record { kept = bookRecord b; area = area }) (read boards output)) (enter b (read boards output))
   unfolding act enter accept readCall
   read-good boards output =
       good-both xs _ _ _ _ _ _ (read-same boards output) (refusal-good xs laws b area v output)
-      (λ e. let f = read-facts xs (recordOf b) area boards output e .0 in
-      let u : every (among (b .service)) boards ≡ true = sym (every-same (inService (recordOf b)) (among (b .service)) boards (up xs laws b area v)) ∙ f .all-up in
+      (λ e. let f = read-facts xs (bookRecord b) area boards output e .0 in
+      let u : every (among (b .service)) boards ≡ true = sym (every-same (inService (bookRecord b)) (among (b .service)) boards (up xs laws b area v)) ∙ f .all-up in
       rw (reading boards (f .count) (f .named-below) (f .all-different) u) (record { alike = refl; same-record = refl; inv = v }))
 
   -- where a board is in service, a file was accepted
@@ -101,13 +101,13 @@ module _ (xs : List ℕ) (laws : (z : Sizes) → legal z ≡ true → DifferentP
       go : (t : Bool) → given (b .file) ≡ t → given (b .file) ≡ true
       go true e = e
       go false e =
-          absurd (off-none (marksOf (b .service)) x (blank-off (recordOf b) (known .blank) e) (up xs laws b area v x ∙ both (among (b .service) x) (every (among (b .service)) l) u .0))
+          absurd (off-none (marksOf (b .service)) x (blank-off (bookRecord b) (known .blank) e) (up xs laws b area v x ∙ both (among (b .service) x) (every (among (b .service)) l) u .0))
 
   -- every read of k different boards in service with output long enough
   pub read-gives : (boards output : List ℕ) → length boards ≡ b .sizes .k → different boards ≡ true → every (among (b .service)) boards ≡ true
       → bookLength b ≤ length output
-      → readCall xs (recordOf b) area boards output
-      ≡ record { answer = said (Done 0); handed = recordOf b; area = area; output = over (fileOf (b .file)) output }
+      → readCall xs (bookRecord b) area boards output
+      ≡ record { answer = said (Done 0); handed = bookRecord b; area = area; output = over (fileOf (b .file)) output }
   unfolding readCall
   read-gives boards output c d u r =
       let w = some-written boards c u in
@@ -115,15 +115,15 @@ module _ (xs : List ℕ) (laws : (z : Sizes) → legal z ≡ true → DifferentP
       (all-imp (λ i. among (b .service) i ≡ true) (λ i. i < b .sizes .n) (λ i e. all-among (λ x. x < b .sizes .n) (b .service) i (v .serving) e) boards
       (every-all (among (b .service)) boards u)) in
       let file = reading boards c l d u in
-      let p : first storeOrder (readLines xs (recordOf b) area boards output) ≡ Pass = reads-pass xs (recordOf b) area boards output (record {
+      let p : first storeOrder (readLines xs (bookRecord b) area boards output) ≡ Pass = reads-pass xs (bookRecord b) area boards output (record {
         is-sound = v .is-sound;
         area-is = v .as-long ∙ v .room w;
         is-written = w;
         count = c;
         named-below = l;
         all-different = d;
-        all-up = every-same (inService (recordOf b)) (among (b .service)) boards (up xs laws b area v) ∙ u;
+        all-up = every-same (inService (bookRecord b)) (among (b .service)) boards (up xs laws b area v) ∙ u;
         room = r;
       }) (ap (given) file) (points-off boards l d) in
       settle-pass _ _ _ p
-      ∙ ap (λ (x : Option (List ℕ)). record { answer = said (Done 0); handed = recordOf b; area = area; output = over (fileOf x) output }) file
+      ∙ ap (λ (x : Option (List ℕ)). record { answer = said (Done 0); handed = bookRecord b; area = area; output = over (fileOf x) output }) file

@@ -23,7 +23,7 @@ use Rattle.mbcr.specs.Share.{DifferentPoints, share}
 use Rattle.board_statements.specs.Calls.{equalPoints, ownRuns, finishRuns, fileOf}
 use Rattle.board_statements.proofs.Runs.{unequal-append, unequal-concat, own-runs, finish-runs}
 use Rattle.store_statements.specs.Calls.{repairLines, repairDone, repairCall}
-use Rattle.store_statements.specs.Ledger.{Book, recordOf, bookLines, noted, act, enter, accept, bookLength, repair}
+use Rattle.store_statements.specs.Ledger.{Book, bookRecord, bookLines, noted, act, enter, accept, bookLength, repair}
 use Rattle.store_statements.specs.Packets.{hearHelpers, repairRuns, freshShare}
 use Rattle.store_statements.specs.Record.{Record, inService, usedLen, held, putShares}
 use Rattle.store_statements.proofs.Area.{length-shares, shares-same, shares-other}
@@ -74,23 +74,23 @@ repair-points xs s fresh helpers ok pts low once d none =
 -- ---- the call
 
 module _ (xs : List ℕ) (laws : (z : Sizes) → legal z ≡ true → DifferentPoints z xs → Laws xs z) (b : Book) (area : List ℕ) (v : Inv xs b area) where
-  known : Sound (recordOf b)
+  known : Sound (bookRecord b)
   known = facts xs laws b area v
 
   points-off : (fresh helpers : List ℕ)
       → not (alls (below (b .sizes .n) fresh ∷ below (b .sizes .n) helpers ∷ [])) ≡ false
       → not (alls (different fresh ∷ every different (tabulate (length fresh) (λ a. piece (b .sizes .d) a helpers)) ∷ apart fresh helpers ∷ [])) ≡ false
-      → equalPoints xs (repairRuns (recordOf b) fresh helpers) ≡ false
+      → equalPoints xs (repairRuns (bookRecord b) fresh helpers) ≡ false
   points-off fresh helpers n r =
       let t = alls-hold (different fresh ∷ every different (tabulate (length fresh) (λ a. piece (b .sizes .d) a helpers)) ∷ apart fresh helpers ∷ []) (not-no _ r) in
-      repair-points xs (recordOf b) fresh helpers (known .is-legal) (v .points) (both-below (b .sizes .n) fresh helpers ∙ not-no _ n) (t .0)
+      repair-points xs (bookRecord b) fresh helpers (known .is-legal) (v .points) (both-below (b .sizes .n) fresh helpers ∙ not-no _ n) (t .0)
       (runs-different (b .sizes .d) fresh helpers ∙ t .1 .0) (t .1 .1 .0)
 
   repair-same : (fresh helpers : List ℕ)
-      → first storeOrder (repairLines xs (recordOf b) (length area) fresh helpers) ≡ first storeOrder (bookLines b (repair fresh helpers))
+      → first storeOrder (repairLines xs (bookRecord b) (length area) fresh helpers) ≡ first storeOrder (bookLines b (repair fresh helpers))
   unfolding repairLines bookLines
   repair-same fresh helpers =
-      first-agree (repairLines xs (recordOf b) (length area) fresh helpers) (bookLines b (repair fresh helpers)) storeOrder (
+      first-agree (repairLines xs (bookRecord b) (length area) fresh helpers) (bookLines b (repair fresh helpers)) storeOrder (
         size-off xs laws b area v,
         λ _. (
           area-same xs laws b area v,
@@ -105,7 +105,7 @@ module _ (xs : List ℕ) (laws : (z : Sizes) → legal z ≡ true → DifferentP
                   λ n. (
                     ap (λ (t : Bool). not (alls (different fresh ∷ t ∷ apart fresh helpers ∷ []))) (runs-different (b .sizes .d) fresh helpers),
                     λ r. (
-                      ap not (every-same (inService (recordOf b)) (among (b .service)) helpers (up xs laws b area v)),
+                      ap not (every-same (inService (bookRecord b)) (among (b .service)) helpers (up xs laws b area v)),
                       λ _. (
                         refl,
                         λ _. (
@@ -123,12 +123,12 @@ module _ (xs : List ℕ) (laws : (z : Sizes) → legal z ≡ true → DifferentP
         ),
       )
 
-  repair-inv : (fresh helpers : List ℕ) → Repairs (recordOf b) (length area) fresh helpers
-      → Inv xs (noted b (b .file) (fresh ++ b .service)) (repairDone xs (recordOf b) area fresh helpers .area)
+  repair-inv : (fresh helpers : List ℕ) → Repairs (bookRecord b) (length area) fresh helpers
+      → Inv xs (noted b (b .file) (fresh ++ b .service)) (repairDone xs (bookRecord b) area fresh helpers .area)
   repair-inv fresh helpers f =
       record {
-        as-long = length-shares (recordOf b) made (usedLen (recordOf b)) long (used-fits (recordOf b) known) fresh area (f .area-is) low ∙ v .as-long;
-        is-sound = facts-sound (recordOf (noted b (b .file) (fresh ++ b .service))) (record {
+        as-long = length-shares (bookRecord b) made (usedLen (bookRecord b)) long (used-fits (bookRecord b) known) fresh area (f .area-is) low ∙ v .as-long;
+        is-sound = facts-sound (bookRecord (noted b (b .file) (fresh ++ b .service))) (record {
           is-legal = known .is-legal;
           cap-low = known .cap-low;
           cap-high = known .cap-high;
@@ -144,13 +144,13 @@ module _ (xs : List ℕ) (laws : (z : Sizes) → legal z ≡ true → DifferentP
       }
     where
       made : ℕ → List ℕ
-      made = freshShare xs (recordOf b) area fresh helpers
+      made = freshShare xs (bookRecord b) area fresh helpers
 
       r-low : 1 ≤ b .sizes .r
       r-low = legal-facts (b .sizes) (known .is-legal) .some-fresh
 
-      long : (i : ℕ) → length (made i) ≡ usedLen (recordOf b)
-      long = fresh-length xs (recordOf b) area fresh helpers (length area) (lawful xs laws b area v .lengths) r-low f
+      long : (i : ℕ) → length (made i) ≡ usedLen (bookRecord b)
+      long = fresh-length xs (bookRecord b) area fresh helpers (length area) (lawful xs laws b area v .lengths) r-low f
 
       low : All (λ i. i < b .sizes .n) fresh
       low = all-left (λ i. i < b .sizes .n) fresh helpers (below-all (b .sizes .n) (fresh ++ helpers) (f .named-below))
@@ -162,25 +162,25 @@ module _ (xs : List ℕ) (laws : (z : Sizes) → legal z ≡ true → DifferentP
       serve-32 = all-imp (λ x. x < b .sizes .n) (λ x. x < maxBoards) (λ x h. let k = few xs laws b area v in omega arith) (fresh ++ b .service) serve
 
       held-by : (i : ℕ) (t : Bool) → among fresh i ≡ t → among (fresh ++ b .service) i ≡ true
-          → held (recordOf b) (putShares (recordOf b) made fresh area) i ≡ share (b .sizes) xs (fileOf (b .file)) i
+          → held (bookRecord b) (putShares (bookRecord b) made fresh area) i ≡ share (b .sizes) xs (fileOf (b .file)) i
       held-by i true q e =
-          shares-same (recordOf b) made (usedLen (recordOf b)) long (used-fits (recordOf b) known) fresh area (f .area-is) low i q
-          ∙ true-share xs (recordOf b) area fresh helpers (length area) (lawful xs laws b area v .lengths) r-low f (lawful xs laws b area v) (fileOf (b .file)) (v .bytes) refl
+          shares-same (bookRecord b) made (usedLen (bookRecord b)) long (used-fits (bookRecord b) known) fresh area (f .area-is) low i q
+          ∙ true-share xs (bookRecord b) area fresh helpers (length area) (lawful xs laws b area v .lengths) r-low f (lawful xs laws b area v) (fileOf (b .file)) (v .bytes) refl
           (λ j u. v .holds j (sym (up xs laws b area v j) ∙ u)) i q
       held-by i false q e =
           let o : among (b .service) i ≡ true = sym (among-append-none fresh (b .service) i q) ∙ e in
-          shares-other (recordOf b) made (usedLen (recordOf b)) long (used-fits (recordOf b) known) fresh area (f .area-is) low i (usedLen (recordOf b))
-          (all-among (λ x. x < b .sizes .n) (b .service) i (v .serving) o) q (used-fits (recordOf b) known)
+          shares-other (bookRecord b) made (usedLen (bookRecord b)) long (used-fits (bookRecord b) known) fresh area (f .area-is) low i (usedLen (bookRecord b))
+          (all-among (λ x. x < b .sizes .n) (b .service) i (v .serving) o) q (used-fits (bookRecord b) known)
           ∙ v .holds i o
 
-  pub repair-good : (fresh helpers : List ℕ) → Good xs (act xs (record { kept = recordOf b; area = area }) (repair fresh helpers)) (enter b (repair fresh helpers))
+  pub repair-good : (fresh helpers : List ℕ) → Good xs (act xs (record { kept = bookRecord b; area = area }) (repair fresh helpers)) (enter b (repair fresh helpers))
   unfolding act enter accept repairCall
   repair-good fresh helpers =
       good-both xs _ _ _ _ _ _ (repair-same fresh helpers) (refusal-good xs laws b area v [])
-      (λ e. let f = repair-facts xs (recordOf b) (length area) fresh helpers e in
+      (λ e. let f = repair-facts xs (bookRecord b) (length area) fresh helpers e in
       record {
         alike = ap (λ (m : ℕ). record { answer = said (Done m); output = [] })
-            (moved-is xs (recordOf b) area fresh helpers (length area) (lawful xs laws b area v .lengths) (legal-facts (b .sizes) (known .is-legal) .some-fresh) f);
+            (moved-is xs (bookRecord b) area fresh helpers (length area) (lawful xs laws b area v .lengths) (legal-facts (b .sizes) (known .is-legal) .some-fresh) f);
         same-record = ap (λ (m : List Bool). record { sizes = b .sizes; capacity = b .capacity; written = given (b .file); length = bookLength b; marks = m }) (marks-on fresh (b .service));
         inv = repair-inv fresh helpers f;
       })

@@ -23,7 +23,7 @@ use Rattle.board_statements.specs.Calls.{equalPoints, readRuns}
 use Rattle.store_statements.specs.Packets.{repairRuns}
 use Rattle.store_statements.specs.Record.{Record, inService, sound, newRecord, writtenRecord, stripeCount, partLen, usedLen, held}
 use Rattle.store_statements.specs.Calls.{StoreOutcome, fileHeld, recordLine, writeLines, loseLines, repairLines, readLines, setUpCall, writeDone, writeCall, loseDone, loseCall, repairDone, repairCall, readDone, readCall}
-use Rattle.store_statements.specs.Ledger.{Call, write, lose, repair, read, Book, recordOf, bookLines}
+use Rattle.store_statements.specs.Ledger.{Call, write, lose, repair, read, Book, bookRecord, bookLines}
 
 -- one call: its lines; record, area and output as they came; what it does where no line holds; and its outcome
 pub record StoreEnds (lines : List Line) (s : Record) (area output : List ℕ) (done o : StoreOutcome) : Type 0 where
@@ -112,7 +112,7 @@ pub record StoreCalls : Type 0 where
       ↔ ((file : List ℕ) → length file ≡ s .length → Bytes file → All (λ i. held s area i ≡ share (s .sizes) xs file i) boards → ⊥))
   -- the ledger's lines are the store's: for each refusal but 1, 10 and 11, by any book that tells legal sizes and names boards below n
   pub lines-agree : (xs : List ℕ) (b : Book) (area : List ℕ) (call : Call) → legal (b .sizes) ≡ true → All (λ i. i < b .sizes .n) (b .service) → length area ≡ b .areaLength
-      → All (λ x. holdsIn (storeLines xs (recordOf b) area call) x ≡ holdsIn (bookLines b call) x)
+      → All (λ x. holdsIn (storeLines xs (bookRecord b) area call) x ≡ holdsIn (bookLines b call) x)
       (Area ∷ Long ∷ Empty ∷ Count ∷ Node ∷ Repeat ∷ Down ∷ Short ∷ [])
   -- with document 01's points no call answers 11 POINTS, on any record, area and lists
   pub no-points : (s : Record) (area : List ℕ) →

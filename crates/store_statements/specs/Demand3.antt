@@ -16,12 +16,12 @@ use Rattle.board_statements.specs.Calls.{fileOf}
 use Rattle.store_statements.specs.Record.{Record, stripeCount, held}
 use Rattle.store_statements.specs.Packets.{sentTo, sendersOf, contents, total, helperPackets, exchangePackets, repairPackets, freshShare}
 use Rattle.store_statements.specs.Calls.{StoreOutcome, setUpCall, repairCall, readCall}
-use Rattle.store_statements.specs.Ledger.{Call, Book, State, Step, Altered, Allowed, openBook, bookLength, recordOf, replies, final, bookReplies, bookFinal}
+use Rattle.store_statements.specs.Ledger.{Call, Book, State, Step, Altered, Allowed, openBook, bookLength, bookRecord, replies, final, bookReplies, bookFinal}
 
 -- After the list, also where bytes of boards out of service were altered since the last call: `now` is the area.
 pub record Kept (xs : List ℕ) (w : State) (b : Book) : Type 0 where
   -- the record is the one that the book tells
-  pub same-record : w .kept ≡ recordOf b
+  pub same-record : w .kept ≡ bookRecord b
   -- "every board in service holds its share of that file": the first S stripes of its part of the area are its share
   pub holds : (now : List ℕ) → Altered b (w .kept) (w .area) now
       → (i : ℕ) → among (b .service) i ≡ true

@@ -11,7 +11,7 @@ use Rattle.sizes.specs.declared.Answer.the-variants.{Done, Refused}
 use Rattle.sizes.specs.Refusals.{said}
 use Rattle.mbcr.specs.Share.{standard}
 use Rattle.store_statements.specs.Record.{Record, sound, newRecord, withMarks}
-use Rattle.store_statements.specs.Packets.{sentTo, sendersOf, contents, helperPackets, exchangePackets, repairPackets}
+use Rattle.store_statements.specs.Packets.{sentTo, sendersOf, contents, helperPackets, exchangePackets, repairPackets, repairRuns}
 use Rattle.store_statements.specs.Calls.{StoreOutcome, setUpCall, writeCall, loseCall, repairCall, readCall}
 
 -- "n=2, k=d=r=1, file 05 03"
@@ -177,6 +177,17 @@ pub record FurtherFigures : Type 0 where
       ∷ readCall standard written spoiled (1 ∷ 2 ∷ []) []
       ∷ [])
       ≡ 1 ∷ 2 ∷ 8 ∷ 4 ∷ 5 ∷ 6 ∷ 9 ∷ 7 ∷ 10 ∷ 1 ∷ 2 ∷ 8 ∷ 4 ∷ 5 ∷ 6 ∷ 9 ∷ 7 ∷ []
+  -- the boards at whose points a repair interpolates: board 0 is fresh with helper 2 and partner 1, board 1 with helper 3 and partner 0
+  pub repair-runs : repairRuns four-lost (0 ∷ 1 ∷ []) (2 ∷ 3 ∷ [])
+      ≡ (2 ∷ 3 ∷ 0 ∷ []) ∷ (2 ∷ []) ∷ (2 ∷ []) ∷ (2 ∷ 1 ∷ 0 ∷ [])
+      ∷ (3 ∷ 0 ∷ 1 ∷ []) ∷ (3 ∷ []) ∷ (3 ∷ []) ∷ (3 ∷ 0 ∷ 1 ∷ []) ∷ []
+  -- 11 POINTS of a repair and of a read, where two boards have the same point
+  pub points-refusals :
+      answers
+      (repairCall (replicate 32 7) four-lost four-spoiled (0 ∷ 1 ∷ []) (2 ∷ 3 ∷ [])
+      ∷ readCall (replicate 32 7) (half-full 2) (replicate 8 0) (1 ∷ []) (replicate 2 0)
+      ∷ [])
+      ≡ 11 ∷ 11 ∷ []
   -- a refused write and a refused repair leave record and area
   pub refused-write : writeCall standard (newRecord five 1) (replicate 35 0xAB) (replicate 13 0)
       ≡ record { answer = record { refusal = 3; value = 0 }; handed = newRecord five 1; area = replicate 35 0xAB; output = [] }

@@ -131,8 +131,8 @@ pub record Step : Type 0 where
   pub area : List ℕ
   pub call : Call
 
-abbrev pub outcome : List ℕ → State → Step → StoreOutcome
-outcome xs w t = act xs (record { kept = w .kept; area = t .area }) (t .call)
+abbrev pub stepOutcome : List ℕ → State → Step → StoreOutcome
+stepOutcome xs w t = act xs (record { kept = w .kept; area = t .area }) (t .call)
 
 -- "altered since at most in bytes of boards out of service": of the same length, and the same in all bytes of boards that are in service by
 -- the book
@@ -150,16 +150,16 @@ Fair (read boards output) = Unit
 abbrev pub Allowed : List ℕ → State → Book → List Step → Type 0
 Allowed xs w b [] = Unit
 Allowed xs w b (t ∷ ts) =
-    Altered b (w .kept) (w .area) (t .area) × Fair (t .call) × Allowed xs (left (outcome xs w t)) (enter b (t .call) .book) ts
+    Altered b (w .kept) (w .area) (t .area) × Fair (t .call) × Allowed xs (left (stepOutcome xs w t)) (enter b (t .call) .book) ts
 
 -- the store's replies along the list, and where it ends
 abbrev pub replies : List ℕ → State → List Step → List Reply
 replies xs w [] = []
-replies xs w (t ∷ ts) = replyOf (outcome xs w t) ∷ replies xs (left (outcome xs w t)) ts
+replies xs w (t ∷ ts) = replyOf (stepOutcome xs w t) ∷ replies xs (left (stepOutcome xs w t)) ts
 
 abbrev pub final : List ℕ → State → List Step → State
 final xs w [] = w
-final xs w (t ∷ ts) = final xs (left (outcome xs w t)) ts
+final xs w (t ∷ ts) = final xs (left (stepOutcome xs w t)) ts
 
 -- the ledger's, which sees the calls alone
 abbrev pub bookReplies : Book → List Call → List Reply
@@ -171,6 +171,6 @@ bookFinal b [] = b
 bookFinal b (call ∷ calls) = bookFinal (enter b call .book) calls
 
 -- the record that the book tells
-abbrev pub recordOf : Book → Record
-recordOf b =
+abbrev pub bookRecord : Book → Record
+bookRecord b =
     record { sizes = b .sizes; capacity = b .capacity; written = given (b .file); length = bookLength b; marks = tabulate maxBoards (among (b .service)) }

@@ -6,6 +6,7 @@ pub mod Demand1
 pub mod Demand3
 pub mod Premises
 pub mod LedgerLaws
+pub mod MarkLaws
 pub mod FurtherFigures
 pub mod LedgerFigures
 pub mod Stripes

@@ -4,7 +4,7 @@ ghost use mathlib.Core.Bool.{true};
 ghost use Prim.Native.Nat.{_≤_};
 ghost use lib.ListN.{length};
 ghost use Rattle.store.specs.Handing.{recordIn};
-ghost use Rattle.words.specs.Words.{bits, number, isRecord, recordFrom, wordsOf};
+ghost use Rattle.words.specs.Words.{bits, fromBits, isRecord, recordFrom, wordsOf};
 use sizes::Sizes;
 use store::Store;
 
@@ -37,7 +37,7 @@ fn fill_marks(word: u64, marks: &mut [bool])
 // The word that has the marks as its bits.
 fn marks_word(marks: &[bool]) -> u64
     requires { ⌜ length (now marks) ≤ 32 ⌝ }
-    ensures { λ w. ⌜ w ≡ number (now (marks .entry)) ⌝ }
+    ensures { λ w. ⌜ w ≡ fromBits (now (marks .entry)) ⌝ }
 {
     let mut word: u64 = 0;
     let mut i = marks.len();

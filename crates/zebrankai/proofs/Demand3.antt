@@ -1,31 +1,41 @@
 -- Demand 3 of the archive: a list of its calls is a list of the definitions' calls, with the record in words.
 -- Assumes nothing.
-use Prim.Native.Nat.{ℕ, _+_, _*_}
+use Prim.Native.Nat.{ℕ, _+_, _*_, _%_, _≤_, _<_}
 use mathlib.Core.Path.{_≡_, refl, sym, ap, ap₂, subst, _∙_}
 use mathlib.Core.Bool.{Bool, true, false}
 use mathlib.Core.List.{List, [], _∷_, map}
+use mathlib.Core.Logic.{_↔_}
 use native.Mathlib.Omega.{arith}
+use native.Mathlib.Nat.{mod-lt}
 use lib.Dec.{eqb}
 use lib.ListN.{length, length-set, set}
-use borrow.Author.Tests.{eq-eqb}
+use borrow.Author.Tests.{eqb-true, eq-eqb}
 use Rattle.lists.specs.Tests.{pick}
-use Rattle.lists.specs.Lists.{All, Bytes}
+use Rattle.lists.specs.Lists.{All, Bytes, over}
 use Rattle.sizes.specs.declared.Sizes.{Sizes}
 use Rattle.sizes.specs.declared.Check.{Check}
 use Rattle.sizes.specs.declared.Check.the-variants.{Pass, Refuse}
-use Rattle.sizes.specs.Refusals.{first, storeOrder}
+use Rattle.sizes.specs.declared.Answer.the-variants.{Done, Refused}
+use Rattle.sizes.specs.Sizing.{legal, maxStripes}
+use Rattle.sizes.specs.Refusals.{number, said, first, storeOrder}
+use Rattle.sizes.proofs.Laws.{number-low}
 use Rattle.mbcr.specs.Share.{standard}
 use Rattle.store_statements.specs.Record.{Record, newRecord, turnOn}
+use Rattle.store_statements.specs.Packets.{total, repairPackets}
 use Rattle.store_statements.specs.Calls.{StoreOutcome, settle, refused, recordLine, writeLines, writeDone, writeCall, loseLines, loseDone, loseCall, repairLines, repairDone, repairCall, readLines, readDone, readCall, setUpCall}
-use Rattle.store_statements.specs.Ledger.{Call, write, lose, repair, read, Book, State, Step, Altered, Allowed, left, act, outcome, replies, final, openBook, enter, bookFinal}
-use Rattle.store_statements.specs.Demand3.{Kept, begun, calls}
-use Rattle.store_statements.proofs.Demand3.{demand-3-standard}
+use Rattle.store_statements.specs.Ledger.{Call, write, lose, repair, read, Book, State, Step, Altered, Allowed, left, act, stepOutcome, replies, final, openBook, enter, bookFinal}
+use Rattle.board_statements.specs.Calls.{fileOf}
+use Rattle.store_statements.specs.Demand3.{Kept, Demand3, begun, calls}
+use Rattle.store_statements.proofs.Demand3.{demand-3-standard, accepted-repair}
+use Rattle.store_statements.proofs.Demand1.{demand-1}
+use Rattle.store_statements.proofs.Premises.{as-it-was, fair}
 use Rattle.store_statements.specs.Premises.{files}
 use Rattle.answer_word.specs.Answers.{wordOf}
+use Rattle.answer_word.proofs.Laws.{answer-laws}
 use Rattle.words.specs.Words.{isRecord, recordFrom, wordsOf}
 use Rattle.words.proofs.Laws.{word-laws}
 use Rattle.zebrankai.specs.Lent.{Lent, noRecord, inWords, zbkSetUp, zbkWrite, zbkLose, zbkRepair, zbkRead}
-use Rattle.zebrankai.specs.Demand3.{zbk, lents, AllowedLents, lastWords, lastArea, Told, told, inWord, ArchiveRun, ArchiveDemand3, unalteredLents, ArchivePremises}
+use Rattle.zebrankai.specs.Demand3.{zbk, lents, AllowedLents, lastWords, lastArea, Told, told, inWord, firstWords, endWords, endArea, endBook, ArchiveRun, ArchiveDemand3, ArchiveRepaired, ArchiveRepairs, unalteredLents, ArchivePremises}
 
 -- ---- a call on the words of a record of 32 marks is the definitions' call on the record
 
@@ -82,11 +92,11 @@ record Tells (ws area : List ℕ) (w : State) : Type 0 where
   area-is : area ≡ w .area
   full : length (w .kept .marks) ≡ 32
 
-one : (ws area : List ℕ) (w : State) (t : Step) → Tells ws area w → zbk ws (t .area) (t .call) ≡ inWords (outcome standard w t)
+one : (ws area : List ℕ) (w : State) (t : Step) → Tells ws area w → zbk ws (t .area) (t .call) ≡ inWords (stepOutcome standard w t)
 one ws area w t h = ap (λ (l : List ℕ). zbk l (t .area) (t .call)) (h .words-are) ∙ zbk-is (w .kept) (h .full) (t .area) (t .call)
 
 next : (ws area : List ℕ) (w : State) (t : Step) → Tells ws area w
-    → Tells (zbk ws (t .area) (t .call) .words) (zbk ws (t .area) (t .call) .area) (left (outcome standard w t))
+    → Tells (zbk ws (t .area) (t .call) .words) (zbk ws (t .area) (t .call) .area) (left (stepOutcome standard w t))
 next ws area w t h =
     let e = one ws area w t h in
     record {
@@ -103,19 +113,19 @@ allowed ws area w b [] h a = tt
 allowed ws area w b (t ∷ ts) h a = (
   subst (λ (l : List ℕ). Altered b (w .kept) l (t .area)) (h .area-is) (subst (λ (s : Record). Altered b s area (t .area)) (back ws area w h) (a .0)),
   a .1,
-  allowed (zbk ws (t .area) (t .call) .words) (zbk ws (t .area) (t .call) .area) (left (outcome standard w t)) (enter b (t .call) .book) ts (next ws area w t h) (a .2),
+  allowed (zbk ws (t .area) (t .call) .words) (zbk ws (t .area) (t .call) .area) (left (stepOutcome standard w t)) (enter b (t .call) .book) ts (next ws area w t h) (a .2),
 )
 
 answers : (ws area : List ℕ) (w : State) (steps : List Step) → Tells ws area w → map told (lents ws steps) ≡ map inWord (replies standard w steps)
 answers ws area w [] h = refl
 answers ws area w (t ∷ ts) h =
     ap₂ {C = List Told} (λ x l. x ∷ l) (ap told (one ws area w t h))
-    (answers (zbk ws (t .area) (t .call) .words) (zbk ws (t .area) (t .call) .area) (left (outcome standard w t)) ts (next ws area w t h))
+    (answers (zbk ws (t .area) (t .call) .words) (zbk ws (t .area) (t .call) .area) (left (stepOutcome standard w t)) ts (next ws area w t h))
 
 ends : (ws area : List ℕ) (w : State) (steps : List Step) → Tells ws area w
     → Tells (lastWords ws (lents ws steps)) (lastArea area (lents ws steps)) (final standard w steps)
 ends ws area w [] h = h
-ends ws area w (t ∷ ts) h = ends (zbk ws (t .area) (t .call) .words) (zbk ws (t .area) (t .call) .area) (left (outcome standard w t)) ts (next ws area w t h)
+ends ws area w (t ∷ ts) h = ends (zbk ws (t .area) (t .call) .words) (zbk ws (t .area) (t .call) .area) (left (stepOutcome standard w t)) ts (next ws area w t h)
 
 -- ---- the start
 
@@ -123,15 +133,16 @@ record Begins (ws : List ℕ) (z : Sizes) (c : ℕ) : Type 0 where
   accepted : setUpCall (newRecord z c) z c .answer .refusal ≡ 0
   words-are : zbkSetUp ws z c .words ≡ wordsOf (setUpCall (newRecord z c) z c .handed)
 
+-- a set-up over words that are eight, or not
+abbrev set-up-lent : List ℕ → StoreOutcome → Bool → Lent
+set-up-lent ws o t =
+    pick t (record { answer = wordOf (o .answer); words = pick (eqb (wordOf (o .answer)) 0) (wordsOf (o .handed)) ws; area = []; output = [] }) (noRecord ws [] [])
+
 begins : (ws : List ℕ) (z : Sizes) (c : ℕ) → zbkSetUp ws z c .answer ≡ 0 → Begins ws z c
 unfolding zbkSetUp
 begins ws z c e = let p = go (setUpCall (newRecord z c) z c) (eqb (length ws) 8) e in record { accepted = p .0; words-are = p .1 }
   where
-    lent : StoreOutcome → Bool → Lent
-    lent o t =
-        pick t (record { answer = wordOf (o .answer); words = pick (eqb (wordOf (o .answer)) 0) (wordsOf (o .handed)) ws; area = []; output = [] }) (noRecord ws [] [])
-
-    go : (o : StoreOutcome) (t : Bool) → lent o t .answer ≡ 0 → (o .answer .refusal ≡ 0) × (lent o t .words ≡ wordsOf (o .handed))
+    go : (o : StoreOutcome) (t : Bool) → set-up-lent ws o t .answer ≡ 0 → (o .answer .refusal ≡ 0) × (set-up-lent ws o t .words ≡ wordsOf (o .handed))
     go o true e = (omega (arith, e), rw (eq-eqb (wordOf (o .answer)) 0 e) refl)
     go o false e = absurd (omega (arith, e))
 
@@ -140,38 +151,129 @@ unfolding setUpCall
 handed-full z c =
     settle-full (first storeOrder (recordLine (newRecord z c) ∷ [])) (newRecord z c) [] [] _ refl refl
 
-pub archive-demand-3 : ArchiveDemand3
-archive-demand-3 ws z c area steps e ok =
-    let s = begins ws z c e in
-    let h : Tells (zbkSetUp ws z c .words) area (begun (newRecord z c) z c area) = record { words-are = s .words-are; area-is = refl; full = handed-full z c } in
-    let d = demand-3-standard (newRecord z c) z c area steps (s .accepted) (allowed (zbkSetUp ws z c .words) area (begun (newRecord z c) z c area) (openBook z c (length area)) steps h ok) in
-    let k = ends (zbkSetUp ws z c .words) area (begun (newRecord z c) z c area) steps h in
-    record {
-      alike = answers (zbkSetUp ws z c .words) area (begun (newRecord z c) z c area) steps h ∙ ap (map inWord) (d .alike);
-      are-words = ap isRecord (k .words-are) ∙ word-laws .are-words (final standard (begun (newRecord z c) z c area) steps .kept) (k .full);
-      after = subst (λ (w : State). Kept standard w (bookFinal (openBook z c (length area)) (calls steps)))
-          (ap₂ {C = State} (λ (s : Record) (l : List ℕ). record { kept = s; area = l }) (sym (back (lastWords (zbkSetUp ws z c .words) (lents (zbkSetUp ws z c .words) steps)) (lastArea area (lents (zbkSetUp ws z c .words) steps)) (final standard (begun (newRecord z c) z c area) steps) k)) (sym (k .area-is)))
-          (d .after);
+module _ (ws : List ℕ) (z : Sizes) (c : ℕ) (area : List ℕ) (steps : List Step) (e : zbkSetUp ws z c .answer ≡ 0) where
+  -- the definitions' store at the start, and at the end
+  abbrev start : State
+  start = begun (newRecord z c) z c area
+
+  abbrev last : State
+  last = final standard start steps
+
+  tells-start : Tells (firstWords ws z c area steps) area start
+  tells-start = record { words-are = begins ws z c e .words-are; area-is = refl; full = handed-full z c }
+
+  tells-last : Tells (endWords ws z c area steps) (endArea ws z c area steps) last
+  tells-last = ends (firstWords ws z c area steps) area start steps tells-start
+
+  state-is : record { kept = recordFrom (endWords ws z c area steps); area = endArea ws z c area steps } ≡ last
+  state-is =
+      ap₂ {C = State} (λ (s : Record) (l : List ℕ). record { kept = s; area = l })
+      (back (endWords ws z c area steps) (endArea ws z c area steps) last tells-last) (tells-last .area-is)
+
+  module _ (ok : AllowedLents (firstWords ws z c area steps) area (openBook z c (length area)) steps) where
+    of-definitions : Demand3 standard (newRecord z c) z c area steps
+    of-definitions =
+        demand-3-standard (newRecord z c) z c area steps (begins ws z c e .accepted)
+        (allowed (firstWords ws z c area steps) area start (openBook z c (length area)) steps tells-start ok)
+
+    kept : Kept standard (record { kept = recordFrom (endWords ws z c area steps); area = endArea ws z c area steps }) (endBook ws z c area steps)
+    kept = subst (λ (w : State). Kept standard w (endBook ws z c area steps)) (sym state-is) (of-definitions .after)
+
+    are-words : isRecord (endWords ws z c area steps) ≡ true
+    are-words = ap isRecord (tells-last .words-are) ∙ word-laws .are-words (last .kept) (tells-last .full)
+
+    runs : ArchiveRun ws z c area steps
+    unfolding zbkRead
+    runs = record {
+      alike = answers (firstWords ws z c area steps) area start steps tells-start ∙ ap (map inWord) (of-definitions .alike);
+      are-words = are-words;
+      after = kept;
+      gives = λ now a boards output count diff up room.
+          rw are-words
+          (ap inWords (kept .gives now a boards output count diff up room)
+          ∙ ap (λ (l : List ℕ). record { answer = 0; words = l; area = now; output = over (fileOf (endBook ws z c area steps .file)) output })
+          (word-laws .words-back (endWords ws z c area steps) are-words));
     }
+
+pub archive-demand-3 : ArchiveDemand3
+archive-demand-3 = runs
+
+-- ---- repairs
+
+small : (t : Check) (s : Record) (area : List ℕ) (done : StoreOutcome) (v : ℕ) → done .answer .refusal ≡ 0
+    → wordOf (settle t (refused s area []) done .answer) ≡ 256 * v → settle t (refused s area []) done .answer .refusal ≡ 0
+small Pass s area done v e h = e
+small (Refuse x) s area done v e h =
+    let q = answer-laws .refusal-is (Refused x) in
+    absurd (omega (arith, number-low x, q, mod-lt (number x + 256 * 0) {m = 256} (omega arith), h))
+
+none-refused : (v : ℕ) → 0 + 256 * v ≡ 256 * v
+none-refused v = omega arith
+
+module _ (ws area fresh helpers : List ℕ) (v : ℕ) where
+  repairs : (t : Bool) → isRecord ws ≡ t
+      → pick t (inWords (repairCall standard (recordFrom ws) area fresh helpers)) (noRecord ws area []) .answer ≡ 256 * v
+      → ArchiveRepaired ws area fresh helpers
+  unfolding zbkRepair repairCall
+  repairs true e h =
+      let ok = small (first storeOrder (repairLines standard (recordFrom ws) (length area) fresh helpers)) (recordFrom ws) area
+      (repairDone standard (recordFrom ws) area fresh helpers) v refl h in
+      let p = accepted-repair standard (recordFrom ws) area fresh helpers ok in
+      record {
+        is-record = e;
+        repaired = p;
+        reports = rw e (ap wordOf (p .moved) ∙ none-refused (total (repairPackets standard (recordFrom ws) area fresh helpers)));
+        has = λ i k. rw e (p .has i k);
+      }
+  repairs false e h = absurd (omega (arith, h))
+
+pub archive-repairs : ArchiveRepairs
+unfolding zbkRepair
+archive-repairs ws area fresh helpers v h = repairs ws area fresh helpers v (isRecord ws) refl h
 
 -- ---- what the premises allow
 
-pub archive-premises : ArchivePremises
-archive-premises = record { all-allowed = λ ws z c area cs h. allow (zbkSetUp ws z c .words) area (openBook z c (length area)) cs h; same-calls = same }
+accepted-word : (z : Sizes) (c : ℕ) → setUpCall (newRecord z c) z c .answer .refusal ≡ 0 → wordOf (setUpCall (newRecord z c) z c .answer) ≡ 0
+unfolding setUpCall
+accepted-word z c = go (first storeOrder (recordLine (newRecord z c) ∷ []))
   where
-    as-it-was : (b : Book) (s : Record) (area : List ℕ) → Altered b s area area
-    as-it-was b s area = record { as-long = refl; in-service = λ i e. refl }
+    by : Check → StoreOutcome
+    by t = settle t (refused (newRecord z c) [] []) (record { answer = said (Done 0); handed = newRecord z c; area = []; output = [] })
 
+    go : (t : Check) → by t .answer .refusal ≡ 0 → wordOf (by t .answer) ≡ 0
+    go Pass e = refl
+    go (Refuse x) e = absurd (omega (arith, number-low x, e))
+
+set-up-accepted : (ws : List ℕ) (z : Sizes) (c : ℕ)
+    → (zbkSetUp ws z c .answer ≡ 0) ↔ ((length ws ≡ 8) × (legal z ≡ true) × (1 ≤ c) × (c ≤ maxStripes))
+unfolding zbkSetUp
+set-up-accepted ws z c = (there, back-again)
+  where
+    there : zbkSetUp ws z c .answer ≡ 0 → (length ws ≡ 8) × (legal z ≡ true) × (1 ≤ c) × (c ≤ maxStripes)
+    there e =
+        let h = demand-1 .set-up-accepted (newRecord z c) z c .0 (begins ws z c e .accepted) in
+        (eight (setUpCall (newRecord z c) z c) (eqb (length ws) 8) refl e, h .0, h .1, h .2)
+      where
+        eight : (o : StoreOutcome) (t : Bool) → eqb (length ws) 8 ≡ t → set-up-lent ws o t .answer ≡ 0 → length ws ≡ 8
+        eight o true q e = eqb-true (length ws) 8 q
+        eight o false q e = absurd (omega (arith, e))
+
+    back-again : (length ws ≡ 8) × (legal z ≡ true) × (1 ≤ c) × (c ≤ maxStripes) → zbkSetUp ws z c .answer ≡ 0
+    back-again h = rw (eq-eqb (length ws) 8 (h .0)) (accepted-word z c (demand-1 .set-up-accepted (newRecord z c) z c .1 (h .1, h .2, h .3)))
+
+pub archive-premises : ArchivePremises
+archive-premises = record {
+  set-up-accepted = set-up-accepted;
+  all-allowed = λ ws z c area cs h. allow (zbkSetUp ws z c .words) area (openBook z c (length area)) cs h;
+  same-calls = same;
+}
+  where
     allow : (ws area : List ℕ) (b : Book) (cs : List Call) → All Bytes (files cs) → AllowedLents ws area b (unalteredLents ws area cs)
     allow ws area b [] h = tt
-    allow ws area b (write file ∷ cs) h =
-        let o = zbk ws area (write file) in (as-it-was b (recordFrom ws) area, h .0, allow (o .words) (o .area) (enter b (write file) .book) cs (h .1))
-    allow ws area b (lose board ∷ cs) h =
-        let o = zbk ws area (lose board) in (as-it-was b (recordFrom ws) area, tt, allow (o .words) (o .area) (enter b (lose board) .book) cs h)
-    allow ws area b (repair fresh helpers ∷ cs) h =
-        let o = zbk ws area (repair fresh helpers) in (as-it-was b (recordFrom ws) area, tt, allow (o .words) (o .area) (enter b (repair fresh helpers) .book) cs h)
-    allow ws area b (read boards output ∷ cs) h =
-        let o = zbk ws area (read boards output) in (as-it-was b (recordFrom ws) area, tt, allow (o .words) (o .area) (enter b (read boards output) .book) cs h)
+    allow ws area b (call ∷ cs) h =
+        let o = zbk ws area call in
+        let f = fair call cs h in
+        (as-it-was b (recordFrom ws) area, f .0, allow (o .words) (o .area) (enter b call .book) cs (f .1))
 
     same : (ws area : List ℕ) (cs : List Call) → calls (unalteredLents ws area cs) ≡ cs
     same ws area [] = refl

@@ -26,7 +26,7 @@ use Rattle.store_statements.proofs.Real.{code-lengths}
 use Rattle.store_statements.proofs.Repair.{moved-is}
 use Rattle.store.specs.declared.Store.{Store}
 use Rattle.store.specs.declared.Handed.{Handed}
-use Rattle.store.specs.Handing.{recordIn, outcome}
+use Rattle.store.specs.Handing.{recordIn, outcomeIn}
 use Rattle.answer_word.specs.Answers.{wordOf}
 use Rattle.words.specs.Words.{isRecord, recordFrom, wordsOf}
 use Rattle.zebrankai.specs.Lent.{Lent, noRecord, inWords, zbkSetUp, zbkWrite, zbkLose, zbkRepair, zbkRead}
@@ -36,7 +36,7 @@ use Rattle.zebrankai.specs.Lent.{Lent, noRecord, inWords, zbkSetUp, zbkW
 no-record : (ws : List ℕ) (o none : Lent) → isRecord ws ≡ false → none ≡ pick (isRecord ws) o none
 no-record ws o none h = ap (λ (t : Bool). pick t o none) (sym h)
 
-worded : (ws : List ℕ) (o : StoreOutcome) (none : Lent) (h : Handed) (area output next : List ℕ) (w : ℕ) → isRecord ws ≡ true → outcome h area output ≡ o
+worded : (ws : List ℕ) (o : StoreOutcome) (none : Lent) (h : Handed) (area output next : List ℕ) (w : ℕ) → isRecord ws ≡ true → outcomeIn h area output ≡ o
     → next ≡ wordsOf (recordIn (h .store)) → w ≡ wordOf (said (h .answer))
     → record { answer = w; words = next; area = area; output = output } ≡ pick (isRecord ws) (inWords o) none
 worded ws o none h area output next w is e en ew =
@@ -51,7 +51,7 @@ module _ (ws : List ℕ) where
     no-write h = no-record ws _ (noRecord ws area []) h
 
     pub did-write : (s : Store) (h : Handed) (after next : List ℕ) (w : ℕ) → isRecord ws ≡ true → recordIn s ≡ recordFrom ws
-        → outcome h after [] ≡ writeCall standard (recordIn s) area file → next ≡ wordsOf (recordIn (h .store)) → w ≡ wordOf (said (h .answer))
+        → outcomeIn h after [] ≡ writeCall standard (recordIn s) area file → next ≡ wordsOf (recordIn (h .store)) → w ≡ wordOf (said (h .answer))
         → record { answer = w; words = next; area = after; output = [] } ≡ zbkWrite ws area file
     unfolding zbkWrite
     did-write s h after next w is es e en ew =
@@ -63,7 +63,7 @@ module _ (ws : List ℕ) where
     no-lose h = no-record ws _ (noRecord ws [] []) h
 
     pub did-lose : (s : Store) (h : Handed) (next : List ℕ) (w : ℕ) → isRecord ws ≡ true → recordIn s ≡ recordFrom ws
-        → outcome h [] [] ≡ loseCall (recordIn s) [] board → next ≡ wordsOf (recordIn (h .store)) → w ≡ wordOf (said (h .answer))
+        → outcomeIn h [] [] ≡ loseCall (recordIn s) [] board → next ≡ wordsOf (recordIn (h .store)) → w ≡ wordOf (said (h .answer))
         → record { answer = w; words = next; area = []; output = [] } ≡ zbkLose ws board
     unfolding zbkLose
     did-lose s h next w is es e en ew =
@@ -75,7 +75,7 @@ module _ (ws : List ℕ) where
     no-repair h = no-record ws _ (noRecord ws area []) h
 
     pub did-repair : (s : Store) (h : Handed) (after next : List ℕ) (w : ℕ) → isRecord ws ≡ true → recordIn s ≡ recordFrom ws
-        → outcome h after [] ≡ repairCall standard (recordIn s) area fresh helpers → next ≡ wordsOf (recordIn (h .store)) → w ≡ wordOf (said (h .answer))
+        → outcomeIn h after [] ≡ repairCall standard (recordIn s) area fresh helpers → next ≡ wordsOf (recordIn (h .store)) → w ≡ wordOf (said (h .answer))
         → record { answer = w; words = next; area = after; output = [] } ≡ zbkRepair ws area fresh helpers
     unfolding zbkRepair
     did-repair s h after next w is es e en ew =
@@ -87,7 +87,7 @@ module _ (ws : List ℕ) where
     no-read h = no-record ws _ (noRecord ws area output) h
 
     pub did-read : (s : Store) (h : Handed) (after next : List ℕ) (w : ℕ) → isRecord ws ≡ true → recordIn s ≡ recordFrom ws
-        → outcome h area after ≡ readCall standard (recordIn s) area boards output → next ≡ wordsOf (recordIn (h .store)) → w ≡ wordOf (said (h .answer))
+        → outcomeIn h area after ≡ readCall standard (recordIn s) area boards output → next ≡ wordsOf (recordIn (h .store)) → w ≡ wordOf (said (h .answer))
         → record { answer = w; words = next; area = area; output = after } ≡ zbkRead ws area boards output
     unfolding zbkRead
     did-read s h after next w is es e en ew =
@@ -137,7 +137,7 @@ module _ (ws : List ℕ) (z : Sizes) (c : ℕ) where
   abbrev new : StoreOutcome
   new = setUpCall (newRecord z c) z c
 
-  module _ (s : Store) (h : Handed) (w : ℕ) (eight : length ws ≡ 8) (e : outcome h [] [] ≡ setUpCall (recordIn s) z c) (ew : w ≡ wordOf (said (h .answer))) where
+  module _ (s : Store) (h : Handed) (w : ℕ) (eight : length ws ≡ 8) (e : outcomeIn h [] [] ≡ setUpCall (recordIn s) z c) (ew : w ≡ wordOf (said (h .answer))) where
     word-is : w ≡ wordOf (new .answer)
     word-is = ew ∙ ap (λ (o : StoreOutcome). wordOf (o .answer)) e ∙ ap wordOf (same-answer (recordIn s) (newRecord z c) z c)
 
@@ -166,7 +166,7 @@ settled-few s area output done Pass h = h refl
 settled-few s area output done (Refuse x) h = omega arith
 
 -- what a call's answer reports, by its definition
-pub as-told : (h : Handed) (area output : List ℕ) (o : StoreOutcome) → outcome h area output ≡ o → o .answer .value < 72057594037927936 → said (h .answer) .value < 72057594037927936
+pub as-told : (h : Handed) (area output : List ℕ) (o : StoreOutcome) → outcomeIn h area output ≡ o → o .answer .value < 72057594037927936 → said (h .answer) .value < 72057594037927936
 as-told h area output o e few = subst (λ (v : ℕ). v < 72057594037927936) (ap (λ (p : StoreOutcome). p .answer .value) (sym e)) few
 
 pub set-up-few : (s : Record) (z : Sizes) (c : ℕ) → setUpCall s z c .answer .value < 72057594037927936

@@ -1,16 +1,23 @@
 -- Demand 3 of the archive: what holds of any list of its store calls, each on the words and the area that the last one left, bytes of boards
--- out of service altered between them. proofs/Demand3.antt has `archive-demand-3 : ArchiveDemand3` and `archive-premises`.
+-- out of service altered between them; and of every accepted repair. proofs/Demand3.antt has `archive-demand-3 : ArchiveDemand3`,
+-- `archive-repairs` and `archive-premises`.
 -- Assumes nothing.
 use mathlib.Core.Path.{_≡_}
 use mathlib.Core.Bool.{true}
 use mathlib.Core.List.{List, [], _∷_, map}
-use Prim.Native.Nat.{ℕ}
+use mathlib.Core.Logic.{_↔_}
+use Prim.Native.Nat.{ℕ, _*_, _≤_}
 use lib.ListN.{length}
-use Rattle.lists.specs.Lists.{All, Bytes}
+use Rattle.lists.specs.Tests.{every, among, different}
+use Rattle.lists.specs.Lists.{All, Bytes, over}
 use Rattle.sizes.specs.declared.Sizes.{Sizes}
+use Rattle.sizes.specs.Sizing.{legal, maxStripes}
 use Rattle.mbcr.specs.Share.{standard}
-use Rattle.store_statements.specs.Ledger.{Call, write, lose, repair, read, Reply, Book, State, Step, Altered, Fair, openBook, enter, bookReplies, bookFinal}
-use Rattle.store_statements.specs.Demand3.{Kept, calls}
+use Rattle.board_statements.specs.Calls.{fileOf}
+use Rattle.store_statements.specs.Record.{held}
+use Rattle.store_statements.specs.Packets.{total, repairPackets, freshShare}
+use Rattle.store_statements.specs.Ledger.{Call, write, lose, repair, read, Reply, Book, State, Step, Altered, Fair, openBook, bookLength, enter, bookReplies, bookFinal}
+use Rattle.store_statements.specs.Demand3.{Kept, Repaired, calls}
 use Rattle.store_statements.specs.Premises.{files}
 use Rattle.answer_word.specs.Answers.{wordOf}
 use Rattle.words.specs.Words.{isRecord, recordFrom}
@@ -56,17 +63,38 @@ told o = record { answer = o .answer; output = o .output }
 abbrev pub inWord : Reply → Told
 inWord r = record { answer = wordOf (r .answer); output = r .output }
 
--- After an accepted set-up, of a list of calls: every answer is the word of the ledger's reply, every output the ledger's; the last words are a
--- record's, and demand 3's ending holds of the record that they tell and of the last area.
-pub record ArchiveRun (ws : List ℕ) (z : Sizes) (c : ℕ) (area : List ℕ) (steps : List Step) : Type 0 where
-  pub alike : map told (lents (zbkSetUp ws z c .words) steps) ≡ map inWord (bookReplies (openBook z c (length area)) (calls steps))
-  pub are-words : isRecord (lastWords (zbkSetUp ws z c .words) (lents (zbkSetUp ws z c .words) steps)) ≡ true
-  pub after : Kept standard
-      (record {
-        kept = recordFrom (lastWords (zbkSetUp ws z c .words) (lents (zbkSetUp ws z c .words) steps));
-        area = lastArea area (lents (zbkSetUp ws z c .words) steps);
-      })
-      (bookFinal (openBook z c (length area)) (calls steps))
+-- a list of calls after a set-up: the words that it gave, what the calls give, and where they end: words, area, and the ledger's book
+module _ (ws : List ℕ) (z : Sizes) (c : ℕ) (area : List ℕ) (steps : List Step) where
+  abbrev pub firstWords : List ℕ
+  firstWords = zbkSetUp ws z c .words
+
+  abbrev pub ran : List Lent
+  ran = lents firstWords steps
+
+  abbrev pub endWords : List ℕ
+  endWords = lastWords firstWords ran
+
+  abbrev pub endArea : List ℕ
+  endArea = lastArea area ran
+
+  abbrev pub endBook : Book
+  endBook = bookFinal (openBook z c (length area)) (calls steps)
+
+  -- Of these calls every answer is the word of the ledger's reply, and every output the ledger's; the last words are a record's, and demand 3's
+  -- ending holds of the record that they tell and of the last area.
+  pub record ArchiveRun : Type 0 where
+    pub alike : map told ran ≡ map inWord (bookReplies (openBook z c (length area)) (calls steps))
+    pub are-words : isRecord endWords ≡ true
+    pub after : Kept standard (record { kept = recordFrom endWords; area = endArea }) endBook
+    -- "a read of any k different boards in service, with output long enough, is accepted and gives exactly the last file accepted"
+    pub gives : (now : List ℕ) → Altered endBook (recordFrom endWords) endArea now
+        → (boards output : List ℕ)
+        → length boards ≡ endBook .sizes .k
+        → different boards ≡ true
+        → every (among (endBook .service)) boards ≡ true
+        → bookLength endBook ≤ length output
+        → zbkRead endWords now boards output
+        ≡ record { answer = 0; words = endWords; area = now; output = over (fileOf (endBook .file)) output }
 
 abbrev pub ArchiveDemand3 : Type 0
 ArchiveDemand3 =
@@ -75,13 +103,28 @@ ArchiveDemand3 =
     → AllowedLents (zbkSetUp ws z c .words) area (openBook z c (length area)) steps
     → ArchiveRun ws z c area steps
 
+-- An accepted repair, over any words and any area: it is one of the definitions', over the record that the words tell; it reports the bytes
+-- moved, and fresh boards hold what the packets make.
+pub record ArchiveRepaired (ws area fresh helpers : List ℕ) : Type 0 where
+  pub is-record : isRecord ws ≡ true
+  pub repaired : Repaired standard (recordFrom ws) area fresh helpers
+  pub reports : zbkRepair ws area fresh helpers .answer ≡ 256 * total (repairPackets standard (recordFrom ws) area fresh helpers)
+  pub has : (i : ℕ) → among fresh i ≡ true
+      → held (recordFrom ws) (zbkRepair ws area fresh helpers .area) i ≡ freshShare standard (recordFrom ws) area fresh helpers i
+
+abbrev pub ArchiveRepairs : Type 0
+ArchiveRepairs = (ws area fresh helpers : List ℕ) (v : ℕ) → zbkRepair ws area fresh helpers .answer ≡ 256 * v → ArchiveRepaired ws area fresh helpers
+
 -- the steps of these calls with nothing altered between them
 abbrev pub unalteredLents : List ℕ → List ℕ → List Call → List Step
 unalteredLents ws area [] = []
 unalteredLents ws area (call ∷ cs) = record { area = area; call = call } ∷ unalteredLents (zbk ws area call .words) (zbk ws area call .area) cs
 
--- the premises can be met: every list of calls whose files are of bytes is allowed, with nothing altered
+-- the premises can be met: a set-up is accepted over any eight words exactly where sizes and capacity are legal, and every list of calls whose
+-- files are of bytes is allowed, with nothing altered
 pub record ArchivePremises : Type 0 where
+  pub set-up-accepted : (ws : List ℕ) (z : Sizes) (c : ℕ)
+      → (zbkSetUp ws z c .answer ≡ 0) ↔ ((length ws ≡ 8) × (legal z ≡ true) × (1 ≤ c) × (c ≤ maxStripes))
   pub all-allowed : (ws : List ℕ) (z : Sizes) (c : ℕ) (area : List ℕ) (cs : List Call) → All Bytes (files cs)
       → AllowedLents (zbkSetUp ws z c .words) area (openBook z c (length area)) (unalteredLents (zbkSetUp ws z c .words) area cs)
   pub same-calls : (ws area : List ℕ) (cs : List Call) → calls (unalteredLents ws area cs) ≡ cs

@@ -1,10 +1,36 @@
--- Figures of the archive's store calls, with words, answers and outputs written out. proofs/Figures.antt has `archive-figures`.
+-- Figures of the archive's store calls, with words, answers and outputs written out: single calls, and a list of them, each on what the last
+-- one left. proofs/Figures.antt has `archive-figures`.
 -- Assumes nothing.
 use mathlib.Core.Path.{_≡_}
 use mathlib.Core.List.{List, [], _∷_}
 use Prim.Native.Nat.{ℕ}
+use lib.ListN.{replicate}
+use Rattle.store_statements.specs.Ledger.{write, lose, repair, read, Step}
 use Rattle.zebrankai.specs.Archive.{sizesOf}
 use Rattle.zebrankai.specs.Lent.{Lent, zbkSetUp, zbkLose}
+use Rattle.zebrankai.specs.Demand3.{lents}
+
+-- n = 4, k = 1, d = 1, r = 2, C = 1: the file 01 02 03 is written on any bytes, boards 0 and 1 are lost and spoiled, one is read in vain, both
+-- are rebuilt, and the file is read from board 1
+abbrev area : List ℕ
+area = 0x01 ∷ 0x00 ∷ 0x09 ∷ 0x00 ∷ 0x09 ∷ 0x08 ∷ 0x09 ∷ 0x08 ∷ 0x01 ∷ 0x08 ∷ 0x01 ∷ 0x00 ∷ []
+
+abbrev spoiled : List ℕ
+spoiled = 0x77 ∷ 0x77 ∷ 0x77 ∷ 0x66 ∷ 0x66 ∷ 0x66 ∷ 0x09 ∷ 0x08 ∷ 0x01 ∷ 0x08 ∷ 0x01 ∷ 0x00 ∷ []
+
+abbrev steps : List Step
+steps =
+    record { area = replicate 12 0xEE; call = write (1 ∷ 2 ∷ 3 ∷ []) }
+    ∷ record { area = area; call = lose 0 }
+    ∷ record { area = area; call = lose 1 }
+    ∷ record { area = spoiled; call = read (1 ∷ []) (replicate 4 0x55) }
+    ∷ record { area = spoiled; call = repair (0 ∷ 1 ∷ []) (2 ∷ 3 ∷ []) }
+    ∷ record { area = area; call = read (1 ∷ []) (replicate 4 0x55) }
+    ∷ []
+
+-- answer, marks, area and output of a call; the seven words before the marks are these after each
+abbrev after : ℕ → ℕ → List ℕ → List ℕ → Lent
+after w marks area output = record { answer = w; words = 4 ∷ 1 ∷ 1 ∷ 2 ∷ 1 ∷ 1 ∷ 3 ∷ marks ∷ []; area = area; output = output }
 
 pub record ArchiveFigures : Type 0 where
   -- n = 7, k = 2, d = 4, r = 3, C = 5, over any eight words
@@ -18,3 +44,12 @@ pub record ArchiveFigures : Type 0 where
       ≡ record { answer = 0; words = 7 ∷ 2 ∷ 4 ∷ 3 ∷ 5 ∷ 1 ∷ 6 ∷ 17 ∷ []; area = []; output = [] }
   pub not-lost : zbkLose (7 ∷ 2 ∷ 4 ∷ 3 ∷ 5 ∷ 1 ∷ 6 ∷ 25 ∷ []) 7
       ≡ record { answer = 5; words = 7 ∷ 2 ∷ 4 ∷ 3 ∷ 5 ∷ 1 ∷ 6 ∷ 25 ∷ []; area = []; output = [] }
+  -- boards 0 to 3, then 1 to 3, then 2 and 3, are in service; DOWN; 6 bytes moved, which is 6 × 256; the file, and a byte past its end
+  pub listed : lents (4 ∷ 1 ∷ 1 ∷ 2 ∷ 1 ∷ 0 ∷ 0 ∷ 0 ∷ []) steps
+      ≡ after 0 15 area []
+      ∷ after 0 14 area []
+      ∷ after 0 12 area []
+      ∷ after 9 12 spoiled (replicate 4 0x55)
+      ∷ after 1536 15 area []
+      ∷ after 0 15 area (1 ∷ 2 ∷ 3 ∷ 0x55 ∷ [])
+      ∷ []

@@ -35,11 +35,11 @@ size-on c = sym (c .before .before .check-sizes .ensures) ∙ c .enum-told .give
 is-legal : (c : tie.After-enum-told) → legal (c .before .before .before .before .before .before .args .sizes) ≡ true
 is-legal c = not-no _ (passed (sizeLine (c .before .before .before .before .before .before .args .sizes)) (size-on c))
 
-long-on : (c : tie.After-enum-told2) → asked (longLine (c .before .before .before .before .before .before .before .before .before .args .sizes) (c .before .before .before .before .before .before .before .before .before .args .length)) ≡ Pass
+long-on : (c : tie.After-enum-told2) → asked (longLine (c .before .before .before .before .before .before .before .before .before .args .sizes) (c .before .before .before .before .before .before .before .before .before .args .len)) ≡ Pass
 long-on c = sym (c .before .before .check-length .ensures) ∙ c .enum-told2 .given .1
 
-not-long : (c : tie.After-enum-told2) → c .before .before .before .before .before .before .before .before .before .args .length ≤ 4096 * B (c .before .before .before .before .before .before .before .before .before .args .sizes)
-not-long c = ltb-false _ _ (passed (longLine (c .before .before .before .before .before .before .before .before .before .args .sizes) (c .before .before .before .before .before .before .before .before .before .args .length)) (long-on c))
+not-long : (c : tie.After-enum-told2) → c .before .before .before .before .before .before .before .before .before .args .len ≤ 4096 * B (c .before .before .before .before .before .before .before .before .before .args .sizes)
+not-long c = ltb-false _ _ (passed (longLine (c .before .before .before .before .before .before .before .before .before .args .sizes) (c .before .before .before .before .before .before .before .before .before .args .len)) (long-on c))
 
 count-on : (c : tie.After-enum-told3) → asked (countLine (eqb (length (c .before .before .before .before .before .before .before .before .before .before .before .before .args .boards .now)) (c .before .before .before .before .before .before .before .before .before .before .before .before .args .sizes .k) ∷ [])) ≡ Pass
 count-on c = sym (c .before .before .check-count .ensures) ∙ c .enum-told3 .given .1
@@ -51,20 +51,20 @@ repeat-on : (c : tie.After-enum-told5) → asked (repeatLine (c .before .before 
 repeat-on c = sym (c .before .before .check-repeat .ensures) ∙ c .enum-told5 .given .1
 
 -- how long a share must be
-long-is : (c : tie.After-share-len) → c .before .stripe-count .result * c .share-len .result ≡ (stripes (c .before .before .before .before .before .before .before .before .before .before .before .before .before .before .before .before .before .before .before .before .args .sizes) (c .before .before .before .before .before .before .before .before .before .before .before .before .before .before .before .before .before .before .before .before .args .length) * α (c .before .before .before .before .before .before .before .before .before .before .before .before .before .before .before .before .before .before .before .before .args .sizes))
+long-is : (c : tie.After-share-len) → c .before .stripe-count .result * c .share-len .result ≡ (stripes (c .before .before .before .before .before .before .before .before .before .before .before .before .before .before .before .before .before .before .before .before .args .sizes) (c .before .before .before .before .before .before .before .before .before .before .before .before .before .before .before .before .before .before .before .before .args .len) * α (c .before .before .before .before .before .before .before .before .before .before .before .before .before .before .before .before .before .before .before .before .args .sizes))
 long-is c = as-many _ _ _ (α (c .before .before .before .before .before .before .before .before .before .before .before .before .before .before .before .before .before .before .before .before .args .sizes)) (legal (c .before .before .before .before .before .before .before .before .before .before .before .before .before .before .before .before .before .before .before .before .args .sizes)) (c .before .stripe-count .ensures .0) (c .share-len .ensures) (is-legal (c .before .before .before .before .before .before .before .before .before .before .before .before .before .before))
 
 not-many : (c : tie.After-share-len) → c .before .stripe-count .result * c .share-len .result ≤ 253952
 not-many c = let ok = is-legal (c .before .before .before .before .before .before .before .before .before .before .before .before .before .before) in few-bytes _ _ (α (c .before .before .before .before .before .before .before .before .before .before .before .before .before .before .before .before .before .before .before .before .args .sizes)) (legal (c .before .before .before .before .before .before .before .before .before .before .before .before .before .before .before .before .before .before .before .before .args .sizes)) (c .before .stripe-count .ensures .1) (c .share-len .ensures) ok (α-most _ (legal-facts _ ok))
 
-lent-on : (c : tie.After-enum-told6) → asked (areaLine (eqb (length (c .before .before .before .before .before .before .before .before .before .before .before .before .before .before .before .before .before .before .before .before .before .before .before .before .args .held .now)) (c .before .before .before .before .before .before .before .before .before .before .before .before .before .before .before .before .before .before .before .before .before .before .before .before .args .sizes .k * (stripes (c .before .before .before .before .before .before .before .before .before .before .before .before .before .before .before .before .before .before .before .before .before .before .before .before .args .sizes) (c .before .before .before .before .before .before .before .before .before .before .before .before .before .before .before .before .before .before .before .before .before .before .before .before .args .length) * α (c .before .before .before .before .before .before .before .before .before .before .before .before .before .before .before .before .before .before .before .before .before .before .before .before .args .sizes))) ∷ [])) ≡ Pass
+lent-on : (c : tie.After-enum-told6) → asked (areaLine (eqb (length (c .before .before .before .before .before .before .before .before .before .before .before .before .before .before .before .before .before .before .before .before .before .before .before .before .args .held .now)) (c .before .before .before .before .before .before .before .before .before .before .before .before .before .before .before .before .before .before .before .before .before .before .before .before .args .sizes .k * (stripes (c .before .before .before .before .before .before .before .before .before .before .before .before .before .before .before .before .before .before .before .before .before .before .before .before .args .sizes) (c .before .before .before .before .before .before .before .before .before .before .before .before .before .before .before .before .before .before .before .before .before .before .before .before .args .len) * α (c .before .before .before .before .before .before .before .before .before .before .before .before .before .before .before .before .before .before .before .before .before .before .before .before .args .sizes))) ∷ [])) ≡ Pass
 lent-on c = ap (λ m. asked (areaLine (eqb (length (c .before .before .before .before .before .before .before .before .before .before .before .before .before .before .before .before .before .before .before .before .before .before .before .before .args .held .now)) (c .before .before .before .before .before .before .before .before .before .before .before .before .before .before .before .before .before .before .before .before .before .before .before .before .args .sizes .k * m) ∷ []))) (sym (long-is (c .before .before .before .before))) ∙ sym (c .before .before .check-lent .ensures) ∙ c .enum-told6 .given .1
 
-room-on : (c : tie.After-enum-told7) → asked (shortLine (c .before .before .before .before .before .before .before .before .before .before .before .before .before .before .before .before .before .before .before .before .before .before .before .before .before .before .before .before .args .out .now) (c .before .before .before .before .before .before .before .before .before .before .before .before .before .before .before .before .before .before .before .before .before .before .before .before .before .before .before .before .args .length)) ≡ Pass
+room-on : (c : tie.After-enum-told7) → asked (shortLine (c .before .before .before .before .before .before .before .before .before .before .before .before .before .before .before .before .before .before .before .before .before .before .before .before .before .before .before .before .args .out .now) (c .before .before .before .before .before .before .before .before .before .before .before .before .before .before .before .before .before .before .before .before .before .before .before .before .before .before .before .before .args .len)) ≡ Pass
 room-on c = sym (c .before .before .check-room .ensures) ∙ c .enum-told7 .given .1
 
-agree-on : (c : tie.After-enum-told8) → asked (Disagree when not (given (readFile (c .before .before .before .before .before .before .before .before .before .before .before .before .before .before .before .before .before .before .before .before .before .before .before .before .before .before .before .before .before .before .before .before .before .before .before .before .before .args .sizes) standard (c .before .before .before .before .before .before .before .before .before .before .before .before .before .before .before .before .before .before .before .before .before .before .before .before .before .before .before .before .before .before .before .before .before .before .before .before .before .args .length) (c .before .before .before .before .before .before .before .before .before .before .before .before .before .before .before .before .before .before .before .before .before .before .before .before .before .before .before .before .before .before .before .before .before .before .before .before .before .args .boards .now) (c .before .before .before .before .before .before .before .before .before .before .before .before .before .before .before .before .before .before .before .before .before .before .before .before .before .before .before .before .before .before .before .before .before .before .before .before .before .args .held .now)))) ≡ Pass
-agree-on c = ap (λ (xs : List ℕ). asked (Disagree when not (given (readFile (c .before .before .before .before .before .before .before .before .before .before .before .before .before .before .before .before .before .before .before .before .before .before .before .before .before .before .before .before .before .before .before .before .before .before .before .before .before .args .sizes) xs (c .before .before .before .before .before .before .before .before .before .before .before .before .before .before .before .before .before .before .before .before .before .before .before .before .before .before .before .before .before .before .before .before .before .before .before .before .before .args .length) (c .before .before .before .before .before .before .before .before .before .before .before .before .before .before .before .before .before .before .before .before .before .before .before .before .before .before .before .before .before .before .before .before .before .before .before .before .before .args .boards .now) (c .before .before .before .before .before .before .before .before .before .before .before .before .before .before .before .before .before .before .before .before .before .before .before .before .before .before .before .before .before .before .before .before .before .before .before .before .before .args .held .now))))) (sym (c .before .before .before .before .before .before .before .before .standard-points .ensures)) ∙ sym (c .before .before .check-agrees .ensures) ∙ c .enum-told8 .given .1
+agree-on : (c : tie.After-enum-told8) → asked (Disagree when not (given (readFile (c .before .before .before .before .before .before .before .before .before .before .before .before .before .before .before .before .before .before .before .before .before .before .before .before .before .before .before .before .before .before .before .before .before .before .before .before .before .args .sizes) standard (c .before .before .before .before .before .before .before .before .before .before .before .before .before .before .before .before .before .before .before .before .before .before .before .before .before .before .before .before .before .before .before .before .before .before .before .before .before .args .len) (c .before .before .before .before .before .before .before .before .before .before .before .before .before .before .before .before .before .before .before .before .before .before .before .before .before .before .before .before .before .before .before .before .before .before .before .before .before .args .boards .now) (c .before .before .before .before .before .before .before .before .before .before .before .before .before .before .before .before .before .before .before .before .before .before .before .before .before .before .before .before .before .before .before .before .before .before .before .before .before .args .held .now)))) ≡ Pass
+agree-on c = ap (λ (xs : List ℕ). asked (Disagree when not (given (readFile (c .before .before .before .before .before .before .before .before .before .before .before .before .before .before .before .before .before .before .before .before .before .before .before .before .before .before .before .before .before .before .before .before .before .before .before .before .before .args .sizes) xs (c .before .before .before .before .before .before .before .before .before .before .before .before .before .before .before .before .before .before .before .before .before .before .before .before .before .before .before .before .before .before .before .before .before .before .before .before .before .args .len) (c .before .before .before .before .before .before .before .before .before .before .before .before .before .before .before .before .before .before .before .before .before .before .before .before .before .before .before .before .before .before .before .before .before .before .before .before .before .args .boards .now) (c .before .before .before .before .before .before .before .before .before .before .before .before .before .before .before .before .before .before .before .before .before .before .before .before .before .before .before .before .before .before .before .before .before .before .before .before .before .args .held .now))))) (sym (c .before .before .before .before .before .before .before .before .standard-points .ensures)) ∙ sym (c .before .before .check-agrees .ensures) ∙ c .enum-told8 .given .1
 
 known : (c : tie.After-enum-told4) → below (c .before .before .before .before .before .before .before .before .before .before .before .before .before .before .before .args .sizes .n) (c .before .before .before .before .before .before .before .before .before .before .before .before .before .before .before .args .boards .now) ≡ true
 known c = not-no _ (passed (nodeLine (c .before .before .before .before .before .before .before .before .before .before .before .before .before .before .before .args .sizes) (c .before .before .before .before .before .before .before .before .before .before .before .before .before .before .before .args .boards .now)) (nodes-on c))
@@ -72,8 +72,8 @@ known c = not-no _ (passed (nodeLine (c .before .before .before .before .before 
 enough : (c : tie.After-enum-told3) → length (c .before .before .before .before .before .before .before .before .before .before .before .before .args .boards .now) ≡ c .before .before .before .before .before .before .before .before .before .before .before .before .args .sizes .k
 enough c = eqb-true _ _ (alls-hold (eqb (length (c .before .before .before .before .before .before .before .before .before .before .before .before .args .boards .now)) (c .before .before .before .before .before .before .before .before .before .before .before .before .args .sizes .k) ∷ []) (not-no _ (passed (countLine (eqb (length (c .before .before .before .before .before .before .before .before .before .before .before .before .args .boards .now)) (c .before .before .before .before .before .before .before .before .before .before .before .before .args .sizes .k) ∷ [])) (count-on c))) .0)
 
-lent-is : (c : tie.After-enum-told6) → length (c .before .before .before .before .before .before .before .before .before .before .before .before .before .before .before .before .before .before .before .before .before .before .before .before .args .held .now) ≡ c .before .before .before .before .before .before .before .before .before .before .before .before .before .before .before .before .before .before .before .before .before .before .before .before .args .sizes .k * (stripes (c .before .before .before .before .before .before .before .before .before .before .before .before .before .before .before .before .before .before .before .before .before .before .before .before .args .sizes) (c .before .before .before .before .before .before .before .before .before .before .before .before .before .before .before .before .before .before .before .before .before .before .before .before .args .length) * α (c .before .before .before .before .before .before .before .before .before .before .before .before .before .before .before .before .before .before .before .before .before .before .before .before .args .sizes))
-lent-is c = eqb-true _ _ (alls-hold (eqb (length (c .before .before .before .before .before .before .before .before .before .before .before .before .before .before .before .before .before .before .before .before .before .before .before .before .args .held .now)) (c .before .before .before .before .before .before .before .before .before .before .before .before .before .before .before .before .before .before .before .before .before .before .before .before .args .sizes .k * (stripes (c .before .before .before .before .before .before .before .before .before .before .before .before .before .before .before .before .before .before .before .before .before .before .before .before .args .sizes) (c .before .before .before .before .before .before .before .before .before .before .before .before .before .before .before .before .before .before .before .before .before .before .before .before .args .length) * α (c .before .before .before .before .before .before .before .before .before .before .before .before .before .before .before .before .before .before .before .before .before .before .before .before .args .sizes))) ∷ []) (not-no _ (passed (areaLine (eqb (length (c .before .before .before .before .before .before .before .before .before .before .before .before .before .before .before .before .before .before .before .before .before .before .before .before .args .held .now)) (c .before .before .before .before .before .before .before .before .before .before .before .before .before .before .before .before .before .before .before .before .before .before .before .before .args .sizes .k * (stripes (c .before .before .before .before .before .before .before .before .before .before .before .before .before .before .before .before .before .before .before .before .before .before .before .before .args .sizes) (c .before .before .before .before .before .before .before .before .before .before .before .before .before .before .before .before .before .before .before .before .before .before .before .before .args .length) * α (c .before .before .before .before .before .before .before .before .before .before .before .before .before .before .before .before .before .before .before .before .before .before .before .before .args .sizes))) ∷ [])) (lent-on c))) .0)
+lent-is : (c : tie.After-enum-told6) → length (c .before .before .before .before .before .before .before .before .before .before .before .before .before .before .before .before .before .before .before .before .before .before .before .before .args .held .now) ≡ c .before .before .before .before .before .before .before .before .before .before .before .before .before .before .before .before .before .before .before .before .before .before .before .before .args .sizes .k * (stripes (c .before .before .before .before .before .before .before .before .before .before .before .before .before .before .before .before .before .before .before .before .before .before .before .before .args .sizes) (c .before .before .before .before .before .before .before .before .before .before .before .before .before .before .before .before .before .before .before .before .before .before .before .before .args .len) * α (c .before .before .before .before .before .before .before .before .before .before .before .before .before .before .before .before .before .before .before .before .before .before .before .before .args .sizes))
+lent-is c = eqb-true _ _ (alls-hold (eqb (length (c .before .before .before .before .before .before .before .before .before .before .before .before .before .before .before .before .before .before .before .before .before .before .before .before .args .held .now)) (c .before .before .before .before .before .before .before .before .before .before .before .before .before .before .before .before .before .before .before .before .before .before .before .before .args .sizes .k * (stripes (c .before .before .before .before .before .before .before .before .before .before .before .before .before .before .before .before .before .before .before .before .before .before .before .before .args .sizes) (c .before .before .before .before .before .before .before .before .before .before .before .before .before .before .before .before .before .before .before .before .before .before .before .before .args .len) * α (c .before .before .before .before .before .before .before .before .before .before .before .before .before .before .before .before .before .before .before .before .before .before .before .before .args .sizes))) ∷ []) (not-no _ (passed (areaLine (eqb (length (c .before .before .before .before .before .before .before .before .before .before .before .before .before .before .before .before .before .before .before .before .before .before .before .before .args .held .now)) (c .before .before .before .before .before .before .before .before .before .before .before .before .before .before .before .before .before .before .before .before .before .before .before .before .args .sizes .k * (stripes (c .before .before .before .before .before .before .before .before .before .before .before .before .before .before .before .before .before .before .before .before .before .before .before .before .args .sizes) (c .before .before .before .before .before .before .before .before .before .before .before .before .before .before .before .before .before .before .before .before .before .before .before .before .args .len) * α (c .before .before .before .before .before .before .before .before .before .before .before .before .before .before .before .before .before .before .before .before .before .before .before .before .args .sizes))) ∷ [])) (lent-on c))) .0)
 
 check-sizes-requires : tie.Need-check-sizes-requires
 check-sizes-requires c κs = search needs
@@ -82,7 +82,7 @@ enum-known-x : tie.Need-enum-known-x
 enum-known-x c = search needs
 
 returns : tie.Need-returns
-returns c = let a = c .before .before .before .before .before .before .before .args in refuses (a .sizes) (a .length) (a .boards .now) (a .held .now) (a .out .now) 0 _ (sym (c .before .before .before .check-sizes .ensures) ∙ c .before .x .given .1)
+returns c = let a = c .before .before .before .before .before .before .before .args in refuses (a .sizes) (a .len) (a .boards .now) (a .held .now) (a .out .now) 0 _ (sym (c .before .before .before .check-sizes .ensures) ∙ c .before .x .given .1)
 
 enum-told : tie.Need-enum-told
 enum-told c = search needs
@@ -94,7 +94,7 @@ enum-known-x-2 : tie.Need-enum-known-x-2
 enum-known-x-2 c = search needs
 
 returns-2 : tie.Need-returns-2
-returns-2 c = let a = c .before .before .before .before .before .before .before .before .before .before .args in refuses (a .sizes) (a .length) (a .boards .now) (a .held .now) (a .out .now) 1 _ ((size-on (c .before .before .before .before), (sym (c .before .before .before .check-length .ensures) ∙ c .before .x2 .given .1)))
+returns-2 c = let a = c .before .before .before .before .before .before .before .before .before .before .args in refuses (a .sizes) (a .len) (a .boards .now) (a .held .now) (a .out .now) 1 _ ((size-on (c .before .before .before .before), (sym (c .before .before .before .check-length .ensures) ∙ c .before .x2 .given .1)))
 
 enum-told-2 : tie.Need-enum-told-2
 enum-told-2 c = search needs
@@ -106,7 +106,7 @@ enum-known-x-3 : tie.Need-enum-known-x-3
 enum-known-x-3 c = search needs
 
 returns-3 : tie.Need-returns-3
-returns-3 c = let a = c .before .before .before .before .before .before .before .before .before .before .before .before .before .args in refuses (a .sizes) (a .length) (a .boards .now) (a .held .now) (a .out .now) 2 _ ((size-on (c .before .before .before .before .before .before .before), (long-on (c .before .before .before .before), (sym (c .before .before .before .check-count .ensures) ∙ c .before .x3 .given .1))))
+returns-3 c = let a = c .before .before .before .before .before .before .before .before .before .before .before .before .before .args in refuses (a .sizes) (a .len) (a .boards .now) (a .held .now) (a .out .now) 2 _ ((size-on (c .before .before .before .before .before .before .before), (long-on (c .before .before .before .before), (sym (c .before .before .before .check-count .ensures) ∙ c .before .x3 .given .1))))
 
 enum-told-3 : tie.Need-enum-told-3
 enum-told-3 c = search needs
@@ -118,7 +118,7 @@ enum-known-x-4 : tie.Need-enum-known-x-4
 enum-known-x-4 c = search needs
 
 returns-4 : tie.Need-returns-4
-returns-4 c = let a = c .before .before .before .before .before .before .before .before .before .before .before .before .before .before .before .before .args in refuses (a .sizes) (a .length) (a .boards .now) (a .held .now) (a .out .now) 3 _ ((size-on (c .before .before .before .before .before .before .before .before .before .before), (long-on (c .before .before .before .before .before .before .before), (count-on (c .before .before .before .before), (sym (c .before .before .before .check-nodes .ensures) ∙ c .before .x4 .given .1)))))
+returns-4 c = let a = c .before .before .before .before .before .before .before .before .before .before .before .before .before .before .before .before .args in refuses (a .sizes) (a .len) (a .boards .now) (a .held .now) (a .out .now) 3 _ ((size-on (c .before .before .before .before .before .before .before .before .before .before), (long-on (c .before .before .before .before .before .before .before), (count-on (c .before .before .before .before), (sym (c .before .before .before .check-nodes .ensures) ∙ c .before .x4 .given .1)))))
 
 enum-told-4 : tie.Need-enum-told-4
 enum-told-4 c = search needs
@@ -130,7 +130,7 @@ enum-known-x-5 : tie.Need-enum-known-x-5
 enum-known-x-5 c = search needs
 
 returns-5 : tie.Need-returns-5
-returns-5 c = let a = c .before .before .before .before .before .before .before .before .before .before .before .before .before .before .before .before .before .before .before .args in refuses (a .sizes) (a .length) (a .boards .now) (a .held .now) (a .out .now) 4 _ ((size-on (c .before .before .before .before .before .before .before .before .before .before .before .before .before), (long-on (c .before .before .before .before .before .before .before .before .before .before), (count-on (c .before .before .before .before .before .before .before), (nodes-on (c .before .before .before .before), (sym (c .before .before .before .check-repeat .ensures) ∙ c .before .x5 .given .1))))))
+returns-5 c = let a = c .before .before .before .before .before .before .before .before .before .before .before .before .before .before .before .before .before .before .before .args in refuses (a .sizes) (a .len) (a .boards .now) (a .held .now) (a .out .now) 4 _ ((size-on (c .before .before .before .before .before .before .before .before .before .before .before .before .before), (long-on (c .before .before .before .before .before .before .before .before .before .before), (count-on (c .before .before .before .before .before .before .before), (nodes-on (c .before .before .before .before), (sym (c .before .before .before .check-repeat .ensures) ∙ c .before .x5 .given .1))))))
 
 enum-told-5 : tie.Need-enum-told-5
 enum-told-5 c = search needs
@@ -159,7 +159,7 @@ enum-known-x-6 : tie.Need-enum-known-x-6
 enum-known-x-6 c = search needs
 
 returns-6 : tie.Need-returns-6
-returns-6 c = let a = c .before .before .before .before .before .before .before .before .before .before .before .before .before .before .before .before .before .before .before .before .before .before .before .before .before .args in refuses (a .sizes) (a .length) (a .boards .now) (a .held .now) (a .out .now) 5 _ ((size-on (c .before .before .before .before .before .before .before .before .before .before .before .before .before .before .before .before .before .before .before), (long-on (c .before .before .before .before .before .before .before .before .before .before .before .before .before .before .before .before), (count-on (c .before .before .before .before .before .before .before .before .before .before .before .before .before), (nodes-on (c .before .before .before .before .before .before .before .before .before .before), (repeat-on (c .before .before .before .before .before .before .before), (ap (λ m. asked (areaLine (eqb (length (a .held .now)) (a .sizes .k * m) ∷ []))) (sym (long-is (c .before .before .before .before .before))) ∙ sym (c .before .before .before .check-lent .ensures) ∙ c .before .x6 .given .1)))))))
+returns-6 c = let a = c .before .before .before .before .before .before .before .before .before .before .before .before .before .before .before .before .before .before .before .before .before .before .before .before .before .args in refuses (a .sizes) (a .len) (a .boards .now) (a .held .now) (a .out .now) 5 _ ((size-on (c .before .before .before .before .before .before .before .before .before .before .before .before .before .before .before .before .before .before .before), (long-on (c .before .before .before .before .before .before .before .before .before .before .before .before .before .before .before .before), (count-on (c .before .before .before .before .before .before .before .before .before .before .before .before .before), (nodes-on (c .before .before .before .before .before .before .before .before .before .before), (repeat-on (c .before .before .before .before .before .before .before), (ap (λ m. asked (areaLine (eqb (length (a .held .now)) (a .sizes .k * m) ∷ []))) (sym (long-is (c .before .before .before .before .before))) ∙ sym (c .before .before .before .check-lent .ensures) ∙ c .before .x6 .given .1)))))))
 
 enum-told-6 : tie.Need-enum-told-6
 enum-told-6 c = search needs
@@ -174,7 +174,7 @@ same-length : tie.Need-same-length
 same-length c = search needs
 
 returns-7 : tie.Need-returns-7
-returns-7 c = let a = c .before .before .before .before .before .before .before .before .before .before .before .before .before .before .before .before .before .before .before .before .before .before .before .before .before .before .before .before .before .args in refuses (a .sizes) (a .length) (a .boards .now) (a .held .now) (a .out .now) 6 _ ((size-on (c .before .before .before .before .before .before .before .before .before .before .before .before .before .before .before .before .before .before .before .before .before .before .before), (long-on (c .before .before .before .before .before .before .before .before .before .before .before .before .before .before .before .before .before .before .before .before), (count-on (c .before .before .before .before .before .before .before .before .before .before .before .before .before .before .before .before .before), (nodes-on (c .before .before .before .before .before .before .before .before .before .before .before .before .before .before), (repeat-on (c .before .before .before .before .before .before .before .before .before .before .before), (lent-on (c .before .before .before .before .before), (sym (c .before .before .before .check-room .ensures) ∙ c .before .x7 .given .1))))))))
+returns-7 c = let a = c .before .before .before .before .before .before .before .before .before .before .before .before .before .before .before .before .before .before .before .before .before .before .before .before .before .before .before .before .before .args in refuses (a .sizes) (a .len) (a .boards .now) (a .held .now) (a .out .now) 6 _ ((size-on (c .before .before .before .before .before .before .before .before .before .before .before .before .before .before .before .before .before .before .before .before .before .before .before), (long-on (c .before .before .before .before .before .before .before .before .before .before .before .before .before .before .before .before .before .before .before .before), (count-on (c .before .before .before .before .before .before .before .before .before .before .before .before .before .before .before .before .before), (nodes-on (c .before .before .before .before .before .before .before .before .before .before .before .before .before .before), (repeat-on (c .before .before .before .before .before .before .before .before .before .before .before), (lent-on (c .before .before .before .before .before), (sym (c .before .before .before .check-room .ensures) ∙ c .before .x7 .given .1))))))))
 
 enum-told-7 : tie.Need-enum-told-7
 enum-told-7 c = search needs
@@ -216,7 +216,7 @@ same-length-2 : tie.Need-same-length-2
 same-length-2 c = search needs
 
 returns-8 : tie.Need-returns-8
-returns-8 c = let a = c .before .before .before .before .before .before .before .before .before .before .before .before .before .before .before .before .before .before .before .before .before .before .before .before .before .before .before .before .before .before .before .before .before .before .before .before .before .before .args in refuses (a .sizes) (a .length) (a .boards .now) (a .held .now) (a .out .now) 7 _ ((size-on (c .before .before .before .before .before .before .before .before .before .before .before .before .before .before .before .before .before .before .before .before .before .before .before .before .before .before .before .before .before .before .before .before), (long-on (c .before .before .before .before .before .before .before .before .before .before .before .before .before .before .before .before .before .before .before .before .before .before .before .before .before .before .before .before .before), (count-on (c .before .before .before .before .before .before .before .before .before .before .before .before .before .before .before .before .before .before .before .before .before .before .before .before .before .before), (nodes-on (c .before .before .before .before .before .before .before .before .before .before .before .before .before .before .before .before .before .before .before .before .before .before .before), (repeat-on (c .before .before .before .before .before .before .before .before .before .before .before .before .before .before .before .before .before .before .before .before), (lent-on (c .before .before .before .before .before .before .before .before .before .before .before .before .before .before), (room-on (c .before .before .before .before .before .before .before .before .before .before), (ap (λ (xs : List ℕ). asked (Disagree when not (given (readFile (a .sizes) xs (a .length) (a .boards .now) (a .held .now))))) (sym (c .before .before .before .before .before .before .before .before .before .standard-points .ensures)) ∙ sym (c .before .before .before .check-agrees .ensures) ∙ c .before .x8 .given .1)))))))))
+returns-8 c = let a = c .before .before .before .before .before .before .before .before .before .before .before .before .before .before .before .before .before .before .before .before .before .before .before .before .before .before .before .before .before .before .before .before .before .before .before .before .before .before .args in refuses (a .sizes) (a .len) (a .boards .now) (a .held .now) (a .out .now) 7 _ ((size-on (c .before .before .before .before .before .before .before .before .before .before .before .before .before .before .before .before .before .before .before .before .before .before .before .before .before .before .before .before .before .before .before .before), (long-on (c .before .before .before .before .before .before .before .before .before .before .before .before .before .before .before .before .before .before .before .before .before .before .before .before .before .before .before .before .before), (count-on (c .before .before .before .before .before .before .before .before .before .before .before .before .before .before .before .before .before .before .before .before .before .before .before .before .before .before), (nodes-on (c .before .before .before .before .before .before .before .before .before .before .before .before .before .before .before .before .before .before .before .before .before .before .before), (repeat-on (c .before .before .before .before .before .before .before .before .before .before .before .before .before .before .before .before .before .before .before .before), (lent-on (c .before .before .before .before .before .before .before .before .before .before .before .before .before .before), (room-on (c .before .before .before .before .before .before .before .before .before .before), (ap (λ (xs : List ℕ). asked (Disagree when not (given (readFile (a .sizes) xs (a .len) (a .boards .now) (a .held .now))))) (sym (c .before .before .before .before .before .before .before .before .before .standard-points .ensures)) ∙ sym (c .before .before .before .check-agrees .ensures) ∙ c .before .x8 .given .1)))))))))
 
 enum-told-8 : tie.Need-enum-told-8
 enum-told-8 c = search needs
@@ -259,7 +259,7 @@ file-requires c κs =
       c .before .before .before .before .before .before .before .before .before .before .before .before .before .before .before .before .before .before .before .before .before .before .before .before .before .stripe-count .ensures .1,
       many,
       rw many (lent-is (c .before .before .before .before .before .before .before .before .before .before .before .before .before .before .before .before .before .before .before .before)),
-      ltb-false _ _ (passed (shortLine (a .out .now) (a .length)) (room-on (c .before .before .before .before .before .before .before .before .before .before .before .before .before .before .before .before))),
+      ltb-false _ _ (passed (shortLine (a .out .now) (a .len)) (room-on (c .before .before .before .before .before .before .before .before .before .before .before .before .before .before .before .before))),
     )
 
 same-length-4 : tie.Need-same-length-4
@@ -268,7 +268,7 @@ same-length-4 c = search needs
 returns-10 : tie.Need-returns-10
 returns-10 c =
     let a = c .before .before .before .before .before .before .before .before .before .before .before .before .before .before .before .before .before .before .before .before .before .before .before .before .before .before .before .before .before .before .before .before .before .before .before .before .before .before .before .before .before .before .before .before .before .before .before .args in
-    works (a .sizes) (a .length) (a .boards .now) (a .held .now) (a .out .now) _ _ (c .before .before .before .before .before .before .before .before .before .before .before .before .before .before .before .before .before .before .standard-points .ensures) (is-legal (c .before .before .before .before .before .before .before .before .before .before .before .before .before .before .before .before .before .before .before .before .before .before .before .before .before .before .before .before .before .before .before .before .before .before .before .before .before .before .before .before .before)) (size-on (c .before .before .before .before .before .before .before .before .before .before .before .before .before .before .before .before .before .before .before .before .before .before .before .before .before .before .before .before .before .before .before .before .before .before .before .before .before .before .before .before .before), (long-on (c .before .before .before .before .before .before .before .before .before .before .before .before .before .before .before .before .before .before .before .before .before .before .before .before .before .before .before .before .before .before .before .before .before .before .before .before .before .before), (count-on (c .before .before .before .before .before .before .before .before .before .before .before .before .before .before .before .before .before .before .before .before .before .before .before .before .before .before .before .before .before .before .before .before .before .before .before), (nodes-on (c .before .before .before .before .before .before .before .before .before .before .before .before .before .before .before .before .before .before .before .before .before .before .before .before .before .before .before .before .before .before .before .before), (repeat-on (c .before .before .before .before .before .before .before .before .before .before .before .before .before .before .before .before .before .before .before .before .before .before .before .before .before .before .before .before .before), (lent-on (c .before .before .before .before .before .before .before .before .before .before .before .before .before .before .before .before .before .before .before .before .before .before .before), (room-on (c .before .before .before .before .before .before .before .before .before .before .before .before .before .before .before .before .before .before .before), (agree-on (c .before .before .before .before .before .before .before .before .before .before), tt)))))))) (c .before .before .file .ensures)
+    works (a .sizes) (a .len) (a .boards .now) (a .held .now) (a .out .now) _ _ (c .before .before .before .before .before .before .before .before .before .before .before .before .before .before .before .before .before .before .standard-points .ensures) (is-legal (c .before .before .before .before .before .before .before .before .before .before .before .before .before .before .before .before .before .before .before .before .before .before .before .before .before .before .before .before .before .before .before .before .before .before .before .before .before .before .before .before .before)) (size-on (c .before .before .before .before .before .before .before .before .before .before .before .before .before .before .before .before .before .before .before .before .before .before .before .before .before .before .before .before .before .before .before .before .before .before .before .before .before .before .before .before .before), (long-on (c .before .before .before .before .before .before .before .before .before .before .before .before .before .before .before .before .before .before .before .before .before .before .before .before .before .before .before .before .before .before .before .before .before .before .before .before .before .before), (count-on (c .before .before .before .before .before .before .before .before .before .before .before .before .before .before .before .before .before .before .before .before .before .before .before .before .before .before .before .before .before .before .before .before .before .before .before), (nodes-on (c .before .before .before .before .before .before .before .before .before .before .before .before .before .before .before .before .before .before .before .before .before .before .before .before .before .before .before .before .before .before .before .before), (repeat-on (c .before .before .before .before .before .before .before .before .before .before .before .before .before .before .before .before .before .before .before .before .before .before .before .before .before .before .before .before .before), (lent-on (c .before .before .before .before .before .before .before .before .before .before .before .before .before .before .before .before .before .before .before .before .before .before .before), (room-on (c .before .before .before .before .before .before .before .before .before .before .before .before .before .before .before .before .before .before .before), (agree-on (c .before .before .before .before .before .before .before .before .before .before), tt)))))))) (c .before .before .file .ensures)
 
 pub file-spec : {M : Type 1} → statement M
 file-spec = tie.close (tie.spec check-sizes-requires enum-known-x returns enum-told check-length-requires enum-known-x-2 returns-2 enum-told-2 check-count-requires enum-known-x-3 returns-3 enum-told-3 check-nodes-requires enum-known-x-4 returns-4 enum-told-4 check-repeat-requires enum-known-x-5 returns-5 enum-told-5 stripe-count-requires share-len-requires mul-share-len mul-check-lent check-lent-requires enum-known-x-6 returns-6 enum-told-6 check-room-requires enum-known-x-7 same-length returns-7 enum-told-7 standard-points-requires slice-aggregate-fill-inverses fill-inverses-requires slice-aggregate-check-agrees slice-aggregate-check-agrees-2 check-agrees-requires enum-known-x-8 same-length-2 returns-8 enum-told-8 slice-aggregate-check-points check-points-requires enum-known-x-9 same-length-3 returns-9 enum-told-9 slice-aggregate-file slice-aggregate-file-2 file-requires same-length-4 returns-10)

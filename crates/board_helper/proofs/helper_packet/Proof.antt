@@ -31,11 +31,11 @@ size-on c = sym (c .before .before .check-sizes .ensures) ∙ c .enum-told .give
 is-legal : (c : tie.After-enum-told) → legal (c .before .before .before .before .before .args .sizes) ≡ true
 is-legal c = not-no _ (passed (sizeLine (c .before .before .before .before .before .args .sizes)) (size-on c))
 
-long-on : (c : tie.After-enum-told2) → asked (longLine (c .before .before .before .before .before .before .before .before .args .sizes) (c .before .before .before .before .before .before .before .before .args .length)) ≡ Pass
+long-on : (c : tie.After-enum-told2) → asked (longLine (c .before .before .before .before .before .before .before .before .args .sizes) (c .before .before .before .before .before .before .before .before .args .len)) ≡ Pass
 long-on c = sym (c .before .before .check-length .ensures) ∙ c .enum-told2 .given .1
 
-not-long : (c : tie.After-enum-told2) → c .before .before .before .before .before .before .before .before .args .length ≤ 4096 * B (c .before .before .before .before .before .before .before .before .args .sizes)
-not-long c = ltb-false _ _ (passed (longLine (c .before .before .before .before .before .before .before .before .args .sizes) (c .before .before .before .before .before .before .before .before .args .length)) (long-on c))
+not-long : (c : tie.After-enum-told2) → c .before .before .before .before .before .before .before .before .args .len ≤ 4096 * B (c .before .before .before .before .before .before .before .before .args .sizes)
+not-long c = ltb-false _ _ (passed (longLine (c .before .before .before .before .before .before .before .before .args .sizes) (c .before .before .before .before .before .before .before .before .args .len)) (long-on c))
 
 nodes-on : (c : tie.After-enum-told3) → asked (nodeLine (c .before .before .before .before .before .before .before .before .before .before .before .before .args .sizes) (c .before .before .before .before .before .before .before .before .before .before .before .before .args .helper ∷ c .before .before .before .before .before .before .before .before .before .before .before .before .args .receiver ∷ [])) ≡ Pass
 nodes-on c = sym (c .before .before .check-nodes .ensures) ∙ c .enum-told3 .given .1
@@ -44,13 +44,13 @@ repeat-on : (c : tie.After-enum-told4) → asked (repeatLine (c .before .before 
 repeat-on c = sym (c .before .before .check-repeat .ensures) ∙ c .enum-told4 .given .1
 
 -- how long the share must be
-long-is : (c : tie.After-share-len) → c .before .stripe-count .result * c .share-len .result ≡ stripes (c .before .before .before .before .before .before .before .before .before .before .before .before .before .before .before .before .before .before .args .sizes) (c .before .before .before .before .before .before .before .before .before .before .before .before .before .before .before .before .before .before .args .length) * α (c .before .before .before .before .before .before .before .before .before .before .before .before .before .before .before .before .before .before .args .sizes)
+long-is : (c : tie.After-share-len) → c .before .stripe-count .result * c .share-len .result ≡ stripes (c .before .before .before .before .before .before .before .before .before .before .before .before .before .before .before .before .before .before .args .sizes) (c .before .before .before .before .before .before .before .before .before .before .before .before .before .before .before .before .before .before .args .len) * α (c .before .before .before .before .before .before .before .before .before .before .before .before .before .before .before .before .before .before .args .sizes)
 long-is c = as-many _ _ _ (α (c .before .before .before .before .before .before .before .before .before .before .before .before .before .before .before .before .before .before .args .sizes)) (legal (c .before .before .before .before .before .before .before .before .before .before .before .before .before .before .before .before .before .before .args .sizes)) (c .before .stripe-count .ensures .0) (c .share-len .ensures) (is-legal (c .before .before .before .before .before .before .before .before .before .before .before .before .before))
 
-lent-on : (c : tie.After-enum-told5) → asked (areaLine (eqb (length (c .before .before .before .before .before .before .before .before .before .before .before .before .before .before .before .before .before .before .before .before .before .args .held .now)) (stripes (c .before .before .before .before .before .before .before .before .before .before .before .before .before .before .before .before .before .before .before .before .before .args .sizes) (c .before .before .before .before .before .before .before .before .before .before .before .before .before .before .before .before .before .before .before .before .before .args .length) * α (c .before .before .before .before .before .before .before .before .before .before .before .before .before .before .before .before .before .before .before .before .before .args .sizes)) ∷ [])) ≡ Pass
+lent-on : (c : tie.After-enum-told5) → asked (areaLine (eqb (length (c .before .before .before .before .before .before .before .before .before .before .before .before .before .before .before .before .before .before .before .before .before .args .held .now)) (stripes (c .before .before .before .before .before .before .before .before .before .before .before .before .before .before .before .before .before .before .before .before .before .args .sizes) (c .before .before .before .before .before .before .before .before .before .before .before .before .before .before .before .before .before .before .before .before .before .args .len) * α (c .before .before .before .before .before .before .before .before .before .before .before .before .before .before .before .before .before .before .before .before .before .args .sizes)) ∷ [])) ≡ Pass
 lent-on c = ap (λ m. asked (areaLine (eqb (length (c .before .before .before .before .before .before .before .before .before .before .before .before .before .before .before .before .before .before .before .before .before .args .held .now)) m ∷ []))) (sym (long-is (c .before .before .before))) ∙ sym (c .before .before .check-lent .ensures) ∙ c .enum-told5 .given .1
 
-room-on : (c : tie.After-enum-told6) → asked (shortLine (c .before .before .before .before .before .before .before .before .before .before .before .before .before .before .before .before .before .before .before .before .before .before .before .before .before .args .out .now) (2 * stripes (c .before .before .before .before .before .before .before .before .before .before .before .before .before .before .before .before .before .before .before .before .before .before .before .before .before .args .sizes) (c .before .before .before .before .before .before .before .before .before .before .before .before .before .before .before .before .before .before .before .before .before .before .before .before .before .args .length))) ≡ Pass
+room-on : (c : tie.After-enum-told6) → asked (shortLine (c .before .before .before .before .before .before .before .before .before .before .before .before .before .before .before .before .before .before .before .before .before .before .before .before .before .args .out .now) (2 * stripes (c .before .before .before .before .before .before .before .before .before .before .before .before .before .before .before .before .before .before .before .before .before .before .before .before .before .args .sizes) (c .before .before .before .before .before .before .before .before .before .before .before .before .before .before .before .before .before .before .before .before .before .before .before .before .before .args .len))) ≡ Pass
 room-on c = ap (λ m. asked (shortLine (c .before .before .before .before .before .before .before .before .before .before .before .before .before .before .before .before .before .before .before .before .before .before .before .before .before .args .out .now) (2 * m))) (sym (c .before .before .before .before .before .before .before .before .stripe-count .ensures .0)) ∙ sym (c .before .before .check-room .ensures) ∙ c .enum-told6 .given .1
 
 check-sizes-requires : tie.Need-check-sizes-requires
@@ -60,7 +60,7 @@ enum-known-x : tie.Need-enum-known-x
 enum-known-x c = search needs
 
 returns : tie.Need-returns
-returns c = let a = c .before .before .before .before .before .before .args in refuses (a .sizes) (a .length) (a .helper) (a .receiver) (a .held .now) (a .out .now) 0 _ (sym (c .before .before .before .check-sizes .ensures) ∙ c .before .x .given .1)
+returns c = let a = c .before .before .before .before .before .before .args in refuses (a .sizes) (a .len) (a .helper) (a .receiver) (a .held .now) (a .out .now) 0 _ (sym (c .before .before .before .check-sizes .ensures) ∙ c .before .x .given .1)
 
 enum-told : tie.Need-enum-told
 enum-told c = search needs
@@ -72,7 +72,7 @@ enum-known-x-2 : tie.Need-enum-known-x-2
 enum-known-x-2 c = search needs
 
 returns-2 : tie.Need-returns-2
-returns-2 c = let a = c .before .before .before .before .before .before .before .before .before .args in refuses (a .sizes) (a .length) (a .helper) (a .receiver) (a .held .now) (a .out .now) 1 _ ((size-on (c .before .before .before .before), (sym (c .before .before .before .check-length .ensures) ∙ c .before .x2 .given .1)))
+returns-2 c = let a = c .before .before .before .before .before .before .before .before .before .args in refuses (a .sizes) (a .len) (a .helper) (a .receiver) (a .held .now) (a .out .now) 1 _ ((size-on (c .before .before .before .before), (sym (c .before .before .before .check-length .ensures) ∙ c .before .x2 .given .1)))
 
 enum-told-2 : tie.Need-enum-told-2
 enum-told-2 c = search needs
@@ -87,7 +87,7 @@ enum-known-x-3 : tie.Need-enum-known-x-3
 enum-known-x-3 c = search needs
 
 returns-3 : tie.Need-returns-3
-returns-3 c = let a = c .before .before .before .before .before .before .before .before .before .before .before .before .before .args in refuses (a .sizes) (a .length) (a .helper) (a .receiver) (a .held .now) (a .out .now) 2 _ ((size-on (c .before .before .before .before .before .before .before .before), (long-on (c .before .before .before .before .before), (sym (c .before .before .before .check-nodes .ensures) ∙ c .before .x3 .given .1))))
+returns-3 c = let a = c .before .before .before .before .before .before .before .before .before .before .before .before .before .args in refuses (a .sizes) (a .len) (a .helper) (a .receiver) (a .held .now) (a .out .now) 2 _ ((size-on (c .before .before .before .before .before .before .before .before), (long-on (c .before .before .before .before .before), (sym (c .before .before .before .check-nodes .ensures) ∙ c .before .x3 .given .1))))
 
 enum-told-3 : tie.Need-enum-told-3
 enum-told-3 c = search needs
@@ -102,7 +102,7 @@ enum-known-x-4 : tie.Need-enum-known-x-4
 enum-known-x-4 c = search needs
 
 returns-4 : tie.Need-returns-4
-returns-4 c = let a = c .before .before .before .before .before .before .before .before .before .before .before .before .before .before .before .before .before .args in refuses (a .sizes) (a .length) (a .helper) (a .receiver) (a .held .now) (a .out .now) 3 _ ((size-on (c .before .before .before .before .before .before .before .before .before .before .before .before), (long-on (c .before .before .before .before .before .before .before .before .before), (nodes-on (c .before .before .before .before .before), (sym (c .before .before .before .check-repeat .ensures) ∙ c .before .x4 .given .1)))))
+returns-4 c = let a = c .before .before .before .before .before .before .before .before .before .before .before .before .before .before .before .before .before .args in refuses (a .sizes) (a .len) (a .helper) (a .receiver) (a .held .now) (a .out .now) 3 _ ((size-on (c .before .before .before .before .before .before .before .before .before .before .before .before), (long-on (c .before .before .before .before .before .before .before .before .before), (nodes-on (c .before .before .before .before .before), (sym (c .before .before .before .check-repeat .ensures) ∙ c .before .x4 .given .1)))))
 
 enum-told-4 : tie.Need-enum-told-4
 enum-told-4 c = search needs
@@ -123,7 +123,7 @@ enum-known-x-5 : tie.Need-enum-known-x-5
 enum-known-x-5 c = search needs
 
 returns-5 : tie.Need-returns-5
-returns-5 c = let a = c .before .before .before .before .before .before .before .before .before .before .before .before .before .before .before .before .before .before .before .before .before .before .args in refuses (a .sizes) (a .length) (a .helper) (a .receiver) (a .held .now) (a .out .now) 4 _ ((size-on (c .before .before .before .before .before .before .before .before .before .before .before .before .before .before .before .before .before), (long-on (c .before .before .before .before .before .before .before .before .before .before .before .before .before .before), (nodes-on (c .before .before .before .before .before .before .before .before .before .before), (repeat-on (c .before .before .before .before .before .before), (ap (λ m. asked (areaLine (eqb (length (a .held .now)) m ∷ []))) (sym (long-is (c .before .before .before .before))) ∙ sym (c .before .before .before .check-lent .ensures) ∙ c .before .x5 .given .1))))))
+returns-5 c = let a = c .before .before .before .before .before .before .before .before .before .before .before .before .before .before .before .before .before .before .before .before .before .before .args in refuses (a .sizes) (a .len) (a .helper) (a .receiver) (a .held .now) (a .out .now) 4 _ ((size-on (c .before .before .before .before .before .before .before .before .before .before .before .before .before .before .before .before .before), (long-on (c .before .before .before .before .before .before .before .before .before .before .before .before .before .before), (nodes-on (c .before .before .before .before .before .before .before .before .before .before), (repeat-on (c .before .before .before .before .before .before), (ap (λ m. asked (areaLine (eqb (length (a .held .now)) m ∷ []))) (sym (long-is (c .before .before .before .before))) ∙ sym (c .before .before .before .check-lent .ensures) ∙ c .before .x5 .given .1))))))
 
 enum-told-5 : tie.Need-enum-told-5
 enum-told-5 c = search needs
@@ -141,7 +141,7 @@ same-length : tie.Need-same-length
 same-length c = search needs
 
 returns-6 : tie.Need-returns-6
-returns-6 c = let a = c .before .before .before .before .before .before .before .before .before .before .before .before .before .before .before .before .before .before .before .before .before .before .before .before .before .before .args in refuses (a .sizes) (a .length) (a .helper) (a .receiver) (a .held .now) (a .out .now) 5 _ ((size-on (c .before .before .before .before .before .before .before .before .before .before .before .before .before .before .before .before .before .before .before .before .before), (long-on (c .before .before .before .before .before .before .before .before .before .before .before .before .before .before .before .before .before .before), (nodes-on (c .before .before .before .before .before .before .before .before .before .before .before .before .before .before), (repeat-on (c .before .before .before .before .before .before .before .before .before .before), (lent-on (c .before .before .before .before .before), (ap (λ m. asked (shortLine (a .out .now) (2 * m))) (sym (c .before .before .before .before .before .before .before .before .before .stripe-count .ensures .0)) ∙ sym (c .before .before .before .check-room .ensures) ∙ c .before .x6 .given .1)))))))
+returns-6 c = let a = c .before .before .before .before .before .before .before .before .before .before .before .before .before .before .before .before .before .before .before .before .before .before .before .before .before .before .args in refuses (a .sizes) (a .len) (a .helper) (a .receiver) (a .held .now) (a .out .now) 5 _ ((size-on (c .before .before .before .before .before .before .before .before .before .before .before .before .before .before .before .before .before .before .before .before .before), (long-on (c .before .before .before .before .before .before .before .before .before .before .before .before .before .before .before .before .before .before), (nodes-on (c .before .before .before .before .before .before .before .before .before .before .before .before .before .before), (repeat-on (c .before .before .before .before .before .before .before .before .before .before), (lent-on (c .before .before .before .before .before), (ap (λ m. asked (shortLine (a .out .now) (2 * m))) (sym (c .before .before .before .before .before .before .before .before .before .stripe-count .ensures .0)) ∙ sym (c .before .before .before .check-room .ensures) ∙ c .before .x6 .given .1)))))))
 
 enum-told-6 : tie.Need-enum-told-6
 enum-told-6 c = search needs
@@ -186,8 +186,8 @@ helper-packet-requires c κs =
     let l : length (c .before .before .before .before .before .before .before .before .before .before .standard-points .result) ≡ 32 = ap length (c .before .before .before .before .before .before .before .before .before .before .standard-points .ensures) in
     let known = below-all (a .sizes .n) (a .helper ∷ a .receiver ∷ []) (not-no _ (passed (nodeLine (a .sizes) (a .helper ∷ a .receiver ∷ [])) (nodes-on (c .before .before .before .before .before .before .before .before .before .before .before .before .before .before .before .before .before .before .before .before .before .before .before .before)))) in
     let many = c .before .before .before .before .before .before .before .before .before .before .before .before .before .before .before .before .before .before .before .stripe-count .ensures .0 in
-    let long : length (a .held .now) ≡ stripes (a .sizes) (a .length) * α (a .sizes) = eqb-true _ _ (alls-hold (eqb (length (a .held .now)) (stripes (a .sizes) (a .length) * α (a .sizes)) ∷ []) (not-no _ (passed (areaLine (eqb (length (a .held .now)) (stripes (a .sizes) (a .length) * α (a .sizes)) ∷ [])) (lent-on (c .before .before .before .before .before .before .before .before .before .before .before .before .before .before .before)))) .0) in
-    let room : 2 * stripes (a .sizes) (a .length) ≤ length (a .out .now) = ltb-false _ _ (passed (shortLine (a .out .now) (2 * stripes (a .sizes) (a .length))) (room-on (c .before .before .before .before .before .before .before .before .before .before .before))) in
+    let long : length (a .held .now) ≡ stripes (a .sizes) (a .len) * α (a .sizes) = eqb-true _ _ (alls-hold (eqb (length (a .held .now)) (stripes (a .sizes) (a .len) * α (a .sizes)) ∷ []) (not-no _ (passed (areaLine (eqb (length (a .held .now)) (stripes (a .sizes) (a .len) * α (a .sizes)) ∷ [])) (lent-on (c .before .before .before .before .before .before .before .before .before .before .before .before .before .before .before)))) .0) in
+    let room : 2 * stripes (a .sizes) (a .len) ≤ length (a .out .now) = ltb-false _ _ (passed (shortLine (a .out .now) (2 * stripes (a .sizes) (a .len))) (room-on (c .before .before .before .before .before .before .before .before .before .before .before))) in
     (ok, omega (arith, l, legal-facts _ ok .few), c .before .before .before .before .fill-inverses .ensures, c .before .before .before .before .before .before .before .before .before .before .before .before .before .before .before .before .before .before .before .stripe-count .ensures .1, known .0, known .1 .0, rw many long, rw many room)
 
 same-length-3 : tie.Need-same-length-3
@@ -196,7 +196,7 @@ same-length-3 c = search needs
 returns-8 : tie.Need-returns-8
 returns-8 c =
     let a = c .before .before .before .before .before .before .before .before .before .before .before .before .before .before .before .before .before .before .before .before .before .before .before .before .before .before .before .before .before .before .before .before .before .before .before .before .before .before .before .args in
-    works (a .sizes) (a .length) (a .helper) (a .receiver) (a .held .now) (a .out .now) _ _ _ (c .before .before .before .before .before .before .before .before .before .before .before .before .before .standard-points .ensures) (c .before .before .before .before .before .before .before .before .before .before .before .before .before .before .before .before .before .before .before .before .before .before .stripe-count .ensures .0) (is-legal (c .before .before .before .before .before .before .before .before .before .before .before .before .before .before .before .before .before .before .before .before .before .before .before .before .before .before .before .before .before .before .before .before .before .before))
+    works (a .sizes) (a .len) (a .helper) (a .receiver) (a .held .now) (a .out .now) _ _ _ (c .before .before .before .before .before .before .before .before .before .before .before .before .before .standard-points .ensures) (c .before .before .before .before .before .before .before .before .before .before .before .before .before .before .before .before .before .before .before .before .before .before .stripe-count .ensures .0) (is-legal (c .before .before .before .before .before .before .before .before .before .before .before .before .before .before .before .before .before .before .before .before .before .before .before .before .before .before .before .before .before .before .before .before .before .before))
     (size-on (c .before .before .before .before .before .before .before .before .before .before .before .before .before .before .before .before .before .before .before .before .before .before .before .before .before .before .before .before .before .before .before .before .before .before), (long-on (c .before .before .before .before .before .before .before .before .before .before .before .before .before .before .before .before .before .before .before .before .before .before .before .before .before .before .before .before .before .before .before), (nodes-on (c .before .before .before .before .before .before .before .before .before .before .before .before .before .before .before .before .before .before .before .before .before .before .before .before .before .before .before), (repeat-on (c .before .before .before .before .before .before .before .before .before .before .before .before .before .before .before .before .before .before .before .before .before .before .before), (lent-on (c .before .before .before .before .before .before .before .before .before .before .before .before .before .before .before .before .before .before), (room-on (c .before .before .before .before .before .before .before .before .before .before .before .before .before .before), tt))))))
     (c .before .before .helper-packet .ensures)
 

@@ -32,11 +32,11 @@ size-on c = sym (c .before .before .check-sizes .ensures) ∙ c .enum-told .give
 is-legal : (c : tie.After-enum-told) → legal (c .before .before .before .before .before .args .sizes) ≡ true
 is-legal c = not-no _ (passed (sizeLine (c .before .before .before .before .before .args .sizes)) (size-on c))
 
-long-on : (c : tie.After-enum-told2) → asked (longLine (c .before .before .before .before .before .before .before .before .args .sizes) (c .before .before .before .before .before .before .before .before .args .length)) ≡ Pass
+long-on : (c : tie.After-enum-told2) → asked (longLine (c .before .before .before .before .before .before .before .before .args .sizes) (c .before .before .before .before .before .before .before .before .args .len)) ≡ Pass
 long-on c = sym (c .before .before .check-length .ensures) ∙ c .enum-told2 .given .1
 
-not-long : (c : tie.After-enum-told2) → c .before .before .before .before .before .before .before .before .args .length ≤ 4096 * B (c .before .before .before .before .before .before .before .before .args .sizes)
-not-long c = ltb-false _ _ (passed (longLine (c .before .before .before .before .before .before .before .before .args .sizes) (c .before .before .before .before .before .before .before .before .args .length)) (long-on c))
+not-long : (c : tie.After-enum-told2) → c .before .before .before .before .before .before .before .before .args .len ≤ 4096 * B (c .before .before .before .before .before .before .before .before .args .sizes)
+not-long c = ltb-false _ _ (passed (longLine (c .before .before .before .before .before .before .before .before .args .sizes) (c .before .before .before .before .before .before .before .before .args .len)) (long-on c))
 
 node-on : (c : tie.After-enum-told3) → asked (nodeLine (c .before .before .before .before .before .before .before .before .before .before .before .args .sizes) (c .before .before .before .before .before .before .before .before .before .before .before .args .node ∷ [])) ≡ Pass
 node-on c = sym (c .before .before .check-node .ensures) ∙ c .enum-told3 .given .1
@@ -45,22 +45,22 @@ known : (c : tie.After-enum-told3) → c .before .before .before .before .before
 known c = below-all (c .before .before .before .before .before .before .before .before .before .before .before .args .sizes .n) (c .before .before .before .before .before .before .before .before .before .before .before .args .node ∷ []) (not-no _ (passed (nodeLine (c .before .before .before .before .before .before .before .before .before .before .before .args .sizes) (c .before .before .before .before .before .before .before .before .before .before .before .args .node ∷ [])) (node-on c))) .0
 
 -- how long the share must be
-long-is : (c : tie.After-share-len) → c .before .stripe-count .result * c .share-len .result ≡ (stripes (c .before .before .before .before .before .before .before .before .before .before .before .before .before .args .sizes) (c .before .before .before .before .before .before .before .before .before .before .before .before .before .args .length) * α (c .before .before .before .before .before .before .before .before .before .before .before .before .before .args .sizes))
+long-is : (c : tie.After-share-len) → c .before .stripe-count .result * c .share-len .result ≡ (stripes (c .before .before .before .before .before .before .before .before .before .before .before .before .before .args .sizes) (c .before .before .before .before .before .before .before .before .before .before .before .before .before .args .len) * α (c .before .before .before .before .before .before .before .before .before .before .before .before .before .args .sizes))
 long-is c = as-many _ _ _ (α (c .before .before .before .before .before .before .before .before .before .before .before .before .before .args .sizes)) (legal (c .before .before .before .before .before .before .before .before .before .before .before .before .before .args .sizes)) (c .before .stripe-count .ensures .0) (c .share-len .ensures) (is-legal (c .before .before .before .before .before .before .before .before))
 
 not-many : (c : tie.After-share-len) → c .before .stripe-count .result * c .share-len .result ≤ 253952
 not-many c = let ok = is-legal (c .before .before .before .before .before .before .before .before) in few-bytes _ _ (α (c .before .before .before .before .before .before .before .before .before .before .before .before .before .args .sizes)) (legal (c .before .before .before .before .before .before .before .before .before .before .before .before .before .args .sizes)) (c .before .stripe-count .ensures .1) (c .share-len .ensures) ok (α-most _ (legal-facts _ ok))
 
-lent-on : (c : tie.After-enum-told4) → asked (areaLine (eqb (length (c .before .before .before .before .before .before .before .before .before .before .before .before .before .before .before .before .args .held .now)) (stripes (c .before .before .before .before .before .before .before .before .before .before .before .before .before .before .before .before .args .sizes) (c .before .before .before .before .before .before .before .before .before .before .before .before .before .before .before .before .args .length) * α (c .before .before .before .before .before .before .before .before .before .before .before .before .before .before .before .before .args .sizes)) ∷ [])) ≡ Pass
+lent-on : (c : tie.After-enum-told4) → asked (areaLine (eqb (length (c .before .before .before .before .before .before .before .before .before .before .before .before .before .before .before .before .args .held .now)) (stripes (c .before .before .before .before .before .before .before .before .before .before .before .before .before .before .before .before .args .sizes) (c .before .before .before .before .before .before .before .before .before .before .before .before .before .before .before .before .args .len) * α (c .before .before .before .before .before .before .before .before .before .before .before .before .before .before .before .before .args .sizes)) ∷ [])) ≡ Pass
 lent-on c = ap (λ m. asked (areaLine (eqb (length (c .before .before .before .before .before .before .before .before .before .before .before .before .before .before .before .before .args .held .now)) m ∷ []))) (sym (long-is (c .before .before .before))) ∙ sym (c .before .before .check-lent .ensures) ∙ c .enum-told4 .given .1
 
 -- how many bytes are to be written
-count-is : (c : tie.After-text-len) → c .text-len .result ≡ (length (shareText (c .before .before .before .before .before .before .before .before .before .before .before .before .before .before .before .before .before .args .sizes) (c .before .before .before .before .before .before .before .before .before .before .before .before .before .before .before .before .before .args .length) (c .before .before .before .before .before .before .before .before .before .before .before .before .before .before .before .before .before .args .node) (c .before .before .before .before .before .before .before .before .before .before .before .before .before .before .before .before .before .args .held .now)))
+count-is : (c : tie.After-text-len) → c .text-len .result ≡ (length (shareText (c .before .before .before .before .before .before .before .before .before .before .before .before .before .before .before .before .before .args .sizes) (c .before .before .before .before .before .before .before .before .before .before .before .before .before .before .before .before .before .args .len) (c .before .before .before .before .before .before .before .before .before .before .before .before .before .before .before .before .before .args .node) (c .before .before .before .before .before .before .before .before .before .before .before .before .before .before .before .before .before .args .held .now)))
 count-is c =
     c .text-len .ensures (c .before .before .before .before .before .before .before .before .before .before .before .before .before .before .before .before .before .args .held .now)
-    (eqb-true _ _ (alls-hold (eqb (length (c .before .before .before .before .before .before .before .before .before .before .before .before .before .before .before .before .before .args .held .now)) (stripes (c .before .before .before .before .before .before .before .before .before .before .before .before .before .before .before .before .before .args .sizes) (c .before .before .before .before .before .before .before .before .before .before .before .before .before .before .before .before .before .args .length) * α (c .before .before .before .before .before .before .before .before .before .before .before .before .before .before .before .before .before .args .sizes)) ∷ []) (not-no _ (passed (areaLine (eqb (length (c .before .before .before .before .before .before .before .before .before .before .before .before .before .before .before .before .before .args .held .now)) (stripes (c .before .before .before .before .before .before .before .before .before .before .before .before .before .before .before .before .before .args .sizes) (c .before .before .before .before .before .before .before .before .before .before .before .before .before .before .before .before .before .args .length) * α (c .before .before .before .before .before .before .before .before .before .before .before .before .before .before .before .before .before .args .sizes)) ∷ [])) (lent-on (c .before)))) .0) ∙ sym (long-is (c .before .before .before .before)))
+    (eqb-true _ _ (alls-hold (eqb (length (c .before .before .before .before .before .before .before .before .before .before .before .before .before .before .before .before .before .args .held .now)) (stripes (c .before .before .before .before .before .before .before .before .before .before .before .before .before .before .before .before .before .args .sizes) (c .before .before .before .before .before .before .before .before .before .before .before .before .before .before .before .before .before .args .len) * α (c .before .before .before .before .before .before .before .before .before .before .before .before .before .before .before .before .before .args .sizes)) ∷ []) (not-no _ (passed (areaLine (eqb (length (c .before .before .before .before .before .before .before .before .before .before .before .before .before .before .before .before .before .args .held .now)) (stripes (c .before .before .before .before .before .before .before .before .before .before .before .before .before .before .before .before .before .args .sizes) (c .before .before .before .before .before .before .before .before .before .before .before .before .before .before .before .before .before .args .len) * α (c .before .before .before .before .before .before .before .before .before .before .before .before .before .before .before .before .before .args .sizes)) ∷ [])) (lent-on (c .before)))) .0) ∙ sym (long-is (c .before .before .before .before)))
 
-room-on : (c : tie.After-enum-told5) → asked (shortLine (c .before .before .before .before .before .before .before .before .before .before .before .before .before .before .before .before .before .before .before .before .before .args .out .now) (length (shareText (c .before .before .before .before .before .before .before .before .before .before .before .before .before .before .before .before .before .before .before .before .before .args .sizes) (c .before .before .before .before .before .before .before .before .before .before .before .before .before .before .before .before .before .before .before .before .before .args .length) (c .before .before .before .before .before .before .before .before .before .before .before .before .before .before .before .before .before .before .before .before .before .args .node) (c .before .before .before .before .before .before .before .before .before .before .before .before .before .before .before .before .before .before .before .before .before .args .held .now)))) ≡ Pass
+room-on : (c : tie.After-enum-told5) → asked (shortLine (c .before .before .before .before .before .before .before .before .before .before .before .before .before .before .before .before .before .before .before .before .before .args .out .now) (length (shareText (c .before .before .before .before .before .before .before .before .before .before .before .before .before .before .before .before .before .before .before .before .before .args .sizes) (c .before .before .before .before .before .before .before .before .before .before .before .before .before .before .before .before .before .before .before .before .before .args .len) (c .before .before .before .before .before .before .before .before .before .before .before .before .before .before .before .before .before .before .before .before .before .args .node) (c .before .before .before .before .before .before .before .before .before .before .before .before .before .before .before .before .before .before .before .before .before .args .held .now)))) ≡ Pass
 room-on c = ap (λ m. asked (shortLine (c .before .before .before .before .before .before .before .before .before .before .before .before .before .before .before .before .before .before .before .before .before .args .out .now) m)) (sym (count-is (c .before .before .before .before))) ∙ sym (c .before .before .check-room .ensures) ∙ c .enum-told5 .given .1
 
 check-sizes-requires : tie.Need-check-sizes-requires
@@ -70,7 +70,7 @@ enum-known-x : tie.Need-enum-known-x
 enum-known-x c = search needs
 
 returns : tie.Need-returns
-returns c = let a = c .before .before .before .before .before .before .args in refuses (a .sizes) (a .length) (a .node) (a .held .now) (a .out .now) 0 _ (sym (c .before .before .before .check-sizes .ensures) ∙ c .before .x .given .1)
+returns c = let a = c .before .before .before .before .before .before .args in refuses (a .sizes) (a .len) (a .node) (a .held .now) (a .out .now) 0 _ (sym (c .before .before .before .check-sizes .ensures) ∙ c .before .x .given .1)
 
 enum-told : tie.Need-enum-told
 enum-told c = search needs
@@ -82,7 +82,7 @@ enum-known-x-2 : tie.Need-enum-known-x-2
 enum-known-x-2 c = search needs
 
 returns-2 : tie.Need-returns-2
-returns-2 c = let a = c .before .before .before .before .before .before .before .before .before .args in refuses (a .sizes) (a .length) (a .node) (a .held .now) (a .out .now) 1 _ ((size-on (c .before .before .before .before), (sym (c .before .before .before .check-length .ensures) ∙ c .before .x2 .given .1)))
+returns-2 c = let a = c .before .before .before .before .before .before .before .before .before .args in refuses (a .sizes) (a .len) (a .node) (a .held .now) (a .out .now) 1 _ ((size-on (c .before .before .before .before), (sym (c .before .before .before .check-length .ensures) ∙ c .before .x2 .given .1)))
 
 enum-told-2 : tie.Need-enum-told-2
 enum-told-2 c = search needs
@@ -94,7 +94,7 @@ enum-known-x-3 : tie.Need-enum-known-x-3
 enum-known-x-3 c = search needs
 
 returns-3 : tie.Need-returns-3
-returns-3 c = let a = c .before .before .before .before .before .before .before .before .before .before .before .before .args in refuses (a .sizes) (a .length) (a .node) (a .held .now) (a .out .now) 2 _ ((size-on (c .before .before .before .before .before .before .before), (long-on (c .before .before .before .before), (sym (c .before .before .before .check-node .ensures) ∙ c .before .x3 .given .1))))
+returns-3 c = let a = c .before .before .before .before .before .before .before .before .before .before .before .before .args in refuses (a .sizes) (a .len) (a .node) (a .held .now) (a .out .now) 2 _ ((size-on (c .before .before .before .before .before .before .before), (long-on (c .before .before .before .before), (sym (c .before .before .before .check-node .ensures) ∙ c .before .x3 .given .1))))
 
 enum-told-3 : tie.Need-enum-told-3
 enum-told-3 c = search needs
@@ -115,7 +115,7 @@ enum-known-x-4 : tie.Need-enum-known-x-4
 enum-known-x-4 c = search needs
 
 returns-4 : tie.Need-returns-4
-returns-4 c = let a = c .before .before .before .before .before .before .before .before .before .before .before .before .before .before .before .before .before .args in refuses (a .sizes) (a .length) (a .node) (a .held .now) (a .out .now) 3 _ ((size-on (c .before .before .before .before .before .before .before .before .before .before .before .before), (long-on (c .before .before .before .before .before .before .before .before .before), (node-on (c .before .before .before .before .before .before), (ap (λ m. asked (areaLine (eqb (length (a .held .now)) m ∷ []))) (sym (long-is (c .before .before .before .before))) ∙ sym (c .before .before .before .check-lent .ensures) ∙ c .before .x4 .given .1)))))
+returns-4 c = let a = c .before .before .before .before .before .before .before .before .before .before .before .before .before .before .before .before .before .args in refuses (a .sizes) (a .len) (a .node) (a .held .now) (a .out .now) 3 _ ((size-on (c .before .before .before .before .before .before .before .before .before .before .before .before), (long-on (c .before .before .before .before .before .before .before .before .before), (node-on (c .before .before .before .before .before .before), (ap (λ m. asked (areaLine (eqb (length (a .held .now)) m ∷ []))) (sym (long-is (c .before .before .before .before))) ∙ sym (c .before .before .before .check-lent .ensures) ∙ c .before .x4 .given .1)))))
 
 enum-told-4 : tie.Need-enum-told-4
 enum-told-4 c = search needs
@@ -140,13 +140,13 @@ same-length : tie.Need-same-length
 same-length c = search needs
 
 returns-5 : tie.Need-returns-5
-returns-5 c = let a = c .before .before .before .before .before .before .before .before .before .before .before .before .before .before .before .before .before .before .before .before .before .before .args in refuses (a .sizes) (a .length) (a .node) (a .held .now) (a .out .now) 4 _ ((size-on (c .before .before .before .before .before .before .before .before .before .before .before .before .before .before .before .before .before), (long-on (c .before .before .before .before .before .before .before .before .before .before .before .before .before .before), (node-on (c .before .before .before .before .before .before .before .before .before .before .before), (lent-on (c .before .before .before .before .before .before), (ap (λ m. asked (shortLine (a .out .now) m)) (sym (count-is (c .before .before .before .before .before))) ∙ sym (c .before .before .before .check-room .ensures) ∙ c .before .x5 .given .1))))))
+returns-5 c = let a = c .before .before .before .before .before .before .before .before .before .before .before .before .before .before .before .before .before .before .before .before .before .before .args in refuses (a .sizes) (a .len) (a .node) (a .held .now) (a .out .now) 4 _ ((size-on (c .before .before .before .before .before .before .before .before .before .before .before .before .before .before .before .before .before), (long-on (c .before .before .before .before .before .before .before .before .before .before .before .before .before .before), (node-on (c .before .before .before .before .before .before .before .before .before .before .before), (lent-on (c .before .before .before .before .before .before), (ap (λ m. asked (shortLine (a .out .now) m)) (sym (count-is (c .before .before .before .before .before))) ∙ sym (c .before .before .before .check-room .ensures) ∙ c .before .x5 .given .1))))))
 
 enum-told-5 : tie.Need-enum-told-5
 enum-told-5 c = search needs
 
 write-text-requires : tie.Need-write-text-requires
-write-text-requires c κs = let a = c .before .before .before .before .before .before .before .before .before .before .before .before .before .before .before .before .before .before .before .before .before .before .args in ltb-false _ _ (passed (shortLine (a .out .now) (length (shareText (a .sizes) (a .length) (a .node) (a .held .now)))) (room-on (c .before)))
+write-text-requires c κs = let a = c .before .before .before .before .before .before .before .before .before .before .before .before .before .before .before .before .before .before .before .before .before .before .args in ltb-false _ _ (passed (shortLine (a .out .now) (length (shareText (a .sizes) (a .len) (a .node) (a .held .now)))) (room-on (c .before)))
 
 same-length-2 : tie.Need-same-length-2
 same-length-2 c = search needs
@@ -154,7 +154,7 @@ same-length-2 c = search needs
 returns-6 : tie.Need-returns-6
 returns-6 c =
     let a = c .before .before .before .before .before .before .before .before .before .before .before .before .before .before .before .before .before .before .before .before .before .before .before .before .before .args in
-    works (a .sizes) (a .length) (a .node) (a .held .now) (a .out .now) _ _ (sym (count-is (c .before .before .before .before .before .before .before .before))) (size-on (c .before .before .before .before .before .before .before .before .before .before .before .before .before .before .before .before .before .before .before .before), (long-on (c .before .before .before .before .before .before .before .before .before .before .before .before .before .before .before .before .before), (node-on (c .before .before .before .before .before .before .before .before .before .before .before .before .before .before), (lent-on (c .before .before .before .before .before .before .before .before .before), (room-on (c .before .before .before .before), tt))))) (c .before .before .write-text .ensures)
+    works (a .sizes) (a .len) (a .node) (a .held .now) (a .out .now) _ _ (sym (count-is (c .before .before .before .before .before .before .before .before))) (size-on (c .before .before .before .before .before .before .before .before .before .before .before .before .before .before .before .before .before .before .before .before), (long-on (c .before .before .before .before .before .before .before .before .before .before .before .before .before .before .before .before .before), (node-on (c .before .before .before .before .before .before .before .before .before .before .before .before .before .before), (lent-on (c .before .before .before .before .before .before .before .before .before), (room-on (c .before .before .before .before), tt))))) (c .before .before .write-text .ensures)
 
 pub text-spec : {M : Type 1} → statement M
 text-spec = tie.close (tie.spec check-sizes-requires enum-known-x returns enum-told check-length-requires enum-known-x-2 returns-2 enum-told-2 check-node-requires enum-known-x-3 returns-3 enum-told-3 stripe-count-requires share-len-requires mul-share-len check-lent-requires enum-known-x-4 returns-4 enum-told-4 text-len-requires check-room-requires enum-known-x-5 same-length returns-5 enum-told-5 write-text-requires same-length-2 returns-6)

@@ -21,10 +21,10 @@ mul-if1 : tie.Need-mul-if1
 mul-if1 c = omega (arith, stripe c, B-most _ (legal-facts _ (c .before .pre)))
 
 returns : tie.Need-returns
-returns c = rw (lt-ltb (4096 * B (c .before .before .args .sizes)) (c .before .before .args .length) (rw (stripe (c .before)) at (c .if1 .taken))) refl
+returns c = rw (lt-ltb (4096 * B (c .before .before .args .sizes)) (c .before .before .args .len) (rw (stripe (c .before)) at (c .if1 .taken))) refl
 
 returns-2 : tie.Need-returns-2
-returns-2 c = rw (le-ltb (4096 * B (c .before .before .args .sizes)) (c .before .before .args .length) (rw (stripe (c .before)) at (c .if1 .left))) refl
+returns-2 c = rw (le-ltb (4096 * B (c .before .before .args .sizes)) (c .before .before .args .len) (rw (stripe (c .before)) at (c .if1 .left))) refl
 
 pub check-length-spec : {M : Type 1} → statement M
 check-length-spec = tie.close (tie.spec stripe-len-requires mul-if1 returns returns-2)

@@ -25,16 +25,16 @@ div-result : tie.Need-div-result
 div-result c = omega (arith, stripe c, B-pos _ (legal-facts _ (c .before .pre .0)))
 
 counted : (c : tie.After-stripe-len)
-    → (c .before .args .length + (c .stripe-len .result - 1)) / c .stripe-len .result ≡ stripes (c .before .args .sizes) (c .before .args .length)
+    → (c .before .args .len + (c .stripe-len .result - 1)) / c .stripe-len .result ≡ stripes (c .before .args .sizes) (c .before .args .len)
 unfolding stripes
-counted c = ap (λ (b : ℕ). (c .before .args .length + (b - 1)) / b) (stripe c)
+counted c = ap (λ (b : ℕ). (c .before .args .len + (b - 1)) / b) (stripe c)
 
 returns : tie.Need-returns
 returns c =
     let a = c .before .args in
     let f = legal-facts (a .sizes) (c .before .pre .0) in
-    let e : (a .length + (c .stripe-len .result - 1)) / c .stripe-len .result ≡ stripes (a .sizes) (a .length) = counted c in
-    (e, omega (arith, e, stripes-least (a .sizes) f (a .length) 4096 (c .before .pre .1)))
+    let e : (a .len + (c .stripe-len .result - 1)) / c .stripe-len .result ≡ stripes (a .sizes) (a .len) = counted c in
+    (e, omega (arith, e, stripes-least (a .sizes) f (a .len) 4096 (c .before .pre .1)))
 
 pub stripe-count-spec : {M : Type 1} → statement M
 stripe-count-spec =

@@ -20,7 +20,7 @@ returns-2 : tie.Need-returns-2
 returns-2 c = rw (sym (c .before .sound-in .ensures) ∙ c .if2 .left) refl
 
 returns-3 : tie.Need-returns-3
-returns-3 c = let a = c .before .before .before .args in rw (not-legal (recordOf (a .sizes) (a .capacity) (a .written) (a .length) (a .marks .now)) (sym (c .before .legal .ensures) ∙ c .if1 .left)) refl
+returns-3 c = let a = c .before .before .before .args in rw (not-legal (recordOf (a .sizes) (a .capacity) (a .written) (a .len) (a .marks .now)) (sym (c .before .legal .ensures) ∙ c .if1 .left)) refl
 
 pub check-record-spec : {M : Type 1} → statement M
 check-record-spec = tie.close (tie.spec legal-requires sound-in-requires returns returns-2 returns-3)

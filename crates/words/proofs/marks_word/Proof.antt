@@ -5,19 +5,19 @@ use mathlib.Core.Path.{_≡_, sym, ap, _∙_}
 use native.Mathlib.Omega.{arith}
 use borrow.Author.Needs.{needs}
 use lib.ListN.{length, drop, drop-of-length-le}
-use Rattle.words.specs.Words.{number}
+use Rattle.words.specs.Words.{fromBits}
 use Rattle.words.proofs.Bits.{rest-few, word-on, word-off}
 use Rattle.words.proofs.marks_word.Statement.{statement}
 use Rattle.words.proofs.marks_word.Tie as tie
 
 abbrev Inv-loop : tie.InvT-loop
-Inv-loop marks word₀ i₀ word i = (word ≡ number (drop i marks)) × (i ≤ length marks)
+Inv-loop marks word₀ i₀ word i = (word ≡ fromBits (drop i marks)) × (i ≤ length marks)
 
 abbrev μ-loop : tie.MeasureT-loop
 μ-loop marks word₀ i₀ word i = i
 
 loop-holds : tie.Need-loop-holds Inv-loop μ-loop
-loop-holds c = (sym (ap number (drop-of-length-le (c .args .marks .now) {i = length (c .args .marks .now)} (omega arith))), omega arith)
+loop-holds c = (sym (ap fromBits (drop-of-length-le (c .args .marks .now) {i = length (c .args .marks .now)} (omega arith))), omega arith)
 
 sub-i : tie.Need-sub-i Inv-loop μ-loop
 sub-i c = search needs
@@ -44,7 +44,7 @@ loop-again-2 : tie.Need-loop-again-2 Inv-loop μ-loop
 loop-again-2 c = let l = c .before .before .before .loop in (word-off (c .before .before .before .before .args .marks .now) (l .i) (l .word) (c .before .before .loop-test .taken) (l .inv .1) (c .if1 .left) (l .inv .0), omega arith)
 
 returns : tie.Need-returns Inv-loop μ-loop
-returns c = let e : c .before .loop .i ≡ 0 = omega arith in c .before .loop .inv .0 ∙ ap (λ (m : ℕ). number (drop m (c .before .before .args .marks .now))) e
+returns c = let e : c .before .loop .i ≡ 0 = omega arith in c .before .loop .inv .0 ∙ ap (λ (m : ℕ). fromBits (drop m (c .before .before .args .marks .now))) e
 
 pub marks-word-spec : {M : Type 1} → statement M
 marks-word-spec =
