@@ -33,7 +33,7 @@ use Rattle.text_lines.proofs.Writes.{same-room}
 use Rattle.checks.specs.Outcomes.{outcome}
 use Rattle.printer.specs.declared.Parser.{Parser}
 use Rattle.printer.specs.Printer.{refusedLine, maxFile, told, shared}
-use Rattle.printer.specs.Machine.{sizesOf, refusalOf, decided}
+use Rattle.printer.specs.Machine.{sizesRead, refusalOf, decided}
 use Rattle.printer.proofs.Picks.{if-eq, if-ne}
 use Rattle.printer.proofs.Room.{any-room}
 use Rattle.print_share.proofs.Rooms.{share-room, text-room}
@@ -67,18 +67,18 @@ module _ (z : Sizes) (L node : ℕ) (held output : List ℕ) (pass : first board
   text-passes x after e = omega (arith, number-low x, ap (λ (o : BoardOutcome). o .answer .refusal) (e ∙ called))
 
 -- no line, no sizes and no length cause a refusal
-pub none-refused : (p : Parser) → refusalOf p ≡ 0 → (legal (sizesOf p) ≡ true) × (p .count ≤ 16384)
-none-refused p e = go (p .bad) (eqb (p .left) 0) (legal (sizesOf p)) (ltb maxFile (p .count)) refl refl e
+pub none-refused : (p : Parser) → refusalOf p ≡ 0 → (legal (sizesRead p) ≡ true) × (p .count ≤ 16384)
+none-refused p e = go (p .bad) (eqb (p .left) 0) (legal (sizesRead p)) (ltb maxFile (p .count)) refl refl e
   where
-    go : (b l g t : Bool) → legal (sizesOf p) ≡ g → ltb maxFile (p .count) ≡ t → pick {A = ℕ} b 1 (pick l (pick g (pick t 3 0) 1) 1) ≡ 0
-        → (legal (sizesOf p) ≡ true) × (p .count ≤ 16384)
+    go : (b l g t : Bool) → legal (sizesRead p) ≡ g → ltb maxFile (p .count) ≡ t → pick {A = ℕ} b 1 (pick l (pick g (pick t 3 0) 1) 1) ≡ 0
+        → (legal (sizesRead p) ≡ true) × (p .count ≤ 16384)
     go true l g t q s e = absurd (omega arith)
     go false false g t q s e = absurd (omega arith)
     go false true false t q s e = absurd (omega arith)
     go false true true true q s e = absurd (omega arith)
     go false true true false q s e = (q, ltb-false maxFile (p .count) s)
 
-pub decided-shared : (p : Parser) (kept : List ℕ) → refusalOf p ≡ 0 → decided p kept ≡ shared (sizesOf p) (p .node) kept
+pub decided-shared : (p : Parser) (kept : List ℕ) → refusalOf p ≡ 0 → decided p kept ≡ shared (sizesRead p) (p .node) kept
 unfolding decided
 decided-shared p kept e = if-eq (refusalOf p) 0 _ _ e
 
