@@ -42,11 +42,11 @@ module _ (z : Sizes) (node : ℕ) (file : List ℕ) where
     called : length file ≤ 16384 → printed asked ≡ shared z node file
     called h = taken ∙ yes (legal z) _ _ ok ∙ if-le maxFile (length file) _ _ h
 
-    shared-long : 4096 * B z < length file → shared z node file ≡ refusedLine 3
+    pub shared-long : 4096 * B z < length file → shared z node file ≡ refusedLine 3
     unfolding shared shareCall shareLines
     shared-long h = rw (ok, lt-ltb (4096 * B z) (length file) h)
 
-    shared-text : length file ≤ 4096 * B z → node < z .n → shared z node file ≡ shareText z (length file) node (share z standard file node)
+    pub shared-text : length file ≤ 4096 * B z → node < z .n → shared z node file ≡ shareText z (length file) node (share z standard file node)
     unfolding shared shareCall shareLines
     shared-text h b =
         let room = length-fit (stripes z (length file) * α z) [] in
