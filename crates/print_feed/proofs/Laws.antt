@@ -13,7 +13,7 @@ use Rattle.print_feed.specs.Laws.{FeedLaws}
 use Rattle.print_feed.proofs.Kept.{in-length, kept-step}
 
 -- a part, then what is behind it
-behind : (part input : List ℕ) (s : Feed) → feedAll (feedAll s part) input ≡ feedAll s (part ++ input)
+pub behind : (part input : List ℕ) (s : Feed) → feedAll (feedAll s part) input ≡ feedAll s (part ++ input)
 behind [] input s = refl
 behind (b ∷ part) input s = behind part input (record { parser = fed (s .parser) b; file = keptIn (s .parser) b (s .file) })
 

@@ -85,7 +85,7 @@ returns-2 c =
     let a = at .before .before .before .before .before .before .before .before .before .args in (
       ap (λ (o : BoardOutcome). o .output) (at .before .before .before .before .share .ensures),
       c .before .before .refused .ensures ∙ ap (λ (x : ℕ). written (refusedLine x) (a .out .now)) (c .before .before .before .before .number .ensures)
-      ∙ ap (λ (l : List ℕ). written l (a .out .now)) (share-refused (a .z) (a .node) (a .file .now) (a .share .now) (at .answer2 .given .0 .0) _ (said-refused at)),
+          ∙ ap (λ (l : List ℕ). written l (a .out .now)) (share-refused (a .z) (a .node) (a .file .now) (a .share .now) (at .answer2 .given .0 .0) _ (said-refused at)),
     )
 
 pub told-spec : {M : Type 1} → statement M
