@@ -1,11 +1,10 @@
 -- The laws of specs/Laws.antt.
 -- Assumes nothing.
-use mathlib.Core.Path.{_≡_, refl, sym, ap, _∙_}
+use mathlib.Core.Path.{_≡_, refl, ap, _∙_}
 use mathlib.Core.List.{List, [], _∷_, _++_}
 use Prim.Native.Nat.{ℕ}
 use lib.ListN.{length, take}
 use Rattle.lists.specs.Lists.{concat}
-use Rattle.printer.specs.declared.Parser.{Parser}
 use Rattle.printer.specs.Machine.{fed, runs}
 use Rattle.printer.proofs.Laws.{printer-laws}
 use Rattle.print_feed.specs.Feeding.{Feed, keptIn, feedAll, feedParts}

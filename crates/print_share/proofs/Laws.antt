@@ -2,8 +2,8 @@
 -- Assumes nothing.
 use mathlib.Core.Path.{_≡_, refl, sym, ap, _∙_}
 use mathlib.Core.Bool.{Bool, true, false}
-use mathlib.Core.List.{List, [], _∷_}
-use Prim.Native.Nat.{ℕ, _*_, _≤_, _<_}
+use mathlib.Core.List.{List, []}
+use Prim.Native.Nat.{ℕ, _*_, _≤_}
 use native.Mathlib.Omega.{arith}
 use lib.Dec.{ltb, eqb}
 use lib.ListN.{length, take, drop, length-append}
@@ -12,7 +12,7 @@ use borrow.Author.Tests.{ltb-true, ltb-false, eqb-true, eqb-false}
 use Rattle.lists.specs.Tests.{pick}
 use Rattle.lists.specs.Lists.{over, concat}
 use Rattle.sizes.specs.declared.Sizes.{Sizes}
-use Rattle.sizes.specs.Sizing.{legal, α, B, stripes}
+use Rattle.sizes.specs.Sizing.{legal, B}
 use Rattle.sizes.proofs.Legal.{legal-facts}
 use Rattle.mbcr.specs.Share.{standard, share}
 use Rattle.mbcr.proofs.Repair.{length-share}
@@ -26,20 +26,20 @@ use Rattle.printer.proofs.Picks.{if-eq, if-ne, if-le}
 use Rattle.printer.proofs.Laws.{printer-laws}
 use Rattle.print_feed.specs.Feeding.{Feed, feedAll, feedParts}
 use Rattle.print_feed.proofs.Laws.{feed-laws}
-use Rattle.print_share.specs.Writing.{Written, written, output}
-use Rattle.print_share.specs.Laws.{bytes, ShareLaws}
+use Rattle.print_share.specs.Writing.{Written, placed, toWrite}
+use Rattle.print_share.specs.Laws.{shown, ShareLaws}
 use Rattle.print_share.proofs.Rooms.{share-room, text-room}
 use Rattle.print_share.proofs.Telling.{line-length, none-refused, output-refused, output-whole}
 
-within : (text out : List ℕ) → written text out .count ≤ length (written text out .out)
+within : (text out : List ℕ) → placed text out .count ≤ length (placed text out .out)
 within text out = go (ltb (length out) (length text))
   where
     go : (t : Bool) → let w = pick {A = Written} t (record { count = 0; out = out }) (record { count = length text; out = over text out }) in w .count ≤ length (w .out)
     go true = omega arith
     go false = omega (arith, length-append text (drop (length text) out))
 
-whole : (text out : List ℕ) → length text ≤ length out → bytes (written text out) ≡ text
-whole text out h = ap bytes (if-le (length out) (length text) _ _ h) ∙ take-at text _ _ refl
+whole : (text out : List ℕ) → length text ≤ length out → shown (placed text out) ≡ text
+whole text out h = ap shown (if-le (length out) (length text) _ _ h) ∙ take-at text _ _ refl
 
 -- ---- 34,900 bytes are enough
 
@@ -72,11 +72,11 @@ module _ (p : Parser) (file : List ℕ) (n : length file ≡ 16384) where
       go false true true true = omega arith
       go false true true false = omega arith
 
-  given : (output p file ≡ decided p (take (p .count) file)) × (length (output p file) ≤ 34900)
+  given : (toWrite p file ≡ decided p (take (p .count) file)) × (length (toWrite p file) ≤ 34900)
   unfolding decided
   given = go (eqb (refusalOf p) 0) refl
     where
-      go : (t : Bool) → eqb (refusalOf p) 0 ≡ t → (output p file ≡ decided p (take (p .count) file)) × (length (output p file) ≤ 34900)
+      go : (t : Bool) → eqb (refusalOf p) 0 ≡ t → (toWrite p file ≡ decided p (take (p .count) file)) × (length (toWrite p file) ≤ 34900)
       go true e =
           let z = eqb-true (refusalOf p) 0 e in
           let f = none-refused p z in
@@ -88,15 +88,15 @@ module _ (p : Parser) (file : List ℕ) (n : length file ≡ 16384) where
           let w = output-refused p file z in
           (w ∙ sym (if-ne (refusalOf p) 0 _ _ z), omega (arith, ap length w, refused-room (refusalOf p) (omega (arith, high))))
 
-  decides : (out : List ℕ) → length out ≡ 34900 → bytes (written (output p file) out) ≡ decided p (take (p .count) file)
-  decides out m = whole (output p file) out (omega (arith, given .1)) ∙ given .0
+  decides : (out : List ℕ) → length out ≡ 34900 → shown (placed (toWrite p file) out) ≡ decided p (take (p .count) file)
+  decides out m = whole (toWrite p file) out (omega (arith, given .1)) ∙ given .0
 
 prints : (parts : List (List ℕ)) (file out : List ℕ) → length file ≡ 16384 → length out ≡ 34900
-    → let s = feedParts (record { parser = begin; file = file }) parts in bytes (written (output (s .parser) (s .file)) out) ≡ printed (concat parts)
+    → let s = feedParts (record { parser = begin; file = file }) parts in shown (placed (toWrite (s .parser) (s .file)) out) ≡ printed (concat parts)
 prints parts file out n m =
     let start : Feed = record { parser = begin; file = file } in
     let s = feedAll start (concat parts) in
-    ap (λ (s : Feed). bytes (written (output (s .parser) (s .file)) out)) (feed-laws .parts-are-whole start parts)
+    ap (λ (s : Feed). shown (placed (toWrite (s .parser) (s .file)) out)) (feed-laws .parts-are-whole start parts)
     ∙ decides (s .parser) (s .file) (feed-laws .same-length start (concat parts) ∙ n) out m
     ∙ feed-laws .decides file (concat parts) n
 

@@ -19,7 +19,6 @@ use Rattle.sizes.specs.declared.Refusal.{Refusal}
 use Rattle.sizes.specs.declared.Refusal.the-variants.{Short}
 use Rattle.sizes.specs.declared.Check.{Check}
 use Rattle.sizes.specs.declared.Check.the-variants.{Pass, Refuse}
-use Rattle.sizes.specs.declared.Answer.{Answer}
 use Rattle.sizes.specs.declared.Answer.the-variants.{Done, Refused}
 use Rattle.sizes.specs.Sizing.{legal, α, B, stripes}
 use Rattle.sizes.specs.Refusals.{number, first, boardOrder}
@@ -36,25 +35,25 @@ use Rattle.checks.specs.Outcomes.{outcome}
 use Rattle.printer.specs.declared.Parser.{Parser}
 use Rattle.printer.specs.Printer.{refusedLine, maxFile, told, shared}
 use Rattle.printer.specs.Machine.{sizesRead, refusalOf, decided}
-use Rattle.printer.proofs.Picks.{no, if-eq, if-ne, if-lt, if-le}
+use Rattle.printer.proofs.Picks.{if-eq, if-ne, if-lt, if-le}
 use Rattle.printer.proofs.Room.{any-room}
-use Rattle.print_share.specs.Writing.{Written, written, wroteIn, output}
+use Rattle.print_share.specs.Writing.{Written, placed, wroteIn, toWrite}
 use Rattle.print_share.proofs.Rooms.{share-room}
 
 -- ---- bytes where there is room for them, and where there is none
 
-pub fits : {a l l1 : List ℕ} {e : ℕ} → 0 + length a ≤ length l → Wrote l 0 a l1 e → record { count = e; out = l1 } ≡ written a l
+pub fits : {a l l1 : List ℕ} {e : ℕ} → 0 + length a ≤ length l → Wrote l 0 a l1 e → record { count = e; out = l1 } ≡ placed a l
 fits {a} {l} h w =
     ap₂ {C = Written} (λ n m. record { count = n; out = m }) (w .ends ∙ zero-add (length a)) (from-start w) ∙ sym (if-le (length l) (length a) _ _ (omega arith))
 
-pub no-room : (a l : List ℕ) → length l < length a → record { count = 0; out = l } ≡ written a l
+pub no-room : (a l : List ℕ) → length l < length a → record { count = 0; out = l } ≡ placed a l
 no-room a l h = sym (if-lt (length l) (length a) _ _ h)
 
 -- the line of a refusal has nine bytes and the digits
 pub line-length : (x : ℕ) → length (refusedLine x) ≡ 9 + length (decimal x)
 line-length x = length-line (0x72 ∷ 0x65 ∷ 0x66 ∷ 0x75 ∷ 0x73 ∷ 0x65 ∷ 0x64 ∷ []) (decimal x) ∙ omega arith
 
-pub nothing : (l : List ℕ) → record { count = 0; out = l } ≡ written [] l
+pub nothing : (l : List ℕ) → record { count = 0; out = l } ≡ placed [] l
 nothing l = go (ltb (length l) 0)
   where
     go : (t : Bool) → _≡_ {A = Written} (record { count = 0; out = l }) (pick t (record { count = 0; out = l }) (record { count = 0; out = l }))
@@ -83,7 +82,7 @@ module _ (z : Sizes) (L node : ℕ) (held l : List ℕ) where
   text-first a b c d = rw (a, b, c, d)
 
   text-written : first boardOrder (textLines z standard L node held l) ≡ pick (ltb (length l) (length (shareText z L node held))) (Refuse Short) Pass
-      → wroteIn (textCall z standard L node held l) ≡ written (shareText z L node held) l
+      → wroteIn (textCall z standard L node held l) ≡ placed (shareText z L node held) l
   unfolding textCall
   text-written e =
       ap (λ (c : Check). wroteIn (settled c (shareText z L node held) l)) e
@@ -94,7 +93,7 @@ module _ (z : Sizes) (node : ℕ) (file area : List ℕ) where
   module _ (v : ℕ) (after : List ℕ) where
     passing : (c : Check) → first boardOrder (shareLines z standard node file area) ≡ c → outcome (Done v) after ≡ settled c (share z standard file node) area
         → (v ≤ length after)
-        × ((l : List ℕ) → wroteIn (textCall z standard (length file) node (take v after) l) ≡ written (shareText z (length file) node (take v after)) l)
+        × ((l : List ℕ) → wroteIn (textCall z standard (length file) node (take v after) l) ≡ placed (shareText z (length file) node (take v after)) l)
     unfolding shareLines
     passing (Refuse x) p e = absurd (omega (arith, number-low x, ap (λ (o : BoardOutcome). o .answer .refusal) e))
     passing Pass p e =
@@ -108,11 +107,11 @@ module _ (z : Sizes) (node : ℕ) (file area : List ℕ) where
     -- that it is done leaves only room to ask of the text
     pub share-done : outcome (Done v) after ≡ shareCall z standard node file area
         → (v ≤ length after)
-        × ((l : List ℕ) → wroteIn (textCall z standard (length file) node (take v after) l) ≡ written (told z (length file) node (shareCall z standard node file area)) l)
+        × ((l : List ℕ) → wroteIn (textCall z standard (length file) node (take v after) l) ≡ placed (told z (length file) node (shareCall z standard node file area)) l)
     unfolding shareCall
     share-done e =
         let d = passing (first boardOrder (shareLines z standard node file area)) refl e in
-        (d .0, λ l. d .1 l ∙ ap (λ (o : BoardOutcome). written (told z (length file) node o) l) e)
+        (d .0, λ l. d .1 l ∙ ap (λ (o : BoardOutcome). placed (told z (length file) node o) l) e)
 
   pub share-refused : (x : Refusal) (after : List ℕ) → outcome (Refused x) after ≡ shareCall z standard node file area
       → refusedLine (number x) ≡ told z (length file) node (shareCall z standard node file area)
@@ -137,16 +136,16 @@ module _ (p : Parser) (file : List ℕ) where
   abbrev kept : List ℕ
   kept = take (p .count) file
 
-  pub output-refused : (refusalOf p ≡ 0 → ⊥) → output p file ≡ refusedLine (refusalOf p)
+  pub output-refused : (refusalOf p ≡ 0 → ⊥) → toWrite p file ≡ refusedLine (refusalOf p)
   unfolding decided
   output-refused e = rw (if-ne {A = Bool} (refusalOf p) 0 (ltb (length file) (p .count)) false e) (if-ne (refusalOf p) 0 _ _ e)
 
   module _ (e : refusalOf p ≡ 0) where
-    pub output-lacks : length file < p .count → output p file ≡ []
+    pub output-lacks : length file < p .count → toWrite p file ≡ []
     output-lacks h =
         ap (λ (t : Bool). pick t [] (decided p kept)) (if-eq {A = Bool} (refusalOf p) 0 (ltb (length file) (p .count)) false e ∙ lt-ltb (length file) (p .count) h)
 
-    pub output-whole : p .count ≤ length file → output p file ≡ shared (sizesRead p) (p .node) kept
+    pub output-whole : p .count ≤ length file → toWrite p file ≡ shared (sizesRead p) (p .node) kept
     unfolding decided
     output-whole h =
         ap (λ (t : Bool). pick t [] (decided p kept)) (if-eq {A = Bool} (refusalOf p) 0 (ltb (length file) (p .count)) false e ∙ le-ltb (length file) (p .count) h)
@@ -154,7 +153,7 @@ module _ (p : Parser) (file : List ℕ) where
 
     -- by any area with room for the share of a file that the printer takes
     pub output-told : p .count ≤ length file → (area : List ℕ) → length area ≡ 17376
-        → output p file ≡ told (sizesRead p) (length kept) (p .node) (shareCall (sizesRead p) standard (p .node) kept area)
+        → toWrite p file ≡ told (sizesRead p) (length kept) (p .node) (shareCall (sizesRead p) standard (p .node) kept area)
     output-told h area room =
         let n = none-refused p e in
         let few : length kept ≤ 16384 = omega (arith, length-take-le (p .count) file h, n .1) in

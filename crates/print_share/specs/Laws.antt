@@ -10,17 +10,17 @@ use Rattle.printer.specs.declared.Parser.{Parser}
 use Rattle.printer.specs.Printer.{refusedLine, printed}
 use Rattle.printer.specs.Machine.{begin, wrong, decided}
 use Rattle.print_feed.specs.Feeding.{feedParts}
-use Rattle.print_share.specs.Writing.{Written, written, output}
+use Rattle.print_share.specs.Writing.{Written, placed, toWrite}
 
 -- the bytes that stand there
-abbrev pub bytes : Written → List ℕ
-bytes w = take (w .count) (w .out)
+abbrev pub shown : Written → List ℕ
+shown w = take (w .count) (w .out)
 
 pub record ShareLaws : Type 0 where
-  pub within : (text out : List ℕ) → written text out .count ≤ length (written text out .out)
+  pub within : (text out : List ℕ) → placed text out .count ≤ length (placed text out .out)
   pub decides : (p : Parser) (file out : List ℕ) → length file ≡ 16384 → length out ≡ 34900
-      → bytes (written (output p file) out) ≡ decided p (take (p .count) file)
+      → shown (placed (toWrite p file) out) ≡ decided p (take (p .count) file)
   pub prints : (parts : List (List ℕ)) (file out : List ℕ) → length file ≡ 16384 → length out ≡ 34900
-      → let s = feedParts (record { parser = begin; file = file }) parts in bytes (written (output (s .parser) (s .file)) out) ≡ printed (concat parts)
+      → let s = feedParts (record { parser = begin; file = file }) parts in shown (placed (toWrite (s .parser) (s .file)) out) ≡ printed (concat parts)
   pub failed-read : (p : Parser) (file out : List ℕ) → length file ≡ 16384 → length out ≡ 34900
-      → bytes (written (output (wrong p) file) out) ≡ refusedLine 1
+      → shown (placed (toWrite (wrong p) file) out) ≡ refusedLine 1

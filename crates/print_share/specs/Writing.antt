@@ -17,8 +17,8 @@ pub record Written : Type 0 where
   pub out : List ℕ
 
 -- bytes, where there is room for all of them; else none
-abbrev pub written : List ℕ → List ℕ → Written
-written bytes out = pick (ltb (length out) (length bytes)) (record { count = 0; out = out }) (record { count = length bytes; out = over bytes out })
+abbrev pub placed : List ℕ → List ℕ → Written
+placed bytes out = pick (ltb (length out) (length bytes)) (record { count = 0; out = out }) (record { count = length bytes; out = over bytes out })
 
 -- what a call wrote: none where it is refused
 abbrev pub wroteIn : BoardOutcome → Written
@@ -29,5 +29,5 @@ abbrev pub lacks : Parser → List ℕ → Bool
 lacks p file = pick (eqb (refusalOf p) 0) (ltb (length file) (p .count)) false
 
 -- what parser and file decide; nothing of a file that is not whole
-abbrev pub output : Parser → List ℕ → List ℕ
-output p file = pick (lacks p file) [] (decided p (take (p .count) file))
+abbrev pub toWrite : Parser → List ℕ → List ℕ
+toWrite p file = pick (lacks p file) [] (decided p (take (p .count) file))

@@ -6,14 +6,14 @@ ghost use lib.ListN.{length};
 ghost use Rattle.mbcr.specs.Share.{standard};
 ghost use Rattle.board_statements.specs.Calls.{shareCall, textCall};
 ghost use Rattle.printer.specs.Printer.{refusedLine, told};
-ghost use Rattle.print_share.specs.Writing.{written, wroteIn, output};
+ghost use Rattle.print_share.specs.Writing.{placed, wroteIn, toWrite};
 use printer::Parser;
 use sizes::Answer;
 use sizes::Sizes;
 
 // The line of a refusal, to the beginning of out. Answers how many bytes it has.
 fn refused(x: u8, out: &mut [u8]) -> usize
-    ensures { λ r. ⌜ record { count = r; out = now (out .exit) } ≡ written (refusedLine x) (now (out .entry)) ⌝ }
+    ensures { λ r. ⌜ record { count = r; out = now (out .exit) } ≡ placed (refusedLine x) (now (out .entry)) ⌝ }
 {
     let number = x as usize;
     let count = 9 + text_lines::decimal_len(number);
@@ -37,7 +37,7 @@ fn text(z: Sizes, total: usize, node: usize, held: &[u8], out: &mut [u8]) -> usi
 // What the share of a file gives to write, to the beginning of out. Answers how many bytes it has.
 fn told(z: Sizes, node: usize, file: &[u8], share: &mut [u8], out: &mut [u8]) -> usize
     ensures { λ _. ⌜ now (share .exit) ≡ shareCall z standard node (now (file .entry)) (now (share .entry)) .output ⌝ }
-    ensures { λ r. ⌜ record { count = r; out = now (out .exit) } ≡ written (told z (length (now (file .entry))) node (shareCall z standard node (now (file .entry)) (now (share .entry)))) (now (out .entry)) ⌝ }
+    ensures { λ r. ⌜ record { count = r; out = now (out .exit) } ≡ placed (told z (length (now (file .entry))) node (shareCall z standard node (now (file .entry)) (now (share .entry)))) (now (out .entry)) ⌝ }
 {
     let answer = board_share::share(z, node, file, share);
     match answer {
@@ -48,7 +48,7 @@ fn told(z: Sizes, node: usize, file: &[u8], share: &mut [u8], out: &mut [u8]) ->
 
 // The output, to the beginning of out, of a parser at the end of the input and the file that it kept. Answers how many bytes it has.
 pub fn answer(p: Parser, file: &[u8], out: &mut [u8]) -> usize
-    ensures { λ r. ⌜ record { count = r; out = now (out .exit) } ≡ written (output p (now (file .entry))) (now (out .entry)) ⌝ }
+    ensures { λ r. ⌜ record { count = r; out = now (out .exit) } ≡ placed (toWrite p (now (file .entry))) (now (out .entry)) ⌝ }
 {
     let x = printer::refusal(p);
     if x != 0 {

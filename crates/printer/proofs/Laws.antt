@@ -9,7 +9,7 @@ use Rattle.printer.specs.Laws.{PrinterLaws}
 use Rattle.printer.specs.Printer.{printed}
 use Rattle.printer.specs.Machine.{begin, wrong, fed, keep, runs}
 use Rattle.printer.proofs.Forms.{line-taken, line-else, decimal-taken}
-use Rattle.printer.proofs.Whole.{answers}
+use Rattle.printer.proofs.Whole.{printed-for}
 use Rattle.printer.proofs.Room.{any-room}
 use Rattle.printer.proofs.Rest.{rest, rest-bad, step, at-end}
 use Rattle.printer.proofs.Near.{filing}
@@ -27,7 +27,7 @@ printer-laws = record {
   taken = line-taken;
   else-refused = line-else;
   decimals = decimal-taken;
-  answers = answers;
+  printed-for = printed-for;
   byte-by-byte = λ input. runs-rest input begin [] ∙ first-said input;
   failed-read = λ p kept input. runs-rest input (wrong p) kept ∙ rest-bad (wrong p) kept input refl;
   any-room = any-room;

@@ -1,8 +1,8 @@
 -- What is written of five lines and a file, for any sizes, board and file.
 -- Assumes nothing.
-use mathlib.Core.Path.{_≡_, refl, sym, ap, _∙_}
+use mathlib.Core.Path.{_≡_, refl, ap, _∙_}
 use mathlib.Core.Bool.{Bool, true, false}
-use mathlib.Core.List.{List, [], _∷_, _++_}
+use mathlib.Core.List.{List, [], _∷_}
 use Prim.Native.Nat.{ℕ, _*_, _≤_, _<_}
 use native.Mathlib.Omega.{arith}
 use lib.Dec.{ltb}
@@ -15,10 +15,10 @@ use Rattle.lists.proofs.Pieces.{length-fit}
 use Rattle.sizes.specs.declared.Sizes.{Sizes}
 use Rattle.sizes.specs.Sizing.{legal, α, B, stripes}
 use Rattle.mbcr.specs.Share.{standard, share}
-use Rattle.board_statements.specs.Text.{decimal, textLine, shareText}
+use Rattle.board_statements.specs.Text.{decimal, shareText}
 use Rattle.board_statements.specs.Calls.{shareCall, shareLines}
-use Rattle.printer.specs.Printer.{refusedLine, maxFile, line, shared, answered, printed}
-use Rattle.printer.specs.Laws.{asks, Answers}
+use Rattle.printer.specs.Printer.{refusedLine, maxFile, shared, answered, printed}
+use Rattle.printer.specs.Laws.{asks, PrintedFor}
 use Rattle.printer.proofs.Picks.{yes, no, if-lt, if-le}
 use Rattle.printer.proofs.Forms.{decimal-taken}
 use Rattle.printer.proofs.Near.{shared-far}
@@ -61,8 +61,8 @@ module _ (z : Sizes) (node : ℕ) (file : List ℕ) where
         same true = refl
         same false = refl
 
-  pub answers : Answers z node file (printed asked)
-  answers = record {
+  pub printed-for : PrintedFor z node file (printed asked)
+  printed-for = record {
     illegal = λ bad. taken ∙ no (legal z) _ _ bad;
     over-16384 = λ ok h. taken ∙ yes (legal z) _ _ ok ∙ if-lt maxFile (length file) _ _ h;
     over-stripes = over-stripes;

@@ -40,7 +40,7 @@ asks n k d r node file =
     ++ (textLine (0x6E ∷ 0x6F ∷ 0x64 ∷ 0x65 ∷ []) node ++ file))))
 
 -- what is written for sizes, a board and a file: the refusals in their order, and else the share's text
-pub record Answers (z : Sizes) (node : ℕ) (file written : List ℕ) : Type 0 where
+pub record PrintedFor (z : Sizes) (node : ℕ) (file written : List ℕ) : Type 0 where
   pub illegal : legal z ≡ false → written ≡ refusedLine 1
   pub over-16384 : legal z ≡ true → 16384 < length file → written ≡ refusedLine 3
   pub over-stripes : legal z ≡ true → 4096 * B z < length file → written ≡ refusedLine 3
@@ -56,8 +56,8 @@ pub record PrinterLaws : Type 0 where
   -- a decimal is taken as its number
   pub decimals : (name : List ℕ) (x : ℕ) (input : List ℕ) (go : ℕ → List ℕ → List ℕ)
       → line (name ++ (0x3D ∷ [])) (textLine name (decimal x) ++ input) go ≡ go x input
-  pub answers : (z : Sizes) (node : ℕ) (file : List ℕ)
-      → Answers z node file (printed (asks (decimal (z .n)) (decimal (z .k)) (decimal (z .d)) (decimal (z .r)) (decimal node) file))
+  pub printed-for : (z : Sizes) (node : ℕ) (file : List ℕ)
+      → PrintedFor z node file (printed (asks (decimal (z .n)) (decimal (z .k)) (decimal (z .d)) (decimal (z .r)) (decimal node) file))
   pub byte-by-byte : (input : List ℕ) → runs begin [] input ≡ printed input
   pub failed-read : (p : Parser) (kept input : List ℕ) → runs (wrong p) kept input ≡ refusedLine 1
   -- any room that is enough does for the call

@@ -18,10 +18,10 @@ use Rattle.printer.specs.Printer.{refusedLine, printed}
 use Rattle.printer.specs.Machine.{begin, wrong}
 use Rattle.print_feed.specs.Feeding.{Feed, feedAll}
 use Rattle.print_feed.proofs.Laws.{behind, feed-laws}
-use Rattle.print_share.specs.Writing.{Written, written, output}
-use Rattle.print_share.specs.Laws.{bytes}
+use Rattle.print_share.specs.Writing.{Written, placed, toWrite}
+use Rattle.print_share.specs.Laws.{shown}
 use Rattle.print_share.proofs.Laws.{share-laws}
-use Rattle.share_printer.specs.Reading.{unless, taken, Reading, Printing}
+use Rattle.share_printer.specs.Reading.{unless, afterRead, Reading, Printing}
 
 -- ---- one read
 
@@ -33,14 +33,14 @@ module _ (got : ℤ) (slice : List ℕ) where
   pub none-more : ltZ got (pos 0) ≡ true → false ≡ ltb 0 (clamped got (length slice))
   none-more e = sym (ap (ltb 0) (below got (length slice) e))
 
-  pub failed : (s : Feed) → ltZ got (pos 0) ≡ true → record { parser = wrong (s .parser); file = s .file } ≡ taken got slice s
+  pub failed : (s : Feed) → ltZ got (pos 0) ≡ true → record { parser = wrong (s .parser); file = s .file } ≡ afterRead got slice s
   failed s e =
       sym (ap₂ {C = Feed} (λ (t : Bool) (n : ℕ). unless t (feedAll s (take n slice))) e (below got (length slice) e))
 
-  pub came : (s : Feed) → ltZ got (pos 0) ≡ false → feedAll s (take (clamped got (length slice)) slice) ≡ taken got slice s
+  pub came : (s : Feed) → ltZ got (pos 0) ≡ false → feedAll s (take (clamped got (length slice)) slice) ≡ afterRead got slice s
   came s e = sym (ap (λ (t : Bool). unless t (feedAll s (take (clamped got (length slice)) slice))) e)
 
-  pub once : {s t : Feed} (more : Bool) → t ≡ taken got slice s → more ≡ ltb 0 (clamped got (length slice)) → Reading s more t
+  pub once : {s t : Feed} (more : Bool) → t ≡ afterRead got slice s → more ≡ ltb 0 (clamped got (length slice)) → Reading s more t
   once more e m = record {
     input = take (clamped got (length slice)) slice;
     cut = ltZ got (pos 0);
@@ -83,21 +83,21 @@ module _ (file out : List ℕ) (n : length file ≡ 16384) (m : length out ≡ 3
   start : Feed
   start = record { parser = begin; file = file }
 
-  pub printing : {t : Feed} (w : Written) → Reading (record { parser = begin; file = file }) false t → w ≡ written (output (t .parser) (t .file)) out
-      → (w .count ≤ length (w .out)) × Printing (bytes w)
+  pub printing : {t : Feed} (w : Written) → Reading (record { parser = begin; file = file }) false t → w ≡ placed (toWrite (t .parser) (t .file)) out
+      → (w .count ≤ length (w .out)) × Printing (shown w)
   unfolding start
   printing {t} w a e = (
-    omega (arith, ap (λ (w : Written). w .count) e, ap (λ (w : Written). length (w .out)) e, share-laws .within (output (t .parser) (t .file)) out),
+    omega (arith, ap (λ (w : Written). w .count) e, ap (λ (w : Written). length (w .out)) e, share-laws .within (toWrite (t .parser) (t .file)) out),
     record {
       input = a .input;
       cut = a .cut;
-      said = ap bytes e ∙ ap (λ (t : Feed). bytes (written (output (t .parser) (t .file)) out)) (a .fed-all) ∙ go (a .cut);
+      said = ap shown e ∙ ap (λ (t : Feed). shown (placed (toWrite (t .parser) (t .file)) out)) (a .fed-all) ∙ go (a .cut);
     },
   )
     where
       s : Feed
       s = feedAll start (a .input)
 
-      go : (cut : Bool) → bytes (written (output (unless cut s .parser) (unless cut s .file)) out) ≡ pick cut (refusedLine 1) (printed (a .input))
+      go : (cut : Bool) → shown (placed (toWrite (unless cut s .parser) (unless cut s .file)) out) ≡ pick cut (refusedLine 1) (printed (a .input))
       go true = share-laws .failed-read (s .parser) (s .file) out (feed-laws .same-length start (a .input) ∙ n) m
       go false = share-laws .decides (s .parser) (s .file) out (feed-laws .same-length start (a .input) ∙ n) m ∙ feed-laws .decides file (a .input) n

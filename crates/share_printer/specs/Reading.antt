@@ -1,4 +1,5 @@
--- What the program's reads leave, and what it writes. No contract says which bytes a read gives: it is said of all those that were given.
+-- What the program's reads leave, and what it writes. `afterRead` says it outright of what a read answered. No contract says which bytes a
+-- read gives or when it fails, so the records say no more than that there were such bytes: the tests run the program on files and failures.
 -- Assumes nothing.
 use mathlib.Core.Path.{_≡_}
 use mathlib.Core.Bool.{Bool, true, false}
@@ -18,8 +19,8 @@ abbrev pub unless : Bool → Feed → Feed
 unless cut s = pick cut (record { parser = wrong (s .parser); file = s .file }) s
 
 -- after a read that answered `got`: below 0 it failed, else it put so many bytes at the beginning of the slice
-abbrev pub taken : ℤ → List ℕ → Feed → Feed
-taken got slice s = unless (ltZ got (pos 0)) (feedAll s (take (clamped got (length slice)) slice))
+abbrev pub afterRead : ℤ → List ℕ → Feed → Feed
+afterRead got slice s = unless (ltZ got (pos 0)) (feedAll s (take (clamped got (length slice)) slice))
 
 -- some bytes were fed, and then a read failed or none did; none failed where the input may go on
 pub record Reading (s : Feed) (more : Bool) (t : Feed) : Type 0 where

@@ -7,7 +7,7 @@ ghost use lib.Dec.{ltb};
 ghost use lib.ListN.{length, take};
 ghost use Rattle.io.specs.Counts.{clamped};
 ghost use Rattle.printer.specs.Machine.{begin};
-ghost use Rattle.share_printer.specs.Reading.{taken, Reading, Printing};
+ghost use Rattle.share_printer.specs.Reading.{afterRead, Reading, Printing};
 use printer::Parser;
 
 // The parser after a read, and whether the input may go on.
@@ -18,7 +18,7 @@ struct Step {
 
 // Feeds what a read gave; 0 bytes are the end of the input. A read that failed refuses it: the text of a file that was cut is never written.
 fn take_in(p: Parser, got: isize, slice: &[u8], file: &mut [u8]) -> Step
-    ensures { λ s. ⌜ record { parser = s .parser; file = now (file .exit) } ≡ taken got (now (slice .entry)) (record { parser = p; file = now (file .entry) }) ⌝ }
+    ensures { λ s. ⌜ record { parser = s .parser; file = now (file .exit) } ≡ afterRead got (now (slice .entry)) (record { parser = p; file = now (file .entry) }) ⌝ }
     ensures { λ s. ⌜ s .more ≡ ltb 0 (clamped got (length (now (slice .entry)))) ⌝ }
 {
     if got < 0 {

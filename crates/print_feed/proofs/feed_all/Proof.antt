@@ -53,9 +53,11 @@ loop-less c = search needs
 
 loop-again : tie.Need-loop-again Inv-loop μ-loop
 loop-again c =
-    let l = c .before .before .before .before .before .before .before .loop in
-    let a = c .before .before .before .before .before .before .before .before .before .before .args in
-    let k = c .before .before .before .keep .ensures in (
+    let kept = c .before .before .before in
+    let head = kept .before .before .before .before in
+    let a = head .before .before .before .args in
+    let l = head .loop in
+    let k = kept .keep .ensures in (
       ap length k ∙ in-length (l .q) _ (l .file) ∙ l .inv .0,
       omega arith,
       turn (l .q) (c .feed .result) (a .input .now) (l .file) _ (l .t) (omega arith) (c .feed .ensures) k ∙ l .inv .2,

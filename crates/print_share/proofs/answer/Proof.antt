@@ -9,7 +9,7 @@ use Rattle.sizes.specs.declared.Sizes.{Sizes}
 use Rattle.mbcr.specs.Share.{standard}
 use Rattle.board_statements.specs.Calls.{shareCall}
 use Rattle.printer.specs.Printer.{refusedLine, told}
-use Rattle.print_share.specs.Writing.{written}
+use Rattle.print_share.specs.Writing.{placed}
 use Rattle.print_share.proofs.Telling.{nothing, output-refused, output-lacks, output-told}
 use borrow.Author.Needs.{needs}
 use Rattle.print_share.proofs.answer.Statement.{statement}
@@ -26,16 +26,18 @@ same-length c = search needs
 
 returns : tie.Need-returns
 returns c =
-    let a = c .before .before .before .before .before .before .before .before .args in
-    let x = c .before .before .before .before .before .refusal .ensures in
-    c .before .before .refused .ensures ∙ ap (λ (x : ℕ). written (refusedLine x) (a .out .now)) x
-    ∙ ap (λ (l : List ℕ). written l (a .out .now)) (sym (output-refused (a .p) (a .file .now) (λ q. c .before .before .before .before .if1 .taken (x ∙ q))))
+    let at = c .before .before .before .before in
+    let a = at .before .before .before .before .args in
+    let x = at .before .refusal .ensures in
+    c .before .before .refused .ensures ∙ ap (λ (x : ℕ). placed (refusedLine x) (a .out .now)) x
+    ∙ ap (λ (l : List ℕ). placed l (a .out .now)) (sym (output-refused (a .p) (a .file .now) (λ q. at .if1 .taken (x ∙ q))))
 
 returns-2 : tie.Need-returns-2
 returns-2 c =
-    let a = c .before .before .before .before .before .args in
-    let e = sym (c .before .before .refusal .ensures) ∙ c .before .if1 .left in
-    nothing (a .out .now) ∙ ap (λ (l : List ℕ). written l (a .out .now)) (sym (output-lacks (a .p) (a .file .now) e (c .if2 .taken)))
+    let at = c .before .before in
+    let a = at .before .before .before .args in
+    let e = sym (at .refusal .ensures) ∙ c .before .if1 .left in
+    nothing (a .out .now) ∙ ap (λ (l : List ℕ). placed l (a .out .now)) (sym (output-lacks (a .p) (a .file .now) e (c .if2 .taken)))
 
 sizes-requires : tie.Need-sizes-requires
 sizes-requires c κs = search needs
@@ -54,14 +56,16 @@ same-length-2 c = search needs
 
 returns-3 : tie.Need-returns-3
 returns-3 c =
-    let at = c .before .before .before .before .before .before .before in
-    let a = at .before .before .before .before .before .before .args in
-    let e = sym (at .before .before .before .refusal .ensures) ∙ at .before .before .if1 .left in
+    let wrote = c .before .before .before in
+    let at = wrote .before .before .before .before in
+    let decided = at .before .before .before in
+    let a = decided .before .before .before .args in
+    let e = sym (decided .refusal .ensures) ∙ at .before .before .if1 .left in
     let kept = take (a .p .count) (a .file .now) in
     let area = replicate {A = ℕ} 17376 0 in
-    c .before .before .before .told .ensures .1
-    ∙ ap (λ (z : Sizes). written (told z (length kept) (a .p .node) (shareCall z standard (a .p .node) kept area)) (a .out .now)) (at .sizes .ensures)
-    ∙ ap (λ (l : List ℕ). written l (a .out .now)) (sym (output-told (a .p) (a .file .now) e (at .before .if2 .left) area (length-replicate {A = ℕ} 17376 0)))
+    wrote .told .ensures .1
+    ∙ ap (λ (z : Sizes). placed (told z (length kept) (a .p .node) (shareCall z standard (a .p .node) kept area)) (a .out .now)) (at .sizes .ensures)
+    ∙ ap (λ (l : List ℕ). placed l (a .out .now)) (sym (output-told (a .p) (a .file .now) e (at .before .if2 .left) area (length-replicate {A = ℕ} 17376 0)))
 
 pub answer-spec : {M : Type 1} → statement M
 answer-spec =

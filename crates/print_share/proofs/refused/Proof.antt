@@ -10,10 +10,8 @@ use borrow.Author.Needs.{needs}
 use Rattle.print_share.proofs.refused.Statement.{statement}
 use Rattle.print_share.proofs.refused.Tie as tie
 
-room : (c : tie.After-put-line-arg2) → let a = c .before .before .before .before .before .args in 0 + length (refusedLine (a .x)) ≤ length (a .out .now)
-room c =
-    let a = c .before .before .before .before .before .args in
-    omega (arith, line-length (a .x), c .before .before .if1 .left, c .before .before .before .decimal-len .ensures)
+room : (c : tie.After-put-line-arg2) → let at = c .before .before .before in let a = at .before .before .args in 0 + length (refusedLine (a .x)) ≤ length (a .out .now)
+room c = let at = c .before .before .before in omega (arith, line-length (at .before .before .args .x), c .before .before .if1 .left, at .decimal-len .ensures)
 
 decimal-len-requires : tie.Need-decimal-len-requires
 decimal-len-requires c κs = search needs

@@ -22,8 +22,9 @@ same-length c = search needs
 
 returns : tie.Need-returns
 returns c =
-    let t = c .before .before .before .before .before .text in
-    ap (λ (x : Answer). wroteIn (outcome x (t .last .1 .1 .1 .1 .0))) (sym (c .before .answer .given .1)) ∙ ap wroteIn (t .ensures)
+    let at = c .before in
+    let t = at .before .before .before .before .text in
+    ap (λ (x : Answer). wroteIn (outcome x (t .last .1 .1 .1 .1 .0))) (sym (at .answer .given .1)) ∙ ap wroteIn (t .ensures)
 
 same-length-2 : tie.Need-same-length-2
 same-length-2 c = search needs

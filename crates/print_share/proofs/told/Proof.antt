@@ -11,31 +11,39 @@ use Rattle.mbcr.specs.Share.{standard}
 use Rattle.board_statements.specs.Calls.{BoardOutcome, shareCall, textCall}
 use Rattle.checks.specs.Outcomes.{outcome}
 use Rattle.printer.specs.Printer.{refusedLine, told}
-use Rattle.print_share.specs.Writing.{written, wroteIn}
+use Rattle.print_share.specs.Writing.{placed, wroteIn}
 use Rattle.print_share.proofs.Telling.{share-done, share-refused}
 use borrow.Author.Needs.{needs}
 use Rattle.print_share.proofs.told.Statement.{statement}
 use Rattle.print_share.proofs.told.Tie as tie
 
--- what the call said
-said-done : (c : tie.After-answer) → let a = c .before .before .before .before .before .before .before .before .before .args in
-    outcome (Done (c .answer .given .0 .0)) (c .before .before .before .before .share .last .1 .1 .1 .0) ≡ shareCall (a .z) standard (a .node) (a .file .now) (a .share .now)
-said-done c = let s = c .before .before .before .before .share in ap (λ (x : Answer). outcome x (s .last .1 .1 .1 .0)) (sym (c .answer .given .1)) ∙ s .ensures
+-- the call behind an answer, and what it was given
+abbrev called : tie.After-answer → tie.After-share
+called c = c .before .before .before .before
 
-said-refused : (c : tie.After-answer2) → let a = c .before .before .before .before .before .before .before .before .before .args in
-    outcome (Refused (c .answer2 .given .0 .0)) (c .before .before .before .before .share .last .1 .1 .1 .0) ≡ shareCall (a .z) standard (a .node) (a .file .now) (a .share .now)
-said-refused c = let s = c .before .before .before .before .share in ap (λ (x : Answer). outcome x (s .last .1 .1 .1 .0)) (sym (c .answer2 .given .1)) ∙ s .ensures
+abbrev called2 : tie.After-answer2 → tie.After-share
+called2 c = c .before .before .before .before
+
+abbrev entry : tie.After-share → tie.Start
+entry c = let at = c .before in at .before .before .before .before
+
+-- what the call said
+said-done : (c : tie.After-answer) → let s = called c in let a = entry s .args in
+    outcome (Done (c .answer .given .0 .0)) (s .share .last .1 .1 .1 .0) ≡ shareCall (a .z) standard (a .node) (a .file .now) (a .share .now)
+said-done c = let s = called c .share in ap (λ (x : Answer). outcome x (s .last .1 .1 .1 .0)) (sym (c .answer .given .1)) ∙ s .ensures
+
+said-refused : (c : tie.After-answer2) → let s = called2 c in let a = entry s .args in
+    outcome (Refused (c .answer2 .given .0 .0)) (s .share .last .1 .1 .1 .0) ≡ shareCall (a .z) standard (a .node) (a .file .now) (a .share .now)
+said-refused c = let s = called2 c .share in ap (λ (x : Answer). outcome x (s .last .1 .1 .1 .0)) (sym (c .answer2 .given .1)) ∙ s .ensures
 
 -- the share's bytes are there, and what is written of their text
-done : (c : tie.After-answer) → let a = c .before .before .before .before .before .before .before .before .before .args in
+done : (c : tie.After-answer) → let s = called c in let a = entry s .args in
     let v = c .answer .given .0 .0 in
-    let after = c .before .before .before .before .share .last .1 .1 .1 .0 in
+    let after = s .share .last .1 .1 .1 .0 in
     (v ≤ length after)
     × ((l : List ℕ) → wroteIn (textCall (a .z) standard (length (a .file .now)) (a .node) (take v after) l)
-    ≡ written (told (a .z) (length (a .file .now)) (a .node) (shareCall (a .z) standard (a .node) (a .file .now) (a .share .now))) l)
-done c =
-    let a = c .before .before .before .before .before .before .before .before .before .args in
-    share-done (a .z) (a .node) (a .file .now) (a .share .now) _ _ (said-done c)
+    ≡ placed (told (a .z) (length (a .file .now)) (a .node) (shareCall (a .z) standard (a .node) (a .file .now) (a .share .now))) l)
+done c = let a = entry (called c) .args in share-done (a .z) (a .node) (a .file .now) (a .share .now) _ _ (said-done c)
 
 share-requires : tie.Need-share-requires
 share-requires c κs = search needs
@@ -69,9 +77,10 @@ same-length-2 c = search needs
 
 returns : tie.Need-returns
 returns c =
-    let at = c .before .before .before .before .before .before in
-    let a = at .before .before .before .before .before .before .before .before .before .args in
-    (ap (λ (o : BoardOutcome). o .output) (at .before .before .before .before .share .ensures), c .before .before .text .ensures ∙ done at .1 (a .out .now))
+    let t = c .before .before in
+    let at = t .before .before .before .before in
+    let s = called at in
+    (ap (λ (o : BoardOutcome). o .output) (s .share .ensures), t .text .ensures ∙ done at .1 (entry s .args .out .now))
 
 same-length-3 : tie.Need-same-length-3
 same-length-3 c = search needs
@@ -81,11 +90,13 @@ same-length-4 c = search needs
 
 returns-2 : tie.Need-returns-2
 returns-2 c =
-    let at = c .before .before .before .before .before .before in
-    let a = at .before .before .before .before .before .before .before .before .before .args in (
-      ap (λ (o : BoardOutcome). o .output) (at .before .before .before .before .share .ensures),
-      c .before .before .refused .ensures ∙ ap (λ (x : ℕ). written (refusedLine x) (a .out .now)) (c .before .before .before .before .number .ensures)
-          ∙ ap (λ (l : List ℕ). written l (a .out .now)) (share-refused (a .z) (a .node) (a .file .now) (a .share .now) (at .answer2 .given .0 .0) _ (said-refused at)),
+    let t = c .before .before in
+    let at = t .before .before .before .before in
+    let s = called2 at in
+    let a = entry s .args in (
+      ap (λ (o : BoardOutcome). o .output) (s .share .ensures),
+      t .refused .ensures ∙ ap (λ (x : ℕ). placed (refusedLine x) (a .out .now)) (t .before .before .number .ensures)
+          ∙ ap (λ (l : List ℕ). placed l (a .out .now)) (share-refused (a .z) (a .node) (a .file .now) (a .share .now) (at .answer2 .given .0 .0) _ (said-refused at)),
     )
 
 pub told-spec : {M : Type 1} → statement M

@@ -19,8 +19,10 @@ same-length-2 c = search needs
 
 returns : tie.Need-returns
 returns c =
-    let w = c .before .before .answer in
-    let at = c .before .before .before .before .before .before .before in
+    let answered = c .before .before in
+    let w = answered .answer in
+    let read = answered .before .before .before in
+    let at = read .before .before in
     let start = at .before .before .before .before in
     printing (start .args .file .now) (start .args .out .now) (start .pre .0) (start .pre .1)
     (record { count = w .result; out = w .last .1 .1 .0 }) (at .read-all .ensures) (w .ensures)

@@ -34,9 +34,10 @@ loop-less c = search needs
 
 loop-again : tie.Need-loop-again Inv-loop μ-loop
 loop-again c =
-    let l = c .before .before .before .before .before .before .before .loop in
-    let r = c .before .before .before .read-some in
-    (r .kept .1 .0 ∙ l .inv .0, next (l .inv .1) (c .before .before .before .before .before .if1 .taken) (r .ensures))
+    let r = c .before .before .before in
+    let going = r .before .before in
+    let l = going .before .before .loop in
+    (r .read-some .kept .1 .0 ∙ l .inv .0, next (l .inv .1) (going .if1 .taken) (r .read-some .ensures))
 
 wrong-requires : tie.Need-wrong-requires Inv-loop μ-loop
 wrong-requires c κs = search needs

@@ -24,8 +24,9 @@ same-length c = search needs
 
 returns : tie.Need-returns
 returns c =
-    let r = c .before .before .before .before .before .before .read in
-    let t = c .before .before .take-in in
+    let at = c .before .before in
+    let t = at .take-in in
+    let r = at .before .before .before .before .read in
     once (toZ w64 (ofZ w64 (r .result))) (r .last .1 .0) (t .result .more) (t .ensures .0) (t .ensures .1)
 
 pub read-some-spec : {M : Type 1} → statement M

@@ -1,6 +1,6 @@
 -- `share_printer::take_in` meets its contract, by the sign of what a read answered.
 -- Assumes nothing.
-use mathlib.Core.Path.{_≡_, sym, ap, _∙_}
+use mathlib.Core.Path.{sym, ap, _∙_}
 use Prim.Native.Nat.{ℕ}
 use lib.Dec.{ltb}
 use lib.ListN.{length, take}
@@ -40,13 +40,14 @@ same-length c = search needs
 
 returns-2 : tie.Need-returns-2
 returns-2 c =
-    let at = c .before .before .before .before .before in
+    let fed = c .before .before in
+    let at = fed .before .before .before in
     let a = at .before .before .before .before .args in
     let back = toZ-ofZ w64 (a .got) (at .before .before .before .before .fits .got) in
     let e = ap (λ (z : ℤ). ltZ z (pos 0)) (sym back) ∙ at .before .if1 .left in
     let s : Feed = record { parser = a .p; file = a .file .now } in
     let n = at .count .ensures .1 ∙ ap (λ (z : ℤ). clamped z (length (a .slice .now))) back in
-    (c .before .before .feed-all .ensures ∙ ap (λ (m : ℕ). feedAll s (take m (a .slice .now))) n ∙ came (a .got) (a .slice .now) s e, ap (ltb 0) n)
+    (fed .feed-all .ensures ∙ ap (λ (m : ℕ). feedAll s (take m (a .slice .now))) n ∙ came (a .got) (a .slice .now) s e, ap (ltb 0) n)
 
 pub take-in-spec : {M : Type 1} → statement M
 take-in-spec =
