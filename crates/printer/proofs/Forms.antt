@@ -13,7 +13,7 @@ use Rattle.lists.specs.Lists.{All}
 use Rattle.board_statements.specs.Demand1.{value}
 use Rattle.board_statements.specs.Text.{decimal, textLine}
 use Rattle.board_statements.proofs.Text.{text-laws}
-use Rattle.printer.specs.Printer.{refusedLine, digit, digits, lone, number, line}
+use Rattle.printer.specs.Printer.{refusedLine, digit, readDigits, readLone, readNumber, line}
 use Rattle.printer.specs.Laws.{Number, Begins}
 use Rattle.printer.proofs.Picks.{yes, no, if-eq, if-ne}
 use Rattle.printer.proofs.Fed.{digit-range}
@@ -26,20 +26,20 @@ Digit c = (0x30 ≤ c) × (c ≤ 0x39)
 digit-yes : (c : ℕ) → Digit c → digit c ≡ true
 digit-yes c h = no (ltb c 0x30) false (ltb c 0x3A) (le-ltb c 0x30 (h .0)) ∙ lt-ltb c 0x3A (omega (arith, h .1))
 
-digits-taken : (l : List ℕ) (v : ℕ) (input : List ℕ) (go : ℕ → List ℕ → List ℕ) → All Digit l → digits v (l ++ (0x0A ∷ input)) go ≡ go (value l v) input
+digits-taken : (l : List ℕ) (v : ℕ) (input : List ℕ) (go : ℕ → List ℕ → List ℕ) → All Digit l → readDigits v (l ++ (0x0A ∷ input)) go ≡ go (value l v) input
 digits-taken [] v input go h = refl
 digits-taken (c ∷ l) v input go h =
     if-ne c 0x0A _ _ (λ e. omega (arith, h .0 .0)) ∙ yes (digit c) _ _ (digit-yes c (h .0)) ∙ digits-taken l (10 * v + (c - 0x30)) input go (h .1)
 
-number-taken : (l input : List ℕ) (go : ℕ → List ℕ → List ℕ) → Number l → number (l ++ (0x0A ∷ input)) go ≡ go (value l 0) input
+number-taken : (l input : List ℕ) (go : ℕ → List ℕ → List ℕ) → Number l → readNumber (l ++ (0x0A ∷ input)) go ≡ go (value l 0) input
 number-taken l input go (inl e) = rw e
 number-taken [] input go (inr h) = absurd (omega (arith, h .1))
 number-taken (c ∷ l) input go (inr h) =
     let e : c - 0x30 ≡ 10 * 0 + (c - 0x30) = omega arith in
     if-ne c 0x30 _ _ (λ e. omega (arith, h .1)) ∙ yes (digit c) _ _ (digit-yes c (h .0 .0))
-    ∙ ap (λ (x : ℕ). digits x (l ++ (0x0A ∷ input)) go) e ∙ digits-taken l (10 * 0 + (c - 0x30)) input go (h .0 .1)
+    ∙ ap (λ (x : ℕ). readDigits x (l ++ (0x0A ∷ input)) go) e ∙ digits-taken l (10 * 0 + (c - 0x30)) input go (h .0 .1)
 
-name-taken : (name input : List ℕ) (go : ℕ → List ℕ → List ℕ) → line name (name ++ input) go ≡ number input go
+name-taken : (name input : List ℕ) (go : ℕ → List ℕ → List ℕ) → line name (name ++ input) go ≡ readNumber input go
 name-taken [] input go = refl
 name-taken (c ∷ name) input go = if-eq c c _ _ refl ∙ name-taken name input go
 
@@ -70,31 +70,31 @@ abbrev Found : (List ℕ → Type 0) → ((ℕ → List ℕ → List ℕ) → Li
 Found P said input =
     ((l : List ℕ) × (rest : List ℕ) × P l × (input ≡ l ++ (0x0A ∷ rest))) ⊎ ((go : ℕ → List ℕ → List ℕ) → said go ≡ refusedLine 1)
 
-digits-found : (input : List ℕ) (v : ℕ) → Found (All Digit) (digits v input) input
+digits-found : (input : List ℕ) (v : ℕ) → Found (All Digit) (readDigits v input) input
 digits-found [] v = inr (λ go. refl)
 digits-found (b ∷ input) v = go (eqb b 0x0A) refl (digit b) refl (digits-found input (10 * v + (b - 0x30)))
   where
-    go : (t : Bool) → eqb b 0x0A ≡ t → (u : Bool) → digit b ≡ u → Found (All Digit) (digits (10 * v + (b - 0x30)) input) input
-        → Found (All Digit) (digits v (b ∷ input)) (b ∷ input)
+    go : (t : Bool) → eqb b 0x0A ≡ t → (u : Bool) → digit b ≡ u → Found (All Digit) (readDigits (10 * v + (b - 0x30)) input) input
+        → Found (All Digit) (readDigits v (b ∷ input)) (b ∷ input)
     go true e u f ih = inl ([], input, tt, ap (λ (c : ℕ). c ∷ input) (eqb-true b 0x0A e))
     go false e true f (inl h) = inl (b ∷ h .0, h .1, (digit-range b f, h .2), ap {B = List ℕ} (λ l. b ∷ l) (h .3))
     go false e true f (inr h) = inr (λ then. no (eqb b 0x0A) _ _ e ∙ yes (digit b) _ _ f ∙ h then)
     go false e false f ih = inr (λ then. no (eqb b 0x0A) _ _ e ∙ no (digit b) _ _ f)
 
-lone-found : (input : List ℕ) → Found (λ l. l ≡ []) (lone input) input
+lone-found : (input : List ℕ) → Found (λ l. l ≡ []) (readLone input) input
 lone-found [] = inr (λ go. refl)
 lone-found (b ∷ input) = go (eqb b 0x0A) refl
   where
-    go : (t : Bool) → eqb b 0x0A ≡ t → Found (λ l. l ≡ []) (lone (b ∷ input)) (b ∷ input)
+    go : (t : Bool) → eqb b 0x0A ≡ t → Found (λ l. l ≡ []) (readLone (b ∷ input)) (b ∷ input)
     go true e = inl ([], input, refl, ap (λ (c : ℕ). c ∷ input) (eqb-true b 0x0A e))
     go false e = inr (λ then. no (eqb b 0x0A) _ _ e)
 
-number-found : (input : List ℕ) → Found Number (number input) input
+number-found : (input : List ℕ) → Found Number (readNumber input) input
 number-found [] = inr (λ go. refl)
 number-found (b ∷ input) = go (eqb b 0x30) refl (digit b) refl (lone-found input) (digits-found input (b - 0x30))
   where
-    go : (t : Bool) → eqb b 0x30 ≡ t → (u : Bool) → digit b ≡ u → Found (λ l. l ≡ []) (lone input) input
-        → Found (All Digit) (digits (b - 0x30) input) input → Found Number (number (b ∷ input)) (b ∷ input)
+    go : (t : Bool) → eqb b 0x30 ≡ t → (u : Bool) → digit b ≡ u → Found (λ l. l ≡ []) (readLone input) input
+        → Found (All Digit) (readDigits (b - 0x30) input) input → Found Number (readNumber (b ∷ input)) (b ∷ input)
     go true e u f (inl h) s = inl (b ∷ h .0, h .1, inl (ap₂ {C = List ℕ} (λ (x : ℕ) y. x ∷ y) (eqb-true b 0x30 e) (h .2)), ap {B = List ℕ} (λ l. b ∷ l) (h .3))
     go true e u f (inr h) s = inr (λ then. yes (eqb b 0x30) _ _ e ∙ h then)
     go false e true f r (inl h) =

@@ -1,16 +1,17 @@
 -- The laws of specs/Laws.antt.
 -- Assumes nothing.
-use mathlib.Core.Path.{_≡_, sym, _∙_}
+use mathlib.Core.Path.{_≡_, refl, sym, _∙_}
 use mathlib.Core.List.{List, [], _∷_}
 use Prim.Native.Nat.{ℕ}
 use native.Mathlib.Nat.{add-zero}
 use Rattle.printer.specs.declared.Parser.{Parser}
 use Rattle.printer.specs.Laws.{PrinterLaws}
 use Rattle.printer.specs.Printer.{printed}
-use Rattle.printer.specs.Machine.{begin, fed, keep, runs}
+use Rattle.printer.specs.Machine.{begin, wrong, fed, keep, runs}
 use Rattle.printer.proofs.Forms.{line-taken, line-else, decimal-taken}
+use Rattle.printer.proofs.Whole.{printed-for}
 use Rattle.printer.proofs.Room.{any-room}
-use Rattle.printer.proofs.Rest.{rest, step, at-end}
+use Rattle.printer.proofs.Rest.{rest, rest-bad, step, at-end}
 use Rattle.printer.proofs.Near.{filing}
 
 first-said : (input : List ℕ) → rest begin [] input ≡ printed input
@@ -26,6 +27,8 @@ printer-laws = record {
   taken = line-taken;
   else-refused = line-else;
   decimals = decimal-taken;
+  printed-for = printed-for;
   byte-by-byte = λ input. runs-rest input begin [] ∙ first-said input;
+  failed-read = λ p kept input. runs-rest input (wrong p) kept ∙ rest-bad (wrong p) kept input refl;
   any-room = any-room;
 }

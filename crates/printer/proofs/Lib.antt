@@ -4,5 +4,6 @@ pub mod Near
 pub mod Rest
 pub mod Forms
 pub mod Room
+pub mod Whole
 pub mod Laws
 pub mod Figures

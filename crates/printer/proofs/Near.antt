@@ -15,8 +15,8 @@ use Rattle.sizes.specs.Sizing.{legal, B}
 use Rattle.sizes.proofs.Legal.{legal-no, legal-facts}
 use Rattle.board_statements.specs.Calls.{shareCall, shareLines}
 use Rattle.printer.specs.declared.Parser.{Parser}
-use Rattle.printer.specs.Printer.{refusedLine, maxFile, digit, digits, shared}
-use Rattle.printer.specs.Machine.{stored, grown, sizesOf}
+use Rattle.printer.specs.Printer.{refusedLine, maxFile, digit, readDigits, shared}
+use Rattle.printer.specs.Machine.{stored, grown, sizesRead}
 use Rattle.printer.proofs.Picks.{yes, no}
 
 abbrev pub Like : ℕ → ℕ → Type 0
@@ -41,7 +41,7 @@ like-grown v x = go (ltb v 100) refl
 abbrev pub Blind : (ℕ → List ℕ → List ℕ) → Type 0
 Blind go = (v w : ℕ) → Like v w → (input : List ℕ) → go v input ≡ go w input
 
-pub digits-like : (go : ℕ → List ℕ → List ℕ) → Blind go → (input : List ℕ) (v w : ℕ) → Like v w → digits v input go ≡ digits w input go
+pub digits-like : (go : ℕ → List ℕ → List ℕ) → Blind go → (input : List ℕ) (v w : ℕ) → Like v w → readDigits v input go ≡ readDigits w input go
 digits-like go blind [] v w h = refl
 digits-like go blind (b ∷ input) v w h =
     ap₂ {C = List ℕ} (λ x y. pick (eqb b 0x0A) x (pick (digit b) y (refusedLine 1)))
@@ -62,7 +62,7 @@ sizes-like z w (inl a) (inl b) (inr h) d = inr (legal-no z (λ f. omega arith), 
 sizes-like z w (inl a) (inl b) (inl c) (inr h) = inr (legal-no z (λ f. omega arith), legal-no w (λ f. omega arith))
 
 -- a board number of n or more
-shared-far : (z : Sizes) (v : ℕ) (file : List ℕ) → legal z ≡ true → z .n ≤ v
+pub shared-far : (z : Sizes) (v : ℕ) (file : List ℕ) → legal z ≡ true → z .n ≤ v
     → shared z v file ≡ pick (ltb (4096 * B z) (length file)) (refusedLine 3) (refusedLine 5)
 unfolding shared shareCall shareLines
 shared-far z v file l h = go (ltb (4096 * B z) (length file)) refl
@@ -113,13 +113,13 @@ pub near-self : (p : Parser) → Near p p
 near-self p = record { n = inl refl; k = inl refl; d = inl refl; r = inl refl; node = inl refl; count = refl }
 
 pub near-filing : (p q : Parser) (kept input : List ℕ) → Near p q
-    → filing (sizesOf p) (p .node) (p .count) kept input ≡ filing (sizesOf q) (q .node) (q .count) kept input
+    → filing (sizesRead p) (p .node) (p .count) kept input ≡ filing (sizesRead q) (q .node) (q .count) kept input
 unfolding filing
-near-filing p q kept input h = go (sizes-like (sizesOf p) (sizesOf q) (h .n) (h .k) (h .d) (h .r))
+near-filing p q kept input h = go (sizes-like (sizesRead p) (sizesRead q) (h .n) (h .k) (h .d) (h .r))
   where
-    go : (sizesOf p ≡ sizesOf q) ⊎ ((legal (sizesOf p) ≡ false) × (legal (sizesOf q) ≡ false))
-        → filing (sizesOf p) (p .node) (p .count) kept input ≡ filing (sizesOf q) (q .node) (q .count) kept input
+    go : (sizesRead p ≡ sizesRead q) ⊎ ((legal (sizesRead p) ≡ false) × (legal (sizesRead q) ≡ false))
+        → filing (sizesRead p) (p .node) (p .count) kept input ≡ filing (sizesRead q) (q .node) (q .count) kept input
     go (inl e) =
         ap₂ {C = List ℕ} (λ z c. filing z (p .node) c kept input) e (h .count)
-        ∙ filing-node (sizesOf q) (p .node) (q .node) (q .count) kept input (h .node)
-    go (inr e) = no (legal (sizesOf p)) _ _ (e .0) ∙ sym (no (legal (sizesOf q)) _ _ (e .1))
+        ∙ filing-node (sizesRead q) (p .node) (q .node) (q .count) kept input (h .node)
+    go (inr e) = no (legal (sizesRead p)) _ _ (e .0) ∙ sym (no (legal (sizesRead q)) _ _ (e .1))

@@ -16,14 +16,14 @@ use Rattle.lists.specs.Tests.{pick}
 use Rattle.sizes.specs.declared.Sizes.{Sizes}
 use Rattle.sizes.specs.Sizing.{legal}
 use Rattle.printer.specs.declared.Parser.{Parser}
-use Rattle.printer.specs.Printer.{refusedLine, maxFile, digit, digits, lone, number, line, shared}
-use Rattle.printer.specs.Machine.{nameOf, moved, wrong, stored, counted, grown, fedLone, fedDigits, fedFirst, fedName, fed, keep, sizesOf, refusalOf, decided}
+use Rattle.printer.specs.Printer.{refusedLine, maxFile, digit, readDigits, readLone, readNumber, line, shared}
+use Rattle.printer.specs.Machine.{nameOf, moved, wrong, stored, counted, grown, fedLone, fedDigits, fedFirst, fedName, fed, keep, sizesRead, refusalOf, decided}
 use Rattle.printer.proofs.Picks.{yes, no, if-eq, if-ne, if-lt, if-le}
 use Rattle.printer.proofs.Near.{Blind, Near, like-grown, digits-like, filing, near-stored, near-self, near-filing}
 use Rattle.printer.proofs.Fed.{fed-bad, fed-file, fed-lone, fed-digits, fed-name, fed-first}
 
 abbrev pub filed : Parser → List ℕ → List ℕ → List ℕ
-filed p kept input = filing (sizesOf p) (p .node) (p .count) kept input
+filed p kept input = filing (sizesRead p) (p .node) (p .count) kept input
 
 -- that many lines, then the file
 abbrev pub lines : ℕ → Parser → List ℕ → List ℕ → List ℕ
@@ -33,7 +33,7 @@ lines (suc m) p kept input = line (nameOf (suc m)) input (λ v rest. lines m (st
 -- the line that the parser is in
 abbrev pub within : Parser → List ℕ → (ℕ → List ℕ → List ℕ) → List ℕ
 within p input go =
-    pick (eqb (p .part) 1) (lone input go) (pick (eqb (p .part) 2) (digits (p .value) input go) (line (drop (p .at) (nameOf (p .left))) input go))
+    pick (eqb (p .part) 1) (readLone input go) (pick (eqb (p .part) 2) (readDigits (p .value) input go) (line (drop (p .at) (nameOf (p .left))) input go))
 
 abbrev pub left-over : ℕ → Parser → List ℕ → List ℕ → List ℕ
 left-over zero p kept input = filed p kept input
@@ -53,7 +53,7 @@ blind m p kept v w h input = near-lines m _ _ kept input (near-stored (suc m) p 
 
 -- ---- the parsers that come next
 
-rest-bad : (p : Parser) (kept input : List ℕ) → p .bad ≡ true → rest p kept input ≡ refusedLine 1
+pub rest-bad : (p : Parser) (kept input : List ℕ) → p .bad ≡ true → rest p kept input ≡ refusedLine 1
 unfolding rest
 rest-bad p kept input e = yes (p .bad) _ _ e
 
@@ -95,22 +95,22 @@ module _ (m : ℕ) (p : Parser) (kept : List ℕ) (good : p .bad ≡ false) (her
   to-wrong : rest (wrong p) kept input ≡ refusedLine 1
   to-wrong = rest-bad (wrong p) kept input refl
 
-  lone-step : lone (b ∷ input) go-on ≡ rest (fedLone p b) kept input
+  lone-step : readLone (b ∷ input) go-on ≡ rest (fedLone p b) kept input
   lone-step =
       ap₂ {C = List ℕ} (λ x y. pick (eqb b 0x0A) x y) (sym (to-stored 0)) (sym to-wrong)
       ∙ sym (rest-pick (eqb b 0x0A) (stored (p .left) p 0) (wrong p) kept input)
 
-  digits-step : digits (p .value) (b ∷ input) go-on ≡ rest (fedDigits p b) kept input
+  digits-step : readDigits (p .value) (b ∷ input) go-on ≡ rest (fedDigits p b) kept input
   unfolding go-on
   digits-step =
       let q = moved p 2 (p .at) (grown (p .value) (b - 0x30)) (p .bad) in
-      let e : digits (10 * p .value + (b - 0x30)) input go-on ≡ rest q kept input =
+      let e : readDigits (10 * p .value + (b - 0x30)) input go-on ≡ rest q kept input =
       digits-like go-on (blind m p kept) input _ _ (like-grown (p .value) (b - 0x30)) ∙ sym (to-moved 2 (p .at) (grown (p .value) (b - 0x30))) in
       ap₂ {C = List ℕ} (λ x y. pick (eqb b 0x0A) x y) (sym (to-stored (p .value)))
       (ap₂ {C = List ℕ} (λ x y. pick (digit b) x y) e (sym to-wrong) ∙ sym (rest-pick (digit b) q (wrong p) kept input))
       ∙ sym (rest-pick (eqb b 0x0A) (stored (p .left) p (p .value)) (pick (digit b) q (wrong p)) kept input)
 
-  first-step : number (b ∷ input) go-on ≡ rest (fedFirst p b) kept input
+  first-step : readNumber (b ∷ input) go-on ≡ rest (fedFirst p b) kept input
   first-step =
       let q = moved p 1 (p .at) (p .value) (p .bad) in
       let s = moved p 2 (p .at) (b - 0x30) (p .bad) in
@@ -198,7 +198,7 @@ step p kept b input = go (p .bad) refl (p .left) refl
         rest-bad p kept (b ∷ input) e
         ∙ sym (ap₂ {C = List ℕ} (λ x y. rest x y input) (fed-bad p b e) (yes (p .bad) _ _ e) ∙ rest-bad p kept input e)
     go false e zero f =
-        rest-file p kept (b ∷ input) e f ∙ filing-step (sizesOf p) (p .node) (p .count) kept b input
+        rest-file p kept (b ∷ input) e f ∙ filing-step (sizesRead p) (p .node) (p .count) kept b input
         ∙ sym (ap₂ {C = List ℕ} (λ x y. rest x y input) (fed-file p b e f) (no (p .bad) _ _ e ∙ if-eq (p .left) 0 _ _ f)
         ∙ rest-file (counted p) (pick (ltb (p .count) maxFile) (kept ++ (b ∷ [])) kept) input e f)
     go false e (suc m) f =
@@ -224,17 +224,17 @@ pub at-end : (p : Parser) (kept : List ℕ) → rest p kept [] ≡ decided p kep
 unfolding decided filing
 at-end p kept = go (p .bad) refl (p .left) refl
   where
-    said : (x : ℕ) → refusalOf p ≡ x → decided p kept ≡ pick (eqb x 0) (shared (sizesOf p) (p .node) kept) (refusedLine x)
-    said x e = ap (λ (x : ℕ). pick (eqb x 0) (shared (sizesOf p) (p .node) kept) (refusedLine x)) e
+    said : (x : ℕ) → refusalOf p ≡ x → decided p kept ≡ pick (eqb x 0) (shared (sizesRead p) (p .node) kept) (refusedLine x)
+    said x e = ap (λ (x : ℕ). pick (eqb x 0) (shared (sizesRead p) (p .node) kept) (refusedLine x)) e
 
     go : (t : Bool) → p .bad ≡ t → (m : ℕ) → p .left ≡ m → rest p kept [] ≡ decided p kept
     go true e m f = rest-bad p kept [] e ∙ sym (said 1 (yes (p .bad) _ _ e))
     go false e zero f =
         rest-file p kept [] e f
-        ∙ ap₂ {C = List ℕ} (λ (x : ℕ) y. pick (legal (sizesOf p)) (pick (ltb maxFile x) (refusedLine 3) (shared (sizesOf p) (p .node) y)) (refusedLine 1))
+        ∙ ap₂ {C = List ℕ} (λ (x : ℕ) y. pick (legal (sizesRead p)) (pick (ltb maxFile x) (refusedLine 3) (shared (sizesRead p) (p .node) y)) (refusedLine 1))
         (zero-add (p .count)) (append-nil kept)
-        ∙ file-said (legal (sizesOf p)) (ltb maxFile (p .count)) (shared (sizesOf p) (p .node) kept)
-        ∙ sym (said (pick (legal (sizesOf p)) (pick (ltb maxFile (p .count)) 3 0) 1) (no (p .bad) _ _ e ∙ if-eq (p .left) 0 _ _ f))
+        ∙ file-said (legal (sizesRead p)) (ltb maxFile (p .count)) (shared (sizesRead p) (p .node) kept)
+        ∙ sym (said (pick (legal (sizesRead p)) (pick (ltb maxFile (p .count)) 3 0) 1) (no (p .bad) _ _ e ∙ if-eq (p .left) 0 _ _ f))
     go false e (suc m) f =
         rest-within m p kept [] e f
         ∙ ap (λ (l : List ℕ). pick (eqb (p .part) 1) (refusedLine 1) (pick (eqb (p .part) 2) (refusedLine 1) l)) (line-none (drop (p .at) (nameOf (p .left))) _)

@@ -28,8 +28,10 @@ module _ (z : Sizes) (node : ℕ) (file output : List ℕ) (enough : stripes z (
   lines-same : shareLines z standard node file (fit (stripes z (length file) * α z) []) ≡ shareLines z standard node file output
   unfolding shareLines
   lines-same =
-      let n = length-fit (stripes z (length file) * α z) [] in
-      ap (λ t. sizeLine z ∷ longLine z (length file) ∷ nodeLine z (node ∷ []) ∷ Short when t ∷ []) (le-ltb (length (fit (stripes z (length file) * α z) [])) (stripes z (length file) * α z) (omega arith) ∙ sym (le-ltb _ _ enough))
+      let room = stripes z (length file) * α z in
+      let n = length-fit room [] in
+      let enough-there = le-ltb (length (fit room [])) room (omega arith) ∙ sym (le-ltb _ _ enough) in
+      ap (λ t. sizeLine z ∷ longLine z (length file) ∷ nodeLine z (node ∷ []) ∷ Short when t ∷ []) enough-there
 
   pub any-room : shared z node file ≡ told z (length file) node (shareCall z standard node file output)
   unfolding shared shareCall

@@ -37,7 +37,7 @@ moved p part at value bad = record {
   bad = bad;
 }
 
--- the line is malformed
+-- the line is malformed, or a read failed
 abbrev pub wrong : Parser → Parser
 wrong p = moved p (p .part) (p .at) (p .value) true
 
@@ -106,16 +106,16 @@ fed p b = pick (p .bad) p (pick (eqb (p .left) 0) (counted p) (fedLine p b))
 abbrev pub keep : Parser → List ℕ → ℕ → List ℕ
 keep p kept b = pick (p .bad) kept (pick (eqb (p .left) 0) (pick (ltb (p .count) maxFile) (kept ++ (b ∷ [])) kept) kept)
 
-abbrev pub sizesOf : Parser → Sizes
-sizesOf p = record { n = p .n; k = p .k; d = p .d; r = p .r }
+abbrev pub sizesRead : Parser → Sizes
+sizesRead p = record { n = p .n; k = p .k; d = p .d; r = p .r }
 
 -- "a malformed line gives 1", then sizes that are not legal, then "more than 16,384 file bytes give 3"; else 0
 abbrev pub refusalOf : Parser → ℕ
-refusalOf p = pick (p .bad) 1 (pick (eqb (p .left) 0) (pick (legal (sizesOf p)) (pick (ltb maxFile (p .count)) 3 0) 1) 1)
+refusalOf p = pick (p .bad) 1 (pick (eqb (p .left) 0) (pick (legal (sizesRead p)) (pick (ltb maxFile (p .count)) 3 0) 1) 1)
 
 -- what is written at the end
 unfoldable pub decided : Parser → List ℕ → List ℕ
-decided p kept = pick (eqb (refusalOf p) 0) (shared (sizesOf p) (p .node) kept) (refusedLine (refusalOf p))
+decided p kept = pick (eqb (refusalOf p) 0) (shared (sizesRead p) (p .node) kept) (refusedLine (refusalOf p))
 
 -- the input byte by byte, from a parser and what was kept
 abbrev pub runs : Parser → List ℕ → List ℕ → List ℕ

@@ -26,23 +26,23 @@ abbrev pub digit : ℕ → Bool
 digit b = pick (ltb b 0x30) false (ltb b 0x3A)
 
 -- more digits of a number that is v so far, then byte 0A; "a malformed line gives 1"
-abbrev pub digits : ℕ → List ℕ → (ℕ → List ℕ → List ℕ) → List ℕ
-digits v [] go = refusedLine 1
-digits v (b ∷ input) go = pick (eqb b 0x0A) (go v input) (pick (digit b) (digits (10 * v + (b - 0x30)) input go) (refusedLine 1))
+abbrev pub readDigits : ℕ → List ℕ → (ℕ → List ℕ → List ℕ) → List ℕ
+readDigits v [] go = refusedLine 1
+readDigits v (b ∷ input) go = pick (eqb b 0x0A) (go v input) (pick (digit b) (readDigits (10 * v + (b - 0x30)) input go) (refusedLine 1))
 
 -- byte 0A behind a first digit 0
-abbrev pub lone : List ℕ → (ℕ → List ℕ → List ℕ) → List ℕ
-lone [] go = refusedLine 1
-lone (b ∷ input) go = pick (eqb b 0x0A) (go 0 input) (refusedLine 1)
+abbrev pub readLone : List ℕ → (ℕ → List ℕ → List ℕ) → List ℕ
+readLone [] go = refusedLine 1
+readLone (b ∷ input) go = pick (eqb b 0x0A) (go 0 input) (refusedLine 1)
 
 -- "decimals with no leading zero"
-abbrev pub number : List ℕ → (ℕ → List ℕ → List ℕ) → List ℕ
-number [] go = refusedLine 1
-number (b ∷ input) go = pick (eqb b 0x30) (lone input go) (pick (digit b) (digits (b - 0x30) input go) (refusedLine 1))
+abbrev pub readNumber : List ℕ → (ℕ → List ℕ → List ℕ) → List ℕ
+readNumber [] go = refusedLine 1
+readNumber (b ∷ input) go = pick (eqb b 0x30) (readLone input go) (pick (digit b) (readDigits (b - 0x30) input go) (refusedLine 1))
 
 -- a line: these bytes, a number, byte 0A
 abbrev pub line : List ℕ → List ℕ → (ℕ → List ℕ → List ℕ) → List ℕ
-line [] input go = number input go
+line [] input go = readNumber input go
 line (c ∷ name) [] go = refusedLine 1
 line (c ∷ name) (b ∷ input) go = pick (eqb b c) (line name input go) (refusedLine 1)
 

@@ -5,8 +5,11 @@ ghost use Prim.Native.Nat.{_≤_, _<_};
 ghost use lib.ListN.{length, getD};
 ghost use Rattle.lists.specs.Tests.{pick};
 ghost use Rattle.printer.specs.Printer.{digit};
-ghost use Rattle.printer.specs.Machine.{nameOf, begin, wrong, stored, counted, grown, fedLone, fedDigits, fedFirst, fedName, fed, sizesOf, refusalOf};
+ghost use Rattle.printer.specs.Machine.{nameOf, begin, wrong, stored, counted, grown, fedLone, fedDigits, fedFirst, fedName, fed, sizesRead, refusalOf};
 use sizes::Sizes;
+
+// "more than 16,384 file bytes give 3"
+const MOST: usize = 16384;
 
 // Where the input is: the lines left; in a line, 0 for its name and first digit, 1 behind a first 0, 2 behind other digits; the bytes of the
 // name that are read; the number so far; the numbers read, of which any of 1,000 or more is 1,000; the bytes of the file, counted up to
@@ -117,7 +120,8 @@ fn grown(v: usize, x: usize) -> usize
     if v < 100 { 10 * v + x } else { 1000 }
 }
 
-fn wrong(p: Parser) -> Parser
+// The input is refused, whatever follows: a line was malformed, or a read failed.
+pub fn wrong(p: Parser) -> Parser
     ensures { λ q. ⌜ q ≡ wrong p ⌝ }
 {
     let mut q = p;
@@ -128,7 +132,7 @@ fn wrong(p: Parser) -> Parser
 fn counted(p: Parser) -> Parser
     ensures { λ q. ⌜ q ≡ counted p ⌝ }
 {
-    if 16384 < p.count {
+    if MOST < p.count {
         return p;
     }
     let mut q = p;
@@ -238,7 +242,7 @@ pub fn feed(p: Parser, b: u8) -> Parser
 
 // The sizes that were read.
 pub fn sizes(p: Parser) -> Sizes
-    ensures { λ z. ⌜ z ≡ sizesOf p ⌝ }
+    ensures { λ z. ⌜ z ≡ sizesRead p ⌝ }
 {
     Sizes {
         n: p.n,
@@ -262,7 +266,7 @@ pub fn refusal(p: Parser) -> u8
     if !z.legal() {
         return 1;
     }
-    if 16384 < p.count {
+    if MOST < p.count {
         return 3;
     }
     0

@@ -26,7 +26,9 @@ feed-digits-requires : tie.Need-feed-digits-requires
 feed-digits-requires c κs = search needs
 
 returns-4 : tie.Need-returns-4
-returns-4 c = c .feed-digits .ensures ∙ sym (fed-digits _ _ (c .before .before .before .before .before .before .before .if1 .left) (c .before .before .before .before .before .if2 .left) (c .before .if4 .taken))
+returns-4 c =
+    let lines = c .before .before .before .before .before in
+    c .feed-digits .ensures ∙ sym (fed-digits _ _ (lines .before .before .if1 .left) (lines .if2 .left) (c .before .if4 .taken))
 
 name-len-requires : tie.Need-name-len-requires
 name-len-requires c κs = search needs
@@ -36,16 +38,20 @@ feed-name-requires c κs = search needs
 
 returns-5 : tie.Need-returns-5
 returns-5 c =
+    let digits = c .before .before .before .before in
+    let lines = digits .before .before .before .before in
     c .feed-name .ensures
-    ∙ sym (fed-name _ _ (c .before .before .before .before .before .before .before .before .before .before .if1 .left) (c .before .before .before .before .before .before .before .before .if2 .left) (c .before .before .before .before .before .before .if3 .left) (c .before .before .before .before .if4 .left) (omega (arith, c .before .before .before .name-len .ensures)))
+    ∙ sym (fed-name _ _ (lines .before .before .if1 .left) (lines .if2 .left) (digits .before .before .if3 .left) (digits .if4 .left) (omega (arith, c .before .before .before .name-len .ensures)))
 
 feed-first-requires : tie.Need-feed-first-requires
 feed-first-requires c κs = search needs
 
 returns-6 : tie.Need-returns-6
 returns-6 c =
+    let digits = c .before .before .before .before in
+    let lines = digits .before .before .before .before in
     c .feed-first .ensures
-    ∙ sym (fed-first _ _ (c .before .before .before .before .before .before .before .before .before .before .if1 .left) (c .before .before .before .before .before .before .before .before .if2 .left) (c .before .before .before .before .before .before .if3 .left) (c .before .before .before .before .if4 .left) (omega (arith, c .before .before .before .name-len .ensures)))
+    ∙ sym (fed-first _ _ (lines .before .before .if1 .left) (lines .if2 .left) (digits .before .before .if3 .left) (digits .if4 .left) (omega (arith, c .before .before .before .name-len .ensures)))
 
 pub feed-spec : {M : Type 1} → statement M
 feed-spec =
