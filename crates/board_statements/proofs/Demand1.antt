@@ -33,7 +33,8 @@ use Rattle.mbcr.specs.Share.{standard, DifferentPoints, share, shares}
 use Rattle.mbcr.proofs.Points.{Boards, boards-of, standard-points}
 use Rattle.mbcr.proofs.Read.{read-sound, read-complete, read-none}
 use Rattle.mbcr.proofs.Repair.{length-share, length-packet, length-exchange, length-finished}
-use Rattle.board_statements.specs.Calls.{BoardOutcome, settled, fileOf, shareLines, shareCall, fileLines, fileCall, helperLines, helperCall, exchangeLines, exchangeCall, finishedLines, finishedCall, textLines, textCall, equalPoints, readRuns, ownRuns, finishRuns}
+use Rattle.board_statements.specs.Calls.{BoardOutcome, settled, fileOf, shareLines, shareCall, fileLines, fileCall, helperLines, helperCall, exchangeLines, exchangeCall}
+use Rattle.board_statements.specs.Calls.{finishedLines, finishedCall, textLines, textCall, equalPoints, readRuns, ownRuns, finishRuns}
 use Rattle.board_statements.specs.Claims.{LinesSay}
 use Rattle.board_statements.specs.Demand1.{BoardEnds, BoardCalls, shareClaims, fileClaims, helperClaims, exchangeClaims, finishedClaims, textClaims}
 use Rattle.board_statements.specs.Text.{shareText}
@@ -384,7 +385,8 @@ module _ (z : Sizes) (xs file boards output : List ℕ) (ok : legal z ≡ true) 
 
   shares-long : length (shares z xs file boards) ≡ z .k * (stripes z (length file) * α z)
   unfolding shares
-  shares-long = length-joined (stripes z (length file) * α z) (share z xs file) (λ i. length-share z xs (legal-facts z ok) file i) boards ∙ ap (λ (m : ℕ). m * (stripes z (length file) * α z)) (h .0)
+  shares-long = length-joined (stripes z (length file) * α z) (share z xs file) (λ i. length-share z xs (legal-facts z ok) file i) boards
+      ∙ ap (λ (m : ℕ). m * (stripes z (length file) * α z)) (h .0)
 
   reader-gives : fileCall z xs (length file) boards (shares z xs file boards) output ≡ record { answer = said (Done (length file)); output = over file output }
   unfolding fileCall fileLines

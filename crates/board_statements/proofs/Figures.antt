@@ -12,7 +12,10 @@ use Rattle.board_statements.specs.Calls.{shareLines, shareCall, fileLine
 use Rattle.board_statements.specs.Figures.{BoardFigures}
 
 pub figures : BoardFigures
-unfolding piece add product reduce mul squares inverse legal B stripes stripe grid F neighbours symbols kept share shares received exchanged ownF ownG helperPair helperPacket gFrom exchangePacket fFrom finishedStripe finishedShare through bColumn cRow aColumn decodedStripe decodedFile readFile decimal shareText shareLines shareCall fileLines fileCall helperLines helperCall exchangeLines exchangeCall finishedLines finishedCall textLines textCall
+unfolding piece add product reduce mul squares inverse legal B stripes stripe grid F neighbours symbols kept share shares received exchanged ownF ownG
+    helperPair helperPacket gFrom exchangePacket fFrom finishedStripe finishedShare through bColumn cRow aColumn decodedStripe decodedFile readFile
+    decimal shareText shareLines shareCall fileLines fileCall helperLines helperCall exchangeLines exchangeCall finishedLines finishedCall textLines
+    textCall
 figures = record {
   legal-sizes = refl;
   illegal-sizes = refl;

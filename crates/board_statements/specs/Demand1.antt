@@ -24,7 +24,8 @@ use Rattle.mbcr.specs.Demand2.{Named}
 use Rattle.sizes.specs.Sizing.{maxStripes, legal, α, B, stripes}
 use Rattle.board_statements.specs.Claims.{Claim, _means_, LinesSay}
 use Rattle.board_statements.specs.Text.{decimal, hexPair, shareText}
-use Rattle.board_statements.specs.Calls.{BoardOutcome, fileOf, equalPoints, ownRuns, finishRuns, readRuns, shareLines, shareCall, fileLines, fileCall, helperLines, helperCall, exchangeLines, exchangeCall, finishedLines, finishedCall, textLines, textCall}
+use Rattle.board_statements.specs.Calls.{BoardOutcome, fileOf, equalPoints, ownRuns, finishRuns, readRuns, shareLines, shareCall, fileLines, fileCall, helperLines, helperCall}
+use Rattle.board_statements.specs.Calls.{exchangeLines, exchangeCall, finishedLines, finishedCall, textLines, textCall}
 
 -- one call: its lines, its output as it came, the bytes that it writes where it does its work, and its outcome
 pub record BoardEnds (lines : List Line) (output bytes : List ℕ) (o : BoardOutcome) : Type 0 where

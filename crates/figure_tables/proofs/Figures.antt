@@ -16,7 +16,9 @@ use Rattle.figure_tables.specs.MarkedFigures.{MarkedFigures}
 use Rattle.figure_tables.specs.LongFigures.{LongFigures}
 
 pub figures : MarkedFigures
-unfolding piece put add product reduce mul squares inverse legal B stripes stripe grid F neighbours symbols kept share shares received exchanged ownF ownG helperPair helperPacket gFrom exchangePacket fFrom finishedStripe finishedShare sound helperPackets exchangePackets repairPackets writeLines writeCall
+unfolding piece put add product reduce mul squares inverse legal B stripes stripe grid F neighbours symbols kept share shares received exchanged ownF
+    ownG helperPair helperPacket gFrom exchangePacket fFrom finishedStripe finishedShare sound helperPackets exchangePackets repairPackets writeLines
+    writeCall
 figures = record {
   m1 = refl;
   m2 = refl;
@@ -36,7 +38,10 @@ figures = record {
 }
 
 pub long-figures : LongFigures
-unfolding piece put add product reduce mul squares inverse legal B stripes stripe grid F neighbours symbols kept share shares received exchanged ownF ownG helperPair helperPacket gFrom exchangePacket fFrom finishedStripe finishedShare through bColumn cRow aColumn decodedStripe decodedFile readFile sound helperPackets exchangePackets repairPackets freshShare writeLines loseLines repairLines readLines setUpCall writeCall loseCall repairCall readCall fileLines fileCall
+unfolding piece put add product reduce mul squares inverse legal B stripes stripe grid F neighbours symbols kept share shares received exchanged ownF
+    ownG helperPair helperPacket gFrom exchangePacket fFrom finishedStripe finishedShare through bColumn cRow aColumn decodedStripe decodedFile
+    readFile sound helperPackets exchangePackets repairPackets freshShare writeLines loseLines repairLines readLines setUpCall writeCall loseCall
+    repairCall readCall fileLines fileCall
 long-figures = record {
   file-disagrees = refl;
   file-read = refl;

@@ -62,7 +62,8 @@ module _ (z : Sizes) (xs : List ℕ) (legal : Legal z) where
       take-at (map f (points xs (neighbours z i (d + r)))) (map g (points xs (drop 1 (neighbours z i d)))) (d + r)
       (simp (length-map, length-neighbours))
 
-  symbols-g : (i : ℕ) (f g : ℕ → ℕ) → i < n → f (point xs i) ≡ g (point xs i) → take 1 (symbols z xs i f g) ++ drop (d + r) (symbols z xs i f g) ≡ map g (points xs (neighbours z i d))
+  symbols-g : (i : ℕ) (f g : ℕ → ℕ) → i < n → f (point xs i) ≡ g (point xs i) → take 1 (symbols z xs i f g) ++ drop (d + r) (symbols z xs i f g)
+      ≡ map g (points xs (neighbours z i d))
   unfolding symbols
   symbols-g i f g h e =
       let a = map f (points xs (neighbours z i (d + r))) in
@@ -194,7 +195,8 @@ module _ (z : Sizes) (xs : List ℕ) (legal : Legal z) (pts : DifferentPoints z 
       let bg : Boards z (neighbours z i d) = neighbours-boards z i d h (omega (arith, legal .enough)) in
       let one : length (take 1 w) ≡ 1 = length-take-le 1 w (omega (arith, legal .some-fresh)) in
       let lf : length (take (d + r) w) ≡ d + r = length-take-le (d + r) w (omega arith) in
-      let lg : length (take 1 w ++ drop (d + r) w) ≡ d = length-append (take 1 w) (drop (d + r) w) ∙ ap₂ _+_ one (length-drop (d + r) w) ∙ omega (arith, legal .some-read, legal .read-helpers) in
+      let lg : length (take 1 w ++ drop (d + r) w) ≡ d = length-append (take 1 w) (drop (d + r) w) ∙ ap₂ _+_ one (length-drop (d + r) w)
+      ∙ omega (arith, legal .some-read, legal .read-helpers) in
       ap₂ {C = List ℕ} (λ x y. x ++ y)
       (evals-interpolate (points xs (neighbours z i (d + r))) (take (d + r) w)
       (length-points xs (neighbours z i (d + r)) ∙ length-neighbours z i (d + r) ∙ sym lf)

@@ -28,7 +28,8 @@ use Rattle.sizes.proofs.Lines.{one-or-none, refuse-first, clear-first, says-not
 use Rattle.mbcr.specs.Share.{share, stripe, kept}
 use Rattle.mbcr.proofs.Repair.{length-kept}
 use Rattle.board_statements.specs.Calls.{equalPoints, readRuns}
-use Rattle.store_statements.specs.Calls.{StoreOutcome, settle, accepted, refused, recordLine, setUpCall, writeLines, writeDone, writeCall, loseLines, loseDone, loseCall, repairLines, repairDone, repairCall, readLines, readDone, readCall, fileHeld}
+use Rattle.store_statements.specs.Calls.{StoreOutcome, settle, accepted, refused, recordLine, setUpCall, writeLines, writeDone, writeCall, loseLines, loseDone, loseCall}
+use Rattle.store_statements.specs.Calls.{repairLines, repairDone, repairCall, readLines, readDone, readCall, fileHeld}
 use Rattle.board_statements.specs.Claims.{LinesSay}
 use Rattle.board_statements.proofs.Claims.{lines-say}
 use Rattle.store_statements.specs.Demand1.{StoreEnds, Stays, storeLines, StoreCalls, writeClaims, loseClaims, repairClaims, readClaims}
@@ -182,7 +183,9 @@ module _ (xs : List ℕ) (s : Record) (area file : List ℕ) (h : writeCall xs s
   write-place i t hi ht =
       sym (held-place new (writeCall xs s area file .area) i t ht)
       ∙ ap (λ (a : List ℕ). piece (α (s .sizes)) t (held new a i)) (ap (λ (o : StoreOutcome). o .area) write-is)
-      ∙ ap (piece (α (s .sizes)) t) (shares-same new (share (s .sizes) xs file) (usedLen new) long fits-new (tabulate (s .sizes .n) (λ i. i)) area (w .area-is) all-low i (among-first (s .sizes .n) i ∙ lt-ltb i (s .sizes .n) hi))
+      ∙ ap (piece (α (s .sizes)) t)
+      (shares-same new (share (s .sizes) xs file) (usedLen new) long fits-new (tabulate (s .sizes .n) (λ i. i)) area (w .area-is) all-low i
+      (among-first (s .sizes .n) i ∙ lt-ltb i (s .sizes .n) hi))
       ∙ piece-join (stripes (s .sizes) (length file)) (α (s .sizes)) (λ s₂. kept (s .sizes) xs (stripe (s .sizes) file s₂) i)
       (λ s₂ l. length-kept (s .sizes) xs (legal-facts (s .sizes) (g .is-legal)) (stripe (s .sizes) file s₂) i) t ht
 
@@ -196,7 +199,8 @@ repair-stays xs s area fresh helpers h =
     let l = code-lengths xs (s .sizes) (g .is-legal) in
     let long = fresh-length xs s area fresh helpers (length area) l (legal-facts (s .sizes) (g .is-legal) .some-fresh) f in
     let low = all-left (λ x. x < s .sizes .n) fresh helpers (below-all (s .sizes .n) (fresh ++ helpers) (f .named-below)) in
-    let e : settle (first storeOrder (repairLines xs s (length area) fresh helpers)) (refused s area []) (repairDone xs s area fresh helpers) ≡ repairDone xs s area fresh helpers = settle-pass _ _ _ p in
+    let e : settle (first storeOrder (repairLines xs s (length area) fresh helpers)) (refused s area []) (repairDone xs s area fresh helpers) ≡ repairDone xs s area fresh helpers =
+    settle-pass _ _ _ p in
     let q = ap (λ (o : StoreOutcome). o .area) e in
     record {
       as-long = ap length q ∙ length-shares s (freshShare xs s area fresh helpers) (usedLen s) long (used-fits s g) fresh area (f .area-is) low;

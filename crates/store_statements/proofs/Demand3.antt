@@ -27,7 +27,8 @@ use Rattle.mbcr.proofs.Points.{standard-points}
 use Rattle.board_statements.specs.Calls.{fileOf}
 use Rattle.store_statements.specs.Calls.{recordLine, StoreOutcome, settle, accepted, refused, repairLines, repairCall, repairDone, readCall, setUpCall}
 use Rattle.store_statements.specs.Demand3.{Repaired, calls, Kept, begun, Demand3Claim, Demand3Standard}
-use Rattle.store_statements.specs.Ledger.{State, Book, Step, replies, bookReplies, final, bookFinal, Call, Fair, act, bookRecord, enter, Altered, stepOutcome, bookLength, Allowed, left, openBook, write, lose, repair, read}
+use Rattle.store_statements.specs.Ledger.{State, Book, Step, replies, bookReplies, final, bookFinal, Call, Fair, act, bookRecord, enter, Altered, stepOutcome, bookLength}
+use Rattle.store_statements.specs.Ledger.{Allowed, left, openBook, write, lose, repair, read}
 use Rattle.store_statements.specs.Packets.{helperPackets, exchangePackets, hearHelpers, hearPartners, freshShare, repairPackets}
 use Rattle.store_statements.specs.Record.{Record, held, usedLen, sound, newRecord}
 use Rattle.store_statements.proofs.Area.{shares-same}

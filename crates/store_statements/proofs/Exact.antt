@@ -34,7 +34,8 @@ use Rattle.mbcr.proofs.Points.{standard-points, boards-of}
 use Rattle.board_statements.proofs.Demand1.{clear, written}
 use Rattle.board_statements.specs.Calls.{fileOf}
 use Rattle.board_statements.proofs.Runs.{read-runs}
-use Rattle.store_statements.specs.Calls.{StoreOutcome, accepted, refused, settle, readLines, fileHeld, readCall, readDone, writeCall, writeLines, writeDone, loseCall, loseLines, loseDone, repairCall, repairLines, repairDone}
+use Rattle.store_statements.specs.Calls.{StoreOutcome, accepted, refused, settle, readLines, fileHeld, readCall, readDone, writeCall, writeLines, writeDone, loseCall, loseLines}
+use Rattle.store_statements.specs.Calls.{loseDone, repairCall, repairLines, repairDone}
 use Rattle.store_statements.specs.Packets.{hearHelpers}
 use Rattle.store_statements.specs.Record.{Record, held, usedLen, partLen, sound}
 use Rattle.store_statements.proofs.Records.{Reads, Sound, sound-facts, used-fits}
@@ -114,14 +115,16 @@ module _ (xs : List ℕ) (s : Record) (area boards output : List ℕ) (pts : Dif
       (rw length-drop (omega (arith, part-end i (partLen s) (s .sizes .n) l, facts .area-is, used-fits s g)))
 
   -- board by board, or as one list
-  shares-all : (file : List ℕ) → length file ≡ s .length → (shares (s .sizes) xs file boards ≡ joined (held s area) boards) ↔ All (λ i. held s area i ≡ share (s .sizes) xs file i) boards
+  shares-all : (file : List ℕ) → length file ≡ s .length
+      → (shares (s .sizes) xs file boards ≡ joined (held s area) boards) ↔ All (λ i. held s area i ≡ share (s .sizes) xs file i) boards
   unfolding shares
   shares-all file l = (there, back)
     where
       there : joined (share (s .sizes) xs file) boards ≡ joined (held s area) boards → All (λ i. held s area i ≡ share (s .sizes) xs file i) boards
       there e =
           joined-parts (held s area) (share (s .sizes) xs file) boards
-          (all-imp (λ i. i < s .sizes .n) _ (λ i k. held-long i k ∙ ap (λ (m : ℕ). stripes (s .sizes) m * α (s .sizes)) (sym l) ∙ sym (T .share-length file i)) boards (below-all (s .sizes .n) boards (facts .named-below)))
+          (all-imp (λ i. i < s .sizes .n) _ (λ i k. held-long i k ∙ ap (λ (m : ℕ). stripes (s .sizes) m * α (s .sizes)) (sym l) ∙ sym (T .share-length file i)) boards
+          (below-all (s .sizes .n) boards (facts .named-below)))
           (sym e)
 
       back : All (λ i. held s area i ≡ share (s .sizes) xs file i) boards → joined (share (s .sizes) xs file) boards ≡ joined (held s area) boards

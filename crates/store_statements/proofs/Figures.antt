@@ -13,7 +13,10 @@ use Rattle.store_statements.specs.Calls.{writeLines, loseLines, repairLi
 use Rattle.store_statements.specs.FurtherFigures.{FurtherFigures}
 
 pub further-figures : FurtherFigures
-unfolding piece put add product reduce mul squares inverse legal B stripes stripe grid F neighbours symbols kept share shares received exchanged ownF ownG helperPair helperPacket gFrom exchangePacket fFrom finishedStripe finishedShare through bColumn cRow aColumn decodedStripe decodedFile readFile sound helperPackets exchangePackets repairPackets freshShare writeLines loseLines repairLines readLines setUpCall writeCall loseCall repairCall readCall
+unfolding piece put add product reduce mul squares inverse legal B stripes stripe grid F neighbours symbols kept share shares received exchanged ownF
+    ownG helperPair helperPacket gFrom exchangePacket fFrom finishedStripe finishedShare through bColumn cRow aColumn decodedStripe decodedFile
+    readFile sound helperPackets exchangePackets repairPackets freshShare writeLines loseLines repairLines readLines setUpCall writeCall loseCall
+    repairCall readCall
 further-figures = record {
   sound-records = refl;
   unsound-records = refl;

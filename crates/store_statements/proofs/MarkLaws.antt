@@ -18,7 +18,8 @@ use Rattle.sizes.specs.Sizing.{maxBoards}
 use Rattle.sizes.specs.Refusals.{first, storeOrder}
 use Rattle.sizes.proofs.Laws.{number-low}
 use Rattle.store_statements.specs.Record.{Record, inService, turnOn}
-use Rattle.store_statements.specs.Calls.{StoreOutcome, settle, refused, writeLines, writeDone, writeCall, loseLines, loseDone, loseCall, repairLines, repairDone, repairCall, readLines, readDone, readCall}
+use Rattle.store_statements.specs.Calls.{StoreOutcome, settle, refused, writeLines, writeDone, writeCall, loseLines, loseDone, loseCall, repairLines, repairDone, repairCall}
+use Rattle.store_statements.specs.Calls.{readLines, readDone, readCall}
 use Rattle.store_statements.specs.MarkLaws.{MarkLaws}
 
 -- a call that is accepted has done its work

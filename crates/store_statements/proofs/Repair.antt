@@ -15,7 +15,8 @@ use Rattle.mbcr.specs.Rebuild.{helperPacket, exchangePacket, finishedShare}
 use Rattle.mbcr.specs.Share.{share}
 use Rattle.store_statements.specs.Packets.{sendersOf, contents, total, hearHelpers, hearPartners, helperPackets, exchangePackets, repairPackets, freshShare, sentTo}
 use Rattle.store_statements.specs.Record.{Record, held, inService}
-use Rattle.store_statements.proofs.Packets.{EachHears, heard, contents-to, total-to, total-all, total-append, total-to-append, receivers-helpers, length-helpers, helpers-count, helpers-each, helpers-different, receivers-partners, partners-each}
+use Rattle.store_statements.proofs.Packets.{EachHears, heard, contents-to, total-to, total-all, total-append, total-to-append, receivers-helpers, length-helpers, helpers-count}
+use Rattle.store_statements.proofs.Packets.{helpers-each, helpers-different, receivers-partners, partners-each}
 use Rattle.store_statements.proofs.Records.{Repairs}
 use Rattle.store_statements.proofs.Seam.{Laws, Hears, Lengths}
 
@@ -115,7 +116,8 @@ module _ (xs : List ℕ) (s : Record) (area fresh helpers : List ℕ) (m : ℕ) 
 
   pub fresh-by : (i : ℕ) → among fresh i ≡ true
       → freshShare xs s area fresh helpers i
-      ≡ finishedShare (s .sizes) xs (stripes (s .sizes) (s .length)) i (heardBy i) (joined (λ j. helperPacket (s .sizes) xs (stripes (s .sizes) (s .length)) j i (held s area j)) (heardBy i)) (without i fresh)
+      ≡ finishedShare (s .sizes) xs (stripes (s .sizes) (s .length)) i (heardBy i)
+      (joined (λ j. helperPacket (s .sizes) xs (stripes (s .sizes) (s .length)) j i (held s area j)) (heardBy i)) (without i fresh)
       (joined
       (λ m. exchangePacket (s .sizes) xs (stripes (s .sizes) (s .length)) (heardBy m) (joined (λ j. helperPacket (s .sizes) xs (stripes (s .sizes) (s .length)) j m (held s area j)) (heardBy m)) i)
       (without i fresh))
@@ -139,7 +141,8 @@ module _ (xs : List ℕ) (s : Record) (area fresh helpers : List ℕ) (m : ℕ) 
 
   -- ---- true shares
 
-  module _ (truly : Laws xs (s .sizes)) (file : List ℕ) (bytes : Bytes file) (len : s .length ≡ length file) (truth : (j : ℕ) → inService s j ≡ true → held s area j ≡ share (s .sizes) xs file j) where
+  module _ (truly : Laws xs (s .sizes)) (file : List ℕ) (bytes : Bytes file) (len : s .length ≡ length file)
+      (truth : (j : ℕ) → inService s j ≡ true → held s area j ≡ share (s .sizes) xs file j) where
     hears : Hears (s .sizes) fresh heardBy
     hears =
         let low = below-all (s .sizes .n) (fresh ++ helpers) (f .named-below) in

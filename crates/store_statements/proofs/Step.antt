@@ -176,7 +176,9 @@ module _ (xs : List ℕ) (laws : (z : Sizes) → legal z ≡ true → DifferentP
         blank = refl;
       } in
       record {
-        as-long = length-shares (writtenRecord (bookRecord b) (length file)) (share (b .sizes) xs file) (usedLen new) (lawful .lengths .share-length file) (used-fits new is) all area (w .area-is) low ∙ v .as-long;
+        as-long =
+            length-shares (writtenRecord (bookRecord b) (length file)) (share (b .sizes) xs file) (usedLen new) (lawful .lengths .share-length file) (used-fits new is) all area
+            (w .area-is) low ∙ v .as-long;
         is-sound = facts-sound new is;
         points = v .points;
         bytes = ok;

@@ -133,7 +133,8 @@ module _ (xs : List ℕ) (laws : (z : Sizes) → legal z ≡ true → DifferentP
           cap-low = known .cap-low;
           cap-high = known .cap-high;
           fits = known .fits;
-          beyond = off-from (b .sizes .n) (marksOf (fresh ++ b .service)) (λ i e. all-among (λ x. x < b .sizes .n) (fresh ++ b .service) i serve (sym (mark-at (fresh ++ b .service) i serve-32) ∙ e));
+          beyond =
+              off-from (b .sizes .n) (marksOf (fresh ++ b .service)) (λ i e. all-among (λ x. x < b .sizes .n) (fresh ++ b .service) i serve (sym (mark-at (fresh ++ b .service) i serve-32) ∙ e));
           blank = rw (f .is-written) refl;
         });
         points = v .points;

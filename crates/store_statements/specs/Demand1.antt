@@ -23,7 +23,8 @@ use Rattle.board_statements.specs.Calls.{equalPoints, readRuns}
 use Rattle.board_statements.specs.Claims.{Claim, _means_, LinesSay}
 use Rattle.store_statements.specs.Packets.{repairRuns}
 use Rattle.store_statements.specs.Record.{Record, inService, sound, newRecord, writtenRecord, stripeCount, partLen, usedLen, held}
-use Rattle.store_statements.specs.Calls.{StoreOutcome, accepted, refused, fileHeld, recordLine, writeLines, loseLines, repairLines, readLines, setUpCall, writeDone, writeCall, loseDone, loseCall, repairDone, repairCall, readDone, readCall}
+use Rattle.store_statements.specs.Calls.{StoreOutcome, accepted, refused, fileHeld, recordLine, writeLines, loseLines, repairLines, readLines, setUpCall, writeDone, writeCall}
+use Rattle.store_statements.specs.Calls.{loseDone, loseCall, repairDone, repairCall, readDone, readCall}
 use Rattle.store_statements.specs.Ledger.{Call, write, lose, repair, read, Book, bookRecord, bookLines}
 
 -- one call: its lines; record, area and output as they came; what it does where no line holds; and its outcome

@@ -122,7 +122,9 @@ pub record FurtherFigures : Type 0 where
       ≡ 1 ∷ 2 ∷ 3 ∷ 1 ∷ 2 ∷ 0 ∷ []
   -- SIZE in all its cases, for each call
   pub size-cases :
-      map (λ s. answers (writeCall standard s (replicate 35 0) [] ∷ loseCall s [] 0 ∷ repairCall standard s spoiled (0 ∷ 1 ∷ []) helpers ∷ readCall standard s spoiled (2 ∷ 3 ∷ []) [] ∷ []))
+      map
+      (λ s.
+      answers (writeCall standard s (replicate 35 0) [] ∷ loseCall s [] 0 ∷ repairCall standard s spoiled (0 ∷ 1 ∷ []) helpers ∷ readCall standard s spoiled (2 ∷ 3 ∷ []) [] ∷ []))
       (unsound
       ∷ five-record true 12 (false ∷ false ∷ false ∷ false ∷ false ∷ true ∷ [])
       ∷ five-record false 1 []
