@@ -1,4 +1,4 @@
--- Whole shares and packets: lengths, over any bytes; and over true shares, what the packets are and that a finishedShare share is the share.
+-- Whole shares and packets: lengths, over any bytes; and over true shares, what the packets are and that a finished share is the share.
 -- Assumes nothing.
 use mathlib.Core.Path.{_≡_, refl, sym, ap, ap₂, fun-ext, _∙_}
 use mathlib.Core.List.{List, [], _∷_, _++_, map}
@@ -134,7 +134,7 @@ module _ (z : Sizes) (xs : List ℕ) (legal : Legal z) (pts : DifferentPoints z 
         at (suc n) f zero h = refl
         at (suc n) f (suc s) h = at n (λ s. f (suc s)) s (omega arith)
 
-    -- the finishedShare share of true packets is the board's share
+    -- the finished share of true packets is the board's share
     pub finished-true : (hs : List ℕ) → length hs ≡ d → Boards z (hs ++ ms ++ (i ∷ []))
         → finishedShare z xs S i hs (packets z xs file hs i) ms exchanges ≡ share z xs file i
     unfolding finishedShare share
