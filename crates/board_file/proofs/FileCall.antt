@@ -67,8 +67,8 @@ module _ (z : Sizes) (xs : List ℕ) (pts : DifferentPoints z xs) (enough : z .n
   points-differ =
       let l : length (take (z .n) xs) ≡ z .n = length-take-le (z .n) xs enough in
       distinct-different (take (z .n) xs) (distinct-of (take (z .n) xs) (λ i j h k e.
-          let p : i ≡ j = pts .differ i j (omega arith) (omega arith) (sym (getD-take (z .n) xs i 0 (omega arith)) ∙ sym e ∙ getD-take (z .n) xs j 0 (omega arith)) in
-          omega arith))
+      let p : i ≡ j = pts .differ i j (omega arith) (omega arith) (sym (getD-take (z .n) xs i 0 (omega arith)) ∙ sym e ∙ getD-take (z .n) xs j 0 (omega arith)) in
+      omega arith))
 
   -- what `check_points` answers, as the line of the call
   pub points-line : (boards : List ℕ) → legal z ≡ true → below (z .n) boards ≡ true → different boards ≡ true
