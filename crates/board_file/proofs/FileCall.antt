@@ -1,14 +1,15 @@
 -- A file from k shares: what the kernels ask, from what the checks told; and what the call answers by what its check answered.
 -- Assumes nothing.
-use Prim.Native.Nat.{ℕ, _*_, _≤_}
+use Prim.Native.Nat.{ℕ, _*_, _≤_, _<_}
 use mathlib.Core.Path.{_≡_, refl, sym, ap, _∙_}
+use mathlib.Core.Logic.{_≢_}
 use mathlib.Core.Bool.{Bool, true, false, not}
 use mathlib.Core.Option.{some, none}
 use mathlib.Core.List.{List, [], _∷_, _++_}
 use native.Mathlib.Omega.{arith}
 use borrow.Author.Tests.{ltb-false, eqb-true}
 use lib.Dec.{eqb}
-use lib.ListN.{length, take, drop}
+use lib.ListN.{length, getD, take, drop}
 use lib.Seq.{length-take-le, getD-take}
 use Rattle.lists.specs.Tests.{pick, alls, same, below, different, given}
 use Rattle.lists.proofs.Tests.{true-false, not-no, alls-hold}
@@ -24,7 +25,7 @@ use Rattle.sizes.specs.Refusals.{_when_, first, boardOrder}
 use Rattle.sizes.specs.Sizing.{legal, α, stripes}
 use Rattle.sizes.proofs.Legal.{legal-facts}
 use Rattle.sizes.proofs.Lines.{first-clear}
-use Rattle.mbcr.specs.Share.{DifferentPoints, shares}
+use Rattle.mbcr.specs.Share.{DifferentPoints, point, shares}
 use Rattle.mbcr.specs.Read.{decodedFile, readFile}
 use Rattle.mbcr.proofs.Points.{boards-of}
 use Rattle.mbcr.proofs.Read.{length-decoded-file}
@@ -63,12 +64,15 @@ readable z L boards m s count node repeat area =
 -- ---- points of different boards
 
 module _ (z : Sizes) (xs : List ℕ) (pts : DifferentPoints z xs) (enough : z .n ≤ length xs) where
-  points-differ : different (take (z .n) xs) ≡ true
-  points-differ =
+  apart : (i j : ℕ) → i < j → j < length (take (z .n) xs) → getD (take (z .n) xs) j 0 ≢ getD (take (z .n) xs) i 0
+  apart i j h k e =
       let l : length (take (z .n) xs) ≡ z .n = length-take-le (z .n) xs enough in
-      distinct-different (take (z .n) xs) (distinct-of (take (z .n) xs) (λ i j h k e.
-      let p : i ≡ j = pts .differ i j (omega arith) (omega arith) (sym (getD-take (z .n) xs i 0 (omega arith)) ∙ sym e ∙ getD-take (z .n) xs j 0 (omega arith)) in
-      omega arith))
+      let e′ : point xs i ≡ point xs j = sym (getD-take (z .n) xs i 0 (omega arith)) ∙ sym e ∙ getD-take (z .n) xs j 0 (omega arith) in
+      let p : i ≡ j = pts .differ i j (omega arith) (omega arith) e′ in
+      omega arith
+
+  points-differ : different (take (z .n) xs) ≡ true
+  points-differ = distinct-different (take (z .n) xs) (distinct-of (take (z .n) xs) apart)
 
   -- what `check_points` answers, as the line of the call
   pub points-line : (boards : List ℕ) → legal z ≡ true → below (z .n) boards ≡ true → different boards ≡ true

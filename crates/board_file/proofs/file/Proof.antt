@@ -55,7 +55,8 @@ file-asks c κs =
 file-done : tie.Need-returns-2
 file-done c =
     let w = c .before .before in
-    let t = w .before .before .before .before .before in
+    let n = w .before .before .before .before in
+    let t = n .before in
     let a = st (at-check t) .args in
     file-works (a .sizes) standard (a .len) (a .boards .now) (a .held .now) (a .out .now) _ _ (passed t) (at-points (at-check t) .standard-points .ensures) (w .file .ensures)
 
