@@ -12,7 +12,7 @@ use borrow.Author.Needs.{needs}
 use Rattle.lists.specs.Tests.{different, given}
 use Rattle.sizes.specs.declared.Refusal.the-variants.{Disagree, Points}
 use Rattle.sizes.specs.declared.Check.{Check}
-use Rattle.sizes.specs.declared.Check.the-variants.{Pass, Refuse}
+use Rattle.sizes.specs.declared.Check.the-variants.{Refuse}
 use Rattle.sizes.specs.Sizing.{α, stripes}
 use Rattle.sizes.specs.Refusals.{Line, _when_, first, boardOrder}
 use Rattle.sizes.proofs.Legal.{legal-facts, α-most}
@@ -85,7 +85,7 @@ abbrev st-count : tie.After-check-count → tie.Start
 st-count c = st-stated (at-stated c)
 
 on-count : (c : tie.After-check-count) → thens (counts (st-count c)) ≡ answer (st-count c)
-on-count c = goes-on (whole (st-count c)) (at-stated c .check-stated .ensures) (cc)
+on-count c = goes-on (whole (st-count c)) (at-stated c .check-stated .ensures) (c .before .enum-told .given .1)
 
 no-count : (c : tie.After-miscounted) → Refuse (c .miscounted .given .0 .0) ≡ answer (st-count (c .before .before))
 no-count c = let k = c .before .before in refuses _ (on-count k) (k .check-count .ensures) (c .miscounted .given .1)
@@ -98,7 +98,7 @@ abbrev st-nodes : tie.After-check-nodes → tie.Start
 st-nodes c = st-count (at-count c)
 
 on-nodes : (c : tie.After-check-nodes) → thens (nodes (st-nodes c)) ≡ answer (st-nodes c)
-on-nodes c = let k = at-count c in goes-on (on-count k) (k .check-count .ensures) (cc)
+on-nodes c = let k = at-count c in goes-on (on-count k) (k .check-count .ensures) (c .before .enum-told2 .given .1)
 
 no-nodes : (c : tie.After-named) → Refuse (c .named .given .0 .0) ≡ answer (st-nodes (c .before .before))
 no-nodes c = let k = c .before .before in refuses _ (on-nodes k) (k .check-nodes .ensures) (c .named .given .1)
@@ -111,7 +111,7 @@ abbrev st-repeat : tie.After-check-repeat → tie.Start
 st-repeat c = st-nodes (at-nodes c)
 
 on-repeat : (c : tie.After-check-repeat) → thens (repeats (st-repeat c)) ≡ answer (st-repeat c)
-on-repeat c = let k = at-nodes c in goes-on (on-nodes k) (k .check-nodes .ensures) (cc)
+on-repeat c = let k = at-nodes c in goes-on (on-nodes k) (k .check-nodes .ensures) (c .before .enum-told3 .given .1)
 
 no-repeat : (c : tie.After-repeated) → Refuse (c .repeated .given .0 .0) ≡ answer (st-repeat (c .before .before))
 no-repeat c = let k = c .before .before in refuses _ (on-repeat k) (k .check-repeat .ensures) (c .repeated .given .1)
@@ -129,7 +129,7 @@ abbrev st-area : tie.After-share-len → tie.Start
 st-area c = st-repeat (at-repeat c)
 
 on-area : (c : tie.After-share-len) → thens (areas (st-area c)) ≡ answer (st-area c)
-on-area c = let k = at-repeat c in goes-on (on-repeat k) (k .check-repeat .ensures) (cc)
+on-area c = let k = at-repeat c in goes-on (on-repeat k) (k .check-repeat .ensures) (c .before .before .enum-told4 .given .1)
 
 few : (c : tie.After-share-len) → c .before .stripe-count .result * c .share-len .result ≤ 253952
 few c =
@@ -164,7 +164,7 @@ abbrev st-short : tie.After-check-room → tie.Start
 st-short c = st-area (at-len (at-area c))
 
 on-short : (c : tie.After-check-room) → thens (shorts (st-short c)) ≡ answer (st-short c)
-on-short c = let k = at-area c in goes-on (on-area (at-len k)) (is-area k) (cc)
+on-short c = let k = at-area c in goes-on (on-area (at-len k)) (is-area k) (c .before .enum-told5 .given .1)
 
 no-short : (c : tie.After-short) → Refuse (c .short .given .0 .0) ≡ answer (st-short (c .before .before))
 no-short c = let k = c .before .before in refuses _ (on-short k) (k .check-room .ensures) (c .short .given .1)
@@ -192,7 +192,7 @@ abbrev st-agrees : tie.After-check-agrees → tie.Start
 st-agrees c = st-short (at-room c)
 
 on-agrees : (c : tie.After-check-agrees) → thens (agrees (st-agrees c)) ≡ answer (st-agrees c)
-on-agrees c = let k = at-room c in goes-on (on-short k) (k .check-room .ensures) (cc)
+on-agrees c = let k = at-room c in goes-on (on-short k) (k .check-room .ensures) (c .before .enum-told6 .given .1)
 
 is-agrees : (c : tie.After-check-agrees) → c .check-agrees .result ≡ asked (agree-line (st-agrees c) standard)
 is-agrees c = let g = st-agrees c in c .check-agrees .ensures ∙ ap (λ (xs : List ℕ). asked (agree-line g xs)) (g .pre .points-are)
@@ -216,7 +216,7 @@ abbrev st-points : tie.After-check-points → tie.Start
 st-points c = st-agrees (at-agrees c)
 
 on-points : (c : tie.After-check-points) → thens ((points-are (st-points c) ∷ []) ∷ []) ≡ answer (st-points c)
-on-points c = let k = at-agrees c in goes-on (on-agrees k) (is-agrees k) (cc)
+on-points c = let k = at-agrees c in goes-on (on-agrees k) (is-agrees k) (c .before .enum-told7 .given .1)
 
 is-points : (c : tie.After-check-points) → c .check-points .result ≡ asked (points-are (st-points c))
 is-points c =

@@ -59,7 +59,7 @@ abbrev st-node : tie.After-check-node → tie.Start
 st-node c = st-stated (at-stated c)
 
 on-node : (c : tie.After-check-node) → thens (nodes (st-node c)) ≡ answer (st-node c)
-on-node c = goes-on (whole (st-node c)) (at-stated c .check-stated .ensures) (cc)
+on-node c = goes-on (whole (st-node c)) (at-stated c .check-stated .ensures) (c .before .enum-told .given .1)
 
 no-node : (c : tie.After-named) → Refuse (c .named .given .0 .0) ≡ answer (st-node (c .before .before))
 no-node c = let k = c .before .before in refuses _ (on-node k) (k .check-node .ensures) (c .named .given .1)
@@ -75,7 +75,7 @@ abbrev st-short : tie.After-share-len → tie.Start
 st-short c = st-node (at-node c)
 
 on-short : (c : tie.After-share-len) → thens (shorts (st-short c)) ≡ answer (st-short c)
-on-short c = let k = at-node c in goes-on (on-node k) (k .check-node .ensures) (cc)
+on-short c = let k = at-node c in goes-on (on-node k) (k .check-node .ensures) (c .before .before .enum-told2 .given .1)
 
 few : (c : tie.After-share-len) → c .before .stripe-count .result * c .share-len .result ≤ 253952
 few c =
