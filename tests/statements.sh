@@ -38,7 +38,7 @@ definitions=$(ls crates/*/specs/*.antt | grep -v -e '/Lib.antt$' -e '/Multiples.
 inner='crates/own/specs/Steps.antt crates/grid/specs/Layout.antt crates/decode/specs/Agree.antt crates/columns/specs/Steps.antt
 crates/text_lines/specs/Wrote.antt crates/checks/specs/Asked.antt crates/printer/specs/Machine.antt crates/store_checks/specs/Parts.antt
 crates/repair_hear/specs/Turns.antt crates/store_repair/specs/Rebuilt.antt crates/shared_checks/specs/Lines.antt crates/read_check/specs/Tables.antt
-crates/print_feed/specs/Feeding.antt crates/print_share/specs/Writing.antt crates/share_printer/specs/Reading.antt'
+crates/board_file/specs/Tables.antt crates/print_feed/specs/Feeding.antt crates/print_share/specs/Writing.antt crates/share_printer/specs/Reading.antt'
 # the archive's words, beside the calls that they are for
 archive='crates/answer_word/specs/Answers.antt crates/words/specs/Words.antt crates/zebrankai/specs/Archive.antt crates/zebrankai/specs/Lent.antt'
 for f in $tables $claims $inner $archive; do definitions=$(printf '%s\n' $definitions | grep -vxF "$f"); done
