@@ -1,16 +1,13 @@
 -- `checks::stripe_count` meets its contract: the sizes are legal, so the answer of `stripe_len` is B.
 -- Assumes nothing.
-use Prim.Native.Nat.{ℕ, _+_, _-_, _*_, _/_, _≤_}
-use mathlib.Core.Path.{_≡_, refl, sym, ap, _∙_}
+use Prim.Native.Nat.{ℕ, _+_, _-_, _/_}
+use mathlib.Core.Path.{_≡_, refl, ap, _∙_}
 use native.Mathlib.Omega.{arith}
 use borrow.Author.Needs.{needs}
 use Rattle.sizes.specs.Sizing.{B, stripes}
 use Rattle.sizes.proofs.Legal.{legal-facts, B-pos, B-most, stripes-least}
 use Rattle.checks.proofs.stripe_count.Statement.{statement}
 use Rattle.checks.proofs.stripe_count.Tie as tie
-
-stripe-len-requires : tie.Need-stripe-len-requires
-stripe-len-requires c κs = search needs
 
 stripe : (c : tie.After-stripe-len) → c .stripe-len .result ≡ B (c .before .args .sizes)
 stripe c = c .stripe-len .ensures ∙ (rw (c .before .pre .0) refl)
@@ -38,4 +35,10 @@ returns c =
 
 pub stripe-count-spec : {M : Type 1} → statement M
 stripe-count-spec =
-    tie.close (tie.spec stripe-len-requires sub-result add-result div-result returns)
+    tie.close
+    (tie.spec
+    (λ c κs. search needs)
+    sub-result
+    add-result
+    div-result
+    returns)
