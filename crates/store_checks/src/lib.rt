@@ -106,7 +106,7 @@ pub fn check_two_lists(sizes: Sizes, boards: &[usize], others: &[usize]) -> Chec
 
 // Whether no board stands twice in the run of d helpers of one fresh board.
 fn runs_differ(d: usize, fresh: &[usize], helpers: &[usize]) -> bool
-    requires { ⌜ (length (now helpers) ≡ length (now fresh) * d) × (length (now helpers) ≤ 256) ⌝ }
+    requires { ⌜ (length (now helpers) ≡ length (now fresh) * d) × (length (now helpers) ≤ 1024) ⌝ }
     ensures { λ r. ⌜ r ≡ every (λ h. different (h .senders)) (hearHelpers d (now (fresh .entry)) (now (helpers .entry))) ⌝ }
 {
     let mut a: usize = 0;
@@ -124,7 +124,7 @@ fn runs_differ(d: usize, fresh: &[usize], helpers: &[usize]) -> bool
 
 // 6 REPEAT of a repair.
 pub fn check_fresh(d: usize, fresh: &[usize], helpers: &[usize]) -> Check
-    requires { ⌜ (length (now helpers) ≡ length (now fresh) * d) × (length (now helpers) ≤ 256) ⌝ }
+    requires { ⌜ (length (now helpers) ≡ length (now fresh) * d) × (length (now helpers) ≤ 1024) ⌝ }
     ensures { λ r. ⌜ r ≡ asked (Repeat when not (alls (different (now (fresh .entry)) ∷ every (λ h. different (h .senders)) (hearHelpers d (now (fresh .entry)) (now (helpers .entry))) ∷ apart (now (fresh .entry)) (now (helpers .entry)) ∷ []))) ⌝ }
 {
     if board_tests::different(fresh) {
