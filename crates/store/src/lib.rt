@@ -32,9 +32,10 @@ pub struct Handed {
 fn refuse(kept: Store, x: Refusal) -> Handed
     ensures { λ r. ⌜ ((area output : List ℕ) → outcomeIn r area output ≡ refused (recordIn kept) area output x) ⌝ }
 {
+    let answer = Answer::Refused(x);
     Handed {
         store: kept,
-        answer: Answer::Refused(x),
+        answer: answer,
     }
 }
 
