@@ -1,12 +1,10 @@
 -- A read: what it hands on where its check refuses, and where it passes.
 -- Assumes nothing.
-use Prim.Native.Nat.{ℕ, _*_, _≤_}
+use Prim.Native.Nat.{ℕ}
 use mathlib.Core.Path.{_≡_, refl, sym, ap, _∙_}
 use mathlib.Core.Bool.{Bool, true, false}
 use mathlib.Core.Option.{some, none}
 use mathlib.Core.List.{List, [], _++_}
-use native.Mathlib.Nat.{mul-le-mul-right}
-use native.Mathlib.Omega.{arith}
 use lib.ListN.{length, drop}
 use Rattle.lists.specs.Lists.{joined}
 use Rattle.lists.specs.Tests.{pick, same, given}
@@ -15,25 +13,17 @@ use Rattle.sizes.specs.declared.Sizes.{Sizes}
 use Rattle.sizes.specs.declared.Refusal.{Refusal}
 use Rattle.sizes.specs.declared.Check.{Check}
 use Rattle.sizes.specs.declared.Check.the-variants.{Pass, Refuse}
-use Rattle.sizes.specs.declared.Answer.the-variants.{Done}
-use Rattle.sizes.specs.Sizing.{B}
-use Rattle.sizes.specs.Refusals.{said, first, storeOrder}
+use Rattle.sizes.specs.Refusals.{first, storeOrder}
 use Rattle.sizes.proofs.Legal.{legal-facts}
 use Rattle.mbcr.specs.Share.{standard, shares}
 use Rattle.mbcr.specs.Read.{decodedFile, readFile}
 use Rattle.mbcr.proofs.Read.{length-decoded-file}
 use Rattle.board_statements.specs.Calls.{fileOf}
 use Rattle.store_statements.specs.Record.{Record, held}
-use Rattle.store_statements.specs.Calls.{StoreOutcome, refused, fileHeld, readLines, readDone, readCall}
-use Rattle.store_statements.proofs.Records.{Sound, sound-facts, read-facts}
+use Rattle.store_statements.specs.Calls.{StoreOutcome, accepted, refused, fileHeld, readLines, readDone, readCall}
+use Rattle.store_statements.proofs.Records.{sound-facts, read-facts}
 use Rattle.store_checks.specs.Parts.{recordOf}
 use Rattle.store.proofs.Settled.{refused-by, done-by}
-
--- a file that fits is at most 4,096 stripes
-pub length-most : (s : Record) → Sound s → s .length ≤ 4096 * B (s .sizes)
-length-most s f =
-    let p : s .capacity * B (s .sizes) ≤ 4096 * B (s .sizes) = mul-le-mul-right (B (s .sizes)) (f .cap-high) in
-    omega (arith, f .fits, p)
 
 found : (t : Bool) (l : List ℕ) → given (pick t (some l) none) ≡ true → fileOf (pick t (some l) none) ≡ l
 found true l h = refl
@@ -55,11 +45,15 @@ module _ (s : Record) (area boards output : List ℕ) where
 
   -- what a read hands on with these bytes
   abbrev pub filled : List ℕ → StoreOutcome
-  filled bytes = record { answer = said (Done 0); handed = s; area = area; output = bytes }
+  filled bytes = accepted 0 s area bytes
 
-  pub read-works : (points written : List ℕ) → points ≡ standard → checked ≡ Pass
-      → written ≡ decodedFile (s .sizes) points (s .length) boards (joined (held (recordOf (s .sizes) (s .capacity) true (s .length) []) area) boards) ++ drop (s .length) output
-      → filled written ≡ readCall standard s area boards output
+  -- the bytes that these boards' shares decode to, before the rest of the output
+  abbrev pub decoded : List ℕ → List ℕ
+  decoded xs =
+      decodedFile (s .sizes) xs (s .length) boards (joined (held (recordOf (s .sizes) (s .capacity) true (s .length) []) area) boards)
+      ++ drop (s .length) output
+
+  pub read-works : (points written : List ℕ) → points ≡ standard → checked ≡ Pass → written ≡ decoded points → filled written ≡ readCall standard s area boards output
   unfolding readCall
   read-works points written ep p e =
       let z = s .sizes in
@@ -70,9 +64,5 @@ module _ (s : Record) (area boards output : List ℕ) where
       let f = legal-facts z (sound-facts s (k .0 .is-sound) .is-legal) in
       let read : F ≡ decodedFile z standard L boards H = file-is z standard L boards H (k .1) in
       let long : length F ≡ L = ap length read ∙ length-decoded-file z standard f boards (k .0 .count) L H in
-      ap filled
-      (e
-      ∙ ap (λ (xs : List ℕ). decodedFile z xs L boards H ++ drop L output) ep
-      ∙ ap (λ (l : List ℕ). l ++ drop L output) (sym read)
-      ∙ ap (λ (m : ℕ). F ++ drop m output) (sym long))
+      ap filled (e ∙ ap decoded ep ∙ ap (λ (l : List ℕ). l ++ drop L output) (sym read) ∙ ap (λ (m : ℕ). F ++ drop m output) (sym long))
       ∙ done-by (refused s area output) (readDone standard s area boards output) p

@@ -7,12 +7,12 @@ use Prim.Native.Nat.{ℕ, _+_, _-_, _*_, _≤_}
 use lib.ListN.{length}
 use Rattle.lists.specs.Tests.{every, among, different}
 use Rattle.lists.specs.Lists.{over}
-use Rattle.sizes.specs.declared.Answer.the-variants.{Done}
 use Rattle.sizes.specs.Refusals.{said}
 use Rattle.mbcr.specs.Share.{standard}
 use Rattle.board_statements.specs.Calls.{fileOf}
 use Rattle.store_statements.specs.Record.{stripeCount, held}
 use Rattle.store_statements.specs.Packets.{freshShare}
+use Rattle.store_statements.specs.Calls.{accepted}
 use Rattle.store_statements.specs.Ledger.{repair, read, Book, Altered, bookLength}
 use Rattle.store_statements.specs.Demand3.{Kept}
 use Rattle.store.specs.declared.Store.{Store}
@@ -26,7 +26,7 @@ pub record CodeGives : Type 0 where
       → (boards output : List ℕ) → length boards ≡ b .sizes .k → different boards ≡ true → every (among (b .service)) boards ≡ true
       → bookLength b ≤ length output
       → (h : Given) → Meets s lent (read boards output) h
-      → gave h ≡ record { answer = said (Done 0); handed = recordIn s; area = lent; output = over (fileOf (b .file)) output }
+      → gave h ≡ accepted 0 (recordIn s) lent (over (fileOf (b .file)) output)
   -- an accepted repair, over any record and any area: the bytes moved, and what each fresh board holds in the area that it left
   pub moved : (s : Store) (area fresh helpers : List ℕ) (h : Given) → Meets s area (repair fresh helpers) h → said (h .handed .answer) .refusal ≡ 0
       → said (h .handed .answer) .value ≡ stripeCount (recordIn s) * s .sizes .r * (2 * s .sizes .d + s .sizes .r - 1)

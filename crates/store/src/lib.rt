@@ -2,12 +2,15 @@
 //! the crate `store_statements` at document 01's points, for all input: the answer, the record, and every lent byte.
 ghost use mathlib.Core.Path.{_≡_};
 ghost use mathlib.Core.List.{List, []};
-ghost use Prim.Native.Nat.{ℕ};
+ghost use mathlib.Core.Bool.{true};
+ghost use Prim.Native.Nat.{ℕ, _+_, _*_, _-_, _≤_};
+ghost use Rattle.sizes.specs.Sizing.{legal};
 ghost use Rattle.mbcr.specs.Share.{standard};
-ghost use Rattle.store_statements.specs.Calls.{setUpCall, writeCall, loseCall, repairCall, readCall};
+ghost use Rattle.store_statements.specs.Calls.{refused, setUpCall, writeCall, loseCall, repairCall, readCall};
 ghost use Rattle.store.specs.Handing.{recordIn, outcomeIn};
 use sizes::Answer;
 use sizes::Check;
+use sizes::Refusal;
 use sizes::Sizes;
 
 // The sizes, the capacity in stripes, whether a file was accepted, its length, and a mark for each board: in service or not.
@@ -25,6 +28,25 @@ pub struct Handed {
     pub answer: Answer,
 }
 
+// A refused call hands the record back as it came.
+fn refuse(kept: Store, x: Refusal) -> Handed
+    ensures { λ r. ⌜ ((area output : List ℕ) → outcomeIn r area output ≡ refused (recordIn kept) area output x) ⌝ }
+{
+    let answer = Answer::Refused(x);
+    Handed {
+        store: kept,
+        answer: answer,
+    }
+}
+
+// The bytes that a repair of so many stripes moves.
+fn bytes_moved(sizes: Sizes, stripes: usize) -> usize
+    requires { ⌜ (legal sizes ≡ true) × (stripes ≤ 4096) ⌝ }
+    ensures { λ r. ⌜ r ≡ stripes * sizes .r * (2 * sizes .d + sizes .r - 1) ⌝ }
+{
+    stripes * sizes.r * (2 * sizes.d + sizes.r - 1)
+}
+
 impl Store {
     // A store of these sizes and this capacity, with no file. The record that it is handed is not examined.
     pub fn set_up(self, sizes: Sizes, capacity: usize) -> Handed
@@ -32,10 +54,7 @@ impl Store {
     {
         let marks = [false; 32];
         if let Check::Refuse(x) = store_checks::check_record(sizes, capacity, false, 0, &marks) {
-            return Handed {
-                store: self,
-                answer: Answer::Refused(x),
-            };
+            return refuse(self, x);
         }
         Handed {
             store: Store {
@@ -65,10 +84,7 @@ impl Store {
             area.len(),
             file,
         ) {
-            return Handed {
-                store: self,
-                answer: Answer::Refused(x),
-            };
+            return refuse(self, x);
         }
         let points = checks::standard_points();
         let count = checks::stripe_count(sizes, file.len());
@@ -91,25 +107,19 @@ impl Store {
     {
         let sizes = self.sizes;
         let marks = self.marks;
-        let mut next = self;
-        if let Check::Refuse(x) = store_checks::check_record(
+        if let Check::Refuse(size) = store_checks::check_record(
             sizes,
-            next.capacity,
-            next.written,
-            next.length,
+            self.capacity,
+            self.written,
+            self.length,
             &marks,
         ) {
-            return Handed {
-                store: next,
-                answer: Answer::Refused(x),
-            };
+            return refuse(self, size);
         }
-        if let Check::Refuse(x) = checks::check_node(sizes, board) {
-            return Handed {
-                store: next,
-                answer: Answer::Refused(x),
-            };
+        if let Check::Refuse(node) = checks::check_node(sizes, board) {
+            return refuse(self, node);
         }
+        let mut next = self;
         next.marks[board] = false;
         Handed {
             store: next,
@@ -126,70 +136,24 @@ impl Store {
         let written = self.written;
         let length = self.length;
         let mut marks = self.marks;
-        if let Check::Refuse(x) = store_checks::check_record(
+        let points = checks::standard_points();
+        if let Check::Refuse(x) = repair_check::check_repair(
             sizes,
             capacity,
             written,
             length,
             &marks,
+            &points,
+            area.len(),
+            fresh,
+            helpers,
         ) {
-            return Handed {
-                store: self,
-                answer: Answer::Refused(x),
-            };
-        }
-        let part_len = capacity * sizes.share_len();
-        if let Check::Refuse(x) = checks::check_lent(area.len(), sizes.n * part_len) {
-            return Handed {
-                store: self,
-                answer: Answer::Refused(x),
-            };
-        }
-        if let Check::Refuse(x) = store_checks::check_written(written) {
-            return Handed {
-                store: self,
-                answer: Answer::Refused(x),
-            };
-        }
-        if let Check::Refuse(x) = checks::check_counts(
-            fresh.len(),
-            sizes.r,
-            helpers.len(),
-            sizes.r * sizes.d,
-        ) {
-            return Handed {
-                store: self,
-                answer: Answer::Refused(x),
-            };
-        }
-        if let Check::Refuse(x) = repair_checks::check_two_lists(sizes, fresh, helpers) {
-            return Handed {
-                store: self,
-                answer: Answer::Refused(x),
-            };
-        }
-        if let Check::Refuse(x) = repair_checks::check_fresh(sizes.d, fresh, helpers) {
-            return Handed {
-                store: self,
-                answer: Answer::Refused(x),
-            };
-        }
-        if let Check::Refuse(x) = store_checks::check_service(&marks, helpers) {
-            return Handed {
-                store: self,
-                answer: Answer::Refused(x),
-            };
-        }
-        let points = checks::standard_points();
-        if let Check::Refuse(x) = checks::check_points(&points, sizes.n) {
-            return Handed {
-                store: self,
-                answer: Answer::Refused(x),
-            };
+            return refuse(self, x);
         }
         let mut inverses = [0u8; 256];
         interpolation::fill_inverses(&mut inverses);
         let stripes = checks::stripe_count(sizes, length);
+        let moved = bytes_moved(sizes, stripes);
         store_repair::repair_shares(
             sizes,
             capacity,
@@ -200,7 +164,7 @@ impl Store {
             helpers,
             area,
         );
-        repair_checks::marks_on(fresh, &mut marks);
+        store_checks::marks_on(fresh, &mut marks);
         Handed {
             store: Store {
                 sizes: sizes,
@@ -209,7 +173,7 @@ impl Store {
                 length: length,
                 marks: marks,
             },
-            answer: Answer::Done(stripes * sizes.r * (2 * sizes.d + sizes.r - 1)),
+            answer: Answer::Done(moved),
         }
     }
 
@@ -236,10 +200,7 @@ impl Store {
             boards,
             out,
         ) {
-            return Handed {
-                store: self,
-                answer: Answer::Refused(x),
-            };
+            return refuse(self, x);
         }
         let count = checks::stripe_count(sizes, length);
         store_decode::file(

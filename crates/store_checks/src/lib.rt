@@ -1,15 +1,19 @@
-//! The checks of the store's lines, over the parts of its record. A check answers the refusal where its line holds.
+//! The checks of the store's lines, over the parts of its record, and the marks that its calls turn on. A check answers the refusal where its
+//! line holds.
 ghost use mathlib.Core.Path.{_≡_};
 ghost use mathlib.Core.Bool.{true, false, not};
+ghost use mathlib.Core.List.{[], _∷_, _++_};
 ghost use Prim.Native.Nat.{_*_, _≤_};
 ghost use lib.Dec.{ltb};
 ghost use lib.ListN.{length, getD, drop};
 ghost use Rattle.lists.specs.Lists.{tabulate};
-ghost use Rattle.lists.specs.Tests.{every};
-ghost use Rattle.sizes.specs.declared.Refusal.the-variants.{Long, Empty, Down};
+ghost use Rattle.lists.specs.Tests.{every, alls, below, different, apart};
+ghost use Rattle.sizes.specs.declared.Refusal.the-variants.{Long, Repeat, Empty, Down};
 ghost use Rattle.sizes.specs.Sizing.{legal, B};
 ghost use Rattle.sizes.specs.Refusals.{_when_};
-ghost use Rattle.store_statements.specs.Record.{allOff, sound};
+ghost use Rattle.board_statements.specs.Calls.{nodeLine};
+ghost use Rattle.store_statements.specs.Record.{allOff, sound, turnOn};
+ghost use Rattle.store_statements.specs.Packets.{Hearing, hearHelpers};
 ghost use Rattle.store_statements.specs.Calls.{recordLine};
 ghost use Rattle.checks.specs.Asked.{asked};
 ghost use Rattle.store_checks.specs.Parts.{recordOf};
@@ -90,6 +94,49 @@ pub fn check_fits(sizes: Sizes, capacity: usize, got: usize) -> Check
     }
 }
 
+// 5 NODE of two lists.
+pub fn check_two_lists(sizes: Sizes, boards: &[usize], others: &[usize]) -> Check
+    ensures { λ r. ⌜ r ≡ asked (nodeLine sizes (now (boards .entry) ++ now (others .entry))) ⌝ }
+{
+    if board_tests::below(sizes.n, boards) {
+        return checks::check_nodes(sizes, others);
+    }
+    Check::Refuse(Refusal::Node)
+}
+
+// Whether no board stands twice in the run of d helpers of one fresh board.
+fn runs_differ(d: usize, fresh: &[usize], helpers: &[usize]) -> bool
+    requires { ⌜ (length (now helpers) ≡ length (now fresh) * d) × (length (now helpers) ≤ 1024) ⌝ }
+    ensures { λ r. ⌜ r ≡ every (λ h. different (h .senders)) (hearHelpers d (now (fresh .entry)) (now (helpers .entry))) ⌝ }
+{
+    let mut a: usize = 0;
+    while a < fresh.len() {
+        let from = a * d;
+        let to = from + d;
+        if board_tests::different(&helpers[from..to]) {
+            a += 1;
+        } else {
+            return false;
+        }
+    }
+    true
+}
+
+// 6 REPEAT of a repair.
+pub fn check_fresh(d: usize, fresh: &[usize], helpers: &[usize]) -> Check
+    requires { ⌜ (length (now helpers) ≡ length (now fresh) * d) × (length (now helpers) ≤ 1024) ⌝ }
+    ensures { λ r. ⌜ r ≡ asked (Repeat when not (alls (different (now (fresh .entry)) ∷ every (λ h. different (h .senders)) (hearHelpers d (now (fresh .entry)) (now (helpers .entry))) ∷ apart (now (fresh .entry)) (now (helpers .entry)) ∷ []))) ⌝ }
+{
+    if board_tests::different(fresh) {
+        if runs_differ(d, fresh, helpers) {
+            if board_tests::apart(fresh, helpers) {
+                return Check::Pass;
+            }
+        }
+    }
+    Check::Refuse(Refusal::Repeat)
+}
+
 // 8 EMPTY.
 pub fn check_written(written: bool) -> Check
     ensures { λ r. ⌜ r ≡ asked (Empty when not written) ⌝ }
@@ -154,5 +201,18 @@ fn turn_on(n: usize, marks: &mut [bool])
     while i < marks.len() {
         marks[i] = i < n;
         i += 1;
+    }
+}
+
+// The marks of these boards go on.
+pub fn marks_on(boards: &[usize], marks: &mut [bool])
+    requires { ⌜ below (length (now marks)) (now boards) ≡ true ⌝ }
+    ensures { λ _. ⌜ now (marks .exit) ≡ turnOn (now (boards .entry)) (now (marks .entry)) ⌝ }
+{
+    let mut t: usize = 0;
+    while t < boards.len() {
+        let b = boards[t];
+        marks[b] = true;
+        t += 1;
     }
 }

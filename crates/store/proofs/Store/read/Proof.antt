@@ -7,6 +7,7 @@ use borrow.Author.Needs.{needs}
 use Rattle.sizes.specs.declared.Check.the-variants.{Pass}
 use Rattle.mbcr.specs.Share.{standard}
 use Rattle.store_statements.specs.Record.{Record}
+use Rattle.store_statements.specs.Calls.{refused, readCall}
 use Rattle.store_statements.proofs.Records.{Reads, read-facts}
 use Rattle.read_check.proofs.Readable.{Readable, readable}
 use Rattle.store.specs.Handing.{recordIn}
@@ -60,10 +61,13 @@ read-done c =
     let k = at-check n in
     read-works (R k) (st k .args .area .now) (st k .args .boards .now) (st k .args .out .now) _ _ (at-points k .standard-points .ensures) (passed (n .before)) (w .file .ensures)
 
-read-refused : tie.Need-returns
+read-refused : (c : tie.After-x)
+    → let k = c .before .before in let a = st k .args in
+    refused (R k) (a .area .now) (a .out .now) (c .x .given .0 .0) ≡ readCall standard (R k) (a .area .now) (a .boards .now) (a .out .now)
 read-refused c =
-    let k = c .before .before .before in
-    read-refuses (R k) (st k .args .area .now) (st k .args .boards .now) (st k .args .out .now) (sym (k .check-read .ensures) ∙ c .before .x .given .1)
+    let k = c .before .before in
+    let a = st k .args in
+    read-refuses (R k) (a .area .now) (a .boards .now) (a .out .now) (sym (k .check-read .ensures) ∙ c .x .given .1)
 
 pub read-spec : {M : Type 1} → statement M
 read-spec =
@@ -77,8 +81,9 @@ read-spec =
     (λ c. search needs)
     (λ c κs. search needs)
     (λ c. search needs)
+    (λ c κs. search needs)
     (λ c. search needs)
-    read-refused
+    (λ c. c .refuse .ensures _ _ ∙ read-refused (c .before .before))
     (λ c. search needs)
     (λ c κs. let f = asks c in (f .is-legal, f .not-long))
     (λ c. search needs)

@@ -4,12 +4,15 @@ use Prim.Native.Nat.{ℕ, _*_, _≤_}
 use mathlib.Core.Path.{_≡_, refl, sym, ap, _∙_}
 use native.Mathlib.Nat.{mul-le-mul-right}
 use native.Mathlib.Omega.{arith}
+use mathlib.Core.List.{[]}
 use lib.ListN.{length}
 use borrow.Author.Needs.{needs}
 use Rattle.sizes.specs.declared.Check.the-variants.{Pass}
 use Rattle.sizes.specs.Sizing.{B}
 use Rattle.sizes.proofs.Legal.{legal-facts, stripes-least}
+use Rattle.mbcr.specs.Share.{standard}
 use Rattle.store_statements.specs.Record.{Record}
+use Rattle.store_statements.specs.Calls.{refused, writeCall}
 use Rattle.store_statements.proofs.Records.{Sound, sound-facts, Writes, write-facts}
 use Rattle.store.specs.Handing.{recordIn}
 use Rattle.store.proofs.Settled.{checked, write-refuses, write-works}
@@ -59,10 +62,11 @@ write-done c =
     let k = p .before .before .before in
     write-works (R k) (st k .args .area .now) (st k .args .file .now) _ _ _ (passed (p .before)) (c .first-on .ensures) (p .standard-points .ensures) (w .write-shares .ensures)
 
-write-refused : tie.Need-returns
+write-refused : (c : tie.After-x)
+    → let k = c .before .before in let a = st k .args in refused (R k) (a .area .now) [] (c .x .given .0 .0) ≡ writeCall standard (R k) (a .area .now) (a .file .now)
 write-refused c =
-    let k = c .before .before .before in
-    write-refuses (R k) (st k .args .area .now) (st k .args .file .now) (sym (k .check-write .ensures) ∙ c .before .x .given .1)
+    let k = c .before .before in
+    write-refuses (R k) (st k .args .area .now) (st k .args .file .now) (sym (k .check-write .ensures) ∙ c .x .given .1)
 
 pub write-spec : {M : Type 1} → statement M
 write-spec =
@@ -71,7 +75,8 @@ write-spec =
     (λ c. search needs)
     (λ c κs. search needs)
     (λ c. search needs)
-    write-refused
+    (λ c κs. search needs)
+    (λ c. c .refuse .ensures _ [] ∙ write-refused (c .before .before))
     (λ c. search needs)
     (λ c κs. search needs)
     (λ c κs. (sound-on (c .before) .is-legal, at-most (c .before)))

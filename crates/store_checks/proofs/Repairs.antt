@@ -1,4 +1,4 @@
--- One step of each walk, and what the tests of two lists come to.
+-- One step of each walk of a repair's lists, and what the tests of two lists come to.
 -- Assumes nothing.
 use Prim.Native.Nat.{ℕ, suc, _+_, _*_, _-_, _<_}
 use mathlib.Core.Path.{_≡_, refl, sym, ap, ap₂, _∙_}
@@ -36,30 +36,38 @@ below-right n l m h = both-tests (below n l) (below n m) h ∙ sym (both-below n
 
 -- ---- the runs of helpers
 
+-- whether no board stands twice in one run
+abbrev pub runsDiffer : ℕ → List ℕ → List ℕ → Bool
+runsDiffer d fresh helpers = every (λ h. different (h .senders)) (hearHelpers d fresh helpers)
+
 module _ (d : ℕ) (fresh helpers : List ℕ) (a : ℕ) (h : a < length fresh) where
   -- whether those from the a-th on differ
   abbrev from : ℕ → Bool
-  from a = every (λ h. different (h .senders)) (hearHelpers d (drop a fresh) (drop (a * d) helpers))
+  from a = runsDiffer d (drop a fresh) (drop (a * d) helpers)
 
-  head : from a ≡ pick (different (take (a * d + d - a * d) (drop (a * d) helpers))) (from (a + 1)) false
+  -- the a-th run as the loop takes it
+  abbrev run : List ℕ
+  run = take (a * d + d - a * d) (drop (a * d) helpers)
+
+  head : from a ≡ pick (different run) (from (a + 1)) false
   head =
       let e : a * d + d - a * d ≡ d = omega arith in
       let k : (a + 1) * d ≡ a * d + d = ap (λ (m : ℕ). m * d) (add-one a) ∙ suc-mul a d in
-      ap (λ (l : List ℕ). every (λ h. different (h .senders)) (hearHelpers d l (drop (a * d) helpers))) (drop-cons fresh a 0 h)
-      ∙ ap₂ {C = Bool} (λ (m : ℕ) (l : List ℕ). pick (different (take m (drop (a * d) helpers))) (every (λ h. different (h .senders)) (hearHelpers d (drop (suc a) fresh) l)) false) (sym e)
+      ap (λ (l : List ℕ). runsDiffer d l (drop (a * d) helpers)) (drop-cons fresh a 0 h)
+      ∙ ap₂ {C = Bool} (λ (m : ℕ) (l : List ℕ). pick (different (take m (drop (a * d) helpers))) (runsDiffer d (drop (suc a) fresh) l) false) (sym e)
       (drop-drop d (a * d) helpers ∙ ap (λ (m : ℕ). drop m helpers) (sym k))
-      ∙ ap (λ (m : ℕ). pick (different (take (a * d + d - a * d) (drop (a * d) helpers))) (every (λ h. different (h .senders)) (hearHelpers d (drop m fresh) (drop ((a + 1) * d) helpers))) false) (sym (add-one a))
+      ∙ ap (λ (m : ℕ). pick (different run) (runsDiffer d (drop m fresh) (drop ((a + 1) * d) helpers)) false) (sym (add-one a))
 
-  pub runs-no : different (take (a * d + d - a * d) (drop (a * d) helpers)) ≡ false → from a ≡ false
+  pub runs-no : different run ≡ false → from a ≡ false
   runs-no e = head ∙ ap (λ (t : Bool). pick t (from (a + 1)) false) e
 
-  pub runs-next : different (take (a * d + d - a * d) (drop (a * d) helpers)) ≡ true → from (a + 1) ≡ from a
+  pub runs-next : different run ≡ true → from (a + 1) ≡ from a
   runs-next e = sym (head ∙ ap (λ (t : Bool). pick t (from (a + 1)) false) e)
 
 -- ---- REPEAT of a repair
 
 abbrev pub repeatOf : ℕ → List ℕ → List ℕ → Line
-repeatOf d fresh helpers = Repeat when not (alls (different fresh ∷ every (λ h. different (h .senders)) (hearHelpers d fresh helpers) ∷ apart fresh helpers ∷ []))
+repeatOf d fresh helpers = Repeat when not (alls (different fresh ∷ runsDiffer d fresh helpers ∷ apart fresh helpers ∷ []))
 
 pub three-hold : (a b c : Bool) → a ≡ true → b ≡ true → c ≡ true → not (alls (a ∷ b ∷ c ∷ [])) ≡ false
 three-hold a b c ea eb ec = ap not (hold-alls (a ∷ b ∷ c ∷ []) (ea, (eb, (ec, tt))))
