@@ -47,7 +47,8 @@ asks : tie.Need-hand-on-requires
 asks c κs =
     let k = at-call c in
     let g = st-call k in
-    handed-asks (call g) (g .args .ws .now) (λ s. read-few s (g .args .area .now) (g .args .boards .now) (g .args .out .now)) _ (k .read .result) _ _ (is-one (at-else k)) (k .read .ensures)
+    handed-asks (call g) (g .args .ws .now) (λ s. read-few s (g .args .area .now) (g .args .boards .now) (g .args .out .now))
+    _ (k .read .result) _ _ (is-one (at-else k)) (k .read .ensures)
 
 hands-on : tie.Need-returns-2
 unfolding zbkRead

@@ -48,7 +48,8 @@ asks : tie.Need-hand-on-requires
 asks c κs =
     let k = at-call c in
     let g = st-call k in
-    handed-asks (call g) (g .args .ws .now) (λ s. repair-few s (g .args .area .now) (g .args .fresh .now) (g .args .helpers .now)) _ (k .repair .result) _ _ (is-one (at-else k)) (k .repair .ensures)
+    handed-asks (call g) (g .args .ws .now) (λ s. repair-few s (g .args .area .now) (g .args .fresh .now) (g .args .helpers .now))
+    _ (k .repair .result) _ _ (is-one (at-else k)) (k .repair .ensures)
 
 hands-on : tie.Need-returns-2
 unfolding zbkRepair

@@ -48,7 +48,8 @@ asks : tie.Need-hand-on-requires
 asks c κs =
     let k = at-call c in
     let g = st-call k in
-    handed-asks (call g) (g .args .ws .now) (λ s. write-few s (g .args .area .now) (g .args .file .now)) _ (k .write .result) _ _ (is-one (at-else k)) (k .write .ensures)
+    handed-asks (call g) (g .args .ws .now) (λ s. write-few s (g .args .area .now) (g .args .file .now))
+    _ (k .write .result) _ _ (is-one (at-else k)) (k .write .ensures)
 
 hands-on : tie.Need-returns-2
 unfolding zbkWrite
