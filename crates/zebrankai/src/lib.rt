@@ -4,18 +4,12 @@
 //! written, length, marks. An answer has the refusal's number in its low eight bits, 0 where there is none, and the number reported above them.
 ghost use mathlib.Core.Path.{_≡_};
 ghost use mathlib.Core.List.{[]};
-ghost use Prim.Native.Nat.{_<_};
-ghost use lib.ListN.{length};
-ghost use Rattle.sizes.specs.Refusals.{said};
 ghost use Rattle.mbcr.specs.Share.{standard};
 ghost use Rattle.board_statements.specs.Calls.{shareCall, fileCall, helperCall, exchangeCall, finishedCall, textCall};
-ghost use Rattle.store.specs.Handing.{recordIn};
 ghost use Rattle.answer_word.specs.Answers.{wordOf};
-ghost use Rattle.words.specs.Words.{wordsOf};
 ghost use Rattle.zebrankai.specs.Archive.{sizesOf};
 ghost use Rattle.zebrankai.specs.Lent.{zbkSetUp, zbkWrite, zbkLose, zbkRepair, zbkRead};
 use sizes::Sizes;
-use store::Handed;
 use store::Store;
 
 // The share of board `node` of a file. Reports the number of bytes written.
@@ -178,16 +172,6 @@ pub extern "C" fn zbk_share_text(
     answer_word::word_of(board_text::text(sizes, len, node, share, out))
 }
 
-// The record that a call of the store hands on, in its words; and the word of its answer.
-fn hand_on(handed: Handed, ws: &mut [u64]) -> u64
-    requires { ⌜ (length (now ws) ≡ 8) × (said (handed .answer) .value < 72057594037927936) ⌝ }
-    ensures { λ w. ⌜ (w ≡ wordOf (said (handed .answer))) × (now (ws .exit) ≡ wordsOf (recordIn (handed .store))) ⌝ }
-{
-    words::put_words(handed.store, ws);
-    let answer = handed.answer;
-    answer_word::word_of(answer)
-}
-
 // The word of SIZE, for words that are no record.
 const NO_RECORD: u64 = 1;
 
@@ -238,7 +222,7 @@ pub extern "C" fn zbk_write(ws: &mut [u64], area: &mut [u8], file: &[u8]) -> u64
     }
     let store = words::store_of(ws);
     let handed = store.write(area, file);
-    hand_on(handed, ws)
+    words::hand_on(handed, ws)
 }
 
 // Takes a board out of service.
@@ -251,7 +235,7 @@ pub extern "C" fn zbk_lose(ws: &mut [u64], board: usize) -> u64
     }
     let store = words::store_of(ws);
     let handed = store.lose(board);
-    hand_on(handed, ws)
+    words::hand_on(handed, ws)
 }
 
 // Rebuilds fresh boards together, each from its own run of d helpers.
@@ -269,7 +253,7 @@ pub extern "C" fn zbk_repair(
     }
     let store = words::store_of(ws);
     let handed = store.repair(area, fresh, helpers);
-    hand_on(handed, ws)
+    words::hand_on(handed, ws)
 }
 
 // Reads the file from k boards.
@@ -282,5 +266,5 @@ pub extern "C" fn zbk_read(ws: &mut [u64], area: &[u8], boards: &[usize], out: &
     }
     let store = words::store_of(ws);
     let handed = store.read(area, boards, out);
-    hand_on(handed, ws)
+    words::hand_on(handed, ws)
 }

@@ -1,8 +1,8 @@
--- `zebrankai::hand_on` meets its contract: the words of the record, and the word of the answer.
+-- `words::hand_on` meets its contract: the words of the record, and the word of the answer.
 -- Assumes nothing.
 use borrow.Author.Needs.{needs}
-use Rattle.zebrankai.proofs.hand_on.Statement.{statement}
-use Rattle.zebrankai.proofs.hand_on.Tie as tie
+use Rattle.words.proofs.hand_on.Statement.{statement}
+use Rattle.words.proofs.hand_on.Tie as tie
 
 pub hand-on-spec : {M : Type 1} → statement M
 hand-on-spec =
