@@ -42,5 +42,11 @@ pub record WordFigures : Type 0 where
   -- eight words; seven, nine, written 2, marks from 2^32 up are none
   pub are-records :
       map isRecord
-      (spelled ∷ (7 ∷ 2 ∷ 4 ∷ 3 ∷ 5 ∷ 1 ∷ 6 ∷ []) ∷ (spelled ++ (0 ∷ [])) ∷ (7 ∷ 2 ∷ 4 ∷ 3 ∷ 5 ∷ 2 ∷ 6 ∷ 9 ∷ []) ∷ (7 ∷ 2 ∷ 4 ∷ 3 ∷ 5 ∷ 1 ∷ 6 ∷ 4294967296 ∷ []) ∷ (7 ∷ 2 ∷ 4 ∷ 3 ∷ 5 ∷ 1 ∷ 6 ∷ 4294967295 ∷ []) ∷ [])
+      (spelled
+      ∷ (7 ∷ 2 ∷ 4 ∷ 3 ∷ 5 ∷ 1 ∷ 6 ∷ [])
+      ∷ (spelled ++ (0 ∷ []))
+      ∷ (7 ∷ 2 ∷ 4 ∷ 3 ∷ 5 ∷ 2 ∷ 6 ∷ 9 ∷ [])
+      ∷ (7 ∷ 2 ∷ 4 ∷ 3 ∷ 5 ∷ 1 ∷ 6 ∷ 4294967296 ∷ [])
+      ∷ (7 ∷ 2 ∷ 4 ∷ 3 ∷ 5 ∷ 1 ∷ 6 ∷ 4294967295 ∷ [])
+      ∷ [])
       ≡ true ∷ false ∷ false ∷ false ∷ false ∷ true ∷ []

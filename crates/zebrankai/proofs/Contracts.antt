@@ -1,5 +1,6 @@
--- The contracts of the archive's eleven calls are what the definitions say: `zbk` and `zbkSetUp` for the store, and board level's calls. A contract is taken as the checker hands it to a caller: `Asked`
--- is its `requires`, `Learnt` its `ensures`. So a call that ensures less, or requires something, is refused here.
+-- The contracts of the archive's eleven calls are what the definitions say: `zbk` and `zbkSetUp` for the store, and board level's calls. A contract is
+-- taken as the checker hands it to a caller: `Asked` is its `requires`, `Learnt` its `ensures`. So a call that ensures less, or requires
+-- something, is refused here.
 -- Assumes nothing.
 use mathlib.Core.Path.{_≡_, ap}
 use mathlib.Core.List.{List, []}
@@ -114,7 +115,8 @@ pub finished-gives : (κs : Lfts 5) (a : Dens κs finished-kinds.ps) (w : ℕ) (
     × (finished-reads.Learnt κs a w e
     → let b = a .1 .1 .1 .1 in
     Gives w (now (e .1 .1 .1 .1 .1 .1 .1 .1 .1 .1 .0))
-    (finishedCall (sizesOf (a .0) (a .1 .0) (a .1 .1 .0) (a .1 .1 .1 .0)) standard (b .0) (b .1 .0) (now (b .1 .1 .0)) (now (b .1 .1 .1 .0)) (now (b .1 .1 .1 .1 .0)) (now (b .1 .1 .1 .1 .1 .0)) (now (b .1 .1 .1 .1 .1 .1 .0))))
+    (finishedCall (sizesOf (a .0) (a .1 .0) (a .1 .1 .0) (a .1 .1 .1 .0)) standard (b .0) (b .1 .0) (now (b .1 .1 .0)) (now (b .1 .1 .1 .0))
+    (now (b .1 .1 .1 .1 .0)) (now (b .1 .1 .1 .1 .1 .0)) (now (b .1 .1 .1 .1 .1 .1 .0))))
 finished-gives κs a w e = (tt, λ h. h)
 
 pub text-gives : (κs : Lfts 2) (a : Dens κs text-kinds.ps) (w : ℕ) (e : AtExit (endedOf 2 text-kinds.ps text-kinds.r) κs)

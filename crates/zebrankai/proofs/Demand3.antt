@@ -15,14 +15,15 @@ use Rattle.lists.specs.Lists.{All, Bytes, over}
 use Rattle.sizes.specs.declared.Sizes.{Sizes}
 use Rattle.sizes.specs.declared.Check.{Check}
 use Rattle.sizes.specs.declared.Check.the-variants.{Pass, Refuse}
-use Rattle.sizes.specs.declared.Answer.the-variants.{Done, Refused}
+use Rattle.sizes.specs.declared.Answer.the-variants.{Refused}
 use Rattle.sizes.specs.Sizing.{legal, maxStripes}
-use Rattle.sizes.specs.Refusals.{number, said, first, storeOrder}
+use Rattle.sizes.specs.Refusals.{number, first, storeOrder}
 use Rattle.sizes.proofs.Laws.{number-low}
 use Rattle.mbcr.specs.Share.{standard}
 use Rattle.store_statements.specs.Record.{Record, newRecord, turnOn}
 use Rattle.store_statements.specs.Packets.{total, repairPackets}
-use Rattle.store_statements.specs.Calls.{StoreOutcome, settle, refused, recordLine, writeLines, writeDone, writeCall, loseLines, loseDone, loseCall, repairLines, repairDone, repairCall, readLines, readDone, readCall, setUpCall}
+use Rattle.store_statements.specs.Calls.{StoreOutcome, accepted, settle, refused, recordLine, setUpCall, writeLines, writeDone, writeCall}
+use Rattle.store_statements.specs.Calls.{loseLines, loseDone, loseCall, repairLines, repairDone, repairCall, readLines, readDone, readCall}
 use Rattle.store_statements.specs.Ledger.{Call, write, lose, repair, read, Book, State, Step, Altered, Allowed, left, act, stepOutcome, replies, final, openBook, enter, bookFinal}
 use Rattle.board_statements.specs.Calls.{fileOf}
 use Rattle.store_statements.specs.Demand3.{Kept, Demand3, begun, calls}
@@ -34,8 +35,10 @@ use Rattle.answer_word.specs.Answers.{wordOf}
 use Rattle.answer_word.proofs.Laws.{answer-laws}
 use Rattle.words.specs.Words.{isRecord, recordFrom, wordsOf}
 use Rattle.words.proofs.Laws.{word-laws}
-use Rattle.zebrankai.specs.Lent.{Lent, noRecord, inWords, zbkSetUp, zbkWrite, zbkLose, zbkRepair, zbkRead}
-use Rattle.zebrankai.specs.Demand3.{zbk, lents, AllowedLents, lastWords, lastArea, Told, told, inWord, firstWords, endWords, endArea, endBook, ArchiveRun, ArchiveDemand3, ArchiveRepaired, ArchiveRepairs, unalteredLents, ArchivePremises}
+use Rattle.zebrankai.specs.Lent.{Lent, inWords, zbkSetUp, zbkWrite, zbkLose, zbkRepair, zbkRead}
+use Rattle.zebrankai.specs.Demand3.{zbk, lents, AllowedLents, lastWords, lastArea, Told, told, inWord, firstWords, endWords, endArea, endBook}
+use Rattle.zebrankai.specs.Demand3.{ArchiveRun, ArchiveDemand3, ArchiveRepaired, ArchiveRepairs, unalteredLents, ArchivePremises}
+use Rattle.zebrankai.proofs.Worded.{lent, lent-back, taken, set-up-lent}
 
 -- ---- a call on the words of a record of 32 marks is the definitions' call on the record
 
@@ -46,19 +49,14 @@ lose-any : (t : Check) (s : Record) (area : List ℕ) (board : ℕ)
 lose-any Pass s area board = refl
 lose-any (Refuse x) s area board = refl
 
-module _ (s : Record) (full : length (s .marks) ≡ 32) where
-  picked : (f : Record → Lent) (none : Lent) → pick (isRecord (wordsOf s)) (f (recordFrom (wordsOf s))) none ≡ f s
-  picked f none = rw (word-laws .are-words s full) (ap f (word-laws .record-back s full))
-
-  zbk-is : (area : List ℕ) (call : Call) → zbk (wordsOf s) area call ≡ inWords (act standard (record { kept = s; area = area }) call)
-  unfolding act loseCall zbkWrite zbkLose zbkRepair zbkRead
-  zbk-is area (write file) = picked (λ x. inWords (writeCall standard x area file)) (noRecord (wordsOf s) area [])
-  zbk-is area (lose board) =
-      ap (λ (o : Lent). record { answer = o .answer; words = o .words; area = area; output = o .output })
-      (picked (λ x. inWords (loseCall x [] board)) (noRecord (wordsOf s) [] []))
-      ∙ lose-any (first storeOrder (loseLines s board)) s area board
-  zbk-is area (repair fresh helpers) = picked (λ x. inWords (repairCall standard x area fresh helpers)) (noRecord (wordsOf s) area [])
-  zbk-is area (read boards output) = picked (λ x. inWords (readCall standard x area boards output)) (noRecord (wordsOf s) area output)
+zbk-is : (s : Record) → length (s .marks) ≡ 32 → (area : List ℕ) (call : Call) → zbk (wordsOf s) area call ≡ inWords (act standard (record { kept = s; area = area }) call)
+unfolding act loseCall zbkWrite zbkLose zbkRepair zbkRead
+zbk-is s full area (write file) = lent-back (λ x. writeCall standard x area file) s area [] full
+zbk-is s full area (lose board) =
+    ap (λ (o : Lent). record { answer = o .answer; words = o .words; area = area; output = o .output }) (lent-back (λ x. loseCall x [] board) s [] [] full)
+    ∙ lose-any (first storeOrder (loseLines s board)) s area board
+zbk-is s full area (repair fresh helpers) = lent-back (λ x. repairCall standard x area fresh helpers) s area [] full
+zbk-is s full area (read boards output) = lent-back (λ x. readCall standard x area boards output) s area output full
 
 -- ---- a call hands on 32 marks
 
@@ -130,19 +128,17 @@ ends ws area w (t ∷ ts) h = ends (zbk ws (t .area) (t .call) .words) (zbk ws (
 -- ---- the start
 
 record Begins (ws : List ℕ) (z : Sizes) (c : ℕ) : Type 0 where
-  accepted : setUpCall (newRecord z c) z c .answer .refusal ≡ 0
+  accepts : setUpCall (newRecord z c) z c .answer .refusal ≡ 0
   words-are : zbkSetUp ws z c .words ≡ wordsOf (setUpCall (newRecord z c) z c .handed)
-
--- a set-up over words that are eight, or not
-abbrev set-up-lent : List ℕ → StoreOutcome → Bool → Lent
-set-up-lent ws o t =
-    pick t (record { answer = wordOf (o .answer); words = pick (eqb (wordOf (o .answer)) 0) (wordsOf (o .handed)) ws; area = []; output = [] }) (noRecord ws [] [])
 
 begins : (ws : List ℕ) (z : Sizes) (c : ℕ) → zbkSetUp ws z c .answer ≡ 0 → Begins ws z c
 unfolding zbkSetUp
-begins ws z c e = let p = go (setUpCall (newRecord z c) z c) (eqb (length ws) 8) e in record { accepted = p .0; words-are = p .1 }
+begins ws z c e = let p = go (setUpCall (newRecord z c) z c) (eqb (length ws) 8) e in record { accepts = p .0; words-are = p .1 }
   where
-    go : (o : StoreOutcome) (t : Bool) → set-up-lent ws o t .answer ≡ 0 → (o .answer .refusal ≡ 0) × (set-up-lent ws o t .words ≡ wordsOf (o .handed))
+    by : StoreOutcome → Bool → Lent
+    by o t = set-up-lent ws o t (eqb (wordOf (o .answer)) 0)
+
+    go : (o : StoreOutcome) (t : Bool) → by o t .answer ≡ 0 → (o .answer .refusal ≡ 0) × (by o t .words ≡ wordsOf (o .handed))
     go o true e = (omega (arith, e), rw (eq-eqb (wordOf (o .answer)) 0 e) refl)
     go o false e = absurd (omega (arith, e))
 
@@ -173,7 +169,7 @@ module _ (ws : List ℕ) (z : Sizes) (c : ℕ) (area : List ℕ) (steps : List S
   module _ (ok : AllowedLents (firstWords ws z c area steps) area (openBook z c (length area)) steps) where
     of-definitions : Demand3 standard (newRecord z c) z c area steps
     of-definitions =
-        demand-3-standard (newRecord z c) z c area steps (begins ws z c e .accepted)
+        demand-3-standard (newRecord z c) z c area steps (begins ws z c e .accepts)
         (allowed (firstWords ws z c area steps) area start (openBook z c (length area)) steps tells-start ok)
 
     kept : Kept standard (record { kept = recordFrom (endWords ws z c area steps); area = endArea ws z c area steps }) (endBook ws z c area steps)
@@ -189,10 +185,10 @@ module _ (ws : List ℕ) (z : Sizes) (c : ℕ) (area : List ℕ) (steps : List S
       are-words = are-words;
       after = kept;
       gives = λ now a boards output count diff up room.
-          rw are-words
-          (ap inWords (kept .gives now a boards output count diff up room)
+          sym (lent (λ s. readCall standard s now boards output) (endWords ws z c area steps) now output are-words)
+          ∙ ap inWords (kept .gives now a boards output count diff up room)
           ∙ ap (λ (l : List ℕ). record { answer = 0; words = l; area = now; output = over (fileOf (endBook ws z c area steps .file)) output })
-          (word-laws .words-back (endWords ws z c area steps) are-words));
+          (word-laws .words-back (endWords ws z c area steps) are-words);
     }
 
 pub archive-demand-3 : ArchiveDemand3
@@ -210,26 +206,21 @@ small (Refuse x) s area done v e h =
 none-refused : (v : ℕ) → 0 + 256 * v ≡ 256 * v
 none-refused v = omega arith
 
-module _ (ws area fresh helpers : List ℕ) (v : ℕ) where
-  repairs : (t : Bool) → isRecord ws ≡ t
-      → pick t (inWords (repairCall standard (recordFrom ws) area fresh helpers)) (noRecord ws area []) .answer ≡ 256 * v
-      → ArchiveRepaired ws area fresh helpers
-  unfolding zbkRepair repairCall
-  repairs true e h =
-      let ok = small (first storeOrder (repairLines standard (recordFrom ws) (length area) fresh helpers)) (recordFrom ws) area
-      (repairDone standard (recordFrom ws) area fresh helpers) v refl h in
-      let p = accepted-repair standard (recordFrom ws) area fresh helpers ok in
-      record {
-        is-record = e;
-        repaired = p;
-        reports = rw e (ap wordOf (p .moved) ∙ none-refused (total (repairPackets standard (recordFrom ws) area fresh helpers)));
-        has = λ i k. rw e (p .has i k);
-      }
-  repairs false e h = absurd (omega (arith, h))
-
 pub archive-repairs : ArchiveRepairs
-unfolding zbkRepair
-archive-repairs ws area fresh helpers v h = repairs ws area fresh helpers v (isRecord ws) refl h
+unfolding zbkRepair repairCall
+archive-repairs ws area fresh helpers v h =
+    let s = recordFrom ws in
+    let e = taken (λ s. repairCall standard s area fresh helpers) ws area [] v h in
+    let is = lent (λ s. repairCall standard s area fresh helpers) ws area [] e in
+    let ok = small (first storeOrder (repairLines standard s (length area) fresh helpers)) s area (repairDone standard s area fresh helpers) v refl
+    (ap (λ (o : Lent). o .answer) is ∙ h) in
+    let p = accepted-repair standard s area fresh helpers ok in
+    record {
+      is-record = e;
+      repaired = p;
+      reports = rw e (ap wordOf (p .moved) ∙ none-refused (total (repairPackets standard s area fresh helpers)));
+      has = λ i k. rw e (p .has i k);
+    }
 
 -- ---- what the premises allow
 
@@ -238,7 +229,7 @@ unfolding setUpCall
 accepted-word z c = go (first storeOrder (recordLine (newRecord z c) ∷ []))
   where
     by : Check → StoreOutcome
-    by t = settle t (refused (newRecord z c) [] []) (record { answer = said (Done 0); handed = newRecord z c; area = []; output = [] })
+    by t = settle t (refused (newRecord z c) [] []) (accepted 0 (newRecord z c) [] [])
 
     go : (t : Check) → by t .answer .refusal ≡ 0 → wordOf (by t .answer) ≡ 0
     go Pass e = refl
@@ -251,10 +242,10 @@ set-up-accepted ws z c = (there, back-again)
   where
     there : zbkSetUp ws z c .answer ≡ 0 → (length ws ≡ 8) × (legal z ≡ true) × (1 ≤ c) × (c ≤ maxStripes)
     there e =
-        let h = demand-1 .set-up-accepted (newRecord z c) z c .0 (begins ws z c e .accepted) in
+        let h = demand-1 .set-up-accepted (newRecord z c) z c .0 (begins ws z c e .accepts) in
         (eight (setUpCall (newRecord z c) z c) (eqb (length ws) 8) refl e, h .0, h .1, h .2)
       where
-        eight : (o : StoreOutcome) (t : Bool) → eqb (length ws) 8 ≡ t → set-up-lent ws o t .answer ≡ 0 → length ws ≡ 8
+        eight : (o : StoreOutcome) (t : Bool) → eqb (length ws) 8 ≡ t → set-up-lent ws o t (eqb (wordOf (o .answer)) 0) .answer ≡ 0 → length ws ≡ 8
         eight o true q e = eqb-true (length ws) 8 q
         eight o false q e = absurd (omega (arith, e))
 

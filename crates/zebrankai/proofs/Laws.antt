@@ -18,26 +18,33 @@ use Rattle.sizes.specs.Sizing.{stripes}
 use Rattle.mbcr.specs.Share.{standard, share}
 use Rattle.mbcr.specs.Rebuild.{helperPacket, exchangePacket, finishedShare}
 use Rattle.mbcr.specs.Read.{readFile}
-use Rattle.board_statements.specs.Calls.{settled, fileOf, shareLines, shareCall, fileLines, fileCall, helperLines, helperCall, exchangeLines, exchangeCall, finishedLines, finishedCall, textLines, textCall}
+use Rattle.board_statements.specs.Calls.{settled, fileOf, shareLines, shareCall, fileLines, fileCall, helperLines, helperCall}
+use Rattle.board_statements.specs.Calls.{exchangeLines, exchangeCall, finishedLines, finishedCall, textLines, textCall}
 use Rattle.board_statements.specs.Text.{shareText}
-use Rattle.store_statements.specs.Record.{newRecord}
-use Rattle.store_statements.specs.Calls.{StoreOutcome, refused, settle, writeLines, writeDone, writeCall, loseLines, loseDone, loseCall, repairLines, repairDone, repairCall, readLines, readDone, readCall, setUpCall}
+use Rattle.store_statements.specs.Record.{Record, newRecord}
+use Rattle.store_statements.specs.Calls.{StoreOutcome, refused, settle, setUpCall, writeLines, writeDone, writeCall}
+use Rattle.store_statements.specs.Calls.{loseLines, loseDone, loseCall, repairLines, repairDone, repairCall, readLines, readDone, readCall}
 use Rattle.answer_word.specs.Answers.{wordOf}
 use Rattle.words.specs.Words.{isRecord, recordFrom, wordsOf}
 use Rattle.words.proofs.Laws.{word-laws}
-use Rattle.zebrankai.specs.Lent.{noRecord, inWords, zbkSetUp, zbkWrite, zbkLose, zbkRepair, zbkRead}
+use Rattle.zebrankai.specs.Lent.{noRecord, inWords, lentBy, zbkSetUp, zbkWrite, zbkLose, zbkRepair, zbkRead}
 use Rattle.zebrankai.specs.Laws.{Keeps, Leaves, ArchiveLaws}
 
--- words that come back
-module _ (ws area output : List ℕ) (done : StoreOutcome) (accepts : done .answer .refusal ≡ 0) where
-  back : isRecord ws ≡ true → (t : Check) → Keeps (inWords (settle t (refused (recordFrom ws) area output) done)) ws area output
-  back is Pass h = absurd (h (done .answer .value) (omega (arith, accepts)))
+-- a call over the record that the words tell, which its check settles: they come back
+module _ (check : Record → Check) (done : Record → StoreOutcome) (accepts : (s : Record) → done s .answer .refusal ≡ 0) (ws area output : List ℕ) where
+  abbrev call : Record → StoreOutcome
+  call s = settle (check s) (refused s area output) (done s)
+
+  back : isRecord ws ≡ true → (t : Check) → Keeps (inWords (settle t (refused (recordFrom ws) area output) (done (recordFrom ws)))) ws area output
+  back is Pass h = absurd (h (done (recordFrom ws) .answer .value) (omega (arith, accepts (recordFrom ws))))
   back is (Refuse x) h = ap (λ (l : List ℕ). record { answer = wordOf (said (Refused x)); words = l; area = area; output = output }) (word-laws .words-back ws is)
 
-  either : (t : Check) (b : Bool) → isRecord ws ≡ b
-      → Keeps (pick b (inWords (settle t (refused (recordFrom ws) area output) done)) (noRecord ws area output)) ws area output
-  either t true is = back is t
-  either t false is = λ h. refl
+  keeps : Keeps (lentBy call ws area output) ws area output
+  keeps = go (isRecord ws) refl
+    where
+      go : (b : Bool) → isRecord ws ≡ b → Keeps (pick b (inWords (call (recordFrom ws))) (noRecord ws area output)) ws area output
+      go true is = back is (check (recordFrom ws))
+      go false is = λ h. refl
 
 set-up-keeps : (ws : List ℕ) (z : Sizes) (c : ℕ) → Keeps (zbkSetUp ws z c) ws [] []
 unfolding zbkSetUp
@@ -55,21 +62,22 @@ set-up-keeps ws z c = go (eqb (length ws) 8) (wordOf (o .answer)) (eqb (wordOf (
 write-keeps : (ws area file : List ℕ) → Keeps (zbkWrite ws area file) ws area []
 unfolding zbkWrite writeCall
 write-keeps ws area file =
-    either ws area [] (writeDone standard (recordFrom ws) area file) refl (first storeOrder (writeLines (recordFrom ws) (length area) file)) (isRecord ws) refl
+    keeps (λ s. first storeOrder (writeLines s (length area) file)) (λ s. writeDone standard s area file) (λ s. refl) ws area []
 
 lose-keeps : (ws : List ℕ) (board : ℕ) → Keeps (zbkLose ws board) ws [] []
 unfolding zbkLose loseCall
-lose-keeps ws board = either ws [] [] (loseDone (recordFrom ws) [] board) refl (first storeOrder (loseLines (recordFrom ws) board)) (isRecord ws) refl
+lose-keeps ws board = keeps (λ s. first storeOrder (loseLines s board)) (λ s. loseDone s [] board) (λ s. refl) ws [] []
 
 repair-keeps : (ws area fresh helpers : List ℕ) → Keeps (zbkRepair ws area fresh helpers) ws area []
 unfolding zbkRepair repairCall
 repair-keeps ws area fresh helpers =
-    either ws area [] (repairDone standard (recordFrom ws) area fresh helpers) refl (first storeOrder (repairLines standard (recordFrom ws) (length area) fresh helpers)) (isRecord ws) refl
+    keeps (λ s. first storeOrder (repairLines standard s (length area) fresh helpers)) (λ s. repairDone standard s area fresh helpers) (λ s. refl)
+    ws area []
 
 read-keeps : (ws area boards output : List ℕ) → Keeps (zbkRead ws area boards output) ws area output
 unfolding zbkRead readCall
 read-keeps ws area boards output =
-    either ws area output (readDone standard (recordFrom ws) area boards output) refl (first storeOrder (readLines standard (recordFrom ws) area boards output)) (isRecord ws) refl
+    keeps (λ s. first storeOrder (readLines standard s area boards output)) (λ s. readDone standard s area boards output) (λ s. refl) ws area output
 
 -- ---- board level
 

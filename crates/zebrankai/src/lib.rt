@@ -222,9 +222,7 @@ pub extern "C" fn zbk_write(ws: &mut [u64], area: &mut [u8], file: &[u8]) -> u64
     }
     let store = words::store_of(ws);
     let handed = store.write(area, file);
-    words::put_words(handed.store, ws);
-    let answer = handed.answer;
-    answer_word::word_of(answer)
+    words::hand_on(handed, ws)
 }
 
 // Takes a board out of service.
@@ -237,9 +235,7 @@ pub extern "C" fn zbk_lose(ws: &mut [u64], board: usize) -> u64
     }
     let store = words::store_of(ws);
     let handed = store.lose(board);
-    words::put_words(handed.store, ws);
-    let answer = handed.answer;
-    answer_word::word_of(answer)
+    words::hand_on(handed, ws)
 }
 
 // Rebuilds fresh boards together, each from its own run of d helpers.
@@ -257,9 +253,7 @@ pub extern "C" fn zbk_repair(
     }
     let store = words::store_of(ws);
     let handed = store.repair(area, fresh, helpers);
-    words::put_words(handed.store, ws);
-    let answer = handed.answer;
-    answer_word::word_of(answer)
+    words::hand_on(handed, ws)
 }
 
 // Reads the file from k boards.
@@ -272,7 +266,5 @@ pub extern "C" fn zbk_read(ws: &mut [u64], area: &[u8], boards: &[usize], out: &
     }
     let store = words::store_of(ws);
     let handed = store.read(area, boards, out);
-    words::put_words(handed.store, ws);
-    let answer = handed.answer;
-    answer_word::word_of(answer)
+    words::hand_on(handed, ws)
 }
