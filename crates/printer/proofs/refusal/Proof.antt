@@ -7,7 +7,7 @@ use Rattle.lists.specs.Tests.{pick}
 use Rattle.sizes.specs.Sizing.{legal}
 use Rattle.printer.specs.Printer.{maxFile}
 use Rattle.printer.specs.Machine.{sizesRead, refusalOf}
-use Rattle.printer.proofs.Picks.{yes, no, if-eq, if-ne, if-lt, if-le}
+use Rattle.number_lines.proofs.Picks.{yes, no, if-eq, if-ne, if-lt, if-le}
 use borrow.Author.Needs.{needs}
 use Rattle.printer.proofs.refusal.Statement.{statement}
 use Rattle.printer.proofs.refusal.Tie as tie

@@ -1,0 +1,6 @@
+pub mod Picks
+pub mod Fed
+pub mod Forms
+pub mod Capped
+pub mod Onward
+pub mod Laws
