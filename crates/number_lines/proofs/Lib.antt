@@ -4,3 +4,4 @@ pub mod Forms
 pub mod Capped
 pub mod Onward
 pub mod Laws
+pub mod Figures

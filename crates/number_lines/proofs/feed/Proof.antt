@@ -27,7 +27,10 @@ returns : tie.Need-returns
 returns c = let at = c .before in c .feed-lone .ensures ∙ sym (fed-lone _ _ _ (at .before .before .before .args .b) (at .if1 .taken))
 
 returns-2 : tie.Need-returns-2
-returns-2 c = let at = c .before in let a = st (at .before) .args in c .feed-digits .ensures ∙ sym (fed-digits (a .name .now) (a .most) (a .r) (a .b) (at .before .before .if1 .left) (at .if2 .taken))
+returns-2 c =
+    let at = c .before in
+    let a = st (at .before) .args in
+    c .feed-digits .ensures ∙ sym (fed-digits (a .name .now) (a .most) (a .r) (a .b) (at .before .before .if1 .left) (at .if2 .taken))
 
 returns-3 : tie.Need-returns-3
 returns-3 c = let at = c .before .before in sym (in-name (at .before) (at .if3 .taken) ∙ if-eq _ _ _ _ (c .if4 .taken))
