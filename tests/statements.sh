@@ -36,7 +36,7 @@ claims=$(ls crates/*/specs/*Laws.antt crates/*/specs/Demand?.antt crates/*/specs
 definitions=$(ls crates/*/specs/*.antt | grep -v -e '/Lib.antt$' -e '/Multiples.antt$')
 # what only inner functions cite: no public call's contract rests on it
 inner='crates/own/specs/Steps.antt crates/grid/specs/Layout.antt crates/decode/specs/Agree.antt crates/columns/specs/Steps.antt
-crates/text_lines/specs/Wrote.antt crates/checks/specs/Asked.antt crates/printer/specs/Machine.antt crates/store_checks/specs/Parts.antt
+crates/text_lines/specs/Wrote.antt crates/checks/specs/Asked.antt crates/printer/specs/Machine.antt crates/number_lines/specs/Steps.antt crates/store_checks/specs/Parts.antt
 crates/repair_hear/specs/Turns.antt crates/store_repair/specs/Rebuilt.antt crates/shared_checks/specs/Lines.antt crates/read_check/specs/Tables.antt
 crates/board_file/specs/Tables.antt crates/print_feed/specs/Feeding.antt crates/print_share/specs/Writing.antt crates/share_printer/specs/Reading.antt'
 # the archive's words, beside the calls that they are for

@@ -7,20 +7,18 @@ use Prim.Native.Nat.{ℕ, _+_, _≤_}
 use native.Mathlib.Numerals.{add-one}
 use native.Mathlib.Omega.{arith}
 use lib.Dec.{ltb, eqb}
-use lib.ListN.{length, take, getD, set, length-set}
+use lib.ListN.{length, take, set, length-set}
 use lib.Seq.{take-all, take-suc-set, set-out}
 use borrow.Author.Tests.{ltb-true, ltb-false, eqb-true, eqb-false}
 use Rattle.lists.specs.Tests.{pick}
+use Rattle.number_lines.specs.declared.Read.{Read}
+use Rattle.number_lines.specs.declared.Read.the-variants.{More, Whole, Malformed}
 use Rattle.printer.specs.declared.Parser.{Parser}
-use Rattle.printer.specs.Printer.{digit, maxFile}
-use Rattle.printer.specs.Machine.{nameOf, counted, fedLine, fed, keep}
+use Rattle.printer.specs.Printer.{maxFile}
+use Rattle.printer.specs.Machine.{counted, lineFed, taken, fed, keep}
 use Rattle.print_feed.specs.Feeding.{keptIn}
-use Rattle.printer.proofs.Picks.{yes, no, if-eq, if-ne, if-le}
-use Rattle.printer.proofs.Fed.{fed-bad, fed-file}
-
-either : (t : Bool) (x y : Parser) (m : ℕ) → x .count ≡ m → y .count ≡ m → pick t x y .count ≡ m
-either true x y m h k = h
-either false x y m h k = k
+use Rattle.number_lines.proofs.Picks.{yes, no, if-eq, if-ne, if-le}
+use Rattle.printer.proofs.Fed.{fed-bad, fed-file, fed-line}
 
 -- ---- the slice after a byte
 
@@ -46,16 +44,10 @@ module _ (p : Parser) (b : ℕ) (file : List ℕ) where
 -- ---- the bytes that are kept
 
 -- a byte of a line is not counted
-line-count : (p : Parser) (b : ℕ) → fedLine p b .count ≡ p .count
-line-count p b =
-    either (eqb (p .part) 1) _ _ _ (either (eqb b 0x0A) _ _ _ refl refl)
-    (either (eqb (p .part) 2) _ _ _ (either (eqb b 0x0A) _ _ _ refl (either (digit b) _ _ _ refl refl))
-    (either (ltb (p .at) (length (nameOf (p .left)))) _ _ _ (either (eqb b (getD (nameOf (p .left)) (p .at) 0)) _ _ _ refl refl)
-    (either (eqb b 0x30) _ _ _ refl (either (digit b) _ _ _ refl refl))))
-
-fed-line : (p : Parser) (b : ℕ) → p .bad ≡ false → (p .left ≡ 0 → ⊥) → fed p b ≡ fedLine p b
-unfolding fed
-fed-line p b g l = no (p .bad) _ _ g ∙ if-ne (p .left) 0 _ _ l
+line-count : (p : Parser) (x : Read) → taken p x .count ≡ p .count
+line-count p (More r) = refl
+line-count p (Whole v) = refl
+line-count p Malformed = refl
 
 module _ (p : Parser) (b : ℕ) (file : List ℕ) (n : length file ≡ 16384) where
   -- a byte of the file
@@ -87,4 +79,4 @@ module _ (p : Parser) (b : ℕ) (file : List ℕ) (n : length file ≡ 16384) wh
       go false e false f =
           let l = eqb-false (p .left) 0 f in
           ap₂ {C = List ℕ} (λ (q : Parser) l. take (q .count) l) (fed-line p b e l) (in-line p b file e l)
-          ∙ ap (λ (m : ℕ). take m file) (line-count p b) ∙ sym (no (p .bad) _ _ e ∙ if-ne (p .left) 0 _ _ l)
+          ∙ ap (λ (m : ℕ). take m file) (line-count p (lineFed (p .left) (p .line) b)) ∙ sym (no (p .bad) _ _ e ∙ if-ne (p .left) 0 _ _ l)

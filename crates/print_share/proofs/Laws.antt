@@ -22,7 +22,7 @@ use Rattle.printer.specs.Printer.{refusedLine, shared, printed}
 use Rattle.printer.specs.Machine.{begin, wrong, sizesRead, refusalOf, decided}
 use Rattle.printer.proofs.Near.{shared-far}
 use Rattle.printer.proofs.Whole.{shared-long, shared-text}
-use Rattle.printer.proofs.Picks.{if-eq, if-ne, if-le}
+use Rattle.number_lines.proofs.Picks.{if-eq, if-ne, if-le}
 use Rattle.printer.proofs.Laws.{printer-laws}
 use Rattle.print_feed.specs.Feeding.{Feed, feedAll, feedParts}
 use Rattle.print_feed.proofs.Laws.{feed-laws}

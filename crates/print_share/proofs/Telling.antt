@@ -35,7 +35,7 @@ use Rattle.checks.specs.Outcomes.{outcome}
 use Rattle.printer.specs.declared.Parser.{Parser}
 use Rattle.printer.specs.Printer.{refusedLine, maxFile, told, shared}
 use Rattle.printer.specs.Machine.{sizesRead, refusalOf, decided}
-use Rattle.printer.proofs.Picks.{if-eq, if-ne, if-lt, if-le}
+use Rattle.number_lines.proofs.Picks.{if-eq, if-ne, if-lt, if-le}
 use Rattle.printer.proofs.Room.{any-room}
 use Rattle.print_share.specs.Writing.{Written, placed, wroteIn, toWrite}
 use Rattle.print_share.proofs.Rooms.{share-room}

@@ -19,7 +19,7 @@ use Rattle.board_statements.specs.Text.{decimal, shareText}
 use Rattle.board_statements.specs.Calls.{shareCall, shareLines}
 use Rattle.printer.specs.Printer.{refusedLine, maxFile, shared, answered, printed}
 use Rattle.printer.specs.Laws.{asks, PrintedFor}
-use Rattle.printer.proofs.Picks.{yes, no, if-lt, if-le}
+use Rattle.number_lines.proofs.Picks.{yes, no, if-lt, if-le}
 use Rattle.printer.proofs.Forms.{decimal-taken}
 use Rattle.printer.proofs.Near.{shared-far}
 
@@ -31,11 +31,11 @@ module _ (z : Sizes) (node : ℕ) (file : List ℕ) where
   taken : printed asked ≡ answered z node file
   unfolding printed
   taken =
-      decimal-taken (0x6E ∷ []) (z .n) _ _
-      ∙ decimal-taken (0x6B ∷ []) (z .k) _ _
-      ∙ decimal-taken (0x64 ∷ []) (z .d) _ _
-      ∙ decimal-taken (0x72 ∷ []) (z .r) _ _
-      ∙ decimal-taken (0x6E ∷ 0x6F ∷ 0x64 ∷ 0x65 ∷ []) node file _
+      decimal-taken (refusedLine 1) (0x6E ∷ []) (z .n) _ _
+      ∙ decimal-taken (refusedLine 1) (0x6B ∷ []) (z .k) _ _
+      ∙ decimal-taken (refusedLine 1) (0x64 ∷ []) (z .d) _ _
+      ∙ decimal-taken (refusedLine 1) (0x72 ∷ []) (z .r) _ _
+      ∙ decimal-taken (refusedLine 1) (0x6E ∷ 0x6F ∷ 0x64 ∷ 0x65 ∷ []) node file _
 
   module _ (ok : legal z ≡ true) where
     -- a file that the printer takes is the call's

@@ -7,8 +7,9 @@ use mathlib.Core.Bool.{true, false}
 use mathlib.Core.Logic.{_⊎_}
 use mathlib.Core.List.{List, [], _∷_, _++_}
 use Prim.Native.Nat.{ℕ, _*_, _≤_, _<_}
-use lib.ListN.{length, getD}
-use Rattle.lists.specs.Lists.{All}
+use lib.ListN.{length}
+use Rattle.number_lines.specs.Lines.{line}
+use Rattle.number_lines.specs.Laws.{Number}
 use Rattle.sizes.specs.declared.Sizes.{Sizes}
 use Rattle.sizes.specs.Sizing.{legal, α, B, stripes}
 use Rattle.mbcr.specs.Share.{standard, share}
@@ -16,12 +17,8 @@ use Rattle.board_statements.specs.Calls.{shareCall}
 use Rattle.board_statements.specs.Demand1.{value}
 use Rattle.board_statements.specs.Text.{decimal, textLine, shareText}
 use Rattle.printer.specs.declared.Parser.{Parser}
-use Rattle.printer.specs.Printer.{refusedLine, line, told, shared, printed}
+use Rattle.printer.specs.Printer.{refusedLine, told, shared, printed}
 use Rattle.printer.specs.Machine.{begin, wrong, runs}
-
--- 0, or a digit 1 to 9 and digits
-abbrev pub Number : List ℕ → Type 0
-Number l = (l ≡ 0x30 ∷ []) ⊎ (All (λ c. (0x30 ≤ c) × (c ≤ 0x39)) l × (0x31 ≤ getD l 0 0))
 
 -- the input begins with the line of a number
 pub record Begins (name input : List ℕ) : Type 0 where
@@ -50,12 +47,12 @@ pub record PrintedFor (z : Sizes) (node : ℕ) (file written : List ℕ) : Type 
 
 pub record PrinterLaws : Type 0 where
   pub taken : (name l : List ℕ) → Number l → (input : List ℕ) (go : ℕ → List ℕ → List ℕ)
-      → line (name ++ (0x3D ∷ [])) (textLine name l ++ input) go ≡ go (value l 0) input
+      → line (refusedLine 1) (name ++ (0x3D ∷ [])) (textLine name l ++ input) go ≡ go (value l 0) input
   pub else-refused : (name input : List ℕ)
-      → Begins name input ⊎ ((go : ℕ → List ℕ → List ℕ) → line (name ++ (0x3D ∷ [])) input go ≡ refusedLine 1)
+      → Begins name input ⊎ ((go : ℕ → List ℕ → List ℕ) → line (refusedLine 1) (name ++ (0x3D ∷ [])) input go ≡ refusedLine 1)
   -- a decimal is taken as its number
   pub decimals : (name : List ℕ) (x : ℕ) (input : List ℕ) (go : ℕ → List ℕ → List ℕ)
-      → line (name ++ (0x3D ∷ [])) (textLine name (decimal x) ++ input) go ≡ go x input
+      → line (refusedLine 1) (name ++ (0x3D ∷ [])) (textLine name (decimal x) ++ input) go ≡ go x input
   pub printed-for : (z : Sizes) (node : ℕ) (file : List ℕ)
       → PrintedFor z node file (printed (asks (decimal (z .n)) (decimal (z .k)) (decimal (z .d)) (decimal (z .r)) (decimal node) file))
   pub byte-by-byte : (input : List ℕ) → runs begin [] input ≡ printed input

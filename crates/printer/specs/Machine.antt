@@ -2,14 +2,17 @@
 -- Assumes nothing.
 use mathlib.Core.Bool.{Bool, true, false}
 use mathlib.Core.List.{List, [], _∷_, _++_}
-use Prim.Native.Nat.{ℕ, _+_, _*_, _-_}
+use Prim.Native.Nat.{ℕ, _+_, _-_}
 use lib.Dec.{ltb, eqb}
-use lib.ListN.{length, getD}
 use Rattle.lists.specs.Tests.{pick}
+use Rattle.number_lines.specs.declared.Reader.{Reader}
+use Rattle.number_lines.specs.declared.Read.{Read}
+use Rattle.number_lines.specs.declared.Read.the-variants.{More, Whole, Malformed}
+use Rattle.number_lines.specs.Steps as steps
 use Rattle.sizes.specs.declared.Sizes.{Sizes}
 use Rattle.sizes.specs.Sizing.{legal}
 use Rattle.printer.specs.declared.Parser.{Parser}
-use Rattle.printer.specs.Printer.{refusedLine, maxFile, digit, shared}
+use Rattle.printer.specs.Printer.{refusedLine, maxFile, shared}
 
 -- the bytes before the number, by how many lines are left
 abbrev pub nameOf : ℕ → List ℕ
@@ -18,16 +21,18 @@ nameOf left =
     (pick (eqb left 4) (0x6B ∷ 0x3D ∷ [])
     (pick (eqb left 3) (0x64 ∷ 0x3D ∷ []) (pick (eqb left 2) (0x72 ∷ 0x3D ∷ []) (0x6E ∷ 0x6F ∷ 0x64 ∷ 0x65 ∷ 0x3D ∷ []))))
 
+-- a number of 1,000 or more is held as 1,000
+abbrev pub maxNumber : ℕ
+maxNumber = 1000
+
 abbrev pub begin : Parser
-begin = record { left = 5; part = 0; at = 0; value = 0; n = 0; k = 0; d = 0; r = 0; node = 0; count = 0; bad = false }
+begin = record { left = 5; line = steps.begin; n = 0; k = 0; d = 0; r = 0; node = 0; count = 0; bad = false }
 
 -- another place in the line
-abbrev pub moved : Parser → ℕ → ℕ → ℕ → Bool → Parser
-moved p part at value bad = record {
+abbrev pub moved : Parser → Reader → Bool → Parser
+moved p line bad = record {
   left = p .left;
-  part = part;
-  at = at;
-  value = value;
+  line = line;
   n = p .n;
   k = p .k;
   d = p .d;
@@ -39,15 +44,13 @@ moved p part at value bad = record {
 
 -- the line is malformed, or a read failed
 abbrev pub wrong : Parser → Parser
-wrong p = moved p (p .part) (p .at) (p .value) true
+wrong p = moved p (p .line) true
 
 -- the number of the line, of which `left` were left; the next line begins
 abbrev pub stored : ℕ → Parser → ℕ → Parser
 stored left p v = record {
   left = left - 1;
-  part = 0;
-  at = 0;
-  value = 0;
+  line = steps.begin;
   n = pick (eqb left 5) v (p .n);
   k = pick (eqb left 4) v (p .k);
   d = pick (eqb left 3) v (p .d);
@@ -61,9 +64,7 @@ stored left p v = record {
 abbrev pub counted : Parser → Parser
 counted p = record {
   left = p .left;
-  part = p .part;
-  at = p .at;
-  value = p .value;
+  line = p .line;
   n = p .n;
   k = p .k;
   d = p .d;
@@ -73,34 +74,18 @@ counted p = record {
   bad = p .bad;
 }
 
--- another digit; a number of 1,000 or more is held as 1,000
-abbrev pub grown : ℕ → ℕ → ℕ
-grown v x = pick (ltb v 100) (10 * v + x) 1000
+-- what a byte of the line gives
+abbrev pub lineFed : ℕ → Reader → ℕ → Read
+lineFed left line b = steps.fed (nameOf left) maxNumber line b
 
-abbrev pub fedLone : Parser → ℕ → Parser
-fedLone p b = pick (eqb b 0x0A) (stored (p .left) p 0) (wrong p)
-
-abbrev pub fedDigits : Parser → ℕ → Parser
-fedDigits p b =
-    pick (eqb b 0x0A) (stored (p .left) p (p .value))
-    (pick (digit b) (moved p 2 (p .at) (grown (p .value) (b - 0x30)) (p .bad)) (wrong p))
-
-abbrev pub fedFirst : Parser → ℕ → Parser
-fedFirst p b =
-    pick (eqb b 0x30) (moved p 1 (p .at) (p .value) (p .bad))
-    (pick (digit b) (moved p 2 (p .at) (b - 0x30) (p .bad)) (wrong p))
-
-abbrev pub fedName : Parser → ℕ → Parser
-fedName p b = pick (eqb b (getD (nameOf (p .left)) (p .at) 0)) (moved p (p .part) (p .at + 1) (p .value) (p .bad)) (wrong p)
-
-abbrev pub fedLine : Parser → ℕ → Parser
-fedLine p b =
-    pick (eqb (p .part) 1) (fedLone p b)
-    (pick (eqb (p .part) 2) (fedDigits p b) (pick (ltb (p .at) (length (nameOf (p .left)))) (fedName p b) (fedFirst p b)))
+abbrev pub taken : Parser → Read → Parser
+taken p (More r) = moved p r (p .bad)
+taken p (Whole v) = stored (p .left) p v
+taken p Malformed = wrong p
 
 -- the parser after a byte
 unfoldable pub fed : Parser → ℕ → Parser
-fed p b = pick (p .bad) p (pick (eqb (p .left) 0) (counted p) (fedLine p b))
+fed p b = pick (p .bad) p (pick (eqb (p .left) 0) (counted p) (taken p (lineFed (p .left) (p .line) b)))
 
 -- the bytes of the file that are kept: all up to the most that a file may have
 abbrev pub keep : Parser → List ℕ → ℕ → List ℕ

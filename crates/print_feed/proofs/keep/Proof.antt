@@ -13,12 +13,6 @@ returns c = let a = c .before .args in sym (in-bad (a .p) (a .b) (a .file .now) 
 returns-2 : tie.Need-returns-2
 returns-2 c = let a = c .before .before .before .args in sym (in-line (a .p) (a .b) (a .file .now) (c .before .before .if1 .left) (c .if2 .taken))
 
-slice-write-file : tie.Need-slice-write-file
-slice-write-file c = search needs
-
-same-length : tie.Need-same-length
-same-length c = search needs
-
 returns-3 : tie.Need-returns-3
 returns-3 c =
     let a = c .before .before .before .before .args in
@@ -30,4 +24,4 @@ returns-4 c =
     sym (in-file (a .p) (a .b) (a .file .now) (c .before .before .before .if1 .left) (c .before .if2 .left) ∙ set-out (a .file .now) (a .p .count) (a .b) (c .if3 .left))
 
 pub keep-spec : {M : Type 1} → statement M
-keep-spec = tie.close (tie.spec returns returns-2 slice-write-file same-length returns-3 returns-4)
+keep-spec = tie.close (tie.spec returns returns-2 (λ c. search needs) (λ c. search needs) returns-3 returns-4)

@@ -15,15 +15,6 @@ use borrow.Author.Needs.{needs}
 use Rattle.print_share.proofs.answer.Statement.{statement}
 use Rattle.print_share.proofs.answer.Tie as tie
 
-refusal-requires : tie.Need-refusal-requires
-refusal-requires c κs = search needs
-
-refused-requires : tie.Need-refused-requires
-refused-requires c κs = search needs
-
-same-length : tie.Need-same-length
-same-length c = search needs
-
 returns : tie.Need-returns
 returns c =
     let at = c .before .before .before .before in
@@ -39,20 +30,8 @@ returns-2 c =
     let e = sym (at .refusal .ensures) ∙ c .before .if1 .left in
     nothing (a .out .now) ∙ ap (λ (l : List ℕ). placed l (a .out .now)) (sym (output-lacks (a .p) (a .file .now) e (c .if2 .taken)))
 
-sizes-requires : tie.Need-sizes-requires
-sizes-requires c κs = search needs
-
 slice-aggregate-told : tie.Need-slice-aggregate-told
 slice-aggregate-told c = sym (length-take-le _ _ (c .before .before .if2 .left))
-
-slice-aggregate-told-2 : tie.Need-slice-aggregate-told-2
-slice-aggregate-told-2 c = search needs
-
-told-requires : tie.Need-told-requires
-told-requires c κs = search needs
-
-same-length-2 : tie.Need-same-length-2
-same-length-2 c = search needs
 
 returns-3 : tie.Need-returns-3
 returns-3 c =
@@ -71,14 +50,14 @@ pub answer-spec : {M : Type 1} → statement M
 answer-spec =
     tie.close
     (tie.spec
-    refusal-requires
-    refused-requires
-    same-length
+    (λ c κs. search needs)
+    (λ c κs. search needs)
+    (λ c. search needs)
     returns
     returns-2
-    sizes-requires
+    (λ c κs. search needs)
     slice-aggregate-told
-    slice-aggregate-told-2
-    told-requires
-    same-length-2
+    (λ c. search needs)
+    (λ c κs. search needs)
+    (λ c. search needs)
     returns-3)

@@ -13,9 +13,6 @@ use Rattle.print_share.proofs.refused.Tie as tie
 room : (c : tie.After-put-line-arg2) → let at = c .before .before .before in let a = at .before .before .args in 0 + length (refusedLine (a .x)) ≤ length (a .out .now)
 room c = let at = c .before .before .before in omega (arith, line-length (at .before .before .args .x), c .before .before .if1 .left, at .decimal-len .ensures)
 
-decimal-len-requires : tie.Need-decimal-len-requires
-decimal-len-requires c κs = search needs
-
 add-count : tie.Need-add-count
 add-count c = record { fits = omega (arith, c .before .before .fits .x, c .decimal-len .ensures, decimal-most (c .before .before .args .x)) }
 
@@ -24,14 +21,8 @@ returns c =
     let a = c .before .before .before .args in
     no-room (refusedLine (a .x)) (a .out .now) (omega (arith, line-length (a .x), c .if1 .taken, c .before .decimal-len .ensures))
 
-slice-aggregate-put-line : tie.Need-slice-aggregate-put-line
-slice-aggregate-put-line c = search needs
-
 put-line-requires : tie.Need-put-line-requires
 put-line-requires c κs = room c
-
-same-length : tie.Need-same-length
-same-length c = search needs
 
 returns-2 : tie.Need-returns-2
 returns-2 c = fits (room (c .before .before .before)) (c .before .before .put-line .ensures)
@@ -40,10 +31,10 @@ pub refused-spec : {M : Type 1} → statement M
 refused-spec =
     tie.close
     (tie.spec
-    decimal-len-requires
+    (λ c κs. search needs)
     add-count
     returns
-    slice-aggregate-put-line
+    (λ c. search needs)
     put-line-requires
-    same-length
+    (λ c. search needs)
     returns-2)

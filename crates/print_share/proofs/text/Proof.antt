@@ -8,26 +8,11 @@ use borrow.Author.Needs.{needs}
 use Rattle.print_share.proofs.text.Statement.{statement}
 use Rattle.print_share.proofs.text.Tie as tie
 
-text-requires : tie.Need-text-requires
-text-requires c κs = search needs
-
-enum-known-answer : tie.Need-enum-known-answer
-enum-known-answer c = search needs
-
-enum-told : tie.Need-enum-told
-enum-told c = search needs
-
-same-length : tie.Need-same-length
-same-length c = search needs
-
 returns : tie.Need-returns
 returns c =
     let at = c .before in
     let t = at .before .before .before .before .text in
     ap (λ (x : Answer). wroteIn (outcome x (t .last .1 .1 .1 .1 .0))) (sym (at .answer .given .1)) ∙ ap wroteIn (t .ensures)
-
-same-length-2 : tie.Need-same-length-2
-same-length-2 c = search needs
 
 returns-2 : tie.Need-returns-2
 returns-2 c =
@@ -38,10 +23,10 @@ pub text-spec : {M : Type 1} → statement M
 text-spec =
     tie.close
     (tie.spec
-    text-requires
-    enum-known-answer
-    enum-told
-    same-length
+    (λ c κs. search needs)
+    (λ c. search needs)
+    (λ c. search needs)
+    (λ c. search needs)
     returns
-    same-length-2
+    (λ c. search needs)
     returns-2)

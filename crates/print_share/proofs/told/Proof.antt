@@ -45,35 +45,11 @@ done : (c : tie.After-answer) → let s = called c in let a = entry s .args in
     ≡ placed (told (a .z) (length (a .file .now)) (a .node) (shareCall (a .z) standard (a .node) (a .file .now) (a .share .now))) l)
 done c = let a = entry (called c) .args in share-done (a .z) (a .node) (a .file .now) (a .share .now) _ _ (said-done c)
 
-share-requires : tie.Need-share-requires
-share-requires c κs = search needs
-
-enum-known-answer : tie.Need-enum-known-answer
-enum-known-answer c = search needs
-
 slice-reshare-prefix-text : tie.Need-slice-reshare-prefix-text
 slice-reshare-prefix-text c = done (c .before) .0
 
 slice-aggregate-text : tie.Need-slice-aggregate-text
 slice-aggregate-text c = sym (length-take-le _ _ (done (c .before .before) .0))
-
-text-requires : tie.Need-text-requires
-text-requires c κs = search needs
-
-enum-known-answer-2 : tie.Need-enum-known-answer-2
-enum-known-answer-2 c = search needs
-
-number-requires : tie.Need-number-requires
-number-requires c κs = search needs
-
-refused-requires : tie.Need-refused-requires
-refused-requires c κs = search needs
-
-same-length : tie.Need-same-length
-same-length c = search needs
-
-same-length-2 : tie.Need-same-length-2
-same-length-2 c = search needs
 
 returns : tie.Need-returns
 returns c =
@@ -81,12 +57,6 @@ returns c =
     let at = t .before .before .before .before in
     let s = called at in
     (ap (λ (o : BoardOutcome). o .output) (s .share .ensures), t .text .ensures ∙ done at .1 (entry s .args .out .now))
-
-same-length-3 : tie.Need-same-length-3
-same-length-3 c = search needs
-
-same-length-4 : tie.Need-same-length-4
-same-length-4 c = search needs
 
 returns-2 : tie.Need-returns-2
 returns-2 c =
@@ -103,17 +73,17 @@ pub told-spec : {M : Type 1} → statement M
 told-spec =
     tie.close
     (tie.spec
-    share-requires
-    enum-known-answer
+    (λ c κs. search needs)
+    (λ c. search needs)
     slice-reshare-prefix-text
     slice-aggregate-text
-    text-requires
-    enum-known-answer-2
-    number-requires
-    refused-requires
-    same-length
-    same-length-2
+    (λ c κs. search needs)
+    (λ c. search needs)
+    (λ c κs. search needs)
+    (λ c κs. search needs)
+    (λ c. search needs)
+    (λ c. search needs)
     returns
-    same-length-3
-    same-length-4
+    (λ c. search needs)
+    (λ c. search needs)
     returns-2)

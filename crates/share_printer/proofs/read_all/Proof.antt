@@ -17,20 +17,8 @@ Inv-loop file₀ p₀ more₀ turns₀ file p more turns =
 abbrev μ-loop : tie.MeasureT-loop
 μ-loop file₀ p₀ more₀ turns₀ file p more turns = turns
 
-start-requires : tie.Need-start-requires Inv-loop μ-loop
-start-requires c κs = search needs
-
 loop-holds : tie.Need-loop-holds Inv-loop μ-loop
 loop-holds c = (refl, none (ap (λ (q : Parser). record { parser = q; file = c .before .before .args .file .now }) (c .start .ensures)))
-
-read-some-requires : tie.Need-read-some-requires Inv-loop μ-loop
-read-some-requires c κs = search needs
-
-sub-turns : tie.Need-sub-turns Inv-loop μ-loop
-sub-turns c = search needs
-
-loop-less : tie.Need-loop-less Inv-loop μ-loop
-loop-less c = search needs
 
 loop-again : tie.Need-loop-again Inv-loop μ-loop
 loop-again c =
@@ -39,17 +27,8 @@ loop-again c =
     let l = going .before .before .loop in
     (r .read-some .kept .1 .0 ∙ l .inv .0, next (l .inv .1) (going .if1 .taken) (r .read-some .ensures))
 
-wrong-requires : tie.Need-wrong-requires Inv-loop μ-loop
-wrong-requires c κs = search needs
-
-same-length : tie.Need-same-length Inv-loop μ-loop
-same-length c = search needs
-
 returns : tie.Need-returns Inv-loop μ-loop
 returns c = left (c .before .before .before .loop .inv .1) (c .before .if2 .taken) (c .wrong .ensures)
-
-same-length-2 : tie.Need-same-length-2 Inv-loop μ-loop
-same-length-2 c = search needs
 
 returns-2 : tie.Need-returns-2 Inv-loop μ-loop
 returns-2 c = ended (c .before .before .loop .inv .1)
@@ -60,14 +39,14 @@ read-all-spec =
     (tie.spec
     Inv-loop
     μ-loop
-    start-requires
+    (λ c κs. search needs)
     loop-holds
-    read-some-requires
-    sub-turns
-    loop-less
+    (λ c κs. search needs)
+    (λ c. search needs)
+    (λ c. search needs)
     loop-again
-    wrong-requires
-    same-length
+    (λ c κs. search needs)
+    (λ c. search needs)
     returns
-    same-length-2
+    (λ c. search needs)
     returns-2)

@@ -16,27 +16,12 @@ use borrow.Author.Needs.{needs}
 use Rattle.share_printer.proofs.take_in.Statement.{statement}
 use Rattle.share_printer.proofs.take_in.Tie as tie
 
-wrong-requires : tie.Need-wrong-requires
-wrong-requires c κs = search needs
-
 returns : tie.Need-returns
 returns c =
     let a = c .before .before .before .before .args in
     let e = ap (λ (z : ℤ). ltZ z (pos 0)) (sym (toZ-ofZ w64 (a .got) (c .before .before .before .before .fits .got))) ∙ c .before .if1 .taken in
     let s : Feed = record { parser = a .p; file = a .file .now } in
     (ap (λ (q : Parser). record { parser = q; file = a .file .now }) (c .wrong .ensures) ∙ failed (a .got) (a .slice .now) s e, none-more (a .got) (a .slice .now) e)
-
-count-requires : tie.Need-count-requires
-count-requires c κs = search needs
-
-slice-aggregate-feed-all : tie.Need-slice-aggregate-feed-all
-slice-aggregate-feed-all c = search needs
-
-feed-all-requires : tie.Need-feed-all-requires
-feed-all-requires c κs = search needs
-
-same-length : tie.Need-same-length
-same-length c = search needs
 
 returns-2 : tie.Need-returns-2
 returns-2 c =
@@ -53,10 +38,10 @@ pub take-in-spec : {M : Type 1} → statement M
 take-in-spec =
     tie.close
     (tie.spec
-    wrong-requires
+    (λ c κs. search needs)
     returns
-    count-requires
-    slice-aggregate-feed-all
-    feed-all-requires
-    same-length
+    (λ c κs. search needs)
+    (λ c. search needs)
+    (λ c κs. search needs)
+    (λ c. search needs)
     returns-2)

@@ -1,9 +1,9 @@
--- `printer::is_digit` meets its contract, by the test.
+-- `number_lines::is_digit` meets its contract, by the test.
 -- Assumes nothing.
 use borrow.Author.Tests.{lt-ltb, le-ltb}
 use native.Mathlib.Omega.{arith}
-use Rattle.printer.proofs.is_digit.Statement.{statement}
-use Rattle.printer.proofs.is_digit.Tie as tie
+use Rattle.number_lines.proofs.is_digit.Statement.{statement}
+use Rattle.number_lines.proofs.is_digit.Tie as tie
 
 returns : tie.Need-returns
 returns c = rw (lt-ltb (c .before .args .b) 48 (c .if1 .taken))
