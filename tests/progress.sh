@@ -120,8 +120,8 @@ if command -v script >/dev/null && script --version 2>/dev/null | grep -q util-l
     SLOW=3
     TERM=xterm script -qec 'sh tests/prove_archive.sh' /dev/null >said </dev/null || fail "on a terminal it is not proved: $(cat said)"
     [ "$(wc -l <said)" -eq 2 ] || fail "on a terminal more than a first and a last line: $(cat said)"
-    tr '\r' '\n' <said | grep -q 'proved 1 of 12 crates, 0:0[0-9] so far; now c2 $' || fail "it does not say which crate is being proved: $(cat said)"
-    tr '\r' '\n' <said | grep -q 'proved 11 of 12 crates, 0:0[0-9] so far; now zebrankai $' || fail "nor that the archive is: $(cat said)"
+    tr '\r' '\n' <said | grep -q 'proved 1 of 12 crates, 0:0[0-9] so far; now c2$' || fail "it does not say which crate is being proved: $(cat said)"
+    tr '\r' '\n' <said | grep -q 'proved 11 of 12 crates, 0:0[0-9] so far; now zebrankai$' || fail "nor that the archive is: $(cat said)"
     tail -n 1 said | tr '\r' '\n' | tail -n 2 | grep -q "^$(printf '\033')\[Kthe archive is proved and built, 12 crates in 0:0[0-9]" \
         || fail "the line is not cleared at the end: $(tail -n 1 said | od -c | head)"
 else

@@ -52,7 +52,7 @@ ended() { sed -n 's/^rt: \([A-Za-z0-9_]*\) proved (.*/\1/p' "$log" | sort -u | w
 running() {
     names=$(find target/log -name '*.out' -size 0 -newer "$log.began" | sed 's,.*/,,; s,\.out$,,' | tr '\n' ' ')
     [ -n "$names" ] || [ "$1" -lt $((all - 1)) ] || names='zebrankai '
-    printf '%s' "$names"
+    printf '%s' "${names:+; now ${names% }}"
 }
 # one line, kept up to date
 line() {
@@ -60,7 +60,7 @@ line() {
         n=$(ended)
         wide=$(stty size <&2 2>/dev/null | cut -d' ' -f2)
         [ "${wide:-0}" -gt 0 ] || wide=80
-        printf "\r\033[K%.$((wide - 1))s" "proved $n of $all crates, $(took) so far; now $(running "$n")" >&2
+        printf "\r\033[K%.$((wide - 1))s" "proved $n of $all crates, $(took) so far$(running "$n")" >&2
         sleep 1 >/dev/null 2>&1
     done
 }
