@@ -1,7 +1,7 @@
 #!/bin/sh
 # docs/ARCHITECTURE.md is true to the tree: each crate of crates.txt stands in the drawing, once, and no other does; a crate rests on none but those
 # of its own box and of boxes that the arrows lead to; each `crate::function` and each file that it names is there, but for those with a name in
-# capitals to fill in; and it counts its files right.
+# capitals to fill in; and it counts its files right. And crates.txt is in its order.
 set -eu
 cd "$(dirname "$0")/.."
 page=docs/ARCHITECTURE.md
@@ -19,6 +19,9 @@ done
 for crate in $drawn; do
     printf '%s\n' "$crates" | grep -qxF "$crate" || complain "$crate stands in the drawing and not in crates.txt"
 done
+
+# crates.txt stands in its order, under its headings
+sh tools/levels.sh | cmp -s - crates.txt || complain "crates.txt is not in order: sh tools/levels.sh >crates.new && mv crates.new crates.txt"
 
 # the arrows
 sed -n '/^```mermaid$/,/^```$/p' "$page" | awk '

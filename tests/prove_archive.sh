@@ -26,7 +26,7 @@ all=$(($(printf '%s\n' "$below" | wc -l) + 1))
 sources() {
     rt version
     uname -m
-    sed 's/#.*//; s/[[:blank:]]*$//; /^$/d' crates.txt
+    sed 's/#.*//; s/[[:blank:]]*$//; /^$/d' crates.txt | LC_ALL=C sort
     for crate in $below zebrankai; do
         find "crates/$crate/src" "crates/$crate/specs" "crates/$crate/proofs" -type f -exec sha256sum {} + 2>/dev/null | LC_ALL=C sort -k 2
     done
