@@ -1,6 +1,7 @@
 #!/bin/sh
 # docs/STATEMENTS.md is true to the tree: each file that it names is there, each name that it cites in `file: name` stands in that file, each
-# must-fail edit that it names exists and each edit of the tree is named; and the definitions a buyer reads are at most 700 lines.
+# must-fail edit that it names exists and each edit of the tree is named; and the definitions a buyer reads are at most 700 lines. Then that
+# docs/ARCHITECTURE.md is true to crates.txt.
 set -eu
 cd "$(dirname "$0")/.."
 page=docs/STATEMENTS.md
@@ -55,4 +56,5 @@ grep -qF "Theorem statements: $c lines" "$page" || complain "it does not say tha
 grep -qF "Tables of figures: $t lines" "$page" || complain "it does not say that the tables have $t lines"
 grep -qF "The archive: $a lines" "$page" || complain "it does not say that the archive's definitions have $a lines"
 grep -qF "Inner definitions: $i lines" "$page" || complain "it does not say that the inner definitions have $i lines"
+sh tests/architecture.sh || bad=1
 exit $bad
