@@ -8,7 +8,7 @@ use Rattle.sizes.specs.Refusals.{said, Said}
 use Rattle.mbcr.specs.Share.{standard}
 use Rattle.store_statements.specs.Record.{held}
 use Rattle.store_statements.specs.Calls.{StoreOutcome}
-use Rattle.store_statements.specs.Ledger.{repair, read}
+use Rattle.store_statements.specs.Ledger.{repair, read, act}
 use Rattle.store_statements.specs.Demand3.{Repaired}
 use Rattle.store_statements.proofs.Demand3.{accepted-repair}
 use Rattle.store.specs.declared.Store.{Store}
@@ -18,9 +18,11 @@ use Rattle.store.specs.Gives.{CodeGives}
 
 module _ (s : Store) (area fresh helpers : List ℕ) (h : Given) (m : Meets s area (repair fresh helpers) h) (ok : said (h .handed .answer) .refusal ≡ 0) where
   is-repaired : Repaired standard (recordIn s) area fresh helpers
+  unfolding act
   is-repaired = accepted-repair standard (recordIn s) area fresh helpers (ap (λ (o : StoreOutcome). o .answer .refusal) (sym m) ∙ ok)
 
 pub code-gives : CodeGives
+unfolding act
 code-gives = record {
   reads = λ s area b k lent a boards output count diff up room h m. m ∙ k .gives lent a boards output count diff up room;
   moved = λ s area fresh helpers h m ok.

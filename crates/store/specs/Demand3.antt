@@ -8,8 +8,8 @@ use lib.ListN.{length}
 use Rattle.sizes.specs.declared.Sizes.{Sizes}
 use Rattle.sizes.specs.Refusals.{said}
 use Rattle.mbcr.specs.Share.{standard}
-use Rattle.store_statements.specs.Calls.{StoreOutcome, setUpCall, writeCall, loseCall, repairCall, readCall}
-use Rattle.store_statements.specs.Ledger.{Call, write, lose, repair, read, Step, State, Reply, replyOf, Allowed, openBook, bookReplies, bookFinal}
+use Rattle.store_statements.specs.Calls.{StoreOutcome, setUpCall}
+use Rattle.store_statements.specs.Ledger.{Call, repair, Step, State, Reply, replyOf, act, Allowed, openBook, bookReplies, bookFinal}
 use Rattle.store_statements.specs.Demand3.{Kept, Repaired, begun, calls}
 use Rattle.store.specs.declared.Store.{Store}
 use Rattle.store.specs.declared.Handed.{Handed}
@@ -24,12 +24,9 @@ pub record Given : Type 0 where
 abbrev pub gave : Given → StoreOutcome
 gave h = outcomeIn (h .handed) (h .area) (h .output)
 
--- the contract of the call's method, for a call on this store with this area
+-- the contract of the call's method, for a call on this store with this area: it gave what the definition gives
 abbrev pub Meets : Store → List ℕ → Call → Given → Type 0
-Meets s area (write file) h = gave h ≡ writeCall standard (recordIn s) area file
-Meets s area (lose board) h = gave h ≡ loseCall (recordIn s) area board
-Meets s area (repair fresh helpers) h = gave h ≡ repairCall standard (recordIn s) area fresh helpers
-Meets s area (read boards output) h = gave h ≡ readCall standard (recordIn s) area boards output
+Meets s area call h = gave h ≡ act standard (record { kept = recordIn s; area = area }) call
 
 -- each call is on the store that the call before it handed on
 abbrev pub Run : Store → List Step → List Given → Type 0

@@ -20,6 +20,7 @@ use Rattle.sizes.proofs.Laws.{number-low}
 use Rattle.store_statements.specs.Record.{Record, inService, turnOn}
 use Rattle.store_statements.specs.Calls.{StoreOutcome, settle, refused, writeLines, writeDone, writeCall, loseLines, loseDone, loseCall, repairLines, repairDone, repairCall}
 use Rattle.store_statements.specs.Calls.{readLines, readDone, readCall}
+use Rattle.store_statements.specs.Ledger.{Call, write, lose, repair, read, State, act, outputOf}
 use Rattle.store_statements.specs.MarkLaws.{MarkLaws}
 
 -- a call that is accepted has done its work
@@ -88,8 +89,55 @@ module _ (xs : List ℕ) (s : Record) (area : List ℕ) where
   unfolding readCall
   did-read boards output = same (first storeOrder (readLines xs s area boards output)) output (readDone xs s area boards output) refl
 
+-- ---- whatever the call
+
+keeps : (t : Check) (s : Record) (area output : List ℕ) (done : StoreOutcome) → done .answer .refusal ≡ 0
+    → let o = settle t (refused s area output) done in
+    (o .answer .refusal ≡ 0 → ⊥) → o ≡ record { answer = o .answer; handed = s; area = area; output = output }
+keeps Pass s area output done e h = absurd (h e)
+keeps (Refuse x) s area output done e h = refl
+
+refused-keeps : (xs : List ℕ) (w : State) (call : Call) → (act xs w call .answer .refusal ≡ 0 → ⊥)
+    → act xs w call ≡ record { answer = act xs w call .answer; handed = w .kept; area = w .area; output = outputOf call }
+unfolding act writeCall loseCall repairCall readCall
+refused-keeps xs w (write file) h =
+    keeps (first storeOrder (writeLines (w .kept) (length (w .area)) file)) (w .kept) (w .area) [] (writeDone xs (w .kept) (w .area) file) refl h
+refused-keeps xs w (lose board) h =
+    keeps (first storeOrder (loseLines (w .kept) board)) (w .kept) (w .area) [] (loseDone (w .kept) (w .area) board) refl h
+refused-keeps xs w (repair fresh helpers) h =
+    keeps (first storeOrder (repairLines xs (w .kept) (length (w .area)) fresh helpers)) (w .kept) (w .area) []
+    (repairDone xs (w .kept) (w .area) fresh helpers) refl h
+refused-keeps xs w (read boards output) h =
+    keeps (first storeOrder (readLines xs (w .kept) (w .area) boards output)) (w .kept) (w .area) output
+    (readDone xs (w .kept) (w .area) boards output) refl h
+
+length-on : (boards : List ℕ) (marks : List Bool) → length (turnOn boards marks) ≡ length marks
+length-on [] marks = refl
+length-on (i ∷ boards) marks = length-on boards (set marks i true) ∙ length-set marks i true
+
+full : (t : Check) (s : Record) (area output : List ℕ) (done : StoreOutcome) → length (s .marks) ≡ maxBoards → length (done .handed .marks) ≡ maxBoards
+    → length (settle t (refused s area output) done .handed .marks) ≡ maxBoards
+full Pass s area output done e d = d
+full (Refuse x) s area output done e d = e
+
+full-marks : (xs : List ℕ) (w : State) (call : Call) → length (w .kept .marks) ≡ maxBoards → length (act xs w call .handed .marks) ≡ maxBoards
+unfolding act writeCall loseCall repairCall readCall
+full-marks xs w (write file) e =
+    full (first storeOrder (writeLines (w .kept) (length (w .area)) file)) (w .kept) (w .area) [] (writeDone xs (w .kept) (w .area) file) e refl
+full-marks xs w (lose board) e =
+    full (first storeOrder (loseLines (w .kept) board)) (w .kept) (w .area) [] (loseDone (w .kept) (w .area) board) e
+    (length-set (w .kept .marks) board false ∙ e)
+full-marks xs w (repair fresh helpers) e =
+    full (first storeOrder (repairLines xs (w .kept) (length (w .area)) fresh helpers)) (w .kept) (w .area) []
+    (repairDone xs (w .kept) (w .area) fresh helpers) e (length-on fresh (w .kept .marks) ∙ e)
+full-marks xs w (read boards output) e =
+    full (first storeOrder (readLines xs (w .kept) (w .area) boards output)) (w .kept) (w .area) output
+    (readDone xs (w .kept) (w .area) boards output) e e
+
 pub mark-laws : MarkLaws
 mark-laws = record {
+  refused-keeps = refused-keeps;
+  full-marks = full-marks;
   writes = λ xs s area file e.
       let d = ap (λ (o : StoreOutcome). o .handed) (did-write xs s area file e) in (
         λ i h. ap (λ (r : Record). inService r i) d ∙ tabulate-at maxBoards (λ x. ltb x (s .sizes .n)) false i h,

@@ -1,4 +1,5 @@
--- What an accepted call changes in the store's record: the marks that document 01 says, and no others. proofs/MarkLaws.antt has `mark-laws`.
+-- What a call changes in the store's record: nothing where it is refused; else the marks that document 01 says, and no others.
+-- proofs/MarkLaws.antt has `mark-laws`.
 -- Assumes nothing.
 use mathlib.Core.Path.{_≡_}
 use mathlib.Core.Bool.{true, false}
@@ -10,6 +11,7 @@ use Rattle.lists.specs.Tests.{pick, among}
 use Rattle.sizes.specs.Sizing.{maxBoards}
 use Rattle.store_statements.specs.Record.{Record, inService}
 use Rattle.store_statements.specs.Calls.{writeCall, loseCall, repairCall, readCall}
+use Rattle.store_statements.specs.Ledger.{Call, State, act, outputOf}
 
 -- one record has the other's sizes and capacity
 abbrev pub SameStore : Record → Record → Type 0
@@ -34,5 +36,10 @@ pub record MarkLaws : Type 0 where
       → repairCall xs s area fresh helpers .answer .refusal ≡ 0
       → ((i : ℕ) → i < maxBoards → inService (repairCall xs s area fresh helpers .handed) i ≡ pick (among fresh i) true (inService s i))
       × SameStore (repairCall xs s area fresh helpers .handed) s × SameFile (repairCall xs s area fresh helpers .handed) s
+  -- whatever the call: a refused one leaves record, area and output as they came, and one on 32 marks hands on 32
+  pub refused-keeps : (xs : List ℕ) (w : State) (call : Call) → (act xs w call .answer .refusal ≡ 0 → ⊥)
+      → act xs w call ≡ record { answer = act xs w call .answer; handed = w .kept; area = w .area; output = outputOf call }
+  pub full-marks : (xs : List ℕ) (w : State) (call : Call) → length (w .kept .marks) ≡ maxBoards
+      → length (act xs w call .handed .marks) ≡ maxBoards
   -- a read hands on the record that it was given
   pub reads : (xs : List ℕ) (s : Record) (area boards output : List ℕ) → readCall xs s area boards output .handed ≡ s

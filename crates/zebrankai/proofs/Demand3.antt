@@ -8,7 +8,7 @@ use mathlib.Core.Logic.{_↔_}
 use native.Mathlib.Omega.{arith}
 use native.Mathlib.Nat.{mod-lt}
 use lib.Dec.{eqb}
-use lib.ListN.{length, length-set, set}
+use lib.ListN.{length}
 use borrow.Author.Tests.{eqb-true, eq-eqb}
 use Rattle.lists.specs.Tests.{pick}
 use Rattle.lists.specs.Lists.{All, Bytes, over}
@@ -20,67 +20,30 @@ use Rattle.sizes.specs.Sizing.{legal, maxStripes}
 use Rattle.sizes.specs.Refusals.{number, first, storeOrder}
 use Rattle.sizes.proofs.Laws.{number-low}
 use Rattle.mbcr.specs.Share.{standard}
-use Rattle.store_statements.specs.Record.{Record, newRecord, turnOn}
+use Rattle.store_statements.specs.Record.{Record, newRecord}
 use Rattle.store_statements.specs.Packets.{total, repairPackets}
-use Rattle.store_statements.specs.Calls.{StoreOutcome, accepted, settle, refused, recordLine, setUpCall, writeLines, writeDone, writeCall}
-use Rattle.store_statements.specs.Calls.{loseLines, loseDone, loseCall, repairLines, repairDone, repairCall, readLines, readDone, readCall}
-use Rattle.store_statements.specs.Ledger.{Call, write, lose, repair, read, Book, State, Step, Altered, Allowed, left, act, stepOutcome, replies, final, openBook, enter, bookFinal}
+use Rattle.store_statements.specs.Calls.{StoreOutcome, accepted, settle, refused, recordLine, setUpCall, repairLines, repairDone, repairCall}
+use Rattle.store_statements.specs.Ledger.{Call, read, Book, State, Step, Altered, Allowed, outputOf, left, act, stepOutcome, replies, final, openBook, enter, bookFinal}
 use Rattle.board_statements.specs.Calls.{fileOf}
 use Rattle.store_statements.specs.Demand3.{Kept, Demand3, begun, calls}
 use Rattle.store_statements.proofs.Demand3.{demand-3-standard, accepted-repair}
 use Rattle.store_statements.proofs.Demand1.{demand-1}
+use Rattle.store_statements.proofs.MarkLaws.{mark-laws}
 use Rattle.store_statements.proofs.Premises.{as-it-was, fair}
 use Rattle.store_statements.specs.Premises.{files}
 use Rattle.answer_word.specs.Answers.{wordOf}
 use Rattle.answer_word.proofs.Laws.{answer-laws}
 use Rattle.words.specs.Words.{isRecord, recordFrom, wordsOf}
 use Rattle.words.proofs.Laws.{word-laws}
-use Rattle.zebrankai.specs.Lent.{Lent, inWords, zbkSetUp, zbkWrite, zbkLose, zbkRepair, zbkRead}
-use Rattle.zebrankai.specs.Demand3.{zbk, lents, AllowedLents, lastWords, lastArea, Told, told, inWord, firstWords, endWords, endArea, endBook}
+use Rattle.zebrankai.specs.Lent.{Lent, inWords, zbkSetUp, zbk}
+use Rattle.zebrankai.specs.Demand3.{lents, AllowedLents, lastWords, lastArea, Told, told, inWord, firstWords, endWords, endArea, endBook}
 use Rattle.zebrankai.specs.Demand3.{ArchiveRun, ArchiveDemand3, ArchiveRepaired, ArchiveRepairs, unalteredLents, ArchivePremises}
 use Rattle.zebrankai.proofs.Worded.{lent, lent-back, taken, set-up-lent}
 
 -- ---- a call on the words of a record of 32 marks is the definitions' call on the record
 
--- losing is the same whatever the area, which stays
-lose-any : (t : Check) (s : Record) (area : List ℕ) (board : ℕ)
-    → (let o = settle t (refused s [] []) (loseDone s [] board) in record { answer = wordOf (o .answer); words = wordsOf (o .handed); area = area; output = o .output })
-    ≡ inWords (settle t (refused s area []) (loseDone s area board))
-lose-any Pass s area board = refl
-lose-any (Refuse x) s area board = refl
-
 zbk-is : (s : Record) → length (s .marks) ≡ 32 → (area : List ℕ) (call : Call) → zbk (wordsOf s) area call ≡ inWords (act standard (record { kept = s; area = area }) call)
-unfolding act loseCall zbkWrite zbkLose zbkRepair zbkRead
-zbk-is s full area (write file) = lent-back (λ x. writeCall standard x area file) s area [] full
-zbk-is s full area (lose board) =
-    ap (λ (o : Lent). record { answer = o .answer; words = o .words; area = area; output = o .output }) (lent-back (λ x. loseCall x [] board) s [] [] full)
-    ∙ lose-any (first storeOrder (loseLines s board)) s area board
-zbk-is s full area (repair fresh helpers) = lent-back (λ x. repairCall standard x area fresh helpers) s area [] full
-zbk-is s full area (read boards output) = lent-back (λ x. readCall standard x area boards output) s area output full
-
--- ---- a call hands on 32 marks
-
-length-on : (boards : List ℕ) (marks : List Bool) → length (turnOn boards marks) ≡ length marks
-length-on [] marks = refl
-length-on (i ∷ boards) marks = length-on boards (set marks i true) ∙ length-set marks i true
-
-settle-full : (t : Check) (s : Record) (area output : List ℕ) (done : StoreOutcome) → length (s .marks) ≡ 32 → length (done .handed .marks) ≡ 32
-    → length (settle t (refused s area output) done .handed .marks) ≡ 32
-settle-full Pass s area output done e d = d
-settle-full (Refuse x) s area output done e d = e
-
-stays-full : (w : State) (call : Call) → length (w .kept .marks) ≡ 32 → length (act standard w call .handed .marks) ≡ 32
-unfolding act writeCall loseCall repairCall readCall
-stays-full w (write file) e =
-    settle-full (first storeOrder (writeLines (w .kept) (length (w .area)) file)) (w .kept) (w .area) [] (writeDone standard (w .kept) (w .area) file) e refl
-stays-full w (lose board) e =
-    settle-full (first storeOrder (loseLines (w .kept) board)) (w .kept) (w .area) [] (loseDone (w .kept) (w .area) board) e (length-set (w .kept .marks) board false ∙ e)
-stays-full w (repair fresh helpers) e =
-    settle-full (first storeOrder (repairLines standard (w .kept) (length (w .area)) fresh helpers)) (w .kept) (w .area) []
-    (repairDone standard (w .kept) (w .area) fresh helpers) e (length-on fresh (w .kept .marks) ∙ e)
-stays-full w (read boards output) e =
-    settle-full (first storeOrder (readLines standard (w .kept) (w .area) boards output)) (w .kept) (w .area) output
-    (readDone standard (w .kept) (w .area) boards output) e e
+zbk-is s full area call = lent-back (λ x. act standard (record { kept = x; area = area }) call) s area (outputOf call) full
 
 -- ---- lists of calls
 
@@ -100,7 +63,7 @@ next ws area w t h =
     record {
       words-are = ap (λ (o : Lent). o .words) e;
       area-is = ap (λ (o : Lent). o .area) e;
-      full = stays-full (record { kept = w .kept; area = t .area }) (t .call) (h .full);
+      full = mark-laws .full-marks standard (record { kept = w .kept; area = t .area }) (t .call) (h .full);
     }
 
 back : (ws area : List ℕ) (w : State) → Tells ws area w → recordFrom ws ≡ w .kept
@@ -144,8 +107,11 @@ begins ws z c e = let p = go (setUpCall (newRecord z c) z c) (eqb (length ws) 8)
 
 handed-full : (z : Sizes) (c : ℕ) → length (setUpCall (newRecord z c) z c .handed .marks) ≡ 32
 unfolding setUpCall
-handed-full z c =
-    settle-full (first storeOrder (recordLine (newRecord z c) ∷ [])) (newRecord z c) [] [] _ refl refl
+handed-full z c = go (first storeOrder (recordLine (newRecord z c) ∷ []))
+  where
+    go : (t : Check) → length (settle t (refused (newRecord z c) [] []) (accepted 0 (newRecord z c) [] []) .handed .marks) ≡ 32
+    go Pass = refl
+    go (Refuse x) = refl
 
 module _ (ws : List ℕ) (z : Sizes) (c : ℕ) (area : List ℕ) (steps : List Step) (e : zbkSetUp ws z c .answer ≡ 0) where
   -- the definitions' store at the start, and at the end
@@ -179,7 +145,7 @@ module _ (ws : List ℕ) (z : Sizes) (c : ℕ) (area : List ℕ) (steps : List S
     are-words = ap isRecord (tells-last .words-are) ∙ word-laws .are-words (last .kept) (tells-last .full)
 
     runs : ArchiveRun ws z c area steps
-    unfolding zbkRead
+    unfolding act
     runs = record {
       alike = answers (firstWords ws z c area steps) area start steps tells-start ∙ ap (map inWord) (of-definitions .alike);
       are-words = are-words;
@@ -207,7 +173,7 @@ none-refused : (v : ℕ) → 0 + 256 * v ≡ 256 * v
 none-refused v = omega arith
 
 pub archive-repairs : ArchiveRepairs
-unfolding zbkRepair repairCall
+unfolding act repairCall
 archive-repairs ws area fresh helpers v h =
     let s = recordFrom ws in
     let e = taken (λ s. repairCall standard s area fresh helpers) ws area [] v h in

@@ -1,7 +1,7 @@
 -- On a refusal no word and no byte changes.
 -- Assumes nothing.
 use Prim.Native.Nat.{ℕ}
-use mathlib.Core.Path.{_≡_, refl, ap}
+use mathlib.Core.Path.{_≡_, refl, ap, _∙_}
 use mathlib.Core.Bool.{Bool, true, false}
 use mathlib.Core.List.{List, []}
 use native.Mathlib.Omega.{arith}
@@ -12,8 +12,7 @@ use Rattle.lists.specs.Tests.{pick}
 use Rattle.sizes.specs.declared.Sizes.{Sizes}
 use Rattle.sizes.specs.declared.Check.{Check}
 use Rattle.sizes.specs.declared.Check.the-variants.{Pass, Refuse}
-use Rattle.sizes.specs.declared.Answer.the-variants.{Refused}
-use Rattle.sizes.specs.Refusals.{said, first, storeOrder, boardOrder}
+use Rattle.sizes.specs.Refusals.{first, boardOrder}
 use Rattle.sizes.specs.Sizing.{stripes}
 use Rattle.mbcr.specs.Share.{standard, share}
 use Rattle.mbcr.specs.Rebuild.{helperPacket, exchangePacket, finishedShare}
@@ -21,30 +20,15 @@ use Rattle.mbcr.specs.Read.{readFile}
 use Rattle.board_statements.specs.Calls.{settled, fileOf, shareLines, shareCall, fileLines, fileCall, helperLines, helperCall}
 use Rattle.board_statements.specs.Calls.{exchangeLines, exchangeCall, finishedLines, finishedCall, textLines, textCall}
 use Rattle.board_statements.specs.Text.{shareText}
-use Rattle.store_statements.specs.Record.{Record, newRecord}
-use Rattle.store_statements.specs.Calls.{StoreOutcome, refused, settle, setUpCall, writeLines, writeDone, writeCall}
-use Rattle.store_statements.specs.Calls.{loseLines, loseDone, loseCall, repairLines, repairDone, repairCall, readLines, readDone, readCall}
+use Rattle.store_statements.specs.Record.{newRecord}
+use Rattle.store_statements.specs.Calls.{StoreOutcome, setUpCall}
+use Rattle.store_statements.specs.Ledger.{Call, act, outputOf}
+use Rattle.store_statements.proofs.MarkLaws.{mark-laws}
 use Rattle.answer_word.specs.Answers.{wordOf}
 use Rattle.words.specs.Words.{isRecord, recordFrom, wordsOf}
 use Rattle.words.proofs.Laws.{word-laws}
-use Rattle.zebrankai.specs.Lent.{noRecord, inWords, lentBy, zbkSetUp, zbkWrite, zbkLose, zbkRepair, zbkRead}
+use Rattle.zebrankai.specs.Lent.{noRecord, inWords, zbkSetUp, zbk}
 use Rattle.zebrankai.specs.Laws.{Keeps, Leaves, ArchiveLaws}
-
--- a call over the record that the words tell, which its check settles: they come back
-module _ (check : Record → Check) (done : Record → StoreOutcome) (accepts : (s : Record) → done s .answer .refusal ≡ 0) (ws area output : List ℕ) where
-  abbrev call : Record → StoreOutcome
-  call s = settle (check s) (refused s area output) (done s)
-
-  back : isRecord ws ≡ true → (t : Check) → Keeps (inWords (settle t (refused (recordFrom ws) area output) (done (recordFrom ws)))) ws area output
-  back is Pass h = absurd (h (done (recordFrom ws) .answer .value) (omega (arith, accepts (recordFrom ws))))
-  back is (Refuse x) h = ap (λ (l : List ℕ). record { answer = wordOf (said (Refused x)); words = l; area = area; output = output }) (word-laws .words-back ws is)
-
-  keeps : Keeps (lentBy call ws area output) ws area output
-  keeps = go (isRecord ws) refl
-    where
-      go : (b : Bool) → isRecord ws ≡ b → Keeps (pick b (inWords (call (recordFrom ws))) (noRecord ws area output)) ws area output
-      go true is = back is (check (recordFrom ws))
-      go false is = λ h. refl
 
 set-up-keeps : (ws : List ℕ) (z : Sizes) (c : ℕ) → Keeps (zbkSetUp ws z c) ws [] []
 unfolding zbkSetUp
@@ -59,25 +43,18 @@ set-up-keeps ws z c = go (eqb (length ws) 8) (wordOf (o .answer)) (eqb (wordOf (
     go true w false e h = refl
     go false w b e h = refl
 
-write-keeps : (ws area file : List ℕ) → Keeps (zbkWrite ws area file) ws area []
-unfolding zbkWrite writeCall
-write-keeps ws area file =
-    keeps (λ s. first storeOrder (writeLines s (length area) file)) (λ s. writeDone standard s area file) (λ s. refl) ws area []
+-- a call on a record's words: it is refused, and the words come back; or it is not
+keeps : (ws area : List ℕ) (call : Call) → Keeps (zbk ws area call) ws area (outputOf call)
+keeps ws area call = go (isRecord ws) refl
+  where
+    o : StoreOutcome
+    o = act standard (record { kept = recordFrom ws; area = area }) call
 
-lose-keeps : (ws : List ℕ) (board : ℕ) → Keeps (zbkLose ws board) ws [] []
-unfolding zbkLose loseCall
-lose-keeps ws board = keeps (λ s. first storeOrder (loseLines s board)) (λ s. loseDone s [] board) (λ s. refl) ws [] []
-
-repair-keeps : (ws area fresh helpers : List ℕ) → Keeps (zbkRepair ws area fresh helpers) ws area []
-unfolding zbkRepair repairCall
-repair-keeps ws area fresh helpers =
-    keeps (λ s. first storeOrder (repairLines standard s (length area) fresh helpers)) (λ s. repairDone standard s area fresh helpers) (λ s. refl)
-    ws area []
-
-read-keeps : (ws area boards output : List ℕ) → Keeps (zbkRead ws area boards output) ws area output
-unfolding zbkRead readCall
-read-keeps ws area boards output =
-    keeps (λ s. first storeOrder (readLines standard s area boards output)) (λ s. readDone standard s area boards output) (λ s. refl) ws area output
+    go : (b : Bool) → isRecord ws ≡ b → Keeps (pick b (inWords o) (noRecord ws area (outputOf call))) ws area (outputOf call)
+    go true is h =
+        ap inWords (mark-laws .refused-keeps standard (record { kept = recordFrom ws; area = area }) call (λ e. h (o .answer .value) (omega (arith, e))))
+        ∙ ap (λ (l : List ℕ). record { answer = wordOf (o .answer); words = l; area = area; output = outputOf call }) (word-laws .words-back ws is)
+    go false is h = refl
 
 -- ---- board level
 
@@ -122,8 +99,5 @@ archive-laws = record {
   finished-leaves = finished-leaves;
   text-leaves = text-leaves;
   set-up-keeps = set-up-keeps;
-  write-keeps = write-keeps;
-  lose-keeps = lose-keeps;
-  repair-keeps = repair-keeps;
-  read-keeps = read-keeps;
+  keeps = keeps;
 }

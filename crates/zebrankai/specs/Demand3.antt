@@ -16,19 +16,12 @@ use Rattle.mbcr.specs.Share.{standard}
 use Rattle.board_statements.specs.Calls.{fileOf}
 use Rattle.store_statements.specs.Record.{held}
 use Rattle.store_statements.specs.Packets.{total, repairPackets, freshShare}
-use Rattle.store_statements.specs.Ledger.{Call, write, lose, repair, read, Reply, Book, State, Step, Altered, Fair, openBook, bookLength, enter, bookReplies, bookFinal}
+use Rattle.store_statements.specs.Ledger.{Call, repair, read, Reply, Book, State, Step, Altered, Fair, openBook, bookLength, enter, bookReplies, bookFinal}
 use Rattle.store_statements.specs.Demand3.{Kept, Repaired, calls}
 use Rattle.store_statements.specs.Premises.{files}
 use Rattle.answer_word.specs.Answers.{wordOf}
 use Rattle.words.specs.Words.{isRecord, recordFrom}
-use Rattle.zebrankai.specs.Lent.{Lent, zbkSetUp, zbkWrite, zbkLose, zbkRepair, zbkRead}
-
--- a call of the archive on these words and this area; losing is lent no area, so it stays
-abbrev pub zbk : List ℕ → List ℕ → Call → Lent
-zbk ws area (write file) = zbkWrite ws area file
-zbk ws area (lose board) = let o = zbkLose ws board in record { answer = o .answer; words = o .words; area = area; output = o .output }
-zbk ws area (repair fresh helpers) = zbkRepair ws area fresh helpers
-zbk ws area (read boards output) = zbkRead ws area boards output
+use Rattle.zebrankai.specs.Lent.{Lent, zbkSetUp, zbk}
 
 -- the calls one after another: each on the words that the last one left, and the area as its step has it
 abbrev pub lents : List ℕ → List Step → List Lent
@@ -93,7 +86,7 @@ module _ (ws : List ℕ) (z : Sizes) (c : ℕ) (area : List ℕ) (steps : List S
         → different boards ≡ true
         → every (among (endBook .service)) boards ≡ true
         → bookLength endBook ≤ length output
-        → zbkRead endWords now boards output
+        → zbk endWords now (read boards output)
         ≡ record { answer = 0; words = endWords; area = now; output = over (fileOf (endBook .file)) output }
 
 abbrev pub ArchiveDemand3 : Type 0
@@ -108,12 +101,12 @@ ArchiveDemand3 =
 pub record ArchiveRepaired (ws area fresh helpers : List ℕ) : Type 0 where
   pub is-record : isRecord ws ≡ true
   pub repaired : Repaired standard (recordFrom ws) area fresh helpers
-  pub reports : zbkRepair ws area fresh helpers .answer ≡ 256 * total (repairPackets standard (recordFrom ws) area fresh helpers)
+  pub reports : zbk ws area (repair fresh helpers) .answer ≡ 256 * total (repairPackets standard (recordFrom ws) area fresh helpers)
   pub has : (i : ℕ) → among fresh i ≡ true
-      → held (recordFrom ws) (zbkRepair ws area fresh helpers .area) i ≡ freshShare standard (recordFrom ws) area fresh helpers i
+      → held (recordFrom ws) (zbk ws area (repair fresh helpers) .area) i ≡ freshShare standard (recordFrom ws) area fresh helpers i
 
 abbrev pub ArchiveRepairs : Type 0
-ArchiveRepairs = (ws area fresh helpers : List ℕ) (v : ℕ) → zbkRepair ws area fresh helpers .answer ≡ 256 * v → ArchiveRepaired ws area fresh helpers
+ArchiveRepairs = (ws area fresh helpers : List ℕ) (v : ℕ) → zbk ws area (repair fresh helpers) .answer ≡ 256 * v → ArchiveRepaired ws area fresh helpers
 
 -- the steps of these calls with nothing altered between them
 abbrev pub unalteredLents : List ℕ → List ℕ → List Call → List Step

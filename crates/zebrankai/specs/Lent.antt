@@ -12,6 +12,7 @@ use Rattle.sizes.specs.Refusals.{said}
 use Rattle.mbcr.specs.Share.{standard}
 use Rattle.store_statements.specs.Record.{Record, newRecord}
 use Rattle.store_statements.specs.Calls.{StoreOutcome, setUpCall, writeCall, loseCall, repairCall, readCall}
+use Rattle.store_statements.specs.Ledger.{Call, act, outputOf}
 use Rattle.answer_word.specs.Answers.{wordOf}
 use Rattle.words.specs.Words.{isRecord, recordFrom, wordsOf}
 
@@ -52,3 +53,7 @@ zbkRepair ws area fresh helpers = lentBy (λ s. repairCall standard s area fresh
 
 unfoldable pub zbkRead : List ℕ → List ℕ → List ℕ → List ℕ → Lent
 zbkRead ws area boards output = lentBy (λ s. readCall standard s area boards output) ws area output
+
+-- any of these on these words and this area; losing is lent no area, so it stays
+abbrev pub zbk : List ℕ → List ℕ → Call → Lent
+zbk ws area call = lentBy (λ s. act standard (record { kept = s; area = area }) call) ws area (outputOf call)
