@@ -44,6 +44,9 @@ pub record Pair : Type 0 where
 pub record Gone : Type 0 where
   pub all : ℕ
 
+abbrev pub twice : List (List ℕ) → ℕ
+twice x = (total x) + total x
+
 module _ (k : ℕ) where
   open Pair p using (one)
 
@@ -177,8 +180,8 @@ END
 commit one
 
 # ---- the second
-# a definition changed; one with another layout and other comments; one renamed; one that calls itself renamed; a record changed; one gone;
-# one added; parameters of a module changed
+# a definition changed; one with another layout and other comments; one that calls itself renamed, and one that cites it; a record changed; one
+# gone; one added; parameters of a module changed
 file crates/sums/specs/Sums.antt <<'END'
 -- sums of lists, and products
 use Prim.Native.Nat.{ℕ, _+_, _*_}
@@ -213,6 +216,9 @@ pub record Pair : Type 0 where
 -- the product
 abbrev pub product : List ℕ → ℕ
 product [] = 1
+
+abbrev pub twice : List (List ℕ) → ℕ
+twice x = (grand x) + grand x
 
 module _ (k m : ℕ) where
   open Pair p using (one)
@@ -327,13 +333,14 @@ sh "$script" HEAD~1 HEAD >said
     echo "From \`$(git rev-parse --short HEAD~1)\` to \`$(git rev-parse --short HEAD)\`:"
     cat <<'END'
 
-**Definitions**: 1 stayed, 6 changed, 1 added, 1 removed, 4 renamed.
+**Definitions**: 1 stayed, 6 changed, 1 added, 1 removed, 5 renamed.
 - changed: `single` lonely; `sums` more, _plus_, Pair, times, squares
 - added: `sums` product
 - removed: `sums` Gone
 - renamed with their crate: `lone` → `single` (1)
 - in another place, with the same text: `sums/Parts` → `sums/Steps` part, half
 - under another name, with the same text: `sums/Sums` total → grand
+- the same but for names that they cite: `sums` twice
 
 **Contracts**: 3 stayed, 3 changed, 1 added, 1 removed, 2 renamed.
 - changed: `sums` MOST, Pair::sum, sum

@@ -66,10 +66,10 @@ control() { LC_ALL=C tr -d '\n -~' <said | wc -c | tr -d ' '; }
 prove || fail "the made-up crates are not proved: $(cat said)"
 [ ! -s out ] || fail "it wrote to standard output"
 [ "$(control)" -eq 0 ] || fail "control characters where there is no terminal"
-sed 's/[0-9]:[0-9][0-9]/M:SS/' said >plain
+sed 's/[0-9]:[0-9][0-9]/M:SS/; s/^proved 1[01] of/proved 1x of/' said >plain
 cat >expected <<'END'
 proving and building the archive, 12 crates: from nothing about 5 minutes on two cores
-proved 11 of 12 crates, M:SS so far
+proved 1x of 12 crates, M:SS so far
 the archive is proved and built, 12 crates in M:SS
 END
 diff expected plain || fail "other lines where there is no terminal"

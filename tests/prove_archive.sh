@@ -50,7 +50,7 @@ say "proving and building the archive, $all crates: from nothing about 5 minutes
 # the crates that are done, and those being proved: each has an empty file in target/log until it ends
 ended() { sed -n 's/^rt: \([A-Za-z0-9_]*\) proved (.*/\1/p' "$log" | sort -u | wc -l | tr -d ' '; }
 running() {
-    names=$(find target/log -name '*.out' -size 0 -newer "$log.began" | sed 's,.*/,,; s,\.out$,,' | tr '\n' ' ')
+    names=$(find target/log -name '*.out' -size 0 -newer "$log.began" 2>/dev/null | sed 's,.*/,,; s,\.out$,,' | tr '\n' ' ')
     [ -n "$names" ] || [ "$1" -lt $((all - 1)) ] || names='zebrankai '
     printf '%s' "${names:+; now ${names% }}"
 }

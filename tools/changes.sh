@@ -5,7 +5,7 @@
 #   Contracts: each function of crates/*/src with its signature, `requires` and `ensures`; each type and constant.
 #   Proofs: each file of crates/*/proofs.
 # Imports, comments, blanks and the layout count nowhere. What has the same text in another crate, in another file or under another name is renamed,
-# not changed; a crate that is gone is the one that git saw most of its files go to.
+# not changed, and so is what only cites a definition by its new name; a crate that is gone is the one that git saw most of its files go to.
 set -eu
 [ $# -eq 2 ] || { echo "usage: tools/changes.sh OLD NEW (two commits)" >&2; exit 2; }
 cd "$(git rev-parse --show-toplevel)"
@@ -133,6 +133,14 @@ awk -F '\t' '
         return out s
     }
     function home(crate) { return crate in is ? crate : (crate in went ? went[crate] : crate) }
+    # the text word by word, names of renamed definitions in their new form
+    function worded(s, renames,    w, i, m, out) {
+        gsub(/[(){},;]/, " & ", s)
+        m = split(s, w, " ")
+        for (i = 1; i <= m; i++) out = out " " ((renames && (w[i] in renamed)) ? renamed[w[i]] : w[i])
+        return out
+    }
+    function alike(o, n) { return worded(text["old", o], 1) == worded(text["new", n], 0) }
     # takes a pair: what became of an old unit
     function pair(o, n) { became[o] = n; came[n] = o }
     # a pair by a key of the old side and of the new one, each with the text; the first that is free
@@ -144,6 +152,7 @@ awk -F '\t' '
         if (how == 3) return p[1] SUBSEP p[4] SUBSEP text[side, id]
         if (how == 4) return p[1] SUBSEP crate SUBSEP masked(side, id)
         if (how == 5) return p[1] SUBSEP masked(side, id)
+        if (how == 6) return p[1] SUBSEP (p[4] in renamed && side == "old" ? renamed[p[4]] : p[4]) SUBSEP worded(text[side, id], side == "old")
         return p[1] SUBSEP crate SUBSEP p[4]
     }
     function match_by(how,    i, k, n, m, q) {
@@ -194,8 +203,8 @@ awk -F '\t' '
             if (p[1] != kind) continue
             if (!(olds[i] in became)) { put("removed", "`" p[2] "`", p[4]); continue }
             split(became[olds[i]], q, SUBSEP)
-            if (p[4] == q[4] && text["old", olds[i]] != text["new", became[olds[i]]]) put("changed", "`" q[2] "`", q[4])
-            else if (p[4] != q[4] && masked("old", olds[i]) != masked("new", became[olds[i]])) put("changed", "`" q[2] "`", p[4] " → " q[4])
+            if (p[4] == q[4] && text["old", olds[i]] != text["new", became[olds[i]]]) put(alike(olds[i], became[olds[i]]) ? "citing" : "changed", "`" q[2] "`", q[4])
+            else if (p[4] != q[4] && masked("old", olds[i]) != masked("new", became[olds[i]])) put(alike(olds[i], became[olds[i]]) ? "citing" : "changed", "`" q[2] "`", p[4] " → " q[4])
             else if (p[2] == q[2] && p[3] == q[3] && p[4] == q[4]) same++
             else if (p[2] != q[2] && home(p[2]) == q[2] && p[3] == q[3] && p[4] == q[4]) put("crate", "`" p[2] "` → `" q[2] "`", p[4])
             else if (p[4] == q[4]) put("moved", "`" where(p) "` → `" where(q) "`", p[4])
@@ -206,13 +215,14 @@ awk -F '\t' '
             if (q[1] == kind && !(news[i] in came)) put("added", "`" q[2] "`", q[4])
         }
         print "**" words "**: " same " stayed, " size["changed"] + 0 " changed, " size["added"] + 0 " added, " size["removed"] + 0 " removed, " \
-            size["crate"] + size["moved"] + size["renamed"] " renamed."
+            size["crate"] + size["moved"] + size["renamed"] + size["citing"] " renamed."
         tell("changed", "changed")
         tell("added", "added")
         tell("removed", "removed")
         tell("crate", "renamed with their crate", 1)
         tell("moved", "in another place, with the same text")
         tell("renamed", "under another name, with the same text")
+        tell("citing", "the same but for names that they cite")
     }
 
     END {
@@ -220,10 +230,21 @@ awk -F '\t' '
             split(pairs[i], p, SUBSEP)
             if (!(p[1] in is) && (p[2] in is) && times[p[1], p[2]] > most[p[1]]) { most[p[1]] = times[p[1], p[2]]; went[p[1]] = p[2] }
         }
-        # the same place and name; the same text and name, in the crate and elsewhere; the same text; the same crate and name
+        # the same place and name; the same text and name, in the crate and elsewhere; the same text; that but for new names; the same crate and name
         for (how = 1; how <= 5; how++) match_by(how)
-        by_git()
+        for (i = 1; i <= nold; i++) {
+            if (!(olds[i] in became)) continue
+            split(olds[i], p, SUBSEP); split(became[olds[i]], q, SUBSEP)
+            if (p[1] != "specs" || p[4] == q[4]) continue
+            if ((p[4] in renamed) && renamed[p[4]] != q[4]) twofold[p[4]]
+            renamed[p[4]] = q[4]
+        }
+        # a name that another definition has, or that became two, tells nothing where it is cited
+        for (i = 1; i <= nnew; i++) { split(news[i], q, SUBSEP); if (q[1] == "specs") twofold[q[4]] }
+        for (name in twofold) delete renamed[name]
         match_by(6)
+        by_git()
+        match_by(7)
         report("specs", "Definitions")
         print ""
         report("src", "Contracts")
