@@ -39,9 +39,9 @@ module _ (s : Record) (area boards output : List ℕ) where
   abbrev pub checked : Check
   checked = first storeOrder (readLines standard s area boards output)
 
-  pub read-refuses : {x : Refusal} → checked ≡ Refuse x → refused s area output x ≡ readCall standard s area boards output
+  pub read-refuses : {r : Check} {x : Refusal} → r ≡ checked → r ≡ Refuse x → refused s area output x ≡ readCall standard s area boards output
   unfolding readCall
-  read-refuses e = refused-by (refused s area output) (readDone standard s area boards output) e
+  read-refuses e h = refused-by (refused s area output) (readDone standard s area boards output) e h
 
   -- what a read hands on with these bytes
   abbrev pub filled : List ℕ → StoreOutcome

@@ -27,9 +27,9 @@ module _ (s : Record) (area fresh helpers : List ℕ) where
   abbrev pub checked : Check
   checked = first storeOrder (repairLines standard s (length area) fresh helpers)
 
-  pub repair-refuses : {x : Refusal} → checked ≡ Refuse x → refused s area [] x ≡ repairCall standard s area fresh helpers
+  pub repair-refuses : {r : Check} {x : Refusal} → r ≡ checked → r ≡ Refuse x → refused s area [] x ≡ repairCall standard s area fresh helpers
   unfolding repairCall
-  repair-refuses e = refused-by (refused s area []) (repairDone standard s area fresh helpers) e
+  repair-refuses e h = refused-by (refused s area []) (repairDone standard s area fresh helpers) e h
 
   -- what a repair hands on with this answer, these marks and this area
   abbrev pub mended : ℕ → List Bool → List ℕ → StoreOutcome

@@ -25,9 +25,9 @@ use Rattle.store_statements.proofs.Records.{sound-facts}
 use Rattle.checks.specs.Asked.{asked}
 use Rattle.store_checks.specs.Parts.{recordOf}
 
--- a call whose check refuses, and one whose check passes
-pub refused-by : {c : Check} {x : Refusal} (out : Refusal → StoreOutcome) (done : StoreOutcome) → c ≡ Refuse x → out x ≡ settle c out done
-refused-by out done e = sym (ap (λ (k : Check). settle k out done) e)
+-- a call whose check answers r: where that is a refusal, and where the check passes
+pub refused-by : {c r : Check} {x : Refusal} (out : Refusal → StoreOutcome) (done : StoreOutcome) → r ≡ c → r ≡ Refuse x → out x ≡ settle c out done
+refused-by out done e h = sym (ap (λ (k : Check). settle k out done) (sym e ∙ h))
 
 pub done-by : {c : Check} (out : Refusal → StoreOutcome) (done : StoreOutcome) → c ≡ Pass → done ≡ settle c out done
 done-by out done e = sym (ap (λ (k : Check). settle k out done) e)
@@ -35,9 +35,9 @@ done-by out done e = sym (ap (λ (k : Check). settle k out done) e)
 -- ---- set up
 
 module _ (s : Record) (z : Sizes) (c : ℕ) where
-  pub set-up-refuses : {x : Refusal} → asked (recordLine (newRecord z c)) ≡ Refuse x → refused s [] [] x ≡ setUpCall s z c
+  pub set-up-refuses : {r : Check} {x : Refusal} → r ≡ asked (recordLine (newRecord z c)) → r ≡ Refuse x → refused s [] [] x ≡ setUpCall s z c
   unfolding setUpCall
-  set-up-refuses e = refused-by (refused s [] []) (accepted 0 (newRecord z c) [] []) e
+  set-up-refuses e h = refused-by (refused s [] []) (accepted 0 (newRecord z c) [] []) e h
 
   pub set-up-works : asked (recordLine (newRecord z c)) ≡ Pass → accepted 0 (newRecord z c) [] [] ≡ setUpCall s z c
   unfolding setUpCall
@@ -51,7 +51,7 @@ module _ (s : Record) (board : ℕ) where
 
   pub lose-refuses : {x : Refusal} → Refuse x ≡ lost → (area : List ℕ) → refused s area [] x ≡ loseCall s area board
   unfolding loseCall
-  lose-refuses e area = refused-by (refused s area []) (loseDone s area board) (sym e)
+  lose-refuses e area = refused-by (refused s area []) (loseDone s area board) e refl
 
   pub lose-works : lost ≡ Pass → (area : List ℕ) → loseDone s area board ≡ loseCall s area board
   unfolding loseCall
@@ -77,9 +77,9 @@ module _ (s : Record) (area file : List ℕ) where
   abbrev pub checked : Check
   checked = first storeOrder (writeLines s (length area) file)
 
-  pub write-refuses : {x : Refusal} → checked ≡ Refuse x → refused s area [] x ≡ writeCall standard s area file
+  pub write-refuses : {r : Check} {x : Refusal} → r ≡ checked → r ≡ Refuse x → refused s area [] x ≡ writeCall standard s area file
   unfolding writeCall
-  write-refuses e = refused-by (refused s area []) (writeDone standard s area file) e
+  write-refuses e h = refused-by (refused s area []) (writeDone standard s area file) e h
 
   -- what a write hands on with these marks and this area
   abbrev pub made : List Bool → List ℕ → StoreOutcome

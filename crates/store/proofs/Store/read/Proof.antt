@@ -67,7 +67,7 @@ read-refused : (c : tie.After-x)
 read-refused c =
     let k = c .before .before in
     let a = st k .args in
-    read-refuses (R k) (a .area .now) (a .boards .now) (a .out .now) (sym (k .check-read .ensures) ∙ c .x .given .1)
+    read-refuses (R k) (a .area .now) (a .boards .now) (a .out .now) (k .check-read .ensures) (c .x .given .1)
 
 pub read-spec : {M : Type 1} → statement M
 read-spec =

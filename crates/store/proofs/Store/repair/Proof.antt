@@ -96,7 +96,7 @@ repair-refused : (c : tie.After-x)
 repair-refused c =
     let k = c .before .before in
     let a = st k .args in
-    repair-refuses (R k) (a .area .now) (a .fresh .now) (a .helpers .now) (sym (k .check-repair .ensures) ∙ c .x .given .1)
+    repair-refuses (R k) (a .area .now) (a .fresh .now) (a .helpers .now) (k .check-repair .ensures) (c .x .given .1)
 
 pub repair-spec : {M : Type 1} → statement M
 repair-spec =

@@ -17,7 +17,7 @@ set-up-refused : (c : tie.After-x)
 set-up-refused c =
     let k = c .before .before in
     let a = st k .args in
-    set-up-refuses (recordIn (a .self)) (a .sizes) (a .capacity) (sym (k .check-record .ensures) ∙ c .x .given .1)
+    set-up-refuses (recordIn (a .self)) (a .sizes) (a .capacity) (k .check-record .ensures) (c .x .given .1)
 
 set-up-done : tie.Need-returns-2
 set-up-done c =

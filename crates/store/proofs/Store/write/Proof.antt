@@ -66,7 +66,7 @@ write-refused : (c : tie.After-x)
     → let k = c .before .before in let a = st k .args in refused (R k) (a .area .now) [] (c .x .given .0 .0) ≡ writeCall standard (R k) (a .area .now) (a .file .now)
 write-refused c =
     let k = c .before .before in
-    write-refuses (R k) (st k .args .area .now) (st k .args .file .now) (sym (k .check-write .ensures) ∙ c .x .given .1)
+    write-refuses (R k) (st k .args .area .now) (st k .args .file .now) (k .check-write .ensures) (c .x .given .1)
 
 pub write-spec : {M : Type 1} → statement M
 write-spec =
