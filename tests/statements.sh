@@ -34,18 +34,15 @@ done
 lines() { cat "$@" | grep -v -E '^[[:space:]]*(--|use |$)' | wc -l | tr -d ' '; }
 tables=$(ls crates/*/specs/*Figures.antt)
 claims=$(ls crates/*/specs/*Laws.antt crates/*/specs/Demand?.antt crates/*/specs/Stripes.antt crates/*/specs/Premises.antt crates/*/specs/Gives.antt crates/*/specs/Claims.antt)
-definitions=$(ls crates/*/specs/*.antt | grep -v -e '/Lib.antt$' -e '/Multiples.antt$')
+definitions=$(ls crates/*/specs/*.antt | grep -v -e '/Lib.antt$')
 # what only inner functions cite: no public call's contract rests on it
-inner='crates/own/specs/Steps.antt crates/grid/specs/Layout.antt crates/decode/specs/Agree.antt crates/columns/specs/Steps.antt
-crates/text_lines/specs/Wrote.antt crates/checks/specs/Asked.antt crates/printer/specs/Machine.antt crates/number_lines/specs/Steps.antt crates/store_checks/specs/Parts.antt
-crates/repair_hear/specs/Turns.antt crates/store_repair/specs/Rebuilt.antt crates/shared_checks/specs/Lines.antt crates/read_check/specs/Tables.antt
-crates/board_file/specs/Tables.antt crates/print_feed/specs/Feeding.antt crates/print_share/specs/Writing.antt crates/share_printer/specs/Reading.antt'
+inner=$(ls crates/*/specs/Steps.antt)
 # the archive's words, beside the calls that they are for
 archive='crates/answer_word/specs/Answers.antt crates/words/specs/Words.antt crates/zebrankai/specs/Archive.antt crates/zebrankai/specs/Lent.antt'
 for f in $tables $claims $inner $archive; do definitions=$(printf '%s\n' $definitions | grep -vxF "$f"); done
 for f in $inner; do
     crate=${f#crates/} name=$(basename "$f" .antt)
-    ! grep -l "·${crate%%/*}.*specs\.$name\." crates/board_*/specs/*.antt crates/store_statements/specs/*.antt crates/mbcr/specs/*.antt >/dev/null 2>&1 \
+    ! grep -l "·${crate%%/*}.*specs\.$name\." crates/board_*/specs/*.antt crates/store_spec/specs/*.antt crates/mbcr/specs/*.antt >/dev/null 2>&1 \
         || complain "a definition rests on the inner $f"
 done
 d=$(lines $definitions) c=$(lines $claims) t=$(lines $tables) i=$(lines $inner) a=$(lines $archive)

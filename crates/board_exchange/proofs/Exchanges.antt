@@ -20,7 +20,7 @@ use Rattle.sizes.specs.Sizing.{maxStripes, legal, B, stripes}
 use Rattle.sizes.proofs.Lines.{first-clear}
 use Rattle.mbcr.specs.Rebuild.{exchangePacket}
 use Rattle.mbcr.proofs.Repair.{length-exchange}
-use Rattle.board_statements.specs.Calls.{exchangeLines, exchangeCall}
+use Rattle.board_spec.specs.Calls.{exchangeLines, exchangeCall}
 use Rattle.checks.specs.Outcomes.{outcome}
 use Rattle.checks.proofs.Facts.{refused-by, done-by}
 

@@ -1,12 +1,12 @@
 //! Document 01, board level, stateless, for all input: a file from k shares.
-//! The call meets its definition in the crate `board_statements` at document 01's points: the answer, and every byte of the output that it
+//! The call meets its definition in the crate `board_spec` at document 01's points: the answer, and every byte of the output that it
 //! was lent. A refusal leaves the output as it came.
 ghost use mathlib.Core.Path.{_≡_};
 ghost use Rattle.sizes.specs.Refusals.{first, boardOrder};
 ghost use Rattle.mbcr.specs.Share.{standard};
-ghost use Rattle.board_statements.specs.Calls.{fileLines, fileCall};
+ghost use Rattle.board_spec.specs.Calls.{fileLines, fileCall};
 ghost use Rattle.checks.specs.Outcomes.{outcome};
-ghost use Rattle.board_file.specs.Tables.{Tables};
+ghost use Rattle.board_file.specs.Steps.{Tables};
 use sizes::Answer;
 use sizes::Check;
 use sizes::Sizes;

@@ -22,7 +22,7 @@ use Rattle.sizes.proofs.Lines.{first-clear}
 use Rattle.sizes.proofs.Legal.{legal-facts}
 use Rattle.mbcr.specs.Rebuild.{finishedShare}
 use Rattle.mbcr.proofs.Repair.{length-finished}
-use Rattle.board_statements.specs.Calls.{finishedLines, finishedCall}
+use Rattle.board_spec.specs.Calls.{finishedLines, finishedCall}
 use Rattle.checks.specs.Outcomes.{outcome}
 use Rattle.checks.proofs.Facts.{refused-by, done-by}
 

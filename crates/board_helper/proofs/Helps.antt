@@ -19,7 +19,7 @@ use Rattle.sizes.specs.Sizing.{maxStripes, legal, α, B, stripes}
 use Rattle.sizes.proofs.Lines.{first-clear}
 use Rattle.mbcr.specs.Rebuild.{helperPacket}
 use Rattle.mbcr.proofs.Repair.{length-packet}
-use Rattle.board_statements.specs.Calls.{helperLines, helperCall}
+use Rattle.board_spec.specs.Calls.{helperLines, helperCall}
 use Rattle.checks.specs.Outcomes.{outcome}
 use Rattle.checks.proofs.Facts.{refused-by, done-by}
 

@@ -19,7 +19,7 @@ use Rattle.sizes.proofs.Legal.{legal-facts}
 use Rattle.sizes.proofs.Lines.{first-clear}
 use Rattle.mbcr.specs.Share.{share}
 use Rattle.mbcr.proofs.Repair.{length-share}
-use Rattle.board_statements.specs.Calls.{shareLines, shareCall}
+use Rattle.board_spec.specs.Calls.{shareLines, shareCall}
 use Rattle.checks.specs.Outcomes.{outcome}
 use Rattle.checks.proofs.Facts.{refused-by, done-by}
 

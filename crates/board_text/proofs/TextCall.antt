@@ -21,9 +21,9 @@ use Rattle.sizes.specs.Refusals.{first, boardOrder}
 use Rattle.sizes.specs.Sizing.{legal, α, stripes}
 use Rattle.sizes.proofs.Legal.{legal-facts, α-most, B-most, stripes-least}
 use Rattle.sizes.proofs.Lines.{first-clear}
-use Rattle.board_statements.specs.Text.{shareText}
-use Rattle.board_statements.specs.Calls.{nodeLine, areaLine, textLines, textCall}
-use Rattle.checks.specs.Asked.{asked}
+use Rattle.board_spec.specs.Text.{shareText}
+use Rattle.board_spec.specs.Calls.{nodeLine, areaLine, textLines, textCall}
+use Rattle.checks.specs.Steps.{asked}
 use Rattle.checks.specs.Outcomes.{outcome}
 use Rattle.checks.proofs.Answers.{passed}
 use Rattle.checks.proofs.Facts.{Stated, refused-by, done-by}

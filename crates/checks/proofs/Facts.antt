@@ -15,8 +15,8 @@ use Rattle.sizes.specs.declared.Answer.the-variants.{Done, Refused}
 use Rattle.sizes.specs.Sizing.{maxStripes, legal, B}
 use Rattle.sizes.specs.Refusals.{first, boardOrder}
 use Rattle.sizes.proofs.Lines.{first-clear}
-use Rattle.board_statements.specs.Calls.{settled}
-use Rattle.checks.specs.Asked.{statedLines}
+use Rattle.board_spec.specs.Calls.{settled}
+use Rattle.checks.specs.Steps.{statedLines}
 use Rattle.checks.specs.Outcomes.{outcome}
 
 pub record Stated (z : Sizes) (L : ℕ) : Type 0 where

@@ -14,8 +14,8 @@ use Rattle.sizes.specs.declared.Sizes.{Sizes}
 use Rattle.sizes.specs.declared.Refusal.the-variants.{Points}
 use Rattle.sizes.specs.Refusals.{_when_}
 use Rattle.mbcr.specs.Share.{DifferentPoints}
-use Rattle.board_statements.specs.Calls.{equalPoints}
-use Rattle.checks.specs.Asked.{asked}
+use Rattle.board_spec.specs.Calls.{equalPoints}
+use Rattle.checks.specs.Steps.{asked}
 use Rattle.checks.proofs.Answers.{passes}
 
 module _ (z : Sizes) (xs : List ℕ) (enough : z .n ≤ length xs) (pts : DifferentPoints z xs) where

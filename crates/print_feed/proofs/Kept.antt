@@ -15,8 +15,8 @@ use Rattle.number_lines.specs.declared.Read.{Read}
 use Rattle.number_lines.specs.declared.Read.the-variants.{More, Whole, Malformed}
 use Rattle.printer.specs.declared.Parser.{Parser}
 use Rattle.printer.specs.Printer.{maxFile}
-use Rattle.printer.specs.Machine.{counted, lineFed, taken, fed, keep}
-use Rattle.print_feed.specs.Feeding.{keptIn}
+use Rattle.printer.specs.Steps.{counted, lineFed, taken, fed, keep}
+use Rattle.print_feed.specs.Steps.{keptIn}
 use Rattle.number_lines.proofs.Picks.{yes, no, if-eq, if-ne, if-le}
 use Rattle.printer.proofs.Fed.{fed-bad, fed-file, fed-line}
 

@@ -5,9 +5,9 @@ use mathlib.Core.List.{List, [], _∷_, _++_}
 use Prim.Native.Nat.{ℕ}
 use lib.ListN.{length, take}
 use Rattle.lists.specs.Lists.{concat}
-use Rattle.printer.specs.Machine.{fed, runs}
+use Rattle.printer.specs.Steps.{fed, runs}
 use Rattle.printer.proofs.Laws.{printer-laws}
-use Rattle.print_feed.specs.Feeding.{Feed, keptIn, feedAll, feedParts}
+use Rattle.print_feed.specs.Steps.{Feed, keptIn, feedAll, feedParts}
 use Rattle.print_feed.specs.Laws.{FeedLaws}
 use Rattle.print_feed.proofs.Kept.{in-length, kept-step}
 

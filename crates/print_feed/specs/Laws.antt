@@ -6,8 +6,8 @@ use Prim.Native.Nat.{ℕ}
 use lib.ListN.{length, take}
 use Rattle.lists.specs.Lists.{concat}
 use Rattle.printer.specs.Printer.{printed}
-use Rattle.printer.specs.Machine.{begin, decided}
-use Rattle.print_feed.specs.Feeding.{Feed, feedAll, feedParts}
+use Rattle.printer.specs.Steps.{begin, decided}
+use Rattle.print_feed.specs.Steps.{Feed, feedAll, feedParts}
 
 pub record FeedLaws : Type 0 where
   pub parts-are-whole : (s : Feed) (parts : List (List ℕ)) → feedParts s parts ≡ feedAll s (concat parts)

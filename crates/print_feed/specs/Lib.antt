@@ -1,2 +1,2 @@
-pub mod Feeding
+pub mod Steps
 pub mod Laws

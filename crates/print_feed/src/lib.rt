@@ -2,7 +2,7 @@
 //! counted. Each contract says, for a slice of any length, what every byte of it is after the call; with a slice of 16,384 bytes it is what the
 //! crate `printer` defines.
 ghost use mathlib.Core.Path.{_≡_};
-ghost use Rattle.print_feed.specs.Feeding.{keptIn, feedAll};
+ghost use Rattle.print_feed.specs.Steps.{keptIn, feedAll};
 use printer::Parser;
 
 // Keeps a byte of the file, where it is one, before the parser is fed with it.

@@ -19,14 +19,14 @@ use Rattle.mbcr.proofs.Repair.{length-share}
 use Rattle.text_lines.proofs.Decimals.{decimal-most}
 use Rattle.printer.specs.declared.Parser.{Parser}
 use Rattle.printer.specs.Printer.{refusedLine, shared, printed}
-use Rattle.printer.specs.Machine.{begin, wrong, sizesRead, refusalOf, decided}
+use Rattle.printer.specs.Steps.{begin, wrong, sizesRead, refusalOf, decided}
 use Rattle.printer.proofs.Near.{shared-far}
 use Rattle.printer.proofs.Whole.{shared-long, shared-text}
 use Rattle.number_lines.proofs.Picks.{if-eq, if-ne, if-le}
 use Rattle.printer.proofs.Laws.{printer-laws}
-use Rattle.print_feed.specs.Feeding.{Feed, feedAll, feedParts}
+use Rattle.print_feed.specs.Steps.{Feed, feedAll, feedParts}
 use Rattle.print_feed.proofs.Laws.{feed-laws}
-use Rattle.print_share.specs.Writing.{Written, placed, toWrite}
+use Rattle.print_share.specs.Steps.{Written, placed, toWrite}
 use Rattle.print_share.specs.Laws.{shown, ShareLaws}
 use Rattle.print_share.proofs.Rooms.{share-room, text-room}
 use Rattle.print_share.proofs.Telling.{line-length, none-refused, output-refused, output-whole}

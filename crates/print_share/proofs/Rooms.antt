@@ -12,7 +12,7 @@ use borrow.Author.Tests.{ltb-true, ltb-false}
 use Rattle.sizes.specs.declared.Sizes.{Sizes}
 use Rattle.sizes.specs.Sizing.{α, B, stripes}
 use Rattle.sizes.proofs.Legal.{Legal, B-most, B-pos}
-use Rattle.board_statements.specs.Text.{decimal, shareText}
+use Rattle.board_spec.specs.Text.{decimal, shareText}
 use Rattle.text_lines.proofs.Decimals.{length-one, length-more}
 use Rattle.text_lines.proofs.Lines.{length-text}
 

@@ -27,17 +27,17 @@ use Rattle.sizes.proofs.Laws.{number-low}
 use Rattle.sizes.proofs.Lines.{first-clear}
 use Rattle.mbcr.specs.Share.{standard, share}
 use Rattle.mbcr.proofs.Repair.{length-share}
-use Rattle.board_statements.specs.Text.{decimal, shareText}
-use Rattle.board_statements.specs.Calls.{BoardOutcome, settled, shareLines, shareCall, textLines, textCall}
-use Rattle.text_lines.specs.Wrote.{Wrote}
+use Rattle.board_spec.specs.Text.{decimal, shareText}
+use Rattle.board_spec.specs.Calls.{BoardOutcome, settled, shareLines, shareCall, textLines, textCall}
+use Rattle.text_lines.specs.Steps.{Wrote}
 use Rattle.text_lines.proofs.Lines.{length-line, from-start}
 use Rattle.checks.specs.Outcomes.{outcome}
 use Rattle.printer.specs.declared.Parser.{Parser}
 use Rattle.printer.specs.Printer.{refusedLine, maxFile, told, shared}
-use Rattle.printer.specs.Machine.{sizesRead, refusalOf, decided}
+use Rattle.printer.specs.Steps.{sizesRead, refusalOf, decided}
 use Rattle.number_lines.proofs.Picks.{if-eq, if-ne, if-lt, if-le}
 use Rattle.printer.proofs.Room.{any-room}
-use Rattle.print_share.specs.Writing.{Written, placed, wroteIn, toWrite}
+use Rattle.print_share.specs.Steps.{Written, placed, wroteIn, toWrite}
 use Rattle.print_share.proofs.Rooms.{share-room}
 
 -- ---- bytes where there is room for them, and where there is none

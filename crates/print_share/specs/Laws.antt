@@ -8,9 +8,9 @@ use lib.ListN.{length, take}
 use Rattle.lists.specs.Lists.{concat}
 use Rattle.printer.specs.declared.Parser.{Parser}
 use Rattle.printer.specs.Printer.{refusedLine, printed}
-use Rattle.printer.specs.Machine.{begin, wrong, decided}
-use Rattle.print_feed.specs.Feeding.{feedParts}
-use Rattle.print_share.specs.Writing.{Written, placed, toWrite}
+use Rattle.printer.specs.Steps.{begin, wrong, decided}
+use Rattle.print_feed.specs.Steps.{feedParts}
+use Rattle.print_share.specs.Steps.{Written, placed, toWrite}
 
 -- the bytes that stand there
 abbrev pub shown : Written → List ℕ

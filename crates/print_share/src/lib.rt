@@ -4,9 +4,9 @@
 ghost use mathlib.Core.Path.{_≡_};
 ghost use lib.ListN.{length};
 ghost use Rattle.mbcr.specs.Share.{standard};
-ghost use Rattle.board_statements.specs.Calls.{shareCall, textCall};
+ghost use Rattle.board_spec.specs.Calls.{shareCall, textCall};
 ghost use Rattle.printer.specs.Printer.{refusedLine, told};
-ghost use Rattle.print_share.specs.Writing.{placed, wroteIn, toWrite};
+ghost use Rattle.print_share.specs.Steps.{placed, wroteIn, toWrite};
 use printer::Parser;
 use sizes::Answer;
 use sizes::Sizes;

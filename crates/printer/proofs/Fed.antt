@@ -6,7 +6,7 @@ use mathlib.Core.List.{[], _∷_}
 use Prim.Native.Nat.{ℕ}
 use Rattle.number_lines.proofs.Picks.{yes, no, if-eq, if-ne}
 use Rattle.printer.specs.declared.Parser.{Parser}
-use Rattle.printer.specs.Machine.{nameOf, counted, lineFed, taken, fed}
+use Rattle.printer.specs.Steps.{nameOf, counted, lineFed, taken, fed}
 
 pub name-rest : (x : ℕ) → (x ≡ 5 → ⊥) → (x ≡ 4 → ⊥) → (x ≡ 3 → ⊥) → (x ≡ 2 → ⊥) → nameOf x ≡ 0x6E ∷ 0x6F ∷ 0x64 ∷ 0x65 ∷ 0x3D ∷ []
 name-rest x a b c d = if-ne x 5 _ _ a ∙ if-ne x 4 _ _ b ∙ if-ne x 3 _ _ c ∙ if-ne x 2 _ _ d

@@ -8,9 +8,9 @@ use native.Mathlib.Omega.{arith}
 use Rattle.number_lines.specs.Lines.{line}
 use Rattle.number_lines.specs.Laws.{Number, spelled}
 use Rattle.number_lines.proofs.Laws.{line-laws}
-use Rattle.board_statements.specs.Demand1.{value}
-use Rattle.board_statements.specs.Text.{decimal, textLine}
-use Rattle.board_statements.proofs.Text.{text-laws}
+use Rattle.board_spec.specs.Demand1.{value}
+use Rattle.board_spec.specs.Text.{decimal, textLine}
+use Rattle.board_spec.proofs.Text.{text-laws}
 use Rattle.printer.specs.Printer.{refusedLine}
 use Rattle.printer.specs.Laws.{Begins}
 

@@ -11,7 +11,7 @@ use Rattle.sizes.specs.declared.Sizes.{Sizes}
 use Rattle.printer.specs.declared.Parser.{Parser}
 use Rattle.printer.specs.Laws.{PrinterLaws}
 use Rattle.printer.specs.Printer.{refusedLine, answered, printed}
-use Rattle.printer.specs.Machine.{nameOf, maxNumber, begin, wrong, fed, keep, runs}
+use Rattle.printer.specs.Steps.{nameOf, maxNumber, begin, wrong, fed, keep, runs}
 use Rattle.printer.proofs.Forms.{line-taken, line-else, decimal-taken}
 use Rattle.printer.proofs.Near.{held, heldSizes, answered-held}
 use Rattle.printer.proofs.Whole.{printed-for}

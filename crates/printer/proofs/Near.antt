@@ -16,9 +16,9 @@ use Rattle.number_lines.proofs.Capped.{capped-like}
 use Rattle.sizes.specs.declared.Sizes.{Sizes}
 use Rattle.sizes.specs.Sizing.{legal, B}
 use Rattle.sizes.proofs.Legal.{legal-no, legal-facts}
-use Rattle.board_statements.specs.Calls.{shareCall, shareLines}
+use Rattle.board_spec.specs.Calls.{shareCall, shareLines}
 use Rattle.printer.specs.Printer.{refusedLine, maxFile, shared, answered}
-use Rattle.printer.specs.Machine.{maxNumber}
+use Rattle.printer.specs.Steps.{maxNumber}
 
 -- a number as it is held
 abbrev pub held : ℕ → ℕ

@@ -19,7 +19,7 @@ use Rattle.sizes.specs.declared.Sizes.{Sizes}
 use Rattle.sizes.specs.Sizing.{legal}
 use Rattle.printer.specs.declared.Parser.{Parser}
 use Rattle.printer.specs.Printer.{refusedLine, maxFile, shared}
-use Rattle.printer.specs.Machine.{nameOf, maxNumber, wrong, stored, counted, lineFed, taken, fed, keep, sizesRead, refusalOf, decided}
+use Rattle.printer.specs.Steps.{nameOf, maxNumber, wrong, stored, counted, lineFed, taken, fed, keep, sizesRead, refusalOf, decided}
 use Rattle.printer.proofs.Fed.{fed-bad, fed-file, fed-line}
 
 -- the file's bytes: those kept, then the input

@@ -16,8 +16,8 @@ use Rattle.sizes.specs.declared.Refusal.the-variants.{Short}
 use Rattle.sizes.specs.Sizing.{α, stripes}
 use Rattle.sizes.specs.Refusals.{_when_, first, boardOrder}
 use Rattle.mbcr.specs.Share.{standard, share}
-use Rattle.board_statements.specs.Text.{shareText}
-use Rattle.board_statements.specs.Calls.{settled, sizeLine, longLine, nodeLine, shareLines, shareCall}
+use Rattle.board_spec.specs.Text.{shareText}
+use Rattle.board_spec.specs.Calls.{settled, sizeLine, longLine, nodeLine, shareLines, shareCall}
 use Rattle.printer.specs.Printer.{told, shared}
 
 told-same : (z : Sizes) (L node : ℕ) (c : Check) (bytes a b : List ℕ) → told z L node (settled c bytes a) ≡ told z L node (settled c bytes b)

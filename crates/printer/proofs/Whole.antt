@@ -15,8 +15,8 @@ use Rattle.lists.proofs.Pieces.{length-fit}
 use Rattle.sizes.specs.declared.Sizes.{Sizes}
 use Rattle.sizes.specs.Sizing.{legal, α, B, stripes}
 use Rattle.mbcr.specs.Share.{standard, share}
-use Rattle.board_statements.specs.Text.{decimal, shareText}
-use Rattle.board_statements.specs.Calls.{shareCall, shareLines}
+use Rattle.board_spec.specs.Text.{decimal, shareText}
+use Rattle.board_spec.specs.Calls.{shareCall, shareLines}
 use Rattle.printer.specs.Printer.{refusedLine, maxFile, shared, answered, printed}
 use Rattle.printer.specs.Laws.{asks, PrintedFor}
 use Rattle.number_lines.proofs.Picks.{yes, no, if-lt, if-le}

@@ -6,7 +6,7 @@ use mathlib.Core.List.{List, [], _∷_, _++_, map}
 use Prim.Native.Nat.{ℕ, suc}
 use lib.ListN.{take, replicate}
 use Rattle.lists.specs.Lists.{tabulate}
-use Rattle.board_statements.specs.Text.{textLine}
+use Rattle.board_spec.specs.Text.{textLine}
 use Rattle.printer.specs.Printer.{refusedLine, printed}
 use Rattle.printer.specs.Laws.{asks}
 

@@ -13,12 +13,12 @@ use Rattle.number_lines.specs.Laws.{Number}
 use Rattle.sizes.specs.declared.Sizes.{Sizes}
 use Rattle.sizes.specs.Sizing.{legal, α, B, stripes}
 use Rattle.mbcr.specs.Share.{standard, share}
-use Rattle.board_statements.specs.Calls.{shareCall}
-use Rattle.board_statements.specs.Demand1.{value}
-use Rattle.board_statements.specs.Text.{decimal, textLine, shareText}
+use Rattle.board_spec.specs.Calls.{shareCall}
+use Rattle.board_spec.specs.Demand1.{value}
+use Rattle.board_spec.specs.Text.{decimal, textLine, shareText}
 use Rattle.printer.specs.declared.Parser.{Parser}
 use Rattle.printer.specs.Printer.{refusedLine, told, shared, printed}
-use Rattle.printer.specs.Machine.{begin, wrong, runs}
+use Rattle.printer.specs.Steps.{begin, wrong, runs}
 
 -- the input begins with the line of a number
 pub record Begins (name input : List ℕ) : Type 0 where

@@ -10,8 +10,8 @@ use Rattle.number_lines.specs.Lines.{line}
 use Rattle.sizes.specs.declared.Sizes.{Sizes}
 use Rattle.sizes.specs.Sizing.{legal, α, stripes}
 use Rattle.mbcr.specs.Share.{standard}
-use Rattle.board_statements.specs.Text.{decimal, textLine, shareText}
-use Rattle.board_statements.specs.Calls.{BoardOutcome, shareCall}
+use Rattle.board_spec.specs.Text.{decimal, textLine, shareText}
+use Rattle.board_spec.specs.Calls.{BoardOutcome, shareCall}
 
 -- "one line `refused=` with the number"
 abbrev pub refusedLine : ℕ → List ℕ

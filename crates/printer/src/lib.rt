@@ -2,7 +2,7 @@
 ghost use mathlib.Core.Path.{_≡_};
 ghost use Prim.Native.Nat.{_≤_};
 ghost use Rattle.lists.specs.Tests.{pick};
-ghost use Rattle.printer.specs.Machine.{begin, wrong, stored, counted, lineFed, taken, fed, sizesRead, refusalOf};
+ghost use Rattle.printer.specs.Steps.{begin, wrong, stored, counted, lineFed, taken, fed, sizesRead, refusalOf};
 use number_lines::Read;
 use number_lines::Reader;
 use sizes::Sizes;

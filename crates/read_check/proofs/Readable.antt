@@ -13,10 +13,10 @@ use Rattle.sizes.specs.Refusals.{_when_}
 use Rattle.sizes.proofs.Legal.{legal-facts}
 use Rattle.mbcr.specs.Share.{standard}
 use Rattle.mbcr.proofs.Points.{boards-of, standard-points}
-use Rattle.board_statements.specs.Calls.{equalPoints, readRuns}
-use Rattle.board_statements.proofs.Runs.{read-runs}
-use Rattle.store_statements.specs.Record.{Record, sound, areaLen}
-use Rattle.checks.specs.Asked.{asked}
+use Rattle.board_spec.specs.Calls.{equalPoints, readRuns}
+use Rattle.board_spec.proofs.Runs.{read-runs}
+use Rattle.store_spec.specs.Record.{Record, sound, areaLen}
+use Rattle.checks.specs.Steps.{asked}
 use Rattle.checks.proofs.Answers.{passes}
 use Rattle.shared_checks.proofs.Facts.{ready, points-pass}
 

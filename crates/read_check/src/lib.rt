@@ -2,9 +2,9 @@
 ghost use mathlib.Core.Path.{_≡_};
 ghost use Rattle.sizes.specs.Refusals.{first, storeOrder};
 ghost use Rattle.mbcr.specs.Share.{standard};
-ghost use Rattle.store_statements.specs.Calls.{readLines};
-ghost use Rattle.store_checks.specs.Parts.{recordOf};
-ghost use Rattle.read_check.specs.Tables.{Tables};
+ghost use Rattle.store_spec.specs.Calls.{readLines};
+ghost use Rattle.store_checks.specs.Steps.{recordOf};
+ghost use Rattle.read_check.specs.Steps.{Tables};
 use sizes::Check;
 use sizes::Sizes;
 

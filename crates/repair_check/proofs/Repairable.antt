@@ -21,12 +21,12 @@ use Rattle.sizes.specs.Refusals.{_when_}
 use Rattle.sizes.proofs.Legal.{legal-facts}
 use Rattle.mbcr.specs.Share.{standard}
 use Rattle.mbcr.proofs.Points.{standard-points}
-use Rattle.board_statements.specs.Calls.{countLine, nodeLine, equalPoints}
-use Rattle.store_statements.specs.Record.{Record, areaLen}
-use Rattle.store_statements.specs.Packets.{repairRuns}
-use Rattle.store_statements.proofs.Records.{Repairs}
-use Rattle.store_statements.proofs.StepRepair.{repair-points}
-use Rattle.checks.specs.Asked.{asked}
+use Rattle.board_spec.specs.Calls.{countLine, nodeLine, equalPoints}
+use Rattle.store_spec.specs.Record.{Record, areaLen}
+use Rattle.store_spec.specs.Packets.{repairRuns}
+use Rattle.store_spec.proofs.Records.{Repairs}
+use Rattle.store_spec.proofs.StepRepair.{repair-points}
+use Rattle.checks.specs.Steps.{asked}
 use Rattle.checks.proofs.Answers.{passed, passes}
 use Rattle.store_checks.proofs.Repairs.{repeatOf, runsDiffer}
 use Rattle.shared_checks.proofs.Facts.{ready, points-pass}

@@ -2,8 +2,8 @@
 ghost use mathlib.Core.Path.{_≡_};
 ghost use Rattle.sizes.specs.Refusals.{first, storeOrder};
 ghost use Rattle.mbcr.specs.Share.{standard};
-ghost use Rattle.store_statements.specs.Calls.{repairLines};
-ghost use Rattle.store_checks.specs.Parts.{recordOf};
+ghost use Rattle.store_spec.specs.Calls.{repairLines};
+ghost use Rattle.store_checks.specs.Steps.{recordOf};
 use sizes::Check;
 use sizes::Sizes;
 

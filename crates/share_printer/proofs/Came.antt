@@ -15,13 +15,13 @@ use Rattle.lists.proofs.Tests.{true-false, is-false}
 use Rattle.io.specs.Counts.{clamped}
 use Rattle.printer.specs.declared.Parser.{Parser}
 use Rattle.printer.specs.Printer.{refusedLine, printed}
-use Rattle.printer.specs.Machine.{begin, wrong}
-use Rattle.print_feed.specs.Feeding.{Feed, feedAll}
+use Rattle.printer.specs.Steps.{begin, wrong}
+use Rattle.print_feed.specs.Steps.{Feed, feedAll}
 use Rattle.print_feed.proofs.Laws.{behind, feed-laws}
-use Rattle.print_share.specs.Writing.{Written, placed, toWrite}
+use Rattle.print_share.specs.Steps.{Written, placed, toWrite}
 use Rattle.print_share.specs.Laws.{shown}
 use Rattle.print_share.proofs.Laws.{share-laws}
-use Rattle.share_printer.specs.Reading.{unless, afterRead, Reading, Printing}
+use Rattle.share_printer.specs.Steps.{unless, afterRead, Reading, Printing}
 
 -- ---- one read
 

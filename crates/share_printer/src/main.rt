@@ -6,8 +6,8 @@ ghost use Prim.Native.Nat.{_≤_};
 ghost use lib.Dec.{ltb};
 ghost use lib.ListN.{length, take};
 ghost use Rattle.io.specs.Counts.{clamped};
-ghost use Rattle.printer.specs.Machine.{begin};
-ghost use Rattle.share_printer.specs.Reading.{afterRead, Reading, Printing};
+ghost use Rattle.printer.specs.Steps.{begin};
+ghost use Rattle.share_printer.specs.Steps.{afterRead, Reading, Printing};
 use printer::Parser;
 
 // The parser after a read, and whether the input may go on.

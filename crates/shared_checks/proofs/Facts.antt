@@ -19,11 +19,11 @@ use Rattle.sizes.specs.Refusals.{_when_, first, storeOrder}
 use Rattle.sizes.proofs.Legal.{legal-facts, stripes-least}
 use Rattle.sizes.proofs.Lines.{first-clear}
 use Rattle.mbcr.specs.Share.{standard}
-use Rattle.store_statements.specs.Record.{Record, sound, areaLen}
-use Rattle.store_statements.proofs.Records.{sound-facts}
-use Rattle.checks.specs.Asked.{asked}
+use Rattle.store_spec.specs.Record.{Record, sound, areaLen}
+use Rattle.store_spec.proofs.Records.{sound-facts}
+use Rattle.checks.specs.Steps.{asked}
 use Rattle.checks.proofs.Given.{no-points}
-use Rattle.shared_checks.specs.Lines.{areaLines, boardLines}
+use Rattle.shared_checks.specs.Steps.{areaLines, boardLines}
 
 pub record Lent (s : Record) (m : ℕ) : Type 0 where
   pub is-sound : sound s ≡ true

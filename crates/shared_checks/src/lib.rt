@@ -4,8 +4,8 @@ ghost use mathlib.Core.Path.{_≡_};
 ghost use mathlib.Core.Bool.{true};
 ghost use lib.ListN.{length};
 ghost use Rattle.sizes.specs.Refusals.{first, storeOrder};
-ghost use Rattle.store_checks.specs.Parts.{recordOf};
-ghost use Rattle.shared_checks.specs.Lines.{areaLines, boardLines};
+ghost use Rattle.store_checks.specs.Steps.{recordOf};
+ghost use Rattle.shared_checks.specs.Steps.{areaLines, boardLines};
 use sizes::Check;
 use sizes::Sizes;
 

@@ -8,8 +8,8 @@ use contract.Lifetimes.{Lfts}
 use denote.Ref.{now}
 use denote.Triple.Clauses.{AtExit}
 use borrow.Fn.Kinds.{Dens, endedOf}
-use Rattle.store_statements.specs.Calls.{setUpCall}
-use Rattle.store_statements.specs.Ledger.{write, lose, repair, read, act}
+use Rattle.store_spec.specs.Calls.{setUpCall}
+use Rattle.store_spec.specs.Ledger.{write, lose, repair, read, act}
 use Rattle.store.specs.declared.Handed.{Handed}
 use Rattle.store.specs.Handing.{recordIn, outcomeIn}
 use Rattle.store.specs.Demand3.{Meets}

@@ -6,11 +6,11 @@ use Prim.Native.Nat.{ℕ}
 use lib.ListN.{length}
 use Rattle.sizes.specs.declared.Sizes.{Sizes}
 use Rattle.mbcr.specs.Share.{standard}
-use Rattle.store_statements.specs.Record.{Record}
-use Rattle.store_statements.specs.Calls.{StoreOutcome}
-use Rattle.store_statements.specs.Ledger.{Step, State, Reply, replyOf, left, act, replies, final, openBook, bookFinal}
-use Rattle.store_statements.specs.Demand3.{Kept, begun, calls}
-use Rattle.store_statements.proofs.Demand3.{demand-3-standard}
+use Rattle.store_spec.specs.Record.{Record}
+use Rattle.store_spec.specs.Calls.{StoreOutcome}
+use Rattle.store_spec.specs.Ledger.{Step, State, Reply, replyOf, left, act, replies, final, openBook, bookFinal}
+use Rattle.store_spec.specs.Demand3.{Kept, begun, calls}
+use Rattle.store_spec.proofs.Demand3.{demand-3-standard}
 use Rattle.store.specs.declared.Store.{Store}
 use Rattle.store.specs.Handing.{recordIn}
 use Rattle.store.specs.Demand3.{Given, gave, Run, ending, CodeDemand3}

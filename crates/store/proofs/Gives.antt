@@ -6,11 +6,11 @@ use mathlib.Core.List.{List, []}
 use Prim.Native.Nat.{ℕ}
 use Rattle.sizes.specs.Refusals.{said, Said}
 use Rattle.mbcr.specs.Share.{standard}
-use Rattle.store_statements.specs.Record.{held}
-use Rattle.store_statements.specs.Calls.{StoreOutcome}
-use Rattle.store_statements.specs.Ledger.{repair, read, act}
-use Rattle.store_statements.specs.Demand3.{Repaired}
-use Rattle.store_statements.proofs.Demand3.{accepted-repair}
+use Rattle.store_spec.specs.Record.{held}
+use Rattle.store_spec.specs.Calls.{StoreOutcome}
+use Rattle.store_spec.specs.Ledger.{repair, read, act}
+use Rattle.store_spec.specs.Demand3.{Repaired}
+use Rattle.store_spec.proofs.Demand3.{accepted-repair}
 use Rattle.store.specs.declared.Store.{Store}
 use Rattle.store.specs.Handing.{recordIn}
 use Rattle.store.specs.Demand3.{Given, gave, Meets}

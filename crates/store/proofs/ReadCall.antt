@@ -18,11 +18,11 @@ use Rattle.sizes.proofs.Legal.{legal-facts}
 use Rattle.mbcr.specs.Share.{standard, shares}
 use Rattle.mbcr.specs.Read.{decodedFile, readFile}
 use Rattle.mbcr.proofs.Read.{length-decoded-file}
-use Rattle.board_statements.specs.Calls.{fileOf}
-use Rattle.store_statements.specs.Record.{Record, held}
-use Rattle.store_statements.specs.Calls.{StoreOutcome, accepted, refused, fileHeld, readLines, readDone, readCall}
-use Rattle.store_statements.proofs.Records.{sound-facts, read-facts}
-use Rattle.store_checks.specs.Parts.{recordOf}
+use Rattle.board_spec.specs.Calls.{fileOf}
+use Rattle.store_spec.specs.Record.{Record, held}
+use Rattle.store_spec.specs.Calls.{StoreOutcome, accepted, refused, fileHeld, readLines, readDone, readCall}
+use Rattle.store_spec.proofs.Records.{sound-facts, read-facts}
+use Rattle.store_checks.specs.Steps.{recordOf}
 use Rattle.store.proofs.Settled.{refused-by, done-by}
 
 found : (t : Bool) (l : List ℕ) → given (pick t (some l) none) ≡ true → fileOf (pick t (some l) none) ≡ l

@@ -13,13 +13,13 @@ use Rattle.sizes.specs.Sizing.{α}
 use Rattle.sizes.specs.Refusals.{first, storeOrder}
 use Rattle.sizes.proofs.Legal.{legal-facts}
 use Rattle.mbcr.specs.Share.{standard}
-use Rattle.store_statements.specs.Record.{Record, stripeCount, partLen, withMarks, turnOn}
-use Rattle.store_statements.specs.Calls.{StoreOutcome, accepted, refused, repairLines, repairDone, repairCall}
-use Rattle.store_statements.proofs.Records.{repair-facts, sound-facts}
-use Rattle.store_statements.proofs.Real.{code-lengths}
-use Rattle.store_statements.proofs.Repair.{moved-is}
-use Rattle.repair_hear.specs.Turns.{puts}
-use Rattle.store_repair.specs.Rebuilt.{rebuilt}
+use Rattle.store_spec.specs.Record.{Record, stripeCount, partLen, withMarks, turnOn}
+use Rattle.store_spec.specs.Calls.{StoreOutcome, accepted, refused, repairLines, repairDone, repairCall}
+use Rattle.store_spec.proofs.Records.{repair-facts, sound-facts}
+use Rattle.store_spec.proofs.Real.{code-lengths}
+use Rattle.store_spec.proofs.Repair.{moved-is}
+use Rattle.repair_hear.specs.Steps.{puts}
+use Rattle.store_repair.specs.Steps.{rebuilt}
 use Rattle.repair_seam.proofs.Repaired.{repaired}
 use Rattle.store.proofs.Settled.{refused-by, done-by}
 

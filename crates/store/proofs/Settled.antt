@@ -18,12 +18,12 @@ use Rattle.sizes.specs.Refusals.{first, storeOrder}
 use Rattle.sizes.proofs.Legal.{legal-facts}
 use Rattle.sizes.proofs.Lines.{first-clear}
 use Rattle.mbcr.specs.Share.{standard, share}
-use Rattle.store_statements.specs.Record.{Record, newRecord, writtenRecord, partLen, putShares}
-use Rattle.store_statements.specs.Calls.{StoreOutcome, accepted, refused, settle, recordLine, writeLines, writeDone, writeCall}
-use Rattle.store_statements.specs.Calls.{loseLines, loseDone, loseCall, setUpCall}
-use Rattle.store_statements.proofs.Records.{sound-facts}
-use Rattle.checks.specs.Asked.{asked}
-use Rattle.store_checks.specs.Parts.{recordOf}
+use Rattle.store_spec.specs.Record.{Record, newRecord, writtenRecord, partLen, putShares}
+use Rattle.store_spec.specs.Calls.{StoreOutcome, accepted, refused, settle, recordLine, writeLines, writeDone, writeCall}
+use Rattle.store_spec.specs.Calls.{loseLines, loseDone, loseCall, setUpCall}
+use Rattle.store_spec.proofs.Records.{sound-facts}
+use Rattle.checks.specs.Steps.{asked}
+use Rattle.store_checks.specs.Steps.{recordOf}
 
 -- a call whose check answers r: where that is a refusal, and where the check passes
 pub refused-by : {c r : Check} {x : Refusal} (out : Refusal → StoreOutcome) (done : StoreOutcome) → r ≡ c → r ≡ Refuse x → out x ≡ settle c out done

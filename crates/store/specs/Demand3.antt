@@ -8,9 +8,9 @@ use lib.ListN.{length}
 use Rattle.sizes.specs.declared.Sizes.{Sizes}
 use Rattle.sizes.specs.Refusals.{said}
 use Rattle.mbcr.specs.Share.{standard}
-use Rattle.store_statements.specs.Calls.{StoreOutcome, setUpCall}
-use Rattle.store_statements.specs.Ledger.{Call, repair, Step, State, Reply, replyOf, act, Allowed, openBook, bookReplies, bookFinal}
-use Rattle.store_statements.specs.Demand3.{Kept, Repaired, begun, calls}
+use Rattle.store_spec.specs.Calls.{StoreOutcome, setUpCall}
+use Rattle.store_spec.specs.Ledger.{Call, repair, Step, State, Reply, replyOf, act, Allowed, openBook, bookReplies, bookFinal}
+use Rattle.store_spec.specs.Demand3.{Kept, Repaired, begun, calls}
 use Rattle.store.specs.declared.Store.{Store}
 use Rattle.store.specs.declared.Handed.{Handed}
 use Rattle.store.specs.Handing.{recordIn, outcomeIn}

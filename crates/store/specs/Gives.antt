@@ -9,12 +9,12 @@ use Rattle.lists.specs.Tests.{every, among, different}
 use Rattle.lists.specs.Lists.{over}
 use Rattle.sizes.specs.Refusals.{said}
 use Rattle.mbcr.specs.Share.{standard}
-use Rattle.board_statements.specs.Calls.{fileOf}
-use Rattle.store_statements.specs.Record.{stripeCount, held}
-use Rattle.store_statements.specs.Packets.{freshShare}
-use Rattle.store_statements.specs.Calls.{accepted}
-use Rattle.store_statements.specs.Ledger.{repair, read, Book, Altered, bookLength}
-use Rattle.store_statements.specs.Demand3.{Kept}
+use Rattle.board_spec.specs.Calls.{fileOf}
+use Rattle.store_spec.specs.Record.{stripeCount, held}
+use Rattle.store_spec.specs.Packets.{freshShare}
+use Rattle.store_spec.specs.Calls.{accepted}
+use Rattle.store_spec.specs.Ledger.{repair, read, Book, Altered, bookLength}
+use Rattle.store_spec.specs.Demand3.{Kept}
 use Rattle.store.specs.declared.Store.{Store}
 use Rattle.store.specs.Handing.{recordIn}
 use Rattle.store.specs.Demand3.{Given, gave, Meets}

@@ -1,10 +1,10 @@
--- The store's record and what a call hands on, as the definitions of the crate `store_statements` have them.
+-- The store's record and what a call hands on, as the definitions of the crate `store_spec` have them.
 -- Assumes nothing.
 use mathlib.Core.List.{List}
 use Prim.Native.Nat.{ℕ}
 use Rattle.sizes.specs.Refusals.{said}
-use Rattle.store_statements.specs.Record.{Record}
-use Rattle.store_statements.specs.Calls.{StoreOutcome}
+use Rattle.store_spec.specs.Record.{Record}
+use Rattle.store_spec.specs.Calls.{StoreOutcome}
 use Rattle.store.specs.declared.Store.{Store}
 use Rattle.store.specs.declared.Handed.{Handed}
 

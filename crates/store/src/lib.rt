@@ -1,12 +1,12 @@
 //! Document 01, the store: its record, and the calls as methods by value. Each hands on a record beside its answer, and meets its definition in
-//! the crate `store_statements` at document 01's points, for all input: the answer, the record, and every lent byte.
+//! the crate `store_spec` at document 01's points, for all input: the answer, the record, and every lent byte.
 ghost use mathlib.Core.Path.{_≡_};
 ghost use mathlib.Core.List.{List, []};
 ghost use mathlib.Core.Bool.{true};
 ghost use Prim.Native.Nat.{ℕ, _+_, _*_, _-_, _≤_};
 ghost use Rattle.sizes.specs.Sizing.{legal};
 ghost use Rattle.mbcr.specs.Share.{standard};
-ghost use Rattle.store_statements.specs.Calls.{refused, setUpCall, writeCall, loseCall, repairCall, readCall};
+ghost use Rattle.store_spec.specs.Calls.{refused, setUpCall, writeCall, loseCall, repairCall, readCall};
 ghost use Rattle.store.specs.Handing.{recordIn, outcomeIn};
 use sizes::Answer;
 use sizes::Check;

@@ -12,10 +12,10 @@ use lib.Seq.{drop-cons, drop-drop}
 use Rattle.lists.specs.Tests.{pick, every, alls, below, different, apart}
 use Rattle.sizes.specs.declared.Refusal.the-variants.{Repeat}
 use Rattle.sizes.specs.Refusals.{Line, _when_}
-use Rattle.store_statements.specs.Record.{turnOn}
+use Rattle.store_spec.specs.Record.{turnOn}
 use Rattle.lists.proofs.Tests.{true-false, hold-alls}
-use Rattle.store_statements.specs.Packets.{hearHelpers}
-use Rattle.store_statements.proofs.Step.{both-below}
+use Rattle.store_spec.specs.Packets.{hearHelpers}
+use Rattle.store_spec.proofs.Step.{both-below}
 
 -- ---- NODE of two lists
 

@@ -10,8 +10,8 @@ use lib.ListN.{length, drop}
 use borrow.Author.Tests.{le-leb, lt-leb, eq-eqb, ne-eqb}
 use Rattle.sizes.specs.Sizing.{legal, B}
 use Rattle.lists.specs.Tests.{pick, alls}
-use Rattle.store_statements.specs.Record.{Record, allOff, sound}
-use Rattle.store_statements.proofs.Records.{unwritten}
+use Rattle.store_spec.specs.Record.{Record, allOff, sound}
+use Rattle.store_spec.proofs.Records.{unwritten}
 
 -- two tests at the end of a list of them
 ends : (b : Bool) → b ≡ pick (pick b true false) true false

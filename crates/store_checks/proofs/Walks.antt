@@ -10,7 +10,7 @@ use lib.ListN.{length, getD, drop, set, drop-of-length-le}
 use lib.Seq.{drop-cons}
 use Rattle.lists.specs.Lists.{tabulate}
 use Rattle.lists.specs.Tests.{every}
-use Rattle.store_statements.specs.Record.{allOff}
+use Rattle.store_spec.specs.Record.{allOff}
 
 module _ (l : List Bool) (i : ℕ) (h : i < length l) where
   pub off-no : getD l i false ≡ true → allOff (drop i l) ≡ false

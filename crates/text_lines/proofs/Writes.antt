@@ -11,8 +11,8 @@ use lib.Seq.{sets-eq, take-suc, length-take-le}
 use Rattle.lists.specs.Lists.{put, joined}
 use Rattle.lists.proofs.Put.{length-put, put-append}
 use Rattle.lists.proofs.Pieces.{length-joined}
-use Rattle.board_statements.specs.Text.{hexDigit, hexPair}
-use Rattle.text_lines.specs.Wrote.{Wrote}
+use Rattle.board_spec.specs.Text.{hexDigit, hexPair}
+use Rattle.text_lines.specs.Steps.{Wrote}
 
 -- no byte
 pub none : (l : List ℕ) (at : ℕ) → Wrote l at [] l at

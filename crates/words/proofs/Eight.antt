@@ -9,7 +9,7 @@ use mir.Val.{boolByte}
 use lib.Dec.{eqb}
 use lib.ListN.{length, getD, set}
 use Rattle.lists.specs.Tests.{pick}
-use Rattle.store_statements.specs.Record.{Record}
+use Rattle.store_spec.specs.Record.{Record}
 use Rattle.words.specs.Words.{bits, fromBits, recordFrom, wordsOf}
 
 pub all-set : (ws : List ℕ) (a b c d e f g h : ℕ) → length ws ≡ 8

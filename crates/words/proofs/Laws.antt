@@ -12,7 +12,7 @@ use borrow.Author.Tests.{lt-ltb}
 use Rattle.lists.specs.Tests.{pick}
 use Rattle.lists.proofs.Tests.{hold-alls}
 use Rattle.lists.proofs.Pieces.{tabulate-getD}
-use Rattle.store_statements.specs.Record.{Record}
+use Rattle.store_spec.specs.Record.{Record}
 use Rattle.words.specs.Words.{bits, fromBits, isRecord, recordFrom, wordsOf}
 use Rattle.words.specs.Laws.{WordLaws}
 use Rattle.words.proofs.Bits.{power, bit-few, number-few, words-facts}

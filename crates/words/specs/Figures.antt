@@ -6,7 +6,7 @@ use mathlib.Core.Bool.{Bool, true, false}
 use mathlib.Core.List.{List, [], _∷_, _++_, map}
 use Prim.Native.Nat.{ℕ}
 use lib.ListN.{replicate}
-use Rattle.store_statements.specs.Record.{Record}
+use Rattle.store_spec.specs.Record.{Record}
 use Rattle.words.specs.Words.{isRecord, recordFrom, wordsOf}
 
 -- n = 7, k = 2, d = 4, r = 3, C = 5, a file of 6 bytes, boards 0 and 3 in service

@@ -8,7 +8,7 @@ use lib.ListN.{length, getD}
 use Rattle.lists.specs.Tests.{pick, alls}
 use Rattle.sizes.specs.declared.Sizes.{Sizes}
 use Rattle.sizes.specs.Sizing.{maxBoards}
-use Rattle.store_statements.specs.Record.{Record}
+use Rattle.store_spec.specs.Record.{Record}
 
 -- the lowest m bits of a number, the lowest first
 abbrev pub bits : ℕ → ℕ → List Bool

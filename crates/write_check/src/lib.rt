@@ -1,8 +1,8 @@
 //! The check of a write: its lines in document 01's order. Each check's answer is taken apart, and a refusal returned early.
 ghost use mathlib.Core.Path.{_≡_};
 ghost use Rattle.sizes.specs.Refusals.{first, storeOrder};
-ghost use Rattle.store_statements.specs.Calls.{writeLines};
-ghost use Rattle.store_checks.specs.Parts.{recordOf};
+ghost use Rattle.store_spec.specs.Calls.{writeLines};
+ghost use Rattle.store_checks.specs.Steps.{recordOf};
 use sizes::Check;
 use sizes::Sizes;
 

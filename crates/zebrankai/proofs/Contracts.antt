@@ -10,8 +10,8 @@ use denote.Ref.{now}
 use denote.Triple.Clauses.{AtExit}
 use borrow.Fn.Kinds.{Dens, endedOf}
 use Rattle.mbcr.specs.Share.{standard}
-use Rattle.board_statements.specs.Calls.{BoardOutcome, shareCall, fileCall, helperCall, exchangeCall, finishedCall, textCall}
-use Rattle.store_statements.specs.Ledger.{write, lose, repair, read, act}
+use Rattle.board_spec.specs.Calls.{BoardOutcome, shareCall, fileCall, helperCall, exchangeCall, finishedCall, textCall}
+use Rattle.store_spec.specs.Ledger.{write, lose, repair, read, act}
 use Rattle.answer_word.specs.Answers.{wordOf}
 use Rattle.zebrankai.specs.Archive.{sizesOf}
 use Rattle.zebrankai.specs.Lent.{Lent, zbkSetUp, zbkWrite, zbkRepair, zbkRead, zbk}

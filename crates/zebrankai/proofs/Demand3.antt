@@ -20,17 +20,17 @@ use Rattle.sizes.specs.Sizing.{legal, maxStripes}
 use Rattle.sizes.specs.Refusals.{number, first, storeOrder}
 use Rattle.sizes.proofs.Laws.{number-low}
 use Rattle.mbcr.specs.Share.{standard}
-use Rattle.store_statements.specs.Record.{Record, newRecord}
-use Rattle.store_statements.specs.Packets.{total, repairPackets}
-use Rattle.store_statements.specs.Calls.{StoreOutcome, accepted, settle, refused, recordLine, setUpCall, repairLines, repairDone, repairCall}
-use Rattle.store_statements.specs.Ledger.{Call, read, Book, State, Step, Altered, Allowed, outputOf, left, act, stepOutcome, replies, final, openBook, enter, bookFinal}
-use Rattle.board_statements.specs.Calls.{fileOf}
-use Rattle.store_statements.specs.Demand3.{Kept, Demand3, begun, calls}
-use Rattle.store_statements.proofs.Demand3.{demand-3-standard, accepted-repair}
-use Rattle.store_statements.proofs.Demand1.{demand-1}
-use Rattle.store_statements.proofs.MarkLaws.{mark-laws}
-use Rattle.store_statements.proofs.Premises.{as-it-was, fair}
-use Rattle.store_statements.specs.Premises.{files}
+use Rattle.store_spec.specs.Record.{Record, newRecord}
+use Rattle.store_spec.specs.Packets.{total, repairPackets}
+use Rattle.store_spec.specs.Calls.{StoreOutcome, accepted, settle, refused, recordLine, setUpCall, repairLines, repairDone, repairCall}
+use Rattle.store_spec.specs.Ledger.{Call, read, Book, State, Step, Altered, Allowed, outputOf, left, act, stepOutcome, replies, final, openBook, enter, bookFinal}
+use Rattle.board_spec.specs.Calls.{fileOf}
+use Rattle.store_spec.specs.Demand3.{Kept, Demand3, begun, calls}
+use Rattle.store_spec.proofs.Demand3.{demand-3-standard, accepted-repair}
+use Rattle.store_spec.proofs.Demand1.{demand-1}
+use Rattle.store_spec.proofs.MarkLaws.{mark-laws}
+use Rattle.store_spec.proofs.Premises.{as-it-was, fair}
+use Rattle.store_spec.specs.Premises.{files}
 use Rattle.answer_word.specs.Answers.{wordOf}
 use Rattle.answer_word.proofs.Laws.{answer-laws}
 use Rattle.words.specs.Words.{isRecord, recordFrom, wordsOf}

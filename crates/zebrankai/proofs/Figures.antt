@@ -7,9 +7,9 @@ use Rattle.sizes.specs.Sizing.{legal, B, stripes}
 use Rattle.mbcr.specs.Share.{stripe, grid, F, neighbours, symbols, kept, share, shares}
 use Rattle.mbcr.specs.Rebuild.{received, exchanged, ownF, ownG, helperPair, helperPacket, gFrom, exchangePacket, fFrom, finishedStripe, finishedShare}
 use Rattle.mbcr.specs.Read.{through, bColumn, cRow, aColumn, decodedStripe, decodedFile, readFile}
-use Rattle.store_statements.specs.Record.{sound}
-use Rattle.store_statements.specs.Packets.{helperPackets, exchangePackets, repairPackets, freshShare}
-use Rattle.store_statements.specs.Calls.{writeLines, loseLines, repairLines, readLines, setUpCall, writeCall, loseCall, repairCall, readCall}
+use Rattle.store_spec.specs.Record.{sound}
+use Rattle.store_spec.specs.Packets.{helperPackets, exchangePackets, repairPackets, freshShare}
+use Rattle.store_spec.specs.Calls.{writeLines, loseLines, repairLines, readLines, setUpCall, writeCall, loseCall, repairCall, readCall}
 use Rattle.words.specs.Words.{isRecord}
 use Rattle.zebrankai.specs.Lent.{zbkSetUp, zbkWrite, zbkLose, zbkRepair, zbkRead}
 use Rattle.zebrankai.specs.Figures.{ArchiveFigures}

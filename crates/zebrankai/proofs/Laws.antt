@@ -17,13 +17,13 @@ use Rattle.sizes.specs.Sizing.{stripes}
 use Rattle.mbcr.specs.Share.{standard, share}
 use Rattle.mbcr.specs.Rebuild.{helperPacket, exchangePacket, finishedShare}
 use Rattle.mbcr.specs.Read.{readFile}
-use Rattle.board_statements.specs.Calls.{settled, fileOf, shareLines, shareCall, fileLines, fileCall, helperLines, helperCall}
-use Rattle.board_statements.specs.Calls.{exchangeLines, exchangeCall, finishedLines, finishedCall, textLines, textCall}
-use Rattle.board_statements.specs.Text.{shareText}
-use Rattle.store_statements.specs.Record.{newRecord}
-use Rattle.store_statements.specs.Calls.{StoreOutcome, setUpCall}
-use Rattle.store_statements.specs.Ledger.{Call, act, outputOf}
-use Rattle.store_statements.proofs.MarkLaws.{mark-laws}
+use Rattle.board_spec.specs.Calls.{settled, fileOf, shareLines, shareCall, fileLines, fileCall, helperLines, helperCall}
+use Rattle.board_spec.specs.Calls.{exchangeLines, exchangeCall, finishedLines, finishedCall, textLines, textCall}
+use Rattle.board_spec.specs.Text.{shareText}
+use Rattle.store_spec.specs.Record.{newRecord}
+use Rattle.store_spec.specs.Calls.{StoreOutcome, setUpCall}
+use Rattle.store_spec.specs.Ledger.{Call, act, outputOf}
+use Rattle.store_spec.proofs.MarkLaws.{mark-laws}
 use Rattle.answer_word.specs.Answers.{wordOf}
 use Rattle.words.specs.Words.{isRecord, recordFrom, wordsOf}
 use Rattle.words.proofs.Laws.{word-laws}

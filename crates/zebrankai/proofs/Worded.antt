@@ -17,14 +17,14 @@ use Rattle.sizes.specs.Refusals.{said, first, storeOrder}
 use Rattle.sizes.proofs.Laws.{number-low}
 use Rattle.sizes.proofs.Legal.{legal-facts, α-most, stripes-least}
 use Rattle.mbcr.specs.Share.{standard}
-use Rattle.store_statements.specs.Record.{Record, newRecord, stripeCount}
-use Rattle.store_statements.specs.Calls.{StoreOutcome, accepted, refused, settle, recordLine, setUpCall}
-use Rattle.store_statements.specs.Calls.{writeLines, writeDone, writeCall, loseLines, loseDone, loseCall}
-use Rattle.store_statements.specs.Calls.{repairLines, repairDone, repairCall, readLines, readDone, readCall}
-use Rattle.store_statements.specs.Ledger.{lose, act}
-use Rattle.store_statements.proofs.Records.{sound-facts, repair-facts}
-use Rattle.store_statements.proofs.Real.{code-lengths}
-use Rattle.store_statements.proofs.Repair.{moved-is}
+use Rattle.store_spec.specs.Record.{Record, newRecord, stripeCount}
+use Rattle.store_spec.specs.Calls.{StoreOutcome, accepted, refused, settle, recordLine, setUpCall}
+use Rattle.store_spec.specs.Calls.{writeLines, writeDone, writeCall, loseLines, loseDone, loseCall}
+use Rattle.store_spec.specs.Calls.{repairLines, repairDone, repairCall, readLines, readDone, readCall}
+use Rattle.store_spec.specs.Ledger.{lose, act}
+use Rattle.store_spec.proofs.Records.{sound-facts, repair-facts}
+use Rattle.store_spec.proofs.Real.{code-lengths}
+use Rattle.store_spec.proofs.Repair.{moved-is}
 use Rattle.store.specs.declared.Store.{Store}
 use Rattle.store.specs.declared.Handed.{Handed}
 use Rattle.store.specs.Handing.{recordIn, outcomeIn}

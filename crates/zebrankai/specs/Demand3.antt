@@ -13,12 +13,12 @@ use Rattle.lists.specs.Lists.{All, Bytes, over}
 use Rattle.sizes.specs.declared.Sizes.{Sizes}
 use Rattle.sizes.specs.Sizing.{legal, maxStripes}
 use Rattle.mbcr.specs.Share.{standard}
-use Rattle.board_statements.specs.Calls.{fileOf}
-use Rattle.store_statements.specs.Record.{held}
-use Rattle.store_statements.specs.Packets.{total, repairPackets, freshShare}
-use Rattle.store_statements.specs.Ledger.{Call, repair, read, Reply, Book, State, Step, Altered, Fair, openBook, bookLength, enter, bookReplies, bookFinal}
-use Rattle.store_statements.specs.Demand3.{Kept, Repaired, calls}
-use Rattle.store_statements.specs.Premises.{files}
+use Rattle.board_spec.specs.Calls.{fileOf}
+use Rattle.store_spec.specs.Record.{held}
+use Rattle.store_spec.specs.Packets.{total, repairPackets, freshShare}
+use Rattle.store_spec.specs.Ledger.{Call, repair, read, Reply, Book, State, Step, Altered, Fair, openBook, bookLength, enter, bookReplies, bookFinal}
+use Rattle.store_spec.specs.Demand3.{Kept, Repaired, calls}
+use Rattle.store_spec.specs.Premises.{files}
 use Rattle.answer_word.specs.Answers.{wordOf}
 use Rattle.words.specs.Words.{isRecord, recordFrom}
 use Rattle.zebrankai.specs.Lent.{Lent, zbkSetUp, zbk}

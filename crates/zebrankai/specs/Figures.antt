@@ -5,7 +5,7 @@ use mathlib.Core.Path.{_≡_}
 use mathlib.Core.List.{List, [], _∷_}
 use Prim.Native.Nat.{ℕ}
 use lib.ListN.{replicate}
-use Rattle.store_statements.specs.Ledger.{write, lose, repair, read, Step}
+use Rattle.store_spec.specs.Ledger.{write, lose, repair, read, Step}
 use Rattle.zebrankai.specs.Archive.{sizesOf}
 use Rattle.zebrankai.specs.Lent.{Lent, zbkSetUp, zbkLose}
 use Rattle.zebrankai.specs.Demand3.{lents}

@@ -6,8 +6,8 @@ use mathlib.Core.List.{List, []}
 use Prim.Native.Nat.{ℕ, _*_}
 use Rattle.sizes.specs.declared.Sizes.{Sizes}
 use Rattle.mbcr.specs.Share.{standard}
-use Rattle.board_statements.specs.Calls.{BoardOutcome, shareCall, fileCall, helperCall, exchangeCall, finishedCall, textCall}
-use Rattle.store_statements.specs.Ledger.{Call, outputOf}
+use Rattle.board_spec.specs.Calls.{BoardOutcome, shareCall, fileCall, helperCall, exchangeCall, finishedCall, textCall}
+use Rattle.store_spec.specs.Ledger.{Call, outputOf}
 use Rattle.answer_word.specs.Answers.{wordOf}
 use Rattle.zebrankai.specs.Lent.{Lent, zbkSetUp, zbk}
 

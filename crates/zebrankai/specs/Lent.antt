@@ -10,9 +10,9 @@ use Rattle.sizes.specs.declared.Refusal.the-variants.{Size}
 use Rattle.sizes.specs.declared.Answer.the-variants.{Refused}
 use Rattle.sizes.specs.Refusals.{said}
 use Rattle.mbcr.specs.Share.{standard}
-use Rattle.store_statements.specs.Record.{Record, newRecord}
-use Rattle.store_statements.specs.Calls.{StoreOutcome, setUpCall, writeCall, loseCall, repairCall, readCall}
-use Rattle.store_statements.specs.Ledger.{Call, act, outputOf}
+use Rattle.store_spec.specs.Record.{Record, newRecord}
+use Rattle.store_spec.specs.Calls.{StoreOutcome, setUpCall, writeCall, loseCall, repairCall, readCall}
+use Rattle.store_spec.specs.Ledger.{Call, act, outputOf}
 use Rattle.answer_word.specs.Answers.{wordOf}
 use Rattle.words.specs.Words.{isRecord, recordFrom, wordsOf}
 

@@ -1,11 +1,11 @@
 //! The archive for C and Rust: every call of the board level and of the store under a C name, for all input, without `requires`.
-//! Each meets its definition at document 01's points, in the crates `board_statements` and `store_statements`: the answer as one word, and
+//! Each meets its definition at document 01's points, in the crates `board_spec` and `store_spec`: the answer as one word, and
 //! every word and byte that it was lent. A slice is a pointer and a length. A record is a lent slice of eight words: n, k, d, r, capacity,
 //! written, length, marks. An answer has the refusal's number in its low eight bits, 0 where there is none, and the number reported above them.
 ghost use mathlib.Core.Path.{_≡_};
 ghost use mathlib.Core.List.{[]};
 ghost use Rattle.mbcr.specs.Share.{standard};
-ghost use Rattle.board_statements.specs.Calls.{shareCall, fileCall, helperCall, exchangeCall, finishedCall, textCall};
+ghost use Rattle.board_spec.specs.Calls.{shareCall, fileCall, helperCall, exchangeCall, finishedCall, textCall};
 ghost use Rattle.answer_word.specs.Answers.{wordOf};
 ghost use Rattle.zebrankai.specs.Archive.{sizesOf};
 ghost use Rattle.zebrankai.specs.Lent.{zbkSetUp, zbkWrite, zbkLose, zbkRepair, zbkRead};

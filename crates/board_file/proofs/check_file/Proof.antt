@@ -19,8 +19,8 @@ use Rattle.sizes.proofs.Legal.{legal-facts, α-most}
 use Rattle.mbcr.specs.Share.{standard}
 use Rattle.mbcr.specs.Read.{readFile}
 use Rattle.mbcr.proofs.Points.{standard-points}
-use Rattle.board_statements.specs.Calls.{countLine, nodeLine, repeatLine, areaLine, shortLine, equalPoints, readRuns, fileLines}
-use Rattle.checks.specs.Asked.{asked, statedLines}
+use Rattle.board_spec.specs.Calls.{countLine, nodeLine, repeatLine, areaLine, shortLine, equalPoints, readRuns, fileLines}
+use Rattle.checks.specs.Steps.{asked, statedLines}
 use Rattle.checks.proofs.Chain.{thens, grouped, goes-on, refuses, ends}
 use Rattle.checks.proofs.Facts.{Stated, stated-facts}
 use Rattle.checks.proofs.Given.{as-many, few-bytes}

@@ -19,9 +19,9 @@ use Rattle.sizes.specs.Refusals.{Line, _when_, first, boardOrder}
 use Rattle.sizes.proofs.Legal.{Legal, legal-facts, α-most}
 use Rattle.mbcr.specs.Share.{standard}
 use Rattle.mbcr.proofs.Points.{standard-points}
-use Rattle.board_statements.specs.Calls.{nodeLine, repeatLine, areaLine, shortLine, equalPoints, ownRuns, helperLines}
-use Rattle.board_statements.proofs.Runs.{own-runs}
-use Rattle.checks.specs.Asked.{asked, statedLines}
+use Rattle.board_spec.specs.Calls.{nodeLine, repeatLine, areaLine, shortLine, equalPoints, ownRuns, helperLines}
+use Rattle.board_spec.proofs.Runs.{own-runs}
+use Rattle.checks.specs.Steps.{asked, statedLines}
 use Rattle.checks.proofs.Answers.{passed}
 use Rattle.checks.proofs.Given.{as-many, few-bytes}
 use Rattle.checks.proofs.Chain.{thens, grouped, goes-on, refuses, ends}

@@ -13,9 +13,9 @@ use Rattle.sizes.specs.Sizing.{α, stripes}
 use Rattle.sizes.specs.Refusals.{Line, first, boardOrder}
 use Rattle.sizes.proofs.Legal.{legal-facts, α-most}
 use Rattle.mbcr.specs.Share.{standard}
-use Rattle.board_statements.specs.Text.{shareText}
-use Rattle.board_statements.specs.Calls.{nodeLine, areaLine, shortLine, textLines}
-use Rattle.checks.specs.Asked.{asked, statedLines}
+use Rattle.board_spec.specs.Text.{shareText}
+use Rattle.board_spec.specs.Calls.{nodeLine, areaLine, shortLine, textLines}
+use Rattle.checks.specs.Steps.{asked, statedLines}
 use Rattle.checks.proofs.Chain.{thens, grouped, goes-on, refuses, ends}
 use Rattle.checks.proofs.Facts.{Stated, stated-facts}
 use Rattle.checks.proofs.Given.{as-many, few-bytes}

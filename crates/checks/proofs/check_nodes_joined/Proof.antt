@@ -9,8 +9,8 @@ use Rattle.lists.specs.Tests.{below}
 use Rattle.sizes.specs.declared.Refusal.the-variants.{Node}
 use Rattle.sizes.specs.declared.Check.the-variants.{Refuse}
 use Rattle.sizes.specs.Refusals.{_when_}
-use Rattle.board_statements.specs.Calls.{nodeLine}
-use Rattle.checks.specs.Asked.{asked}
+use Rattle.board_spec.specs.Calls.{nodeLine}
+use Rattle.checks.specs.Steps.{asked}
 use Rattle.checks.proofs.Answers.{refuses}
 use Rattle.checks.proofs.Joined.{below-left, below-mid, below-last}
 use Rattle.checks.proofs.check_nodes_joined.Statement.{statement}

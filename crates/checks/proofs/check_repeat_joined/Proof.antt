@@ -8,8 +8,8 @@ use borrow.Author.Needs.{needs}
 use Rattle.lists.specs.Tests.{different}
 use Rattle.sizes.specs.declared.Refusal.the-variants.{Repeat}
 use Rattle.sizes.specs.declared.Check.the-variants.{Refuse}
-use Rattle.board_statements.specs.Calls.{repeatLine}
-use Rattle.checks.specs.Asked.{asked}
+use Rattle.board_spec.specs.Calls.{repeatLine}
+use Rattle.checks.specs.Steps.{asked}
 use Rattle.checks.proofs.Answers.{passes, refuses}
 use Rattle.checks.proofs.Joined.{twice-left, twice-mid, shared, last-left, last-mid, all-apart}
 use Rattle.checks.proofs.check_repeat_joined.Statement.{statement}

@@ -9,8 +9,8 @@ use Rattle.sizes.specs.declared.Check.{Check}
 use Rattle.sizes.specs.declared.Check.the-variants.{Refuse}
 use Rattle.sizes.specs.Sizing.{legal}
 use Rattle.sizes.specs.Refusals.{Line, first, boardOrder}
-use Rattle.board_statements.specs.Calls.{sizeLine, longLine}
-use Rattle.checks.specs.Asked.{statedLines}
+use Rattle.board_spec.specs.Calls.{sizeLine, longLine}
+use Rattle.checks.specs.Steps.{statedLines}
 use Rattle.checks.proofs.Answers.{passed}
 use Rattle.checks.proofs.Chain.{thens, grouped, goes-on, refuses, ends}
 use Rattle.checks.proofs.check_stated.Statement.{statement}

@@ -9,8 +9,8 @@ use native.Mathlib.Omega.{arith}
 use lib.ListN.{length, getD, drop, drop-of-length-le}
 use lib.Seq.{drop-cons}
 use Rattle.printer.specs.declared.Parser.{Parser}
-use Rattle.printer.specs.Machine.{fed}
-use Rattle.print_feed.specs.Feeding.{Feed, keptIn, feedAll}
+use Rattle.printer.specs.Steps.{fed}
+use Rattle.print_feed.specs.Steps.{Feed, keptIn, feedAll}
 use Rattle.print_feed.proofs.Kept.{in-length}
 use borrow.Author.Needs.{needs}
 use Rattle.print_feed.proofs.feed_all.Statement.{statement}

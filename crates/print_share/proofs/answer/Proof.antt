@@ -7,9 +7,9 @@ use lib.ListN.{length, take, replicate, length-replicate}
 use lib.Seq.{length-take-le}
 use Rattle.sizes.specs.declared.Sizes.{Sizes}
 use Rattle.mbcr.specs.Share.{standard}
-use Rattle.board_statements.specs.Calls.{shareCall}
+use Rattle.board_spec.specs.Calls.{shareCall}
 use Rattle.printer.specs.Printer.{refusedLine, told}
-use Rattle.print_share.specs.Writing.{placed}
+use Rattle.print_share.specs.Steps.{placed}
 use Rattle.print_share.proofs.Telling.{nothing, output-refused, output-lacks, output-told}
 use borrow.Author.Needs.{needs}
 use Rattle.print_share.proofs.answer.Statement.{statement}

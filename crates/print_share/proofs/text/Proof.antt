@@ -3,7 +3,7 @@
 use mathlib.Core.Path.{sym, ap, _∙_}
 use Rattle.sizes.specs.declared.Answer.{Answer}
 use Rattle.checks.specs.Outcomes.{outcome}
-use Rattle.print_share.specs.Writing.{wroteIn}
+use Rattle.print_share.specs.Steps.{wroteIn}
 use borrow.Author.Needs.{needs}
 use Rattle.print_share.proofs.text.Statement.{statement}
 use Rattle.print_share.proofs.text.Tie as tie

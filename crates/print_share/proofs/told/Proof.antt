@@ -8,10 +8,10 @@ use lib.Seq.{length-take-le}
 use Rattle.sizes.specs.declared.Answer.{Answer}
 use Rattle.sizes.specs.declared.Answer.the-variants.{Done, Refused}
 use Rattle.mbcr.specs.Share.{standard}
-use Rattle.board_statements.specs.Calls.{BoardOutcome, shareCall, textCall}
+use Rattle.board_spec.specs.Calls.{BoardOutcome, shareCall, textCall}
 use Rattle.checks.specs.Outcomes.{outcome}
 use Rattle.printer.specs.Printer.{refusedLine, told}
-use Rattle.print_share.specs.Writing.{placed, wroteIn}
+use Rattle.print_share.specs.Steps.{placed, wroteIn}
 use Rattle.print_share.proofs.Telling.{share-done, share-refused}
 use borrow.Author.Needs.{needs}
 use Rattle.print_share.proofs.told.Statement.{statement}

@@ -1,7 +1,7 @@
 -- `printer::feed` meets its contract, case by case.
 -- Assumes nothing.
 use mathlib.Core.Path.{sym, ap, _∙_}
-use Rattle.printer.specs.Machine.{taken}
+use Rattle.printer.specs.Steps.{taken}
 use Rattle.printer.proofs.Fed.{fed-bad, fed-file, fed-line}
 use borrow.Author.Needs.{needs}
 use Rattle.printer.proofs.feed.Statement.{statement}

@@ -4,7 +4,7 @@ use mathlib.Core.Path.{sym, ap, _∙_}
 use mathlib.Core.List.{List}
 use Prim.Native.Nat.{ℕ}
 use Rattle.number_lines.specs.Steps as steps
-use Rattle.printer.specs.Machine.{maxNumber}
+use Rattle.printer.specs.Steps.{maxNumber}
 use Rattle.printer.proofs.Fed.{name-rest}
 use borrow.Author.Needs.{needs}
 use Rattle.printer.proofs.feed_line.Statement.{statement}

@@ -6,7 +6,7 @@ use lib.Dec.{ltb}
 use Rattle.lists.specs.Tests.{pick}
 use Rattle.sizes.specs.Sizing.{legal}
 use Rattle.printer.specs.Printer.{maxFile}
-use Rattle.printer.specs.Machine.{sizesRead, refusalOf}
+use Rattle.printer.specs.Steps.{sizesRead, refusalOf}
 use Rattle.number_lines.proofs.Picks.{yes, no, if-eq, if-ne, if-lt, if-le}
 use borrow.Author.Needs.{needs}
 use Rattle.printer.proofs.refusal.Statement.{statement}

@@ -4,7 +4,7 @@ use mathlib.Core.Path.{ap}
 use mathlib.Core.Bool.{false}
 use Rattle.number_lines.specs.declared.Reader.{Reader}
 use Rattle.printer.specs.declared.Parser.{Parser}
-use Rattle.printer.specs.Machine.{begin, moved}
+use Rattle.printer.specs.Steps.{begin, moved}
 use borrow.Author.Needs.{needs}
 use Rattle.printer.proofs.start.Statement.{statement}
 use Rattle.printer.proofs.start.Tie as tie

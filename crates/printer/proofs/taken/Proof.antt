@@ -1,7 +1,7 @@
 -- `printer::taken` meets its contract: each arm has what the byte gave.
 -- Assumes nothing.
 use mathlib.Core.Path.{sym, ap, _∙_}
-use Rattle.printer.specs.Machine.{taken}
+use Rattle.printer.specs.Steps.{taken}
 use borrow.Author.Needs.{needs}
 use Rattle.printer.proofs.taken.Statement.{statement}
 use Rattle.printer.proofs.taken.Tie as tie

@@ -12,12 +12,12 @@ use Rattle.sizes.specs.declared.Check.{Check}
 use Rattle.sizes.specs.declared.Check.the-variants.{Pass, Refuse}
 use Rattle.sizes.specs.Refusals.{Line, _when_, first, storeOrder}
 use Rattle.mbcr.specs.Share.{standard}
-use Rattle.board_statements.specs.Calls.{shortLine, equalPoints, readRuns}
-use Rattle.store_statements.specs.Record.{Record}
-use Rattle.store_statements.specs.Calls.{emptyLine, fileHeld, readLines}
-use Rattle.checks.specs.Asked.{asked}
-use Rattle.store_checks.specs.Parts.{recordOf}
-use Rattle.shared_checks.specs.Lines.{areaLines, boardLines}
+use Rattle.board_spec.specs.Calls.{shortLine, equalPoints, readRuns}
+use Rattle.store_spec.specs.Record.{Record}
+use Rattle.store_spec.specs.Calls.{emptyLine, fileHeld, readLines}
+use Rattle.checks.specs.Steps.{asked}
+use Rattle.store_checks.specs.Steps.{recordOf}
+use Rattle.shared_checks.specs.Steps.{areaLines, boardLines}
 use Rattle.checks.proofs.Chain.{thens, grouped, goes-on, refuses, ends}
 use Rattle.shared_checks.proofs.Facts.{Lent, area-facts, Named, board-facts}
 use Rattle.read_check.proofs.Readable.{Readable, readable, points-line}

@@ -12,15 +12,15 @@ use Rattle.sizes.specs.declared.Check.{Check}
 use Rattle.sizes.specs.declared.Check.the-variants.{Pass, Refuse}
 use Rattle.sizes.specs.Refusals.{Line, _when_, first, storeOrder}
 use Rattle.mbcr.specs.Share.{standard}
-use Rattle.board_statements.specs.Calls.{countLine, nodeLine, equalPoints}
-use Rattle.store_statements.specs.Record.{Record}
-use Rattle.store_statements.specs.Packets.{repairRuns}
-use Rattle.store_statements.specs.Calls.{emptyLine, downLine, repairLines}
-use Rattle.checks.specs.Asked.{asked}
+use Rattle.board_spec.specs.Calls.{countLine, nodeLine, equalPoints}
+use Rattle.store_spec.specs.Record.{Record}
+use Rattle.store_spec.specs.Packets.{repairRuns}
+use Rattle.store_spec.specs.Calls.{emptyLine, downLine, repairLines}
+use Rattle.checks.specs.Steps.{asked}
 use Rattle.checks.proofs.Chain.{thens, grouped, goes-on, refuses, ends}
-use Rattle.store_checks.specs.Parts.{recordOf}
+use Rattle.store_checks.specs.Steps.{recordOf}
 use Rattle.store_checks.proofs.Repairs.{repeatOf}
-use Rattle.shared_checks.specs.Lines.{areaLines}
+use Rattle.shared_checks.specs.Steps.{areaLines}
 use Rattle.shared_checks.proofs.Facts.{area-facts, Ready, ready}
 use Rattle.repair_check.proofs.Repairable.{few-helpers, counted, points-line}
 use Rattle.repair_check.proofs.check_repair.Statement.{statement}

@@ -3,8 +3,8 @@
 use mathlib.Core.Path.{_≡_, refl, ap, _∙_}
 use lib.ListN.{length}
 use Rattle.printer.specs.declared.Parser.{Parser}
-use Rattle.printer.specs.Machine.{begin}
-use Rattle.share_printer.specs.Reading.{Reading}
+use Rattle.printer.specs.Steps.{begin}
+use Rattle.share_printer.specs.Steps.{Reading}
 use Rattle.share_printer.proofs.Came.{none, next, ended, left}
 use borrow.Author.Needs.{needs}
 use Rattle.share_printer.proofs.read_all.Statement.{statement}

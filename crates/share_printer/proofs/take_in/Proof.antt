@@ -10,7 +10,7 @@ use mir.Syntax.{w64}
 use mir.ValLaws.{toZ-ofZ}
 use Rattle.io.specs.Counts.{clamped}
 use Rattle.printer.specs.declared.Parser.{Parser}
-use Rattle.print_feed.specs.Feeding.{Feed, feedAll}
+use Rattle.print_feed.specs.Steps.{Feed, feedAll}
 use Rattle.share_printer.proofs.Came.{none-more, failed, came}
 use borrow.Author.Needs.{needs}
 use Rattle.share_printer.proofs.take_in.Statement.{statement}

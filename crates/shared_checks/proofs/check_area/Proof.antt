@@ -15,14 +15,14 @@ use Rattle.sizes.specs.declared.Check.the-variants.{Refuse}
 use Rattle.sizes.specs.Sizing.{α}
 use Rattle.sizes.specs.Refusals.{Line, _when_, first, storeOrder}
 use Rattle.sizes.proofs.Legal.{legal-facts, α-most}
-use Rattle.store_statements.specs.Record.{Record}
-use Rattle.store_statements.specs.Calls.{recordLine, lentLine}
-use Rattle.store_statements.proofs.Records.{Sound, sound-facts}
-use Rattle.checks.specs.Asked.{asked}
+use Rattle.store_spec.specs.Record.{Record}
+use Rattle.store_spec.specs.Calls.{recordLine, lentLine}
+use Rattle.store_spec.proofs.Records.{Sound, sound-facts}
+use Rattle.checks.specs.Steps.{asked}
 use Rattle.checks.proofs.Answers.{passed}
 use Rattle.checks.proofs.Given.{few-bytes}
-use Rattle.store_checks.specs.Parts.{recordOf}
-use Rattle.shared_checks.specs.Lines.{areaLines}
+use Rattle.store_checks.specs.Steps.{recordOf}
+use Rattle.shared_checks.specs.Steps.{areaLines}
 use Rattle.checks.proofs.Chain.{thens, grouped, goes-on, refuses, ends, one-area}
 use Rattle.shared_checks.proofs.check_area.Statement.{statement}
 use Rattle.shared_checks.proofs.check_area.Tie as tie

@@ -7,7 +7,7 @@ use mathlib.Core.List.{List}
 use borrow.Author.Needs.{needs}
 use Rattle.lists.specs.Tests.{every, different, apart}
 use Rattle.sizes.specs.Refusals.{Line}
-use Rattle.store_statements.specs.Packets.{hearHelpers}
+use Rattle.store_spec.specs.Packets.{hearHelpers}
 use Rattle.checks.proofs.Answers.{passes, refuses}
 use Rattle.store_checks.proofs.Repairs.{repeatOf, runsDiffer, three-hold, first-fails, second-fails, third-fails}
 use Rattle.store_checks.proofs.check_fresh.Statement.{statement}

@@ -2,8 +2,8 @@
 -- Assumes nothing.
 use mathlib.Core.Path.{_≡_, refl, sym, _∙_}
 use borrow.Author.Needs.{needs}
-use Rattle.store_statements.specs.Record.{Record}
-use Rattle.store_checks.specs.Parts.{recordOf}
+use Rattle.store_spec.specs.Record.{Record}
+use Rattle.store_checks.specs.Steps.{recordOf}
 use Rattle.store_checks.proofs.Sound.{not-legal}
 use Rattle.store_checks.proofs.check_record.Statement.{statement}
 use Rattle.store_checks.proofs.check_record.Tie as tie

@@ -8,7 +8,7 @@ use borrow.Author.Needs.{needs}
 use lib.ListN.{length, drop, length-set, drop-of-length-le}
 use Rattle.lists.proofs.Alls.{all-at}
 use Rattle.lists.proofs.Boards.{below-all}
-use Rattle.store_statements.specs.Record.{turnOn}
+use Rattle.store_spec.specs.Record.{turnOn}
 use Rattle.store_checks.proofs.Repairs.{turn-next}
 use Rattle.store_checks.proofs.marks_on.Statement.{statement}
 use Rattle.store_checks.proofs.marks_on.Tie as tie

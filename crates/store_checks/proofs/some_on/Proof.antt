@@ -5,7 +5,7 @@ use mathlib.Core.Path.{_≡_, refl, sym, _∙_, ap}
 use native.Mathlib.Omega.{arith}
 use borrow.Author.Needs.{needs}
 use lib.ListN.{length, drop, drop-of-length-le}
-use Rattle.store_statements.specs.Record.{allOff}
+use Rattle.store_spec.specs.Record.{allOff}
 use Rattle.store_checks.proofs.Walks.{off-no, off-next}
 use Rattle.store_checks.proofs.some_on.Statement.{statement}
 use Rattle.store_checks.proofs.some_on.Tie as tie

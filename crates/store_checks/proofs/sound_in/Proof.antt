@@ -8,8 +8,8 @@ use lib.ListN.{drop}
 use borrow.Author.Needs.{needs}
 use Rattle.sizes.specs.Sizing.{B}
 use Rattle.sizes.proofs.Legal.{legal-facts, B-most}
-use Rattle.store_statements.specs.Record.{Record, allOff, sound}
-use Rattle.store_checks.specs.Parts.{recordOf}
+use Rattle.store_spec.specs.Record.{Record, allOff, sound}
+use Rattle.store_checks.specs.Steps.{recordOf}
 use Rattle.store_checks.proofs.Sound.{few, no-room, much-room, Roomy, long, past, accepted, some-length, by-marks}
 use Rattle.store_checks.proofs.sound_in.Statement.{statement}
 use Rattle.store_checks.proofs.sound_in.Tie as tie

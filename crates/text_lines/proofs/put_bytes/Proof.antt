@@ -6,7 +6,7 @@ use native.Mathlib.Omega.{arith}
 use borrow.Author.Needs.{needs}
 use lib.ListN.{length, take, length-set}
 use lib.Seq.{take-all}
-use Rattle.text_lines.specs.Wrote.{Wrote}
+use Rattle.text_lines.specs.Steps.{Wrote}
 use Rattle.text_lines.proofs.Writes.{none, byte-turn}
 use Rattle.text_lines.proofs.put_bytes.Statement.{statement}
 use Rattle.text_lines.proofs.put_bytes.Tie as tie

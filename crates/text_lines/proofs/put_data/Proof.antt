@@ -5,8 +5,8 @@ use mathlib.Core.List.{List, [], _∷_, _++_}
 use native.Mathlib.Omega.{arith}
 use lib.ListN.{length}
 use Rattle.lists.specs.Lists.{joined}
-use Rattle.board_statements.specs.Text.{hexPair}
-use Rattle.text_lines.specs.Wrote.{Wrote}
+use Rattle.board_spec.specs.Text.{hexPair}
+use Rattle.text_lines.specs.Steps.{Wrote}
 use Rattle.text_lines.proofs.Lines.{length-line, line-room, line}
 use Rattle.text_lines.proofs.Writes.{same-room, then, less}
 use borrow.Author.Needs.{needs}

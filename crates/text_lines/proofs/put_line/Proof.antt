@@ -3,8 +3,8 @@
 use mathlib.Core.List.{[], _∷_, _++_}
 use native.Mathlib.Omega.{arith}
 use lib.ListN.{length-set}
-use Rattle.board_statements.specs.Text.{decimal}
-use Rattle.text_lines.specs.Wrote.{Wrote}
+use Rattle.board_spec.specs.Text.{decimal}
+use Rattle.text_lines.specs.Steps.{Wrote}
 use Rattle.text_lines.proofs.Lines.{length-line, line-front, line-room, line}
 use Rattle.text_lines.proofs.Writes.{same-room}
 use borrow.Author.Needs.{needs}

@@ -9,8 +9,8 @@ use borrow.Author.Needs.{needs}
 use lib.ListN.{length, take, getD, length-set}
 use lib.Seq.{take-all}
 use Rattle.lists.specs.Lists.{joined}
-use Rattle.board_statements.specs.Text.{hexPair}
-use Rattle.text_lines.specs.Wrote.{Wrote}
+use Rattle.board_spec.specs.Text.{hexPair}
+use Rattle.text_lines.specs.Steps.{Wrote}
 use Rattle.text_lines.proofs.Writes.{none, length-pairs, pair-turn}
 use Rattle.text_lines.proofs.put_pairs.Statement.{statement}
 use Rattle.text_lines.proofs.put_pairs.Tie as tie

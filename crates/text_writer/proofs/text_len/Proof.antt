@@ -4,7 +4,7 @@ use Prim.Native.Nat.{ℕ, _≤_}
 use native.Mathlib.Omega.{arith}
 use lib.ListN.{length}
 use Rattle.sizes.proofs.Legal.{legal-facts}
-use Rattle.board_statements.specs.Text.{decimal}
+use Rattle.board_spec.specs.Text.{decimal}
 use Rattle.text_lines.proofs.Decimals.{decimal-most}
 use Rattle.text_lines.proofs.Lines.{length-text}
 use borrow.Author.Needs.{needs}

@@ -1,8 +1,8 @@
 -- `text_writer::write_text` meets its contract: the lines, one behind the other.
 -- Assumes nothing.
 use lib.ListN.{length}
-use Rattle.board_statements.specs.Text.{shareText}
-use Rattle.text_lines.specs.Wrote.{Wrote}
+use Rattle.board_spec.specs.Text.{shareText}
+use Rattle.text_lines.specs.Steps.{Wrote}
 use Rattle.text_lines.proofs.Lines.{Rooms, rooms, toN, toK, toD, toR, toNode, toLength, toData, from-start}
 use Rattle.text_lines.proofs.Writes.{same-room, room, then}
 use borrow.Author.Needs.{needs}

@@ -11,11 +11,11 @@ use Rattle.sizes.specs.declared.Check.{Check}
 use Rattle.sizes.specs.declared.Check.the-variants.{Refuse}
 use Rattle.sizes.specs.Sizing.{B}
 use Rattle.sizes.specs.Refusals.{Line, _when_, first, storeOrder}
-use Rattle.store_statements.specs.Record.{Record}
-use Rattle.store_statements.specs.Calls.{writeLines}
-use Rattle.store_statements.proofs.Records.{Sound, sound-facts}
-use Rattle.store_checks.specs.Parts.{recordOf}
-use Rattle.shared_checks.specs.Lines.{areaLines}
+use Rattle.store_spec.specs.Record.{Record}
+use Rattle.store_spec.specs.Calls.{writeLines}
+use Rattle.store_spec.proofs.Records.{Sound, sound-facts}
+use Rattle.store_checks.specs.Steps.{recordOf}
+use Rattle.shared_checks.specs.Steps.{areaLines}
 use Rattle.checks.proofs.Chain.{thens, grouped, goes-on, refuses, ends}
 use Rattle.shared_checks.proofs.Facts.{area-facts}
 use Rattle.write_check.proofs.check_write.Statement.{statement}

@@ -5,8 +5,8 @@ use mathlib.Core.Bool.{true}
 use mathlib.Core.List.{[]}
 use borrow.Author.Needs.{needs}
 use Rattle.mbcr.specs.Share.{standard}
-use Rattle.store_statements.specs.Record.{Record}
-use Rattle.store_statements.specs.Calls.{StoreOutcome, repairCall}
+use Rattle.store_spec.specs.Record.{Record}
+use Rattle.store_spec.specs.Calls.{StoreOutcome, repairCall}
 use Rattle.words.specs.Words.{isRecord}
 use Rattle.zebrankai.specs.Lent.{zbkRepair}
 use Rattle.zebrankai.proofs.Worded.{is-record, none-lent, lent-on, handed-asks, repair-few}

@@ -6,9 +6,9 @@ use native.Mathlib.Omega.{arith}
 use borrow.Author.Needs.{needs}
 use Rattle.sizes.specs.declared.Check.the-variants.{Pass, Refuse}
 use Rattle.sizes.specs.Refusals.{Line}
-use Rattle.board_statements.specs.Calls.{nodeLine}
-use Rattle.store_statements.specs.Record.{Record}
-use Rattle.store_statements.specs.Calls.{recordLine, loseLines}
+use Rattle.board_spec.specs.Calls.{nodeLine}
+use Rattle.store_spec.specs.Record.{Record}
+use Rattle.store_spec.specs.Calls.{recordLine, loseLines}
 use Rattle.checks.proofs.Chain.{thens, grouped, goes-on, refuses, ends}
 use Rattle.store.specs.Handing.{recordIn}
 use Rattle.store.proofs.Settled.{lost, lose-refuses, lose-works, lose-marked}

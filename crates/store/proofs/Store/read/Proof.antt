@@ -6,9 +6,9 @@ use lib.ListN.{length}
 use borrow.Author.Needs.{needs}
 use Rattle.sizes.specs.declared.Check.the-variants.{Pass}
 use Rattle.mbcr.specs.Share.{standard}
-use Rattle.store_statements.specs.Record.{Record}
-use Rattle.store_statements.specs.Calls.{refused, readCall}
-use Rattle.store_statements.proofs.Records.{Reads, read-facts}
+use Rattle.store_spec.specs.Record.{Record}
+use Rattle.store_spec.specs.Calls.{refused, readCall}
+use Rattle.store_spec.proofs.Records.{Reads, read-facts}
 use Rattle.read_check.proofs.Readable.{Readable, readable}
 use Rattle.store.specs.Handing.{recordIn}
 use Rattle.store.proofs.ReadCall.{checked, read-refuses, read-works}

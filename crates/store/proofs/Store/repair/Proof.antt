@@ -10,9 +10,9 @@ use Rattle.sizes.specs.declared.Check.the-variants.{Pass}
 use Rattle.sizes.proofs.Legal.{legal-facts}
 use Rattle.mbcr.specs.Share.{standard}
 use Rattle.own.proofs.Made.{below-more}
-use Rattle.store_statements.specs.Record.{Record}
-use Rattle.store_statements.specs.Calls.{refused, repairCall}
-use Rattle.store_statements.proofs.Records.{repair-facts}
+use Rattle.store_spec.specs.Record.{Record}
+use Rattle.store_spec.specs.Calls.{refused, repairCall}
+use Rattle.store_spec.proofs.Records.{repair-facts}
 use Rattle.repair_check.proofs.Repairable.{Repairable, repairable}
 use Rattle.store.specs.Handing.{recordIn}
 use Rattle.store.proofs.RepairCall.{checked, repair-refuses, repair-works}

@@ -3,7 +3,7 @@
 use mathlib.Core.Path.{_≡_, refl, sym, _∙_}
 use mathlib.Core.List.{[]}
 use borrow.Author.Needs.{needs}
-use Rattle.store_statements.specs.Calls.{refused, setUpCall}
+use Rattle.store_spec.specs.Calls.{refused, setUpCall}
 use Rattle.store.specs.Handing.{recordIn}
 use Rattle.store.proofs.Settled.{set-up-refuses, set-up-works}
 use Rattle.store.proofs.Store.set_up.Statement.{statement}

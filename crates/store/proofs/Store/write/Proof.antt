@@ -11,9 +11,9 @@ use Rattle.sizes.specs.declared.Check.the-variants.{Pass}
 use Rattle.sizes.specs.Sizing.{B}
 use Rattle.sizes.proofs.Legal.{legal-facts, stripes-least}
 use Rattle.mbcr.specs.Share.{standard}
-use Rattle.store_statements.specs.Record.{Record}
-use Rattle.store_statements.specs.Calls.{refused, writeCall}
-use Rattle.store_statements.proofs.Records.{Sound, sound-facts, Writes, write-facts}
+use Rattle.store_spec.specs.Record.{Record}
+use Rattle.store_spec.specs.Calls.{refused, writeCall}
+use Rattle.store_spec.proofs.Records.{Sound, sound-facts, Writes, write-facts}
 use Rattle.store.specs.Handing.{recordIn}
 use Rattle.store.proofs.Settled.{checked, write-refuses, write-works}
 use Rattle.store.proofs.Store.write.Statement.{statement}
