@@ -2,7 +2,7 @@
 -- taken as the checker hands it to a caller: `Asked` is its `requires`, `Learnt` its `ensures`. So a call that ensures less, or requires
 -- something, is refused here.
 -- Assumes nothing.
-use mathlib.Core.Path.{_≡_, ap, _∙_}
+use mathlib.Core.Path.{_≡_}
 use mathlib.Core.List.{List, []}
 use Prim.Native.Nat.{ℕ}
 use contract.Lifetimes.{Lfts}
@@ -11,11 +11,10 @@ use denote.Triple.Clauses.{AtExit}
 use borrow.Fn.Kinds.{Dens, endedOf}
 use Rattle.mbcr.specs.Share.{standard}
 use Rattle.board_spec.specs.Calls.{BoardOutcome, shareCall, fileCall, helperCall, exchangeCall, finishedCall, textCall}
-use Rattle.store_spec.specs.Ledger.{write, lose, repair, read, act}
+use Rattle.store_spec.specs.Ledger.{write, lose, repair, read}
 use Rattle.answer_word.specs.Answers.{wordOf}
 use Rattle.zebrankai.specs.Archive.{sizesOf}
-use Rattle.zebrankai.specs.Lent.{Lent, zbkSetUp, zbkWrite, zbkRepair, zbkRead, zbk}
-use Rattle.zebrankai.proofs.Worded.{lose-area}
+use Rattle.zebrankai.specs.Lent.{Lent, zbkSetUp, zbk}
 use Rattle.zebrankai.proofs.zbk_set_up.Reads as set-ups
 use Rattle.zebrankai.proofs.zbk_set_up.Kinds as set-up-kinds
 use Rattle.zebrankai.proofs.zbk_write.Reads as writes
@@ -53,27 +52,24 @@ set-up-gives κs a w e = (tt, λ h. h)
 pub write-gives : (κs : Lfts 3) (a : Dens κs write-kinds.ps) (w : ℕ) (e : AtExit (endedOf 3 write-kinds.ps write-kinds.r) κs)
     → writes.Asked κs a
     × (writes.Learnt κs a w e → lent w (now (e .0)) (now (e .1 .0)) [] ≡ zbk (now (a .0)) (now (a .1 .0)) (write (now (a .1 .1 .0))))
-unfolding act zbkWrite
 write-gives κs a w e = (tt, λ h. h)
 
 -- whatever the area, which it is not lent
 pub lose-gives : (κs : Lfts 1) (a : Dens κs lose-kinds.ps) (w : ℕ) (e : AtExit (endedOf 1 lose-kinds.ps lose-kinds.r) κs)
     → loses.Asked κs a
     × (loses.Learnt κs a w e → (area : List ℕ) → lent w (now (e .0)) area [] ≡ zbk (now (a .0)) area (lose (a .1 .0)))
-lose-gives κs a w e = (tt, λ h area. ap (λ (o : Lent). lent (o .answer) (o .words) area (o .output)) h ∙ lose-area (now (a .0)) area (a .1 .0))
+lose-gives κs a w e = (tt, λ h. h)
 
 pub repair-gives : (κs : Lfts 4) (a : Dens κs repair-kinds.ps) (w : ℕ) (e : AtExit (endedOf 4 repair-kinds.ps repair-kinds.r) κs)
     → repairs.Asked κs a
     × (repairs.Learnt κs a w e
     → lent w (now (e .0)) (now (e .1 .0)) [] ≡ zbk (now (a .0)) (now (a .1 .0)) (repair (now (a .1 .1 .0)) (now (a .1 .1 .1 .0))))
-unfolding act zbkRepair
 repair-gives κs a w e = (tt, λ h. h)
 
 pub read-gives : (κs : Lfts 4) (a : Dens κs read-kinds.ps) (w : ℕ) (e : AtExit (endedOf 4 read-kinds.ps read-kinds.r) κs)
     → reads.Asked κs a
     × (reads.Learnt κs a w e
     → lent w (now (e .0)) (now (a .1 .0)) (now (e .1 .1 .1 .0)) ≡ zbk (now (a .0)) (now (a .1 .0)) (read (now (a .1 .1 .0)) (now (a .1 .1 .1 .0))))
-unfolding act zbkRead
 read-gives κs a w e = (tt, λ h. h)
 
 -- ---- board level: the word of the answer, and all bytes of the output; the arguments behind the four sizes are b

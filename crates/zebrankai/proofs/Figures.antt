@@ -10,13 +10,14 @@ use Rattle.mbcr.specs.Read.{through, bColumn, cRow, aColumn, decodedStripe, dec
 use Rattle.store_spec.specs.Record.{sound}
 use Rattle.store_spec.specs.Packets.{helperPackets, exchangePackets, repairPackets, freshShare}
 use Rattle.store_spec.specs.Calls.{writeLines, loseLines, repairLines, readLines, setUpCall, writeCall, loseCall, repairCall, readCall}
+use Rattle.store_spec.specs.Ledger.{act}
 use Rattle.words.specs.Words.{isRecord}
-use Rattle.zebrankai.specs.Lent.{zbkSetUp, zbkWrite, zbkLose, zbkRepair, zbkRead}
+use Rattle.zebrankai.specs.Lent.{zbkSetUp}
 use Rattle.zebrankai.specs.Figures.{ArchiveFigures}
 
 pub archive-figures : ArchiveFigures
 unfolding piece put add product reduce mul squares inverse legal B stripes stripe grid F neighbours symbols kept share shares received
     exchanged ownF ownG helperPair helperPacket gFrom exchangePacket fFrom finishedStripe finishedShare through bColumn cRow aColumn
     decodedStripe decodedFile readFile sound helperPackets exchangePackets repairPackets freshShare writeLines loseLines repairLines
-    readLines setUpCall writeCall loseCall repairCall readCall isRecord zbkSetUp zbkWrite zbkLose zbkRepair zbkRead
+    readLines setUpCall writeCall loseCall repairCall readCall isRecord zbkSetUp act
 archive-figures = record { set-up = refl; set-up-refused = refl; lost = refl; not-lost = refl; listed = refl }

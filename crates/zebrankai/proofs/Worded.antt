@@ -21,7 +21,6 @@ use Rattle.store_spec.specs.Record.{Record, newRecord, stripeCount}
 use Rattle.store_spec.specs.Calls.{StoreOutcome, accepted, refused, settle, recordLine, setUpCall}
 use Rattle.store_spec.specs.Calls.{writeLines, writeDone, writeCall, loseLines, loseDone, loseCall}
 use Rattle.store_spec.specs.Calls.{repairLines, repairDone, repairCall, readLines, readDone, readCall}
-use Rattle.store_spec.specs.Ledger.{lose, act}
 use Rattle.store_spec.proofs.Records.{sound-facts, repair-facts}
 use Rattle.store_spec.proofs.Real.{code-lengths}
 use Rattle.store_spec.proofs.Repair.{moved-is}
@@ -32,7 +31,7 @@ use Rattle.answer_word.specs.Answers.{wordOf}
 use Rattle.words.specs.Words.{isRecord, recordFrom, wordsOf}
 use Rattle.words.proofs.Bits.{words-facts}
 use Rattle.words.proofs.Laws.{word-laws}
-use Rattle.zebrankai.specs.Lent.{Lent, noRecord, inWords, lentBy, zbkSetUp, zbkLose, zbk}
+use Rattle.zebrankai.specs.Lent.{Lent, noRecord, inWords, lentBy, zbkSetUp}
 
 -- ---- a call over the record that the words tell
 
@@ -76,21 +75,6 @@ pub lent-back : (call : Record → StoreOutcome) (s : Record) (area output : Lis
     → lentBy call (wordsOf s) area output ≡ inWords (call s)
 lent-back call s area output full =
     sym (lent call (wordsOf s) area output (word-laws .are-words s full)) ∙ ap (λ (t : Record). inWords (call t)) (word-laws .record-back s full)
-
--- losing is lent no area: it is the same whatever the area, which stays
-pub lose-area : (ws area : List ℕ) (board : ℕ)
-    → (let o = zbkLose ws board in record { answer = o .answer; words = o .words; area = area; output = o .output }) ≡ zbk ws area (lose board)
-unfolding zbkLose act loseCall
-lose-area ws area board = go (isRecord ws) (first storeOrder (loseLines (recordFrom ws) board))
-  where
-    by-area : Bool → Check → List ℕ → Lent
-    by-area b t area = pick b (inWords (settle t (refused (recordFrom ws) area []) (loseDone (recordFrom ws) area board))) (noRecord ws area [])
-
-    go : (b : Bool) (t : Check)
-        → record { answer = by-area b t [] .answer; words = by-area b t [] .words; area = area; output = by-area b t [] .output } ≡ by-area b t area
-    go true Pass = refl
-    go true (Refuse x) = refl
-    go false t = refl
 
 -- ---- set up
 

@@ -7,7 +7,7 @@ use Prim.Native.Nat.{ℕ}
 use lib.ListN.{replicate}
 use Rattle.store_spec.specs.Ledger.{write, lose, repair, read, Step}
 use Rattle.zebrankai.specs.Archive.{sizesOf}
-use Rattle.zebrankai.specs.Lent.{Lent, zbkSetUp, zbkLose}
+use Rattle.zebrankai.specs.Lent.{Lent, zbkSetUp, zbk}
 use Rattle.zebrankai.specs.Demand3.{lents}
 
 -- n = 4, k = 1, d = 1, r = 2, C = 1: the file 01 02 03 is written on any bytes, boards 0 and 1 are lost and spoiled, one is read in vain, both
@@ -40,9 +40,9 @@ pub record ArchiveFigures : Type 0 where
   pub set-up-refused : zbkSetUp (8 ∷ 8 ∷ 8 ∷ 8 ∷ 8 ∷ 8 ∷ 8 ∷ 8 ∷ []) (sizesOf 7 4 2 3) 5
       ≡ record { answer = 1; words = 8 ∷ 8 ∷ 8 ∷ 8 ∷ 8 ∷ 8 ∷ 8 ∷ 8 ∷ []; area = []; output = [] }
   -- boards 0, 3 and 4 are in service, and board 3 is lost; board 7 is none
-  pub lost : zbkLose (7 ∷ 2 ∷ 4 ∷ 3 ∷ 5 ∷ 1 ∷ 6 ∷ 25 ∷ []) 3
+  pub lost : zbk (7 ∷ 2 ∷ 4 ∷ 3 ∷ 5 ∷ 1 ∷ 6 ∷ 25 ∷ []) [] (lose 3)
       ≡ record { answer = 0; words = 7 ∷ 2 ∷ 4 ∷ 3 ∷ 5 ∷ 1 ∷ 6 ∷ 17 ∷ []; area = []; output = [] }
-  pub not-lost : zbkLose (7 ∷ 2 ∷ 4 ∷ 3 ∷ 5 ∷ 1 ∷ 6 ∷ 25 ∷ []) 7
+  pub not-lost : zbk (7 ∷ 2 ∷ 4 ∷ 3 ∷ 5 ∷ 1 ∷ 6 ∷ 25 ∷ []) [] (lose 7)
       ≡ record { answer = 5; words = 7 ∷ 2 ∷ 4 ∷ 3 ∷ 5 ∷ 1 ∷ 6 ∷ 25 ∷ []; area = []; output = [] }
   -- boards 0 to 3, then 1 to 3, then 2 and 3, are in service; DOWN; 6 bytes moved, which is 6 × 256; the file, and a byte past its end
   pub listed : lents (4 ∷ 1 ∷ 1 ∷ 2 ∷ 1 ∷ 0 ∷ 0 ∷ 0 ∷ []) steps

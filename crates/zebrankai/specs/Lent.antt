@@ -11,7 +11,7 @@ use Rattle.sizes.specs.declared.Answer.the-variants.{Refused}
 use Rattle.sizes.specs.Refusals.{said}
 use Rattle.mbcr.specs.Share.{standard}
 use Rattle.store_spec.specs.Record.{Record, newRecord}
-use Rattle.store_spec.specs.Calls.{StoreOutcome, setUpCall, writeCall, loseCall, repairCall, readCall}
+use Rattle.store_spec.specs.Calls.{StoreOutcome, setUpCall}
 use Rattle.store_spec.specs.Ledger.{Call, act, outputOf}
 use Rattle.answer_word.specs.Answers.{wordOf}
 use Rattle.words.specs.Words.{isRecord, recordFrom, wordsOf}
@@ -42,18 +42,6 @@ zbkSetUp ws z c =
     (record { answer = wordOf (o .answer); words = pick (eqb (wordOf (o .answer)) 0) (wordsOf (o .handed)) ws; area = []; output = [] })
     (noRecord ws [] [])
 
-unfoldable pub zbkWrite : List ℕ → List ℕ → List ℕ → Lent
-zbkWrite ws area file = lentBy (λ s. writeCall standard s area file) ws area []
-
-unfoldable pub zbkLose : List ℕ → ℕ → Lent
-zbkLose ws board = lentBy (λ s. loseCall s [] board) ws [] []
-
-unfoldable pub zbkRepair : List ℕ → List ℕ → List ℕ → List ℕ → Lent
-zbkRepair ws area fresh helpers = lentBy (λ s. repairCall standard s area fresh helpers) ws area []
-
-unfoldable pub zbkRead : List ℕ → List ℕ → List ℕ → List ℕ → Lent
-zbkRead ws area boards output = lentBy (λ s. readCall standard s area boards output) ws area output
-
--- any of these on these words and this area; losing is lent no area, so it stays
+-- a call of the store on these words and this area; losing is lent no area, so that it stays whatever it is
 abbrev pub zbk : List ℕ → List ℕ → Call → Lent
 zbk ws area call = lentBy (λ s. act standard (record { kept = s; area = area }) call) ws area (outputOf call)

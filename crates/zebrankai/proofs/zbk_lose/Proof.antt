@@ -2,12 +2,14 @@
 -- Assumes nothing.
 use mathlib.Core.Path.{_≡_}
 use mathlib.Core.Bool.{true}
-use mathlib.Core.List.{[]}
+use mathlib.Core.List.{List, []}
+use Prim.Native.Nat.{ℕ}
 use borrow.Author.Needs.{needs}
+use Rattle.mbcr.specs.Share.{standard}
 use Rattle.store_spec.specs.Record.{Record}
-use Rattle.store_spec.specs.Calls.{StoreOutcome, loseCall}
+use Rattle.store_spec.specs.Calls.{StoreOutcome}
+use Rattle.store_spec.specs.Ledger.{lose, act}
 use Rattle.words.specs.Words.{isRecord}
-use Rattle.zebrankai.specs.Lent.{zbkLose}
 use Rattle.zebrankai.proofs.Worded.{is-record, none-lent, lent-on, handed-asks, lose-few}
 use Rattle.zebrankai.proofs.zbk_lose.Statement.{statement}
 use Rattle.zebrankai.proofs.zbk_lose.Tie as tie
@@ -29,33 +31,34 @@ abbrev st-call : tie.After-lose → tie.Start
 st-call c = st (at-else c .before)
 
 -- the store's call
-abbrev call : tie.Start → Record → StoreOutcome
-call g s = loseCall s [] (g .args .board)
+abbrev call : tie.Start → List ℕ → Record → StoreOutcome
+call g area s = act standard (record { kept = s; area = area }) (lose (g .args .board))
 
 -- the words are a record's
 is-one : (c : tie.Else1) → isRecord (st (c .before) .args .ws .now) ≡ true
 is-one c = is-record (st (c .before) .args .ws .now) (c .before .is-record .result) (c .before .is-record .ensures) (c .if1 .left)
 
 is-none : tie.Need-returns
-unfolding zbkLose
-is-none c =
+is-none c area =
     let k = c .before in
     let g = st k in
-    none-lent (call g) (g .args .ws .now) [] [] (k .is-record .result) (k .is-record .ensures) (c .if1 .taken)
+    none-lent (call g area) (g .args .ws .now) area [] (k .is-record .result) (k .is-record .ensures) (c .if1 .taken)
 
 asks : tie.Need-hand-on-requires
+unfolding act
 asks c κs =
     let k = at-call c in
     let g = st-call k in
-    handed-asks (call g) (g .args .ws .now) (λ s. lose-few s [] (g .args .board)) _ (k .lose .result) _ _ (is-one (at-else k)) (k .lose .ensures [])
+    handed-asks (call g []) (g .args .ws .now) (λ s. lose-few s [] (g .args .board)) _ (k .lose .result) _ _ (is-one (at-else k)) (k .lose .ensures [])
 
 hands-on : tie.Need-returns-2
-unfolding zbkLose
-hands-on c =
+unfolding act
+hands-on c area =
     let k = at-call (c .before .before .before) in
     let g = st-call k in
     let o = at-store k .store-of in
-    lent-on (call g) (g .args .ws .now) [] [] (o .result) (k .lose .result) _ _ _ _ (is-one (at-else k)) (o .ensures) (k .lose .ensures []) (c .before .before .hand-on .ensures)
+    lent-on (call g area) (g .args .ws .now) area [] (o .result) (k .lose .result) _ _ _ _ (is-one (at-else k)) (o .ensures) (k .lose .ensures area)
+    (c .before .before .hand-on .ensures)
 
 pub zbk-lose-spec : {M : Type 1} → statement M
 zbk-lose-spec =

@@ -5,9 +5,9 @@ use mathlib.Core.Bool.{true}
 use borrow.Author.Needs.{needs}
 use Rattle.mbcr.specs.Share.{standard}
 use Rattle.store_spec.specs.Record.{Record}
-use Rattle.store_spec.specs.Calls.{StoreOutcome, readCall}
+use Rattle.store_spec.specs.Calls.{StoreOutcome}
+use Rattle.store_spec.specs.Ledger.{read, act}
 use Rattle.words.specs.Words.{isRecord}
-use Rattle.zebrankai.specs.Lent.{zbkRead}
 use Rattle.zebrankai.proofs.Worded.{is-record, none-lent, lent-on, handed-asks, read-few}
 use Rattle.zebrankai.proofs.zbk_read.Statement.{statement}
 use Rattle.zebrankai.proofs.zbk_read.Tie as tie
@@ -30,20 +30,20 @@ st-call c = st (at-else c .before)
 
 -- the store's call
 abbrev call : tie.Start → Record → StoreOutcome
-call g s = readCall standard s (g .args .area .now) (g .args .boards .now) (g .args .out .now)
+call g s = act standard (record { kept = s; area = g .args .area .now }) (read (g .args .boards .now) (g .args .out .now))
 
 -- the words are a record's
 is-one : (c : tie.Else1) → isRecord (st (c .before) .args .ws .now) ≡ true
 is-one c = is-record (st (c .before) .args .ws .now) (c .before .is-record .result) (c .before .is-record .ensures) (c .if1 .left)
 
 is-none : tie.Need-returns
-unfolding zbkRead
 is-none c =
     let k = c .before in
     let g = st k in
     none-lent (call g) (g .args .ws .now) (g .args .area .now) (g .args .out .now) (k .is-record .result) (k .is-record .ensures) (c .if1 .taken)
 
 asks : tie.Need-hand-on-requires
+unfolding act
 asks c κs =
     let k = at-call c in
     let g = st-call k in
@@ -51,7 +51,7 @@ asks c κs =
     _ (k .read .result) _ _ (is-one (at-else k)) (k .read .ensures)
 
 hands-on : tie.Need-returns-2
-unfolding zbkRead
+unfolding act
 hands-on c =
     let k = at-call (c .before .before .before) in
     let g = st-call k in

@@ -6,9 +6,9 @@ use mathlib.Core.List.{[]}
 use borrow.Author.Needs.{needs}
 use Rattle.mbcr.specs.Share.{standard}
 use Rattle.store_spec.specs.Record.{Record}
-use Rattle.store_spec.specs.Calls.{StoreOutcome, repairCall}
+use Rattle.store_spec.specs.Calls.{StoreOutcome}
+use Rattle.store_spec.specs.Ledger.{repair, act}
 use Rattle.words.specs.Words.{isRecord}
-use Rattle.zebrankai.specs.Lent.{zbkRepair}
 use Rattle.zebrankai.proofs.Worded.{is-record, none-lent, lent-on, handed-asks, repair-few}
 use Rattle.zebrankai.proofs.zbk_repair.Statement.{statement}
 use Rattle.zebrankai.proofs.zbk_repair.Tie as tie
@@ -31,20 +31,20 @@ st-call c = st (at-else c .before)
 
 -- the store's call
 abbrev call : tie.Start → Record → StoreOutcome
-call g s = repairCall standard s (g .args .area .now) (g .args .fresh .now) (g .args .helpers .now)
+call g s = act standard (record { kept = s; area = g .args .area .now }) (repair (g .args .fresh .now) (g .args .helpers .now))
 
 -- the words are a record's
 is-one : (c : tie.Else1) → isRecord (st (c .before) .args .ws .now) ≡ true
 is-one c = is-record (st (c .before) .args .ws .now) (c .before .is-record .result) (c .before .is-record .ensures) (c .if1 .left)
 
 is-none : tie.Need-returns
-unfolding zbkRepair
 is-none c =
     let k = c .before in
     let g = st k in
     none-lent (call g) (g .args .ws .now) (g .args .area .now) [] (k .is-record .result) (k .is-record .ensures) (c .if1 .taken)
 
 asks : tie.Need-hand-on-requires
+unfolding act
 asks c κs =
     let k = at-call c in
     let g = st-call k in
@@ -52,7 +52,7 @@ asks c κs =
     _ (k .repair .result) _ _ (is-one (at-else k)) (k .repair .ensures)
 
 hands-on : tie.Need-returns-2
-unfolding zbkRepair
+unfolding act
 hands-on c =
     let k = at-call (c .before .before .before) in
     let g = st-call k in
