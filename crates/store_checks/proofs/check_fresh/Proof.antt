@@ -1,13 +1,10 @@
 -- `store_checks::check_fresh` meets its contract: the three tests in their order.
 -- Assumes nothing.
-use Prim.Native.Nat.{ℕ}
 use mathlib.Core.Path.{_≡_, sym, _∙_}
 use mathlib.Core.Bool.{true}
-use mathlib.Core.List.{List}
 use borrow.Author.Needs.{needs}
-use Rattle.lists.specs.Tests.{every, different, apart}
+use Rattle.lists.specs.Tests.{different, apart}
 use Rattle.sizes.specs.Refusals.{Line}
-use Rattle.store_spec.specs.Packets.{hearHelpers}
 use Rattle.checks.proofs.Answers.{passes, refuses}
 use Rattle.store_checks.proofs.Repairs.{repeatOf, runsDiffer, three-hold, first-fails, second-fails, third-fails}
 use Rattle.store_checks.proofs.check_fresh.Statement.{statement}
