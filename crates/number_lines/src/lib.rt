@@ -3,7 +3,7 @@
 ghost use mathlib.Core.Path.{_≡_};
 ghost use Prim.Native.Nat.{_+_, _*_, _≤_};
 ghost use Rattle.number_lines.specs.Lines.{digit};
-ghost use Rattle.number_lines.specs.Steps.{begin, capped, fedLone, fedDigits, fedFirst, fed};
+ghost use Rattle.number_lines.specs.Steps.{begin, capped, fedDigits, fedFirst, fed};
 
 // Where in the line: 0 for its name and first digit, 1 behind a first 0, 2 behind other digits; the bytes of the name that are read; the
 // number so far.
@@ -56,16 +56,6 @@ fn grown(v: usize, x: usize, most: usize) -> usize
     if x < most - tens { tens + x } else { most }
 }
 
-// A byte behind a first digit 0.
-fn feed_lone(b: u8) -> Read
-    ensures { λ x. ⌜ x ≡ fedLone b ⌝ }
-{
-    if b == 10 {
-        return Read::Whole(0);
-    }
-    Read::Malformed
-}
-
 // A byte behind other digits.
 fn feed_digits(r: Reader, most: usize, b: u8) -> Read
     ensures { λ x. ⌜ x ≡ fedDigits most r b ⌝ }
@@ -112,7 +102,10 @@ pub fn feed(r: Reader, name: &[u8], most: usize, b: u8) -> Read
     ensures { λ x. ⌜ x ≡ fed (now (name .entry)) most r b ⌝ }
 {
     if r.part == 1 {
-        return feed_lone(b);
+        if b == 10 {
+            return Read::Whole(0);
+        }
+        return Read::Malformed;
     }
     if r.part == 2 {
         return feed_digits(r, most, b);

@@ -2,7 +2,7 @@
 ghost use mathlib.Core.Path.{_≡_};
 ghost use Prim.Native.Nat.{_≤_};
 ghost use Rattle.lists.specs.Tests.{pick};
-ghost use Rattle.printer.specs.Steps.{begin, wrong, stored, counted, lineFed, taken, fed, sizesRead, refusalOf};
+ghost use Rattle.printer.specs.Steps.{begin, wrong, stored, counted, lineFed, fed, sizesRead, refusalOf};
 use number_lines::Read;
 use number_lines::Reader;
 use sizes::Sizes;
@@ -103,22 +103,6 @@ fn feed_line(left: u8, line: Reader, b: u8) -> Read
     }
 }
 
-// The parser after what the byte gave.
-fn taken(p: Parser, x: Read) -> Parser
-    requires { ⌜ 1 ≤ p .left ⌝ }
-    ensures { λ q. ⌜ q ≡ taken p x ⌝ }
-{
-    match x {
-        Read::More(next) => {
-            let mut q = p;
-            q.line = next;
-            q
-        }
-        Read::Whole(v) => stored(p, v),
-        Read::Malformed => wrong(p),
-    }
-}
-
 // The parser after a byte.
 pub fn feed(p: Parser, b: u8) -> Parser
     ensures { λ q. ⌜ q ≡ fed p b ⌝ }
@@ -131,7 +115,15 @@ pub fn feed(p: Parser, b: u8) -> Parser
     }
     let line = p.line;
     let x = feed_line(p.left, line, b);
-    taken(p, x)
+    match x {
+        Read::More(next) => {
+            let mut q = p;
+            q.line = next;
+            q
+        }
+        Read::Whole(v) => stored(p, v),
+        Read::Malformed => wrong(p),
+    }
 }
 
 // The sizes that were read.

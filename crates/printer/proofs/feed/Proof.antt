@@ -1,7 +1,9 @@
 -- `printer::feed` meets its contract, case by case.
 -- Assumes nothing.
-use mathlib.Core.Path.{sym, ap, _∙_}
-use Rattle.printer.specs.Steps.{taken}
+use mathlib.Core.Path.{_≡_, refl, sym, ap, _∙_}
+use Rattle.number_lines.specs.declared.Read.{Read}
+use Rattle.printer.specs.declared.Parser.{Parser}
+use Rattle.printer.specs.Steps.{taken, fed}
 use Rattle.printer.proofs.Fed.{fed-bad, fed-file, fed-line}
 use borrow.Author.Needs.{needs}
 use Rattle.printer.proofs.feed.Statement.{statement}
@@ -10,16 +12,35 @@ use Rattle.printer.proofs.feed.Tie as tie
 abbrev st : tie.After-struct-known → tie.Start
 st c = c .before .before
 
+abbrev st-line : tie.After-feed-line → tie.Start
+st-line c = let at = c .before .before in st (at .before)
+
+-- a byte of a line, and what it gave
+line-fed : (c : tie.After-feed-line) → let a = st-line c .args in taken (a .p) (c .feed-line .result) ≡ fed (a .p) (a .b)
+line-fed c =
+    let at = c .before .before in
+    let a = st-line c .args in
+    ap (taken (a .p)) (c .feed-line .ensures) ∙ sym (fed-line (a .p) (a .b) (at .before .before .if1 .left) (at .if2 .left))
+
+gave : (c : tie.After-feed-line) (x : Read) (q : Parser) → let a = st-line c .args in q ≡ taken (a .p) x → c .feed-line .result ≡ x → q ≡ fed (a .p) (a .b)
+gave c x q e g = e ∙ sym (ap (taken (st-line c .args .p)) g) ∙ line-fed c
+
 returns-2 : tie.Need-returns-2
 returns-2 c = let at = c .before in c .counted .ensures ∙ sym (fed-file _ (st (at .before) .args .b) (at .before .before .if1 .left) (at .if2 .taken))
-
-returns-3 : tie.Need-returns-3
-returns-3 c =
-    let at = c .before .before .before in
-    let a = st (at .before) .args in
-    c .taken .ensures ∙ ap (taken (a .p)) (c .before .feed-line .ensures) ∙ sym (fed-line (a .p) (a .b) (at .before .before .if1 .left) (at .if2 .left))
 
 pub feed-spec : {M : Type 1} → statement M
 feed-spec =
     tie.close
-    (tie.spec (λ c. sym (fed-bad _ _ (c .if1 .taken))) (λ c κs. search needs) returns-2 (λ c κs. search needs) (λ c κs. search needs) returns-3)
+    (tie.spec
+    (λ c. sym (fed-bad _ _ (c .if1 .taken)))
+    (λ c κs. search needs)
+    returns-2
+    (λ c κs. search needs)
+    (λ c. search needs)
+    (λ c. search needs)
+    (λ c κs. search needs)
+    (λ c. search needs)
+    (λ c κs. search needs)
+    (λ c. let at = c .before in gave (at .before .before) _ _ refl (at .x .given .1))
+    (λ c. let at = c .before .before in gave (at .before .before) _ _ (c .stored .ensures) (at .x2 .given .1))
+    (λ c. let at = c .before in gave (at .before .before) _ _ (c .wrong .ensures) (at .enum-told .given .1)))
