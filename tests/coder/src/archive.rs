@@ -1,23 +1,6 @@
-//! The archive's calls, as include/zebrankai.h declares them (`tests/names`). What a call may change stands between guards, so that a byte
-//! written outside is seen.
+//! Makes calls through the archive. What a call may change stands between guards, so that a byte written outside is seen.
 
 use crate::call::{Call, Lent, Outcome};
-use crate::code::Sizes;
-
-macro_rules! asked {
-    ($name:ident ($($c:tt)*) ($($rust:tt)*) ($($to_c:tt)*) $from_c:tt) => {
-        #[allow(clippy::too_many_arguments)]
-        fn $name($($rust)*) -> u64 {
-            extern "C" {
-                fn $name($($c)*) -> u64;
-            }
-            // Safety: each pointer is a slice's, and its number of elements follows.
-            unsafe { $name($($to_c)*) }
-        }
-    };
-}
-
-names::archive!(asked);
 
 /// How many elements stand on each side of what is lent.
 const GUARD: usize = 64;
@@ -65,30 +48,8 @@ pub fn perform(call: &Call, lent: &Lent) -> Performed {
     let mut record = Guarded::new(&lent.record, 0xA5A5_5A5A_C3C3_3C3C);
     let mut area = Guarded::new(&lent.area, 0xA5);
     let mut out = Guarded::new(&lent.out, 0xC3);
-    let answer = ask(call, record.lent(), area.lent(), out.lent());
+    let answer = call.ask(record.lent(), area.lent(), out.lent());
     let kept_inside = record.intact() && area.intact() && out.intact();
     let lent = Lent { record: record.content(), area: area.content(), out: out.content() };
     Performed { outcome: Outcome { answer, lent }, kept_inside }
-}
-
-fn ask(call: &Call, record: &mut [u64], area: &mut [u8], out: &mut [u8]) -> u64 {
-    match call {
-        Call::Share { sizes, node, file } => zbk_share(*sizes, *node, file, out),
-        Call::File { sizes, length, boards, shares } => zbk_file(*sizes, *length, boards, shares, out),
-        Call::Helper { sizes, length, helper, receiver, share } => {
-            zbk_helper_packet(*sizes, *length, *helper, *receiver, share, out)
-        }
-        Call::Exchange { sizes, length, board, helpers, packets, receiver } => {
-            zbk_exchange_packet(*sizes, *length, *board, helpers, packets, *receiver, out)
-        }
-        Call::Finished { sizes, length, board, helpers, packets, partners, partner_packets } => {
-            zbk_finished_share(*sizes, *length, *board, helpers, packets, partners, partner_packets, out)
-        }
-        Call::Text { sizes, length, node, share } => zbk_share_text(*sizes, *length, *node, share, out),
-        Call::SetUp { sizes, capacity } => zbk_set_up(record, *sizes, *capacity),
-        Call::Write { file } => zbk_write(record, area, file),
-        Call::Lose { board } => zbk_lose(record, *board),
-        Call::Repair { fresh, helpers } => zbk_repair(record, area, fresh, helpers),
-        Call::Read { boards } => zbk_read(record, area, boards, out),
-    }
 }
