@@ -22,7 +22,7 @@ use Rattle.sizes.proofs.Laws.{number-low}
 use Rattle.mbcr.specs.Share.{standard}
 use Rattle.store_spec.specs.Record.{Record, newRecord}
 use Rattle.store_spec.specs.Packets.{total, repairPackets}
-use Rattle.store_spec.specs.Calls.{StoreOutcome, accepted, settle, refused, recordLine, setUpCall, repairLines, repairDone, repairCall}
+use Rattle.store_spec.specs.Calls.{StoreOutcome, accepted, settle, refused, recordLine, setUpCall, repairLines, repairDone, repairCall, readCall}
 use Rattle.store_spec.specs.Ledger.{Call, read, Book, State, Step, Altered, Allowed, outputOf, left, act, stepOutcome, replies, final, openBook, enter, bookFinal}
 use Rattle.board_spec.specs.Calls.{fileOf}
 use Rattle.store_spec.specs.Demand3.{Kept, Demand3, begun, calls}
