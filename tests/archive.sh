@@ -1,7 +1,7 @@
 #!/bin/sh
-# All that stands on the archive: the C header and the C example, the Rust bindings, the demo, and the unrelated coder, which runs the figures
-# of document 01 and random calls through the archive and must report no mismatch, and must report one that is made on purpose. Proves and
-# builds the archive first; ZBK_ARCHIVE names another one to use instead, seen from the top folder. One line for each step; ends with exit
+# All that stands on the archive: the C header and the C example, the Rust bindings, the demo, ./install, and the unrelated coder, which runs the
+# figures of document 01 and random calls through the archive and must report no mismatch, and must report one that is made on purpose. Proves
+# and builds the archive first; ZBK_ARCHIVE names another one to use instead, seen from the top folder. One line for each step; ends with exit
 # code 1 where a step fails.
 set -eu
 cd "$(dirname "$0")/.."
@@ -24,7 +24,14 @@ step() {
 }
 
 archive=${ZBK_ARCHIVE:-target/staticlib/libzebrankai.a}
-step "the archive: $archive" sh tests/prove_archive.sh
+sh tests/prove_archive.sh || { echo "FAIL the archive: $archive"; exit 1; }
+echo "ok the archive: $archive"
+step "how far the proof is, as it is shown" sh tests/progress.sh
+if [ -z "${ZBK_ARCHIVE:-}" ]; then
+    step "./install, and a C program by its two lines" sh tests/install.sh
+else
+    echo "skipped ./install: it takes the proved archive alone"
+fi
 
 strict='-Wall -Wextra -Werror -Iinclude'
 # shellcheck disable=SC2086 # the options are words

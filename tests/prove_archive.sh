@@ -1,16 +1,117 @@
 #!/bin/sh
-# Proves the archive and writes target/staticlib/libzebrankai.a, quietly: what the prover said is in target/prove_archive.log, and is shown where
-# it fails. Where ZBK_ARCHIVE names another archive, seen from the top folder, it only sees that this is there.
+# Proves the archive and writes target/staticlib/libzebrankai.a: first the crates that it rests on, side by side as `rt check` proves them, then
+# the archive itself. On a terminal one line on standard error says how far it is; elsewhere there is a line for every ten crates. What the
+# prover said is in target/prove_archive.log, and is shown of crates that are not proved. An archive that was proved and built from the files as
+# they stand is not built again. Where ZBK_ARCHIVE names another archive, seen from the top folder, it only sees that this is there.
 set -eu
 cd "$(dirname "$0")/.."
+say() { printf '%s\n' "$*" >&2; }
 if [ -n "${ZBK_ARCHIVE:-}" ]; then
-    [ -f "$ZBK_ARCHIVE" ] || { echo "there is no archive $ZBK_ARCHIVE" >&2; exit 1; }
+    [ -f "$ZBK_ARCHIVE" ] || { say "there is no archive $ZBK_ARCHIVE"; exit 1; }
     exit 0
 fi
-echo "proving and building the archive; the first time takes some minutes" >&2
-mkdir -p target
-if ! rt staticlib zebrankai >target/prove_archive.log 2>&1; then
-    cat target/prove_archive.log >&2
-    echo "the archive could not be proved and built" >&2
+command -v rt >/dev/null || { say "rt, the Rattle toolchain, is not on the path"; exit 1; }
+archive=target/staticlib/libzebrankai.a
+log=target/prove_archive.log
+
+# the crates that the archive rests on, in the order of crates.txt; it is the last itself
+below=$(awk '
+    function visit(n,    d, i, m) { if (n in seen || !(n in deps)) return; seen[n]; m = split(deps[n], d, " "); for (i = 1; i <= m; i++) visit(d[i]) }
+    { sub(/#.*/, ""); at = index($0, ":") }
+    at { n = substr($0, 1, at - 1); gsub(/[ \t]/, "", n); deps[n] = substr($0, at + 1); list[++count] = n }
+    END { visit("zebrankai"); for (i = 1; i <= count; i++) if (list[i] in seen && list[i] != "zebrankai") print list[i] }' crates.txt)
+all=$(($(printf '%s\n' "$below" | wc -l) + 1))
+
+# what the archive is made of: the toolchain, and every file of these crates
+sources() {
+    rt version
+    uname -m
+    sed 's/#.*//; s/[[:blank:]]*$//; /^$/d' crates.txt | LC_ALL=C sort
+    for crate in $below zebrankai; do
+        find "crates/$crate/src" "crates/$crate/specs" "crates/$crate/proofs" -type f -exec sha256sum {} + 2>/dev/null | LC_ALL=C sort -k 2
+    done
+}
+made_of() { sources | sha256sum; }
+# and the archive itself
+now() { made_of && sha256sum "$archive"; }
+
+if [ -f "$archive" ] && [ -f "$archive.of" ] && [ "$(now)" = "$(cat "$archive.of")" ]; then
+    say "the archive is proved and built"
+    exit 0
+fi
+
+began=$(date +%s)
+took() { t=$(($(date +%s) - began)) && printf '%d:%02d' $((t / 60)) $((t % 60)); }
+mkdir -p target/log
+rm -f "$archive.of"
+: >"$log"
+say "proving and building the archive, $all crates: from nothing about 5 minutes on two cores"
+
+# the crates that are done, and those being proved: each has an empty file in target/log until it ends
+ended() { sed -n 's/^rt: \([A-Za-z0-9_]*\) proved (.*/\1/p' "$log" | sort -u | wc -l | tr -d ' '; }
+running() {
+    names=$(find target/log -name '*.out' -size 0 -newer "$log.began" 2>/dev/null | sed 's,.*/,,; s,\.out$,,' | tr '\n' ' ')
+    [ -n "$names" ] || [ "$1" -lt $((all - 1)) ] || names='zebrankai '
+    printf '%s' "${names:+; now ${names% }}"
+}
+# one line, kept up to date
+line() {
+    while kill -0 $$ 2>/dev/null; do
+        n=$(ended)
+        wide=$(stty size <&2 2>/dev/null | cut -d' ' -f2)
+        [ "${wide:-0}" -gt 0 ] || wide=80
+        printf "\r\033[K%.$((wide - 1))s" "proved $n of $all crates, $(took) so far$(running "$n")" >&2
+        sleep 1 >/dev/null 2>&1
+    done
+}
+# a line for every ten crates
+lines() {
+    told=0
+    while kill -0 $$ 2>/dev/null; do
+        n=$(ended)
+        if [ $((n / 10)) -gt $((told / 10)) ]; then
+            say "proved $n of $all crates, $(took) so far"
+            told=$n
+        fi
+        sleep 1 >/dev/null 2>&1
+    done
+}
+
+: >"$log.began"
+if [ -t 2 ] && [ "${TERM:-dumb}" != dumb ]; then
+    line &
+    clear='\r\033[K'
+else
+    lines &
+    clear=
+fi
+shower=$!
+quiet() {
+    [ -n "$shower" ] || return 0
+    kill "$shower" 2>/dev/null || true
+    wait "$shower" 2>/dev/null || true
+    shower=
+    # shellcheck disable=SC2059 # the control characters
+    printf "$clear" >&2
+    rm -f "$log.began"
+}
+trap quiet EXIT
+trap 'exit 130' INT
+trap 'exit 143' TERM HUP
+
+first=$(made_of)
+# shellcheck disable=SC2086 # the crates are words
+if ! { rt check $below && rt staticlib zebrankai; } >"$log" 2>&1; then
+    quiet
+    # what was said of a crate that is proved is left out
+    awk '/^rt: [A-Za-z0-9_]+ proved \(/ { text = ""; next }
+        { text = text $0 "\n" }
+        /^rt: / { printf "%s", text; text = "" }
+        END { printf "%s", text }' "$log" >&2
+    say "the archive could not be proved and built; all that the prover said is in $log"
     exit 1
 fi
+quiet
+# a file that changed while it was proved has to be looked at again
+if [ "$(made_of)" = "$first" ]; then now >"$archive.of"; fi
+say "the archive is proved and built, $all crates in $(took)"

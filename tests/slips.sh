@@ -8,7 +8,7 @@ cd "$(dirname "$0")/.."
 work=$PWD/target/slips
 rm -rf "$work/tests"
 mkdir -p "$work/tests"
-cp -r tests/plain tests/standin "$work/tests"
+cp -r tests/names tests/plain tests/standin "$work/tests"
 CARGO_TARGET_DIR=$work/cargo
 ZBK_ARCHIVE=$work/cargo/release/libstandin.a
 # no speed is needed here

@@ -1,6 +1,7 @@
 #!/bin/sh
 # docs/STATEMENTS.md is true to the tree: each file that it names is there, each name that it cites in `file: name` stands in that file, each
-# must-fail edit that it names exists and each edit of the tree is named; and the definitions a buyer reads are at most 700 lines.
+# must-fail edit that it names exists and each edit of the tree is named; and the definitions a buyer reads are at most 700 lines. Then that
+# docs/ARCHITECTURE.md is true to crates.txt.
 set -eu
 cd "$(dirname "$0")/.."
 page=docs/STATEMENTS.md
@@ -32,18 +33,16 @@ done
 # how much a buyer reads: definitions, theorem statements, tables; without imports, blanks and comments
 lines() { cat "$@" | grep -v -E '^[[:space:]]*(--|use |$)' | wc -l | tr -d ' '; }
 tables=$(ls crates/*/specs/*Figures.antt)
-claims=$(ls crates/*/specs/Laws.antt crates/*/specs/Demand?.antt crates/*/specs/Stripes.antt)
-definitions=$(ls crates/*/specs/*.antt | grep -v -e '/Lib.antt$' -e '/Multiples.antt$')
+claims=$(ls crates/*/specs/*Laws.antt crates/*/specs/Demand?.antt crates/*/specs/Stripes.antt crates/*/specs/Premises.antt crates/*/specs/Gives.antt crates/*/specs/Claims.antt)
+definitions=$(ls crates/*/specs/*.antt | grep -v -e '/Lib.antt$')
 # what only inner functions cite: no public call's contract rests on it
-inner='crates/own/specs/Steps.antt crates/grid/specs/Layout.antt crates/decode/specs/Agree.antt crates/columns/specs/Steps.antt
-crates/text_lines/specs/Wrote.antt crates/checks/specs/Asked.antt crates/printer/specs/Machine.antt crates/store_checks/specs/Parts.antt
-crates/repair_hear/specs/Turns.antt crates/store_repair/specs/Rebuilt.antt'
+inner=$(ls crates/*/specs/Steps.antt)
 # the archive's words, beside the calls that they are for
 archive='crates/answer_word/specs/Answers.antt crates/words/specs/Words.antt crates/zebrankai/specs/Archive.antt crates/zebrankai/specs/Lent.antt'
 for f in $tables $claims $inner $archive; do definitions=$(printf '%s\n' $definitions | grep -vxF "$f"); done
 for f in $inner; do
     crate=${f#crates/} name=$(basename "$f" .antt)
-    ! grep -l "·${crate%%/*}.*specs\.$name\." crates/board_*/specs/*.antt crates/store_statements/specs/*.antt crates/mbcr/specs/*.antt >/dev/null 2>&1 \
+    ! grep -l "·${crate%%/*}.*specs\.$name\." crates/board_*/specs/*.antt crates/store_spec/specs/*.antt crates/mbcr/specs/*.antt >/dev/null 2>&1 \
         || complain "a definition rests on the inner $f"
 done
 d=$(lines $definitions) c=$(lines $claims) t=$(lines $tables) i=$(lines $inner) a=$(lines $archive)
@@ -54,4 +53,5 @@ grep -qF "Theorem statements: $c lines" "$page" || complain "it does not say tha
 grep -qF "Tables of figures: $t lines" "$page" || complain "it does not say that the tables have $t lines"
 grep -qF "The archive: $a lines" "$page" || complain "it does not say that the archive's definitions have $a lines"
 grep -qF "Inner definitions: $i lines" "$page" || complain "it does not say that the inner definitions have $i lines"
+sh tests/architecture.sh || bad=1
 exit $bad

@@ -3,7 +3,93 @@
 //! their list of boards.
 
 use crate::refusal::result;
-use crate::{sys, Refusal, Sizes};
+use crate::{Refusal, Sizes};
+
+// The calls of single boards, as include/zebrankai.h declares them.
+extern "C" {
+    fn zbk_share(
+        n: usize,
+        k: usize,
+        d: usize,
+        r: usize,
+        node: usize,
+        file: *const u8,
+        file_len: usize,
+        out: *mut u8,
+        out_len: usize,
+    ) -> u64;
+    fn zbk_file(
+        n: usize,
+        k: usize,
+        d: usize,
+        r: usize,
+        length: usize,
+        boards: *const usize,
+        boards_count: usize,
+        shares: *const u8,
+        shares_len: usize,
+        out: *mut u8,
+        out_len: usize,
+    ) -> u64;
+    fn zbk_helper_packet(
+        n: usize,
+        k: usize,
+        d: usize,
+        r: usize,
+        length: usize,
+        helper: usize,
+        receiver: usize,
+        share: *const u8,
+        share_len: usize,
+        out: *mut u8,
+        out_len: usize,
+    ) -> u64;
+    fn zbk_exchange_packet(
+        n: usize,
+        k: usize,
+        d: usize,
+        r: usize,
+        length: usize,
+        board: usize,
+        helpers: *const usize,
+        helpers_count: usize,
+        packets: *const u8,
+        packets_len: usize,
+        receiver: usize,
+        out: *mut u8,
+        out_len: usize,
+    ) -> u64;
+    fn zbk_finished_share(
+        n: usize,
+        k: usize,
+        d: usize,
+        r: usize,
+        length: usize,
+        board: usize,
+        helpers: *const usize,
+        helpers_count: usize,
+        packets: *const u8,
+        packets_len: usize,
+        partners: *const usize,
+        partners_count: usize,
+        partner_packets: *const u8,
+        partner_packets_len: usize,
+        out: *mut u8,
+        out_len: usize,
+    ) -> u64;
+    fn zbk_share_text(
+        n: usize,
+        k: usize,
+        d: usize,
+        r: usize,
+        length: usize,
+        node: usize,
+        share: *const u8,
+        share_len: usize,
+        out: *mut u8,
+        out_len: usize,
+    ) -> u64;
+}
 
 // Safety, for every call below: a slice is handed over as its pointer and its length, so it is valid for as many elements; the pointer of a
 // slice is never null; and `out` is lent to this call alone, so it overlaps nothing else.
@@ -11,14 +97,14 @@ use crate::{sys, Refusal, Sizes};
 /// The share of board `node` of a file.
 pub fn share(sizes: Sizes, node: usize, file: &[u8], out: &mut [u8]) -> Result<usize, Refusal> {
     let Sizes { n, k, d, r } = sizes;
-    result(unsafe { sys::zbk_share(n, k, d, r, node, file.as_ptr(), file.len(), out.as_mut_ptr(), out.len()) })
+    result(unsafe { zbk_share(n, k, d, r, node, file.as_ptr(), file.len(), out.as_mut_ptr(), out.len()) })
 }
 
 /// The file of `length` bytes that k boards' shares give; refused with [`Refusal::Disagree`] where no file of that length has them.
 pub fn file(sizes: Sizes, length: usize, boards: &[usize], shares: &[u8], out: &mut [u8]) -> Result<usize, Refusal> {
     let Sizes { n, k, d, r } = sizes;
     result(unsafe {
-        sys::zbk_file(
+        zbk_file(
             n,
             k,
             d,
@@ -45,7 +131,7 @@ pub fn helper_packet(
 ) -> Result<usize, Refusal> {
     let Sizes { n, k, d, r } = sizes;
     result(unsafe {
-        sys::zbk_helper_packet(
+        zbk_helper_packet(
             n,
             k,
             d,
@@ -73,7 +159,7 @@ pub fn exchange_packet(
 ) -> Result<usize, Refusal> {
     let Sizes { n, k, d, r } = sizes;
     result(unsafe {
-        sys::zbk_exchange_packet(
+        zbk_exchange_packet(
             n,
             k,
             d,
@@ -105,7 +191,7 @@ pub fn finished_share(
 ) -> Result<usize, Refusal> {
     let Sizes { n, k, d, r } = sizes;
     result(unsafe {
-        sys::zbk_finished_share(
+        zbk_finished_share(
             n,
             k,
             d,
@@ -130,6 +216,6 @@ pub fn finished_share(
 pub fn share_text(sizes: Sizes, length: usize, node: usize, share: &[u8], out: &mut [u8]) -> Result<usize, Refusal> {
     let Sizes { n, k, d, r } = sizes;
     result(unsafe {
-        sys::zbk_share_text(n, k, d, r, length, node, share.as_ptr(), share.len(), out.as_mut_ptr(), out.len())
+        zbk_share_text(n, k, d, r, length, node, share.as_ptr(), share.len(), out.as_mut_ptr(), out.len())
     })
 }

@@ -38,7 +38,6 @@ pub mod board;
 mod record;
 mod refusal;
 mod sizes;
-mod sys;
 
 pub use record::Record;
 pub use refusal::Refusal;

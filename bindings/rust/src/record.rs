@@ -1,7 +1,49 @@
 //! The store: a record of eight words, over an area that the caller lends to each call.
 
 use crate::refusal::result;
-use crate::{sys, Refusal, Sizes};
+use crate::{Refusal, Sizes};
+
+// The calls of the store, as include/zebrankai.h declares them.
+extern "C" {
+    fn zbk_set_up(
+        record: *mut u64,
+        record_words: usize,
+        n: usize,
+        k: usize,
+        d: usize,
+        r: usize,
+        capacity: usize,
+    ) -> u64;
+    fn zbk_write(
+        record: *mut u64,
+        record_words: usize,
+        area: *mut u8,
+        area_len: usize,
+        file: *const u8,
+        file_len: usize,
+    ) -> u64;
+    fn zbk_lose(record: *mut u64, record_words: usize, board: usize) -> u64;
+    fn zbk_repair(
+        record: *mut u64,
+        record_words: usize,
+        area: *mut u8,
+        area_len: usize,
+        fresh: *const usize,
+        fresh_count: usize,
+        helpers: *const usize,
+        helpers_count: usize,
+    ) -> u64;
+    fn zbk_read(
+        record: *mut u64,
+        record_words: usize,
+        area: *const u8,
+        area_len: usize,
+        boards: *const usize,
+        boards_count: usize,
+        out: *mut u8,
+        out_len: usize,
+    ) -> u64;
+}
 
 /// The record of a store: its sizes, its capacity, whether a file was written and how long it is, and which boards are in service. It
 /// belongs to one area of [`Sizes::area_len`] bytes, in which the boards stand one after another; give each call the area as the last call
@@ -20,7 +62,7 @@ impl Record {
         let mut record = Record { words: [0; 8] };
         let Sizes { n, k, d, r } = sizes;
         let words = &mut record.words;
-        result(unsafe { sys::zbk_set_up(words.as_mut_ptr(), words.len(), n, k, d, r, capacity) })?;
+        result(unsafe { zbk_set_up(words.as_mut_ptr(), words.len(), n, k, d, r, capacity) })?;
         Ok(record)
     }
 
@@ -64,7 +106,7 @@ impl Record {
     pub fn write(&mut self, area: &mut [u8], file: &[u8]) -> Result<(), Refusal> {
         let words = &mut self.words;
         result(unsafe {
-            sys::zbk_write(words.as_mut_ptr(), words.len(), area.as_mut_ptr(), area.len(), file.as_ptr(), file.len())
+            zbk_write(words.as_mut_ptr(), words.len(), area.as_mut_ptr(), area.len(), file.as_ptr(), file.len())
         })
         .map(drop)
     }
@@ -72,7 +114,7 @@ impl Record {
     /// Takes a board out of service.
     pub fn lose(&mut self, board: usize) -> Result<(), Refusal> {
         let words = &mut self.words;
-        result(unsafe { sys::zbk_lose(words.as_mut_ptr(), words.len(), board) }).map(drop)
+        result(unsafe { zbk_lose(words.as_mut_ptr(), words.len(), board) }).map(drop)
     }
 
     /// Rebuilds r fresh boards together, in service or not before. `helpers` has r × d numbers: the d helpers of the first fresh board, then
@@ -80,7 +122,7 @@ impl Record {
     pub fn repair(&mut self, area: &mut [u8], fresh: &[usize], helpers: &[usize]) -> Result<usize, Refusal> {
         let words = &mut self.words;
         result(unsafe {
-            sys::zbk_repair(
+            zbk_repair(
                 words.as_mut_ptr(),
                 words.len(),
                 area.as_mut_ptr(),
@@ -98,7 +140,7 @@ impl Record {
         // the call is lent a copy, since a read hands on the record as it came
         let mut words = self.words;
         result(unsafe {
-            sys::zbk_read(
+            zbk_read(
                 words.as_mut_ptr(),
                 words.len(),
                 area.as_ptr(),

@@ -9,7 +9,7 @@ ghost use Rattle.gf256.specs.Field.{inverse};
 ghost use Rattle.sizes.specs.Sizing.{legal, α, stripes as stripesOf};
 ghost use Rattle.sizes.specs.Refusals.{_when_};
 ghost use Rattle.mbcr.specs.Read.{readFile};
-ghost use Rattle.checks.specs.Asked.{asked};
+ghost use Rattle.checks.specs.Steps.{asked};
 use sizes::Check;
 use sizes::Refusal;
 use sizes::Sizes;

@@ -1,1 +1,1 @@
-pub mod ExchangeCall
+pub mod Exchanges

@@ -1,52 +1,67 @@
 //! Document 01, board level, stateless, for all input: an exchange packet.
-//! The call meets its definition in the crate `board_statements` at document 01's points: the answer, and every byte of the output that it
+//! The call meets its definition in the crate `board_spec` at document 01's points: the answer, and every byte of the output that it
 //! was lent. A refusal leaves the output as it came.
 ghost use mathlib.Core.Path.{_≡_};
+ghost use Rattle.sizes.specs.Refusals.{first, boardOrder};
 ghost use Rattle.mbcr.specs.Share.{standard};
-ghost use Rattle.board_statements.specs.Calls.{exchangeCall};
+ghost use Rattle.board_spec.specs.Calls.{exchangeLines, exchangeCall};
 ghost use Rattle.checks.specs.Outcomes.{outcome};
 use sizes::Answer;
 use sizes::Check;
 use sizes::Sizes;
 
+// The first refusal of an exchange packet: its lines in document 01's order. Each check's answer is taken apart, and a refusal returned early.
+fn check_exchange(
+    sizes: Sizes,
+    len: usize,
+    board: usize,
+    helpers: &[usize],
+    packets: &[u8],
+    receiver: usize,
+    out: &[u8],
+) -> Check
+    ensures { λ r. ⌜ r ≡ first boardOrder (exchangeLines sizes standard len board (now (helpers .entry)) (now (packets .entry)) receiver (now (out .entry))) ⌝ }
+{
+    if let Check::Refuse(stated) = checks::check_stated(sizes, len) {
+        return Check::Refuse(stated);
+    }
+    if let Check::Refuse(count) = checks::check_count(helpers.len(), sizes.d) {
+        return Check::Refuse(count);
+    }
+    if let Check::Refuse(node) = checks::check_nodes_with(sizes, board, receiver, helpers) {
+        return Check::Refuse(node);
+    }
+    if let Check::Refuse(repeat) = checks::check_repeat_with(board, receiver, helpers) {
+        return Check::Refuse(repeat);
+    }
+    let stripes = checks::stripe_count(sizes, len);
+    if let Check::Refuse(lent) = checks::check_lent(packets.len(), sizes.d * (2 * stripes)) {
+        return Check::Refuse(lent);
+    }
+    if let Check::Refuse(short) = checks::check_room(out, stripes) {
+        return Check::Refuse(short);
+    }
+    let points = checks::standard_points();
+    checks::check_points(&points, sizes.n)
+}
+
 // The exchange packet that a board being rebuilt makes of its d helper packets, for another. Answers the number of bytes written.
 pub fn exchange_packet(
     sizes: Sizes,
-    length: usize,
+    len: usize,
     board: usize,
     helpers: &[usize],
     packets: &[u8],
     receiver: usize,
     out: &mut [u8],
 ) -> Answer
-    ensures { λ r. ⌜ outcome r (now (out .exit)) ≡ exchangeCall sizes standard length board (now (helpers .entry)) (now (packets .entry)) receiver (now (out .entry)) ⌝ }
+    ensures { λ r. ⌜ outcome r (now (out .exit)) ≡ exchangeCall sizes standard len board (now (helpers .entry)) (now (packets .entry)) receiver (now (out .entry)) ⌝ }
 {
-    if let Check::Refuse(x) = checks::check_sizes(sizes) {
+    if let Check::Refuse(x) = check_exchange(sizes, len, board, helpers, packets, receiver, out) {
         return Answer::Refused(x);
     }
-    if let Check::Refuse(x) = checks::check_length(sizes, length) {
-        return Answer::Refused(x);
-    }
-    if let Check::Refuse(x) = checks::check_count(helpers.len(), sizes.d) {
-        return Answer::Refused(x);
-    }
-    if let Check::Refuse(x) = checks::check_nodes_with(sizes, board, receiver, helpers) {
-        return Answer::Refused(x);
-    }
-    if let Check::Refuse(x) = checks::check_repeat_with(board, receiver, helpers) {
-        return Answer::Refused(x);
-    }
-    let stripes = checks::stripe_count(sizes, length);
-    if let Check::Refuse(x) = checks::check_lent(packets.len(), sizes.d * (2 * stripes)) {
-        return Answer::Refused(x);
-    }
-    if let Check::Refuse(x) = checks::check_room(out, stripes) {
-        return Answer::Refused(x);
-    }
+    let stripes = checks::stripe_count(sizes, len);
     let points = checks::standard_points();
-    if let Check::Refuse(x) = checks::check_points(&points, sizes.n) {
-        return Answer::Refused(x);
-    }
     let mut inverses = [0u8; 256];
     interpolation::fill_inverses(&mut inverses);
     exchange::exchange_packet(

@@ -1,31 +1,87 @@
--- A file from k shares: its answer where a check refuses, and where none does.
+-- A file from k shares: what the kernels ask, from what the checks told; and what the call answers by what its check answered.
 -- Assumes nothing.
-use Prim.Native.Nat.{ℕ, _*_}
+use Prim.Native.Nat.{ℕ, _*_, _≤_, _<_}
 use mathlib.Core.Path.{_≡_, refl, sym, ap, _∙_}
+use mathlib.Core.Logic.{_≢_}
 use mathlib.Core.Bool.{Bool, true, false, not}
 use mathlib.Core.Option.{some, none}
 use mathlib.Core.List.{List, [], _∷_, _++_}
-use borrow.Author.Tests.{eqb-true}
+use native.Mathlib.Omega.{arith}
+use borrow.Author.Tests.{ltb-false, eqb-true}
 use lib.Dec.{eqb}
-use lib.ListN.{length, drop}
-use Rattle.lists.specs.Tests.{pick, same, given}
+use lib.ListN.{length, getD, take, drop}
+use lib.Seq.{length-take-le, getD-take}
+use Rattle.lists.specs.Tests.{pick, alls, same, below, different, given}
 use Rattle.lists.proofs.Tests.{true-false, not-no, alls-hold}
+use Rattle.lists.proofs.Alls.{distinct-of}
+use Rattle.lists.proofs.Boards.{distinct-different}
 use Rattle.sizes.specs.declared.Sizes.{Sizes}
 use Rattle.sizes.specs.declared.Refusal.{Refusal}
-use Rattle.sizes.specs.declared.Refusal.the-variants.{Disagree, Points}
+use Rattle.sizes.specs.declared.Refusal.the-variants.{Points}
+use Rattle.sizes.specs.declared.Check.{Check}
+use Rattle.sizes.specs.declared.Check.the-variants.{Pass, Refuse}
 use Rattle.sizes.specs.declared.Answer.the-variants.{Done, Refused}
-use Rattle.sizes.specs.Refusals.{Line, _when_}
+use Rattle.sizes.specs.Refusals.{_when_, first, boardOrder}
 use Rattle.sizes.specs.Sizing.{legal, α, stripes}
 use Rattle.sizes.proofs.Legal.{legal-facts}
-use Rattle.mbcr.specs.Share.{standard, shares}
+use Rattle.sizes.proofs.Lines.{first-clear}
+use Rattle.mbcr.specs.Share.{DifferentPoints, point, shares}
 use Rattle.mbcr.specs.Read.{decodedFile, readFile}
-use Rattle.mbcr.proofs.Points.{Boards, boards-of, standard-points}
+use Rattle.mbcr.proofs.Points.{boards-of}
 use Rattle.mbcr.proofs.Read.{length-decoded-file}
-use Rattle.board_statements.specs.Calls.{settled, fileOf, sizeLine, longLine, countLine, nodeLine, repeatLine, areaLine, shortLine, equalPoints, readRuns, fileLines, fileCall}
-use Rattle.board_statements.proofs.Runs.{read-runs}
-use Rattle.checks.proofs.Answers.{passed, passes}
+use Rattle.board_spec.specs.Calls.{fileOf, countLine, nodeLine, repeatLine, areaLine, equalPoints, readRuns, fileLines, fileCall}
+use Rattle.board_spec.proofs.Runs.{read-runs}
+use Rattle.checks.specs.Steps.{asked}
 use Rattle.checks.specs.Outcomes.{outcome}
-use Rattle.checks.proofs.Given.{chain, Passed, Refuses, refuse-at, done-at}
+use Rattle.checks.proofs.Answers.{passed, passes}
+use Rattle.checks.proofs.Facts.{Stated, refused-by, done-by}
+
+-- ---- what the kernels ask
+
+pub record Readable (z : Sizes) (L : ℕ) (boards : List ℕ) (m : ℕ) : Type 0 where
+  pub stated : Stated z L
+  pub enough : length boards ≡ z .k
+  pub known : below (z .n) boards ≡ true
+  pub all-different : different boards ≡ true
+  pub held-is : m ≡ z .k * (stripes z L * α z)
+
+-- from the lines before SHORT
+one : (a b : ℕ) → not (alls (eqb a b ∷ [])) ≡ false → a ≡ b
+one a b e = eqb-true a b (alls-hold (eqb a b ∷ []) (not-no _ e) .0)
+
+pub readable : (z : Sizes) (L : ℕ) (boards : List ℕ) (m : ℕ) → Stated z L → asked (countLine (eqb (length boards) (z .k) ∷ [])) ≡ Pass
+    → asked (nodeLine z boards) ≡ Pass → asked (repeatLine boards) ≡ Pass → asked (areaLine (eqb m (z .k * (stripes z L * α z)) ∷ [])) ≡ Pass
+    → Readable z L boards m
+readable z L boards m s count node repeat area =
+    record {
+      stated = s;
+      enough = one _ _ (passed (countLine (eqb (length boards) (z .k) ∷ [])) count);
+      known = not-no _ (passed (nodeLine z boards) node);
+      all-different = not-no _ (passed (repeatLine boards) repeat);
+      held-is = one _ _ (passed (areaLine (eqb m (z .k * (stripes z L * α z)) ∷ [])) area);
+    }
+
+-- ---- points of different boards
+
+module _ (z : Sizes) (xs : List ℕ) (pts : DifferentPoints z xs) (enough : z .n ≤ length xs) where
+  apart : (i j : ℕ) → i < j → j < length (take (z .n) xs) → getD (take (z .n) xs) j 0 ≢ getD (take (z .n) xs) i 0
+  apart i j h k e =
+      let l : length (take (z .n) xs) ≡ z .n = length-take-le (z .n) xs enough in
+      let e′ : point xs i ≡ point xs j = sym (getD-take (z .n) xs i 0 (omega arith)) ∙ sym e ∙ getD-take (z .n) xs j 0 (omega arith) in
+      let p : i ≡ j = pts .differ i j (omega arith) (omega arith) e′ in
+      omega arith
+
+  points-differ : different (take (z .n) xs) ≡ true
+  points-differ = distinct-different (take (z .n) xs) (distinct-of (take (z .n) xs) apart)
+
+  -- what `check_points` answers, as the line of the call
+  pub points-line : (boards : List ℕ) → legal z ≡ true → below (z .n) boards ≡ true → different boards ≡ true
+      → asked (Points when not (different (take (z .n) xs))) ≡ asked (Points when equalPoints xs (readRuns z boards))
+  points-line boards h k d =
+      sym (passes (Points when not (different (take (z .n) xs))) (ap not points-differ))
+      ∙ passes (Points when equalPoints xs (readRuns z boards)) (read-runs z xs (legal-facts z h) pts boards (boards-of z boards k d))
+
+-- ---- the call, at any points
 
 found : (t : Bool) (l : List ℕ) → given (pick t (some l) none) ≡ true → fileOf (pick t (some l) none) ≡ l
 found true l h = refl
@@ -37,40 +93,36 @@ read-is : (z : Sizes) (xs : List ℕ) (L : ℕ) (boards held : List ℕ) → giv
 unfolding readFile
 read-is z xs L boards held h = found (same (shares z xs (decodedFile z xs L boards held) boards) held) (decodedFile z xs L boards held) h
 
-module _ (z : Sizes) (L : ℕ) (boards held output : List ℕ) where
-  abbrev pub asks : List Line
-  asks =
-      sizeLine z
-      ∷ longLine z L
-      ∷ countLine (eqb (length boards) (z .k) ∷ [])
-      ∷ nodeLine z boards
-      ∷ repeatLine boards
-      ∷ areaLine (eqb (length held) (z .k * (stripes z L * α z)) ∷ [])
-      ∷ shortLine output L
-      ∷ Disagree when not (given (readFile z standard L boards held))
-      ∷ []
+module _ (z : Sizes) (xs : List ℕ) (L : ℕ) (boards held output : List ℕ) where
+  abbrev pub checked : Check
+  checked = first boardOrder (fileLines z xs L boards held output)
 
-  abbrev lines : List Line
-  lines = asks ++ (Points when equalPoints standard (readRuns z boards) ∷ [])
+  pub file-readable : checked ≡ Pass → Readable z L boards (length held)
+  unfolding fileLines
+  file-readable h =
+      let e = first-clear (fileLines z xs L boards held output) boardOrder h in
+      let f = e .1 .1 in
+      readable z L boards (length held) (record { is-legal = not-no _ (e .0); not-long = ltb-false _ _ (e .1 .0) })
+      (rw (f .0)) (rw (f .1 .0)) (rw (f .1 .1 .0)) (rw (f .1 .1 .1 .0))
 
-  is : settled (chain lines) (fileOf (readFile z standard L boards held)) output ≡ fileCall z standard L boards held output
-  unfolding fileLines fileCall
-  is = refl
+  pub file-room : checked ≡ Pass → L ≤ length output
+  unfolding fileLines
+  file-room h = ltb-false _ _ (first-clear (fileLines z xs L boards held output) boardOrder h .1 .1 .1 .1 .1 .1 .0)
 
-  pub refuses : (i : ℕ) (x : Refusal) → Refuses lines i x → outcome (Refused x) output ≡ fileCall z standard L boards held output
-  refuses i x h = refuse-at lines i x (fileOf (readFile z standard L boards held)) output h ∙ is
+  file-agrees : checked ≡ Pass → given (readFile z xs L boards held) ≡ true
+  unfolding fileLines
+  file-agrees h = not-no _ (first-clear (fileLines z xs L boards held output) boardOrder h .1 .1 .1 .1 .1 .1 .1 .0)
 
-  pub works : (points written : List ℕ) → points ≡ standard → legal z ≡ true → Passed asks
-      → written ≡ decodedFile z points L boards held ++ drop L output → outcome (Done L) written ≡ fileCall z standard L boards held output
-  works points written same ok p e =
-      let distinct : Boards z boards = boards-of z boards (not-no _ (passed (nodeLine z boards) (p .1 .1 .1 .0))) (not-no _ (passed (repeatLine boards) (p .1 .1 .1 .1 .0))) in
-      let f = legal-facts z ok in
-      let never : equalPoints standard (readRuns z boards) ≡ false = read-runs z standard f (standard-points z (f .few)) boards distinct in
-      let enough : length boards ≡ z .k = eqb-true _ _ (alls-hold (eqb (length boards) (z .k) ∷ []) (not-no _ (passed (countLine (eqb (length boards) (z .k) ∷ [])) (p .1 .1 .0))) .0) in
-      let agree : given (readFile z standard L boards held) ≡ true = not-no _ (passed (Disagree when not (given (readFile z standard L boards held))) (p .1 .1 .1 .1 .1 .1 .1 .0)) in
-      let read = read-is z standard L boards held agree in
-      done-at lines (fileOf (readFile z standard L boards held)) output written L
-      (p .0, (p .1 .0, (p .1 .1 .0, (p .1 .1 .1 .0, (p .1 .1 .1 .1 .0, (p .1 .1 .1 .1 .1 .0, (p .1 .1 .1 .1 .1 .1 .0, (p .1 .1 .1 .1 .1 .1 .1 .0, (sym (passes (Points when equalPoints standard (readRuns z boards)) never), tt)))))))))
-      (ap length read ∙ length-decoded-file z standard f boards enough L held)
-      (e ∙ ap (λ (xs : List ℕ). decodedFile z xs L boards held ++ drop L output) same ∙ ap (λ (l : List ℕ). l ++ drop L output) (sym read))
-      ∙ is
+  pub file-refuses : {x : Refusal} → checked ≡ Refuse x → outcome (Refused x) output ≡ fileCall z xs L boards held output
+  unfolding fileCall
+  file-refuses e = refused-by (fileOf (readFile z xs L boards held)) output e
+
+  pub file-works : (points written : List ℕ) → checked ≡ Pass → points ≡ xs → written ≡ decodedFile z points L boards held ++ drop L output
+      → outcome (Done L) written ≡ fileCall z xs L boards held output
+  unfolding fileCall
+  file-works points written p ep e =
+      let f = file-readable p in
+      let read = read-is z xs L boards held (file-agrees p) in
+      done-by (fileOf (readFile z xs L boards held)) output written L p
+      (ap length read ∙ length-decoded-file z xs (legal-facts z (f .stated .is-legal)) boards (f .enough) L held)
+      (e ∙ ap (λ (ps : List ℕ). decodedFile z ps L boards held ++ drop L output) ep ∙ ap (λ (l : List ℕ). l ++ drop L output) (sym read))

@@ -1,68 +1,74 @@
 //! Document 01, board level, stateless, for all input: a file from k shares.
-//! The call meets its definition in the crate `board_statements` at document 01's points: the answer, and every byte of the output that it
+//! The call meets its definition in the crate `board_spec` at document 01's points: the answer, and every byte of the output that it
 //! was lent. A refusal leaves the output as it came.
 ghost use mathlib.Core.Path.{_≡_};
-ghost use lib.ListN.{length};
+ghost use Rattle.sizes.specs.Refusals.{first, boardOrder};
 ghost use Rattle.mbcr.specs.Share.{standard};
-ghost use Rattle.board_statements.specs.Calls.{fileCall};
+ghost use Rattle.board_spec.specs.Calls.{fileLines, fileCall};
 ghost use Rattle.checks.specs.Outcomes.{outcome};
+ghost use Rattle.board_file.specs.Steps.{Tables};
 use sizes::Answer;
 use sizes::Check;
 use sizes::Sizes;
 
-// The file of so many bytes that k shares give, or DISAGREE where no such file has them. Answers the number of bytes written.
-pub fn file(sizes: Sizes, length: usize, boards: &[usize], held: &[u8], out: &mut [u8]) -> Answer
-    ensures { λ r. ⌜ outcome r (now (out .exit)) ≡ fileCall sizes standard length (now (boards .entry)) (now (held .entry)) (now (out .entry)) ⌝ }
+// The first refusal of a file of so many bytes from these shares. Each check's answer is taken apart, and a refusal returned early.
+fn check_file(
+    sizes: Sizes,
+    points: &[u8],
+    inverses: &[u8],
+    len: usize,
+    boards: &[usize],
+    held: &[u8],
+    out: &[u8],
+) -> Check
+    requires { ⌜ Tables (now points) (now inverses) ⌝ }
+    ensures { λ r. ⌜ r ≡ first boardOrder (fileLines sizes standard len (now (boards .entry)) (now (held .entry)) (now (out .entry))) ⌝ }
 {
-    if let Check::Refuse(x) = checks::check_sizes(sizes) {
-        return Answer::Refused(x);
+    if let Check::Refuse(stated) = checks::check_stated(sizes, len) {
+        return Check::Refuse(stated);
     }
-    if let Check::Refuse(x) = checks::check_length(sizes, length) {
-        return Answer::Refused(x);
+    if let Check::Refuse(miscounted) = checks::check_count(boards.len(), sizes.k) {
+        return Check::Refuse(miscounted);
     }
-    if let Check::Refuse(x) = checks::check_count(boards.len(), sizes.k) {
-        return Answer::Refused(x);
+    if let Check::Refuse(named) = checks::check_nodes(sizes, boards) {
+        return Check::Refuse(named);
     }
-    if let Check::Refuse(x) = checks::check_nodes(sizes, boards) {
-        return Answer::Refused(x);
+    if let Check::Refuse(repeated) = checks::check_repeat(boards) {
+        return Check::Refuse(repeated);
     }
-    if let Check::Refuse(x) = checks::check_repeat(boards) {
-        return Answer::Refused(x);
-    }
-    let stripes = checks::stripe_count(sizes, length);
+    let stripes = checks::stripe_count(sizes, len);
     let share_len = stripes * sizes.share_len();
-    if let Check::Refuse(x) = checks::check_lent(held.len(), sizes.k * share_len) {
-        return Answer::Refused(x);
+    if let Check::Refuse(lent) = checks::check_lent(held.len(), sizes.k * share_len) {
+        return Check::Refuse(lent);
     }
-    if let Check::Refuse(x) = checks::check_room(out, length) {
-        return Answer::Refused(x);
+    if let Check::Refuse(short) = checks::check_room(out, len) {
+        return Check::Refuse(short);
     }
-    let points = checks::standard_points();
-    let mut inverses = [0u8; 256];
-    interpolation::fill_inverses(&mut inverses);
-    if let Check::Refuse(x) = agreement::check_agrees(
+    if let Check::Refuse(disagree) = agreement::check_agrees(
         sizes,
-        &points,
-        &inverses,
-        length,
+        points,
+        inverses,
+        len,
         stripes,
         boards,
         held,
     ) {
+        return Check::Refuse(disagree);
+    }
+    checks::check_points(points, sizes.n)
+}
+
+// The file of so many bytes that k shares give, or DISAGREE where no such file has them. Answers the number of bytes written.
+pub fn file(sizes: Sizes, len: usize, boards: &[usize], held: &[u8], out: &mut [u8]) -> Answer
+    ensures { λ r. ⌜ outcome r (now (out .exit)) ≡ fileCall sizes standard len (now (boards .entry)) (now (held .entry)) (now (out .entry)) ⌝ }
+{
+    let points = checks::standard_points();
+    let mut inverses = [0u8; 256];
+    interpolation::fill_inverses(&mut inverses);
+    if let Check::Refuse(x) = check_file(sizes, &points, &inverses, len, boards, held, out) {
         return Answer::Refused(x);
     }
-    if let Check::Refuse(x) = checks::check_points(&points, sizes.n) {
-        return Answer::Refused(x);
-    }
-    decode::file(
-        sizes,
-        &points,
-        &inverses,
-        length,
-        stripes,
-        boards,
-        held,
-        out,
-    );
-    Answer::Done(length)
+    let stripes = checks::stripe_count(sizes, len);
+    decode::file(sizes, &points, &inverses, len, stripes, boards, held, out);
+    Answer::Done(len)
 }

@@ -1,1 +1,1 @@
-pub mod FinishedCall
+pub mod Finishes

@@ -1,1 +1,1 @@
-pub mod HelperCall
+pub mod Helps

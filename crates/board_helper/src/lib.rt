@@ -1,50 +1,64 @@
 //! Document 01, board level, stateless, for all input: a helper packet.
-//! The call meets its definition in the crate `board_statements` at document 01's points: the answer, and every byte of the output that it
+//! The call meets its definition in the crate `board_spec` at document 01's points: the answer, and every byte of the output that it
 //! was lent. A refusal leaves the output as it came.
 ghost use mathlib.Core.Path.{_≡_};
+ghost use Rattle.sizes.specs.Refusals.{first, boardOrder};
 ghost use Rattle.mbcr.specs.Share.{standard};
-ghost use Rattle.board_statements.specs.Calls.{helperCall};
+ghost use Rattle.board_spec.specs.Calls.{helperLines, helperCall};
 ghost use Rattle.checks.specs.Outcomes.{outcome};
 use sizes::Answer;
 use sizes::Check;
 use sizes::Sizes;
 
+// The first refusal of a helper packet: its lines in document 01's order. Each check's answer is taken apart, and a refusal returned early.
+fn check_helper(
+    sizes: Sizes,
+    len: usize,
+    helper: usize,
+    receiver: usize,
+    held: &[u8],
+    out: &[u8],
+) -> Check
+    ensures { λ r. ⌜ r ≡ first boardOrder (helperLines sizes standard len helper receiver (now (held .entry)) (now (out .entry))) ⌝ }
+{
+    if let Check::Refuse(stated) = checks::check_stated(sizes, len) {
+        return Check::Refuse(stated);
+    }
+    let named = [helper, receiver];
+    if let Check::Refuse(node) = checks::check_nodes(sizes, &named) {
+        return Check::Refuse(node);
+    }
+    if let Check::Refuse(repeat) = checks::check_repeat(&named) {
+        return Check::Refuse(repeat);
+    }
+    let stripes = checks::stripe_count(sizes, len);
+    if let Check::Refuse(lent) = checks::check_lent(held.len(), stripes * sizes.share_len()) {
+        return Check::Refuse(lent);
+    }
+    let count = 2 * stripes;
+    if let Check::Refuse(short) = checks::check_room(out, count) {
+        return Check::Refuse(short);
+    }
+    let points = checks::standard_points();
+    checks::check_points(&points, sizes.n)
+}
+
 // The helper packet that a board makes of its share of a file of so many bytes, for another board. Answers the number of bytes written.
 pub fn helper_packet(
     sizes: Sizes,
-    length: usize,
+    len: usize,
     helper: usize,
     receiver: usize,
     held: &[u8],
     out: &mut [u8],
 ) -> Answer
-    ensures { λ r. ⌜ outcome r (now (out .exit)) ≡ helperCall sizes standard length helper receiver (now (held .entry)) (now (out .entry)) ⌝ }
+    ensures { λ r. ⌜ outcome r (now (out .exit)) ≡ helperCall sizes standard len helper receiver (now (held .entry)) (now (out .entry)) ⌝ }
 {
-    if let Check::Refuse(x) = checks::check_sizes(sizes) {
+    if let Check::Refuse(x) = check_helper(sizes, len, helper, receiver, held, out) {
         return Answer::Refused(x);
     }
-    if let Check::Refuse(x) = checks::check_length(sizes, length) {
-        return Answer::Refused(x);
-    }
-    let named = [helper, receiver];
-    if let Check::Refuse(x) = checks::check_nodes(sizes, &named) {
-        return Answer::Refused(x);
-    }
-    if let Check::Refuse(x) = checks::check_repeat(&named) {
-        return Answer::Refused(x);
-    }
-    let stripes = checks::stripe_count(sizes, length);
-    if let Check::Refuse(x) = checks::check_lent(held.len(), stripes * sizes.share_len()) {
-        return Answer::Refused(x);
-    }
-    let count = 2 * stripes;
-    if let Check::Refuse(x) = checks::check_room(out, count) {
-        return Answer::Refused(x);
-    }
+    let stripes = checks::stripe_count(sizes, len);
     let points = checks::standard_points();
-    if let Check::Refuse(x) = checks::check_points(&points, sizes.n) {
-        return Answer::Refused(x);
-    }
     let mut inverses = [0u8; 256];
     interpolation::fill_inverses(&mut inverses);
     helper::helper_packet(
@@ -57,5 +71,5 @@ pub fn helper_packet(
         held,
         out,
     );
-    Answer::Done(count)
+    Answer::Done(2 * stripes)
 }

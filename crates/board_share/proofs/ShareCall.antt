@@ -1,38 +1,57 @@
--- One share of a file: its answer where a check refuses, and where none does.
+-- One share of a file, at any points: what it says of the call that its check passes, and what the call answers by what its check answered.
 -- Assumes nothing.
-use Prim.Native.Nat.{ℕ, _*_}
-use mathlib.Core.Path.{_≡_, refl, ap, ap₂, _∙_}
+use Prim.Native.Nat.{ℕ, _*_, _≤_, _<_}
+use mathlib.Core.Path.{_≡_, ap, ap₂, _∙_}
 use mathlib.Core.Bool.{true}
 use mathlib.Core.List.{List, [], _∷_, _++_}
+use borrow.Author.Tests.{ltb-false}
 use lib.ListN.{length, drop}
+use Rattle.lists.proofs.Tests.{not-no}
+use Rattle.lists.proofs.Boards.{below-all}
 use Rattle.sizes.specs.declared.Sizes.{Sizes}
 use Rattle.sizes.specs.declared.Refusal.{Refusal}
+use Rattle.sizes.specs.declared.Check.{Check}
+use Rattle.sizes.specs.declared.Check.the-variants.{Pass, Refuse}
 use Rattle.sizes.specs.declared.Answer.the-variants.{Done, Refused}
-use Rattle.sizes.specs.Refusals.{Line}
-use Rattle.sizes.specs.Sizing.{legal, α, stripes}
+use Rattle.sizes.specs.Refusals.{first, boardOrder}
+use Rattle.sizes.specs.Sizing.{maxStripes, legal, α, B, stripes}
 use Rattle.sizes.proofs.Legal.{legal-facts}
-use Rattle.mbcr.specs.Share.{standard, share}
+use Rattle.sizes.proofs.Lines.{first-clear}
+use Rattle.mbcr.specs.Share.{share}
 use Rattle.mbcr.proofs.Repair.{length-share}
-use Rattle.board_statements.specs.Calls.{settled, sizeLine, longLine, nodeLine, shortLine, shareLines, shareCall}
+use Rattle.board_spec.specs.Calls.{shareLines, shareCall}
 use Rattle.checks.specs.Outcomes.{outcome}
-use Rattle.checks.proofs.Given.{chain, Passed, Refuses, refuse-at, done-at}
+use Rattle.checks.proofs.Facts.{refused-by, done-by}
 
-module _ (z : Sizes) (node : ℕ) (file output : List ℕ) where
-  abbrev lines : List Line
-  lines = sizeLine z ∷ longLine z (length file) ∷ nodeLine z (node ∷ []) ∷ shortLine output (stripes z (length file) * α z) ∷ []
+pub record Shares (z : Sizes) (node : ℕ) (file output : List ℕ) : Type 0 where
+  pub is-legal : legal z ≡ true
+  pub not-long : length file ≤ maxStripes * B z
+  pub known : node < z .n
+  pub room : stripes z (length file) * α z ≤ length output
 
-  is : settled (chain lines) (share z standard file node) output ≡ shareCall z standard node file output
-  unfolding shareLines shareCall
-  is = refl
+module _ (z : Sizes) (xs : List ℕ) (node : ℕ) (file output : List ℕ) where
+  abbrev pub checked : Check
+  checked = first boardOrder (shareLines z xs node file output)
 
-  pub refuses : (i : ℕ) (x : Refusal) → Refuses lines i x → outcome (Refused x) output ≡ shareCall z standard node file output
-  refuses i x h = refuse-at lines i x (share z standard file node) output h ∙ is
+  pub share-facts : checked ≡ Pass → Shares z node file output
+  unfolding shareLines
+  share-facts h =
+      let e = first-clear (shareLines z xs node file output) boardOrder h in
+      record {
+        is-legal = not-no _ (e .0);
+        not-long = ltb-false _ _ (e .1 .0);
+        known = below-all (z .n) (node ∷ []) (not-no _ (e .1 .1 .1 .0)) .0;
+        room = ltb-false _ _ (e .1 .1 .1 .1 .1 .1 .0);
+      }
 
-  pub works : (points written : List ℕ) (s count : ℕ) → points ≡ standard → s ≡ stripes z (length file) → count ≡ stripes z (length file) * α z
-      → legal z ≡ true → Passed lines → written ≡ share z points file node ++ drop (s * α z) output
-      → outcome (Done count) written ≡ shareCall z standard node file output
-  works points written s count same here many ok p e =
+  pub share-refuses : {x : Refusal} → checked ≡ Refuse x → outcome (Refused x) output ≡ shareCall z xs node file output
+  unfolding shareCall
+  share-refuses e = refused-by (share z xs file node) output e
+
+  pub share-works : (points written : List ℕ) (s count : ℕ) → checked ≡ Pass → points ≡ xs → s ≡ stripes z (length file) → count ≡ stripes z (length file) * α z
+      → written ≡ share z points file node ++ drop (s * α z) output → outcome (Done count) written ≡ shareCall z xs node file output
+  unfolding shareCall
+  share-works points written s count p same here many e =
       ap (λ (m : ℕ). outcome (Done m) written) many
-      ∙ done-at lines (share z standard file node) output written (stripes z (length file) * α z) p (length-share z standard (legal-facts z ok) file node)
-      (e ∙ ap₂ (λ (xs : List ℕ) (m : ℕ). share z xs file node ++ drop (m * α z) output) same here)
-      ∙ is
+      ∙ done-by (share z xs file node) output written (stripes z (length file) * α z) p (length-share z xs (legal-facts z (share-facts p .is-legal)) file node)
+      (e ∙ ap₂ (λ (ps : List ℕ) (m : ℕ). share z ps file node ++ drop (m * α z) output) same here)

@@ -1,32 +1,38 @@
 //! Document 01, board level, stateless, for all input: one share of a file.
-//! The call meets its definition in the crate `board_statements` at document 01's points: the answer, and every byte of the output that it
+//! The call meets its definition in the crate `board_spec` at document 01's points: the answer, and every byte of the output that it
 //! was lent. A refusal leaves the output as it came.
 ghost use mathlib.Core.Path.{_≡_};
+ghost use Rattle.sizes.specs.Refusals.{first, boardOrder};
 ghost use Rattle.mbcr.specs.Share.{standard};
-ghost use Rattle.board_statements.specs.Calls.{shareCall};
+ghost use Rattle.board_spec.specs.Calls.{shareLines, shareCall};
 ghost use Rattle.checks.specs.Outcomes.{outcome};
 use sizes::Answer;
 use sizes::Check;
 use sizes::Sizes;
 
+// The first refusal of a share of this file. Each check's answer is taken apart, and a refusal returned early.
+fn check_share(sizes: Sizes, node: usize, file: &[u8], out: &[u8]) -> Check
+    ensures { λ r. ⌜ r ≡ first boardOrder (shareLines sizes standard node (now (file .entry)) (now (out .entry))) ⌝ }
+{
+    if let Check::Refuse(stated) = checks::check_stated(sizes, file.len()) {
+        return Check::Refuse(stated);
+    }
+    if let Check::Refuse(named) = checks::check_node(sizes, node) {
+        return Check::Refuse(named);
+    }
+    let stripes = checks::stripe_count(sizes, file.len());
+    checks::check_room(out, stripes * sizes.share_len())
+}
+
 // The share of board `node` of a file. Answers the number of bytes written.
 pub fn share(sizes: Sizes, node: usize, file: &[u8], out: &mut [u8]) -> Answer
     ensures { λ r. ⌜ outcome r (now (out .exit)) ≡ shareCall sizes standard node (now (file .entry)) (now (out .entry)) ⌝ }
 {
-    if let Check::Refuse(x) = checks::check_sizes(sizes) {
-        return Answer::Refused(x);
-    }
-    if let Check::Refuse(x) = checks::check_length(sizes, file.len()) {
-        return Answer::Refused(x);
-    }
-    if let Check::Refuse(x) = checks::check_node(sizes, node) {
+    if let Check::Refuse(x) = check_share(sizes, node, file, out) {
         return Answer::Refused(x);
     }
     let stripes = checks::stripe_count(sizes, file.len());
     let count = stripes * sizes.share_len();
-    if let Check::Refuse(x) = checks::check_room(out, count) {
-        return Answer::Refused(x);
-    }
     let points = checks::standard_points();
     encode::share(sizes, &points, node, file, stripes, out);
     Answer::Done(count)

@@ -1,17 +1,14 @@
 -- One step of each walk of a list.
 -- Assumes nothing.
 use Prim.Native.Nat.{ℕ, suc, _+_, _≤_, _<_}
-use mathlib.Core.Path.{_≡_, refl, sym, _∙_, ap}
-use mathlib.Core.Bool.{Bool, true, false, not}
-use mathlib.Core.List.{List, [], _∷_, _++_}
+use mathlib.Core.Path.{_≡_}
+use mathlib.Core.Bool.{true, false}
+use mathlib.Core.List.{List}
 use native.Mathlib.Numerals.{add-one}
-use native.Mathlib.Omega.{arith}
-use lib.Dec.{ltb, eqb}
-use lib.ListN.{length, take, drop, getD, set}
-use lib.Seq.{drop-cons, take-all}
+use lib.ListN.{length, drop, getD}
+use lib.Seq.{drop-cons}
 use borrow.Author.Tests.{lt-ltb, le-ltb, eq-eqb, ne-eqb}
 use Rattle.lists.specs.Tests.{below, among, different, apart}
-use Rattle.lists.proofs.Pieces.{fill-loop, tabulate-take}
 
 module _ (l : List ℕ) (i : ℕ) (h : i < length l) where
   pub below-no : (n : ℕ) → n ≤ getD l i 0 → below n (drop i l) ≡ false

@@ -1,39 +1,74 @@
--- A share as text: its answer where a check refuses, and where none does.
+-- A share as text, at any points: what it says of the call that its checks pass, and what the call answers by what its check answered.
 -- Assumes nothing.
-use Prim.Native.Nat.{ℕ, _*_}
-use mathlib.Core.Path.{_≡_, refl, ap, _∙_}
+use Prim.Native.Nat.{ℕ, _*_, _≤_, _<_}
+use mathlib.Core.Path.{_≡_, sym, ap, _∙_}
+use mathlib.Core.Bool.{true}
 use mathlib.Core.List.{List, [], _∷_, _++_}
+use native.Mathlib.Nat.{mul-le-mul-right}
+use native.Mathlib.Omega.{arith}
+use borrow.Author.Tests.{ltb-false, eqb-true}
 use lib.Dec.{eqb}
 use lib.ListN.{length, drop}
 use Rattle.lists.specs.Lists.{over}
+use Rattle.lists.proofs.Tests.{not-no, alls-hold}
+use Rattle.lists.proofs.Boards.{below-all}
 use Rattle.sizes.specs.declared.Sizes.{Sizes}
 use Rattle.sizes.specs.declared.Refusal.{Refusal}
+use Rattle.sizes.specs.declared.Check.{Check}
+use Rattle.sizes.specs.declared.Check.the-variants.{Pass, Refuse}
 use Rattle.sizes.specs.declared.Answer.the-variants.{Done, Refused}
-use Rattle.sizes.specs.Refusals.{Line}
-use Rattle.sizes.specs.Sizing.{α, stripes}
-use Rattle.mbcr.specs.Share.{standard}
-use Rattle.board_statements.specs.Text.{shareText}
-use Rattle.board_statements.specs.Calls.{settled, sizeLine, longLine, nodeLine, areaLine, shortLine, textLines, textCall}
+use Rattle.sizes.specs.Refusals.{first, boardOrder}
+use Rattle.sizes.specs.Sizing.{legal, α, stripes}
+use Rattle.sizes.proofs.Legal.{legal-facts, α-most, B-most, stripes-least}
+use Rattle.sizes.proofs.Lines.{first-clear}
+use Rattle.board_spec.specs.Text.{shareText}
+use Rattle.board_spec.specs.Calls.{nodeLine, areaLine, textLines, textCall}
+use Rattle.checks.specs.Steps.{asked}
 use Rattle.checks.specs.Outcomes.{outcome}
-use Rattle.checks.proofs.Given.{chain, Passed, Refuses, refuse-at, done-at}
+use Rattle.checks.proofs.Answers.{passed}
+use Rattle.checks.proofs.Facts.{Stated, refused-by, done-by}
 
-module _ (z : Sizes) (L node : ℕ) (held output : List ℕ) where
-  abbrev pub lines : List Line
-  lines =
-      sizeLine z
-      ∷ longLine z L
-      ∷ nodeLine z (node ∷ [])
-      ∷ areaLine (eqb (length held) (stripes z L * α z) ∷ [])
-      ∷ shortLine output (length (shareText z L node held))
-      ∷ []
+-- what the writer asks
+pub record Writes (z : Sizes) (L node m : ℕ) : Type 0 where
+  pub is-legal : legal z ≡ true
+  pub low-node : node < 32
+  pub low-length : L ≤ 4096 * 992
+  pub low-held : m ≤ 4096 * 62
 
-  is : settled (chain lines) (shareText z L node held) output ≡ textCall z standard L node held output
-  unfolding textLines textCall
-  is = refl
+-- from the lines before SHORT
+pub writes : (z : Sizes) (L node m : ℕ) → Stated z L → asked (nodeLine z (node ∷ [])) ≡ Pass → asked (areaLine (eqb m (stripes z L * α z) ∷ [])) ≡ Pass
+    → Writes z L node m
+writes z L node m s n a =
+    let f = legal-facts z (s .is-legal) in
+    let e : m ≡ stripes z L * α z = eqb-true _ _ (alls-hold (eqb m (stripes z L * α z) ∷ []) (not-no _ (passed (areaLine (eqb m (stripes z L * α z) ∷ [])) a)) .0) in
+    let p : stripes z L * α z ≤ 4096 * α z = mul-le-mul-right (α z) (stripes-least z f L 4096 (s .not-long)) in
+    record {
+      is-legal = s .is-legal;
+      low-node = omega (arith, below-all (z .n) (node ∷ []) (not-no _ (passed (nodeLine z (node ∷ [])) n)) .0, f .few);
+      low-length = omega (arith, s .not-long, B-most z f);
+      low-held = omega (arith, e, p, α-most z f);
+    }
 
-  pub refuses : (i : ℕ) (x : Refusal) → Refuses lines i x → outcome (Refused x) output ≡ textCall z standard L node held output
-  refuses i x h = refuse-at lines i x (shareText z L node held) output h ∙ is
+module _ (z : Sizes) (xs : List ℕ) (L node : ℕ) (held output : List ℕ) where
+  abbrev pub checked : Check
+  checked = first boardOrder (textLines z xs L node held output)
 
-  pub works : (written : List ℕ) (count : ℕ) → length (shareText z L node held) ≡ count → Passed lines → written ≡ over (shareText z L node held) output
-      → outcome (Done count) written ≡ textCall z standard L node held output
-  works written count total p e = done-at lines (shareText z L node held) output written count p total (e ∙ ap (λ (m : ℕ). shareText z L node held ++ drop m output) total) ∙ is
+  pub text-writes : checked ≡ Pass → Writes z L node (length held)
+  unfolding textLines
+  text-writes h =
+      let e = first-clear (textLines z xs L node held output) boardOrder h in
+      writes z L node (length held) (record { is-legal = not-no _ (e .0); not-long = ltb-false _ _ (e .1 .0) }) (rw (e .1 .1 .1 .0)) (rw (e .1 .1 .1 .1 .1 .0))
+
+  pub text-room : checked ≡ Pass → length (shareText z L node held) ≤ length output
+  unfolding textLines
+  text-room h = ltb-false _ _ (first-clear (textLines z xs L node held output) boardOrder h .1 .1 .1 .1 .1 .1 .0)
+
+  pub text-refuses : {x : Refusal} → checked ≡ Refuse x → outcome (Refused x) output ≡ textCall z xs L node held output
+  unfolding textCall
+  text-refuses e = refused-by (shareText z L node held) output e
+
+  pub text-works : (written : List ℕ) (count : ℕ) → checked ≡ Pass → count ≡ length (shareText z L node held) → written ≡ over (shareText z L node held) output
+      → outcome (Done count) written ≡ textCall z xs L node held output
+  unfolding textCall
+  text-works written count p many e =
+      done-by (shareText z L node held) output written count p (sym many) (e ∙ ap (λ (m : ℕ). shareText z L node held ++ drop m output) (sym many))

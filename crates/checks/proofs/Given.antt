@@ -20,8 +20,8 @@ use Rattle.sizes.specs.declared.Check.the-variants.{Pass, Refuse}
 use Rattle.sizes.specs.declared.Answer.the-variants.{Done, Refused}
 use Rattle.sizes.specs.Refusals.{said, Line, _when_}
 use Rattle.mbcr.specs.Share.{standard}
-use Rattle.board_statements.specs.Calls.{BoardOutcome, settled, shortLine}
-use Rattle.checks.specs.Asked.{asked}
+use Rattle.board_spec.specs.Calls.{BoardOutcome, settled, shortLine}
+use Rattle.checks.specs.Steps.{asked}
 use Rattle.checks.proofs.Answers.{passed, refused}
 use Rattle.checks.specs.Outcomes.{outcome}
 

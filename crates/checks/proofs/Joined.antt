@@ -75,6 +75,7 @@ module _ (xs ys : List ℕ) (b : ℕ) where
   pub all-apart : different xs ≡ true → different ys ≡ true → apart ys xs ≡ true → among xs b ≡ false → among ys b ≡ false → different all ≡ true
   all-apart h k a p q =
       distinct-different all (distinct-append (xs ++ ys) (b ∷ [])
-      (distinct-append xs ys (distinct xs h) (distinct ys k) (all-imp (λ x. not (among ys x) ≡ true) (λ x. among ys x ≡ false) (λ x. not-is (among ys x)) xs (every-all (λ x. not (among ys x)) xs a)))
+      (distinct-append xs ys (distinct xs h) (distinct ys k)
+      (all-imp (λ x. not (among ys x) ≡ true) (λ x. among ys x ≡ false) (λ x. not-is (among ys x)) xs (every-all (λ x. not (among ys x)) xs a)))
       (distinct (b ∷ []) refl)
       (append-all (λ y. among (b ∷ []) y ≡ false) xs ys (others-alone b xs (not-among xs b p)) (others-alone b ys (not-among ys b q))))

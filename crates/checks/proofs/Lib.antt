@@ -1,3 +1,6 @@
 pub mod Answers
 pub mod Joined
 pub mod Given
+pub mod Chain
+pub mod Facts
+pub mod Points

@@ -4,7 +4,7 @@ use mathlib.Core.List.{List}
 use Prim.Native.Nat.{ℕ}
 use Rattle.sizes.specs.declared.Answer.{Answer}
 use Rattle.sizes.specs.Refusals.{said}
-use Rattle.board_statements.specs.Calls.{BoardOutcome}
+use Rattle.board_spec.specs.Calls.{BoardOutcome}
 
 abbrev pub outcome : Answer → List ℕ → BoardOutcome
 outcome a output = record { answer = said a; output = output }

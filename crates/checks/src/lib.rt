@@ -2,31 +2,18 @@
 ghost use mathlib.Core.Path.{_≡_};
 ghost use mathlib.Core.List.{[], _∷_, _++_};
 ghost use Prim.Native.Nat.{_+_, _*_, _≤_};
-ghost use lib.ListN.{length, drop};
+ghost use lib.ListN.{length, take};
 ghost use mathlib.Core.Bool.{true, not};
 ghost use lib.Dec.{eqb};
-ghost use lib.ListN.{take};
 ghost use Rattle.lists.specs.Tests.{different};
 ghost use Rattle.sizes.specs.Sizing.{legal, B, stripes};
-ghost use Rattle.sizes.specs.Refusals.{_when_};
+ghost use Rattle.sizes.specs.Refusals.{_when_, first, boardOrder};
 ghost use Rattle.mbcr.specs.Share.{standard};
-ghost use Rattle.board_statements.specs.Calls.{sizeLine, longLine, countLine, nodeLine, repeatLine, areaLine, shortLine};
-ghost use Rattle.checks.specs.Asked.{asked};
+ghost use Rattle.board_spec.specs.Calls.{sizeLine, longLine, countLine, nodeLine, repeatLine, areaLine, shortLine};
+ghost use Rattle.checks.specs.Steps.{asked, statedLines};
 use sizes::Check;
 use sizes::Refusal;
 use sizes::Sizes;
-
-// The boards to the beginning of out.
-pub fn copy_boards(boards: &[usize], out: &mut [usize])
-    requires { ⌜ length (now boards) ≤ length (now out) ⌝ }
-    ensures { λ _. ⌜ now (out .exit) ≡ now (boards .entry) ++ drop (length (now (boards .entry))) (now (out .entry)) ⌝ }
-{
-    let mut t: usize = 0;
-    while t < boards.len() {
-        out[t] = boards[t];
-        t += 1;
-    }
-}
 
 // The points of document 01: the byte i for board i.
 const STANDARD: [u8; 32] = [
@@ -82,15 +69,25 @@ pub fn check_sizes(sizes: Sizes) -> Check
 }
 
 // 3 LONG, board level.
-pub fn check_length(sizes: Sizes, length: usize) -> Check
+pub fn check_length(sizes: Sizes, len: usize) -> Check
     requires { ⌜ legal sizes ≡ true ⌝ }
-    ensures { λ r. ⌜ r ≡ asked (longLine sizes length) ⌝ }
+    ensures { λ r. ⌜ r ≡ asked (longLine sizes len) ⌝ }
 {
-    if Sizes::MAX_STRIPES * sizes.stripe_len() < length {
+    if Sizes::MAX_STRIPES * sizes.stripe_len() < len {
         Check::Refuse(Refusal::Long)
     } else {
         Check::Pass
     }
+}
+
+// 1 SIZE and 3 LONG, of the sizes and the length that every board-level call is given.
+pub fn check_stated(sizes: Sizes, len: usize) -> Check
+    ensures { λ r. ⌜ r ≡ first boardOrder (statedLines sizes len) ⌝ }
+{
+    if let Check::Refuse(size) = check_sizes(sizes) {
+        return Check::Refuse(size);
+    }
+    check_length(sizes, len)
 }
 
 // 4 COUNT of one list.
@@ -253,10 +250,10 @@ pub fn check_points(points: &[u8], n: usize) -> Check
 }
 
 // S of a length that is not LONG.
-pub fn stripe_count(sizes: Sizes, length: usize) -> usize
-    requires { ⌜ (legal sizes ≡ true) × (length ≤ 4096 * B sizes) ⌝ }
-    ensures { λ r. ⌜ (r ≡ stripes sizes length) × (r ≤ 4096) ⌝ }
+pub fn stripe_count(sizes: Sizes, len: usize) -> usize
+    requires { ⌜ (legal sizes ≡ true) × (len ≤ 4096 * B sizes) ⌝ }
+    ensures { λ r. ⌜ (r ≡ stripes sizes len) × (r ≤ 4096) ⌝ }
 {
     let stripe = sizes.stripe_len();
-    (length + (stripe - 1)) / stripe
+    (len + (stripe - 1)) / stripe
 }

@@ -28,7 +28,7 @@ use Rattle.mbcr.proofs.Repair.{length-kept}
 use Rattle.mbcr.proofs.Decode.{length-decoded}
 use Rattle.mbcr.proofs.Read.{length-decoded-file}
 use Rattle.columns.proofs.Parts.{put-next}
-use Rattle.decode.specs.Agree.{stripeRead}
+use Rattle.decode.specs.Steps.{stripeRead}
 
 -- ---- a loop over tests
 

@@ -12,7 +12,7 @@ ghost use Rattle.gf256.specs.Field.{inverse};
 ghost use Rattle.sizes.specs.Sizing.{legal, α, B, stripes as stripesOf};
 ghost use Rattle.mbcr.specs.Read.{decodedStripe, decodedFile, readFile};
 ghost use Rattle.mbcr.specs.Share.{kept};
-ghost use Rattle.decode.specs.Agree.{stripeAgrees, stripeRead};
+ghost use Rattle.decode.specs.Steps.{stripeAgrees, stripeRead};
 
 // The first bytes of a stripe, as many as out is long.
 pub fn stripe_part(

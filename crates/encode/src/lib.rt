@@ -8,7 +8,7 @@ ghost use lib.ListN.{length, drop};
 ghost use Rattle.lists.specs.Lists.{join};
 ghost use Rattle.sizes.specs.Sizing.{legal, α, stripes};
 ghost use Rattle.mbcr.specs.Share.{stripe, grid, points, kept, share};
-ghost use Rattle.grid.specs.Layout.{laid, worked};
+ghost use Rattle.grid.specs.Steps.{laid, worked};
 use sizes::Sizes;
 
 // What the board with the first of the points xs keeps of the polynomial of d rows in work.

@@ -7,7 +7,7 @@ ghost use lib.ListN.{length, getD, take, drop};
 ghost use Rattle.lists.specs.Lists.{tabulate, fit};
 ghost use Rattle.gf256.specs.Field.{add, mul};
 ghost use Rattle.polynomial.specs.Polynomial.{plus, scale, evals, atX, atY};
-ghost use Rattle.grid.specs.Layout.{rows};
+ghost use Rattle.grid.specs.Steps.{rows};
 
 // A row plus x times what is in acc, in its place.
 pub fn horner_row(x: u8, row: &[u8], acc: &mut [u8])

@@ -13,7 +13,7 @@ ghost use Rattle.sizes.specs.Sizing.{legal, α};
 ghost use Rattle.mbcr.specs.Rebuild.{finishedStripe};
 ghost use Rattle.own.specs.Steps.{stripeOf};
 
-// The same, of bytes that stay. g and f are for work.
+// A stripe that a fresh board finishes, of bytes that stay. g and f are for work.
 fn stripe_work(
     all: &[u8],
     xs: &[u8],
@@ -37,7 +37,7 @@ fn stripe_work(
     finish_in::finished_stripe_in(all, xs, inverses, x, g, f, out);
 }
 
-// The same, with space of its own.
+// A stripe that a fresh board finishes, with space of its own.
 pub fn finished_stripe_of(
     all: &[u8],
     xs: &[u8],

@@ -38,10 +38,6 @@ pub inverse-lt : (a : ℕ) → inverse a < 256
 unfolding inverse squares
 inverse-lt a = mul-lt _ _
 
-pub inverse-zero : inverse 0 ≡ 0
-unfolding add product reduce mul squares inverse
-inverse-zero = refl
-
 pub inverse-unique : (a x : ℕ) → 0 < a → a < 256 → x < 256 → mul a x ≡ 1 → x ≡ inverse a
 inverse-unique a x h l lx e =
     sym (mul-one x lx) ∙ ap (mul x) (sym (mul-inverse a h l)) ∙ sym (mul-assoc x a (inverse a))

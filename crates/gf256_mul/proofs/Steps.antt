@@ -10,7 +10,7 @@ use lib.Pow.{shr-lt}
 use lib.Bits.{bitAnd, and-mask}
 use lib.Dec.{T, eqb, eqb→eq, lit<}
 use Rattle.gf256_mul.specs.declared.Multiples.{Multiples}
-use Rattle.gf256_mul.specs.Multiples.{Doubled}
+use Rattle.gf256_mul.specs.Steps.{Doubled}
 use Rattle.gf256.specs.Field.{add, product, reduce, mul}
 use Rattle.gf256.proofs.Sums.{add-assoc, add-comm, add-zero-l, add-zero-r, add-mod, bit, sum-additive, twice-additive, bit-additive, low-bit, agree}
 use Rattle.gf256.proofs.Field.{all, all-at, mul-add, mul-comm, mul-assoc, mul-zero, mul-one, mul-lt}

@@ -4,7 +4,7 @@
 ghost use mathlib.Core.Path.{_≡_};
 ghost use Prim.Native.Nat.{_*_, _%_};
 ghost use Rattle.gf256.specs.Field.{add, mul};
-ghost use Rattle.gf256_mul.specs.Multiples.{Doubled};
+ghost use Rattle.gf256_mul.specs.Steps.{Doubled};
 
 // A factor times 1, z, z^2 .. z^7.
 pub struct Multiples {

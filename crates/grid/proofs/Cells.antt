@@ -15,7 +15,7 @@ use Rattle.sizes.specs.Sizing.{B}
 use Rattle.sizes.proofs.Legal.{Legal, row-fits, B-parts, B-most}
 use Rattle.polynomial.specs.Polynomial.{Grid, entry}
 use Rattle.mbcr.specs.Share.{grid}
-use Rattle.grid.specs.Layout.{laid}
+use Rattle.grid.specs.Steps.{laid}
 use Rattle.mbcr.proofs.Shape.{entry-a, entry-b, entry-c, entry-none}
 
 module _ (z : Sizes) (legal : Legal z) where

@@ -22,7 +22,7 @@ use Rattle.polynomial.proofs.Grid.{column-at, eval-atX, atX-at}
 use Rattle.mbcr.specs.Share.{stripe, grid, F, point, points, neighbours, symbols, kept, share}
 use Rattle.mbcr.proofs.Points.{length-neighbours, neighbours-first, length-points}
 use Rattle.mbcr.proofs.Shape.{entry-none, length-stripe}
-use Rattle.grid.specs.Layout.{laid, rows, worked}
+use Rattle.grid.specs.Steps.{laid, rows, worked}
 use Rattle.grid.proofs.Cells.{laid-row, length-grid}
 
 -- ---- parts of lists

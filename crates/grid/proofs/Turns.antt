@@ -13,7 +13,7 @@ use Rattle.gf256.specs.Field.{add, mul}
 use Rattle.polynomial.specs.Polynomial.{eval, evals, plus, scale, Grid, atX}
 use Rattle.polynomial.proofs.Poly.{eval-drop}
 use Rattle.polynomial.proofs.Linear.{plus-at, scale-at, length-plus, length-scale}
-use Rattle.grid.specs.Layout.{rows}
+use Rattle.grid.specs.Steps.{rows}
 
 -- for j in 0 .. n: acc[j] = row[j] + x acc[j]
 row-step : (x : ℕ) (row acc : List ℕ) (j : ℕ) → j < length row → j < length acc

@@ -9,7 +9,7 @@ ghost use Rattle.lists.specs.Lists.{tabulate, fit};
 ghost use Rattle.sizes.specs.Sizing.{legal, B};
 ghost use Rattle.polynomial.specs.Polynomial.{entry};
 ghost use Rattle.mbcr.specs.Share.{stripe, grid};
-ghost use Rattle.grid.specs.Layout.{laid};
+ghost use Rattle.grid.specs.Steps.{laid};
 use sizes::Sizes;
 
 // The byte at a place of a file; past its end, 0.

@@ -117,7 +117,9 @@ module _ (l : List ℕ) (at : ℕ) (b : List ℕ) (fits : at + length b ≤ leng
 -- two pieces at places apart, in either order
 pub put-comm : (l : List ℕ) (p : ℕ) (a : List ℕ) (q : ℕ) (b : List ℕ) → p + length a ≤ q → q + length b ≤ length l
     → put (put l p a) q b ≡ put (put l q b) p a
-put-comm l p a q b h k = ext-getD 0 _ _ (length-put (put l p a) q b fb ∙ la ∙ sym (length-put (put l q b) p a fa ∙ lb)) (λ i x. go i (ltb i p) refl (ltb i (p + length a)) refl (ltb i q) refl (ltb i (q + length b)) refl)
+put-comm l p a q b h k =
+    ext-getD 0 _ _ (length-put (put l p a) q b fb ∙ la ∙ sym (length-put (put l q b) p a fa ∙ lb))
+    (λ i x. go i (ltb i p) refl (ltb i (p + length a)) refl (ltb i q) refl (ltb i (q + length b)) refl)
   where
     la : length (put l p a) ≡ length l
     la = length-put l p a (omega arith)

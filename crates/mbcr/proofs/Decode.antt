@@ -58,7 +58,8 @@ module _ (z : Sizes) (xs : List ℕ) (legal : Legal z) (bs : List ℕ) (lb : len
 
     f-byte : (t j : ℕ) → t < k → getD (ownF z xs (getD bs t 0) (w t)) j 0 < 256
     unfolding ownF
-    f-byte t j h = byte-at (ownF z xs (getD bs t 0) (w t)) (interpolate-bytes (points xs (neighbours z (getD bs t 0) (d + r))) (take (d + r) (w t)) (take-alls (λ a. a < 256) (d + r) (w t) (wb t h))) j
+    f-byte t j h =
+        byte-at (ownF z xs (getD bs t 0) (w t)) (interpolate-bytes (points xs (neighbours z (getD bs t 0) (d + r))) (take (d + r) (w t)) (take-alls (λ a. a < 256) (d + r) (w t) (wb t h))) j
 
     g-byte : (t j : ℕ) → t < k → getD (ownG z xs (getD bs t 0) (w t)) j 0 < 256
     unfolding ownG
@@ -138,7 +139,8 @@ module _ (z : Sizes) (xs : List ℕ) (legal : Legal z) (pts : DifferentPoints z 
   b-true i j hi hj lj =
       ap (λ (p : List ℕ). getD p i 0)
       (through-map (λ x. getD (atX g x) j 0) _ (λ t h. f-at t j h lj)
-      ∙ decode-high k d r (points xs bs) (points xs bs) lx lx (points-bytes z xs pts bs boards) (points-distinct z xs pts bs boards) (points-bytes z xs pts bs boards) (points-distinct z xs pts bs boards) g sh j hj)
+      ∙ decode-high k d r (points xs bs) (points xs bs) lx lx (points-bytes z xs pts bs boards) (points-distinct z xs pts bs boards) (points-bytes z xs pts bs boards)
+      (points-distinct z xs pts bs boards) g sh j hj)
       ∙ fit-at (length (points xs bs)) (column g j) i (omega (arith, lx)) ∙ column-at g i j
 
   c-true : (i : ℕ) → k ≤ i → i < d → cRow z xs bs w i ≡ getD g i []

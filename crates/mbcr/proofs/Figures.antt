@@ -11,7 +11,8 @@ use Rattle.mbcr.specs.Read.{through, bColumn, cRow, aColumn, decodedStri
 use Rattle.mbcr.specs.Figures.{CodeFigures}
 
 pub figures : CodeFigures
-unfolding piece add product reduce mul squares inverse legal B stripes stripe grid F neighbours symbols kept share shares received exchanged ownF ownG helperPair helperPacket gFrom exchangePacket fFrom finishedStripe finishedShare through bColumn cRow aColumn decodedStripe decodedFile readFile
+unfolding piece add product reduce mul squares inverse legal B stripes stripe grid F neighbours symbols kept share shares received exchanged ownF ownG
+    helperPair helperPacket gFrom exchangePacket fFrom finishedStripe finishedShare through bColumn cRow aColumn decodedStripe decodedFile readFile
 figures = record {
   one-point = λ p. omega (arith, p .differ 0 1 (omega arith) (omega arith) refl);
   group-a = refl;

@@ -98,24 +98,6 @@ boards-left z xs ys h = record { known = all-left (λ i. i < z .n) xs ys (h .kno
 
 -- ---- lists of points
 
--- any n different bytes are points
-pub list-points : (z : Sizes) (xs : List ℕ) → z .n ≤ length xs → Bytes xs → different (take (z .n) xs) ≡ true → DifferentPoints z xs
-list-points z xs l hb hd =
-    let m : length (take (z .n) xs) ≡ z .n = length-take-le (z .n) xs l in
-    record {
-      bytes = λ i h. byte-at xs hb i;
-      differ = λ i j a b e.
-          go (take (z .n) xs) (distinct (take (z .n) xs) hd) i j (omega arith) (omega arith)
-          (getD-take (z .n) xs i 0 a ∙ e ∙ sym (getD-take (z .n) xs j 0 b));
-    }
-  where
-    go : (xs : List ℕ) → Distinct xs → (i j : ℕ) → i < length xs → j < length xs → getD xs i 0 ≡ getD xs j 0 → i ≡ j
-    go [] h i j a b e = absurd (omega arith)
-    go (x ∷ xs) h zero zero a b e = refl
-    go (x ∷ xs) h zero (suc j) a b e = absurd (all-at (λ y. y ≢ x) 0 xs (h .0) j (omega arith) (sym e))
-    go (x ∷ xs) h (suc i) zero a b e = absurd (all-at (λ y. y ≢ x) 0 xs (h .0) i (omega arith) e)
-    go (x ∷ xs) h (suc i) (suc j) a b e = ap suc (go xs (h .1) i j (omega arith) (omega arith) e)
-
 -- "The point of board i is the byte i": the point is i, and these are points
 pub standard-point : (i : ℕ) → i < 32 → point standard i ≡ i
 standard-point i h = tabulate-at 32 (λ i. i) 0 i h

@@ -81,8 +81,12 @@ module _ (z : Sizes) (xs : List ℕ) (legal : Legal z) (pts : DifferentPoints z 
       go : (b : Bool) → same (shares z xs (decodedFile z xs L bs bytes) bs) bytes ≡ b → _≡_ {A = Option (List ℕ)} (pick b (some (decodedFile z xs L bs bytes)) none) (some file)
           → (length file ≡ L) × Bytes file × (shares z xs file bs ≡ bytes)
       go true h e =
-          let q : decodedFile z xs L bs bytes ≡ file = cc in
-          (ap length (sym q) ∙ length-decoded-file z xs legal bs lb L bytes, rw q at (decoded-file-bytes z xs legal bs lb L bytes hb), ap (λ (f : List ℕ). shares z xs f bs) (sym q) ∙ same-eq _ _ h)
+          let q : decodedFile z xs L bs bytes ≡ file = cc in (
+            ap length (sym q) ∙ length-decoded-file z xs legal bs lb L bytes,
+            rw q at (decoded-file-bytes z xs legal bs lb L bytes hb),
+            ap (λ (f : List ℕ). shares z xs f bs) (sym q)
+                ∙ same-eq _ _ h,
+          )
       go false h e = let z : _≡_ {A = ℕ} 0 1 = cc in absurd (omega arith)
 
   -- .. and a file of length L that has these shares is answered
@@ -104,6 +108,7 @@ module _ (z : Sizes) (xs : List ℕ) (legal : Legal z) (pts : DifferentPoints z 
       there : readFile z xs L bs bytes ≡ none → (file : List ℕ) → length file ≡ L → Bytes file → shares z xs file bs ≡ bytes → ⊥
       there e file l bf q = let z : _≡_ {A = ℕ} 0 1 = cc (read-complete L bytes file l bf q) in omega arith
 
-      back : (o : Option (List ℕ)) → readFile z xs L bs bytes ≡ o → ((file : List ℕ) → length file ≡ L → Bytes file → shares z xs file bs ≡ bytes → ⊥) → readFile z xs L bs bytes ≡ none
+      back : (o : Option (List ℕ)) → readFile z xs L bs bytes ≡ o → ((file : List ℕ) → length file ≡ L → Bytes file → shares z xs file bs ≡ bytes → ⊥)
+          → readFile z xs L bs bytes ≡ none
       back none e h = e
       back (some file) e h = let s = read-sound L bytes file hb e in absurd (h file (s .0) (s .1) (s .2))

@@ -1,4 +1,4 @@
--- Whole shares and packets: lengths, over any bytes; and over true shares, what the packets are and that a finishedShare share is the share.
+-- Whole shares and packets: lengths, over any bytes; and over true shares, what the packets are and that a finished share is the share.
 -- Assumes nothing.
 use mathlib.Core.Path.{_≡_, refl, sym, ap, ap₂, fun-ext, _∙_}
 use mathlib.Core.List.{List, [], _∷_, _++_, map}
@@ -86,7 +86,8 @@ module _ (z : Sizes) (xs : List ℕ) (legal : Legal z) (pts : DifferentPoints z 
         → piece 2 s (piece (2 * S) t (packets z xs file hs i)) ≡ F z (u s) (point xs (getD hs t 0)) (point xs i) ∷ F z (u s) (point xs i) (point xs (getD hs t 0)) ∷ []
     pair-piece t s ht hs' =
         ap (piece 2 s)
-        (piece-join (length hs) (2 * S) (λ t. helperPacket z xs S (getD hs t 0) i (share z xs file (getD hs t 0))) (λ t l. length-packet z xs S (getD hs t 0) i (share z xs file (getD hs t 0))) t (omega arith)
+        (piece-join (length hs) (2 * S) (λ t. helperPacket z xs S (getD hs t 0) i (share z xs file (getD hs t 0)))
+        (λ t l. length-packet z xs S (getD hs t 0) i (share z xs file (getD hs t 0))) t (omega arith)
         ∙ packet-true i (getD hs t 0) (all-at (λ j. j < n) 0 hs known t (omega arith)))
         ∙ piece-join S 2 (λ s. F z (u s) (point xs (getD hs t 0)) (point xs i) ∷ F z (u s) (point xs i) (point xs (getD hs t 0)) ∷ []) (λ s l. refl) s hs'
 
@@ -122,7 +123,8 @@ module _ (z : Sizes) (xs : List ℕ) (legal : Legal z) (pts : DifferentPoints z 
     exchanged-all s h =
         tabulate-ext (r - 1) _ (λ t. F z (u s) (point xs i) (point xs (getD ms t 0)))
         (λ t l. ap (λ (p : List ℕ). getD p s 0)
-        (piece-join (r - 1) S (λ t. exchangePacket z xs S (helpers t) (packets z xs file (helpers t) (getD ms t 0)) i) (λ t l. length-exchange z xs S (helpers t) (packets z xs file (helpers t) (getD ms t 0)) i) t l
+        (piece-join (r - 1) S (λ t. exchangePacket z xs S (helpers t) (packets z xs file (helpers t) (getD ms t 0)) i)
+        (λ t l. length-exchange z xs S (helpers t) (packets z xs file (helpers t) (getD ms t 0)) i) t l
         ∙ exchange-true (helpers t) (hb t l) (hl t l) (getD ms t 0) i)
         ∙ at S (λ s. F z (u s) (point xs i) (point xs (getD ms t 0))) s h)
         ∙ tabulate-map (λ m. F z (u s) (point xs i) (point xs m)) (r - 1) ms 0 lm
@@ -132,7 +134,7 @@ module _ (z : Sizes) (xs : List ℕ) (legal : Legal z) (pts : DifferentPoints z 
         at (suc n) f zero h = refl
         at (suc n) f (suc s) h = at n (λ s. f (suc s)) s (omega arith)
 
-    -- the finishedShare share of true packets is the board's share
+    -- the finished share of true packets is the board's share
     pub finished-true : (hs : List ℕ) → length hs ≡ d → Boards z (hs ++ ms ++ (i ∷ []))
         → finishedShare z xs S i hs (packets z xs file hs i) ms exchanges ≡ share z xs file i
     unfolding finishedShare share

@@ -85,7 +85,8 @@ module _ (z : Sizes) (legal : Legal z) (u : List ℕ) (lu : length u ≡ B z) wh
   unfolding grid
   grid-bytes bu =
       append-all Bytes (tabulate k (λ i. a-row i ++ b-row i)) (tabulate (d - k) cRow)
-      (tabulate-all Bytes k (λ i. a-row i ++ b-row i) (λ i l. append-all (λ a. a < 256) (a-row i) (b-row i) (piece-bytes k i u bu) (piece-bytes (d + r - k) i (drop (k * k) u) (drop-alls (λ a. a < 256) (k * k) u bu))))
+      (tabulate-all Bytes k (λ i. a-row i ++ b-row i)
+      (λ i l. append-all (λ a. a < 256) (a-row i) (b-row i) (piece-bytes k i u bu) (piece-bytes (d + r - k) i (drop (k * k) u) (drop-alls (λ a. a < 256) (k * k) u bu))))
       (tabulate-all Bytes (d - k) cRow (λ i l. piece-bytes k i (drop (k * k + k * (d + r - k)) u) (drop-alls (λ a. a < 256) (k * k + k * (d + r - k)) u bu)))
 
   pub shape : Bytes u → Shape k d r (grid z u)

@@ -1,4 +1,4 @@
--- One stripe: what a board keeps fixes its f and g; helper pairs, exchanged bytes and the finishedShare stripe are those of the stripe's F.
+-- One stripe: what a board keeps fixes its f and g; helper pairs, exchanged bytes and the finished stripe are those of the stripe's F.
 -- Assumes nothing.
 use mathlib.Core.Path.{_≡_, refl, sym, ap, ap₂, fun-ext, _∙_}
 use mathlib.Core.List.{List, [], _∷_, _++_, map}
@@ -62,7 +62,8 @@ module _ (z : Sizes) (xs : List ℕ) (legal : Legal z) where
       take-at (map f (points xs (neighbours z i (d + r)))) (map g (points xs (drop 1 (neighbours z i d)))) (d + r)
       (simp (length-map, length-neighbours))
 
-  symbols-g : (i : ℕ) (f g : ℕ → ℕ) → i < n → f (point xs i) ≡ g (point xs i) → take 1 (symbols z xs i f g) ++ drop (d + r) (symbols z xs i f g) ≡ map g (points xs (neighbours z i d))
+  symbols-g : (i : ℕ) (f g : ℕ → ℕ) → i < n → f (point xs i) ≡ g (point xs i) → take 1 (symbols z xs i f g) ++ drop (d + r) (symbols z xs i f g)
+      ≡ map g (points xs (neighbours z i d))
   unfolding symbols
   symbols-g i f g h e =
       let a = map f (points xs (neighbours z i (d + r))) in
@@ -181,27 +182,3 @@ module _ (z : Sizes) (xs : List ℕ) (legal : Legal z) (pts : DifferentPoints z 
       ap₂ (symbols z xs i)
       (fun-ext (λ y. ap (λ (p : List ℕ). eval p y) fe ∙ f-value (point xs i) y))
       (fun-ext gv)
-
--- ---- any bytes: f and g by the bytes that a board keeps have these bytes for values
-module _ (z : Sizes) (xs : List ℕ) (legal : Legal z) (pts : DifferentPoints z xs) where
-  open Sizes z using (n, k, d, r)
-
-  pub symbols-of : (i : ℕ) (w : List ℕ) → i < n → length w ≡ α z → Bytes w → symbols z xs i (eval (ownF z xs i w)) (eval (ownG z xs i w)) ≡ w
-  unfolding symbols ownF ownG
-  symbols-of i w h l b =
-      let m : d + r + (d - 1) ≡ length w = α-parts z legal ∙ sym l in
-      let bf : Boards z (neighbours z i (d + r)) = neighbours-boards z i (d + r) h (legal .enough) in
-      let bg : Boards z (neighbours z i d) = neighbours-boards z i d h (omega (arith, legal .enough)) in
-      let one : length (take 1 w) ≡ 1 = length-take-le 1 w (omega (arith, legal .some-fresh)) in
-      let lf : length (take (d + r) w) ≡ d + r = length-take-le (d + r) w (omega arith) in
-      let lg : length (take 1 w ++ drop (d + r) w) ≡ d = length-append (take 1 w) (drop (d + r) w) ∙ ap₂ _+_ one (length-drop (d + r) w) ∙ omega (arith, legal .some-read, legal .read-helpers) in
-      ap₂ {C = List ℕ} (λ x y. x ++ y)
-      (evals-interpolate (points xs (neighbours z i (d + r))) (take (d + r) w)
-      (length-points xs (neighbours z i (d + r)) ∙ length-neighbours z i (d + r) ∙ sym lf)
-      (take-alls (λ a. a < 256) (d + r) w b) (points-bytes z xs pts _ bf) (points-distinct z xs pts _ bf))
-      (ap (map _) (map-drop (point xs) 1 (neighbours z i d)) ∙ map-drop _ 1 (points xs (neighbours z i d))
-      ∙ ap (drop 1) (evals-interpolate (points xs (neighbours z i d)) (take 1 w ++ drop (d + r) w)
-      (length-points xs (neighbours z i d) ∙ length-neighbours z i d ∙ sym lg)
-      (append-all (λ a. a < 256) (take 1 w) (drop (d + r) w) (take-alls (λ a. a < 256) 1 w b) (drop-alls (λ a. a < 256) (d + r) w b)) (points-bytes z xs pts _ bg) (points-distinct z xs pts _ bg))
-      ∙ drop-at (take 1 w) (drop (d + r) w) 1 one)
-      ∙ take-append-drop (d + r) w

@@ -88,29 +88,8 @@ module _ (g h : Grid) (xs ys : List ℕ) (bg : GridBytes g) (bh : GridBytes h)
 -- k points of each kind determine a grid of k (2 d + r - k) coefficients
 module _ (k d r : ℕ) (xs ys : List ℕ) (lx : length xs ≡ k) (ly : length ys ≡ k)
     (bx : Bytes xs) (dx : Distinct xs) (by : Bytes ys) (dy : Distinct ys) where
-  pub grid-unique : (g h : Grid) → Shape k d r g → Shape k d r h → All (λ x. atX g x ≡ atX h x) xs → All (λ y. atY g y ≡ atY h y) ys → g ≡ h
-  grid-unique g h s t onX onY =
-      grid-ext k d r g h s t
-      (determined g h xs ys (s .bytes) (t .bytes) bx dx by dy
-      (λ i j hi hj. corner-zero k d r g s i j (omega arith) (omega arith) ∙ sym (corner-zero k d r h t i j (omega arith) (omega arith)))
-      (all-imp _ _ (λ x e j. ap (λ (p : List ℕ). getD p j 0) e) xs onX)
-      (all-imp _ _ (λ y e i. ap (λ (p : List ℕ). getD p i 0) e) ys onY))
-
-  -- in particular where all of them vanish
-  pub grid-zero : (g : Grid) → Shape k d r g → All (λ x. (j : ℕ) → getD (atX g x) j 0 ≡ 0) xs → All (λ y. (i : ℕ) → getD (atY g y) i 0 ≡ 0) ys
-      → (i j : ℕ) → entry g i j ≡ 0
-  grid-zero g s onX onY =
-      determined g [] xs ys (s .bytes) tt bx dx by dy (λ i j hi hj. corner-zero k d r g s i j (omega arith) (omega arith)) onX onY
-
   -- the decoder: first the columns from k on, each from its values at the xs ..
   pub decode-high : (g : Grid) → Shape k d r g → (j : ℕ) → k ≤ j → interpolate xs (map (λ x. getD (atX g x) j 0) xs) ≡ fit (length xs) (column g j)
   decode-high g s j hj =
       ap (λ (f : ℕ → ℕ). interpolate xs (map f xs)) (fun-ext (λ x. atX-at g x j))
       ∙ interpolate-fit (column g j) xs (λ i hi. column-at g i j ∙ corner-zero k d r g s i j (omega arith) hj) (column-bytes g j (s .bytes)) bx dx
-
-  -- .. then the first k of each row, from its values at the ys less those of the rest, which is known by then
-  pub decode-low : (g : Grid) → Shape k d r g → (i : ℕ)
-      → interpolate ys (map (λ y. add (getD (atY g y) i 0) (eval (above (length ys) (getD g i [])) y)) ys) ≡ fit (length ys) (getD g i [])
-  decode-low g s i =
-      ap (λ (f : ℕ → ℕ). interpolate ys (map f ys)) (fun-ext (λ y. ap (λ (e : ℕ). add e (eval (above (length ys) (getD g i [])) y)) (atY-at g y i)))
-      ∙ interpolate-low (getD g i []) ys (all-atD Bytes [] g (s .bytes) tt i) by dy

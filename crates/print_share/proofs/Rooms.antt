@@ -1,18 +1,18 @@
 -- How much room the printer needs: 17,375 bytes for a share of a file of 16,384 bytes, 34,900 for its text.
 -- Assumes nothing.
-use mathlib.Core.Path.{_≡_, refl, sym, ap, _∙_}
+use mathlib.Core.Path.{_≡_, refl}
 use mathlib.Core.Bool.{Bool, true, false}
 use mathlib.Core.List.{List}
 use Prim.Native.Nat.{ℕ, zero, suc, _+_, _*_, _-_, _/_, _≤_, _<_}
-use native.Mathlib.Nat.{div-add-mod', mod-lt, mul-le-mul-left, mul-one, suc-mul, le-trans}
+use native.Mathlib.Nat.{div-add-mod', mul-le-mul-left, mul-one, suc-mul}
 use native.Mathlib.Omega.{arith}
 use lib.Dec.{ltb}
 use lib.ListN.{length}
 use borrow.Author.Tests.{ltb-true, ltb-false}
 use Rattle.sizes.specs.declared.Sizes.{Sizes}
-use Rattle.sizes.specs.Sizing.{legal, α, B, stripes}
-use Rattle.sizes.proofs.Legal.{Legal, legal-facts, B-most, B-pos}
-use Rattle.board_statements.specs.Text.{decimal, shareText}
+use Rattle.sizes.specs.Sizing.{α, B, stripes}
+use Rattle.sizes.proofs.Legal.{Legal, B-most, B-pos}
+use Rattle.board_spec.specs.Text.{decimal, shareText}
 use Rattle.text_lines.proofs.Decimals.{length-one, length-more}
 use Rattle.text_lines.proofs.Lines.{length-text}
 

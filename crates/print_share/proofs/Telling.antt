@@ -1,137 +1,160 @@
--- What is told of the calls' answers.
+-- What is written of the calls' answers.
 -- Assumes nothing.
-use mathlib.Core.Path.{_≡_, refl, sym, ap, _∙_}
-use mathlib.Core.Bool.{Bool, true, false, not}
-use mathlib.Core.List.{List, [], _∷_, _++_}
+use mathlib.Core.Path.{_≡_, refl, sym, ap, ap₂, _∙_}
+use mathlib.Core.Bool.{Bool, true, false}
+use mathlib.Core.List.{List, [], _∷_}
 use Prim.Native.Nat.{ℕ, _+_, _*_, _≤_, _<_}
+use native.Mathlib.Nat.{zero-add}
 use native.Mathlib.Omega.{arith}
 use lib.Dec.{ltb, eqb}
 use lib.ListN.{length, take, drop, length-append}
-use lib.Seq.{take-at}
-use borrow.Author.Tests.{ltb-false, le-ltb, eq-eqb}
-use Rattle.lists.specs.Tests.{pick, alls}
+use lib.Seq.{take-at, length-take-le}
+use borrow.Author.Tests.{ltb-false, lt-ltb, le-ltb, eq-eqb}
+use Rattle.lists.specs.Tests.{pick}
 use Rattle.lists.specs.Lists.{over}
-use Rattle.lists.proofs.Tests.{not-no, hold-alls}
+use Rattle.lists.proofs.Tests.{not-no}
 use Rattle.lists.proofs.Boards.{below-all}
 use Rattle.sizes.specs.declared.Sizes.{Sizes}
 use Rattle.sizes.specs.declared.Refusal.{Refusal}
+use Rattle.sizes.specs.declared.Refusal.the-variants.{Short}
 use Rattle.sizes.specs.declared.Check.{Check}
 use Rattle.sizes.specs.declared.Check.the-variants.{Pass, Refuse}
 use Rattle.sizes.specs.declared.Answer.the-variants.{Done, Refused}
-use Rattle.sizes.specs.Sizing.{legal, α, stripes}
+use Rattle.sizes.specs.Sizing.{legal, α, B, stripes}
 use Rattle.sizes.specs.Refusals.{number, first, boardOrder}
 use Rattle.sizes.proofs.Legal.{legal-facts}
 use Rattle.sizes.proofs.Laws.{number-low}
-use Rattle.sizes.proofs.Lines.{first-clear, clear-first}
+use Rattle.sizes.proofs.Lines.{first-clear}
 use Rattle.mbcr.specs.Share.{standard, share}
 use Rattle.mbcr.proofs.Repair.{length-share}
-use Rattle.board_statements.specs.Text.{shareText}
-use Rattle.board_statements.specs.Calls.{BoardOutcome, settled, shareLines, shareCall, textLines, textCall}
-use Rattle.text_lines.specs.Wrote.{Wrote}
-use Rattle.text_lines.proofs.Lines.{from-start}
-use Rattle.text_lines.proofs.Writes.{same-room}
+use Rattle.board_spec.specs.Text.{decimal, shareText}
+use Rattle.board_spec.specs.Calls.{BoardOutcome, settled, shareLines, shareCall, textLines, textCall}
+use Rattle.text_lines.specs.Steps.{Wrote}
+use Rattle.text_lines.proofs.Lines.{length-line, from-start}
 use Rattle.checks.specs.Outcomes.{outcome}
 use Rattle.printer.specs.declared.Parser.{Parser}
 use Rattle.printer.specs.Printer.{refusedLine, maxFile, told, shared}
-use Rattle.printer.specs.Machine.{sizesOf, refusalOf, decided}
-use Rattle.printer.proofs.Picks.{if-eq, if-ne}
+use Rattle.printer.specs.Steps.{sizesRead, refusalOf, decided}
+use Rattle.number_lines.proofs.Picks.{if-eq, if-ne, if-lt, if-le}
 use Rattle.printer.proofs.Room.{any-room}
-use Rattle.print_share.proofs.Rooms.{share-room, text-room}
+use Rattle.print_share.specs.Steps.{Written, placed, wroteIn, toWrite}
+use Rattle.print_share.proofs.Rooms.{share-room}
 
--- bytes written from the start are the first
-pub wrote-taken : {l a l1 : List ℕ} {e : ℕ} → Wrote l 0 a l1 e → take e l1 ≡ a
-wrote-taken {a = a} {e = e} w = ap (take e) (from-start w) ∙ take-at a _ e (omega (arith, w .ends))
+-- ---- bytes where there is room for them, and where there is none
 
-pub wrote-within : {l a l1 : List ℕ} {e : ℕ} → Wrote l 0 a l1 e → 0 + length a ≤ length l → e ≤ length l1
-wrote-within w h = omega (arith, w .ends, same-room w h)
+pub fits : {a l l1 : List ℕ} {e : ℕ} → 0 + length a ≤ length l → Wrote l 0 a l1 e → record { count = e; out = l1 } ≡ placed a l
+fits {a} {l} h w =
+    ap₂ {C = Written} (λ n m. record { count = n; out = m }) (w .ends ∙ zero-add (length a)) (from-start w) ∙ sym (if-le (length l) (length a) _ _ (omega arith))
+
+pub no-room : (a l : List ℕ) → length l < length a → record { count = 0; out = l } ≡ placed a l
+no-room a l h = sym (if-lt (length l) (length a) _ _ h)
+
+-- the line of a refusal has nine bytes and the digits
+pub line-length : (x : ℕ) → length (refusedLine x) ≡ 9 + length (decimal x)
+line-length x = length-line (0x72 ∷ 0x65 ∷ 0x66 ∷ 0x75 ∷ 0x73 ∷ 0x65 ∷ 0x64 ∷ []) (decimal x) ∙ omega arith
+
+pub nothing : (l : List ℕ) → record { count = 0; out = l } ≡ placed [] l
+nothing l = go (ltb (length l) 0)
+  where
+    go : (t : Bool) → _≡_ {A = Written} (record { count = 0; out = l }) (pick t (record { count = 0; out = l }) (record { count = 0; out = l }))
+    go true = refl
+    go false = refl
+
+-- ---- the calls
+
+-- a call that no line but SHORT can refuse
+settled-written : (t : Bool) (bytes l : List ℕ)
+    → wroteIn (settled (pick t (Refuse Short) Pass) bytes l) ≡ pick t (record { count = 0; out = l }) (record { count = length bytes; out = over bytes l })
+settled-written true bytes l = refl
+settled-written false bytes l = refl
 
 -- what a call that is done wrote
-done-taken : (n : ℕ) (bytes output after : List ℕ) → outcome (Done n) after ≡ settled Pass bytes output → (take n after ≡ bytes) × (n ≤ length after) × (n ≡ length bytes)
-done-taken n bytes output after q =
+done-taken : (n : ℕ) (bytes l after : List ℕ) → outcome (Done n) after ≡ settled Pass bytes l → (take n after ≡ bytes) × (n ≤ length after)
+done-taken n bytes l after q =
     let n-is : n ≡ length bytes = ap (λ (o : BoardOutcome). o .answer .value) q in
-    let a-is : after ≡ over bytes output = ap (λ (o : BoardOutcome). o .output) q in (
-      ap (take n) a-is ∙ take-at bytes _ n (sym n-is),
-      omega (arith, n-is, ap length a-is, length-append bytes (drop (length bytes) output)),
-      n-is,
-    )
+    let a-is : after ≡ over bytes l = ap (λ (o : BoardOutcome). o .output) q in
+    (ap (take n) a-is ∙ take-at bytes _ n (sym n-is), omega (arith, n-is, ap length a-is, length-append bytes (drop (length bytes) l)))
 
-module _ (z : Sizes) (L node : ℕ) (held output : List ℕ) (pass : first boardOrder (textLines z standard L node held output) ≡ Pass) where
-  called : textCall z standard L node held output ≡ settled Pass (shareText z L node held) output
+module _ (z : Sizes) (L node : ℕ) (held l : List ℕ) where
+  text-first : legal z ≡ true → ltb (4096 * B z) L ≡ false → ltb node (z .n) ≡ true → eqb (length held) (stripes z L * α z) ≡ true
+      → first boardOrder (textLines z standard L node held l) ≡ pick (ltb (length l) (length (shareText z L node held))) (Refuse Short) Pass
+  unfolding textLines
+  text-first a b c d = rw (a, b, c, d)
+
+  text-written : first boardOrder (textLines z standard L node held l) ≡ pick (ltb (length l) (length (shareText z L node held))) (Refuse Short) Pass
+      → wroteIn (textCall z standard L node held l) ≡ placed (shareText z L node held) l
   unfolding textCall
-  called = ap (λ (c : Check). settled c (shareText z L node held) output) pass
+  text-written e =
+      ap (λ (c : Check). wroteIn (settled c (shareText z L node held) l)) e
+      ∙ settled-written (ltb (length l) (length (shareText z L node held))) (shareText z L node held) l
 
-  pub text-done : (n : ℕ) (after : List ℕ) → outcome (Done n) after ≡ textCall z standard L node held output → (take n after ≡ shareText z L node held) × (n ≤ length after)
-  text-done n after e = let d = done-taken n _ _ _ (e ∙ called) in (d .0, d .1)
+-- the share of a file
+module _ (z : Sizes) (node : ℕ) (file area : List ℕ) where
+  module _ (v : ℕ) (after : List ℕ) where
+    passing : (c : Check) → first boardOrder (shareLines z standard node file area) ≡ c → outcome (Done v) after ≡ settled c (share z standard file node) area
+        → (v ≤ length after)
+        × ((l : List ℕ) → wroteIn (textCall z standard (length file) node (take v after) l) ≡ placed (shareText z (length file) node (take v after)) l)
+    unfolding shareLines
+    passing (Refuse x) p e = absurd (omega (arith, number-low x, ap (λ (o : BoardOutcome). o .answer .refusal) e))
+    passing Pass p e =
+        let d = done-taken v (share z standard file node) area after e in
+        let h = first-clear (shareLines z standard node file area) boardOrder p in
+        let ok : legal z ≡ true = not-no _ (h .0) in
+        let known = lt-ltb node (z .n) (below-all (z .n) (node ∷ []) (not-no _ (h .1 .1 .1 .0)) .0) in
+        let whole = eq-eqb _ _ (ap length (d .0) ∙ length-share z standard (legal-facts z ok) file node) in
+        (d .1, λ l. text-written z (length file) node (take v after) l (text-first z (length file) node (take v after) l ok (h .1 .0) known whole))
 
-  pub text-passes : (x : Refusal) (after : List ℕ) → outcome (Refused x) after ≡ textCall z standard L node held output → ⊥
-  text-passes x after e = omega (arith, number-low x, ap (λ (o : BoardOutcome). o .answer .refusal) (e ∙ called))
+    -- that it is done leaves only room to ask of the text
+    pub share-done : outcome (Done v) after ≡ shareCall z standard node file area
+        → (v ≤ length after)
+        × ((l : List ℕ) → wroteIn (textCall z standard (length file) node (take v after) l) ≡ placed (told z (length file) node (shareCall z standard node file area)) l)
+    unfolding shareCall
+    share-done e =
+        let d = passing (first boardOrder (shareLines z standard node file area)) refl e in
+        (d .0, λ l. d .1 l ∙ ap (λ (o : BoardOutcome). placed (told z (length file) node o) l) e)
+
+  pub share-refused : (x : Refusal) (after : List ℕ) → outcome (Refused x) after ≡ shareCall z standard node file area
+      → refusedLine (number x) ≡ told z (length file) node (shareCall z standard node file area)
+  share-refused x after e =
+      sym (if-ne (number x) 0 _ _ (λ q. omega (arith, number-low x))) ∙ ap (told z (length file) node) e
+
+-- ---- the parser
 
 -- no line, no sizes and no length cause a refusal
-pub none-refused : (p : Parser) → refusalOf p ≡ 0 → (legal (sizesOf p) ≡ true) × (p .count ≤ 16384)
-none-refused p e = go (p .bad) (eqb (p .left) 0) (legal (sizesOf p)) (ltb maxFile (p .count)) refl refl e
+pub none-refused : (p : Parser) → refusalOf p ≡ 0 → (legal (sizesRead p) ≡ true) × (p .count ≤ 16384)
+none-refused p e = go (p .bad) (eqb (p .left) 0) (legal (sizesRead p)) (ltb maxFile (p .count)) refl refl e
   where
-    go : (b l g t : Bool) → legal (sizesOf p) ≡ g → ltb maxFile (p .count) ≡ t → pick {A = ℕ} b 1 (pick l (pick g (pick t 3 0) 1) 1) ≡ 0
-        → (legal (sizesOf p) ≡ true) × (p .count ≤ 16384)
+    go : (b l g t : Bool) → legal (sizesRead p) ≡ g → ltb maxFile (p .count) ≡ t → pick {A = ℕ} b 1 (pick l (pick g (pick t 3 0) 1) 1) ≡ 0
+        → (legal (sizesRead p) ≡ true) × (p .count ≤ 16384)
     go true l g t q s e = absurd (omega arith)
     go false false g t q s e = absurd (omega arith)
     go false true false t q s e = absurd (omega arith)
     go false true true true q s e = absurd (omega arith)
     go false true true false q s e = (q, ltb-false maxFile (p .count) s)
 
-pub decided-shared : (p : Parser) (kept : List ℕ) → refusalOf p ≡ 0 → decided p kept ≡ shared (sizesOf p) (p .node) kept
-unfolding decided
-decided-shared p kept e = if-eq (refusalOf p) 0 _ _ e
+module _ (p : Parser) (file : List ℕ) where
+  abbrev kept : List ℕ
+  kept = take (p .count) file
 
-pub decided-refused : (p : Parser) (kept : List ℕ) → (refusalOf p ≡ 0 → ⊥) → decided p kept ≡ refusedLine (refusalOf p)
-unfolding decided
-decided-refused p kept e = if-ne (refusalOf p) 0 _ _ e
+  pub output-refused : (refusalOf p ≡ 0 → ⊥) → toWrite p file ≡ refusedLine (refusalOf p)
+  unfolding decided
+  output-refused e = rw (if-ne {A = Bool} (refusalOf p) 0 (ltb (length file) (p .count)) false e) (if-ne (refusalOf p) 0 _ _ e)
 
--- the share of a file that is not too long for the printer, with room for it
-module _ (z : Sizes) (node : ℕ) (file area : List ℕ) (ok : legal z ≡ true) (few : length file ≤ 16384) (room : length area ≡ 17376) where
-  asked : (o : BoardOutcome) → o ≡ shareCall z standard node file area → shared z node file ≡ told z (length file) node o
-  asked o e =
-      any-room z node file area (omega (arith, share-room z (legal-facts z ok) (length file) few)) ∙ ap (told z (length file) node) (sym e)
+  module _ (e : refusalOf p ≡ 0) where
+    pub output-lacks : length file < p .count → toWrite p file ≡ []
+    output-lacks h =
+        ap (λ (t : Bool). pick t [] (decided p kept)) (if-eq {A = Bool} (refusalOf p) 0 (ltb (length file) (p .count)) false e ∙ lt-ltb (length file) (p .count) h)
 
-  pub share-refused : (x : Refusal) (after : List ℕ) → outcome (Refused x) after ≡ shareCall z standard node file area → refusedLine (number x) ≡ shared z node file
-  share-refused x after e = sym (asked (outcome (Refused x) after) e ∙ if-ne (number x) 0 _ _ (λ q. omega (arith, number-low x)))
+    pub output-whole : p .count ≤ length file → toWrite p file ≡ shared (sizesRead p) (p .node) kept
+    unfolding decided
+    output-whole h =
+        ap (λ (t : Bool). pick t [] (decided p kept)) (if-eq {A = Bool} (refusalOf p) 0 (ltb (length file) (p .count)) false e ∙ le-ltb (length file) (p .count) h)
+        ∙ if-eq (refusalOf p) 0 _ _ e
 
-  pub share-done : (v : ℕ) (after : List ℕ) → outcome (Done v) after ≡ shareCall z standard node file area
-      → shareText z (length file) node (take v after) ≡ shared z node file
-  share-done v after e = sym (asked (outcome (Done v) after) e)
-
-  module _ (v : ℕ) (after out : List ℕ) (wide : length out ≡ 34900) where
-    passing : (c : Check) → first boardOrder (shareLines z standard node file area) ≡ c → outcome (Done v) after ≡ settled c (share z standard file node) area
-        → (v ≤ length after) × (first boardOrder (textLines z standard (length file) node (take v after) out) ≡ Pass)
-    unfolding shareLines textLines
-    passing (Refuse x) p e = absurd (omega (arith, number-low x, ap (λ (o : BoardOutcome). o .answer .refusal) e))
-    passing Pass p e =
-        let d = done-taken v (share z standard file node) area after e in
-        let l : length (take v after) ≡ stripes z (length file) * α z = ap length (d .0) ∙ length-share z standard (legal-facts z ok) file node in
-        let h = first-clear (shareLines z standard node file area) boardOrder p in
-        let known : node < z .n = below-all (z .n) (node ∷ []) (not-no _ (h .1 .1 .1 .0)) .0 in (
-          d .1,
-          clear-first (textLines z standard (length file) node (take v after) out) boardOrder (
-            h .0,
-            (
-              h .1 .0,
-              (
-                refl,
-                (
-                  h .1 .1 .1 .0,
-                  (
-                    refl,
-                    (
-                      ap not (hold-alls (eqb (length (take v after)) (stripes z (length file) * α z) ∷ []) (eq-eqb _ _ l, tt)),
-                      (le-ltb (length out) _ (omega (arith, text-room z (legal-facts z ok) (length file) node (take v after) few known (omega (arith, l, share-room z (legal-facts z ok) (length file) few)))), (refl, (refl, tt))),
-                    ),
-                  ),
-                ),
-              ),
-            ),
-          ),
-        )
-
-    pub share-passes : outcome (Done v) after ≡ shareCall z standard node file area
-        → (v ≤ length after) × (first boardOrder (textLines z standard (length file) node (take v after) out) ≡ Pass)
-    unfolding shareCall
-    share-passes e = passing (first boardOrder (shareLines z standard node file area)) refl e
+    -- by any area with room for the share of a file that the printer takes
+    pub output-told : p .count ≤ length file → (area : List ℕ) → length area ≡ 17376
+        → toWrite p file ≡ told (sizesRead p) (length kept) (p .node) (shareCall (sizesRead p) standard (p .node) kept area)
+    output-told h area room =
+        let n = none-refused p e in
+        let few : length kept ≤ 16384 = omega (arith, length-take-le (p .count) file h, n .1) in
+        output-whole h ∙ any-room (sizesRead p) (p .node) kept area (omega (arith, share-room (sizesRead p) (legal-facts (sizesRead p) (n .0)) (length kept) few))

@@ -5,11 +5,11 @@ use Rattle.lists.specs.Lists.{piece}
 use Rattle.gf256.specs.Field.{add, product, reduce, mul, squares, inverse}
 use Rattle.sizes.specs.Sizing.{legal, B, stripes}
 use Rattle.mbcr.specs.Share.{stripe, grid, F, neighbours, symbols, kept, share, shares}
-use Rattle.board_statements.specs.Text.{decimal, shareText}
-use Rattle.board_statements.specs.Calls.{shareLines, shareCall}
+use Rattle.board_spec.specs.Text.{decimal, shareText}
+use Rattle.board_spec.specs.Calls.{shareLines, shareCall}
 use Rattle.printer.specs.Printer.{shared, printed}
 use Rattle.printer.specs.Figures.{PrinterFigures}
 
 pub figures : PrinterFigures
 unfolding piece add product reduce mul squares inverse legal B stripes stripe grid F neighbours symbols kept share shares decimal shareText shareLines shareCall shared printed
-figures = record { example = refl; empty = refl; malformed = refl; unended = refl; illegal = refl; long = refl; boards = refl }
+figures = record { refused-lines = refl; example = refl; empty = refl; all-differ = refl; most = refl; one-more = refl; malformed = refl; unended = refl; illegal = refl; long = refl; boards = refl }

@@ -1,123 +1,46 @@
--- The form of a line: what is taken, and that anything else is refused.
+-- The form of the printer's lines: those of the crate `number_lines`, with = behind the name.
 -- Assumes nothing.
-use mathlib.Core.Path.{_≡_, refl, sym, ap, ap₂, _∙_}
-use mathlib.Core.Bool.{Bool, true, false}
+use mathlib.Core.Path.{_≡_, refl, sym, ap, _∙_}
 use mathlib.Core.Logic.{_⊎_, inl, inr, ⊎-elim}
 use mathlib.Core.List.{List, [], _∷_, _++_, append-assoc}
-use Prim.Native.Nat.{ℕ, zero, suc, _+_, _*_, _-_, _≤_}
-use native.Mathlib.Nat.{eq-or-lt-of-le}
+use Prim.Native.Nat.{ℕ, zero, suc, _+_, _*_, _-_}
 use native.Mathlib.Omega.{arith}
-use lib.Dec.{ltb, eqb}
-use borrow.Author.Tests.{lt-ltb, le-ltb, eqb-true, eqb-false}
-use Rattle.lists.specs.Lists.{All}
-use Rattle.board_statements.specs.Demand1.{value}
-use Rattle.board_statements.specs.Text.{decimal, textLine}
-use Rattle.board_statements.proofs.Text.{text-laws}
-use Rattle.printer.specs.Printer.{refusedLine, digit, digits, lone, number, line}
-use Rattle.printer.specs.Laws.{Number, Begins}
-use Rattle.printer.proofs.Picks.{yes, no, if-eq, if-ne}
-use Rattle.printer.proofs.Fed.{digit-range}
-
-abbrev Digit : ℕ → Type 0
-Digit c = (0x30 ≤ c) × (c ≤ 0x39)
-
--- ---- what is taken
-
-digit-yes : (c : ℕ) → Digit c → digit c ≡ true
-digit-yes c h = no (ltb c 0x30) false (ltb c 0x3A) (le-ltb c 0x30 (h .0)) ∙ lt-ltb c 0x3A (omega (arith, h .1))
-
-digits-taken : (l : List ℕ) (v : ℕ) (input : List ℕ) (go : ℕ → List ℕ → List ℕ) → All Digit l → digits v (l ++ (0x0A ∷ input)) go ≡ go (value l v) input
-digits-taken [] v input go h = refl
-digits-taken (c ∷ l) v input go h =
-    if-ne c 0x0A _ _ (λ e. omega (arith, h .0 .0)) ∙ yes (digit c) _ _ (digit-yes c (h .0)) ∙ digits-taken l (10 * v + (c - 0x30)) input go (h .1)
-
-number-taken : (l input : List ℕ) (go : ℕ → List ℕ → List ℕ) → Number l → number (l ++ (0x0A ∷ input)) go ≡ go (value l 0) input
-number-taken l input go (inl e) = rw e
-number-taken [] input go (inr h) = absurd (omega (arith, h .1))
-number-taken (c ∷ l) input go (inr h) =
-    let e : c - 0x30 ≡ 10 * 0 + (c - 0x30) = omega arith in
-    if-ne c 0x30 _ _ (λ e. omega (arith, h .1)) ∙ yes (digit c) _ _ (digit-yes c (h .0 .0))
-    ∙ ap (λ (x : ℕ). digits x (l ++ (0x0A ∷ input)) go) e ∙ digits-taken l (10 * 0 + (c - 0x30)) input go (h .0 .1)
-
-name-taken : (name input : List ℕ) (go : ℕ → List ℕ → List ℕ) → line name (name ++ input) go ≡ number input go
-name-taken [] input go = refl
-name-taken (c ∷ name) input go = if-eq c c _ _ refl ∙ name-taken name input go
+use Rattle.number_lines.specs.Lines.{line}
+use Rattle.number_lines.specs.Laws.{Number, spelled}
+use Rattle.number_lines.proofs.Laws.{line-laws}
+use Rattle.board_spec.specs.Demand1.{value}
+use Rattle.board_spec.specs.Text.{decimal, textLine}
+use Rattle.board_spec.proofs.Text.{text-laws}
+use Rattle.printer.specs.Printer.{refusedLine}
+use Rattle.printer.specs.Laws.{Begins}
 
 whole-line : (name l input : List ℕ) → textLine name l ++ input ≡ name ++ (0x3D ∷ []) ++ (l ++ (0x0A ∷ input))
 whole-line name l input =
     append-assoc (name ++ (0x3D ∷ []) ++ l) (0x0A ∷ []) input ∙ append-assoc (name ++ (0x3D ∷ [])) l (0x0A ∷ input)
 
-pub line-taken : (name l : List ℕ) → Number l → (input : List ℕ) (go : ℕ → List ℕ → List ℕ)
-    → line (name ++ (0x3D ∷ [])) (textLine name l ++ input) go ≡ go (value l 0) input
-line-taken name l h input go =
-    ap (λ (m : List ℕ). line (name ++ (0x3D ∷ [])) m go) (whole-line name l input)
-    ∙ name-taken (name ++ (0x3D ∷ [])) (l ++ (0x0A ∷ input)) go
-    ∙ number-taken l input go h
+spelled-value : (l : List ℕ) (v : ℕ) → spelled l v ≡ value l v
+spelled-value [] v = refl
+spelled-value (c ∷ l) v = spelled-value l (10 * v + (c - 0x30))
 
-decimal-number : (x : ℕ) → Number (decimal x)
-decimal-number zero = inl (text-laws .decimal-zero)
-decimal-number (suc x) = inr (text-laws .decimal-digits (suc x), text-laws .decimal-first (suc x) (omega arith))
+module _ {A : Type 0} (bad : A) where
+  pub line-taken : (name l : List ℕ) → Number l → (input : List ℕ) (go : ℕ → List ℕ → A)
+      → line bad (name ++ (0x3D ∷ [])) (textLine name l ++ input) go ≡ go (value l 0) input
+  line-taken name l h input go =
+      ap (λ (m : List ℕ). line bad (name ++ (0x3D ∷ [])) m go) (whole-line name l input)
+      ∙ line-laws .taken bad (name ++ (0x3D ∷ [])) l h input go
+      ∙ ap (λ (v : ℕ). go v input) (spelled-value l 0)
 
-pub decimal-taken : (name : List ℕ) (x : ℕ) (input : List ℕ) (go : ℕ → List ℕ → List ℕ)
-    → line (name ++ (0x3D ∷ [])) (textLine name (decimal x) ++ input) go ≡ go x input
-decimal-taken name x input go =
-    line-taken name (decimal x) (decimal-number x) input go ∙ ap (λ (v : ℕ). go v input) (text-laws .decimal-value x)
+  pub line-else : (name input : List ℕ) → Begins name input ⊎ ((go : ℕ → List ℕ → A) → line bad (name ++ (0x3D ∷ [])) input go ≡ bad)
+  line-else name input =
+      ⊎-elim
+      (λ s. inl (record { figures = s .figures; behind = s .behind; is-number = s .is-number; whole = s .whole ∙ sym (whole-line name (s .figures) (s .behind)) }))
+      inr (line-laws .else-malformed bad (name ++ (0x3D ∷ [])) input)
 
--- ---- anything else is refused
+  decimal-number : (x : ℕ) → Number (decimal x)
+  decimal-number zero = inl (text-laws .decimal-zero)
+  decimal-number (suc x) = inr (text-laws .decimal-digits (suc x), text-laws .decimal-first (suc x) (omega arith))
 
--- the input is a list as P says, byte 0A, and what follows; or `said` refuses it
-abbrev Found : (List ℕ → Type 0) → ((ℕ → List ℕ → List ℕ) → List ℕ) → List ℕ → Type 0
-Found P said input =
-    ((l : List ℕ) × (rest : List ℕ) × P l × (input ≡ l ++ (0x0A ∷ rest))) ⊎ ((go : ℕ → List ℕ → List ℕ) → said go ≡ refusedLine 1)
-
-digits-found : (input : List ℕ) (v : ℕ) → Found (All Digit) (digits v input) input
-digits-found [] v = inr (λ go. refl)
-digits-found (b ∷ input) v = go (eqb b 0x0A) refl (digit b) refl (digits-found input (10 * v + (b - 0x30)))
-  where
-    go : (t : Bool) → eqb b 0x0A ≡ t → (u : Bool) → digit b ≡ u → Found (All Digit) (digits (10 * v + (b - 0x30)) input) input
-        → Found (All Digit) (digits v (b ∷ input)) (b ∷ input)
-    go true e u f ih = inl ([], input, tt, ap (λ (c : ℕ). c ∷ input) (eqb-true b 0x0A e))
-    go false e true f (inl h) = inl (b ∷ h .0, h .1, (digit-range b f, h .2), ap {B = List ℕ} (λ l. b ∷ l) (h .3))
-    go false e true f (inr h) = inr (λ then. no (eqb b 0x0A) _ _ e ∙ yes (digit b) _ _ f ∙ h then)
-    go false e false f ih = inr (λ then. no (eqb b 0x0A) _ _ e ∙ no (digit b) _ _ f)
-
-lone-found : (input : List ℕ) → Found (λ l. l ≡ []) (lone input) input
-lone-found [] = inr (λ go. refl)
-lone-found (b ∷ input) = go (eqb b 0x0A) refl
-  where
-    go : (t : Bool) → eqb b 0x0A ≡ t → Found (λ l. l ≡ []) (lone (b ∷ input)) (b ∷ input)
-    go true e = inl ([], input, refl, ap (λ (c : ℕ). c ∷ input) (eqb-true b 0x0A e))
-    go false e = inr (λ then. no (eqb b 0x0A) _ _ e)
-
-number-found : (input : List ℕ) → Found Number (number input) input
-number-found [] = inr (λ go. refl)
-number-found (b ∷ input) = go (eqb b 0x30) refl (digit b) refl (lone-found input) (digits-found input (b - 0x30))
-  where
-    go : (t : Bool) → eqb b 0x30 ≡ t → (u : Bool) → digit b ≡ u → Found (λ l. l ≡ []) (lone input) input
-        → Found (All Digit) (digits (b - 0x30) input) input → Found Number (number (b ∷ input)) (b ∷ input)
-    go true e u f (inl h) s = inl (b ∷ h .0, h .1, inl (ap₂ {C = List ℕ} (λ (x : ℕ) y. x ∷ y) (eqb-true b 0x30 e) (h .2)), ap {B = List ℕ} (λ l. b ∷ l) (h .3))
-    go true e u f (inr h) s = inr (λ then. yes (eqb b 0x30) _ _ e ∙ h then)
-    go false e true f r (inl h) =
-        let d = digit-range b f in
-        let first : 0x31 ≤ b = ⊎-elim (λ q. absurd (eqb-false b 0x30 e (sym q))) (λ q. omega arith) (eq-or-lt-of-le (d .0)) in
-        inl (b ∷ h .0, h .1, inr ((d, h .2), first), ap {B = List ℕ} (λ l. b ∷ l) (h .3))
-    go false e true f r (inr h) = inr (λ then. no (eqb b 0x30) _ _ e ∙ yes (digit b) _ _ f ∙ h then)
-    go false e false f r s = inr (λ then. no (eqb b 0x30) _ _ e ∙ no (digit b) _ _ f)
-
-line-found : (name input : List ℕ)
-    → ((l : List ℕ) × (rest : List ℕ) × Number l × (input ≡ name ++ (l ++ (0x0A ∷ rest)))) ⊎ ((go : ℕ → List ℕ → List ℕ) → line name input go ≡ refusedLine 1)
-line-found [] input = number-found input
-line-found (c ∷ name) [] = inr (λ go. refl)
-line-found (c ∷ name) (b ∷ input) = go (eqb b c) refl (line-found name input)
-  where
-    go : (t : Bool) → eqb b c ≡ t
-        → ((l : List ℕ) × (rest : List ℕ) × Number l × (input ≡ name ++ (l ++ (0x0A ∷ rest)))) ⊎ ((go : ℕ → List ℕ → List ℕ) → line name input go ≡ refusedLine 1)
-        → ((l : List ℕ) × (rest : List ℕ) × Number l × (b ∷ input ≡ (c ∷ name) ++ (l ++ (0x0A ∷ rest)))) ⊎ ((go : ℕ → List ℕ → List ℕ) → line (c ∷ name) (b ∷ input) go ≡ refusedLine 1)
-    go true e (inl h) = inl (h .0, h .1, h .2, ap₂ {C = List ℕ} (λ (x : ℕ) y. x ∷ y) (eqb-true b c e) (h .3))
-    go true e (inr h) = inr (λ then. yes (eqb b c) _ _ e ∙ h then)
-    go false e h = inr (λ then. no (eqb b c) _ _ e)
-
-pub line-else : (name input : List ℕ) → Begins name input ⊎ ((go : ℕ → List ℕ → List ℕ) → line (name ++ (0x3D ∷ [])) input go ≡ refusedLine 1)
-line-else name input =
-    ⊎-elim (λ h. inl (record { figures = h .0; behind = h .1; is-number = h .2; whole = h .3 ∙ sym (whole-line name (h .0) (h .1)) })) inr
-    (line-found (name ++ (0x3D ∷ [])) input)
+  pub decimal-taken : (name : List ℕ) (x : ℕ) (input : List ℕ) (go : ℕ → List ℕ → A)
+      → line bad (name ++ (0x3D ∷ [])) (textLine name (decimal x) ++ input) go ≡ go x input
+  decimal-taken name x input go =
+      line-taken name (decimal x) (decimal-number x) input go ∙ ap (λ (v : ℕ). go v input) (text-laws .decimal-value x)

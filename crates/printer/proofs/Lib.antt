@@ -1,8 +1,8 @@
-pub mod Picks
 pub mod Fed
+pub mod Forms
 pub mod Near
 pub mod Rest
-pub mod Forms
 pub mod Room
+pub mod Whole
 pub mod Laws
 pub mod Figures

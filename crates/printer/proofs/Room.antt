@@ -16,8 +16,8 @@ use Rattle.sizes.specs.declared.Refusal.the-variants.{Short}
 use Rattle.sizes.specs.Sizing.{α, stripes}
 use Rattle.sizes.specs.Refusals.{_when_, first, boardOrder}
 use Rattle.mbcr.specs.Share.{standard, share}
-use Rattle.board_statements.specs.Text.{shareText}
-use Rattle.board_statements.specs.Calls.{settled, sizeLine, longLine, nodeLine, shareLines, shareCall}
+use Rattle.board_spec.specs.Text.{shareText}
+use Rattle.board_spec.specs.Calls.{settled, sizeLine, longLine, nodeLine, shareLines, shareCall}
 use Rattle.printer.specs.Printer.{told, shared}
 
 told-same : (z : Sizes) (L node : ℕ) (c : Check) (bytes a b : List ℕ) → told z L node (settled c bytes a) ≡ told z L node (settled c bytes b)
@@ -28,8 +28,10 @@ module _ (z : Sizes) (node : ℕ) (file output : List ℕ) (enough : stripes z (
   lines-same : shareLines z standard node file (fit (stripes z (length file) * α z) []) ≡ shareLines z standard node file output
   unfolding shareLines
   lines-same =
-      let n = length-fit (stripes z (length file) * α z) [] in
-      ap (λ t. sizeLine z ∷ longLine z (length file) ∷ nodeLine z (node ∷ []) ∷ Short when t ∷ []) (le-ltb (length (fit (stripes z (length file) * α z) [])) (stripes z (length file) * α z) (omega arith) ∙ sym (le-ltb _ _ enough))
+      let room = stripes z (length file) * α z in
+      let n = length-fit room [] in
+      let enough-there = le-ltb (length (fit room [])) room (omega arith) ∙ sym (le-ltb _ _ enough) in
+      ap (λ t. sizeLine z ∷ longLine z (length file) ∷ nodeLine z (node ∷ []) ∷ Short when t ∷ []) enough-there
 
   pub any-room : shared z node file ≡ told z (length file) node (shareCall z standard node file output)
   unfolding shared shareCall

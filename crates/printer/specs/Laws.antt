@@ -1,24 +1,24 @@
--- What holds of the printer. A line is taken in just the form of document 01, and byte by byte the same is written as the definition says:
--- that numbers are held up to 1,000, that file bytes are counted up to 16,385 and that at most 16,384 of them are kept changes nothing.
+-- What holds of the printer. A line is taken in just the form of document 01; of five lines and a file it is said what is written, for any
+-- sizes, board and file; byte by byte the same is written as the definition says: that numbers are held up to 1,000, that file bytes are
+-- counted up to 16,385 and that at most 16,384 of them are kept changes nothing; and an input of which a read failed is refused.
 -- Assumes nothing.
 use mathlib.Core.Path.{_≡_}
+use mathlib.Core.Bool.{true, false}
 use mathlib.Core.Logic.{_⊎_}
 use mathlib.Core.List.{List, [], _∷_, _++_}
-use Prim.Native.Nat.{ℕ, _*_, _≤_}
-use lib.ListN.{length, getD}
-use Rattle.lists.specs.Lists.{All}
+use Prim.Native.Nat.{ℕ, _*_, _≤_, _<_}
+use lib.ListN.{length}
+use Rattle.number_lines.specs.Lines.{line}
+use Rattle.number_lines.specs.Laws.{Number}
 use Rattle.sizes.specs.declared.Sizes.{Sizes}
-use Rattle.sizes.specs.Sizing.{α, stripes}
-use Rattle.mbcr.specs.Share.{standard}
-use Rattle.board_statements.specs.Calls.{shareCall}
-use Rattle.board_statements.specs.Demand1.{value}
-use Rattle.board_statements.specs.Text.{decimal, textLine}
-use Rattle.printer.specs.Printer.{refusedLine, line, told, shared, printed}
-use Rattle.printer.specs.Machine.{begin, runs}
-
--- 0, or a digit 1 to 9 and digits
-abbrev pub Number : List ℕ → Type 0
-Number l = (l ≡ 0x30 ∷ []) ⊎ (All (λ c. (0x30 ≤ c) × (c ≤ 0x39)) l × (0x31 ≤ getD l 0 0))
+use Rattle.sizes.specs.Sizing.{legal, α, B, stripes}
+use Rattle.mbcr.specs.Share.{standard, share}
+use Rattle.board_spec.specs.Calls.{shareCall}
+use Rattle.board_spec.specs.Demand1.{value}
+use Rattle.board_spec.specs.Text.{decimal, textLine, shareText}
+use Rattle.printer.specs.declared.Parser.{Parser}
+use Rattle.printer.specs.Printer.{refusedLine, told, shared, printed}
+use Rattle.printer.specs.Steps.{begin, wrong, runs}
 
 -- the input begins with the line of a number
 pub record Begins (name input : List ℕ) : Type 0 where
@@ -27,15 +27,36 @@ pub record Begins (name input : List ℕ) : Type 0 where
   pub is-number : Number figures
   pub whole : input ≡ textLine name figures ++ behind
 
+-- the five lines, by the bytes of each number, and the file
+abbrev pub asks : List ℕ → List ℕ → List ℕ → List ℕ → List ℕ → List ℕ → List ℕ
+asks n k d r node file =
+    textLine (0x6E ∷ []) n
+    ++ (textLine (0x6B ∷ []) k
+    ++ (textLine (0x64 ∷ []) d
+    ++ (textLine (0x72 ∷ []) r
+    ++ (textLine (0x6E ∷ 0x6F ∷ 0x64 ∷ 0x65 ∷ []) node ++ file))))
+
+-- what is written for sizes, a board and a file: the refusals in their order, and else the share's text
+pub record PrintedFor (z : Sizes) (node : ℕ) (file written : List ℕ) : Type 0 where
+  pub illegal : legal z ≡ false → written ≡ refusedLine 1
+  pub over-16384 : legal z ≡ true → 16384 < length file → written ≡ refusedLine 3
+  pub over-stripes : legal z ≡ true → 4096 * B z < length file → written ≡ refusedLine 3
+  pub no-board : legal z ≡ true → length file ≤ 16384 → length file ≤ 4096 * B z → z .n ≤ node → written ≡ refusedLine 5
+  pub text : legal z ≡ true → length file ≤ 16384 → length file ≤ 4096 * B z → node < z .n
+      → written ≡ shareText z (length file) node (share z standard file node)
+
 pub record PrinterLaws : Type 0 where
   pub taken : (name l : List ℕ) → Number l → (input : List ℕ) (go : ℕ → List ℕ → List ℕ)
-      → line (name ++ (0x3D ∷ [])) (textLine name l ++ input) go ≡ go (value l 0) input
+      → line (refusedLine 1) (name ++ (0x3D ∷ [])) (textLine name l ++ input) go ≡ go (value l 0) input
   pub else-refused : (name input : List ℕ)
-      → Begins name input ⊎ ((go : ℕ → List ℕ → List ℕ) → line (name ++ (0x3D ∷ [])) input go ≡ refusedLine 1)
+      → Begins name input ⊎ ((go : ℕ → List ℕ → List ℕ) → line (refusedLine 1) (name ++ (0x3D ∷ [])) input go ≡ refusedLine 1)
   -- a decimal is taken as its number
   pub decimals : (name : List ℕ) (x : ℕ) (input : List ℕ) (go : ℕ → List ℕ → List ℕ)
-      → line (name ++ (0x3D ∷ [])) (textLine name (decimal x) ++ input) go ≡ go x input
+      → line (refusedLine 1) (name ++ (0x3D ∷ [])) (textLine name (decimal x) ++ input) go ≡ go x input
+  pub printed-for : (z : Sizes) (node : ℕ) (file : List ℕ)
+      → PrintedFor z node file (printed (asks (decimal (z .n)) (decimal (z .k)) (decimal (z .d)) (decimal (z .r)) (decimal node) file))
   pub byte-by-byte : (input : List ℕ) → runs begin [] input ≡ printed input
+  pub failed-read : (p : Parser) (kept input : List ℕ) → runs (wrong p) kept input ≡ refusedLine 1
   -- any room that is enough does for the call
   pub any-room : (z : Sizes) (node : ℕ) (file output : List ℕ) → stripes z (length file) * α z ≤ length output
       → shared z node file ≡ told z (length file) node (shareCall z standard node file output)

@@ -1,4 +1,4 @@
 pub mod Printer
-pub mod Machine
+pub mod Steps
 pub mod Laws
 pub mod Figures

@@ -22,7 +22,7 @@ use Rattle.polynomial.proofs.Poly.{length-interpolate}
 use Rattle.mbcr.specs.Share.{point, points}
 use Rattle.mbcr.specs.Rebuild.{gFrom, finishedStripe}
 use Rattle.mbcr.proofs.Points.{length-points}
-use Rattle.repair_hear.specs.Turns.{polysOf, past, partnersAt, sentAt, stripeAt}
+use Rattle.repair_hear.specs.Steps.{polysOf, past, partnersAt, sentAt, stripeAt}
 
 -- what was put at the front of a list, cut out again
 pub front-is : (d : ℕ) (ys zs : List ℕ) → length ys ≡ d → take (d - 0) (ys ++ zs) ≡ ys

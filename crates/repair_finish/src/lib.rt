@@ -9,7 +9,7 @@ ghost use Rattle.lists.specs.Lists.{tabulate};
 ghost use Rattle.lists.specs.Tests.{below};
 ghost use Rattle.gf256.specs.Field.{inverse};
 ghost use Rattle.sizes.specs.Sizing.{legal, α};
-ghost use Rattle.repair_hear.specs.Turns.{polysOf, past, partnersAt, sentAt, stripeAt};
+ghost use Rattle.repair_hear.specs.Steps.{polysOf, past, partnersAt, sentAt, stripeAt};
 
 // g of each fresh board, in place of the first bytes that it heard.
 pub fn polys(sizes: Sizes, points: &[u8], inverses: &[u8], helpers: &[usize], gs: &mut [u8])

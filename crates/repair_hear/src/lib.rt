@@ -9,7 +9,7 @@ ghost use Rattle.lists.specs.Lists.{tabulate, join, piece};
 ghost use Rattle.lists.specs.Tests.{below};
 ghost use Rattle.gf256.specs.Field.{inverse};
 ghost use Rattle.sizes.specs.Sizing.{legal, α};
-ghost use Rattle.repair_hear.specs.Turns.{firstsOf, secondsOf};
+ghost use Rattle.repair_hear.specs.Steps.{firstsOf, secondsOf};
 
 // The first and second bytes that board i hears from these helpers of stripe s.
 pub fn hear(

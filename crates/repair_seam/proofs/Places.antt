@@ -19,10 +19,10 @@ use Rattle.sizes.proofs.Legal.{row-fits}
 use Rattle.polynomial.specs.Polynomial.{eval}
 use Rattle.mbcr.specs.Share.{point}
 use Rattle.mbcr.specs.Rebuild.{gFrom, finishedStripe}
-use Rattle.store_statements.specs.Stripes.{firsts, seconds, exchangedByte, freshStripe}
-use Rattle.repair_hear.specs.Turns.{firstsOf, secondsOf, polysOf, past, partnersAt, sentAt, stripeAt}
+use Rattle.store_spec.specs.Stripes.{firsts, seconds, exchangedByte, freshStripe}
+use Rattle.repair_hear.specs.Steps.{firstsOf, secondsOf, polysOf, past, partnersAt, sentAt, stripeAt}
 use Rattle.repair_finish.proofs.Made.{past-below, length-poly}
-use Rattle.store_repair.specs.Rebuilt.{allFirsts, allSeconds, rebuilt}
+use Rattle.store_repair.specs.Steps.{allFirsts, allSeconds, rebuilt}
 use Rattle.store_repair.proofs.Rebuilt.{length-firsts}
 
 -- ---- the list without its a-th board

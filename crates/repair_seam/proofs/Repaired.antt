@@ -11,14 +11,14 @@ use Rattle.lists.proofs.Pieces.{tabulate-suc, tabulate-getD, join-ext}
 use Rattle.lists.proofs.Put.{within}
 use Rattle.sizes.specs.Sizing.{α}
 use Rattle.sizes.proofs.Legal.{row-fits}
-use Rattle.store_statements.specs.Record.{Record, stripeCount, partLen, held, putShares}
-use Rattle.store_statements.specs.Packets.{sentTo, sendersOf, helperPackets, freshShare}
-use Rattle.store_statements.specs.Calls.{repairCall}
-use Rattle.store_statements.proofs.Packets.{heard-run}
-use Rattle.store_statements.proofs.Records.{Repairs}
-use Rattle.store_statements.proofs.Stripes.{repair-by-stripes}
-use Rattle.repair_hear.specs.Turns.{puts}
-use Rattle.store_repair.specs.Rebuilt.{rebuilt}
+use Rattle.store_spec.specs.Record.{Record, stripeCount, partLen, held, putShares}
+use Rattle.store_spec.specs.Packets.{sentTo, sendersOf, helperPackets, freshShare}
+use Rattle.store_spec.specs.Calls.{repairCall}
+use Rattle.store_spec.proofs.Packets.{heard-run}
+use Rattle.store_spec.proofs.Records.{Repairs}
+use Rattle.store_spec.proofs.Stripes.{repair-by-stripes}
+use Rattle.repair_hear.specs.Steps.{puts}
+use Rattle.store_repair.specs.Steps.{rebuilt}
 use Rattle.store_repair.proofs.Puts.{puts-same}
 use Rattle.store_repair.proofs.Rebuilt.{rebuilt-same}
 use Rattle.repair_seam.proofs.Places.{stripe-same}

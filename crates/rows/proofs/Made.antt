@@ -1,4 +1,4 @@
--- What the calls put together are, in the terms of the crate mbcr and of specs/Steps.antt.
+-- What the calls put together are, in the terms of the crate mbcr and of the specs/Steps.antt of the crates own and columns.
 -- Assumes nothing.
 use mathlib.Core.Path.{_≡_, sym, ap, ap₂, _∙_}
 use mathlib.Core.List.{List, _++_}

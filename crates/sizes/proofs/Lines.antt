@@ -106,9 +106,6 @@ pub says-not : (b : Bool) → (not b ≡ true) ↔ (b ≡ false)
 says-not true = ((λ e. absurd (true-false e refl)), (λ e. absurd (true-false refl e)))
 says-not false = ((λ e. refl), (λ e. refl))
 
-pub says-none : (false ≡ true) ↔ ⊥
-says-none = ((λ e. true-false e refl), absurd)
-
 pub says-itself : (b : Bool) → (b ≡ true) ↔ (b ≡ true)
 says-itself b = ((λ e. e), (λ e. e))
 

@@ -1,4 +1,4 @@
-// The coefficients of a stripe from f and g of k boards. specs/Steps.antt says what each function works out.
+// The coefficients of a stripe from f and g of k boards. The crate columns' specs/Steps.antt says what each function works out.
 // Assumes nothing.
 ghost use mathlib.Core.Path.{_≡_};
 ghost use Prim.Native.Nat.{_+_, _-_, _*_, _≤_};

@@ -6,22 +6,14 @@ use Prim.Native.Nat.{ℕ}
 use lib.ListN.{length}
 use Rattle.sizes.specs.declared.Sizes.{Sizes}
 use Rattle.mbcr.specs.Share.{standard}
-use Rattle.store_statements.specs.Record.{Record}
-use Rattle.store_statements.specs.Calls.{StoreOutcome}
-use Rattle.store_statements.specs.Ledger.{Call, write, lose, repair, read, Step, State, Reply, replyOf, left, act, replies, final, openBook, bookFinal}
-use Rattle.store_statements.specs.Demand3.{Kept, begun, calls}
-use Rattle.store_statements.proofs.Demand3.{demand-3-standard}
+use Rattle.store_spec.specs.Record.{Record}
+use Rattle.store_spec.specs.Calls.{StoreOutcome}
+use Rattle.store_spec.specs.Ledger.{Step, State, Reply, replyOf, left, act, replies, final, openBook, bookFinal}
+use Rattle.store_spec.specs.Demand3.{Kept, begun, calls}
+use Rattle.store_spec.proofs.Demand3.{demand-3-standard}
 use Rattle.store.specs.declared.Store.{Store}
 use Rattle.store.specs.Handing.{recordIn}
-use Rattle.store.specs.Demand3.{Given, gave, Meets, Run, ending, CodeDemand3}
-
--- a method's contract is the step of demand 3's list
-pub step : (s : Store) (area : List ℕ) (call : Call) (h : Given) → Meets s area call h → gave h ≡ act standard (record { kept = recordIn s; area = area }) call
-unfolding act
-step s area (write file) h m = m
-step s area (lose board) h m = m
-step s area (repair fresh helpers) h m = m
-step s area (read boards output) h m = m
+use Rattle.store.specs.Demand3.{Given, gave, Run, ending, CodeDemand3}
 
 answers : (s : Store) (area : List ℕ) (steps : List Step) (run : List Given) → Run s steps run
     → map (λ h. replyOf (gave h)) run ≡ replies standard (record { kept = recordIn s; area = area }) steps
@@ -29,7 +21,7 @@ answers s area [] [] r = refl
 answers s area [] (h ∷ hs) r = absurd r
 answers s area (t ∷ ts) [] r = absurd r
 answers s area (t ∷ ts) (h ∷ hs) r =
-    let e = step s (t .area) (t .call) h (r .0) in
+    let e = r .0 in
     ap₂ {C = List Reply} (λ x l. x ∷ l) (ap replyOf e) (answers (h .handed .store) (h .area) ts hs (r .1) ∙ ap (λ (o : StoreOutcome). replies standard (left o) ts) e)
 
 ends : (s : Store) (area : List ℕ) (steps : List Step) (run : List Given) → Run s steps run
@@ -38,14 +30,16 @@ ends s area [] [] r = refl
 ends s area [] (h ∷ hs) r = absurd r
 ends s area (t ∷ ts) [] r = absurd r
 ends s area (t ∷ ts) (h ∷ hs) r =
-    let e = step s (t .area) (t .call) h (r .0) in
+    let e = r .0 in
     ap (λ (o : StoreOutcome). final standard (left o) ts) (sym e) ∙ ends (h .handed .store) (h .area) ts hs (r .1)
 
 pub code-demand-3 : CodeDemand3
+unfolding act
 code-demand-3 old z c new made accepted area steps run ok r =
     let d = demand-3-standard (recordIn old) z c area steps (ap (λ (o : StoreOutcome). o .answer .refusal) (sym made) ∙ accepted) ok in
     let e : recordIn (new .store) ≡ begun (recordIn old) z c area .kept = ap (λ (o : StoreOutcome). o .handed) made in (
       answers (new .store) area steps run r ∙ ap (λ (k : Record). replies standard (record { kept = k; area = area }) steps) e ∙ d .alike,
-      subst (λ (w : State). Kept standard w (bookFinal (openBook z c (length area)) (calls steps))) (ap (λ (k : Record). final standard (record { kept = k; area = area }) steps) (sym e) ∙ ends (new .store) area steps run r) (d .after),
+      subst (λ (w : State). Kept standard w (bookFinal (openBook z c (length area)) (calls steps)))
+          (ap (λ (k : Record). final standard (record { kept = k; area = area }) steps) (sym e) ∙ ends (new .store) area steps run r) (d .after),
       λ s any fresh helpers h m ok. d .repaired (recordIn s) any fresh helpers (ap (λ (o : StoreOutcome). o .answer .refusal) (sym m) ∙ ok),
     )

@@ -2,3 +2,5 @@ pub mod Settled
 pub mod ReadCall
 pub mod RepairCall
 pub mod Demand3
+pub mod Gives
+pub mod Contracts

@@ -1,108 +1,60 @@
--- A repair: what it hands on where a check refuses, and where none does.
+-- A repair: what it hands on where its check refuses, and where it passes.
 -- Assumes nothing.
 use Prim.Native.Nat.{ℕ, _+_, _*_, _-_}
-use mathlib.Core.Path.{_≡_, refl, sym, ap, ap₂, _∙_}
-use mathlib.Core.Bool.{Bool, false, not}
-use mathlib.Core.List.{List, [], _∷_, _++_}
-use lib.Dec.{eqb}
+use mathlib.Core.Path.{_≡_, sym, ap, ap₂, _∙_}
+use mathlib.Core.Bool.{Bool}
+use mathlib.Core.List.{List, []}
 use lib.ListN.{length, getD, drop}
-use borrow.Author.Tests.{eqb-true}
 use Rattle.lists.specs.Lists.{join, piece}
-use Rattle.lists.specs.Tests.{every, alls, different, apart}
-use Rattle.lists.proofs.Tests.{not-no, alls-hold}
 use Rattle.sizes.specs.declared.Refusal.{Refusal}
-use Rattle.sizes.specs.declared.Refusal.the-variants.{Count, Repeat, Points}
-use Rattle.sizes.specs.declared.Check.the-variants.{Pass}
-use Rattle.sizes.specs.declared.Answer.the-variants.{Done}
+use Rattle.sizes.specs.declared.Check.{Check}
+use Rattle.sizes.specs.declared.Check.the-variants.{Pass, Refuse}
 use Rattle.sizes.specs.Sizing.{α}
-use Rattle.sizes.specs.Refusals.{said, Line, _when_, first, storeOrder}
+use Rattle.sizes.specs.Refusals.{first, storeOrder}
 use Rattle.sizes.proofs.Legal.{legal-facts}
 use Rattle.mbcr.specs.Share.{standard}
-use Rattle.mbcr.proofs.Points.{standard-points}
-use Rattle.board_statements.specs.Calls.{nodeLine, equalPoints}
-use Rattle.store_statements.specs.Record.{Record, stripeCount, partLen, withMarks, turnOn}
-use Rattle.store_statements.specs.Packets.{hearHelpers, repairRuns}
-use Rattle.store_statements.specs.Calls.{StoreOutcome, refused, settle, recordLine, lentLine, emptyLine, downLine, repairLines, repairDone, repairCall}
-use Rattle.store_statements.proofs.Records.{Repairs, repair-facts, sound-facts}
-use Rattle.store_statements.proofs.Real.{code-lengths}
-use Rattle.store_statements.proofs.Repair.{moved-is}
-use Rattle.store_statements.proofs.StepRepair.{repair-points}
-use Rattle.checks.specs.Asked.{asked}
-use Rattle.checks.proofs.Answers.{passed, passes}
-use Rattle.checks.proofs.Given.{chain, Passed, Refuses, chain-pass}
-use Rattle.repair_hear.specs.Turns.{puts}
-use Rattle.store_repair.specs.Rebuilt.{rebuilt}
+use Rattle.store_spec.specs.Record.{Record, stripeCount, partLen, withMarks, turnOn}
+use Rattle.store_spec.specs.Calls.{StoreOutcome, accepted, refused, repairLines, repairDone, repairCall}
+use Rattle.store_spec.proofs.Records.{repair-facts, sound-facts}
+use Rattle.store_spec.proofs.Real.{code-lengths}
+use Rattle.store_spec.proofs.Repair.{moved-is}
+use Rattle.repair_hear.specs.Steps.{puts}
+use Rattle.store_repair.specs.Steps.{rebuilt}
 use Rattle.repair_seam.proofs.Repaired.{repaired}
-use Rattle.store.proofs.Settled.{refuse-at, done-at}
+use Rattle.store.proofs.Settled.{refused-by, done-by}
 
 module _ (s : Record) (area fresh helpers : List ℕ) where
-  abbrev pub counts : Line
-  counts = Count when not (alls (eqb (length fresh) (s .sizes .r) ∷ eqb (length helpers) (s .sizes .r * s .sizes .d) ∷ []))
+  abbrev pub checked : Check
+  checked = first storeOrder (repairLines standard s (length area) fresh helpers)
 
-  pub counted : asked counts ≡ Pass → (length fresh ≡ s .sizes .r) × (length helpers ≡ s .sizes .r * s .sizes .d)
-  counted h =
-      let e = alls-hold (eqb (length fresh) (s .sizes .r) ∷ eqb (length helpers) (s .sizes .r * s .sizes .d) ∷ []) (not-no _ (passed counts h)) in
-      (eqb-true _ _ (e .0), eqb-true _ _ (e .1 .0))
+  pub repair-refuses : {r : Check} {x : Refusal} → r ≡ checked → r ≡ Refuse x → refused s area [] x ≡ repairCall standard s area fresh helpers
+  unfolding repairCall
+  repair-refuses e h = refused-by (refused s area []) (repairDone standard s area fresh helpers) e h
 
-  abbrev pub repeats : Line
-  repeats = Repeat when not (alls (different fresh ∷ every (λ h. different (h .senders)) (hearHelpers (s .sizes .d) fresh helpers) ∷ apart fresh helpers ∷ []))
+  -- what a repair hands on with this answer, these marks and this area
+  abbrev pub mended : ℕ → List Bool → List ℕ → StoreOutcome
+  mended moved marks after = accepted moved (withMarks s marks) after []
 
-  abbrev pub asks : List Line
-  asks =
-      recordLine s
-      ∷ lentLine s (length area)
-      ∷ emptyLine s
-      ∷ counts
-      ∷ nodeLine (s .sizes) (fresh ++ helpers)
-      ∷ repeats
-      ∷ downLine s helpers
-      ∷ []
+  -- stripe t of the a-th fresh board
+  abbrev pub stripe : List ℕ → ℕ → ℕ → List ℕ
+  stripe xs a t = rebuilt (s .sizes) xs (λ j. piece (α (s .sizes)) t (drop (j * partLen s) area)) fresh helpers a
 
-  abbrev lines : List Line
-  lines = asks ++ (Points when equalPoints standard (repairRuns s fresh helpers) ∷ [])
+  -- the area with so many stripes of each fresh board in it
+  abbrev pub restored : List ℕ → ℕ → List ℕ
+  restored xs count = puts (λ a. getD fresh a 0 * partLen s) (λ a. join count (stripe xs a)) (s .sizes .r) area
 
-  same-lines : chain lines ≡ first storeOrder (repairLines standard s (length area) fresh helpers)
-  unfolding repairLines
-  same-lines = refl
+  abbrev bytes : ℕ → ℕ
+  bytes count = count * s .sizes .r * (2 * s .sizes .d + s .sizes .r - 1)
 
-  repair-is : settle (chain lines) (refused s area []) (repairDone standard s area fresh helpers) ≡ repairCall standard s area fresh helpers
-  unfolding repairLines repairCall
-  repair-is = refl
-
-  pub repair-refuses : (i : ℕ) (x : Refusal) → Refuses lines i x → refused s area [] x ≡ repairCall standard s area fresh helpers
-  repair-refuses i x h = refuse-at lines i x (refused s area []) (repairDone standard s area fresh helpers) h ∙ repair-is
-
-  -- what a repair hands on with these marks, this area and this answer
-  abbrev pub mended : List Bool → List ℕ → ℕ → StoreOutcome
-  mended marks after moved = record { answer = said (Done moved); handed = withMarks s marks; area = after; output = [] }
-
-  -- where no check refuses, no two points are equal either
-  all-passed : Passed asks → Passed lines
-  all-passed p =
-      let legal = sound-facts s (not-no _ (passed (recordLine s) (p .0))) .is-legal in
-      let t = alls-hold (different fresh ∷ every (λ h. different (h .senders)) (hearHelpers (s .sizes .d) fresh helpers) ∷ apart fresh helpers ∷ []) (not-no _ (passed repeats (p .1 .1 .1 .1 .1 .0))) in
-      let never : equalPoints standard (repairRuns s fresh helpers) ≡ false =
-      repair-points standard s fresh helpers legal (standard-points (s .sizes) (legal-facts (s .sizes) legal .few)) (not-no _ (passed (nodeLine (s .sizes) (fresh ++ helpers)) (p .1 .1 .1 .1 .0))) (t .0) (t .1 .0) (t .1 .1 .0) in
-      (p .0, (p .1 .0, (p .1 .1 .0, (p .1 .1 .1 .0, (p .1 .1 .1 .1 .0, (p .1 .1 .1 .1 .1 .0, (p .1 .1 .1 .1 .1 .1 .0, (sym (passes (Points when equalPoints standard (repairRuns s fresh helpers)) never), tt))))))))
-
-  pub facts : Passed asks → Repairs s (length area) fresh helpers
-  facts p = repair-facts standard s (length area) fresh helpers (sym same-lines ∙ chain-pass lines (all-passed p))
-
-  done-is : Passed asks → repairDone standard s area fresh helpers ≡ repairCall standard s area fresh helpers
-  done-is p = done-at lines (refused s area []) (repairDone standard s area fresh helpers) (all-passed p) ∙ repair-is
-
-  pub repair-works : (points after : List ℕ) (marks : List Bool) (count : ℕ) → points ≡ standard → count ≡ stripeCount s → Passed asks → marks ≡ turnOn fresh (s .marks)
-      → after ≡ puts (λ a. getD fresh a 0 * partLen s) (λ a. join count (λ t. rebuilt (s .sizes) points (λ j. piece (α (s .sizes)) t (drop (j * partLen s) area)) fresh helpers a)) (s .sizes .r) area
-      → mended marks after (count * s .sizes .r * (2 * s .sizes .d + s .sizes .r - 1)) ≡ repairCall standard s area fresh helpers
-  repair-works points after marks count ep ec p em ea =
-      let f = facts p in
+  pub repair-works : (points after : List ℕ) (marks : List Bool) (count moved : ℕ) → checked ≡ Pass → points ≡ standard → count ≡ stripeCount s
+      → moved ≡ bytes count → marks ≡ turnOn fresh (s .marks) → after ≡ restored points count → mended moved marks after ≡ repairCall standard s area fresh helpers
+  unfolding repairCall
+  repair-works points after marks count moved p ep ec eb em ea =
+      let f = repair-facts standard s (length area) fresh helpers p in
       let legal = sound-facts s (f .is-sound) .is-legal in
-      let d = done-is p in
-      let moved = moved-is standard s area fresh helpers (length area) (code-lengths standard (s .sizes) legal) (legal-facts (s .sizes) legal .some-fresh) f in
-      let whole : after ≡ repairDone standard s area fresh helpers .area =
-      ea
-      ∙ ap₂ {C = List ℕ} (λ (xs : List ℕ) (m : ℕ). puts (λ a. getD fresh a 0 * partLen s) (λ a. join m (λ t. rebuilt (s .sizes) xs (λ j. piece (α (s .sizes)) t (drop (j * partLen s) area)) fresh helpers a)) (s .sizes .r) area) ep ec
-      ∙ repaired standard s area fresh helpers f (ap (λ (o : StoreOutcome). o .answer .refusal) (sym d)) in
-      ap₂ (λ (m : List Bool) (l : List ℕ). mended m l (count * s .sizes .r * (2 * s .sizes .d + s .sizes .r - 1))) em whole
-      ∙ ap (λ (n : ℕ). mended (turnOn fresh (s .marks)) (repairDone standard s area fresh helpers .area) n) (ap (λ (m : ℕ). m * s .sizes .r * (2 * s .sizes .d + s .sizes .r - 1)) ec ∙ sym moved)
-      ∙ d
+      let done = repairDone standard s area fresh helpers in
+      let d = done-by (refused s area []) done p in
+      let sent = moved-is standard s area fresh helpers (length area) (code-lengths standard (s .sizes) legal) (legal-facts (s .sizes) legal .some-fresh) f in
+      let whole : after ≡ done .area =
+      ea ∙ ap₂ restored ep ec ∙ repaired standard s area fresh helpers f (ap (λ (o : StoreOutcome). o .answer .refusal) (sym d)) in
+      ap₂ (mended moved) em whole ∙ ap (λ (n : ℕ). mended n (turnOn fresh (s .marks)) (done .area)) (eb ∙ ap bytes ec ∙ sym sent) ∙ d

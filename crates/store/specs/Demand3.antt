@@ -8,12 +8,12 @@ use lib.ListN.{length}
 use Rattle.sizes.specs.declared.Sizes.{Sizes}
 use Rattle.sizes.specs.Refusals.{said}
 use Rattle.mbcr.specs.Share.{standard}
-use Rattle.store_statements.specs.Calls.{StoreOutcome, setUpCall, writeCall, loseCall, repairCall, readCall}
-use Rattle.store_statements.specs.Ledger.{Call, write, lose, repair, read, Step, State, Reply, replyOf, Allowed, openBook, bookReplies, bookFinal}
-use Rattle.store_statements.specs.Demand3.{Kept, Repaired, begun, calls}
+use Rattle.store_spec.specs.Calls.{StoreOutcome, setUpCall}
+use Rattle.store_spec.specs.Ledger.{Call, repair, Step, State, Reply, replyOf, act, Allowed, openBook, bookReplies, bookFinal}
+use Rattle.store_spec.specs.Demand3.{Kept, Repaired, begun, calls}
 use Rattle.store.specs.declared.Store.{Store}
 use Rattle.store.specs.declared.Handed.{Handed}
-use Rattle.store.specs.Handing.{recordIn, outcome}
+use Rattle.store.specs.Handing.{recordIn, outcomeIn}
 
 -- what one call gave back: what it hands on, and area and output as it left them
 pub record Given : Type 0 where
@@ -22,14 +22,11 @@ pub record Given : Type 0 where
   pub output : List ℕ
 
 abbrev pub gave : Given → StoreOutcome
-gave h = outcome (h .handed) (h .area) (h .output)
+gave h = outcomeIn (h .handed) (h .area) (h .output)
 
--- the contract of the call's method, for a call on this store with this area
+-- the contract of the call's method, for a call on this store with this area: it gave what the definition gives
 abbrev pub Meets : Store → List ℕ → Call → Given → Type 0
-Meets s area (write file) h = gave h ≡ writeCall standard (recordIn s) area file
-Meets s area (lose board) h = gave h ≡ loseCall (recordIn s) area board
-Meets s area (repair fresh helpers) h = gave h ≡ repairCall standard (recordIn s) area fresh helpers
-Meets s area (read boards output) h = gave h ≡ readCall standard (recordIn s) area boards output
+Meets s area call h = gave h ≡ act standard (record { kept = recordIn s; area = area }) call
 
 -- each call is on the store that the call before it handed on
 abbrev pub Run : Store → List Step → List Given → Type 0
@@ -47,7 +44,7 @@ ending s area (h ∷ hs) = ending (h .handed .store) (h .area) hs
 -- run or not, fresh boards get the packets and hold the shares that demand 3 says
 abbrev pub CodeDemand3 : Type 0
 CodeDemand3 =
-    (old : Store) (z : Sizes) (c : ℕ) (new : Handed) → outcome new [] [] ≡ setUpCall (recordIn old) z c → said (new .answer) .refusal ≡ 0
+    (old : Store) (z : Sizes) (c : ℕ) (new : Handed) → outcomeIn new [] [] ≡ setUpCall (recordIn old) z c → said (new .answer) .refusal ≡ 0
     → (area : List ℕ) (steps : List Step) (run : List Given) → Allowed standard (begun (recordIn old) z c area) (openBook z c (length area)) steps → Run (new .store) steps run
     → (map (λ h. replyOf (gave h)) run ≡ bookReplies (openBook z c (length area)) (calls steps))
     × Kept standard (ending (new .store) area run) (bookFinal (openBook z c (length area)) (calls steps))

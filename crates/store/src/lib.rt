@@ -1,13 +1,16 @@
 //! Document 01, the store: its record, and the calls as methods by value. Each hands on a record beside its answer, and meets its definition in
-//! the crate `store_statements` at document 01's points, for all input: the answer, the record, and every lent byte.
+//! the crate `store_spec` at document 01's points, for all input: the answer, the record, and every lent byte.
 ghost use mathlib.Core.Path.{_≡_};
 ghost use mathlib.Core.List.{List, []};
-ghost use Prim.Native.Nat.{ℕ};
+ghost use mathlib.Core.Bool.{true};
+ghost use Prim.Native.Nat.{ℕ, _+_, _*_, _-_, _≤_};
+ghost use Rattle.sizes.specs.Sizing.{legal};
 ghost use Rattle.mbcr.specs.Share.{standard};
-ghost use Rattle.store_statements.specs.Calls.{setUpCall, writeCall, loseCall, repairCall, readCall};
-ghost use Rattle.store.specs.Handing.{recordIn, outcome};
+ghost use Rattle.store_spec.specs.Calls.{refused, setUpCall, writeCall, loseCall, repairCall, readCall};
+ghost use Rattle.store.specs.Handing.{recordIn, outcomeIn};
 use sizes::Answer;
 use sizes::Check;
+use sizes::Refusal;
 use sizes::Sizes;
 
 // The sizes, the capacity in stripes, whether a file was accepted, its length, and a mark for each board: in service or not.
@@ -25,17 +28,33 @@ pub struct Handed {
     pub answer: Answer,
 }
 
+// A refused call hands the record back as it came.
+fn refuse(kept: Store, x: Refusal) -> Handed
+    ensures { λ r. ⌜ ((area output : List ℕ) → outcomeIn r area output ≡ refused (recordIn kept) area output x) ⌝ }
+{
+    let answer = Answer::Refused(x);
+    Handed {
+        store: kept,
+        answer: answer,
+    }
+}
+
+// The bytes that a repair of so many stripes moves.
+fn bytes_moved(sizes: Sizes, stripes: usize) -> usize
+    requires { ⌜ (legal sizes ≡ true) × (stripes ≤ 4096) ⌝ }
+    ensures { λ r. ⌜ r ≡ stripes * sizes .r * (2 * sizes .d + sizes .r - 1) ⌝ }
+{
+    stripes * sizes.r * (2 * sizes.d + sizes.r - 1)
+}
+
 impl Store {
     // A store of these sizes and this capacity, with no file. The record that it is handed is not examined.
     pub fn set_up(self, sizes: Sizes, capacity: usize) -> Handed
-        ensures { λ r. ⌜ outcome r [] [] ≡ setUpCall (recordIn self) sizes capacity ⌝ }
+        ensures { λ r. ⌜ outcomeIn r [] [] ≡ setUpCall (recordIn self) sizes capacity ⌝ }
     {
         let marks = [false; 32];
         if let Check::Refuse(x) = store_checks::check_record(sizes, capacity, false, 0, &marks) {
-            return Handed {
-                store: self,
-                answer: Answer::Refused(x),
-            };
+            return refuse(self, x);
         }
         Handed {
             store: Store {
@@ -51,35 +70,21 @@ impl Store {
 
     // Writes a file: each board gets its share, and all n come into service.
     pub fn write(self, area: &mut [u8], file: &[u8]) -> Handed
-        ensures { λ r. ⌜ outcome r (now (area .exit)) [] ≡ writeCall standard (recordIn self) (now (area .entry)) (now (file .entry)) ⌝ }
+        ensures { λ r. ⌜ outcomeIn r (now (area .exit)) [] ≡ writeCall standard (recordIn self) (now (area .entry)) (now (file .entry)) ⌝ }
     {
         let sizes = self.sizes;
         let capacity = self.capacity;
         let marks = self.marks;
-        if let Check::Refuse(x) = store_checks::check_record(
+        if let Check::Refuse(x) = write_check::check_write(
             sizes,
             capacity,
             self.written,
             self.length,
             &marks,
+            area.len(),
+            file,
         ) {
-            return Handed {
-                store: self,
-                answer: Answer::Refused(x),
-            };
-        }
-        let part_len = capacity * sizes.share_len();
-        if let Check::Refuse(x) = checks::check_lent(area.len(), sizes.n * part_len) {
-            return Handed {
-                store: self,
-                answer: Answer::Refused(x),
-            };
-        }
-        if let Check::Refuse(x) = store_checks::check_fits(sizes, capacity, file.len()) {
-            return Handed {
-                store: self,
-                answer: Answer::Refused(x),
-            };
+            return refuse(self, x);
         }
         let points = checks::standard_points();
         let count = checks::stripe_count(sizes, file.len());
@@ -98,29 +103,23 @@ impl Store {
 
     // Takes a board out of service.
     pub fn lose(self, board: usize) -> Handed
-        ensures { λ r. ⌜ ((area : List ℕ) → outcome r area [] ≡ loseCall (recordIn self) area board) ⌝ }
+        ensures { λ r. ⌜ ((area : List ℕ) → outcomeIn r area [] ≡ loseCall (recordIn self) area board) ⌝ }
     {
         let sizes = self.sizes;
         let marks = self.marks;
-        let mut next = self;
-        if let Check::Refuse(x) = store_checks::check_record(
+        if let Check::Refuse(size) = store_checks::check_record(
             sizes,
-            next.capacity,
-            next.written,
-            next.length,
+            self.capacity,
+            self.written,
+            self.length,
             &marks,
         ) {
-            return Handed {
-                store: next,
-                answer: Answer::Refused(x),
-            };
+            return refuse(self, size);
         }
-        if let Check::Refuse(x) = checks::check_node(sizes, board) {
-            return Handed {
-                store: next,
-                answer: Answer::Refused(x),
-            };
+        if let Check::Refuse(node) = checks::check_node(sizes, board) {
+            return refuse(self, node);
         }
+        let mut next = self;
         next.marks[board] = false;
         Handed {
             store: next,
@@ -130,77 +129,31 @@ impl Store {
 
     // Rebuilds the fresh boards together, each from its own run of d helpers, and puts them in service. Answers the bytes that are moved.
     pub fn repair(self, area: &mut [u8], fresh: &[usize], helpers: &[usize]) -> Handed
-        ensures { λ r. ⌜ outcome r (now (area .exit)) [] ≡ repairCall standard (recordIn self) (now (area .entry)) (now (fresh .entry)) (now (helpers .entry)) ⌝ }
+        ensures { λ r. ⌜ outcomeIn r (now (area .exit)) [] ≡ repairCall standard (recordIn self) (now (area .entry)) (now (fresh .entry)) (now (helpers .entry)) ⌝ }
     {
         let sizes = self.sizes;
         let capacity = self.capacity;
         let written = self.written;
         let length = self.length;
         let mut marks = self.marks;
-        if let Check::Refuse(x) = store_checks::check_record(
+        let points = checks::standard_points();
+        if let Check::Refuse(x) = repair_check::check_repair(
             sizes,
             capacity,
             written,
             length,
             &marks,
+            &points,
+            area.len(),
+            fresh,
+            helpers,
         ) {
-            return Handed {
-                store: self,
-                answer: Answer::Refused(x),
-            };
-        }
-        let part_len = capacity * sizes.share_len();
-        if let Check::Refuse(x) = checks::check_lent(area.len(), sizes.n * part_len) {
-            return Handed {
-                store: self,
-                answer: Answer::Refused(x),
-            };
-        }
-        if let Check::Refuse(x) = store_checks::check_written(written) {
-            return Handed {
-                store: self,
-                answer: Answer::Refused(x),
-            };
-        }
-        if let Check::Refuse(x) = checks::check_counts(
-            fresh.len(),
-            sizes.r,
-            helpers.len(),
-            sizes.r * sizes.d,
-        ) {
-            return Handed {
-                store: self,
-                answer: Answer::Refused(x),
-            };
-        }
-        if let Check::Refuse(x) = repair_checks::check_two_lists(sizes, fresh, helpers) {
-            return Handed {
-                store: self,
-                answer: Answer::Refused(x),
-            };
-        }
-        if let Check::Refuse(x) = repair_checks::check_fresh(sizes.d, fresh, helpers) {
-            return Handed {
-                store: self,
-                answer: Answer::Refused(x),
-            };
-        }
-        if let Check::Refuse(x) = store_checks::check_service(&marks, helpers) {
-            return Handed {
-                store: self,
-                answer: Answer::Refused(x),
-            };
-        }
-        let points = checks::standard_points();
-        if let Check::Refuse(x) = checks::check_points(&points, sizes.n) {
-            return Handed {
-                store: self,
-                answer: Answer::Refused(x),
-            };
+            return refuse(self, x);
         }
         let mut inverses = [0u8; 256];
         interpolation::fill_inverses(&mut inverses);
         let stripes = checks::stripe_count(sizes, length);
+        let moved = bytes_moved(sizes, stripes);
         store_repair::repair_shares(
             sizes,
             capacity,
@@ -211,7 +164,7 @@ impl Store {
             helpers,
             area,
         );
-        repair_checks::marks_on(fresh, &mut marks);
+        store_checks::marks_on(fresh, &mut marks);
         Handed {
             store: Store {
                 sizes: sizes,
@@ -220,98 +173,36 @@ impl Store {
                 length: length,
                 marks: marks,
             },
-            answer: Answer::Done(stripes * sizes.r * (2 * sizes.d + sizes.r - 1)),
+            answer: Answer::Done(moved),
         }
     }
 
     // Reads the file from k boards: it goes to the beginning of the output, the rest of which stays.
     pub fn read(self, area: &[u8], boards: &[usize], out: &mut [u8]) -> Handed
-        ensures { λ r. ⌜ outcome r (now (area .entry)) (now (out .exit)) ≡ readCall standard (recordIn self) (now (area .entry)) (now (boards .entry)) (now (out .entry)) ⌝ }
+        ensures { λ r. ⌜ outcomeIn r (now (area .entry)) (now (out .exit)) ≡ readCall standard (recordIn self) (now (area .entry)) (now (boards .entry)) (now (out .entry)) ⌝ }
     {
         let sizes = self.sizes;
         let capacity = self.capacity;
         let length = self.length;
         let marks = self.marks;
-        if let Check::Refuse(x) = store_checks::check_record(
+        let points = checks::standard_points();
+        let mut inverses = [0u8; 256];
+        interpolation::fill_inverses(&mut inverses);
+        if let Check::Refuse(x) = read_check::check_read(
             sizes,
             capacity,
             self.written,
             length,
             &marks,
-        ) {
-            return Handed {
-                store: self,
-                answer: Answer::Refused(x),
-            };
-        }
-        let part_len = capacity * sizes.share_len();
-        if let Check::Refuse(x) = checks::check_lent(area.len(), sizes.n * part_len) {
-            return Handed {
-                store: self,
-                answer: Answer::Refused(x),
-            };
-        }
-        if let Check::Refuse(x) = store_checks::check_written(self.written) {
-            return Handed {
-                store: self,
-                answer: Answer::Refused(x),
-            };
-        }
-        if let Check::Refuse(x) = checks::check_count(boards.len(), sizes.k) {
-            return Handed {
-                store: self,
-                answer: Answer::Refused(x),
-            };
-        }
-        if let Check::Refuse(x) = checks::check_nodes(sizes, boards) {
-            return Handed {
-                store: self,
-                answer: Answer::Refused(x),
-            };
-        }
-        if let Check::Refuse(x) = checks::check_repeat(boards) {
-            return Handed {
-                store: self,
-                answer: Answer::Refused(x),
-            };
-        }
-        if let Check::Refuse(x) = store_checks::check_service(&marks, boards) {
-            return Handed {
-                store: self,
-                answer: Answer::Refused(x),
-            };
-        }
-        if let Check::Refuse(x) = checks::check_room(out, length) {
-            return Handed {
-                store: self,
-                answer: Answer::Refused(x),
-            };
-        }
-        let points = checks::standard_points();
-        let mut inverses = [0u8; 256];
-        interpolation::fill_inverses(&mut inverses);
-        let count = checks::stripe_count(sizes, length);
-        if let Check::Refuse(x) = store_decode::check_agrees(
-            sizes,
-            capacity,
             &points,
             &inverses,
-            length,
-            count,
-            boards,
             area,
+            boards,
+            out,
         ) {
-            return Handed {
-                store: self,
-                answer: Answer::Refused(x),
-            };
+            return refuse(self, x);
         }
-        if let Check::Refuse(x) = checks::check_points(&points, sizes.n) {
-            return Handed {
-                store: self,
-                answer: Answer::Refused(x),
-            };
-        }
+        let count = checks::stripe_count(sizes, length);
         store_decode::file(
             sizes,
             capacity,

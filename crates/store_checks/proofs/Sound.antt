@@ -2,15 +2,16 @@
 -- Assumes nothing.
 use Prim.Native.Nat.{ℕ, _*_, _≤_, _<_}
 use mathlib.Core.Path.{_≡_, refl, sym, _∙_, ap}
-use mathlib.Core.Bool.{Bool, true, false, not}
-use mathlib.Core.List.{List}
+use mathlib.Core.Bool.{Bool, true, false}
+use mathlib.Core.List.{[], _∷_}
 use native.Mathlib.Nat.{mul-le-mul-right}
 use native.Mathlib.Omega.{arith}
 use lib.ListN.{length, drop}
 use borrow.Author.Tests.{le-leb, lt-leb, eq-eqb, ne-eqb}
 use Rattle.sizes.specs.Sizing.{legal, B}
-use Rattle.lists.specs.Tests.{pick}
-use Rattle.store_statements.specs.Record.{Record, allOff, sound}
+use Rattle.lists.specs.Tests.{pick, alls}
+use Rattle.store_spec.specs.Record.{Record, allOff, sound}
+use Rattle.store_spec.proofs.Records.{unwritten}
 
 -- two tests at the end of a list of them
 ends : (b : Bool) → b ≡ pick (pick b true false) true false
@@ -27,55 +28,39 @@ pub not-legal : (s : Record) → legal (s .sizes) ≡ false → sound s ≡ fals
 unfolding sound
 not-legal s h = rw h refl
 
-module _ (s : Record) (ok : legal (s .sizes) ≡ true) where
-  pub no-room : s .capacity < 1 → false ≡ sound s
+pub no-room : (s : Record) → legal (s .sizes) ≡ true → s .capacity < 1 → false ≡ sound s
+unfolding sound
+no-room s ok c = rw (ok, lt-leb 1 (s .capacity) c) refl
+
+pub much-room : (s : Record) → legal (s .sizes) ≡ true → 1 ≤ s .capacity → 4096 < s .capacity → false ≡ sound s
+unfolding sound
+much-room s ok low c = rw (ok, le-leb 1 (s .capacity) low, lt-leb (s .capacity) 4096 c) refl
+
+-- what the sizes and the capacity are, where their tests are passed
+pub record Roomy (s : Record) : Type 0 where
+  pub is-legal : legal (s .sizes) ≡ true
+  pub low : 1 ≤ s .capacity
+  pub high : s .capacity ≤ 4096
+
+pub long : (s : Record) → Roomy s → s .capacity * B (s .sizes) < s .length → false ≡ sound s
+unfolding sound
+long s f c = rw (f .is-legal, le-leb 1 (s .capacity) (f .low), le-leb (s .capacity) 4096 (f .high), lt-leb (s .length) (s .capacity * B (s .sizes)) c) refl
+
+-- the tests of the marks and of what is stored, where the file's length fits too
+module _ (s : Record) (f : Roomy s) (fits : s .length ≤ s .capacity * B (s .sizes)) where
+  rest : sound s ≡ alls (allOff (drop (s .sizes .n) (s .marks)) ∷ unwritten s ∷ [])
   unfolding sound
-  no-room c = rw (ok, lt-leb 1 (s .capacity) c) refl
+  rest = rw (f .is-legal, le-leb 1 (s .capacity) (f .low), le-leb (s .capacity) 4096 (f .high), le-leb (s .length) (s .capacity * B (s .sizes)) fits) refl
 
-  module _ (low : 1 ≤ s .capacity) where
-    pub much-room : 4096 < s .capacity → false ≡ sound s
-    unfolding sound
-    much-room c = rw (ok, le-leb 1 (s .capacity) low, lt-leb (s .capacity) 4096 c) refl
+  pub past : allOff (drop (s .sizes .n) (s .marks)) ≡ false → false ≡ sound s
+  past e = sym (rest ∙ (rw e refl))
 
-    module _ (high : s .capacity ≤ 4096) where
-      pub long : s .capacity * B (s .sizes) < s .length → false ≡ sound s
-      unfolding sound
-      long c = rw (ok, le-leb 1 (s .capacity) low, le-leb (s .capacity) 4096 high, lt-leb (s .length) (s .capacity * B (s .sizes)) c) refl
+  module _ (none : allOff (drop (s .sizes .n) (s .marks)) ≡ true) where
+    pub accepted : s .written ≡ true → true ≡ sound s
+    accepted w = sym (rest ∙ (rw (none, w) refl))
 
-      module _ (fits : s .length ≤ s .capacity * B (s .sizes)) where
-        pub past : allOff (drop (s .sizes .n) (s .marks)) ≡ false → false ≡ sound s
-        unfolding sound
-        past e = rw (ok, le-leb 1 (s .capacity) low, le-leb (s .capacity) 4096 high, le-leb (s .length) (s .capacity * B (s .sizes)) fits, e) refl
+    pub some-length : s .written ≡ false → 0 < s .length → false ≡ sound s
+    some-length w l = sym (rest ∙ (rw (none, w, ne-eqb (s .length) 0 (λ e. omega (arith, e))) refl))
 
-        module _ (none : allOff (drop (s .sizes .n) (s .marks)) ≡ true) where
-          pub accepted : s .written ≡ true → true ≡ sound s
-          unfolding sound
-          accepted w = rw (ok, le-leb 1 (s .capacity) low, le-leb (s .capacity) 4096 high, le-leb (s .length) (s .capacity * B (s .sizes)) fits, none, w) refl
-
-          pub some-length : s .written ≡ false → 0 < s .length → false ≡ sound s
-          unfolding sound
-          some-length w l =
-              rw (
-                ok,
-                le-leb 1 (s .capacity) low,
-                le-leb (s .capacity) 4096 high,
-                le-leb (s .length) (s .capacity * B (s .sizes)) fits,
-                none,
-                w,
-                ne-eqb (s .length) 0 (λ e. omega (arith, e)),
-              )
-              refl
-
-          pub by-marks : s .written ≡ false → s .length ≤ 0 → allOff (s .marks) ≡ sound s
-          unfolding sound
-          by-marks w l =
-              rw (
-                ok,
-                le-leb 1 (s .capacity) low,
-                le-leb (s .capacity) 4096 high,
-                le-leb (s .length) (s .capacity * B (s .sizes)) fits,
-                none,
-                w,
-                eq-eqb (s .length) 0 (omega arith),
-              )
-              (ends (allOff (s .marks)))
+    pub by-marks : s .written ≡ false → s .length ≤ 0 → allOff (s .marks) ≡ sound s
+    by-marks w l = sym (rest ∙ (rw (none, w, eq-eqb (s .length) 0 (omega arith)) (sym (ends (allOff (s .marks))))))

@@ -2,7 +2,7 @@
 -- Assumes nothing.
 use Prim.Native.Nat.{ℕ, zero, suc, _+_, _<_}
 use mathlib.Core.Path.{_≡_, refl, sym, ap, _∙_}
-use mathlib.Core.Bool.{Bool, true, false, not}
+use mathlib.Core.Bool.{Bool, true, false}
 use mathlib.Core.List.{List, [], _∷_, _++_, append-nil}
 use native.Mathlib.Numerals.{add-one}
 use native.Mathlib.Omega.{arith}
@@ -10,7 +10,7 @@ use lib.ListN.{length, getD, drop, set, drop-of-length-le}
 use lib.Seq.{drop-cons}
 use Rattle.lists.specs.Lists.{tabulate}
 use Rattle.lists.specs.Tests.{every}
-use Rattle.store_statements.specs.Record.{allOff}
+use Rattle.store_spec.specs.Record.{allOff}
 
 module _ (l : List Bool) (i : ℕ) (h : i < length l) where
   pub off-no : getD l i false ≡ true → allOff (drop i l) ≡ false

@@ -1,18 +1,22 @@
-//! The checks of the store's lines, over the parts of its record. A check answers the refusal where its line holds.
+//! The checks of the store's lines, over the parts of its record, and the marks that its calls turn on. A check answers the refusal where its
+//! line holds.
 ghost use mathlib.Core.Path.{_≡_};
 ghost use mathlib.Core.Bool.{true, false, not};
+ghost use mathlib.Core.List.{[], _∷_, _++_};
 ghost use Prim.Native.Nat.{_*_, _≤_};
 ghost use lib.Dec.{ltb};
 ghost use lib.ListN.{length, getD, drop};
 ghost use Rattle.lists.specs.Lists.{tabulate};
-ghost use Rattle.lists.specs.Tests.{every};
-ghost use Rattle.sizes.specs.declared.Refusal.the-variants.{Long, Empty, Down};
+ghost use Rattle.lists.specs.Tests.{every, alls, below, different, apart};
+ghost use Rattle.sizes.specs.declared.Refusal.the-variants.{Long, Repeat, Empty, Down};
 ghost use Rattle.sizes.specs.Sizing.{legal, B};
 ghost use Rattle.sizes.specs.Refusals.{_when_};
-ghost use Rattle.store_statements.specs.Record.{allOff, sound};
-ghost use Rattle.store_statements.specs.Calls.{recordLine};
-ghost use Rattle.checks.specs.Asked.{asked};
-ghost use Rattle.store_checks.specs.Parts.{recordOf};
+ghost use Rattle.board_spec.specs.Calls.{nodeLine};
+ghost use Rattle.store_spec.specs.Record.{allOff, sound, turnOn};
+ghost use Rattle.store_spec.specs.Packets.{Hearing, hearHelpers};
+ghost use Rattle.store_spec.specs.Calls.{recordLine};
+ghost use Rattle.checks.specs.Steps.{asked};
+ghost use Rattle.store_checks.specs.Steps.{recordOf};
 use sizes::Check;
 use sizes::Refusal;
 use sizes::Sizes;
@@ -32,9 +36,9 @@ pub fn some_on(marks: &[bool], from: usize) -> bool
 }
 
 // Whether a record of these parts, with legal sizes, is one that calls return.
-fn sound_in(sizes: Sizes, capacity: usize, written: bool, length: usize, marks: &[bool]) -> bool
+fn sound_in(sizes: Sizes, capacity: usize, written: bool, len: usize, marks: &[bool]) -> bool
     requires { ⌜ legal sizes ≡ true ⌝ }
-    ensures { λ r. ⌜ r ≡ sound (recordOf sizes capacity written length (now (marks .entry))) ⌝ }
+    ensures { λ r. ⌜ r ≡ sound (recordOf sizes capacity written len (now (marks .entry))) ⌝ }
 {
     if capacity < 1 {
         return false;
@@ -42,7 +46,7 @@ fn sound_in(sizes: Sizes, capacity: usize, written: bool, length: usize, marks: 
     if Sizes::MAX_STRIPES < capacity {
         return false;
     }
-    if capacity * sizes.stripe_len() < length {
+    if capacity * sizes.stripe_len() < len {
         return false;
     }
     if some_on(marks, sizes.n) {
@@ -51,7 +55,7 @@ fn sound_in(sizes: Sizes, capacity: usize, written: bool, length: usize, marks: 
     if written {
         return true;
     }
-    if 0 < length {
+    if 0 < len {
         return false;
     }
     if some_on(marks, 0) {
@@ -65,13 +69,13 @@ pub fn check_record(
     sizes: Sizes,
     capacity: usize,
     written: bool,
-    length: usize,
+    len: usize,
     marks: &[bool],
 ) -> Check
-    ensures { λ r. ⌜ r ≡ asked (recordLine (recordOf sizes capacity written length (now (marks .entry)))) ⌝ }
+    ensures { λ r. ⌜ r ≡ asked (recordLine (recordOf sizes capacity written len (now (marks .entry)))) ⌝ }
 {
     if sizes.legal() {
-        if sound_in(sizes, capacity, written, length, marks) {
+        if sound_in(sizes, capacity, written, len, marks) {
             return Check::Pass;
         }
     }
@@ -88,6 +92,49 @@ pub fn check_fits(sizes: Sizes, capacity: usize, got: usize) -> Check
     } else {
         Check::Pass
     }
+}
+
+// 5 NODE of two lists.
+pub fn check_two_lists(sizes: Sizes, boards: &[usize], others: &[usize]) -> Check
+    ensures { λ r. ⌜ r ≡ asked (nodeLine sizes (now (boards .entry) ++ now (others .entry))) ⌝ }
+{
+    if board_tests::below(sizes.n, boards) {
+        return checks::check_nodes(sizes, others);
+    }
+    Check::Refuse(Refusal::Node)
+}
+
+// Whether no board stands twice in the run of d helpers of one fresh board.
+fn runs_differ(d: usize, fresh: &[usize], helpers: &[usize]) -> bool
+    requires { ⌜ (length (now helpers) ≡ length (now fresh) * d) × (length (now helpers) ≤ 1024) ⌝ }
+    ensures { λ r. ⌜ r ≡ every (λ h. different (h .senders)) (hearHelpers d (now (fresh .entry)) (now (helpers .entry))) ⌝ }
+{
+    let mut a: usize = 0;
+    while a < fresh.len() {
+        let from = a * d;
+        let to = from + d;
+        if board_tests::different(&helpers[from..to]) {
+            a += 1;
+        } else {
+            return false;
+        }
+    }
+    true
+}
+
+// 6 REPEAT of a repair.
+pub fn check_fresh(d: usize, fresh: &[usize], helpers: &[usize]) -> Check
+    requires { ⌜ (length (now helpers) ≡ length (now fresh) * d) × (length (now helpers) ≤ 1024) ⌝ }
+    ensures { λ r. ⌜ r ≡ asked (Repeat when not (alls (different (now (fresh .entry)) ∷ every (λ h. different (h .senders)) (hearHelpers d (now (fresh .entry)) (now (helpers .entry))) ∷ apart (now (fresh .entry)) (now (helpers .entry)) ∷ []))) ⌝ }
+{
+    if board_tests::different(fresh) {
+        if runs_differ(d, fresh, helpers) {
+            if board_tests::apart(fresh, helpers) {
+                return Check::Pass;
+            }
+        }
+    }
+    Check::Refuse(Refusal::Repeat)
 }
 
 // 8 EMPTY.
@@ -154,5 +201,18 @@ fn turn_on(n: usize, marks: &mut [bool])
     while i < marks.len() {
         marks[i] = i < n;
         i += 1;
+    }
+}
+
+// The marks of these boards go on.
+pub fn marks_on(boards: &[usize], marks: &mut [bool])
+    requires { ⌜ below (length (now marks)) (now boards) ≡ true ⌝ }
+    ensures { λ _. ⌜ now (marks .exit) ≡ turnOn (now (boards .entry)) (now (marks .entry)) ⌝ }
+{
+    let mut t: usize = 0;
+    while t < boards.len() {
+        let b = boards[t];
+        marks[b] = true;
+        t += 1;
     }
 }

@@ -18,9 +18,9 @@ use Rattle.sizes.specs.Sizing.{α, B, stripes}
 use Rattle.sizes.proofs.Legal.{Legal, row-fits, α-most}
 use Rattle.mbcr.specs.Read.{decodedStripe}
 use Rattle.own.proofs.Made.{board-below}
-use Rattle.decode.specs.Agree.{stripeAgrees, stripeRead}
-use Rattle.store_statements.specs.Record.{held}
-use Rattle.store_checks.specs.Parts.{recordOf}
+use Rattle.decode.specs.Steps.{stripeAgrees, stripeRead}
+use Rattle.store_spec.specs.Record.{held}
+use Rattle.store_checks.specs.Steps.{recordOf}
 
 -- stripe s of each share, of v bytes
 abbrev cells : ℕ → ℕ → ℕ → List ℕ → ℕ → List ℕ

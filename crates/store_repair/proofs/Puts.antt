@@ -13,7 +13,7 @@ use borrow.Rule.Slice.PartMut.{putMid}
 use Rattle.lists.specs.Lists.{join, put}
 use Rattle.lists.proofs.Pieces.{length-join, join-suc}
 use Rattle.lists.proofs.Put.{length-put, put-append, put-comm, put-before, put-after}
-use Rattle.repair_hear.specs.Turns.{puts}
+use Rattle.repair_hear.specs.Steps.{puts}
 
 pub puts-same : (p q : ℕ → ℕ) (f g : ℕ → List ℕ) (m : ℕ) (l : List ℕ) → ((a : ℕ) → a < m → p a ≡ q a) → ((a : ℕ) → a < m → f a ≡ g a) → puts p f m l ≡ puts q g m l
 puts-same p q f g zero l ep ef = refl

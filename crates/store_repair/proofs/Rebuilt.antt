@@ -16,9 +16,9 @@ use Rattle.polynomial.specs.Polynomial.{eval}
 use Rattle.mbcr.specs.Share.{point}
 use Rattle.mbcr.specs.Rebuild.{ownF, ownG, gFrom, finishedStripe}
 use Rattle.mbcr.proofs.Stripe.{length-symbols}
-use Rattle.repair_hear.specs.Turns.{polysOf, stripeAt, puts}
+use Rattle.repair_hear.specs.Steps.{polysOf, stripeAt, puts}
 use Rattle.repair_finish.proofs.Made.{front-is, length-poly}
-use Rattle.store_repair.specs.Rebuilt.{allFirsts, allSeconds, rebuilt}
+use Rattle.store_repair.specs.Steps.{allFirsts, allSeconds, rebuilt}
 use Rattle.store_repair.proofs.Puts.{puts-same}
 
 pub length-stripe-at : (z : Sizes) (xs : List ℕ) → Legal z → (fresh helpers firsts seconds gs : List ℕ) (a : ℕ) → length (stripeAt z xs fresh helpers firsts seconds gs a) ≡ α z

@@ -20,8 +20,8 @@ use Rattle.own.proofs.Made.{board-below}
 use Rattle.sizes.specs.declared.Sizes.{Sizes}
 use Rattle.sizes.specs.Sizing.{α}
 use Rattle.sizes.proofs.Legal.{Legal, row-fits}
-use Rattle.repair_hear.specs.Turns.{puts}
-use Rattle.store_repair.specs.Rebuilt.{rebuilt}
+use Rattle.repair_hear.specs.Steps.{puts}
+use Rattle.store_repair.specs.Steps.{rebuilt}
 use Rattle.store_repair.proofs.Puts.{puts-same, puts-stripe, puts-other}
 use Rattle.store_repair.proofs.Rebuilt.{length-rebuilt, rebuilt-same}
 

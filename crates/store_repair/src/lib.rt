@@ -9,8 +9,8 @@ ghost use Rattle.lists.specs.Lists.{tabulate, join, piece};
 ghost use Rattle.lists.specs.Tests.{below, different, apart};
 ghost use Rattle.gf256.specs.Field.{inverse};
 ghost use Rattle.sizes.specs.Sizing.{legal, α};
-ghost use Rattle.repair_hear.specs.Turns.{stripeAt, puts};
-ghost use Rattle.store_repair.specs.Rebuilt.{rebuilt};
+ghost use Rattle.repair_hear.specs.Steps.{stripeAt, puts};
+ghost use Rattle.store_repair.specs.Steps.{rebuilt};
 
 // Stripe s of each fresh board, to its place in the area, from what all of them heard.
 fn put_stripes(

@@ -10,7 +10,7 @@ use lib.Seq.{drop-drop, drop-append-le, length-take-le}
 use borrow.Rule.Slice.PartMut.{putMid}
 use Rattle.lists.specs.Lists.{tabulate, put}
 use Rattle.lists.proofs.Pieces.{tabulate-suc}
-use Rattle.store_statements.specs.Record.{Record, partLen, putShares}
+use Rattle.store_spec.specs.Record.{Record, partLen, putShares}
 
 -- bytes put at the beginning of a part are put at the part's place
 pub put-part : (at w m : ℕ) (area bytes : List ℕ) → length bytes ≡ m → m ≤ w → at + w ≤ length area

@@ -8,8 +8,8 @@ ghost use lib.ListN.{length};
 ghost use Rattle.lists.specs.Lists.{tabulate};
 ghost use Rattle.sizes.specs.Sizing.{legal, α, stripes};
 ghost use Rattle.mbcr.specs.Share.{share};
-ghost use Rattle.store_statements.specs.Record.{putShares};
-ghost use Rattle.store_checks.specs.Parts.{recordOf};
+ghost use Rattle.store_spec.specs.Record.{putShares};
+ghost use Rattle.store_checks.specs.Steps.{recordOf};
 use sizes::Sizes;
 
 // The shares of a file of so many stripes, each at the beginning of its board's part of the area.

@@ -9,7 +9,7 @@ use native.Mathlib.Omega.{arith}
 use lib.Dec.{ltb}
 use lib.ListN.{length, length-append}
 use borrow.Author.Tests.{ltb-false, lt-ltb, le-ltb}
-use Rattle.board_statements.specs.Text.{digits, decimal}
+use Rattle.board_spec.specs.Text.{digits, decimal}
 
 -- any bound of x or more gives the same digits
 digits-same : (m p x : ℕ) → x ≤ m → x ≤ p → digits m x ≡ digits p x

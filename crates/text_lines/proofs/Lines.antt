@@ -8,8 +8,8 @@ use native.Mathlib.Omega.{arith}
 use lib.ListN.{length, drop, set, length-append}
 use Rattle.lists.specs.Lists.{put, joined, over}
 use Rattle.sizes.specs.declared.Sizes.{Sizes}
-use Rattle.board_statements.specs.Text.{decimal, hexPair, textLine, shareText}
-use Rattle.text_lines.specs.Wrote.{Wrote}
+use Rattle.board_spec.specs.Text.{decimal, hexPair, textLine, shareText}
+use Rattle.text_lines.specs.Steps.{Wrote}
 use Rattle.text_lines.proofs.Writes.{length-pairs, room, then, more, less}
 
 -- a line, with the value's length apart

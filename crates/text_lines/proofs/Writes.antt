@@ -11,8 +11,8 @@ use lib.Seq.{sets-eq, take-suc, length-take-le}
 use Rattle.lists.specs.Lists.{put, joined}
 use Rattle.lists.proofs.Put.{length-put, put-append}
 use Rattle.lists.proofs.Pieces.{length-joined}
-use Rattle.board_statements.specs.Text.{hexDigit, hexPair}
-use Rattle.text_lines.specs.Wrote.{Wrote}
+use Rattle.board_spec.specs.Text.{hexDigit, hexPair}
+use Rattle.text_lines.specs.Steps.{Wrote}
 
 -- no byte
 pub none : (l : List ℕ) (at : ℕ) → Wrote l at [] l at
@@ -76,4 +76,7 @@ pair-turn share t u v h k eu ev w =
     let q = length-append (joined hexPair (take t share) ++ (u ∷ [])) (v ∷ []) in
     let x = more (more w u (omega arith)) v (omega arith) in
     rw (add-one t, take-suc share t 0, joined-more hexPair (take t share) (getD share t 0), ← eu, ← ev)
-    (record { written = x .written ∙ ap (put _ _) (append-assoc (joined hexPair (take t share)) (u ∷ []) (v ∷ [])); ends = omega (arith, w .ends, length-append (joined hexPair (take t share)) (u ∷ v ∷ [])) })
+    (record {
+      written = x .written ∙ ap (put _ _) (append-assoc (joined hexPair (take t share)) (u ∷ []) (v ∷ []));
+      ends = omega (arith, w .ends, length-append (joined hexPair (take t share)) (u ∷ v ∷ []));
+    })

@@ -4,8 +4,8 @@ ghost use mathlib.Core.List.{[], _∷_};
 ghost use Prim.Native.Nat.{_+_, _≤_, _<_};
 ghost use lib.ListN.{length};
 ghost use Rattle.lists.specs.Lists.{joined};
-ghost use Rattle.board_statements.specs.Text.{decimal, hexDigit, hexPair, textLine};
-ghost use Rattle.text_lines.specs.Wrote.{Wrote};
+ghost use Rattle.board_spec.specs.Text.{decimal, hexDigit, hexPair, textLine};
+ghost use Rattle.text_lines.specs.Steps.{Wrote};
 
 // How many digits the decimal of x has.
 pub fn decimal_len(x: usize) -> usize

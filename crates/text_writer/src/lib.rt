@@ -6,7 +6,7 @@ ghost use Prim.Native.Nat.{ℕ, _*_, _≤_, _<_};
 ghost use lib.ListN.{length};
 ghost use Rattle.lists.specs.Lists.{over};
 ghost use Rattle.sizes.specs.Sizing.{legal};
-ghost use Rattle.board_statements.specs.Text.{shareText};
+ghost use Rattle.board_spec.specs.Text.{shareText};
 use sizes::Sizes;
 
 // How many bytes the text of a share of `held` bytes has.

@@ -12,7 +12,7 @@ use lib.Seq.{drop-cons}
 use borrow.Author.Tests.{eq-eqb, ne-eqb, eqb-true, lt-ltb, le-ltb, ltb-true}
 use Rattle.lists.specs.Tests.{pick}
 use Rattle.lists.proofs.Tests.{alls-hold}
-use Rattle.words.specs.Words.{bits, number, isRecord}
+use Rattle.words.specs.Words.{bits, fromBits, isRecord}
 
 -- ---- what makes eight words a record
 
@@ -72,8 +72,8 @@ half-next i w r e = ap (λ (m : ℕ). m / 2) e ∙ rest-next i w ∙ ap (λ (m :
 
 -- ---- the loop that makes a number
 
-pub number-next : (marks : List Bool) (i : ℕ) → i < length marks → number (drop i marks) ≡ pick (getD marks i false) 1 0 + 2 * number (drop (i + 1) marks)
-number-next marks i h = ap number (drop-cons marks i false h) ∙ ap (λ (m : ℕ). pick (getD marks i false) 1 0 + 2 * number (drop m marks)) (sym (add-one i))
+pub number-next : (marks : List Bool) (i : ℕ) → i < length marks → fromBits (drop i marks) ≡ pick (getD marks i false) 1 0 + 2 * fromBits (drop (i + 1) marks)
+number-next marks i h = ap fromBits (drop-cons marks i false h) ∙ ap (λ (m : ℕ). pick (getD marks i false) 1 0 + 2 * fromBits (drop m marks)) (sym (add-one i))
 
 abbrev pub power : ℕ → ℕ
 power zero = 1
@@ -83,29 +83,29 @@ pub bit-few : (b : Bool) → pick b 1 0 ≤ 1
 bit-few true = omega arith
 bit-few false = omega arith
 
-number-under : (m : ℕ) (l : List Bool) → length l ≤ m → number l < power m
+number-under : (m : ℕ) (l : List Bool) → length l ≤ m → fromBits l < power m
 number-under zero [] h = omega arith
 number-under zero (b ∷ l) h = absurd (omega arith)
 number-under (suc m) [] h = let p = number-under m [] (omega arith) in omega (arith, p)
 number-under (suc m) (b ∷ l) h = let p = number-under m l (omega arith) in omega (arith, p, bit-few b)
 
-pub number-few : (l : List Bool) → length l ≤ 32 → number l < 4294967296
+pub number-few : (l : List Bool) → length l ≤ 32 → fromBits l < 4294967296
 number-few l h = number-under 32 l h
 
-pub rest-few : (marks : List Bool) (i : ℕ) → length marks ≤ 32 → number (drop i marks) < 4294967296
+pub rest-few : (marks : List Bool) (i : ℕ) → length marks ≤ 32 → fromBits (drop i marks) < 4294967296
 rest-few marks i h = number-few (drop i marks) (omega (arith, h, length-drop i marks))
 
 -- a turn of that loop
-pub word-on : (marks : List Bool) (i w : ℕ) → 0 < i → i ≤ length marks → getD marks (i - 1) false ≡ true → w ≡ number (drop i marks) → w * 2 + 1 ≡ number (drop (i - 1) marks)
+pub word-on : (marks : List Bool) (i w : ℕ) → 0 < i → i ≤ length marks → getD marks (i - 1) false ≡ true → w ≡ fromBits (drop i marks) → w * 2 + 1 ≡ fromBits (drop (i - 1) marks)
 word-on marks i w h k e ew =
     let p : i - 1 + 1 ≡ i = omega arith in
     let n = number-next marks (i - 1) (omega arith) in
-    let q : number (drop (i - 1) marks) ≡ 1 + 2 * number (drop i marks) = n ∙ ap₂ (λ (b : Bool) (m : ℕ). pick b 1 0 + 2 * number (drop m marks)) e p in
+    let q : fromBits (drop (i - 1) marks) ≡ 1 + 2 * fromBits (drop i marks) = n ∙ ap₂ (λ (b : Bool) (m : ℕ). pick b 1 0 + 2 * fromBits (drop m marks)) e p in
     omega (arith, q, ew)
 
-pub word-off : (marks : List Bool) (i w : ℕ) → 0 < i → i ≤ length marks → getD marks (i - 1) false ≡ false → w ≡ number (drop i marks) → w * 2 ≡ number (drop (i - 1) marks)
+pub word-off : (marks : List Bool) (i w : ℕ) → 0 < i → i ≤ length marks → getD marks (i - 1) false ≡ false → w ≡ fromBits (drop i marks) → w * 2 ≡ fromBits (drop (i - 1) marks)
 word-off marks i w h k e ew =
     let p : i - 1 + 1 ≡ i = omega arith in
     let n = number-next marks (i - 1) (omega arith) in
-    let q : number (drop (i - 1) marks) ≡ 0 + 2 * number (drop i marks) = n ∙ ap₂ (λ (b : Bool) (m : ℕ). pick b 1 0 + 2 * number (drop m marks)) e p in
+    let q : fromBits (drop (i - 1) marks) ≡ 0 + 2 * fromBits (drop i marks) = n ∙ ap₂ (λ (b : Bool) (m : ℕ). pick b 1 0 + 2 * fromBits (drop m marks)) e p in
     omega (arith, q, ew)

@@ -12,8 +12,8 @@ use borrow.Author.Tests.{lt-ltb}
 use Rattle.lists.specs.Tests.{pick}
 use Rattle.lists.proofs.Tests.{hold-alls}
 use Rattle.lists.proofs.Pieces.{tabulate-getD}
-use Rattle.store_statements.specs.Record.{Record}
-use Rattle.words.specs.Words.{bits, number, isRecord, recordFrom, wordsOf}
+use Rattle.store_spec.specs.Record.{Record}
+use Rattle.words.specs.Words.{bits, fromBits, isRecord, recordFrom, wordsOf}
 use Rattle.words.specs.Laws.{WordLaws}
 use Rattle.words.proofs.Bits.{power, bit-few, number-few, words-facts}
 
@@ -35,7 +35,7 @@ two = omega arith
 half-under : (w m : ℕ) → w < 2 * m → w / 2 < m
 half-under w m h = omega (arith, div-add-mod' w 2, mod-lt w two, h)
 
-number-bits : (m w : ℕ) → w < power m → number (bits m w) ≡ w
+number-bits : (m w : ℕ) → w < power m → fromBits (bits m w) ≡ w
 number-bits zero w h = omega arith
 number-bits (suc m) w h =
     let e = flag-is (w % 2) (mod-lt w two) in
@@ -48,12 +48,12 @@ low-bit x n h = omega (arith, div-add-mod' (x + 2 * n) 2, mod-lt (x + 2 * n) two
 high-bits : (x n : ℕ) → x ≤ 1 → (x + 2 * n) / 2 ≡ n
 high-bits x n h = omega (arith, div-add-mod' (x + 2 * n) 2, mod-lt (x + 2 * n) two, h)
 
-bits-number : (l : List Bool) → bits (length l) (number l) ≡ l
+bits-number : (l : List Bool) → bits (length l) (fromBits l) ≡ l
 bits-number [] = refl
 bits-number (b ∷ l) =
     ap₂ {C = List Bool} (λ x r. x ∷ r)
-    (ap (λ (w : ℕ). eqb w 1) (low-bit (pick b 1 0) (number l) (bit-few b)) ∙ is-flag b)
-    (ap (bits (length l)) (high-bits (pick b 1 0) (number l) (bit-few b)) ∙ bits-number l)
+    (ap (λ (w : ℕ). eqb w 1) (low-bit (pick b 1 0) (fromBits l) (bit-few b)) ∙ is-flag b)
+    (ap (bits (length l)) (high-bits (pick b 1 0) (fromBits l) (bit-few b)) ∙ bits-number l)
 
 -- ---- words
 
@@ -75,13 +75,13 @@ flag-few false = omega arith
 are-words : (s : Record) → length (s .marks) ≡ 32 → isRecord (wordsOf s) ≡ true
 unfolding isRecord
 are-words s e =
-    hold-alls (eqb 8 8 ∷ ltb (pick (s .written) 1 0) 2 ∷ ltb (number (s .marks)) 4294967296 ∷ [])
+    hold-alls (eqb 8 8 ∷ ltb (pick (s .written) 1 0) 2 ∷ ltb (fromBits (s .marks)) 4294967296 ∷ [])
     (refl, (lt-ltb _ 2 (flag-few (s .written)), (lt-ltb _ 4294967296 (number-few (s .marks) (omega arith)), tt)))
 
 record-back : (s : Record) → length (s .marks) ≡ 32 → recordFrom (wordsOf s) ≡ s
 record-back s e =
     ap₂ {C = Record} (λ (w : Bool) (m : List Bool). record { sizes = s .sizes; capacity = s .capacity; written = w; length = s .length; marks = m })
-    (is-flag (s .written)) (ap (λ (n : ℕ). bits n (number (s .marks))) (sym e) ∙ bits-number (s .marks))
+    (is-flag (s .written)) (ap (λ (n : ℕ). bits n (fromBits (s .marks))) (sym e) ∙ bits-number (s .marks))
 
 pub word-laws : WordLaws
 word-laws = record { words-back = words-back; are-words = are-words; record-back = record-back }

@@ -1,3 +1,4 @@
 pub mod Bits
 pub mod Eight
 pub mod Laws
+pub mod Figures

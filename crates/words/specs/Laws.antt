@@ -6,7 +6,7 @@ use mathlib.Core.List.{List}
 use Prim.Native.Nat.{ℕ}
 use lib.ListN.{length}
 use Rattle.sizes.specs.Sizing.{maxBoards}
-use Rattle.store_statements.specs.Record.{Record}
+use Rattle.store_spec.specs.Record.{Record}
 use Rattle.words.specs.Words.{isRecord, recordFrom, wordsOf}
 
 pub record WordLaws : Type 0 where

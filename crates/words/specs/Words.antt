@@ -8,7 +8,7 @@ use lib.ListN.{length, getD}
 use Rattle.lists.specs.Tests.{pick, alls}
 use Rattle.sizes.specs.declared.Sizes.{Sizes}
 use Rattle.sizes.specs.Sizing.{maxBoards}
-use Rattle.store_statements.specs.Record.{Record}
+use Rattle.store_spec.specs.Record.{Record}
 
 -- the lowest m bits of a number, the lowest first
 abbrev pub bits : ℕ → ℕ → List Bool
@@ -16,9 +16,9 @@ bits zero w = []
 bits (suc m) w = eqb (w % 2) 1 ∷ bits m (w / 2)
 
 -- the number that has these bits
-abbrev pub number : List Bool → ℕ
-number [] = 0
-number (b ∷ marks) = pick b 1 0 + 2 * number marks
+abbrev pub fromBits : List Bool → ℕ
+fromBits [] = 0
+fromBits (b ∷ marks) = pick b 1 0 + 2 * fromBits marks
 
 -- eight words, of which written is 0 or 1 and marks is below 2^32
 unfoldable pub isRecord : List ℕ → Bool
@@ -38,4 +38,4 @@ recordFrom ws =
 -- the words that tell a record
 abbrev pub wordsOf : Record → List ℕ
 wordsOf s =
-    s .sizes .n ∷ s .sizes .k ∷ s .sizes .d ∷ s .sizes .r ∷ s .capacity ∷ pick (s .written) 1 0 ∷ s .length ∷ number (s .marks) ∷ []
+    s .sizes .n ∷ s .sizes .k ∷ s .sizes .d ∷ s .sizes .r ∷ s .capacity ∷ pick (s .written) 1 0 ∷ s .length ∷ fromBits (s .marks) ∷ []

@@ -1,11 +1,14 @@
 //! The archive's record in eight words.
 ghost use mathlib.Core.Path.{_≡_};
 ghost use mathlib.Core.Bool.{true};
-ghost use Prim.Native.Nat.{_≤_};
+ghost use Prim.Native.Nat.{_≤_, _<_};
 ghost use lib.ListN.{length};
+ghost use Rattle.sizes.specs.Refusals.{said};
 ghost use Rattle.store.specs.Handing.{recordIn};
-ghost use Rattle.words.specs.Words.{bits, number, isRecord, recordFrom, wordsOf};
+ghost use Rattle.answer_word.specs.Answers.{wordOf};
+ghost use Rattle.words.specs.Words.{bits, fromBits, isRecord, recordFrom, wordsOf};
 use sizes::Sizes;
+use store::Handed;
 use store::Store;
 
 // Whether the words are a record's.
@@ -37,7 +40,7 @@ fn fill_marks(word: u64, marks: &mut [bool])
 // The word that has the marks as its bits.
 fn marks_word(marks: &[bool]) -> u64
     requires { ⌜ length (now marks) ≤ 32 ⌝ }
-    ensures { λ w. ⌜ w ≡ number (now (marks .entry)) ⌝ }
+    ensures { λ w. ⌜ w ≡ fromBits (now (marks .entry)) ⌝ }
 {
     let mut word: u64 = 0;
     let mut i = marks.len();
@@ -86,4 +89,14 @@ pub fn put_words(store: Store, words: &mut [u64])
     words[5] = store.written as u64;
     words[6] = store.length as u64;
     words[7] = marks_word(&marks);
+}
+
+// The record that a call of the store hands on, in its words; and the word of its answer.
+pub fn hand_on(handed: Handed, words: &mut [u64]) -> u64
+    requires { ⌜ (length (now words) ≡ 8) × (said (handed .answer) .value < 72057594037927936) ⌝ }
+    ensures { λ w. ⌜ (w ≡ wordOf (said (handed .answer))) × (now (words .exit) ≡ wordsOf (recordIn (handed .store))) ⌝ }
+{
+    put_words(handed.store, words);
+    let answer = handed.answer;
+    answer_word::word_of(answer)
 }

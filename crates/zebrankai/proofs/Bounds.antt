@@ -24,8 +24,9 @@ use Rattle.mbcr.specs.Share.{share, shares}
 use Rattle.mbcr.specs.Rebuild.{helperPacket, exchangePacket, finishedShare}
 use Rattle.mbcr.specs.Read.{decodedFile, readFile}
 use Rattle.mbcr.proofs.Repair.{length-share, length-packet, length-exchange, length-finished}
-use Rattle.board_statements.specs.Text.{shareText}
-use Rattle.board_statements.specs.Calls.{settled, fileOf, shareLines, shareCall, fileLines, fileCall, helperLines, helperCall, exchangeLines, exchangeCall, finishedLines, finishedCall, textLines, textCall}
+use Rattle.board_spec.specs.Text.{shareText}
+use Rattle.board_spec.specs.Calls.{settled, fileOf, shareLines, shareCall, fileLines, fileCall, helperLines, helperCall}
+use Rattle.board_spec.specs.Calls.{exchangeLines, exchangeCall, finishedLines, finishedCall, textLines, textCall}
 use Rattle.text_lines.proofs.Decimals.{decimal-most}
 use Rattle.text_lines.proofs.Lines.{length-text}
 

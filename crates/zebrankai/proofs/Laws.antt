@@ -1,7 +1,7 @@
 -- On a refusal no word and no byte changes.
 -- Assumes nothing.
 use Prim.Native.Nat.{ℕ}
-use mathlib.Core.Path.{_≡_, refl, ap}
+use mathlib.Core.Path.{_≡_, refl, ap, _∙_}
 use mathlib.Core.Bool.{Bool, true, false}
 use mathlib.Core.List.{List, []}
 use native.Mathlib.Omega.{arith}
@@ -12,32 +12,23 @@ use Rattle.lists.specs.Tests.{pick}
 use Rattle.sizes.specs.declared.Sizes.{Sizes}
 use Rattle.sizes.specs.declared.Check.{Check}
 use Rattle.sizes.specs.declared.Check.the-variants.{Pass, Refuse}
-use Rattle.sizes.specs.declared.Answer.the-variants.{Refused}
-use Rattle.sizes.specs.Refusals.{said, first, storeOrder, boardOrder}
+use Rattle.sizes.specs.Refusals.{first, boardOrder}
 use Rattle.sizes.specs.Sizing.{stripes}
 use Rattle.mbcr.specs.Share.{standard, share}
 use Rattle.mbcr.specs.Rebuild.{helperPacket, exchangePacket, finishedShare}
 use Rattle.mbcr.specs.Read.{readFile}
-use Rattle.board_statements.specs.Calls.{settled, fileOf, shareLines, shareCall, fileLines, fileCall, helperLines, helperCall, exchangeLines, exchangeCall, finishedLines, finishedCall, textLines, textCall}
-use Rattle.board_statements.specs.Text.{shareText}
-use Rattle.store_statements.specs.Record.{newRecord}
-use Rattle.store_statements.specs.Calls.{StoreOutcome, refused, settle, writeLines, writeDone, writeCall, loseLines, loseDone, loseCall, repairLines, repairDone, repairCall, readLines, readDone, readCall, setUpCall}
+use Rattle.board_spec.specs.Calls.{settled, fileOf, shareLines, shareCall, fileLines, fileCall, helperLines, helperCall}
+use Rattle.board_spec.specs.Calls.{exchangeLines, exchangeCall, finishedLines, finishedCall, textLines, textCall}
+use Rattle.board_spec.specs.Text.{shareText}
+use Rattle.store_spec.specs.Record.{newRecord}
+use Rattle.store_spec.specs.Calls.{StoreOutcome, setUpCall}
+use Rattle.store_spec.specs.Ledger.{Call, act, outputOf}
+use Rattle.store_spec.proofs.MarkLaws.{mark-laws}
 use Rattle.answer_word.specs.Answers.{wordOf}
 use Rattle.words.specs.Words.{isRecord, recordFrom, wordsOf}
 use Rattle.words.proofs.Laws.{word-laws}
-use Rattle.zebrankai.specs.Lent.{noRecord, inWords, zbkSetUp, zbkWrite, zbkLose, zbkRepair, zbkRead}
+use Rattle.zebrankai.specs.Lent.{noRecord, inWords, zbkSetUp, zbk}
 use Rattle.zebrankai.specs.Laws.{Keeps, Leaves, ArchiveLaws}
-
--- words that come back
-module _ (ws area output : List ℕ) (done : StoreOutcome) (accepts : done .answer .refusal ≡ 0) where
-  back : isRecord ws ≡ true → (t : Check) → Keeps (inWords (settle t (refused (recordFrom ws) area output) done)) ws area output
-  back is Pass h = absurd (h (done .answer .value) (omega (arith, accepts)))
-  back is (Refuse x) h = ap (λ (l : List ℕ). record { answer = wordOf (said (Refused x)); words = l; area = area; output = output }) (word-laws .words-back ws is)
-
-  either : (t : Check) (b : Bool) → isRecord ws ≡ b
-      → Keeps (pick b (inWords (settle t (refused (recordFrom ws) area output) done)) (noRecord ws area output)) ws area output
-  either t true is = back is t
-  either t false is = λ h. refl
 
 set-up-keeps : (ws : List ℕ) (z : Sizes) (c : ℕ) → Keeps (zbkSetUp ws z c) ws [] []
 unfolding zbkSetUp
@@ -52,24 +43,18 @@ set-up-keeps ws z c = go (eqb (length ws) 8) (wordOf (o .answer)) (eqb (wordOf (
     go true w false e h = refl
     go false w b e h = refl
 
-write-keeps : (ws area file : List ℕ) → Keeps (zbkWrite ws area file) ws area []
-unfolding zbkWrite writeCall
-write-keeps ws area file =
-    either ws area [] (writeDone standard (recordFrom ws) area file) refl (first storeOrder (writeLines (recordFrom ws) (length area) file)) (isRecord ws) refl
+-- a call on a record's words: it is refused, and the words come back; or it is not
+keeps : (ws area : List ℕ) (call : Call) → Keeps (zbk ws area call) ws area (outputOf call)
+keeps ws area call = go (isRecord ws) refl
+  where
+    o : StoreOutcome
+    o = act standard (record { kept = recordFrom ws; area = area }) call
 
-lose-keeps : (ws : List ℕ) (board : ℕ) → Keeps (zbkLose ws board) ws [] []
-unfolding zbkLose loseCall
-lose-keeps ws board = either ws [] [] (loseDone (recordFrom ws) [] board) refl (first storeOrder (loseLines (recordFrom ws) board)) (isRecord ws) refl
-
-repair-keeps : (ws area fresh helpers : List ℕ) → Keeps (zbkRepair ws area fresh helpers) ws area []
-unfolding zbkRepair repairCall
-repair-keeps ws area fresh helpers =
-    either ws area [] (repairDone standard (recordFrom ws) area fresh helpers) refl (first storeOrder (repairLines standard (recordFrom ws) (length area) fresh helpers)) (isRecord ws) refl
-
-read-keeps : (ws area boards output : List ℕ) → Keeps (zbkRead ws area boards output) ws area output
-unfolding zbkRead readCall
-read-keeps ws area boards output =
-    either ws area output (readDone standard (recordFrom ws) area boards output) refl (first storeOrder (readLines standard (recordFrom ws) area boards output)) (isRecord ws) refl
+    go : (b : Bool) → isRecord ws ≡ b → Keeps (pick b (inWords o) (noRecord ws area (outputOf call))) ws area (outputOf call)
+    go true is h =
+        ap inWords (mark-laws .refused-keeps standard (record { kept = recordFrom ws; area = area }) call (λ e. h (o .answer .value) (omega (arith, e))))
+        ∙ ap (λ (l : List ℕ). record { answer = wordOf (o .answer); words = l; area = area; output = outputOf call }) (word-laws .words-back ws is)
+    go false is h = refl
 
 -- ---- board level
 
@@ -114,8 +99,5 @@ archive-laws = record {
   finished-leaves = finished-leaves;
   text-leaves = text-leaves;
   set-up-keeps = set-up-keeps;
-  write-keeps = write-keeps;
-  lose-keeps = lose-keeps;
-  repair-keeps = repair-keeps;
-  read-keeps = read-keeps;
+  keeps = keeps;
 }

@@ -2,132 +2,108 @@
 -- Assumes nothing.
 use Prim.Native.Nat.{ℕ, _+_, _*_, _-_, _≤_, _<_}
 use mathlib.Core.Path.{_≡_, refl, sym, ap, ap₂, subst, _∙_}
-use mathlib.Core.Bool.{Bool, true, false}
+use mathlib.Core.Bool.{Bool, true, false, not}
 use mathlib.Core.List.{List, [], _∷_}
 use native.Mathlib.Nat.{mul-le-mul, mul-le-mul-right}
 use native.Mathlib.Omega.{arith}
 use lib.Dec.{eqb}
 use lib.ListN.{length}
-use borrow.Author.Tests.{eq-eqb, ne-eqb}
+use borrow.Author.Tests.{eq-eqb, ne-eqb, not-true, not-false}
 use Rattle.lists.specs.Tests.{pick}
 use Rattle.sizes.specs.declared.Sizes.{Sizes}
-use Rattle.sizes.specs.declared.Refusal.{Refusal}
-use Rattle.sizes.specs.declared.Refusal.the-variants.{Size, Area, Long, Count, Node, Repeat, Short, Empty, Down, Disagree, Points}
-use Rattle.sizes.specs.declared.Answer.the-variants.{Done, Refused}
 use Rattle.sizes.specs.declared.Check.{Check}
 use Rattle.sizes.specs.declared.Check.the-variants.{Pass, Refuse}
 use Rattle.sizes.specs.Refusals.{said, first, storeOrder}
+use Rattle.sizes.proofs.Laws.{number-low}
 use Rattle.sizes.proofs.Legal.{legal-facts, α-most, stripes-least}
 use Rattle.mbcr.specs.Share.{standard}
-use Rattle.store_statements.specs.Record.{Record, newRecord, stripeCount}
-use Rattle.store_statements.specs.Calls.{StoreOutcome, refused, settle, recordLine, writeLines, writeDone, writeCall, loseLines, loseDone, loseCall, repairLines, repairDone, repairCall, readLines, readDone, readCall, setUpCall}
-use Rattle.store_statements.proofs.Records.{sound-facts, repair-facts}
-use Rattle.store_statements.proofs.Real.{code-lengths}
-use Rattle.store_statements.proofs.Repair.{moved-is}
+use Rattle.store_spec.specs.Record.{Record, newRecord, stripeCount}
+use Rattle.store_spec.specs.Calls.{StoreOutcome, accepted, refused, settle, recordLine, setUpCall}
+use Rattle.store_spec.specs.Calls.{writeLines, writeDone, writeCall, loseLines, loseDone, loseCall}
+use Rattle.store_spec.specs.Calls.{repairLines, repairDone, repairCall, readLines, readDone, readCall}
+use Rattle.store_spec.proofs.Records.{sound-facts, repair-facts}
+use Rattle.store_spec.proofs.Real.{code-lengths}
+use Rattle.store_spec.proofs.Repair.{moved-is}
 use Rattle.store.specs.declared.Store.{Store}
 use Rattle.store.specs.declared.Handed.{Handed}
-use Rattle.store.specs.Handing.{recordIn, outcome}
+use Rattle.store.specs.Handing.{recordIn, outcomeIn}
 use Rattle.answer_word.specs.Answers.{wordOf}
 use Rattle.words.specs.Words.{isRecord, recordFrom, wordsOf}
-use Rattle.zebrankai.specs.Lent.{Lent, noRecord, inWords, zbkSetUp, zbkWrite, zbkLose, zbkRepair, zbkRead}
+use Rattle.words.proofs.Bits.{words-facts}
+use Rattle.words.proofs.Laws.{word-laws}
+use Rattle.zebrankai.specs.Lent.{Lent, noRecord, inWords, lentBy, zbkSetUp}
 
--- ---- the words
+-- ---- a call over the record that the words tell
 
-no-record : (ws : List ℕ) (o none : Lent) → isRecord ws ≡ false → none ≡ pick (isRecord ws) o none
-no-record ws o none h = ap (λ (t : Bool). pick t o none) (sym h)
+-- what `is_record` told of them
+pub is-record : (ws : List ℕ) (b : Bool) → b ≡ isRecord ws → not b ≡ false → isRecord ws ≡ true
+is-record ws b e h = sym e ∙ not-false b h
 
-worded : (ws : List ℕ) (o : StoreOutcome) (none : Lent) (h : Handed) (area output next : List ℕ) (w : ℕ) → isRecord ws ≡ true → outcome h area output ≡ o
-    → next ≡ wordsOf (recordIn (h .store)) → w ≡ wordOf (said (h .answer))
-    → record { answer = w; words = next; area = area; output = output } ≡ pick (isRecord ws) (inWords o) none
-worded ws o none h area output next w is e en ew =
-    ap₂ {C = Lent} (λ (a : ℕ) (l : List ℕ). record { answer = a; words = l; area = area; output = output }) ew en
-    ∙ ap inWords e
-    ∙ ap (λ (t : Bool). pick t (inWords o) none) (sym is)
+module _ (call : Record → StoreOutcome) (ws area output : List ℕ) where
+  abbrev by : Bool → Lent
+  by t = pick t (inWords (call (recordFrom ws))) (noRecord ws area output)
 
-module _ (ws : List ℕ) where
-  module _ (area file : List ℕ) where
-    pub no-write : isRecord ws ≡ false → noRecord ws area [] ≡ zbkWrite ws area file
-    unfolding zbkWrite
-    no-write h = no-record ws _ (noRecord ws area []) h
+  -- of words that are no record's, and of a record's
+  pub none-lent : (b : Bool) → b ≡ isRecord ws → not b ≡ true → noRecord ws area output ≡ lentBy call ws area output
+  none-lent b e h = ap by (sym (not-true b h) ∙ e)
 
-    pub did-write : (s : Store) (h : Handed) (after next : List ℕ) (w : ℕ) → isRecord ws ≡ true → recordIn s ≡ recordFrom ws
-        → outcome h after [] ≡ writeCall standard (recordIn s) area file → next ≡ wordsOf (recordIn (h .store)) → w ≡ wordOf (said (h .answer))
-        → record { answer = w; words = next; area = after; output = [] } ≡ zbkWrite ws area file
-    unfolding zbkWrite
-    did-write s h after next w is es e en ew =
-        worded ws _ (noRecord ws area []) h after [] next w is (e ∙ ap (λ (r : Record). writeCall standard r area file) es) en ew
+  pub lent : isRecord ws ≡ true → inWords (call (recordFrom ws)) ≡ lentBy call ws area output
+  lent h = ap by (sym h)
 
-  module _ (board : ℕ) where
-    pub no-lose : isRecord ws ≡ false → noRecord ws [] [] ≡ zbkLose ws board
-    unfolding zbkLose
-    no-lose h = no-record ws _ (noRecord ws [] []) h
+  -- an answer that is no refusal is not that of words that are no record's
+  pub taken : (v : ℕ) → lentBy call ws area output .answer ≡ 256 * v → isRecord ws ≡ true
+  taken v e = go (isRecord ws) refl e
+    where
+      go : (t : Bool) → isRecord ws ≡ t → by t .answer ≡ 256 * v → isRecord ws ≡ true
+      go true q e = q
+      go false q e = absurd (omega (arith, e))
 
-    pub did-lose : (s : Store) (h : Handed) (next : List ℕ) (w : ℕ) → isRecord ws ≡ true → recordIn s ≡ recordFrom ws
-        → outcome h [] [] ≡ loseCall (recordIn s) [] board → next ≡ wordsOf (recordIn (h .store)) → w ≡ wordOf (said (h .answer))
-        → record { answer = w; words = next; area = []; output = [] } ≡ zbkLose ws board
-    unfolding zbkLose
-    did-lose s h next w is es e en ew =
-        worded ws _ (noRecord ws [] []) h [] [] next w is (e ∙ ap (λ (r : Record). loseCall r [] board) es) en ew
+  -- the store is taken from the words; record and answer that its call hands on are put into them
+  pub lent-on : (s : Store) (h : Handed) (after written next : List ℕ) (w : ℕ)
+      → isRecord ws ≡ true
+      → recordIn s ≡ recordFrom ws
+      → outcomeIn h after written ≡ call (recordIn s)
+      → (w ≡ wordOf (said (h .answer))) × (next ≡ wordsOf (recordIn (h .store)))
+      → record { answer = w; words = next; area = after; output = written } ≡ lentBy call ws area output
+  lent-on s h after written next w is es e p =
+      ap₂ {C = Lent} (λ (a : ℕ) (l : List ℕ). record { answer = a; words = l; area = after; output = written }) (p .0) (p .1)
+      ∙ ap inWords (e ∙ ap call es)
+      ∙ lent is
 
-  module _ (area fresh helpers : List ℕ) where
-    pub no-repair : isRecord ws ≡ false → noRecord ws area [] ≡ zbkRepair ws area fresh helpers
-    unfolding zbkRepair
-    no-repair h = no-record ws _ (noRecord ws area []) h
-
-    pub did-repair : (s : Store) (h : Handed) (after next : List ℕ) (w : ℕ) → isRecord ws ≡ true → recordIn s ≡ recordFrom ws
-        → outcome h after [] ≡ repairCall standard (recordIn s) area fresh helpers → next ≡ wordsOf (recordIn (h .store)) → w ≡ wordOf (said (h .answer))
-        → record { answer = w; words = next; area = after; output = [] } ≡ zbkRepair ws area fresh helpers
-    unfolding zbkRepair
-    did-repair s h after next w is es e en ew =
-        worded ws _ (noRecord ws area []) h after [] next w is (e ∙ ap (λ (r : Record). repairCall standard r area fresh helpers) es) en ew
-
-  module _ (area boards output : List ℕ) where
-    pub no-read : isRecord ws ≡ false → noRecord ws area output ≡ zbkRead ws area boards output
-    unfolding zbkRead
-    no-read h = no-record ws _ (noRecord ws area output) h
-
-    pub did-read : (s : Store) (h : Handed) (after next : List ℕ) (w : ℕ) → isRecord ws ≡ true → recordIn s ≡ recordFrom ws
-        → outcome h area after ≡ readCall standard (recordIn s) area boards output → next ≡ wordsOf (recordIn (h .store)) → w ≡ wordOf (said (h .answer))
-        → record { answer = w; words = next; area = area; output = after } ≡ zbkRead ws area boards output
-    unfolding zbkRead
-    did-read s h after next w is es e en ew =
-        worded ws _ (noRecord ws area output) h area after next w is (e ∙ ap (λ (r : Record). readCall standard r area boards output) es) en ew
+-- and of a record's own words
+pub lent-back : (call : Record → StoreOutcome) (s : Record) (area output : List ℕ) → length (s .marks) ≡ 32
+    → lentBy call (wordsOf s) area output ≡ inWords (call s)
+lent-back call s area output full =
+    sym (lent call (wordsOf s) area output (word-laws .are-words s full)) ∙ ap (λ (t : Record). inWords (call t)) (word-laws .record-back s full)
 
 -- ---- set up
 
--- what it answers does not hang on the record that it is handed
-same-answer : (old new : Record) (z : Sizes) (c : ℕ) → setUpCall old z c .answer ≡ setUpCall new z c .answer
-unfolding setUpCall
-same-answer old new z c = go (first storeOrder (recordLine (newRecord z c) ∷ []))
-  where
-    go : (t : Check) → settle t (refused old [] []) (record { answer = said (Done 0); handed = newRecord z c; area = []; output = [] }) .answer
-        ≡ settle t (refused new [] []) (record { answer = said (Done 0); handed = newRecord z c; area = []; output = [] }) .answer
-    go Pass = refl
-    go (Refuse x) = refl
+module _ (old new : Record) (z : Sizes) (c : ℕ) where
+  abbrev by-check : Check → Record → StoreOutcome
+  by-check t s = settle t (refused s [] []) (accepted 0 (newRecord z c) [] [])
 
--- where it is accepted, nor does what it hands on
-same-handed : (old new : Record) (z : Sizes) (c : ℕ) → wordOf (setUpCall old z c .answer) ≡ 0 → setUpCall old z c .handed ≡ setUpCall new z c .handed
-unfolding setUpCall
-same-handed old new z c h = go (first storeOrder (recordLine (newRecord z c) ∷ [])) h
-  where
-    go : (t : Check) → wordOf (settle t (refused old [] []) (record { answer = said (Done 0); handed = newRecord z c; area = []; output = [] }) .answer) ≡ 0
-        → settle t (refused old [] []) (record { answer = said (Done 0); handed = newRecord z c; area = []; output = [] }) .handed
-        ≡ settle t (refused new [] []) (record { answer = said (Done 0); handed = newRecord z c; area = []; output = [] }) .handed
-    go Pass h = refl
-    go (Refuse x) h = absurd (never x h)
-      where
-        never : (x : Refusal) → wordOf (said (Refused x)) ≡ 0 → ⊥
-        never Size h = omega arith
-        never Area h = omega arith
-        never Long h = omega arith
-        never Count h = omega arith
-        never Node h = omega arith
-        never Repeat h = omega arith
-        never Short h = omega arith
-        never Empty h = omega arith
-        never Down h = omega arith
-        never Disagree h = omega arith
-        never Points h = omega arith
+  -- what it answers does not hang on the record that it is handed
+  same-answer : setUpCall old z c .answer ≡ setUpCall new z c .answer
+  unfolding setUpCall
+  same-answer = go (first storeOrder (recordLine (newRecord z c) ∷ []))
+    where
+      go : (t : Check) → by-check t old .answer ≡ by-check t new .answer
+      go Pass = refl
+      go (Refuse x) = refl
+
+  -- where it is accepted, nor does what it hands on
+  same-handed : wordOf (setUpCall old z c .answer) ≡ 0 → setUpCall old z c .handed ≡ setUpCall new z c .handed
+  unfolding setUpCall
+  same-handed h = go (first storeOrder (recordLine (newRecord z c) ∷ [])) h
+    where
+      go : (t : Check) → wordOf (by-check t old .answer) ≡ 0 → by-check t old .handed ≡ by-check t new .handed
+      go Pass h = refl
+      go (Refuse x) h = absurd (omega (arith, number-low x, h))
+
+-- a set-up over words that are eight, or not, and accepted, or not
+abbrev pub set-up-lent : List ℕ → StoreOutcome → Bool → Bool → Lent
+set-up-lent ws o t accepts =
+    pick t (record { answer = wordOf (o .answer); words = pick accepts (wordsOf (o .handed)) ws; area = []; output = [] }) (noRecord ws [] [])
 
 module _ (ws : List ℕ) (z : Sizes) (c : ℕ) where
   pub no-set-up : (length ws ≡ 8 → ⊥) → noRecord ws [] [] ≡ zbkSetUp ws z c
@@ -137,26 +113,26 @@ module _ (ws : List ℕ) (z : Sizes) (c : ℕ) where
   abbrev new : StoreOutcome
   new = setUpCall (newRecord z c) z c
 
-  module _ (s : Store) (h : Handed) (w : ℕ) (eight : length ws ≡ 8) (e : outcome h [] [] ≡ setUpCall (recordIn s) z c) (ew : w ≡ wordOf (said (h .answer))) where
+  module _ (s : Store) (h : Handed) (w : ℕ) (eight : length ws ≡ 8) (e : outcomeIn h [] [] ≡ setUpCall (recordIn s) z c) (ew : w ≡ wordOf (said (h .answer))) where
     word-is : w ≡ wordOf (new .answer)
     word-is = ew ∙ ap (λ (o : StoreOutcome). wordOf (o .answer)) e ∙ ap wordOf (same-answer (recordIn s) (newRecord z c) z c)
 
-    pub did-set-up : (next : List ℕ) → w ≡ 0 → next ≡ wordsOf (recordIn (h .store)) → record { answer = w; words = next; area = []; output = [] } ≡ zbkSetUp ws z c
+    -- what it leaves is the definition's, as its word is 0 or not
+    as-set-up : (accepts : Bool) → eqb (wordOf (new .answer)) 0 ≡ accepts → set-up-lent ws new true accepts ≡ zbkSetUp ws z c
     unfolding zbkSetUp
+    as-set-up accepts q = ap₂ {C = Lent} (set-up-lent ws new) (sym (eq-eqb (length ws) 8 eight)) (sym q)
+
+    pub did-set-up : (next : List ℕ) → w ≡ 0 → next ≡ wordsOf (recordIn (h .store)) → record { answer = w; words = next; area = []; output = [] } ≡ zbkSetUp ws z c
     did-set-up next h0 en =
-        let made : recordIn (h .store) ≡ new .handed = ap (λ (o : StoreOutcome). o .handed) e ∙ same-handed (recordIn s) (newRecord z c) z c (sym (ap (λ (o : StoreOutcome). wordOf (o .answer)) e) ∙ sym ew ∙ h0) in
-        let zero-is : eqb (wordOf (new .answer)) 0 ≡ true = eq-eqb _ 0 (sym word-is ∙ h0) in
+        let z0 = sym (ap (λ (o : StoreOutcome). wordOf (o .answer)) e) ∙ sym ew ∙ h0 in
+        let made : recordIn (h .store) ≡ new .handed = ap (λ (o : StoreOutcome). o .handed) e ∙ same-handed (recordIn s) (newRecord z c) z c z0 in
         ap₂ {C = Lent} (λ (a : ℕ) (l : List ℕ). record { answer = a; words = l; area = []; output = [] }) word-is (en ∙ ap wordsOf made)
-        ∙ ap (λ (t : Bool). record { answer = wordOf (new .answer); words = pick t (wordsOf (new .handed)) ws; area = []; output = [] }) (sym zero-is)
-        ∙ ap (λ (t : Bool). pick t (record { answer = wordOf (new .answer); words = pick (eqb (wordOf (new .answer)) 0) (wordsOf (new .handed)) ws; area = []; output = [] }) (noRecord ws [] [])) (sym (eq-eqb (length ws) 8 eight))
+        ∙ as-set-up true (eq-eqb _ 0 (sym word-is ∙ h0))
 
     pub not-set-up : (w ≡ 0 → ⊥) → record { answer = w; words = ws; area = []; output = [] } ≡ zbkSetUp ws z c
-    unfolding zbkSetUp
     not-set-up h0 =
-        let zero-not : eqb (wordOf (new .answer)) 0 ≡ false = ne-eqb _ 0 (λ q. h0 (word-is ∙ q)) in
         ap (λ (a : ℕ). record { answer = a; words = ws; area = []; output = [] }) word-is
-        ∙ ap (λ (t : Bool). record { answer = wordOf (new .answer); words = pick t (wordsOf (new .handed)) ws; area = []; output = [] }) (sym zero-not)
-        ∙ ap (λ (t : Bool). pick t (record { answer = wordOf (new .answer); words = pick (eqb (wordOf (new .answer)) 0) (wordsOf (new .handed)) ws; area = []; output = [] }) (noRecord ws [] [])) (sym (eq-eqb (length ws) 8 eight))
+        ∙ as-set-up false (ne-eqb _ 0 (λ q. h0 (word-is ∙ q)))
 
 -- ---- the number that is reported
 
@@ -166,8 +142,14 @@ settled-few s area output done Pass h = h refl
 settled-few s area output done (Refuse x) h = omega arith
 
 -- what a call's answer reports, by its definition
-pub as-told : (h : Handed) (area output : List ℕ) (o : StoreOutcome) → outcome h area output ≡ o → o .answer .value < 72057594037927936 → said (h .answer) .value < 72057594037927936
+pub as-told : (h : Handed) (area output : List ℕ) (o : StoreOutcome) → outcomeIn h area output ≡ o → o .answer .value < 72057594037927936 → said (h .answer) .value < 72057594037927936
 as-told h area output o e few = subst (λ (v : ℕ). v < 72057594037927936) (ap (λ (p : StoreOutcome). p .answer .value) (sym e)) few
+
+-- what `hand_on` asks
+pub handed-asks : (call : Record → StoreOutcome) (ws : List ℕ) → ((s : Record) → call s .answer .value < 72057594037927936)
+    → (s : Record) (h : Handed) (after written : List ℕ) → isRecord ws ≡ true → outcomeIn h after written ≡ call s
+    → (length ws ≡ 8) × (said (h .answer) .value < 72057594037927936)
+handed-asks call ws few s h after written is e = (words-facts ws is .eight, as-told h after written (call s) e (few s))
 
 pub set-up-few : (s : Record) (z : Sizes) (c : ℕ) → setUpCall s z c .answer .value < 72057594037927936
 unfolding setUpCall
@@ -183,7 +165,8 @@ lose-few s area board = settled-few s area [] (loseDone s area board) (first sto
 
 pub read-few : (s : Record) (area boards output : List ℕ) → readCall standard s area boards output .answer .value < 72057594037927936
 unfolding readCall
-read-few s area boards output = settled-few s area output (readDone standard s area boards output) (first storeOrder (readLines standard s area boards output)) (λ _. omega arith)
+read-few s area boards output =
+    settled-few s area output (readDone standard s area boards output) (first storeOrder (readLines standard s area boards output)) (λ _. omega arith)
 
 pub repair-few : (s : Record) (area fresh helpers : List ℕ) → repairCall standard s area fresh helpers .answer .value < 72057594037927936
 unfolding repairCall

@@ -6,7 +6,7 @@ use mathlib.Core.List.{List}
 use native.Mathlib.Omega.{arith}
 use Rattle.sizes.specs.declared.Answer.{Answer}
 use Rattle.sizes.specs.Refusals.{said}
-use Rattle.board_statements.specs.Calls.{BoardOutcome}
+use Rattle.board_spec.specs.Calls.{BoardOutcome}
 use Rattle.checks.specs.Outcomes.{outcome}
 use Rattle.answer_word.specs.Answers.{wordOf}
 use Rattle.zebrankai.proofs.Bounds.{Fits}

@@ -6,9 +6,10 @@ use mathlib.Core.List.{List, []}
 use Prim.Native.Nat.{ℕ, _*_}
 use Rattle.sizes.specs.declared.Sizes.{Sizes}
 use Rattle.mbcr.specs.Share.{standard}
-use Rattle.board_statements.specs.Calls.{BoardOutcome, shareCall, fileCall, helperCall, exchangeCall, finishedCall, textCall}
+use Rattle.board_spec.specs.Calls.{BoardOutcome, shareCall, fileCall, helperCall, exchangeCall, finishedCall, textCall}
+use Rattle.store_spec.specs.Ledger.{Call, outputOf}
 use Rattle.answer_word.specs.Answers.{wordOf}
-use Rattle.zebrankai.specs.Lent.{Lent, zbkSetUp, zbkWrite, zbkLose, zbkRepair, zbkRead}
+use Rattle.zebrankai.specs.Lent.{Lent, zbkSetUp, zbk}
 
 -- where it answers a refusal, words, area and output are these
 abbrev pub Keeps : Lent → List ℕ → List ℕ → List ℕ → Type 0
@@ -28,7 +29,4 @@ pub record ArchiveLaws : Type 0 where
       → Leaves (finishedCall z standard L board helpers packets partners exchanges out) out
   pub text-leaves : (z : Sizes) (L node : ℕ) (share out : List ℕ) → Leaves (textCall z standard L node share out) out
   pub set-up-keeps : (ws : List ℕ) (z : Sizes) (c : ℕ) → Keeps (zbkSetUp ws z c) ws [] []
-  pub write-keeps : (ws area file : List ℕ) → Keeps (zbkWrite ws area file) ws area []
-  pub lose-keeps : (ws : List ℕ) (board : ℕ) → Keeps (zbkLose ws board) ws [] []
-  pub repair-keeps : (ws area fresh helpers : List ℕ) → Keeps (zbkRepair ws area fresh helpers) ws area []
-  pub read-keeps : (ws area boards output : List ℕ) → Keeps (zbkRead ws area boards output) ws area output
+  pub keeps : (ws area : List ℕ) (call : Call) → Keeps (zbk ws area call) ws area (outputOf call)

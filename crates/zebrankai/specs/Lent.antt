@@ -10,8 +10,9 @@ use Rattle.sizes.specs.declared.Refusal.the-variants.{Size}
 use Rattle.sizes.specs.declared.Answer.the-variants.{Refused}
 use Rattle.sizes.specs.Refusals.{said}
 use Rattle.mbcr.specs.Share.{standard}
-use Rattle.store_statements.specs.Record.{newRecord}
-use Rattle.store_statements.specs.Calls.{StoreOutcome, setUpCall, writeCall, loseCall, repairCall, readCall}
+use Rattle.store_spec.specs.Record.{Record, newRecord}
+use Rattle.store_spec.specs.Calls.{StoreOutcome, setUpCall}
+use Rattle.store_spec.specs.Ledger.{Call, act, outputOf}
 use Rattle.answer_word.specs.Answers.{wordOf}
 use Rattle.words.specs.Words.{isRecord, recordFrom, wordsOf}
 
@@ -29,6 +30,10 @@ noRecord ws area output = record { answer = wordOf (said (Refused Size)); words 
 abbrev pub inWords : StoreOutcome → Lent
 inWords o = record { answer = wordOf (o .answer); words = wordsOf (o .handed); area = o .area; output = o .output }
 
+-- a call of the store on the record that the words tell
+abbrev pub lentBy : (Record → StoreOutcome) → List ℕ → List ℕ → List ℕ → Lent
+lentBy call ws area output = pick (isRecord ws) (inWords (call (recordFrom ws))) (noRecord ws area output)
+
 -- "set up takes any eight words": they are not examined, and stay where it refuses
 unfoldable pub zbkSetUp : List ℕ → Sizes → ℕ → Lent
 zbkSetUp ws z c =
@@ -37,14 +42,6 @@ zbkSetUp ws z c =
     (record { answer = wordOf (o .answer); words = pick (eqb (wordOf (o .answer)) 0) (wordsOf (o .handed)) ws; area = []; output = [] })
     (noRecord ws [] [])
 
-unfoldable pub zbkWrite : List ℕ → List ℕ → List ℕ → Lent
-zbkWrite ws area file = pick (isRecord ws) (inWords (writeCall standard (recordFrom ws) area file)) (noRecord ws area [])
-
-unfoldable pub zbkLose : List ℕ → ℕ → Lent
-zbkLose ws board = pick (isRecord ws) (inWords (loseCall (recordFrom ws) [] board)) (noRecord ws [] [])
-
-unfoldable pub zbkRepair : List ℕ → List ℕ → List ℕ → List ℕ → Lent
-zbkRepair ws area fresh helpers = pick (isRecord ws) (inWords (repairCall standard (recordFrom ws) area fresh helpers)) (noRecord ws area [])
-
-unfoldable pub zbkRead : List ℕ → List ℕ → List ℕ → List ℕ → Lent
-zbkRead ws area boards output = pick (isRecord ws) (inWords (readCall standard (recordFrom ws) area boards output)) (noRecord ws area output)
+-- a call of the store on these words and this area; losing is lent no area, so that it stays whatever it is
+abbrev pub zbk : List ℕ → List ℕ → Call → Lent
+zbk ws area call = lentBy (λ s. act standard (record { kept = s; area = area }) call) ws area (outputOf call)

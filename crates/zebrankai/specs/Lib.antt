@@ -1,3 +1,5 @@
 pub mod Archive
 pub mod Lent
 pub mod Laws
+pub mod Demand3
+pub mod Figures

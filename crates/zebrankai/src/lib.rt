@@ -1,14 +1,16 @@
 //! The archive for C and Rust: every call of the board level and of the store under a C name, for all input, without `requires`.
-//! Each meets its definition at document 01's points, in the crates `board_statements` and `store_statements`: the answer as one word, and
+//! Each meets its definition at document 01's points, in the crates `board_spec` and `store_spec`: the answer as one word, and
 //! every word and byte that it was lent. A slice is a pointer and a length. A record is a lent slice of eight words: n, k, d, r, capacity,
 //! written, length, marks. An answer has the refusal's number in its low eight bits, 0 where there is none, and the number reported above them.
 ghost use mathlib.Core.Path.{_≡_};
-ghost use mathlib.Core.List.{[]};
+ghost use mathlib.Core.List.{List, []};
+ghost use Prim.Native.Nat.{ℕ};
 ghost use Rattle.mbcr.specs.Share.{standard};
-ghost use Rattle.board_statements.specs.Calls.{shareCall, fileCall, helperCall, exchangeCall, finishedCall, textCall};
+ghost use Rattle.board_spec.specs.Calls.{shareCall, fileCall, helperCall, exchangeCall, finishedCall, textCall};
+ghost use Rattle.store_spec.specs.Ledger.{write, lose, repair, read};
 ghost use Rattle.answer_word.specs.Answers.{wordOf};
 ghost use Rattle.zebrankai.specs.Archive.{sizesOf};
-ghost use Rattle.zebrankai.specs.Lent.{zbkSetUp, zbkWrite, zbkLose, zbkRepair, zbkRead};
+ghost use Rattle.zebrankai.specs.Lent.{zbkSetUp, zbk};
 use sizes::Sizes;
 use store::Store;
 
@@ -215,31 +217,27 @@ pub extern "C" fn zbk_set_up(
 // Writes a file.
 #[no_mangle]
 pub extern "C" fn zbk_write(ws: &mut [u64], area: &mut [u8], file: &[u8]) -> u64
-    ensures { λ w. ⌜ record { answer = w; words = now (ws .exit); area = now (area .exit); output = [] } ≡ zbkWrite (now (ws .entry)) (now (area .entry)) (now (file .entry)) ⌝ }
+    ensures { λ w. ⌜ record { answer = w; words = now (ws .exit); area = now (area .exit); output = [] } ≡ zbk (now (ws .entry)) (now (area .entry)) (write (now (file .entry))) ⌝ }
 {
     if !words::is_record(ws) {
         return NO_RECORD;
     }
     let store = words::store_of(ws);
     let handed = store.write(area, file);
-    words::put_words(handed.store, ws);
-    let answer = handed.answer;
-    answer_word::word_of(answer)
+    words::hand_on(handed, ws)
 }
 
 // Takes a board out of service.
 #[no_mangle]
 pub extern "C" fn zbk_lose(ws: &mut [u64], board: usize) -> u64
-    ensures { λ w. ⌜ record { answer = w; words = now (ws .exit); area = []; output = [] } ≡ zbkLose (now (ws .entry)) board ⌝ }
+    ensures { λ w. ⌜ ((area : List ℕ) → record { answer = w; words = now (ws .exit); area = area; output = [] } ≡ zbk (now (ws .entry)) area (lose board)) ⌝ }
 {
     if !words::is_record(ws) {
         return NO_RECORD;
     }
     let store = words::store_of(ws);
     let handed = store.lose(board);
-    words::put_words(handed.store, ws);
-    let answer = handed.answer;
-    answer_word::word_of(answer)
+    words::hand_on(handed, ws)
 }
 
 // Rebuilds fresh boards together, each from its own run of d helpers.
@@ -250,29 +248,25 @@ pub extern "C" fn zbk_repair(
     fresh: &[usize],
     helpers: &[usize],
 ) -> u64
-    ensures { λ w. ⌜ record { answer = w; words = now (ws .exit); area = now (area .exit); output = [] } ≡ zbkRepair (now (ws .entry)) (now (area .entry)) (now (fresh .entry)) (now (helpers .entry)) ⌝ }
+    ensures { λ w. ⌜ record { answer = w; words = now (ws .exit); area = now (area .exit); output = [] } ≡ zbk (now (ws .entry)) (now (area .entry)) (repair (now (fresh .entry)) (now (helpers .entry))) ⌝ }
 {
     if !words::is_record(ws) {
         return NO_RECORD;
     }
     let store = words::store_of(ws);
     let handed = store.repair(area, fresh, helpers);
-    words::put_words(handed.store, ws);
-    let answer = handed.answer;
-    answer_word::word_of(answer)
+    words::hand_on(handed, ws)
 }
 
 // Reads the file from k boards.
 #[no_mangle]
 pub extern "C" fn zbk_read(ws: &mut [u64], area: &[u8], boards: &[usize], out: &mut [u8]) -> u64
-    ensures { λ w. ⌜ record { answer = w; words = now (ws .exit); area = now (area .entry); output = now (out .exit) } ≡ zbkRead (now (ws .entry)) (now (area .entry)) (now (boards .entry)) (now (out .entry)) ⌝ }
+    ensures { λ w. ⌜ record { answer = w; words = now (ws .exit); area = now (area .entry); output = now (out .exit) } ≡ zbk (now (ws .entry)) (now (area .entry)) (read (now (boards .entry)) (now (out .entry))) ⌝ }
 {
     if !words::is_record(ws) {
         return NO_RECORD;
     }
     let store = words::store_of(ws);
     let handed = store.read(area, boards, out);
-    words::put_words(handed.store, ws);
-    let answer = handed.answer;
-    answer_word::word_of(answer)
+    words::hand_on(handed, ws)
 }

@@ -1,4 +1,5 @@
-//! The eleven calls with their arguments, and the memory that they are lent to change.
+//! The eleven calls with their arguments: how each is passed to the archive, what of it may be spoilt, how it is shown. And the memory that they
+//! are lent to change.
 
 use crate::code::Sizes;
 use std::fmt;
@@ -98,6 +99,22 @@ pub const CALLS: [(&str, &[u8]); 11] = [
     ("zbk_read", &[1, 2, 8, 4, 5, 6, 9, 7, 10]),
 ];
 
+// The archive's names, as include/zebrankai.h declares them (`tests/names`).
+macro_rules! asked {
+    ($plain:tt $name:ident ($($c:tt)*) ($($rust:tt)*) ($($to_c:tt)*) $from_c:tt) => {
+        #[allow(clippy::too_many_arguments)]
+        fn $name($($rust)*) -> u64 {
+            extern "C" {
+                fn $name($($c)*) -> u64;
+            }
+            // Safety: each pointer is a slice's, and its number of elements follows.
+            unsafe { $name($($to_c)*) }
+        }
+    };
+}
+
+names::archive!(asked);
+
 impl Call {
     /// The place of the call in `CALLS`.
     pub fn place(&self) -> usize {
@@ -114,6 +131,95 @@ impl Call {
             Call::Repair { .. } => 9,
             Call::Read { .. } => 10,
         }
+    }
+
+    /// Makes the call, over what it is lent; the archive's answer.
+    pub fn ask(&self, record: &mut [u64], area: &mut [u8], out: &mut [u8]) -> u64 {
+        match self {
+            Call::Share { sizes, node, file } => zbk_share(*sizes, *node, file, out),
+            Call::File { sizes, length, boards, shares } => zbk_file(*sizes, *length, boards, shares, out),
+            Call::Helper { sizes, length, helper, receiver, share } => {
+                zbk_helper_packet(*sizes, *length, *helper, *receiver, share, out)
+            }
+            Call::Exchange { sizes, length, board, helpers, packets, receiver } => {
+                zbk_exchange_packet(*sizes, *length, *board, helpers, packets, *receiver, out)
+            }
+            Call::Finished { sizes, length, board, helpers, packets, partners, partner_packets } => {
+                zbk_finished_share(*sizes, *length, *board, helpers, packets, partners, partner_packets, out)
+            }
+            Call::Text { sizes, length, node, share } => zbk_share_text(*sizes, *length, *node, share, out),
+            Call::SetUp { sizes, capacity } => zbk_set_up(record, *sizes, *capacity),
+            Call::Write { file } => zbk_write(record, area, file),
+            Call::Lose { board } => zbk_lose(record, *board),
+            Call::Repair { fresh, helpers } => zbk_repair(record, area, fresh, helpers),
+            Call::Read { boards } => zbk_read(record, area, boards, out),
+        }
+    }
+
+    /// The arguments, for whoever spoils them.
+    pub fn parts(&mut self) -> Parts<'_> {
+        let none = Parts::default();
+        match self {
+            Call::Share { sizes, node, file } => {
+                Parts { sizes: Some(sizes), numbers: vec![node], slices: vec![file], ..none }
+            }
+            Call::File { sizes, length, boards, shares } => {
+                Parts { sizes: Some(sizes), length: Some(length), lists: vec![boards], slices: vec![shares], ..none }
+            }
+            Call::Helper { sizes, length, helper, receiver, share } => Parts {
+                sizes: Some(sizes),
+                length: Some(length),
+                numbers: vec![helper, receiver],
+                slices: vec![share],
+                ..none
+            },
+            Call::Exchange { sizes, length, board, helpers, packets, receiver } => Parts {
+                sizes: Some(sizes),
+                length: Some(length),
+                numbers: vec![board, receiver],
+                lists: vec![helpers],
+                slices: vec![packets],
+                ..none
+            },
+            Call::Finished { sizes, length, board, helpers, packets, partners, partner_packets } => Parts {
+                sizes: Some(sizes),
+                length: Some(length),
+                numbers: vec![board],
+                lists: vec![helpers, partners],
+                slices: vec![packets, partner_packets],
+                ..none
+            },
+            Call::Text { sizes, length, node, share } => {
+                Parts { sizes: Some(sizes), length: Some(length), numbers: vec![node], slices: vec![share], ..none }
+            }
+            Call::SetUp { sizes, capacity } => Parts { sizes: Some(sizes), capacity: Some(capacity), ..none },
+            Call::Write { file } => Parts { slices: vec![file], ..none },
+            Call::Lose { board } => Parts { numbers: vec![board], ..none },
+            Call::Repair { fresh, helpers } => Parts { lists: vec![fresh, helpers], ..none },
+            Call::Read { boards } => Parts { lists: vec![boards], ..none },
+        }
+    }
+}
+
+/// The arguments of a call, by what they are.
+#[derive(Default)]
+pub struct Parts<'a> {
+    pub sizes: Option<&'a mut Sizes>,
+    pub length: Option<&'a mut usize>,
+    pub capacity: Option<&'a mut usize>,
+    pub numbers: Vec<&'a mut usize>,
+    pub lists: Vec<&'a mut Vec<usize>>,
+    pub slices: Vec<&'a mut Vec<u8>>,
+}
+
+impl Parts<'_> {
+    /// Every board that the call names.
+    pub fn named(&self) -> Vec<usize> {
+        let mut boards: Vec<usize> = self.numbers.iter().map(|number| **number).collect();
+        for list in &self.lists {
+            boards.extend(list.iter());
+        }
+        boards
     }
 }
 

@@ -10,7 +10,7 @@ use crate::matrix::Matrix;
 use crate::random::Random;
 use crate::spoil::spoil;
 use crate::store;
-use crate::store_cases;
+use crate::store_draw;
 use crate::trial::Trial;
 
 /// The store as the last call left it, and the book beside it.
@@ -56,6 +56,10 @@ impl History {
         self.book.capacity * self.book.sizes.share_len()
     }
 
+    fn in_service(&self) -> Vec<usize> {
+        self.book.in_service.iter().copied().collect()
+    }
+
     /// Alters bytes of boards out of service.
     fn alter(&mut self, random: &mut Random) {
         let board_len = self.board_len();
@@ -70,49 +74,24 @@ impl History {
 
     /// One call, mostly a right one; false where the archive answered otherwise.
     fn step(&mut self, trial: &mut Trial, random: &mut Random) -> bool {
-        let mut call = self.draw_call(random);
+        let Book { sizes, capacity, .. } = self.book;
+        let mut call = store_draw::next_call(random, sizes, capacity, &self.in_service());
         if random.once_in(4) {
             // the record and the area are those that the last call left, so only the arguments are spoilt
-            spoil(random, self.book.sizes, &mut call, &mut Lent::default());
+            spoil(random, sizes, &mut call, &mut Lent::default());
         }
         let length = self.book.file.as_ref().map_or(0, Vec::len);
-        self.lent.out = if let Call::Read { .. } = call { draw::output(random, length) } else { Vec::new() };
+        self.lent.out = store_draw::output(random, &call, length);
         self.check(trial, &call)
-    }
-
-    /// Mostly losses, repairs and reads, so that boards are rebuilt from rebuilt boards; writes are few. Boards are mostly lost only as far as
-    /// those in service can still rebuild them.
-    fn draw_call(&self, random: &mut Random) -> Call {
-        let Sizes { n, d, r, .. } = self.book.sizes;
-        let in_service: Vec<usize> = self.book.in_service.iter().copied().collect();
-        let lost = n - in_service.len();
-        let all: Vec<usize> = (0..n).collect();
-        // d helpers are left beside the boards that are lost or fresh
-        let can_repair = lost.max(r) + d <= n;
-        let can_lose = (lost + 1).max(r) + d <= n;
-        match random.below(20) {
-            0 => store_cases::write_call(random, self.book.sizes, self.book.capacity),
-            1 => store_cases::repair_call(random, self.book.sizes, &all),
-            2 => store_cases::read_call(random, self.book.sizes, &all),
-            3..=9 if can_lose || random.once_in(10) => Call::Lose { board: random.below(n) },
-            3..=14 if can_repair => store_cases::repair_call(random, self.book.sizes, &in_service),
-            3..=14 => store_cases::write_call(random, self.book.sizes, self.book.capacity),
-            _ => store_cases::read_call(random, self.book.sizes, &in_service),
-        }
     }
 
     fn check(&mut self, trial: &mut Trial, call: &Call) -> bool {
         let reply = self.book.enter(call, &self.lent.out);
         let mut after = self.lent.clone();
         after.out = reply.out;
-        let in_service: Vec<usize> = self.book.in_service.iter().copied().collect();
         let length = self.book.file.as_ref().map(Vec::len);
-        after.record = store::words(self.book.sizes, self.book.capacity, length, &in_service);
-        match call {
-            Call::Write { .. } if reply.answer == 0 => self.put_shares(&mut after.area, &in_service),
-            Call::Repair { fresh, .. } if reply.answer & 255 == 0 => self.put_shares(&mut after.area, fresh),
-            _ => (),
-        }
+        after.record = store::words(self.book.sizes, self.book.capacity, length, &self.in_service());
+        self.put_shares(&mut after.area, &reply.made);
         let expected = Outcome { answer: reply.answer, lent: after };
         let alike = trial.check(call, &self.lent, &expected);
         self.lent = expected.lent;
@@ -121,8 +100,8 @@ impl History {
 
     /// Puts the shares of the last file accepted where boards keep them.
     fn put_shares(&self, area: &mut [u8], boards: &[usize]) {
-        let file = self.book.file.as_ref().expect("a file was accepted");
         for &board in boards {
+            let file = self.book.file.as_ref().expect("a file was accepted");
             let share = code::share_by(self.book.sizes, &self.generators[board], file);
             area[board * self.board_len()..][..share.len()].copy_from_slice(&share);
         }
@@ -130,7 +109,7 @@ impl History {
 
     /// "After the list, a read of any k different boards in service".
     fn read_any(&mut self, trial: &mut Trial, random: &mut Random) {
-        let in_service: Vec<usize> = self.book.in_service.iter().copied().collect();
+        let in_service = self.in_service();
         if in_service.len() >= self.book.sizes.k {
             let length = self.book.file.as_ref().map_or(0, Vec::len);
             self.lent.out = random.bytes(length);

@@ -14,10 +14,11 @@ pub struct Book {
     pub in_service: BTreeSet<usize>,
 }
 
-/// What the book answers: the answer, and all bytes of a read's output.
+/// What the book answers: the answer, all bytes of a read's output, and the boards whose shares the call makes anew.
 pub struct Reply {
     pub answer: u64,
     pub out: Vec<u8>,
+    pub made: Vec<usize>,
 }
 
 impl Book {
@@ -72,9 +73,9 @@ impl Book {
         self.sizes.stripes(self.file_len()) * self.sizes.r * (2 * self.sizes.d + self.sizes.r - 1)
     }
 
-    /// Enters a call: what the store must answer, and the output of a read after it.
+    /// Enters a call: what the store must answer and make.
     pub fn enter(&mut self, call: &Call, out: &[u8]) -> Reply {
-        let mut reply = Reply { answer: 0, out: out.to_vec() };
+        let mut reply = Reply { answer: 0, out: out.to_vec(), made: Vec::new() };
         if let Some(number) = self.refusal(call, out.len()) {
             reply.answer = u64::from(number);
             return reply;
@@ -83,6 +84,7 @@ impl Book {
             Call::Write { file } => {
                 self.file = Some(file.clone());
                 self.in_service = (0..self.sizes.n).collect();
+                reply.made = (0..self.sizes.n).collect();
             }
             Call::Lose { board } => {
                 self.in_service.remove(board);
@@ -90,6 +92,7 @@ impl Book {
             Call::Repair { fresh, .. } => {
                 self.in_service.extend(fresh);
                 reply.answer = (self.moved() as u64) << 8;
+                reply.made.clone_from(fresh);
             }
             Call::Read { .. } => {
                 let file = self.file.as_ref().expect("EMPTY does not hold");

@@ -25,6 +25,7 @@ mod random;
 mod spoil;
 mod store;
 mod store_cases;
+mod store_draw;
 mod trial;
 
 use random::Random;

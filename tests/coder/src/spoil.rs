@@ -1,76 +1,11 @@
 //! Spoils the arguments of a call: illegal sizes, lengths out of range, wrong lists and numbers, slices of another length, made-up records.
 //! What must be answered then is the model's to say.
 
-use crate::call::{Call, Lent};
+use crate::call::{Call, Lent, Parts};
 use crate::code::Sizes;
 use crate::draw;
 use crate::random::Random;
 use crate::store::word;
-
-/// The arguments of a call, by what they are.
-#[derive(Default)]
-struct Parts<'a> {
-    sizes: Option<&'a mut Sizes>,
-    length: Option<&'a mut usize>,
-    capacity: Option<&'a mut usize>,
-    numbers: Vec<&'a mut usize>,
-    lists: Vec<&'a mut Vec<usize>>,
-    slices: Vec<&'a mut Vec<u8>>,
-}
-
-impl Parts<'_> {
-    /// Every board that the call names.
-    fn named(&self) -> Vec<usize> {
-        let mut boards: Vec<usize> = self.numbers.iter().map(|number| **number).collect();
-        for list in &self.lists {
-            boards.extend(list.iter());
-        }
-        boards
-    }
-}
-
-fn parts(call: &mut Call) -> Parts<'_> {
-    let none = Parts::default();
-    match call {
-        Call::Share { sizes, node, file } => {
-            Parts { sizes: Some(sizes), numbers: vec![node], slices: vec![file], ..none }
-        }
-        Call::File { sizes, length, boards, shares } => {
-            Parts { sizes: Some(sizes), length: Some(length), lists: vec![boards], slices: vec![shares], ..none }
-        }
-        Call::Helper { sizes, length, helper, receiver, share } => Parts {
-            sizes: Some(sizes),
-            length: Some(length),
-            numbers: vec![helper, receiver],
-            slices: vec![share],
-            ..none
-        },
-        Call::Exchange { sizes, length, board, helpers, packets, receiver } => Parts {
-            sizes: Some(sizes),
-            length: Some(length),
-            numbers: vec![board, receiver],
-            lists: vec![helpers],
-            slices: vec![packets],
-            ..none
-        },
-        Call::Finished { sizes, length, board, helpers, packets, partners, partner_packets } => Parts {
-            sizes: Some(sizes),
-            length: Some(length),
-            numbers: vec![board],
-            lists: vec![helpers, partners],
-            slices: vec![packets, partner_packets],
-            ..none
-        },
-        Call::Text { sizes, length, node, share } => {
-            Parts { sizes: Some(sizes), length: Some(length), numbers: vec![node], slices: vec![share], ..none }
-        }
-        Call::SetUp { sizes, capacity } => Parts { sizes: Some(sizes), capacity: Some(capacity), ..none },
-        Call::Write { file } => Parts { slices: vec![file], ..none },
-        Call::Lose { board } => Parts { numbers: vec![board], ..none },
-        Call::Repair { fresh, helpers } => Parts { lists: vec![fresh, helpers], ..none },
-        Call::Read { boards } => Parts { lists: vec![boards], ..none },
-    }
-}
 
 /// Spoils a call and what it is lent in no, one or several places; `sizes` are those that the call was made for.
 pub fn spoil(random: &mut Random, sizes: Sizes, call: &mut Call, lent: &mut Lent) {
@@ -79,7 +14,7 @@ pub fn spoil(random: &mut Random, sizes: Sizes, call: &mut Call, lent: &mut Lent
         if !lent.record.is_empty() && random.once_in(3) {
             spoil_store(random, sizes, lent);
         } else {
-            spoil_arguments(random, sizes, parts(call));
+            spoil_arguments(random, sizes, call.parts());
         }
     }
 }

@@ -1,204 +1,94 @@
--- `board_helper::helper_packet` meets its contract: each early return is the first line that holds, and past them the packet is written.
+-- `board_helper::helper_packet` meets its contract: it answers what its check refuses, and past it the packet is written.
 -- Assumes nothing.
-use Prim.Native.Nat.{ℕ, _+_, _-_, _*_, _≤_, _<_}
-use mathlib.Core.Path.{_≡_, refl, sym, ap, _∙_}
-use mathlib.Core.Bool.{true, false, not}
-use mathlib.Core.List.{List, [], _∷_, _++_}
+use mathlib.Core.Path.{_≡_, sym, _∙_}
 use native.Mathlib.Omega.{arith}
 use borrow.Author.Needs.{needs}
-use borrow.Author.Tests.{ltb-false, eqb-true}
-use lib.Dec.{ltb, eqb}
-use lib.ListN.{length, drop}
-use Rattle.lists.specs.Tests.{below}
-use Rattle.lists.proofs.Tests.{not-no, alls-hold}
-use Rattle.lists.proofs.Boards.{below-all}
-use Rattle.sizes.specs.declared.Check.the-variants.{Pass}
-use Rattle.sizes.specs.Sizing.{legal, α, B, stripes}
-use Rattle.sizes.proofs.Legal.{Legal, legal-facts, α-most}
+use Rattle.sizes.specs.declared.Check.{Check}
+use Rattle.sizes.specs.declared.Check.the-variants.{Pass, Refuse}
+use Rattle.sizes.proofs.Legal.{legal-facts}
 use Rattle.mbcr.specs.Share.{standard}
-use Rattle.board_statements.specs.Calls.{sizeLine, longLine, countLine, nodeLine, repeatLine, areaLine, shortLine}
-use Rattle.checks.specs.Asked.{asked}
-use Rattle.checks.proofs.Answers.{passed}
-use Rattle.checks.proofs.Given.{as-many, few-bytes, has-room, no-points}
-use Rattle.board_helper.proofs.HelperCall.{refuses, works}
+use Rattle.board_helper.proofs.Helps.{Helps, checked, helps, helper-refuses, helper-works}
 use Rattle.board_helper.proofs.helper_packet.Statement.{statement}
 use Rattle.board_helper.proofs.helper_packet.Tie as tie
 
--- what is known past each check
-size-on : (c : tie.After-enum-told) → asked (sizeLine (c .before .before .before .before .before .args .sizes)) ≡ Pass
-size-on c = sym (c .before .before .check-sizes .ensures) ∙ c .enum-told .given .1
+-- the places
+abbrev st : tie.After-check-helper → tie.Start
+st c = c .before .before .before .before
 
-is-legal : (c : tie.After-enum-told) → legal (c .before .before .before .before .before .args .sizes) ≡ true
-is-legal c = not-no _ (passed (sizeLine (c .before .before .before .before .before .args .sizes)) (size-on c))
+abbrev at-check : tie.After-stripe-count → tie.After-check-helper
+at-check c = c .before .before .before
 
-long-on : (c : tie.After-enum-told2) → asked (longLine (c .before .before .before .before .before .before .before .before .args .sizes) (c .before .before .before .before .before .before .before .before .args .length)) ≡ Pass
-long-on c = sym (c .before .before .check-length .ensures) ∙ c .enum-told2 .given .1
+abbrev at-inverses : tie.After-helper-packet-arg → tie.After-fill-inverses
+at-inverses c = c .before .before .before .before
 
-not-long : (c : tie.After-enum-told2) → c .before .before .before .before .before .before .before .before .args .length ≤ 4096 * B (c .before .before .before .before .before .before .before .before .args .sizes)
-not-long c = ltb-false _ _ (passed (longLine (c .before .before .before .before .before .before .before .before .args .sizes) (c .before .before .before .before .before .before .before .before .args .length)) (long-on c))
+abbrev at-points : tie.After-helper-packet-arg → tie.After-standard-points
+at-points c = at-inverses c .before .before
 
-nodes-on : (c : tie.After-enum-told3) → asked (nodeLine (c .before .before .before .before .before .before .before .before .before .before .before .before .args .sizes) (c .before .before .before .before .before .before .before .before .before .before .before .before .args .helper ∷ c .before .before .before .before .before .before .before .before .before .before .before .before .args .receiver ∷ [])) ≡ Pass
-nodes-on c = sym (c .before .before .check-nodes .ensures) ∙ c .enum-told3 .given .1
+abbrev at-count : tie.After-helper-packet-arg → tie.After-stripe-count
+at-count c = at-points c .before
 
-repeat-on : (c : tie.After-enum-told4) → asked (repeatLine (c .before .before .before .before .before .before .before .before .before .before .before .before .before .before .before .before .args .helper ∷ c .before .before .before .before .before .before .before .before .before .before .before .before .before .before .before .before .args .receiver ∷ [])) ≡ Pass
-repeat-on c = sym (c .before .before .check-repeat .ensures) ∙ c .enum-told4 .given .1
+abbrev at-packet : tie.After-slice-known2 → tie.After-helper-packet
+at-packet c = c .before .before
 
--- how long the share must be
-long-is : (c : tie.After-share-len) → c .before .stripe-count .result * c .share-len .result ≡ stripes (c .before .before .before .before .before .before .before .before .before .before .before .before .before .before .before .before .before .before .args .sizes) (c .before .before .before .before .before .before .before .before .before .before .before .before .before .before .before .before .before .before .args .length) * α (c .before .before .before .before .before .before .before .before .before .before .before .before .before .before .before .before .before .before .args .sizes)
-long-is c = as-many _ _ _ (α (c .before .before .before .before .before .before .before .before .before .before .before .before .before .before .before .before .before .before .args .sizes)) (legal (c .before .before .before .before .before .before .before .before .before .before .before .before .before .before .before .before .before .before .args .sizes)) (c .before .stripe-count .ensures .0) (c .share-len .ensures) (is-legal (c .before .before .before .before .before .before .before .before .before .before .before .before .before))
+-- what the check told
+abbrev answer : tie.Start → Check
+answer g = let a = g .args in checked (a .sizes) standard (a .len) (a .helper) (a .receiver) (a .held .now) (a .out .now)
 
-lent-on : (c : tie.After-enum-told5) → asked (areaLine (eqb (length (c .before .before .before .before .before .before .before .before .before .before .before .before .before .before .before .before .before .before .before .before .before .args .held .now)) (stripes (c .before .before .before .before .before .before .before .before .before .before .before .before .before .before .before .before .before .before .before .before .before .args .sizes) (c .before .before .before .before .before .before .before .before .before .before .before .before .before .before .before .before .before .before .before .before .before .args .length) * α (c .before .before .before .before .before .before .before .before .before .before .before .before .before .before .before .before .before .before .before .before .before .args .sizes)) ∷ [])) ≡ Pass
-lent-on c = ap (λ m. asked (areaLine (eqb (length (c .before .before .before .before .before .before .before .before .before .before .before .before .before .before .before .before .before .before .before .before .before .args .held .now)) m ∷ []))) (sym (long-is (c .before .before .before))) ∙ sym (c .before .before .check-lent .ensures) ∙ c .enum-told5 .given .1
+refusal : (c : tie.After-x) → answer (st (c .before .before)) ≡ Refuse (c .x .given .0 .0)
+refusal c = sym (c .before .before .check-helper .ensures) ∙ c .x .given .1
 
-room-on : (c : tie.After-enum-told6) → asked (shortLine (c .before .before .before .before .before .before .before .before .before .before .before .before .before .before .before .before .before .before .before .before .before .before .before .before .before .args .out .now) (2 * stripes (c .before .before .before .before .before .before .before .before .before .before .before .before .before .before .before .before .before .before .before .before .before .before .before .before .before .args .sizes) (c .before .before .before .before .before .before .before .before .before .before .before .before .before .before .before .before .before .before .before .before .before .before .before .before .before .args .length))) ≡ Pass
-room-on c = ap (λ m. asked (shortLine (c .before .before .before .before .before .before .before .before .before .before .before .before .before .before .before .before .before .before .before .before .before .before .before .before .before .args .out .now) (2 * m))) (sym (c .before .before .before .before .before .before .before .before .stripe-count .ensures .0)) ∙ sym (c .before .before .check-room .ensures) ∙ c .enum-told6 .given .1
+passed : (c : tie.After-enum-told) → answer (st (c .before .before)) ≡ Pass
+passed c = sym (c .before .before .check-helper .ensures) ∙ c .enum-told .given .1
 
-check-sizes-requires : tie.Need-check-sizes-requires
-check-sizes-requires c κs = search needs
+facts : (c : tie.After-enum-told)
+    → let a = st (c .before .before) .args in Helps (a .sizes) (a .len) (a .helper) (a .receiver) (a .held .now) (a .out .now)
+facts c = let a = st (c .before .before) .args in helps (a .sizes) standard (a .len) (a .helper) (a .receiver) (a .held .now) (a .out .now) (passed c)
 
-enum-known-x : tie.Need-enum-known-x
-enum-known-x c = search needs
+refused : tie.Need-returns
+refused c =
+    let a = st (c .before .before .before) .args in
+    helper-refuses (a .sizes) standard (a .len) (a .helper) (a .receiver) (a .held .now) (a .out .now) (refusal (c .before))
 
-returns : tie.Need-returns
-returns c = let a = c .before .before .before .before .before .before .args in refuses (a .sizes) (a .length) (a .helper) (a .receiver) (a .held .now) (a .out .now) 0 _ (sym (c .before .before .before .check-sizes .ensures) ∙ c .before .x .given .1)
+-- the work
+packet-asks : tie.Need-helper-packet-requires
+packet-asks c κs =
+    let n = at-count c in
+    let f = facts (n .before) in
+    let e = n .stripe-count .ensures in (
+      f .is-legal,
+      rw (at-points c .standard-points .ensures) (legal-facts _ (f .is-legal) .few),
+      at-inverses c .fill-inverses .ensures,
+      e .1,
+      f .helper-known,
+      f .receiver-known,
+      rw (e .0) (f .held-is),
+      rw (e .0) (f .room),
+    )
 
-enum-told : tie.Need-enum-told
-enum-told c = search needs
-
-check-length-requires : tie.Need-check-length-requires
-check-length-requires c κs = is-legal c
-
-enum-known-x-2 : tie.Need-enum-known-x-2
-enum-known-x-2 c = search needs
-
-returns-2 : tie.Need-returns-2
-returns-2 c = let a = c .before .before .before .before .before .before .before .before .before .args in refuses (a .sizes) (a .length) (a .helper) (a .receiver) (a .held .now) (a .out .now) 1 _ ((size-on (c .before .before .before .before), (sym (c .before .before .before .check-length .ensures) ∙ c .before .x2 .given .1)))
-
-enum-told-2 : tie.Need-enum-told-2
-enum-told-2 c = search needs
-
-slice-aggregate-check-nodes : tie.Need-slice-aggregate-check-nodes
-slice-aggregate-check-nodes c = search needs
-
-check-nodes-requires : tie.Need-check-nodes-requires
-check-nodes-requires c κs = search needs
-
-enum-known-x-3 : tie.Need-enum-known-x-3
-enum-known-x-3 c = search needs
-
-returns-3 : tie.Need-returns-3
-returns-3 c = let a = c .before .before .before .before .before .before .before .before .before .before .before .before .before .args in refuses (a .sizes) (a .length) (a .helper) (a .receiver) (a .held .now) (a .out .now) 2 _ ((size-on (c .before .before .before .before .before .before .before .before), (long-on (c .before .before .before .before .before), (sym (c .before .before .before .check-nodes .ensures) ∙ c .before .x3 .given .1))))
-
-enum-told-3 : tie.Need-enum-told-3
-enum-told-3 c = search needs
-
-slice-aggregate-check-repeat : tie.Need-slice-aggregate-check-repeat
-slice-aggregate-check-repeat c = search needs
-
-check-repeat-requires : tie.Need-check-repeat-requires
-check-repeat-requires c κs = search needs
-
-enum-known-x-4 : tie.Need-enum-known-x-4
-enum-known-x-4 c = search needs
-
-returns-4 : tie.Need-returns-4
-returns-4 c = let a = c .before .before .before .before .before .before .before .before .before .before .before .before .before .before .before .before .before .args in refuses (a .sizes) (a .length) (a .helper) (a .receiver) (a .held .now) (a .out .now) 3 _ ((size-on (c .before .before .before .before .before .before .before .before .before .before .before .before), (long-on (c .before .before .before .before .before .before .before .before .before), (nodes-on (c .before .before .before .before .before), (sym (c .before .before .before .check-repeat .ensures) ∙ c .before .x4 .given .1)))))
-
-enum-told-4 : tie.Need-enum-told-4
-enum-told-4 c = search needs
-
-stripe-count-requires : tie.Need-stripe-count-requires
-stripe-count-requires c κs = (is-legal (c .before .before .before .before .before .before .before .before .before .before .before), not-long (c .before .before .before .before .before .before .before .before))
-
-share-len-requires : tie.Need-share-len-requires
-share-len-requires c κs = search needs
-
-mul-check-lent : tie.Need-mul-check-lent
-mul-check-lent c = let ok = is-legal (c .before .before .before .before .before .before .before .before .before .before .before .before .before) in omega (arith, few-bytes _ _ (α (c .before .before .before .before .before .before .before .before .before .before .before .before .before .before .before .before .before .before .args .sizes)) (legal (c .before .before .before .before .before .before .before .before .before .before .before .before .before .before .before .before .before .before .args .sizes)) (c .before .stripe-count .ensures .1) (c .share-len .ensures) ok (α-most _ (legal-facts _ ok)))
-
-check-lent-requires : tie.Need-check-lent-requires
-check-lent-requires c κs = search needs
-
-enum-known-x-5 : tie.Need-enum-known-x-5
-enum-known-x-5 c = search needs
-
-returns-5 : tie.Need-returns-5
-returns-5 c = let a = c .before .before .before .before .before .before .before .before .before .before .before .before .before .before .before .before .before .before .before .before .before .before .args in refuses (a .sizes) (a .length) (a .helper) (a .receiver) (a .held .now) (a .out .now) 4 _ ((size-on (c .before .before .before .before .before .before .before .before .before .before .before .before .before .before .before .before .before), (long-on (c .before .before .before .before .before .before .before .before .before .before .before .before .before .before), (nodes-on (c .before .before .before .before .before .before .before .before .before .before), (repeat-on (c .before .before .before .before .before .before), (ap (λ m. asked (areaLine (eqb (length (a .held .now)) m ∷ []))) (sym (long-is (c .before .before .before .before))) ∙ sym (c .before .before .before .check-lent .ensures) ∙ c .before .x5 .given .1))))))
-
-enum-told-5 : tie.Need-enum-told-5
-enum-told-5 c = search needs
-
-mul-count : tie.Need-mul-count
-mul-count c = omega (arith, c .before .before .before .before .stripe-count .ensures .1)
-
-check-room-requires : tie.Need-check-room-requires
-check-room-requires c κs = search needs
-
-enum-known-x-6 : tie.Need-enum-known-x-6
-enum-known-x-6 c = search needs
-
-same-length : tie.Need-same-length
-same-length c = search needs
-
-returns-6 : tie.Need-returns-6
-returns-6 c = let a = c .before .before .before .before .before .before .before .before .before .before .before .before .before .before .before .before .before .before .before .before .before .before .before .before .before .before .args in refuses (a .sizes) (a .length) (a .helper) (a .receiver) (a .held .now) (a .out .now) 5 _ ((size-on (c .before .before .before .before .before .before .before .before .before .before .before .before .before .before .before .before .before .before .before .before .before), (long-on (c .before .before .before .before .before .before .before .before .before .before .before .before .before .before .before .before .before .before), (nodes-on (c .before .before .before .before .before .before .before .before .before .before .before .before .before .before), (repeat-on (c .before .before .before .before .before .before .before .before .before .before), (lent-on (c .before .before .before .before .before), (ap (λ m. asked (shortLine (a .out .now) (2 * m))) (sym (c .before .before .before .before .before .before .before .before .before .stripe-count .ensures .0)) ∙ sym (c .before .before .before .check-room .ensures) ∙ c .before .x6 .given .1)))))))
-
-enum-told-6 : tie.Need-enum-told-6
-enum-told-6 c = search needs
-
-standard-points-requires : tie.Need-standard-points-requires
-standard-points-requires c κs = search needs
-
-slice-aggregate-check-points : tie.Need-slice-aggregate-check-points
-slice-aggregate-check-points c = search needs
-
-check-points-requires : tie.Need-check-points-requires
-check-points-requires c κs = let ok = is-legal (c .before .before .before .before .before .before .before .before .before .before .before .before .before .before .before .before .before .before .before .before .before .before) in let l : length (c .before .standard-points .result) ≡ 32 = ap length (c .before .standard-points .ensures) in omega (arith, l, legal-facts _ ok .few)
-
-enum-known-x-7 : tie.Need-enum-known-x-7
-enum-known-x-7 c = search needs
-
-same-length-2 : tie.Need-same-length-2
-same-length-2 c = search needs
-
-returns-7 : tie.Need-returns-7
-returns-7 c = absurd (no-points _ (c .before .before .before .before .before .before .before .before .before .before .before .before .before .before .before .before .before .before .before .before .before .before .before .before .before .before .before .before .before .before .before .args .sizes .n) _ (c .before .before .before .before .before .standard-points .ensures) (sym (c .before .before .before .check-points .ensures) ∙ c .before .x7 .given .1))
-
-enum-told-7 : tie.Need-enum-told-7
-enum-told-7 c = search needs
-
-slice-aggregate-fill-inverses : tie.Need-slice-aggregate-fill-inverses
-slice-aggregate-fill-inverses c = search needs
-
-fill-inverses-requires : tie.Need-fill-inverses-requires
-fill-inverses-requires c κs = search needs
-
-slice-aggregate-helper-packet : tie.Need-slice-aggregate-helper-packet
-slice-aggregate-helper-packet c = search needs
-
-slice-aggregate-helper-packet-2 : tie.Need-slice-aggregate-helper-packet-2
-slice-aggregate-helper-packet-2 c = search needs
-
-helper-packet-requires : tie.Need-helper-packet-requires
-helper-packet-requires c κs =
-    let a = c .before .before .before .before .before .before .before .before .before .before .before .before .before .before .before .before .before .before .before .before .before .before .before .before .before .before .before .before .before .before .before .before .before .before .before .before .args in
-    let ok = is-legal (c .before .before .before .before .before .before .before .before .before .before .before .before .before .before .before .before .before .before .before .before .before .before .before .before .before .before .before .before .before .before .before) in
-    let l : length (c .before .before .before .before .before .before .before .before .before .before .standard-points .result) ≡ 32 = ap length (c .before .before .before .before .before .before .before .before .before .before .standard-points .ensures) in
-    let known = below-all (a .sizes .n) (a .helper ∷ a .receiver ∷ []) (not-no _ (passed (nodeLine (a .sizes) (a .helper ∷ a .receiver ∷ [])) (nodes-on (c .before .before .before .before .before .before .before .before .before .before .before .before .before .before .before .before .before .before .before .before .before .before .before .before)))) in
-    let many = c .before .before .before .before .before .before .before .before .before .before .before .before .before .before .before .before .before .before .before .stripe-count .ensures .0 in
-    let long : length (a .held .now) ≡ stripes (a .sizes) (a .length) * α (a .sizes) = eqb-true _ _ (alls-hold (eqb (length (a .held .now)) (stripes (a .sizes) (a .length) * α (a .sizes)) ∷ []) (not-no _ (passed (areaLine (eqb (length (a .held .now)) (stripes (a .sizes) (a .length) * α (a .sizes)) ∷ [])) (lent-on (c .before .before .before .before .before .before .before .before .before .before .before .before .before .before .before)))) .0) in
-    let room : 2 * stripes (a .sizes) (a .length) ≤ length (a .out .now) = ltb-false _ _ (passed (shortLine (a .out .now) (2 * stripes (a .sizes) (a .length))) (room-on (c .before .before .before .before .before .before .before .before .before .before .before))) in
-    (ok, omega (arith, l, legal-facts _ ok .few), c .before .before .before .before .fill-inverses .ensures, c .before .before .before .before .before .before .before .before .before .before .before .before .before .before .before .before .before .before .before .stripe-count .ensures .1, known .0, known .1 .0, rw many long, rw many room)
-
-same-length-3 : tie.Need-same-length-3
-same-length-3 c = search needs
-
-returns-8 : tie.Need-returns-8
-returns-8 c =
-    let a = c .before .before .before .before .before .before .before .before .before .before .before .before .before .before .before .before .before .before .before .before .before .before .before .before .before .before .before .before .before .before .before .before .before .before .before .before .before .before .before .args in
-    works (a .sizes) (a .length) (a .helper) (a .receiver) (a .held .now) (a .out .now) _ _ _ (c .before .before .before .before .before .before .before .before .before .before .before .before .before .standard-points .ensures) (c .before .before .before .before .before .before .before .before .before .before .before .before .before .before .before .before .before .before .before .before .before .before .stripe-count .ensures .0) (is-legal (c .before .before .before .before .before .before .before .before .before .before .before .before .before .before .before .before .before .before .before .before .before .before .before .before .before .before .before .before .before .before .before .before .before .before))
-    (size-on (c .before .before .before .before .before .before .before .before .before .before .before .before .before .before .before .before .before .before .before .before .before .before .before .before .before .before .before .before .before .before .before .before .before .before), (long-on (c .before .before .before .before .before .before .before .before .before .before .before .before .before .before .before .before .before .before .before .before .before .before .before .before .before .before .before .before .before .before .before), (nodes-on (c .before .before .before .before .before .before .before .before .before .before .before .before .before .before .before .before .before .before .before .before .before .before .before .before .before .before .before), (repeat-on (c .before .before .before .before .before .before .before .before .before .before .before .before .before .before .before .before .before .before .before .before .before .before .before), (lent-on (c .before .before .before .before .before .before .before .before .before .before .before .before .before .before .before .before .before .before), (room-on (c .before .before .before .before .before .before .before .before .before .before .before .before .before .before), tt))))))
-    (c .before .before .helper-packet .ensures)
+done : tie.Need-returns-2
+done c =
+    let w = at-packet c in
+    let n = at-count (w .before) in
+    let a = st (at-check n) .args in
+    helper-works (a .sizes) standard (a .len) (a .helper) (a .receiver) (a .held .now) (a .out .now) _ _ _
+    (passed (n .before)) (at-points (w .before) .standard-points .ensures) (n .stripe-count .ensures .0) (w .helper-packet .ensures)
 
 pub helper-packet-spec : {M : Type 1} → statement M
-helper-packet-spec = tie.close (tie.spec check-sizes-requires enum-known-x returns enum-told check-length-requires enum-known-x-2 returns-2 enum-told-2 slice-aggregate-check-nodes check-nodes-requires enum-known-x-3 returns-3 enum-told-3 slice-aggregate-check-repeat check-repeat-requires enum-known-x-4 returns-4 enum-told-4 stripe-count-requires share-len-requires mul-check-lent check-lent-requires enum-known-x-5 returns-5 enum-told-5 mul-count check-room-requires enum-known-x-6 same-length returns-6 enum-told-6 standard-points-requires slice-aggregate-check-points check-points-requires enum-known-x-7 same-length-2 returns-7 enum-told-7 slice-aggregate-fill-inverses fill-inverses-requires slice-aggregate-helper-packet slice-aggregate-helper-packet-2 helper-packet-requires same-length-3 returns-8)
+helper-packet-spec =
+    tie.close
+    (tie.spec
+    (λ c κs. search needs)
+    (λ c. search needs)
+    (λ c. search needs)
+    refused
+    (λ c. search needs)
+    (λ c κs. let f = facts c in (f .is-legal, f .not-long))
+    (λ c κs. search needs)
+    (λ c. search needs)
+    (λ c κs. search needs)
+    (λ c. search needs)
+    (λ c. search needs)
+    packet-asks
+    (λ c. omega (arith, at-count (at-packet c .before) .stripe-count .ensures .1))
+    (λ c. search needs)
+    done)

@@ -1,168 +1,80 @@
--- `board_share::share` meets its contract: each early return is the first line that holds, and past them the share is written.
+-- `board_share::share` meets its contract: it answers what its check refuses, and past it the share is written.
 -- Assumes nothing.
-use Prim.Native.Nat.{ℕ, _+_, _-_, _*_, _≤_, _<_}
-use mathlib.Core.Path.{_≡_, refl, sym, ap, _∙_}
-use mathlib.Core.Bool.{true, false, not}
-use mathlib.Core.List.{List, [], _∷_, _++_}
+use Prim.Native.Nat.{_*_, _≤_}
+use mathlib.Core.Path.{_≡_, sym, ap, _∙_}
+use lib.ListN.{length}
 use native.Mathlib.Omega.{arith}
 use borrow.Author.Needs.{needs}
-use borrow.Author.Tests.{ltb-false}
-use lib.Dec.{ltb}
-use lib.ListN.{length, drop}
-use Rattle.lists.specs.Tests.{below}
-use Rattle.lists.proofs.Tests.{not-no}
-use Rattle.lists.proofs.Boards.{below-all}
 use Rattle.sizes.specs.declared.Check.the-variants.{Pass}
-use Rattle.sizes.specs.Sizing.{legal, α, B, stripes}
-use Rattle.sizes.proofs.Legal.{Legal, legal-facts, α-most}
-use Rattle.mbcr.specs.Share.{standard, share}
-use Rattle.mbcr.proofs.Repair.{length-share}
-use Rattle.board_statements.specs.Calls.{sizeLine, longLine, nodeLine, shortLine, shareLines, shareCall}
-use Rattle.checks.specs.Asked.{asked}
-use Rattle.checks.proofs.Answers.{passed}
-use Rattle.board_share.proofs.ShareCall.{refuses, works}
-use Rattle.checks.proofs.Given.{as-many, few-bytes, has-room}
+use Rattle.sizes.proofs.Legal.{legal-facts, α-most}
+use Rattle.mbcr.specs.Share.{standard}
+use Rattle.checks.proofs.Given.{as-many, few-bytes}
+use Rattle.board_share.proofs.ShareCall.{Shares, checked, share-facts, share-refuses, share-works}
 use Rattle.board_share.proofs.share.Statement.{statement}
 use Rattle.board_share.proofs.share.Tie as tie
 
--- what is known past each check
-size-on : (c : tie.After-enum-told) → asked (sizeLine (c .before .before .before .before .before .args .sizes)) ≡ Pass
-size-on c = sym (c .before .before .check-sizes .ensures) ∙ c .enum-told .given .1
+-- the places
+abbrev st : tie.After-check-share → tie.Start
+st c = c .before .before .before .before
 
-is-legal : (c : tie.After-enum-told) → legal (c .before .before .before .before .before .args .sizes) ≡ true
-is-legal c = not-no _ (passed (sizeLine (c .before .before .before .before .before .args .sizes)) (size-on c))
+abbrev at-told : tie.After-share-len → tie.After-enum-told
+at-told c = c .before .before
 
-long-on : (c : tie.After-enum-told2) → asked (longLine (c .before .before .before .before .before .before .before .before .args .sizes) (length (c .before .before .before .before .before .before .before .before .args .file .now))) ≡ Pass
-long-on c = sym (c .before .before .check-length .ensures) ∙ c .enum-told2 .given .1
+abbrev at-check : tie.After-enum-told → tie.After-check-share
+at-check c = c .before .before
 
-not-long : (c : tie.After-enum-told2) → length (c .before .before .before .before .before .before .before .before .args .file .now) ≤ 4096 * B (c .before .before .before .before .before .before .before .before .args .sizes)
-not-long c = ltb-false _ _ (passed (longLine (c .before .before .before .before .before .before .before .before .args .sizes) (length (c .before .before .before .before .before .before .before .before .args .file .now))) (long-on c))
+-- what the check told
+passed : (c : tie.After-enum-told) → let a = st (at-check c) .args in checked (a .sizes) standard (a .node) (a .file .now) (a .out .now) ≡ Pass
+passed c = sym (at-check c .check-share .ensures) ∙ c .enum-told .given .1
 
-node-on : (c : tie.After-enum-told3) → asked (nodeLine (c .before .before .before .before .before .before .before .before .before .before .before .args .sizes) (c .before .before .before .before .before .before .before .before .before .before .before .args .node ∷ [])) ≡ Pass
-node-on c = sym (c .before .before .check-node .ensures) ∙ c .enum-told3 .given .1
+facts : (c : tie.After-enum-told) → let a = st (at-check c) .args in Shares (a .sizes) (a .node) (a .file .now) (a .out .now)
+facts c = let a = st (at-check c) .args in share-facts (a .sizes) standard (a .node) (a .file .now) (a .out .now) (passed c)
 
--- how many bytes are to be written
-count-is : (c : tie.After-share-len) → c .before .stripe-count .result * c .share-len .result ≡ stripes (c .before .before .before .before .before .before .before .before .before .before .before .before .before .args .sizes) (length (c .before .before .before .before .before .before .before .before .before .before .before .before .before .args .file .now)) * α (c .before .before .before .before .before .before .before .before .before .before .before .before .before .args .sizes)
-count-is c = as-many _ _ _ (α (c .before .before .before .before .before .before .before .before .before .before .before .before .before .args .sizes)) (legal (c .before .before .before .before .before .before .before .before .before .before .before .before .before .args .sizes)) (c .before .stripe-count .ensures .0) (c .share-len .ensures) (is-legal (c .before .before .before .before .before .before .before .before))
+-- the work
+few : (c : tie.After-share-len) → c .before .stripe-count .result * c .share-len .result ≤ 253952
+few c =
+    let ok = facts (at-told c) .is-legal in
+    few-bytes _ (c .share-len .result) _ _ (c .before .stripe-count .ensures .1) (c .share-len .ensures) ok (α-most _ (legal-facts _ ok))
 
-room-on : (c : tie.After-enum-told4) → asked (shortLine (c .before .before .before .before .before .before .before .before .before .before .before .before .before .before .before .before .before .args .out .now) (stripes (c .before .before .before .before .before .before .before .before .before .before .before .before .before .before .before .before .before .args .sizes) (length (c .before .before .before .before .before .before .before .before .before .before .before .before .before .before .before .before .before .args .file .now)) * α (c .before .before .before .before .before .before .before .before .before .before .before .before .before .before .before .before .before .args .sizes))) ≡ Pass
-room-on c = ap (λ m. asked (shortLine (c .before .before .before .before .before .before .before .before .before .before .before .before .before .before .before .before .before .args .out .now) m)) (sym (count-is (c .before .before .before .before))) ∙ sym (c .before .before .check-room .ensures) ∙ c .enum-told4 .given .1
+share-asks : tie.Need-share-requires
+share-asks c κs =
+    let p = c .before .before in
+    let n = p .before .before in
+    let f = facts (n .before) in
+    let e = n .stripe-count .ensures .0 in
+    let l : length (p .standard-points .result) ≡ 32 = ap length (p .standard-points .ensures) in
+    (f .is-legal, f .known, omega (arith, l, legal-facts _ (f .is-legal) .few), e, n .stripe-count .ensures .1, rw e (f .room))
 
-check-sizes-requires : tie.Need-check-sizes-requires
-check-sizes-requires c κs = search needs
+share-done : tie.Need-returns-2
+share-done c =
+    let w = c .before .before in
+    let p = w .before .before .before in
+    let m = p .before in
+    let e = m .before .stripe-count .ensures .0 in
+    let a = st (at-check (at-told m)) .args in
+    let many = as-many _ (m .share-len .result) _ _ _ e (m .share-len .ensures) (facts (at-told m) .is-legal) in
+    share-works (a .sizes) standard (a .node) (a .file .now) (a .out .now) _ _ _ _ (passed (at-told m)) (p .standard-points .ensures) e many (w .share .ensures)
 
-enum-known-x : tie.Need-enum-known-x
-enum-known-x c = search needs
-
-returns : tie.Need-returns
-returns c = let a = c .before .before .before .before .before .before .args in refuses (a .sizes) (a .node) (a .file .now) (a .out .now) 0 _ (sym (c .before .before .before .check-sizes .ensures) ∙ c .before .x .given .1)
-
-enum-told : tie.Need-enum-told
-enum-told c = search needs
-
-check-length-requires : tie.Need-check-length-requires
-check-length-requires c κs = is-legal c
-
-enum-known-x-2 : tie.Need-enum-known-x-2
-enum-known-x-2 c = search needs
-
-returns-2 : tie.Need-returns-2
-returns-2 c = let a = c .before .before .before .before .before .before .before .before .before .args in refuses (a .sizes) (a .node) (a .file .now) (a .out .now) 1 _ (size-on (c .before .before .before .before), (sym (c .before .before .before .check-length .ensures) ∙ c .before .x2 .given .1))
-
-enum-told-2 : tie.Need-enum-told-2
-enum-told-2 c = search needs
-
-check-node-requires : tie.Need-check-node-requires
-check-node-requires c κs = search needs
-
-enum-known-x-3 : tie.Need-enum-known-x-3
-enum-known-x-3 c = search needs
-
-returns-3 : tie.Need-returns-3
-returns-3 c = let a = c .before .before .before .before .before .before .before .before .before .before .before .before .args in refuses (a .sizes) (a .node) (a .file .now) (a .out .now) 2 _ (size-on (c .before .before .before .before .before .before .before), (long-on (c .before .before .before .before), (sym (c .before .before .before .check-node .ensures) ∙ c .before .x3 .given .1)))
-
-enum-told-3 : tie.Need-enum-told-3
-enum-told-3 c = search needs
-
-stripe-count-requires : tie.Need-stripe-count-requires
-stripe-count-requires c κs = (is-legal (c .before .before .before .before .before .before), not-long (c .before .before .before))
-
-share-len-requires : tie.Need-share-len-requires
-share-len-requires c κs = search needs
-
-mul-count : tie.Need-mul-count
-mul-count c = let ok = is-legal (c .before .before .before .before .before .before .before .before) in omega (arith, few-bytes _ _ (α (c .before .before .before .before .before .before .before .before .before .before .before .before .before .args .sizes)) (legal (c .before .before .before .before .before .before .before .before .before .before .before .before .before .args .sizes)) (c .before .stripe-count .ensures .1) (c .share-len .ensures) ok (α-most _ (legal-facts _ ok)))
-
-check-room-requires : tie.Need-check-room-requires
-check-room-requires c κs = search needs
-
-enum-known-x-4 : tie.Need-enum-known-x-4
-enum-known-x-4 c = search needs
-
-same-length : tie.Need-same-length
-same-length c = search needs
-
-returns-4 : tie.Need-returns-4
-returns-4 c = let a = c .before .before .before .before .before .before .before .before .before .before .before .before .before .before .before .before .before .before .args in refuses (a .sizes) (a .node) (a .file .now) (a .out .now) 3 _ (size-on (c .before .before .before .before .before .before .before .before .before .before .before .before .before), (long-on (c .before .before .before .before .before .before .before .before .before .before), (node-on (c .before .before .before .before .before .before .before), (ap (λ m. asked (shortLine (a .out .now) m)) (sym (count-is (c .before .before .before .before .before))) ∙ sym (c .before .before .before .check-room .ensures) ∙ c .before .x4 .given .1))))
-
-enum-told-4 : tie.Need-enum-told-4
-enum-told-4 c = search needs
-
-standard-points-requires : tie.Need-standard-points-requires
-standard-points-requires c κs = search needs
-
-slice-aggregate-share : tie.Need-slice-aggregate-share
-slice-aggregate-share c = search needs
-
-share-requires : tie.Need-share-requires
-share-requires c κs =
-    let a = c .before .before .before .before .before .before .before .before .before .before .before .before .before .before .before .before .before .before .before .before .args in
-    let ok = is-legal (c .before .before .before .before .before .before .before .before .before .before .before .before .before .before .before) in
-    let l : length (c .before .before .standard-points .result) ≡ 32 = ap length (c .before .before .standard-points .ensures) in (
-      ok,
-      below-all (a .sizes .n) (a .node ∷ []) (not-no _ (passed (nodeLine (a .sizes) (a .node ∷ [])) (node-on (c .before .before .before .before .before .before .before .before .before)))) .0,
-      omega (arith, l, legal-facts _ ok .few),
-      c .before .before .before .before .before .before .before .before .stripe-count .ensures .0,
-      c .before .before .before .before .before .before .before .before .stripe-count .ensures .1,
-      has-room (a .out .now) _ (stripes (a .sizes) (length (a .file .now))) (α (a .sizes)) (c .before .before .before .before .before .before .before .before .stripe-count .ensures .0) (room-on (c .before .before .before)),
-    )
-
-same-length-2 : tie.Need-same-length-2
-same-length-2 c = search needs
-
-returns-5 : tie.Need-returns-5
-returns-5 c =
-    let a = c .before .before .before .before .before .before .before .before .before .before .before .before .before .before .before .before .before .before .before .before .before .before .before .args in
-    works (a .sizes) (a .node) (a .file .now) (a .out .now) _ _ _ _ (c .before .before .before .before .before .standard-points .ensures) (c .before .before .before .before .before .before .before .before .before .before .before .stripe-count .ensures .0)
-    (count-is (c .before .before .before .before .before .before .before .before .before .before)) (is-legal (c .before .before .before .before .before .before .before .before .before .before .before .before .before .before .before .before .before .before))
-    (size-on (c .before .before .before .before .before .before .before .before .before .before .before .before .before .before .before .before .before .before), (long-on (c .before .before .before .before .before .before .before .before .before .before .before .before .before .before .before), (node-on (c .before .before .before .before .before .before .before .before .before .before .before .before), (room-on (c .before .before .before .before .before .before), tt)))) (c .before .before .share .ensures)
+share-refused : tie.Need-returns
+share-refused c =
+    let k = c .before .before .before in
+    let a = st k .args in
+    share-refuses (a .sizes) standard (a .node) (a .file .now) (a .out .now) (sym (k .check-share .ensures) ∙ c .before .x .given .1)
 
 pub share-spec : {M : Type 1} → statement M
 share-spec =
     tie.close
     (tie.spec
-    check-sizes-requires
-    enum-known-x
-    returns
-    enum-told
-    check-length-requires
-    enum-known-x-2
-    returns-2
-    enum-told-2
-    check-node-requires
-    enum-known-x-3
-    returns-3
-    enum-told-3
-    stripe-count-requires
-    share-len-requires
-    mul-count
-    check-room-requires
-    enum-known-x-4
-    same-length
-    returns-4
-    enum-told-4
-    standard-points-requires
-    slice-aggregate-share
-    share-requires
-    same-length-2
-    returns-5)
+    (λ c κs. search needs)
+    (λ c. search needs)
+    (λ c. search needs)
+    share-refused
+    (λ c. search needs)
+    (λ c κs. (facts c .is-legal, facts c .not-long))
+    (λ c κs. search needs)
+    (λ c. omega (arith, few c))
+    (λ c κs. search needs)
+    (λ c. search needs)
+    share-asks
+    (λ c. search needs)
+    share-done)

@@ -1,8 +1,8 @@
 -- `board_tests::apart` meets its contract. The loop's invariant: the test of what is left is the test of the whole.
 -- Assumes nothing.
-use Prim.Native.Nat.{ℕ, _≤_, _<_, _-_}
+use Prim.Native.Nat.{ℕ, _-_}
 use mathlib.Core.Path.{_≡_, refl, sym, _∙_, ap}
-use native.Mathlib.Omega.{arith}
+use mathlib.Core.List.{List}
 use borrow.Author.Needs.{needs}
 use lib.ListN.{length, drop, drop-of-length-le}
 use Rattle.lists.specs.Tests.{apart}
@@ -16,36 +16,30 @@ Inv-loop boards named i₀ i = apart boards (drop i named) ≡ apart boards name
 abbrev μ-loop : tie.MeasureT-loop
 μ-loop boards named i₀ i = length named - i
 
+-- the places: the loop's turn, and the boards
+abbrev turn : tie.After-among-from Inv-loop μ-loop → tie.In-loop Inv-loop μ-loop
+turn c = c .before .before
+
+abbrev others : tie.At-loop Inv-loop μ-loop → List ℕ
+others c = c .before .before .before .args .boards .now
+
 loop-holds : tie.Need-loop-holds Inv-loop μ-loop
 loop-holds c = refl
 
-mul-among-from : tie.Need-mul-among-from Inv-loop μ-loop
-mul-among-from c = search needs
-
-shared-slice-read-among-from : tie.Need-shared-slice-read-among-from Inv-loop μ-loop
-shared-slice-read-among-from c = search needs
-
-among-from-requires : tie.Need-among-from-requires Inv-loop μ-loop
-among-from-requires c κs = search needs
-
 returns : tie.Need-returns Inv-loop μ-loop
 returns c =
-    sym (sym (c .before .before .before .before .loop .inv)
-    ∙ apart-no _ _ (c .before .before .before .loop-test .taken) (c .before .before .before .before .before .before .before .args .boards .now) (sym (c .before .among-from .ensures) ∙ c .if1 .taken))
-
-add-i : tie.Need-add-i Inv-loop μ-loop
-add-i c = search needs
-
-loop-less : tie.Need-loop-less Inv-loop μ-loop
-loop-less c = search needs
+    let k = c .before in
+    let t = turn k in
+    sym (sym (t .before .loop .inv) ∙ apart-no _ _ (t .loop-test .taken) (others (t .before)) (sym (k .among-from .ensures) ∙ c .if1 .taken))
 
 loop-again : tie.Need-loop-again Inv-loop μ-loop
 loop-again c =
-    apart-next _ _ (c .before .before .before .loop-test .taken) (c .before .before .before .before .before .before .before .args .boards .now) (sym (c .before .among-from .ensures) ∙ c .if1 .left)
-    ∙ c .before .before .before .before .loop .inv
+    let k = c .before in
+    let t = turn k in
+    apart-next _ _ (t .loop-test .taken) (others (t .before)) (sym (k .among-from .ensures) ∙ c .if1 .left) ∙ t .before .loop .inv
 
 returns-2 : tie.Need-returns-2 Inv-loop μ-loop
-returns-2 c = sym (sym (c .before .loop .inv) ∙ ap (apart (c .before .before .before .before .args .boards .now)) (drop-of-length-le _ (c .loop-test .left)))
+returns-2 c = sym (sym (c .before .loop .inv) ∙ ap (apart (others (c .before))) (drop-of-length-le _ (c .loop-test .left)))
 
 pub apart-spec : {M : Type 1} → statement M
 apart-spec =
@@ -54,11 +48,11 @@ apart-spec =
     Inv-loop
     μ-loop
     loop-holds
-    mul-among-from
-    shared-slice-read-among-from
-    among-from-requires
+    (λ c. search needs)
+    (λ c. search needs)
+    (λ c κs. search needs)
     returns
-    add-i
-    loop-less
+    (λ c. search needs)
+    (λ c. search needs)
     loop-again
     returns-2)

@@ -1,6 +1,6 @@
 -- `checks::check_node` meets its contract.
 -- Assumes nothing.
-use mathlib.Core.Path.{_≡_, refl, sym, ap, _∙_}
+use mathlib.Core.Path.{refl}
 use borrow.Author.Tests.{lt-ltb, le-ltb}
 use Rattle.checks.proofs.check_node.Statement.{statement}
 use Rattle.checks.proofs.check_node.Tie as tie

@@ -1,35 +1,63 @@
 -- `checks::check_nodes_joined` meets its contract.
 -- Assumes nothing.
-use mathlib.Core.Path.{_≡_, refl, sym, ap, _∙_}
-use mathlib.Core.Bool.{not}
+use Prim.Native.Nat.{ℕ}
+use mathlib.Core.Path.{_≡_, sym, ap, _∙_}
+use mathlib.Core.Bool.{false, not}
 use mathlib.Core.List.{List, [], _∷_, _++_}
 use borrow.Author.Needs.{needs}
-use Rattle.board_statements.specs.Calls.{nodeLine}
-use Rattle.checks.specs.Asked.{asked}
+use Rattle.lists.specs.Tests.{below}
 use Rattle.sizes.specs.declared.Refusal.the-variants.{Node}
+use Rattle.sizes.specs.declared.Check.the-variants.{Refuse}
 use Rattle.sizes.specs.Refusals.{_when_}
+use Rattle.board_spec.specs.Calls.{nodeLine}
+use Rattle.checks.specs.Steps.{asked}
 use Rattle.checks.proofs.Answers.{refuses}
 use Rattle.checks.proofs.Joined.{below-left, below-mid, below-last}
 use Rattle.checks.proofs.check_nodes_joined.Statement.{statement}
 use Rattle.checks.proofs.check_nodes_joined.Tie as tie
 
-below-requires : tie.Need-below-requires
-below-requires c κs = search needs
+-- the places
+abbrev st : tie.After-below → tie.Start
+st c = c .before .before .before
 
-below-requires-2 : tie.Need-below-requires-2
-below-requires-2 c κs = search needs
+abbrev at-boards : tie.After-below2 → tie.After-below
+at-boards c = c .before .before
 
-check-node-requires : tie.Need-check-node-requires
-check-node-requires c κs = search needs
+abbrev named : tie.Start → List ℕ
+named g = g .args .boards .now ++ g .args .others .now ++ (g .args .last ∷ [])
+
+unknown : (g : tie.Start) → below (g .args .sizes .n) (named g) ≡ false → Refuse Node ≡ asked (nodeLine (g .args .sizes) (named g))
+unknown g e = refuses (nodeLine (g .args .sizes) (named g)) (ap not e)
 
 returns : tie.Need-returns
-returns c = let a = c .before .before .before .before .before .before .before .args in c .check-node .ensures ∙ ap (λ t. asked (Node when not t)) (below-last (a .sizes .n) (a .boards .now) (a .others .now) (a .last) (sym (c .before .before .before .before .below .ensures) ∙ c .before .before .before .if1 .taken) (sym (c .before .before .below2 .ensures) ∙ c .before .if2 .taken))
+returns c =
+    let k = c .before .before in
+    let a = st (at-boards k) .args in
+    let boards = sym (at-boards k .below .ensures) ∙ k .before .if1 .taken in
+    let others = sym (k .below2 .ensures) ∙ c .before .if2 .taken in
+    c .check-node .ensures ∙ ap (λ t. asked (Node when not t)) (below-last (a .sizes .n) (a .boards .now) (a .others .now) (a .last) boards others)
 
 returns-2 : tie.Need-returns-2
-returns-2 c = let a = c .before .before .before .before .before .before .args in refuses (nodeLine (a .sizes) (a .boards .now ++ a .others .now ++ (a .last ∷ []))) (ap not (below-mid (a .sizes .n) (a .boards .now) (a .others .now) (a .last) (sym (c .before .below2 .ensures) ∙ c .if2 .left)))
+returns-2 c =
+    let k = c .before in
+    let g = st (at-boards k) in
+    let a = g .args in
+    unknown g (below-mid (a .sizes .n) (a .boards .now) (a .others .now) (a .last) (sym (k .below2 .ensures) ∙ c .if2 .left))
 
 returns-3 : tie.Need-returns-3
-returns-3 c = let a = c .before .before .before .before .args in refuses (nodeLine (a .sizes) (a .boards .now ++ a .others .now ++ (a .last ∷ []))) (ap not (below-left (a .sizes .n) (a .boards .now) (a .others .now) (a .last) (sym (c .before .below .ensures) ∙ c .if1 .left)))
+returns-3 c =
+    let k = c .before in
+    let g = st k in
+    let a = g .args in
+    unknown g (below-left (a .sizes .n) (a .boards .now) (a .others .now) (a .last) (sym (k .below .ensures) ∙ c .if1 .left))
 
 pub check-nodes-joined-spec : {M : Type 1} → statement M
-check-nodes-joined-spec = tie.close (tie.spec below-requires below-requires-2 check-node-requires returns returns-2 returns-3)
+check-nodes-joined-spec =
+    tie.close
+    (tie.spec
+    (λ c κs. search needs)
+    (λ c κs. search needs)
+    (λ c κs. search needs)
+    returns
+    returns-2
+    returns-3)

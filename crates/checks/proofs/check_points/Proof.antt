@@ -9,22 +9,13 @@ use Rattle.lists.specs.Tests.{different}
 use Rattle.checks.proofs.check_points.Statement.{statement}
 use Rattle.checks.proofs.check_points.Tie as tie
 
-sub-points-differ : tie.Need-sub-points-differ
-sub-points-differ c = search needs
-
-part-points-differ-start : tie.Need-part-points-differ-start
-part-points-differ-start c = search needs
-
-part-points-differ-end : tie.Need-part-points-differ-end
-part-points-differ-end c = search needs
-
-points-differ-requires : tie.Need-points-differ-requires
-points-differ-requires c κs = search needs
-
 -- the part that is lent is the first n points
-whole : (c : tie.After-points-differ) → different (take (c .before .before .before .args .n) (c .before .before .before .args .points .now)) ≡ c .points-differ .result
+abbrev st : tie.After-points-differ → tie.Start
+st c = c .before .before .before
+
+whole : (c : tie.After-points-differ) → different (take (st c .args .n) (st c .args .points .now)) ≡ c .points-differ .result
 whole c =
-    let a = c .before .before .before .args in
+    let a = st c .args in
     let e : a .n - 0 ≡ a .n = omega arith in
     ap (λ (m : ℕ). different (take m (a .points .now))) (sym e) ∙ sym (c .points-differ .ensures)
 
@@ -38,9 +29,9 @@ pub check-points-spec : {M : Type 1} → statement M
 check-points-spec =
     tie.close
     (tie.spec
-    sub-points-differ
-    part-points-differ-start
-    part-points-differ-end
-    points-differ-requires
+    (λ c. search needs)
+    (λ c. search needs)
+    (λ c. search needs)
+    (λ c κs. search needs)
     returns
     returns-2)

@@ -1,12 +1,9 @@
 -- `checks::check_repeat` meets its contract.
 -- Assumes nothing.
 use borrow.Author.Needs.{needs}
-use mathlib.Core.Path.{_≡_, refl, sym, ap, _∙_}
+use mathlib.Core.Path.{refl, sym, _∙_}
 use Rattle.checks.proofs.check_repeat.Statement.{statement}
 use Rattle.checks.proofs.check_repeat.Tie as tie
-
-different-requires : tie.Need-different-requires
-different-requires c κs = search needs
 
 returns : tie.Need-returns
 returns c = rw (sym (c .before .different .ensures) ∙ c .if1 .taken) refl
@@ -15,4 +12,9 @@ returns-2 : tie.Need-returns-2
 returns-2 c = rw (sym (c .before .different .ensures) ∙ c .if1 .left) refl
 
 pub check-repeat-spec : {M : Type 1} → statement M
-check-repeat-spec = tie.close (tie.spec different-requires returns returns-2)
+check-repeat-spec =
+    tie.close
+    (tie.spec
+    (λ c κs. search needs)
+    returns
+    returns-2)

@@ -1,6 +1,6 @@
 -- `checks::check_room` meets its contract.
 -- Assumes nothing.
-use mathlib.Core.Path.{_≡_, refl, sym, ap, _∙_}
+use mathlib.Core.Path.{refl}
 use borrow.Author.Tests.{lt-ltb, le-ltb}
 use Rattle.checks.proofs.check_room.Statement.{statement}
 use Rattle.checks.proofs.check_room.Tie as tie

@@ -1,16 +1,13 @@
 -- `checks::stripe_count` meets its contract: the sizes are legal, so the answer of `stripe_len` is B.
 -- Assumes nothing.
-use Prim.Native.Nat.{ℕ, _+_, _-_, _*_, _/_, _≤_}
-use mathlib.Core.Path.{_≡_, refl, sym, ap, _∙_}
+use Prim.Native.Nat.{ℕ, _+_, _-_, _/_}
+use mathlib.Core.Path.{_≡_, refl, ap, _∙_}
 use native.Mathlib.Omega.{arith}
 use borrow.Author.Needs.{needs}
 use Rattle.sizes.specs.Sizing.{B, stripes}
 use Rattle.sizes.proofs.Legal.{legal-facts, B-pos, B-most, stripes-least}
 use Rattle.checks.proofs.stripe_count.Statement.{statement}
 use Rattle.checks.proofs.stripe_count.Tie as tie
-
-stripe-len-requires : tie.Need-stripe-len-requires
-stripe-len-requires c κs = search needs
 
 stripe : (c : tie.After-stripe-len) → c .stripe-len .result ≡ B (c .before .args .sizes)
 stripe c = c .stripe-len .ensures ∙ (rw (c .before .pre .0) refl)
@@ -25,17 +22,23 @@ div-result : tie.Need-div-result
 div-result c = omega (arith, stripe c, B-pos _ (legal-facts _ (c .before .pre .0)))
 
 counted : (c : tie.After-stripe-len)
-    → (c .before .args .length + (c .stripe-len .result - 1)) / c .stripe-len .result ≡ stripes (c .before .args .sizes) (c .before .args .length)
+    → (c .before .args .len + (c .stripe-len .result - 1)) / c .stripe-len .result ≡ stripes (c .before .args .sizes) (c .before .args .len)
 unfolding stripes
-counted c = ap (λ (b : ℕ). (c .before .args .length + (b - 1)) / b) (stripe c)
+counted c = ap (λ (b : ℕ). (c .before .args .len + (b - 1)) / b) (stripe c)
 
 returns : tie.Need-returns
 returns c =
     let a = c .before .args in
     let f = legal-facts (a .sizes) (c .before .pre .0) in
-    let e : (a .length + (c .stripe-len .result - 1)) / c .stripe-len .result ≡ stripes (a .sizes) (a .length) = counted c in
-    (e, omega (arith, e, stripes-least (a .sizes) f (a .length) 4096 (c .before .pre .1)))
+    let e : (a .len + (c .stripe-len .result - 1)) / c .stripe-len .result ≡ stripes (a .sizes) (a .len) = counted c in
+    (e, omega (arith, e, stripes-least (a .sizes) f (a .len) 4096 (c .before .pre .1)))
 
 pub stripe-count-spec : {M : Type 1} → statement M
 stripe-count-spec =
-    tie.close (tie.spec stripe-len-requires sub-result add-result div-result returns)
+    tie.close
+    (tie.spec
+    (λ c κs. search needs)
+    sub-result
+    add-result
+    div-result
+    returns)

@@ -11,7 +11,7 @@ use Rattle.lists.specs.Lists.{tabulate}
 use Rattle.sizes.proofs.Legal.{legal-facts}
 use Rattle.lists.specs.Tests.{alls, given}
 use Rattle.mbcr.specs.Read.{readFile}
-use Rattle.decode.specs.Agree.{stripeRead}
+use Rattle.decode.specs.Steps.{stripeRead}
 use Rattle.decode.proofs.Agree.{alls-no, alls-next, alls-end, starts, agrees-made}
 use Rattle.decode.proofs.agrees.Statement.{statement}
 use Rattle.decode.proofs.agrees.Tie as tie

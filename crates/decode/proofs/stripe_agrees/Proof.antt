@@ -13,7 +13,7 @@ use Rattle.sizes.specs.Sizing.{α, B}
 use Rattle.sizes.proofs.Legal.{legal-facts, row-fits}
 use Rattle.lists.specs.Tests.{alls, same}
 use Rattle.mbcr.specs.Share.{kept}
-use Rattle.decode.specs.Agree.{boardAgrees, stripeAgrees}
+use Rattle.decode.specs.Steps.{boardAgrees, stripeAgrees}
 use Rattle.own.proofs.Made.{board-below}
 use Rattle.rows.proofs.Made.{held-part}
 use Rattle.decode.proofs.Agree.{alls-no, alls-next, alls-end}

@@ -10,7 +10,7 @@ use Rattle.lists.specs.Lists.{piece}
 use Rattle.sizes.specs.Sizing.{α, B}
 use Rattle.sizes.proofs.Legal.{legal-facts, B-most}
 use Rattle.lists.specs.Tests.{pick}
-use Rattle.decode.specs.Agree.{stripeAgrees, stripeRead}
+use Rattle.decode.specs.Steps.{stripeAgrees, stripeRead}
 use Rattle.mbcr.proofs.Decode.{length-decoded}
 use Rattle.decode.proofs.Agree.{cut-part}
 use Rattle.decode.proofs.stripe_read.Statement.{statement}

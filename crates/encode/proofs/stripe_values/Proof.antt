@@ -5,7 +5,7 @@ use mathlib.Core.List.{List}
 use Prim.Native.Nat.{ℕ}
 use native.Mathlib.Omega.{arith}
 use Rattle.sizes.proofs.Legal.{legal-facts}
-use Rattle.grid.specs.Layout.{worked}
+use Rattle.grid.specs.Steps.{worked}
 use borrow.Author.Needs.{needs}
 use Rattle.encode.proofs.stripe_values.Statement.{statement}
 use Rattle.encode.proofs.stripe_values.Tie as tie

@@ -10,7 +10,7 @@ use borrow.Author.Needs.{needs}
 use Rattle.lists.specs.Lists.{join}
 use Rattle.sizes.proofs.Legal.{legal-facts, row-fits}
 use Rattle.mbcr.specs.Share.{stripe, grid}
-use Rattle.grid.specs.Layout.{laid, worked}
+use Rattle.grid.specs.Steps.{laid, worked}
 use Rattle.grid.proofs.Kept.{join-loop, length-worked}
 use Rattle.encode.proofs.stripes_values.Statement.{statement}
 use Rattle.encode.proofs.stripes_values.Tie as tie

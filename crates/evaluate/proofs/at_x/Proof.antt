@@ -8,7 +8,7 @@ use borrow.Author.Needs.{needs}
 use Rattle.lists.specs.Lists.{piece, fit}
 use Rattle.lists.proofs.Pieces.{length-fit, length-tabulate, part-piece}
 use Rattle.polynomial.specs.Polynomial.{Grid, atX}
-use Rattle.grid.specs.Layout.{rows}
+use Rattle.grid.specs.Steps.{rows}
 use Rattle.grid.proofs.Turns.{rows-turn}
 use Rattle.evaluate.proofs.at_x.Statement.{statement}
 use Rattle.evaluate.proofs.at_x.Tie as tie

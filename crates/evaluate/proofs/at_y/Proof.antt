@@ -8,7 +8,7 @@ use borrow.Author.Needs.{needs}
 use Rattle.lists.specs.Lists.{tabulate, piece}
 use Rattle.lists.proofs.Pieces.{length-tabulate, map-tabulate}
 use Rattle.polynomial.specs.Polynomial.{eval, atY}
-use Rattle.grid.specs.Layout.{rows}
+use Rattle.grid.specs.Steps.{rows}
 use Rattle.grid.proofs.Turns.{past, past-all, column-turn}
 use Rattle.evaluate.proofs.at_y.Statement.{statement}
 use Rattle.evaluate.proofs.at_y.Tie as tie

@@ -30,10 +30,13 @@ if-odd-requires-7 c κs = search needs
 if-odd-requires-8 : tie.Need-if-odd-requires-8
 if-odd-requires-8 c κs = search needs
 
+abbrev st : tie.After-if-odd8 → tie.Start
+st c = c .before .before .before .before .before .before .before .before
+
 returns : tie.Need-returns
 unfolding add
 returns c =
-    let s = c .before .before .before .before .before .before .before .before in
+    let s = st c in
     let whole = mul-bits (s .args .m) (s .args .v) (s .pre) (search needs) (search needs) in
     cc
 

@@ -16,6 +16,13 @@ Inv-loop c row acc₀ m n j₀ acc j = (j ≤ n) × (length acc ≡ length acc�
 abbrev μ-loop : tie.MeasureT-loop
 μ-loop c row acc₀ m n j₀ acc j = n - j
 
+-- the places
+abbrev at-many : tie.At-loop Inv-loop μ-loop → tie.After-multiples-of Inv-loop μ-loop
+at-many c = c .before .before
+
+abbrev st : tie.After-multiples-of Inv-loop μ-loop → tie.Start Inv-loop μ-loop
+st c = c .before .before .before
+
 multiples-of-requires : tie.Need-multiples-of-requires Inv-loop μ-loop
 multiples-of-requires c κs = search needs
 
@@ -32,7 +39,7 @@ shared-slice-read-times : tie.Need-shared-slice-read-times Inv-loop μ-loop
 shared-slice-read-times c = omega arith
 
 times-requires : tie.Need-times-requires Inv-loop μ-loop
-times-requires c κs = c .before .before .before .before .before .multiples-of .ensures .1
+times-requires c κs = at-many (c .before .before .before) .multiples-of .ensures .1
 
 slice-write-acc : tie.Need-slice-write-acc Inv-loop μ-loop
 slice-write-acc c = omega arith
@@ -46,9 +53,10 @@ loop-less c = omega arith
 loop-again : tie.Need-loop-again Inv-loop μ-loop
 unfolding add
 loop-again c =
-    let l = c .before .before .before .before .loop in
-    let s = c .before .before .before .before .before .before .before .before .before in
-    let m = c .before .before .before .before .before .before .multiples-of in (
+    let h = c .before .before .before .before in
+    let l = h .loop in
+    let s = st (at-many h) in
+    let m = at-many h .multiples-of in (
       search needs,
       length-set (l .acc) (l .j) _ ∙ l .inv .1,
       row-turn (s .args .c) (s .args .row .now) (l .acc) (l .j) _ (omega arith) (omega arith) (cc (m .ensures .0)) ∙ l .inv .2,
@@ -60,7 +68,7 @@ same-length c = omega arith
 returns : tie.Need-returns Inv-loop μ-loop
 returns c =
     let l = c .before .loop in
-    let s = c .before .before .before .before .before .before in
+    let s = st (at-many (c .before)) in
     sym (row-end (s .args .c) (s .args .row .now) (l .acc) (l .j) (λ h. let e = c .before .before .shorter .ensures .2 (omega arith) in omega arith)) ∙ l .inv .2
 
 pub add-scaled-spec : {M : Type 1} → statement M

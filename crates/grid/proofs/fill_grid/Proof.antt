@@ -14,7 +14,7 @@ use Rattle.sizes.specs.Sizing.{B}
 use Rattle.sizes.proofs.Legal.{Legal, legal-facts, B-most}
 use Rattle.polynomial.specs.Polynomial.{Grid}
 use Rattle.mbcr.specs.Share.{stripe, grid}
-use Rattle.grid.specs.Layout.{laid}
+use Rattle.grid.specs.Steps.{laid}
 use Rattle.grid.proofs.Cells.{length-grid, laid-rows}
 use Rattle.grid.proofs.Kept.{join-loop}
 use Rattle.grid.proofs.fill_grid.Statement.{statement}

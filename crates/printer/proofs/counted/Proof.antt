@@ -2,18 +2,16 @@
 -- Assumes nothing.
 use borrow.Author.Tests.{lt-ltb, le-ltb}
 use native.Mathlib.Omega.{arith}
+use Rattle.printer.specs.Printer.{maxFile}
 use borrow.Author.Needs.{needs}
 use Rattle.printer.proofs.counted.Statement.{statement}
 use Rattle.printer.proofs.counted.Tie as tie
 
 returns : tie.Need-returns
-returns c = rw (lt-ltb 16384 (c .before .before .args .p .count) (c .if1 .taken))
-
-add-q : tie.Need-add-q
-add-q c = search needs
+returns c = rw (lt-ltb maxFile (c .before .before .args .p .count) (c .if1 .taken))
 
 returns-2 : tie.Need-returns-2
-returns-2 c = rw (le-ltb 16384 (c .before .before .before .args .p .count) (omega arith))
+returns-2 c = rw (le-ltb maxFile (c .before .before .before .args .p .count) (omega arith))
 
 pub counted-spec : {M : Type 1} → statement M
-counted-spec = tie.close (tie.spec returns add-q returns-2)
+counted-spec = tie.close (tie.spec returns (λ c. search needs) returns-2)

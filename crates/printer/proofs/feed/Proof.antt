@@ -1,65 +1,46 @@
 -- `printer::feed` meets its contract, case by case.
 -- Assumes nothing.
-use mathlib.Core.Path.{sym, _∙_}
-use native.Mathlib.Omega.{arith}
-use Rattle.printer.proofs.Fed.{fed-bad, fed-file, fed-lone, fed-digits, fed-name, fed-first}
+use mathlib.Core.Path.{_≡_, refl, sym, ap, _∙_}
+use Rattle.number_lines.specs.declared.Read.{Read}
+use Rattle.printer.specs.declared.Parser.{Parser}
+use Rattle.printer.specs.Steps.{taken, fed}
+use Rattle.printer.proofs.Fed.{fed-bad, fed-file, fed-line}
 use borrow.Author.Needs.{needs}
 use Rattle.printer.proofs.feed.Statement.{statement}
 use Rattle.printer.proofs.feed.Tie as tie
 
-returns : tie.Need-returns
-returns c = sym (fed-bad _ _ (c .if1 .taken))
+abbrev st : tie.After-struct-known → tie.Start
+st c = c .before .before
 
-counted-requires : tie.Need-counted-requires
-counted-requires c κs = search needs
+abbrev st-line : tie.After-feed-line → tie.Start
+st-line c = let at = c .before .before in st (at .before)
+
+-- a byte of a line, and what it gave
+line-fed : (c : tie.After-feed-line) → let a = st-line c .args in taken (a .p) (c .feed-line .result) ≡ fed (a .p) (a .b)
+line-fed c =
+    let at = c .before .before in
+    let a = st-line c .args in
+    ap (taken (a .p)) (c .feed-line .ensures) ∙ sym (fed-line (a .p) (a .b) (at .before .before .if1 .left) (at .if2 .left))
+
+gave : (c : tie.After-feed-line) (x : Read) (q : Parser) → let a = st-line c .args in q ≡ taken (a .p) x → c .feed-line .result ≡ x → q ≡ fed (a .p) (a .b)
+gave c x q e g = e ∙ sym (ap (taken (st-line c .args .p)) g) ∙ line-fed c
 
 returns-2 : tie.Need-returns-2
-returns-2 c = c .counted .ensures ∙ sym (fed-file _ (c .before .before .before .before .args .b) (c .before .before .before .if1 .left) (c .before .if2 .taken))
-
-feed-lone-requires : tie.Need-feed-lone-requires
-feed-lone-requires c κs = search needs
-
-returns-3 : tie.Need-returns-3
-returns-3 c = c .feed-lone .ensures ∙ sym (fed-lone _ _ (c .before .before .before .before .before .if1 .left) (c .before .before .before .if2 .left) (c .before .if3 .taken))
-
-feed-digits-requires : tie.Need-feed-digits-requires
-feed-digits-requires c κs = search needs
-
-returns-4 : tie.Need-returns-4
-returns-4 c = c .feed-digits .ensures ∙ sym (fed-digits _ _ (c .before .before .before .before .before .before .before .if1 .left) (c .before .before .before .before .before .if2 .left) (c .before .if4 .taken))
-
-name-len-requires : tie.Need-name-len-requires
-name-len-requires c κs = search needs
-
-feed-name-requires : tie.Need-feed-name-requires
-feed-name-requires c κs = search needs
-
-returns-5 : tie.Need-returns-5
-returns-5 c =
-    c .feed-name .ensures
-    ∙ sym (fed-name _ _ (c .before .before .before .before .before .before .before .before .before .before .if1 .left) (c .before .before .before .before .before .before .before .before .if2 .left) (c .before .before .before .before .before .before .if3 .left) (c .before .before .before .before .if4 .left) (omega (arith, c .before .before .before .name-len .ensures)))
-
-feed-first-requires : tie.Need-feed-first-requires
-feed-first-requires c κs = search needs
-
-returns-6 : tie.Need-returns-6
-returns-6 c =
-    c .feed-first .ensures
-    ∙ sym (fed-first _ _ (c .before .before .before .before .before .before .before .before .before .before .if1 .left) (c .before .before .before .before .before .before .before .before .if2 .left) (c .before .before .before .before .before .before .if3 .left) (c .before .before .before .before .if4 .left) (omega (arith, c .before .before .before .name-len .ensures)))
+returns-2 c = let at = c .before in c .counted .ensures ∙ sym (fed-file _ (st (at .before) .args .b) (at .before .before .if1 .left) (at .if2 .taken))
 
 pub feed-spec : {M : Type 1} → statement M
 feed-spec =
     tie.close
     (tie.spec
-    returns
-    counted-requires
+    (λ c. sym (fed-bad _ _ (c .if1 .taken)))
+    (λ c κs. search needs)
     returns-2
-    feed-lone-requires
-    returns-3
-    feed-digits-requires
-    returns-4
-    name-len-requires
-    feed-name-requires
-    returns-5
-    feed-first-requires
-    returns-6)
+    (λ c κs. search needs)
+    (λ c. search needs)
+    (λ c. search needs)
+    (λ c κs. search needs)
+    (λ c. search needs)
+    (λ c κs. search needs)
+    (λ c. let at = c .before in gave (at .before .before) _ _ refl (at .x .given .1))
+    (λ c. let at = c .before .before in gave (at .before .before) _ _ (c .stored .ensures) (at .x2 .given .1))
+    (λ c. let at = c .before in gave (at .before .before) _ _ (c .wrong .ensures) (at .enum-told .given .1)))

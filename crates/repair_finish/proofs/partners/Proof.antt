@@ -10,7 +10,7 @@ use Rattle.lists.specs.Lists.{tabulate, piece}
 use Rattle.lists.proofs.Pieces.{part-piece, fill-loop, fill-end, fill-all}
 use Rattle.sizes.proofs.Legal.{legal-facts, row-fits}
 use Rattle.polynomial.specs.Polynomial.{eval}
-use Rattle.repair_hear.specs.Turns.{past}
+use Rattle.repair_hear.specs.Steps.{past}
 use Rattle.repair_hear.proofs.Heard.{few-runs}
 use Rattle.repair_finish.proofs.Made.{past-below}
 use Rattle.repair_finish.proofs.partners.Statement.{statement}

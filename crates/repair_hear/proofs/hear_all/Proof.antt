@@ -13,7 +13,7 @@ use Rattle.sizes.specs.Sizing.{α}
 use Rattle.sizes.proofs.Legal.{legal-facts, row-fits}
 use Rattle.own.proofs.Made.{board-below}
 use Rattle.grid.proofs.Kept.{join-loop}
-use Rattle.repair_hear.specs.Turns.{firstsOf, secondsOf}
+use Rattle.repair_hear.specs.Steps.{firstsOf, secondsOf}
 use Rattle.repair_hear.proofs.Heard.{runs-all, below-part, cut-long, few-runs}
 use Rattle.repair_hear.proofs.hear_all.Statement.{statement}
 use Rattle.repair_hear.proofs.hear_all.Tie as tie

@@ -20,21 +20,6 @@ abbrev μ-loop : tie.MeasureT-loop
 loop-holds : tie.Need-loop-holds Inv-loop μ-loop
 loop-holds c = refl
 
-mul-mark-of : tie.Need-mul-mark-of Inv-loop μ-loop
-mul-mark-of c = search needs
-
-shared-slice-read-mark-of : tie.Need-shared-slice-read-mark-of Inv-loop μ-loop
-shared-slice-read-mark-of c = search needs
-
-mark-of-requires : tie.Need-mark-of-requires Inv-loop μ-loop
-mark-of-requires c κs = search needs
-
-add-t : tie.Need-add-t Inv-loop μ-loop
-add-t c = search needs
-
-loop-less : tie.Need-loop-less Inv-loop μ-loop
-loop-less c = search needs
-
 loop-again : tie.Need-loop-again Inv-loop μ-loop
 loop-again c = every-next _ _ _ (c .before .before .before .loop-test .taken) (sym (c .before .mark-of .ensures) ∙ c .if1 .taken) ∙ c .before .before .before .before .loop .inv
 
@@ -45,4 +30,17 @@ returns-2 : tie.Need-returns-2 Inv-loop μ-loop
 returns-2 c = sym (ap (every _) (drop-of-length-le _ (c .loop-test .left))) ∙ c .before .loop .inv
 
 pub all-on-spec : {M : Type 1} → statement M
-all-on-spec = tie.close (tie.spec Inv-loop μ-loop loop-holds mul-mark-of shared-slice-read-mark-of mark-of-requires add-t loop-less loop-again returns returns-2)
+all-on-spec =
+    tie.close
+    (tie.spec
+    Inv-loop
+    μ-loop
+    loop-holds
+    (λ c. search needs)
+    (λ c. search needs)
+    (λ c κs. search needs)
+    (λ c. search needs)
+    (λ c. search needs)
+    loop-again
+    returns
+    returns-2)

@@ -11,9 +11,6 @@ use Rattle.store_checks.proofs.Sound.{few}
 use Rattle.store_checks.proofs.check_fits.Statement.{statement}
 use Rattle.store_checks.proofs.check_fits.Tie as tie
 
-stripe-len-requires : tie.Need-stripe-len-requires
-stripe-len-requires c κs = search needs
-
 -- the sizes are legal, so the answer of `stripe_len` is B
 stripe : (c : tie.After-stripe-len) → c .stripe-len .result ≡ B (c .before .args .sizes)
 stripe c = c .stripe-len .ensures ∙ (rw (c .before .pre .0) refl)
@@ -28,4 +25,10 @@ returns-2 : tie.Need-returns-2
 returns-2 c = let a = c .before .before .args in rw (le-ltb (a .capacity * B (a .sizes)) (a .got) (rw (stripe (c .before)) at (c .if1 .left))) refl
 
 pub check-fits-spec : {M : Type 1} → statement M
-check-fits-spec = tie.close (tie.spec stripe-len-requires mul-if1 returns returns-2)
+check-fits-spec =
+    tie.close
+    (tie.spec
+    (λ c κs. search needs)
+    mul-if1
+    returns
+    returns-2)

@@ -5,9 +5,6 @@ use borrow.Author.Needs.{needs}
 use Rattle.store_checks.proofs.check_service.Statement.{statement}
 use Rattle.store_checks.proofs.check_service.Tie as tie
 
-all-on-requires : tie.Need-all-on-requires
-all-on-requires c κs = search needs
-
 returns : tie.Need-returns
 returns c = rw (sym (c .before .all-on .ensures) ∙ c .if1 .taken) refl
 
@@ -15,4 +12,9 @@ returns-2 : tie.Need-returns-2
 returns-2 c = rw (sym (c .before .all-on .ensures) ∙ c .if1 .left) refl
 
 pub check-service-spec : {M : Type 1} → statement M
-check-service-spec = tie.close (tie.spec all-on-requires returns returns-2)
+check-service-spec =
+    tie.close
+    (tie.spec
+    (λ c κs. search needs)
+    returns
+    returns-2)

@@ -7,14 +7,13 @@ use lib.ListN.{List·getD-eq-default}
 use Rattle.store_checks.proofs.mark_of.Statement.{statement}
 use Rattle.store_checks.proofs.mark_of.Tie as tie
 
-shared-slice-read : tie.Need-shared-slice-read-result
-shared-slice-read c = search needs
-
-returns : tie.Need-returns
-returns c = search needs
-
 returns-2 : tie.Need-returns-2
 returns-2 c = sym (List·getD-eq-default (c .before .args .marks .now) false (c .if1 .left))
 
 pub mark-of-spec : {M : Type 1} → statement M
-mark-of-spec = tie.close (tie.spec shared-slice-read returns returns-2)
+mark-of-spec =
+    tie.close
+    (tie.spec
+    (λ c. search needs)
+    (λ c. search needs)
+    returns-2)

@@ -1,65 +1,66 @@
 -- `store_checks::sound_in` meets its contract: the tests in their order.
 -- Assumes nothing.
-use Prim.Native.Nat.{ℕ, _*_, _≤_, _<_}
+use Prim.Native.Nat.{_*_, _≤_}
 use mathlib.Core.Path.{_≡_, refl, sym, ap, _∙_}
-use mathlib.Core.Bool.{true, false, not}
+use mathlib.Core.Bool.{true, not}
 use native.Mathlib.Omega.{arith}
+use lib.ListN.{drop}
 use borrow.Author.Needs.{needs}
 use Rattle.sizes.specs.Sizing.{B}
 use Rattle.sizes.proofs.Legal.{legal-facts, B-most}
-use Rattle.store_checks.proofs.Sound.{few, no-room, much-room, long, past, accepted, some-length, by-marks}
+use Rattle.store_spec.specs.Record.{Record, allOff, sound}
+use Rattle.store_checks.specs.Steps.{recordOf}
+use Rattle.store_checks.proofs.Sound.{few, no-room, much-room, Roomy, long, past, accepted, some-length, by-marks}
 use Rattle.store_checks.proofs.sound_in.Statement.{statement}
 use Rattle.store_checks.proofs.sound_in.Tie as tie
 
-returns : tie.Need-returns
-returns c = no-room _ (c .before .before .pre) (c .if1 .taken)
+-- the places, by the tests that are passed
+abbrev st : tie.After-stripe-len → tie.Start
+st c = c .before .before .before .before
 
-returns-2 : tie.Need-returns-2
-returns-2 c = much-room _ (c .before .before .before .pre) (c .before .if1 .left) (c .if2 .taken)
+abbrev R : tie.After-stripe-len → Record
+R c = let a = st c .args in recordOf (a .sizes) (a .capacity) (a .written) (a .len) (a .marks .now)
 
-stripe-len-requires : tie.Need-stripe-len-requires
-stripe-len-requires c κs = search needs
+abbrev at-len : tie.Else4 → tie.After-stripe-len
+at-len c = c .before .before .before
+
+-- what is known there
+roomy-on : (c : tie.After-stripe-len) → Roomy (R c)
+roomy-on c = record { is-legal = st c .pre; low = c .before .before .if1 .left; high = c .before .if2 .left }
 
 -- the sizes are legal, so the answer of `stripe_len` is B
-stripe : (c : tie.After-stripe-len) → c .stripe-len .result ≡ B (c .before .before .before .before .args .sizes)
-stripe c = c .stripe-len .ensures ∙ (rw (c .before .before .before .before .pre) refl)
+stripe : (c : tie.After-stripe-len) → c .stripe-len .result ≡ B (st c .args .sizes)
+stripe c = c .stripe-len .ensures ∙ (rw (st c .pre) refl)
 
 -- the file's room
-room : (c : tie.After-stripe-len) → c .before .before .before .before .args .capacity * c .stripe-len .result ≡ c .before .before .before .before .args .capacity * B (c .before .before .before .before .args .sizes)
-room c = ap (λ m. c .before .before .before .before .args .capacity * m) (stripe c)
+room : (c : tie.After-stripe-len) → st c .args .capacity * c .stripe-len .result ≡ st c .args .capacity * B (st c .args .sizes)
+room c = ap (λ m. st c .args .capacity * m) (stripe c)
 
-mul-if3 : tie.Need-mul-if3
-mul-if3 c = omega (arith, few (c .before .before .before .before .args .capacity) (c .stripe-len .result) _ (c .before .if2 .left) (stripe c) (B-most _ (legal-facts _ (c .before .before .before .before .pre))))
+fits-on : (c : tie.Else3) → let s = R (c .before) in s .length ≤ s .capacity * B (s .sizes)
+fits-on c = omega (arith, room (c .before), c .if3 .left)
 
-returns-3 : tie.Need-returns-3
-returns-3 c = long _ (c .before .before .before .before .before .pre) (c .before .before .before .if1 .left) (c .before .before .if2 .left) (omega (arith, room (c .before), c .if3 .taken))
+beyond-on : (c : tie.Else4) → let s = R (at-len c) in allOff (drop (s .sizes .n) (s .marks)) ≡ true
+beyond-on c = sym (c .before .some-on .ensures) ∙ ap not (c .if4 .left)
 
-some-on-requires : tie.Need-some-on-requires
-some-on-requires c κs = search needs
-
-returns-4 : tie.Need-returns-4
-returns-4 c = past _ (c .before .before .before .before .before .before .before .pre) (c .before .before .before .before .before .if1 .left) (c .before .before .before .before .if2 .left) (omega (arith, room (c .before .before .before), c .before .before .if3 .left)) (sym (c .before .some-on .ensures) ∙ ap not (c .if4 .taken))
-
-returns-5 : tie.Need-returns-5
-returns-5 c =
-    accepted _ (c .before .before .before .before .before .before .before .before .pre) (c .before .before .before .before .before .before .if1 .left) (c .before .before .before .before .before .if2 .left) (omega (arith, room (c .before .before .before .before), c .before .before .before .if3 .left)) (sym (c .before .before .some-on .ensures) ∙ ap not (c .before .if4 .left)) (c .if5 .taken)
-
-returns-6 : tie.Need-returns-6
-returns-6 c =
-    some-length _ (c .before .before .before .before .before .before .before .before .before .pre) (c .before .before .before .before .before .before .before .if1 .left) (c .before .before .before .before .before .before .if2 .left) (omega (arith, room (c .before .before .before .before .before), c .before .before .before .before .if3 .left)) (sym (c .before .before .before .some-on .ensures) ∙ ap not (c .before .before .if4 .left)) (c .before .if5 .left) (c .if6 .taken)
-
-some-on-requires-2 : tie.Need-some-on-requires-2
-some-on-requires-2 c κs = search needs
-
-returns-7 : tie.Need-returns-7
-returns-7 c =
-    ap not (sym (c .if7 .taken)) ∙ c .before .some-on2 .ensures
-    ∙ by-marks _ (c .before .before .before .before .before .before .before .before .before .before .before .pre) (c .before .before .before .before .before .before .before .before .before .if1 .left) (c .before .before .before .before .before .before .before .before .if2 .left) (omega (arith, room (c .before .before .before .before .before .before .before), c .before .before .before .before .before .before .if3 .left)) (sym (c .before .before .before .before .before .some-on .ensures) ∙ ap not (c .before .before .before .before .if4 .left)) (c .before .before .before .if5 .left) (c .before .before .if6 .left)
-
-returns-8 : tie.Need-returns-8
-returns-8 c =
-    ap not (sym (c .if7 .left)) ∙ c .before .some-on2 .ensures
-    ∙ by-marks _ (c .before .before .before .before .before .before .before .before .before .before .before .pre) (c .before .before .before .before .before .before .before .before .before .if1 .left) (c .before .before .before .before .before .before .before .before .if2 .left) (omega (arith, room (c .before .before .before .before .before .before .before), c .before .before .before .before .before .before .if3 .left)) (sym (c .before .before .before .before .before .some-on .ensures) ∙ ap not (c .before .before .before .before .if4 .left)) (c .before .before .before .if5 .left) (c .before .before .if6 .left)
+-- the last test is of all marks
+last-on : (c : tie.After-some-on2) → not (c .some-on2 .result) ≡ sound (R (at-len (c .before .before .before)))
+last-on c =
+    let k = c .before .before .before in
+    c .some-on2 .ensures ∙ by-marks _ (roomy-on (at-len k)) (fits-on (k .before .before)) (beyond-on k) (c .before .before .if5 .left) (c .before .if6 .left)
 
 pub sound-in-spec : {M : Type 1} → statement M
-sound-in-spec = tie.close (tie.spec returns returns-2 stripe-len-requires mul-if3 returns-3 some-on-requires returns-4 returns-5 returns-6 some-on-requires-2 returns-7 returns-8)
+sound-in-spec =
+    tie.close
+    (tie.spec
+    (λ c. no-room _ (c .before .before .pre) (c .if1 .taken))
+    (λ c. much-room _ (c .before .before .before .pre) (c .before .if1 .left) (c .if2 .taken))
+    (λ c κs. search needs)
+    (λ c. let k = roomy-on c in omega (arith, few _ (c .stripe-len .result) _ (k .high) (stripe c) (B-most _ (legal-facts _ (k .is-legal)))))
+    (λ c. long _ (roomy-on (c .before)) (omega (arith, room (c .before), c .if3 .taken)))
+    (λ c κs. search needs)
+    (λ c. past _ (roomy-on (c .before .before .before)) (fits-on (c .before .before)) (sym (c .before .some-on .ensures) ∙ ap not (c .if4 .taken)))
+    (λ c. let k = c .before in accepted _ (roomy-on (at-len k)) (fits-on (k .before .before)) (beyond-on k) (c .if5 .taken))
+    (λ c. let k = c .before .before in some-length _ (roomy-on (at-len k)) (fits-on (k .before .before)) (beyond-on k) (c .before .if5 .left) (c .if6 .taken))
+    (λ c κs. search needs)
+    (λ c. ap not (sym (c .if7 .taken)) ∙ last-on (c .before))
+    (λ c. ap not (sym (c .if7 .left)) ∙ last-on (c .before)))

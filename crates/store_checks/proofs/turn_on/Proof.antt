@@ -21,12 +21,6 @@ abbrev μ-loop : tie.MeasureT-loop
 loop-holds : tie.Need-loop-holds Inv-loop μ-loop
 loop-holds c = (refl, refl, omega arith)
 
-slice-write-marks : tie.Need-slice-write-marks Inv-loop μ-loop
-slice-write-marks c = search needs
-
-add-i : tie.Need-add-i Inv-loop μ-loop
-add-i c = search needs
-
 loop-less : tie.Need-loop-less Inv-loop μ-loop
 loop-less c = let l = c .before .loop in omega (arith, length-set (l .marks) (l .i) (ltb (l .i) (c .before .before .args .n)), c .loop-test .taken)
 
@@ -35,13 +29,21 @@ loop-again c =
     let l = c .before .loop in
     (fill-marks _ (c .before .before .args .marks .now) (l .marks) (l .i) (omega arith) (l .inv .0), length-set (l .marks) (l .i) _ ∙ l .inv .1, omega arith)
 
-same-length : tie.Need-same-length Inv-loop μ-loop
-same-length c = search needs
-
 returns : tie.Need-returns Inv-loop μ-loop
 returns c =
     let l = c .before .loop in
     l .inv .0 ∙ marks-filled _ (c .before .before .args .marks .now) (l .i) (omega (arith, l .inv .1, l .inv .2, c .loop-test .left))
 
 pub turn-on-spec : {M : Type 1} → statement M
-turn-on-spec = tie.close (tie.spec Inv-loop μ-loop loop-holds slice-write-marks add-i loop-less loop-again same-length returns)
+turn-on-spec =
+    tie.close
+    (tie.spec
+    Inv-loop
+    μ-loop
+    loop-holds
+    (λ c. search needs)
+    (λ c. search needs)
+    loop-less
+    loop-again
+    (λ c. search needs)
+    returns)

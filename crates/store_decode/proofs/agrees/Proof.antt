@@ -12,10 +12,10 @@ use Rattle.lists.specs.Lists.{tabulate, joined}
 use Rattle.sizes.proofs.Legal.{legal-facts}
 use Rattle.lists.specs.Tests.{alls, given}
 use Rattle.mbcr.specs.Read.{readFile}
-use Rattle.decode.specs.Agree.{stripeRead}
+use Rattle.decode.specs.Steps.{stripeRead}
 use Rattle.decode.proofs.Agree.{alls-no, alls-next, alls-end, agrees-made}
-use Rattle.store_statements.specs.Record.{held}
-use Rattle.store_checks.specs.Parts.{recordOf}
+use Rattle.store_spec.specs.Record.{held}
+use Rattle.store_checks.specs.Steps.{recordOf}
 use Rattle.store_decode.proofs.Stripe.{held-long}
 use Rattle.store_decode.proofs.agrees.Statement.{statement}
 use Rattle.store_decode.proofs.agrees.Tie as tie

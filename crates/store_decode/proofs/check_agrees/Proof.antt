@@ -10,8 +10,8 @@ use Rattle.sizes.specs.declared.Refusal.the-variants.{Disagree}
 use Rattle.sizes.specs.Refusals.{Line, _when_}
 use Rattle.mbcr.specs.Read.{readFile}
 use Rattle.checks.proofs.Answers.{passes, refuses}
-use Rattle.store_statements.specs.Record.{held}
-use Rattle.store_checks.specs.Parts.{recordOf}
+use Rattle.store_spec.specs.Record.{held}
+use Rattle.store_checks.specs.Steps.{recordOf}
 use Rattle.store_decode.proofs.check_agrees.Statement.{statement}
 use Rattle.store_decode.proofs.check_agrees.Tie as tie
 

@@ -14,8 +14,8 @@ use Rattle.sizes.proofs.Legal.{legal-facts}
 use Rattle.lists.specs.Tests.{pick}
 use Rattle.mbcr.proofs.Decode.{length-decoded}
 use Rattle.decode.proofs.Agree.{file-turn, file-made, starts, decoded}
-use Rattle.store_statements.specs.Record.{held}
-use Rattle.store_checks.specs.Parts.{recordOf}
+use Rattle.store_spec.specs.Record.{held}
+use Rattle.store_checks.specs.Steps.{recordOf}
 use Rattle.store_decode.proofs.file.Statement.{statement}
 use Rattle.store_decode.proofs.file.Tie as tie
 

@@ -11,7 +11,7 @@ use Rattle.lists.specs.Tests.{pick}
 use Rattle.sizes.specs.Sizing.{α, B}
 use Rattle.sizes.proofs.Legal.{legal-facts, row-fits}
 use Rattle.columns.proofs.Parts.{back-part}
-use Rattle.decode.specs.Agree.{stripeRead}
+use Rattle.decode.specs.Steps.{stripeRead}
 use Rattle.decode.proofs.Agree.{starts}
 use Rattle.store_decode.proofs.Stripe.{buffer-most, part-most, part-long, length-bytes, reads-same}
 use Rattle.store_decode.proofs.stripe_agrees.Statement.{statement}

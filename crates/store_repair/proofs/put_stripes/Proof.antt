@@ -9,7 +9,7 @@ use lib.ListN.{length, getD}
 use Rattle.sizes.specs.Sizing.{α}
 use Rattle.sizes.proofs.Legal.{legal-facts, row-fits}
 use Rattle.own.proofs.Made.{board-below}
-use Rattle.repair_hear.specs.Turns.{stripeAt, puts}
+use Rattle.repair_hear.specs.Steps.{stripeAt, puts}
 use Rattle.store_repair.proofs.Puts.{part-long, puts-turn}
 use Rattle.store_repair.proofs.Rebuilt.{length-stripe-at}
 use Rattle.store_repair.proofs.put_stripes.Statement.{statement}

@@ -9,8 +9,8 @@ use lib.ListN.{length, getD, drop}
 use Rattle.lists.specs.Lists.{join, piece}
 use Rattle.sizes.specs.Sizing.{α}
 use Rattle.sizes.proofs.Legal.{legal-facts, row-fits, α-most}
-use Rattle.repair_hear.specs.Turns.{puts}
-use Rattle.store_repair.specs.Rebuilt.{rebuilt}
+use Rattle.repair_hear.specs.Steps.{puts}
+use Rattle.store_repair.specs.Steps.{rebuilt}
 use Rattle.store_repair.proofs.Turn.{puts-none, turn}
 use Rattle.store_repair.proofs.repair_shares.Statement.{statement}
 use Rattle.store_repair.proofs.repair_shares.Tie as tie

@@ -10,7 +10,7 @@ use lib.Seq.{length-take-le}
 use Rattle.lists.specs.Lists.{piece}
 use Rattle.sizes.specs.Sizing.{α}
 use Rattle.sizes.proofs.Legal.{legal-facts}
-use Rattle.repair_hear.specs.Turns.{polysOf}
+use Rattle.repair_hear.specs.Steps.{polysOf}
 use Rattle.repair_hear.proofs.Heard.{few-runs}
 use Rattle.store_repair.proofs.Rebuilt.{puts-rebuilt, length-firsts, length-seconds, front-length, front-same, copy-room, copied-is, length-polys}
 use Rattle.store_repair.proofs.repair_stripe.Statement.{statement}

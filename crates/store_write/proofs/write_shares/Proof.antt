@@ -14,8 +14,8 @@ use Rattle.sizes.specs.Sizing.{α}
 use Rattle.sizes.proofs.Legal.{legal-facts, α-most, row-fits}
 use Rattle.mbcr.specs.Share.{share}
 use Rattle.mbcr.proofs.Repair.{length-share}
-use Rattle.store_statements.specs.Record.{putShares}
-use Rattle.store_checks.specs.Parts.{recordOf}
+use Rattle.store_spec.specs.Record.{putShares}
+use Rattle.store_checks.specs.Steps.{recordOf}
 use Rattle.store_write.proofs.Places.{part-holds, puts-turn}
 use Rattle.store_write.proofs.write_shares.Statement.{statement}
 use Rattle.store_write.proofs.write_shares.Tie as tie

@@ -25,94 +25,41 @@ abbrev put-decimal-below : ℕ → In 1 put-decimal-kinds.ps
 put-decimal-below t =
     and 1 put-decimal-kinds.ps (falls 1 put-decimal-kinds.ps _<_ μ-put-decimal t) put-decimal.Pre
 
-put-decimal-cast-out : (t : ℕ) → put-decimal-lts.Need-cast-out (
+-- past the digits of the tenth: where the call began
+abbrev st : (t : ℕ) → put-decimal-lts.After-slice-known2 (
+  put-decimal-below t,
+  put-decimal.Post,
+) (put-decimal-at t) put-decimal.Post → put-decimal-lts.Start (
   put-decimal-below t,
   put-decimal.Post,
 ) (put-decimal-at t) put-decimal.Post
-put-decimal-cast-out t c = search needs
+st t c = c .before .before .before .before .before .before
 
-put-decimal-add-out : (t : ℕ) → put-decimal-lts.Need-add-out (
+returns-one : (t : ℕ) → put-decimal-lts.Need-returns (
   put-decimal-below t,
   put-decimal.Post,
 ) (put-decimal-at t) put-decimal.Post
-put-decimal-add-out t c = search needs
-
-put-decimal-slice-write-out : (t : ℕ) → put-decimal-lts.Need-slice-write-out (
-  put-decimal-below t,
-  put-decimal.Post,
-) (put-decimal-at t) put-decimal.Post
-put-decimal-slice-write-out t c = omega (arith, length-one (c .before .before .args .x) (c .if1 .taken))
-
-put-decimal-add-result : (t : ℕ) → put-decimal-lts.Need-add-result (
-  put-decimal-below t,
-  put-decimal.Post,
-) (put-decimal-at t) put-decimal.Post
-put-decimal-add-result t c = omega (arith, length-one (c .before .before .args .x) (c .if1 .taken))
-
-put-decimal-same-length : (t : ℕ) → put-decimal-lts.Need-same-length (
-  put-decimal-below t,
-  put-decimal.Post,
-) (put-decimal-at t) put-decimal.Post
-put-decimal-same-length t c = search needs
-
-put-decimal-returns : (t : ℕ) → put-decimal-lts.Need-returns (
-  put-decimal-below t,
-  put-decimal.Post,
-) (put-decimal-at t) put-decimal.Post
-put-decimal-returns t c =
+returns-one t c =
     let a = c .before .before .args in
     rw (decimal-one (a .x) (c .if1 .taken)) (one (a .out .now) (a .at) _ (omega (arith, length-one (a .x) (c .if1 .taken))))
 
-put-decimal-put-decimal-requires : (t : ℕ) → put-decimal-lts.Need-put-decimal-requires (
+tenth-asks : (t : ℕ) → put-decimal-lts.Need-put-decimal-requires (
   put-decimal-below t,
   put-decimal.Post,
 ) (put-decimal-at t) put-decimal.Post
-put-decimal-put-decimal-requires t c κs =
+tenth-asks t c κs =
     let a = c .before .before .before .args in
     (omega (arith, div-add-mod' (a .x) 10), omega (arith, length-more (a .x) (omega arith)))
 
-put-decimal-cast-out-2 : (t : ℕ) → put-decimal-lts.Need-cast-out-2 (
+returns-more : (t : ℕ) → put-decimal-lts.Need-returns-2 (
   put-decimal-below t,
   put-decimal.Post,
 ) (put-decimal-at t) put-decimal.Post
-put-decimal-cast-out-2 t c = omega (arith, mod-lt (c .before .before .before .before .before .before .args .x) {m = 10} (omega arith))
-
-put-decimal-add-out-2 : (t : ℕ) → put-decimal-lts.Need-add-out-2 (
-  put-decimal-below t,
-  put-decimal.Post,
-) (put-decimal-at t) put-decimal.Post
-put-decimal-add-out-2 t c = omega (arith, mod-lt (c .before .before .before .before .before .before .args .x) {m = 10} (omega arith))
-
-put-decimal-slice-write-out-2 : (t : ℕ) → put-decimal-lts.Need-slice-write-out-2 (
-  put-decimal-below t,
-  put-decimal.Post,
-) (put-decimal-at t) put-decimal.Post
-put-decimal-slice-write-out-2 t c =
-    let a = c .before .before .before .before .before .before .args in
-    omega (arith, length-more (a .x) (omega arith))
-
-put-decimal-add-result-2 : (t : ℕ) → put-decimal-lts.Need-add-result-2 (
-  put-decimal-below t,
-  put-decimal.Post,
-) (put-decimal-at t) put-decimal.Post
-put-decimal-add-result-2 t c =
-    let a = c .before .before .before .before .before .before .args in
-    omega (arith, length-more (a .x) (omega arith))
-
-put-decimal-same-length-2 : (t : ℕ) → put-decimal-lts.Need-same-length-2 (
-  put-decimal-below t,
-  put-decimal.Post,
-) (put-decimal-at t) put-decimal.Post
-put-decimal-same-length-2 t c = search needs
-
-put-decimal-returns-2 : (t : ℕ) → put-decimal-lts.Need-returns-2 (
-  put-decimal-below t,
-  put-decimal.Post,
-) (put-decimal-at t) put-decimal.Post
-put-decimal-returns-2 t c =
-    let a = c .before .before .before .before .before .before .args in
-    let h : 10 ≤ a .x = omega arith in
-    rw (decimal-more (a .x) h) (more (c .before .before .put-decimal .ensures) _ (rw (decimal-more (a .x) h) at (c .before .before .before .before .before .before .pre .1)))
+returns-more t c =
+    let g = st t c in
+    let x = g .args .x in
+    let h : 10 ≤ x = omega arith in
+    rw (decimal-more x h) (more (c .before .before .put-decimal .ensures) _ (rw (decimal-more x h) at (g .pre .1)))
 
 pub +put-decimal-spec : {M : Type 1} → statement M
 +put-decimal-spec = close μ-put-decimal λ t. put-decimal-lts.spec (
@@ -121,16 +68,16 @@ pub +put-decimal-spec : {M : Type 1} → statement M
 )
     (put-decimal-at t)
     put-decimal.Post
-    (put-decimal-cast-out t)
-    (put-decimal-add-out t)
-    (put-decimal-slice-write-out t)
-    (put-decimal-add-result t)
-    (put-decimal-same-length t)
-    (put-decimal-returns t)
-    (put-decimal-put-decimal-requires t)
-    (put-decimal-cast-out-2 t)
-    (put-decimal-add-out-2 t)
-    (put-decimal-slice-write-out-2 t)
-    (put-decimal-add-result-2 t)
-    (put-decimal-same-length-2 t)
-    (put-decimal-returns-2 t)
+    (λ c. search needs)
+    (λ c. search needs)
+    (λ c. omega (arith, length-one (c .before .before .args .x) (c .if1 .taken)))
+    (λ c. omega (arith, length-one (c .before .before .args .x) (c .if1 .taken)))
+    (λ c. search needs)
+    (returns-one t)
+    (tenth-asks t)
+    (λ c. omega (arith, mod-lt (st t c .args .x) {m = 10} (omega arith)))
+    (λ c. omega (arith, mod-lt (st t c .args .x) {m = 10} (omega arith)))
+    (λ c. omega (arith, length-more (st t c .args .x) (omega arith)))
+    (λ c. omega (arith, length-more (st t c .args .x) (omega arith)))
+    (λ c. search needs)
+    (returns-more t)

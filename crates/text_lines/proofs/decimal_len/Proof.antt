@@ -5,7 +5,7 @@ use Prim.Native.Nat.{_+_, _≤_}
 use native.Mathlib.Nat.{div-add-mod'}
 use native.Mathlib.Omega.{arith}
 use lib.ListN.{length}
-use Rattle.board_statements.specs.Text.{decimal}
+use Rattle.board_spec.specs.Text.{decimal}
 use Rattle.text_lines.proofs.Decimals.{length-one, length-more}
 use Rattle.text_lines.proofs.decimal_len.Statement.{statement}
 use Rattle.text_lines.proofs.decimal_len.Tie as tie

@@ -3,53 +3,47 @@
 use mathlib.Core.List.{[], _∷_, _++_}
 use native.Mathlib.Omega.{arith}
 use lib.ListN.{length-set}
-use Rattle.board_statements.specs.Text.{decimal}
-use Rattle.text_lines.specs.Wrote.{Wrote}
+use Rattle.board_spec.specs.Text.{decimal}
+use Rattle.text_lines.specs.Steps.{Wrote}
 use Rattle.text_lines.proofs.Lines.{length-line, line-front, line-room, line}
 use Rattle.text_lines.proofs.Writes.{same-room}
 use borrow.Author.Needs.{needs}
 use Rattle.text_lines.proofs.put_line.Statement.{statement}
 use Rattle.text_lines.proofs.put_line.Tie as tie
 
-put-bytes-requires : tie.Need-put-bytes-requires
-put-bytes-requires c κs = omega (arith, length-line (c .before .before .before .args .name .now) (decimal (c .before .before .before .args .x)))
+-- the places
+abbrev st : tie.After-slice-known2 → tie.Start
+st c = c .before .before .before .before .before .before
 
-slice-write-out : tie.Need-slice-write-out
-slice-write-out c = omega (arith, length-line (c .before .before .before .before .before .before .args .name .now) (decimal (c .before .before .before .before .before .before .args .x)))
+abbrev at-equals : tie.After-put-decimal → tie.After-slice-known2
+at-equals c = c .before .before
 
-add-put-decimal : tie.Need-add-put-decimal
-add-put-decimal c = search needs
+abbrev at-end : tie.After-slice-known3 → tie.After-put-decimal
+at-end c = c .before .before
 
-put-decimal-requires : tie.Need-put-decimal-requires
-put-decimal-requires c κs = simp length-set (omega (arith, length-line (c .before .before .before .before .before .before .before .args .name .now) (decimal (c .before .before .before .before .before .before .before .args .x))))
+abbrev st-end : tie.After-slice-known3 → tie.Start
+st-end c = st (at-equals (at-end c))
 
-front : (c : tie.After-put-decimal) → let a = c .before .before .before .before .before .before .before .before .args in
-    Wrote (a .out .now) (a .at) (a .name .now ++ (0x3D ∷ []) ++ decimal (a .x)) (c .put-decimal .last .1 .1 .0) (c .put-decimal .result)
+-- the name, the equals sign and the decimal
+front : (c : tie.After-put-decimal)
+    → let a = st (at-equals c) .args in Wrote (a .out .now) (a .at) (a .name .now ++ (0x3D ∷ []) ++ decimal (a .x)) (c .put-decimal .last .1 .1 .0) (c .put-decimal .result)
 front c =
-    line-front _ _ (c .before .before .before .before .before .before .before .before .args .name .now) (decimal (c .before .before .before .before .before .before .before .before .args .x)) (c .before .before .before .before .before .before .before .before .pre) (c .before .before .before .before .put-bytes .ensures)
-    (c .put-decimal .ensures)
-
-slice-write-out-2 : tie.Need-slice-write-out-2
-slice-write-out-2 c = line-room _ _ (c .before .before .before .before .before .before .before .before .before .before .args .name .now) (decimal (c .before .before .before .before .before .before .before .before .before .before .args .x)) (c .before .before .before .before .before .before .before .before .before .before .pre) (front (c .before .before))
+    let k = at-equals c in
+    let a = st k .args in
+    line-front _ _ (a .name .now) (decimal (a .x)) (st k .pre) (k .before .before .put-bytes .ensures) (c .put-decimal .ensures)
 
 returns : tie.Need-returns
-returns c = line _ _ (c .before .before .before .before .before .before .before .before .before .before .args .name .now) (decimal (c .before .before .before .before .before .before .before .before .before .before .args .x)) (c .before .before .before .before .before .before .before .before .before .before .pre) (front (c .before .before))
-
-add-result : tie.Need-add-result
-add-result c = let w = returns c in omega (arith, w .ends, c .before .before .before .before .before .before .before .before .before .before .pre)
-
-same-length : tie.Need-same-length
-same-length c = same-room (returns c) (c .before .before .before .before .before .before .before .before .before .before .pre)
+returns c = let g = st-end c in line _ _ (g .args .name .now) (decimal (g .args .x)) (g .pre) (front (at-end c))
 
 pub put-line-spec : {M : Type 1} → statement M
 put-line-spec =
     tie.close
     (tie.spec
-    put-bytes-requires
-    slice-write-out
-    add-put-decimal
-    put-decimal-requires
-    slice-write-out-2
-    add-result
-    same-length
+    (λ c κs. let a = c .before .before .before .args in omega (arith, length-line (a .name .now) (decimal (a .x))))
+    (λ c. let a = st c .args in omega (arith, length-line (a .name .now) (decimal (a .x))))
+    (λ c. search needs)
+    (λ c κs. let a = st (c .before) .args in simp length-set (omega (arith, length-line (a .name .now) (decimal (a .x)))))
+    (λ c. let g = st-end c in line-room _ _ (g .args .name .now) (decimal (g .args .x)) (g .pre) (front (at-end c)))
+    (λ c. let w = returns c in omega (arith, w .ends, st-end c .pre))
+    (λ c. same-room (returns c) (st-end c .pre))
     returns)

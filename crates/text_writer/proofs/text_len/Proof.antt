@@ -4,7 +4,7 @@ use Prim.Native.Nat.{ℕ, _≤_}
 use native.Mathlib.Omega.{arith}
 use lib.ListN.{length}
 use Rattle.sizes.proofs.Legal.{legal-facts}
-use Rattle.board_statements.specs.Text.{decimal}
+use Rattle.board_spec.specs.Text.{decimal}
 use Rattle.text_lines.proofs.Decimals.{decimal-most}
 use Rattle.text_lines.proofs.Lines.{length-text}
 use borrow.Author.Needs.{needs}
@@ -32,67 +32,35 @@ small c =
       for-length = omega (arith, decimal-most (a .total));
     }
 
-decimal-len-requires : tie.Need-decimal-len-requires
-decimal-len-requires c κs = search needs
+-- where the call began
+abbrev st : tie.After-decimal-len4 → tie.Start
+st c = c .before .before .before .before
 
-decimal-len-requires-2 : tie.Need-decimal-len-requires-2
-decimal-len-requires-2 c κs = search needs
+abbrev st-node : tie.After-decimal-len5 → tie.Start
+st-node c = st (c .before)
 
-add-boards : tie.Need-add-boards
-add-boards c = let s = small (c .before .before) in omega arith
-
-decimal-len-requires-3 : tie.Need-decimal-len-requires-3
-decimal-len-requires-3 c κs = search needs
-
-add-boards-2 : tie.Need-add-boards-2
-add-boards-2 c = let s = small (c .before .before .before) in omega arith
-
-decimal-len-requires-4 : tie.Need-decimal-len-requires-4
-decimal-len-requires-4 c κs = search needs
-
-add-boards-3 : tie.Need-add-boards-3
-add-boards-3 c = let s = small (c .before .before .before .before) in omega arith
-
-add-result : tie.Need-add-result
-add-result c = let s = small (c .before .before .before .before) in omega arith
-
-decimal-len-requires-5 : tie.Need-decimal-len-requires-5
-decimal-len-requires-5 c κs = search needs
-
-add-result-2 : tie.Need-add-result-2
-add-result-2 c = let s = small (c .before .before .before .before .before) in omega arith
-
-decimal-len-requires-6 : tie.Need-decimal-len-requires-6
-decimal-len-requires-6 c κs = search needs
-
-add-result-3 : tie.Need-add-result-3
-add-result-3 c = let s = small (c .before .before .before .before .before .before) in omega arith
-
-mul-result : tie.Need-mul-result
-mul-result c = search needs
-
-add-result-4 : tie.Need-add-result-4
-add-result-4 c = let s = small (c .before .before .before .before .before .before) in omega arith
+abbrev st-length : tie.After-decimal-len6 → tie.Start
+st-length c = st-node (c .before)
 
 returns : tie.Need-returns
-returns c share e = let a = c .before .before .before .before .before .before .args in omega (arith, length-text (a .sizes) (a .total) (a .node) share)
+returns c share e = let a = st-length c .args in omega (arith, length-text (a .sizes) (a .total) (a .node) share)
 
 pub text-len-spec : {M : Type 1} → statement M
 text-len-spec =
     tie.close
     (tie.spec
-    decimal-len-requires
-    decimal-len-requires-2
-    add-boards
-    decimal-len-requires-3
-    add-boards-2
-    decimal-len-requires-4
-    add-boards-3
-    add-result
-    decimal-len-requires-5
-    add-result-2
-    decimal-len-requires-6
-    add-result-3
-    mul-result
-    add-result-4
+    (λ c κs. search needs)
+    (λ c κs. search needs)
+    (λ c. let s = small (c .before .before) in omega arith)
+    (λ c κs. search needs)
+    (λ c. let s = small (c .before .before .before) in omega arith)
+    (λ c κs. search needs)
+    (λ c. let s = small (st c) in omega arith)
+    (λ c. let s = small (st c) in omega arith)
+    (λ c κs. search needs)
+    (λ c. let s = small (st-node c) in omega arith)
+    (λ c κs. search needs)
+    (λ c. let s = small (st-length c) in omega arith)
+    (λ c. search needs)
+    (λ c. let s = small (st-length c) in omega arith)
     returns)

@@ -3,39 +3,46 @@
 use mathlib.Core.List.{[]}
 use native.Mathlib.Omega.{arith}
 use borrow.Author.Needs.{needs}
+use Rattle.sizes.specs.declared.Sizes.{Sizes}
+use Rattle.zebrankai.specs.Archive.{sizesOf}
 use Rattle.zebrankai.proofs.Worded.{no-set-up, did-set-up, not-set-up, as-told, set-up-few}
 use Rattle.zebrankai.proofs.zbk_set_up.Statement.{statement}
 use Rattle.zebrankai.proofs.zbk_set_up.Tie as tie
 
-returns : tie.Need-returns
-returns c = no-set-up (c .before .before .args .ws .now) (record { n = c .before .before .args .n; k = c .before .before .args .k; d = c .before .before .args .d; r = c .before .before .args .r }) (c .before .before .args .capacity) (c .if1 .taken)
+-- the places
+abbrev st : tie.After-set-up → tie.Start
+st c = c .before .before .before
 
-set-up-requires : tie.Need-set-up-requires
-set-up-requires c κs = search needs
+abbrev z : tie.Start → Sizes
+z g = sizesOf (g .args .n) (g .args .k) (g .args .d) (g .args .r)
 
-word-of-requires : tie.Need-word-of-requires
-word-of-requires c κs = as-told (c .set-up .result) [] [] _ (c .set-up .ensures) (set-up-few _ (record { n = c .before .before .before .args .n; k = c .before .before .before .args .k; d = c .before .before .before .args .d; r = c .before .before .before .args .r }) (c .before .before .before .args .capacity))
+not-eight : tie.Need-returns
+not-eight c = let g = c .before .before in no-set-up (g .args .ws .now) (z g) (g .args .capacity) (c .if1 .taken)
 
-put-words-requires : tie.Need-put-words-requires
-put-words-requires c κs = omega arith
+accepts : tie.Need-returns-2
+accepts c =
+    let p = c .before .before in
+    let t = p .before .before in
+    let k = t .before .before in
+    let g = st k in
+    did-set-up (g .args .ws .now) (z g) (g .args .capacity) _ (k .set-up .result) _ (omega arith) (k .set-up .ensures) (t .before .word-of .ensures)
+    _ (t .if2 .taken) (p .put-words .ensures)
 
-same-length : tie.Need-same-length
-same-length c = search needs
-
-returns-2 : tie.Need-returns-2
-returns-2 c = did-set-up (c .before .before .before .before .before .before .before .before .before .args .ws .now) (record { n = c .before .before .before .before .before .before .before .before .before .args .n; k = c .before .before .before .before .before .before .before .before .before .args .k; d = c .before .before .before .before .before .before .before .before .before .args .d; r = c .before .before .before .before .before .before .before .before .before .args .r }) (c .before .before .before .before .before .before .before .before .before .args .capacity) _ (c .before .before .before .before .before .before .set-up .result) _ (omega arith) (c .before .before .before .before .before .before .set-up .ensures) (c .before .before .before .before .before .word-of .ensures) _ (c .before .before .before .before .if2 .taken) (c .before .before .put-words .ensures)
-
-returns-3 : tie.Need-returns-3
-returns-3 c = not-set-up (c .before .before .before .before .before .args .ws .now) (record { n = c .before .before .before .before .before .args .n; k = c .before .before .before .before .before .args .k; d = c .before .before .before .before .before .args .d; r = c .before .before .before .before .before .args .r }) (c .before .before .before .before .before .args .capacity) _ (c .before .before .set-up .result) _ (omega arith) (c .before .before .set-up .ensures) (c .before .word-of .ensures) (c .if2 .left)
+refuses : tie.Need-returns-3
+refuses c =
+    let k = c .before .before in
+    let g = st k in
+    not-set-up (g .args .ws .now) (z g) (g .args .capacity) _ (k .set-up .result) _ (omega arith) (k .set-up .ensures) (c .before .word-of .ensures)
+    (c .if2 .left)
 
 pub zbk-set-up-spec : {M : Type 1} → statement M
 zbk-set-up-spec =
     tie.close
     (tie.spec
-    returns
-    set-up-requires
-    word-of-requires
-    put-words-requires
-    same-length
-    returns-2
-    returns-3)
+    not-eight
+    (λ c κs. search needs)
+    (λ c κs. as-told (c .set-up .result) [] [] _ (c .set-up .ensures) (set-up-few _ (z (st c)) (st c .args .capacity)))
+    (λ c κs. omega arith)
+    (λ c. search needs)
+    accepts
+    refuses)

@@ -7,17 +7,14 @@ use Rattle.zebrankai.proofs.Words.{fits, tells}
 use Rattle.zebrankai.proofs.zbk_share_text.Statement.{statement}
 use Rattle.zebrankai.proofs.zbk_share_text.Tie as tie
 
-text-requires : tie.Need-text-requires
-text-requires c κs = search needs
-
-word-of-requires : tie.Need-word-of-requires
-word-of-requires c κs = fits (c .before .before .text .result) _ _ (c .before .before .text .ensures) (text-fits _ standard _ _ _ _)
-
-same-length : tie.Need-same-length
-same-length c = search needs
-
-returns : tie.Need-returns
-returns c = tells (c .before .before .before .text .result) _ _ (c .before .before .before .text .ensures) _ (c .word-of .ensures)
+abbrev at-call : tie.After-slice-known2 → tie.After-text
+at-call c = c .before .before
 
 pub zbk-share-text-spec : {M : Type 1} → statement M
-zbk-share-text-spec = tie.close (tie.spec text-requires word-of-requires same-length returns)
+zbk-share-text-spec =
+    tie.close
+    (tie.spec
+    (λ c κs. search needs)
+    (λ c κs. fits (at-call c .text .result) _ _ (at-call c .text .ensures) (text-fits _ standard _ _ _ _))
+    (λ c. search needs)
+    (λ c. tells (at-call (c .before) .text .result) _ _ (at-call (c .before) .text .ensures) _ (c .word-of .ensures)))

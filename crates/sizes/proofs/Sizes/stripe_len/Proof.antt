@@ -29,9 +29,12 @@ mul-result-2 c =
     let f = facts (c .before .before .before .before) in
     omega (arith, B-most _ f)
 
+abbrev at-if : tie.After-struct-known4 → tie.Then1
+at-if c = c .before .before .before .before
+
 returns : tie.Need-returns
 unfolding B
-returns c = simp (← c .before .before .before .before .before .legal .ensures, c .before .before .before .before .if1 .taken)
+returns c = simp (← at-if c .before .legal .ensures, at-if c .if1 .taken)
 
 returns-2 : tie.Need-returns-2
 unfolding B

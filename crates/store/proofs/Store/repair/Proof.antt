@@ -1,438 +1,122 @@
--- `store::Store::repair` meets its contract: each early return is the first line that holds, and past them the fresh boards are rebuilt.
+-- `store::Store::repair` meets its contract: it hands on what its check refuses, and past it the fresh boards are rebuilt.
 -- Assumes nothing.
-use Prim.Native.Nat.{ℕ, _+_, _*_, _-_, _≤_, _<_}
 use mathlib.Core.Path.{_≡_, refl, sym, ap, _∙_}
-use mathlib.Core.Bool.{not}
-use mathlib.Core.List.{[], _∷_, _++_}
-use native.Mathlib.Nat.{mul-le-mul, mul-le-mul-right}
+use mathlib.Core.List.{[]}
 use native.Mathlib.Omega.{arith}
-use lib.Dec.{eqb}
 use lib.ListN.{length}
 use borrow.Author.Needs.{needs}
-use Rattle.lists.proofs.Alls.{all-left, all-right}
-use Rattle.lists.proofs.Boards.{below-all, all-below}
-use Rattle.lists.proofs.Tests.{not-no}
-use Rattle.sizes.specs.declared.Refusal.the-variants.{Area}
 use Rattle.sizes.specs.declared.Check.the-variants.{Pass}
-use Rattle.sizes.specs.Sizing.{α}
-use Rattle.sizes.specs.Refusals.{Line, _when_}
-use Rattle.sizes.proofs.Legal.{legal-facts, α-most, stripes-least}
+use Rattle.sizes.proofs.Legal.{legal-facts}
+use Rattle.mbcr.specs.Share.{standard}
 use Rattle.own.proofs.Made.{below-more}
-use Rattle.board_statements.specs.Calls.{areaLine, nodeLine}
-use Rattle.store_statements.specs.Record.{Record}
-use Rattle.store_statements.specs.Calls.{recordLine, lentLine, emptyLine, downLine}
-use Rattle.store_statements.proofs.Records.{Sound, sound-facts, Repairs}
-use Rattle.checks.specs.Asked.{asked}
-use Rattle.checks.proofs.Answers.{passed}
-use Rattle.checks.proofs.Given.{few-bytes, no-points}
-use Rattle.repair_hear.proofs.Heard.{few-runs}
+use Rattle.store_spec.specs.Record.{Record}
+use Rattle.store_spec.specs.Calls.{refused, repairCall}
+use Rattle.store_spec.proofs.Records.{repair-facts}
+use Rattle.repair_check.proofs.Repairable.{Repairable, repairable}
 use Rattle.store.specs.Handing.{recordIn}
-use Rattle.store.proofs.Settled.{area-one}
-use Rattle.store.proofs.ReadCall.{length-most}
-use Rattle.store.proofs.RepairCall.{counts, counted, repeats, facts, repair-refuses, repair-works}
+use Rattle.store.proofs.RepairCall.{checked, repair-refuses, repair-works}
 use Rattle.store.proofs.Store.repair.Statement.{statement}
 use Rattle.store.proofs.Store.repair.Tie as tie
 
--- the record of the call
-abbrev R : tie.Start → Record
-R g = recordIn (g .args .self)
-
--- the lines in their order
-abbrev line-1 : tie.Start → Line
-line-1 g = recordLine (R g)
-
-abbrev line-2 : tie.Start → Line
-line-2 g = lentLine (R g) (length (g .args .area .now))
-
-abbrev line-3 : tie.Start → Line
-line-3 g = emptyLine (R g)
-
-abbrev line-4 : tie.Start → Line
-line-4 g = counts (R g) (g .args .area .now) (g .args .fresh .now) (g .args .helpers .now)
-
-abbrev line-5 : tie.Start → Line
-line-5 g = nodeLine (R g .sizes) (g .args .fresh .now ++ g .args .helpers .now)
-
-abbrev line-6 : tie.Start → Line
-line-6 g = repeats (R g) (g .args .area .now) (g .args .fresh .now) (g .args .helpers .now)
-
-abbrev line-7 : tie.Start → Line
-line-7 g = downLine (R g) (g .args .helpers .now)
-
--- what is known past each check
-record-on : (c : tie.After-enum-told) → asked (line-1 (c .before .before .before .before .before .before .before .before .before)) ≡ Pass
-record-on c = sym (c .before .before .check-record .ensures) ∙ c .enum-told .given .1
-
-sound-on : (c : tie.After-enum-told) → Sound (R (c .before .before .before .before .before .before .before .before .before))
-sound-on c = sound-facts _ (not-no _ (passed (line-1 (c .before .before .before .before .before .before .before .before .before)) (record-on c)))
-
--- the sizes are legal, so the answer of `share_len` is α
-row : (c : tie.After-share-len) → c .share-len .result ≡ α (R (c .before .before .before .before .before .before .before .before .before .before) .sizes)
-row c = c .share-len .ensures ∙ (rw (sound-on (c .before) .is-legal) refl)
-
-part-few : (c : tie.After-share-len) → R (c .before .before .before .before .before .before .before .before .before .before) .capacity * c .share-len .result ≤ 253952
-part-few c =
-    let s = R (c .before .before .before .before .before .before .before .before .before .before) in
-    let f = sound-on (c .before) in
-    few-bytes (s .capacity) (c .share-len .result) (α (s .sizes)) _ (f .cap-high) (c .share-len .ensures) (f .is-legal) (α-most _ (legal-facts _ (f .is-legal)))
-
-all-few : (c : tie.After-share-len) → R (c .before .before .before .before .before .before .before .before .before .before) .sizes .n * (R (c .before .before .before .before .before .before .before .before .before .before) .capacity * c .share-len .result) ≤ 8126464
-all-few c =
-    let p = mul-le-mul-right (R (c .before .before .before .before .before .before .before .before .before .before) .capacity * c .share-len .result) (legal-facts _ (sound-on (c .before) .is-legal) .few) in
-    omega (arith, p, part-few c)
-
--- the area's length as the call works it out
-lent-is : (c : tie.After-share-len) (m : ℕ) → asked (areaLine (eqb m (R (c .before .before .before .before .before .before .before .before .before .before) .sizes .n * (R (c .before .before .before .before .before .before .before .before .before .before) .capacity * c .share-len .result)) ∷ [])) ≡ asked (lentLine (R (c .before .before .before .before .before .before .before .before .before .before)) m)
-lent-is c m =
-    let s = R (c .before .before .before .before .before .before .before .before .before .before) in
-    area-one (eqb m (s .sizes .n * (s .capacity * c .share-len .result)))
-    ∙ ap (λ (v : ℕ). asked (Area when not (eqb m (s .sizes .n * (s .capacity * v))))) (row c)
-
-lent-on : (c : tie.After-enum-told2) → asked (line-2 (c .before .before .before .before .before .before .before .before .before .before .before .before .before .before)) ≡ Pass
-lent-on c = sym (lent-is (c .before .before .before .before) (length (c .before .before .before .before .before .before .before .before .before .before .before .before .before .before .args .area .now))) ∙ sym (c .before .before .check-lent .ensures) ∙ c .enum-told2 .given .1
-
-written-on : (c : tie.After-enum-told3) → asked (line-3 (c .before .before .before .before .before .before .before .before .before .before .before .before .before .before .before .before .before)) ≡ Pass
-written-on c = sym (c .before .before .check-written .ensures) ∙ c .enum-told3 .given .1
-
-count-on : (c : tie.After-enum-told4) → asked (line-4 (c .before .before .before .before .before .before .before .before .before .before .before .before .before .before .before .before .before .before .before .before .before)) ≡ Pass
-count-on c = sym (c .before .before .check-counts .ensures) ∙ c .enum-told4 .given .1
-
-nodes-on : (c : tie.After-enum-told5) → asked (line-5 (c .before .before .before .before .before .before .before .before .before .before .before .before .before .before .before .before .before .before .before .before .before .before .before .before)) ≡ Pass
-nodes-on c = sym (c .before .before .check-two-lists .ensures) ∙ c .enum-told5 .given .1
-
-repeat-on : (c : tie.After-enum-told6) → asked (line-6 (c .before .before .before .before .before .before .before .before .before .before .before .before .before .before .before .before .before .before .before .before .before .before .before .before .before .before .before)) ≡ Pass
-repeat-on c = sym (c .before .before .check-fresh .ensures) ∙ c .enum-told6 .given .1
-
-service-on : (c : tie.After-enum-told7) → asked (line-7 (c .before .before .before .before .before .before .before .before .before .before .before .before .before .before .before .before .before .before .before .before .before .before .before .before .before .before .before .before .before .before .before)) ≡ Pass
-service-on c = sym (c .before .before .check-service .ensures) ∙ c .enum-told7 .given .1
-
--- that those checks passed, before T
-abbrev Past-1 : tie.Start → Type 0 → Type 0
-Past-1 g T = (asked (line-1 g) ≡ Pass) × T
-
-abbrev Past-2 : tie.Start → Type 0 → Type 0
-Past-2 g T = Past-1 g ((asked (line-2 g) ≡ Pass) × T)
-
-abbrev Past-3 : tie.Start → Type 0 → Type 0
-Past-3 g T = Past-2 g ((asked (line-3 g) ≡ Pass) × T)
-
-abbrev Past-4 : tie.Start → Type 0 → Type 0
-Past-4 g T = Past-3 g ((asked (line-4 g) ≡ Pass) × T)
-
-abbrev Past-5 : tie.Start → Type 0 → Type 0
-Past-5 g T = Past-4 g ((asked (line-5 g) ≡ Pass) × T)
-
-abbrev Past-6 : tie.Start → Type 0 → Type 0
-Past-6 g T = Past-5 g ((asked (line-6 g) ≡ Pass) × T)
-
-abbrev Past-7 : tie.Start → Type 0 → Type 0
-Past-7 g T = Past-6 g ((asked (line-7 g) ≡ Pass) × T)
-
-past-1 : (c : tie.After-enum-told) (T : Type 0) → T → Past-1 (c .before .before .before .before .before .before .before .before .before) T
-past-1 c T t = (record-on c, t)
-
-past-2 : (c : tie.After-enum-told2) (T : Type 0) → T → Past-2 (c .before .before .before .before .before .before .before .before .before .before .before .before .before .before) T
-past-2 c T t = past-1 (c .before .before .before .before .before) ((asked (line-2 (c .before .before .before .before .before .before .before .before .before .before .before .before .before .before)) ≡ Pass) × T) (lent-on c, t)
-
-past-3 : (c : tie.After-enum-told3) (T : Type 0) → T → Past-3 (c .before .before .before .before .before .before .before .before .before .before .before .before .before .before .before .before .before) T
-past-3 c T t = past-2 (c .before .before .before) ((asked (line-3 (c .before .before .before .before .before .before .before .before .before .before .before .before .before .before .before .before .before)) ≡ Pass) × T) (written-on c, t)
-
-past-4 : (c : tie.After-enum-told4) (T : Type 0) → T → Past-4 (c .before .before .before .before .before .before .before .before .before .before .before .before .before .before .before .before .before .before .before .before .before) T
-past-4 c T t = past-3 (c .before .before .before .before) ((asked (line-4 (c .before .before .before .before .before .before .before .before .before .before .before .before .before .before .before .before .before .before .before .before .before)) ≡ Pass) × T) (count-on c, t)
-
-past-5 : (c : tie.After-enum-told5) (T : Type 0) → T → Past-5 (c .before .before .before .before .before .before .before .before .before .before .before .before .before .before .before .before .before .before .before .before .before .before .before .before) T
-past-5 c T t = past-4 (c .before .before .before) ((asked (line-5 (c .before .before .before .before .before .before .before .before .before .before .before .before .before .before .before .before .before .before .before .before .before .before .before .before)) ≡ Pass) × T) (nodes-on c, t)
-
-past-6 : (c : tie.After-enum-told6) (T : Type 0) → T → Past-6 (c .before .before .before .before .before .before .before .before .before .before .before .before .before .before .before .before .before .before .before .before .before .before .before .before .before .before .before) T
-past-6 c T t = past-5 (c .before .before .before) ((asked (line-6 (c .before .before .before .before .before .before .before .before .before .before .before .before .before .before .before .before .before .before .before .before .before .before .before .before .before .before .before)) ≡ Pass) × T) (repeat-on c, t)
-
-past-7 : (c : tie.After-enum-told7) (T : Type 0) → T → Past-7 (c .before .before .before .before .before .before .before .before .before .before .before .before .before .before .before .before .before .before .before .before .before .before .before .before .before .before .before .before .before .before .before) T
-past-7 c T t = past-6 (c .before .before .before .before) ((asked (line-7 (c .before .before .before .before .before .before .before .before .before .before .before .before .before .before .before .before .before .before .before .before .before .before .before .before .before .before .before .before .before .before .before)) ≡ Pass) × T) (service-on c, t)
-
--- what they say
-known : (c : tie.After-enum-told7) → Repairs (R (c .before .before .before .before .before .before .before .before .before .before .before .before .before .before .before .before .before .before .before .before .before .before .before .before .before .before .before .before .before .before .before)) (length (c .before .before .before .before .before .before .before .before .before .before .before .before .before .before .before .before .before .before .before .before .before .before .before .before .before .before .before .before .before .before .before .args .area .now)) (c .before .before .before .before .before .before .before .before .before .before .before .before .before .before .before .before .before .before .before .before .before .before .before .before .before .before .before .before .before .before .before .args .fresh .now) (c .before .before .before .before .before .before .before .before .before .before .before .before .before .before .before .before .before .before .before .before .before .before .before .before .before .before .before .before .before .before .before .args .helpers .now)
-known c = facts (R (c .before .before .before .before .before .before .before .before .before .before .before .before .before .before .before .before .before .before .before .before .before .before .before .before .before .before .before .before .before .before .before)) (c .before .before .before .before .before .before .before .before .before .before .before .before .before .before .before .before .before .before .before .before .before .before .before .before .before .before .before .before .before .before .before .args .area .now) (c .before .before .before .before .before .before .before .before .before .before .before .before .before .before .before .before .before .before .before .before .before .before .before .before .before .before .before .before .before .before .before .args .fresh .now) (c .before .before .before .before .before .before .before .before .before .before .before .before .before .before .before .before .before .before .before .before .before .before .before .before .before .before .before .before .before .before .before .args .helpers .now) (past-7 c _ tt)
-
-few-points : (c : tie.After-standard-points) → R (c .before .before .before .before .before .before .before .before .before .before .before .before .before .before .before .before .before .before .before .before .before .before .before .before .before .before .before .before .before .before .before .before) .sizes .n ≤ length (c .standard-points .result)
-few-points c =
-    let l : length (c .standard-points .result) ≡ 32 = ap length (c .standard-points .ensures) in
-    omega (arith, l, legal-facts _ (sound-on (c .before .before .before .before .before .before .before .before .before .before .before .before .before .before .before .before .before .before .before .before .before .before .before) .is-legal) .few)
-
-few-stripes : (c : tie.After-stripe-count) → c .stripe-count .result ≤ R (c .before .before .before .before .before .before .before .before .before .before .before .before .before .before .before .before .before .before .before .before .before .before .before .before .before .before .before .before .before .before .before .before .before .before .before .before .before .before .before .before) .capacity
-few-stripes c =
-    let s = R (c .before .before .before .before .before .before .before .before .before .before .before .before .before .before .before .before .before .before .before .before .before .before .before .before .before .before .before .before .before .before .before .before .before .before .before .before .before .before .before .before) in
-    let f = sound-on (c .before .before .before .before .before .before .before .before .before .before .before .before .before .before .before .before .before .before .before .before .before .before .before .before .before .before .before .before .before .before .before) in
-    omega (arith, c .stripe-count .ensures .0, stripes-least (s .sizes) (legal-facts _ (f .is-legal)) (s .length) (s .capacity) (f .fits))
-
--- the bytes moved are few
-moved-few : (c : tie.After-stripe-count) → c .stripe-count .result * R (c .before .before .before .before .before .before .before .before .before .before .before .before .before .before .before .before .before .before .before .before .before .before .before .before .before .before .before .before .before .before .before .before .before .before .before .before .before .before .before .before) .sizes .r ≤ 131072
-moved-few c =
-    let l = legal-facts _ (sound-on (c .before .before .before .before .before .before .before .before .before .before .before .before .before .before .before .before .before .before .before .before .before .before .before .before .before .before .before .before .before .before .before) .is-legal) in
-    let p = mul-le-mul-right (R (c .before .before .before .before .before .before .before .before .before .before .before .before .before .before .before .before .before .before .before .before .before .before .before .before .before .before .before .before .before .before .before .before .before .before .before .before .before .before .before .before) .sizes .r) (c .stripe-count .ensures .1) in
-    omega (arith, p, l .enough, l .few)
-
-slice-aggregate-check-record : tie.Need-slice-aggregate-check-record
-slice-aggregate-check-record c = search needs
-
-check-record-requires : tie.Need-check-record-requires
-check-record-requires c κs = search needs
-
-enum-known-x : tie.Need-enum-known-x
-enum-known-x c = search needs
-
-returns : tie.Need-returns
-returns c =
-    let g = c .before .before .before .before .before .before .before .before .before .before in
-    repair-refuses (R g) (g .args .area .now) (g .args .fresh .now) (g .args .helpers .now) 0 _ ((sym (c .before .before .before .check-record .ensures) ∙ c .before .x .given .1))
-
-enum-told : tie.Need-enum-told
-enum-told c = search needs
-
-share-len-requires : tie.Need-share-len-requires
-share-len-requires c κs = search needs
-
-mul-part-len : tie.Need-mul-part-len
-mul-part-len c = omega (arith, part-few c)
-
-mul-check-lent : tie.Need-mul-check-lent
-mul-check-lent c = omega (arith, all-few (c .before))
-
-check-lent-requires : tie.Need-check-lent-requires
-check-lent-requires c κs = search needs
-
-enum-known-x-2 : tie.Need-enum-known-x-2
-enum-known-x-2 c = search needs
-
-returns-2 : tie.Need-returns-2
-returns-2 c =
-    let g = c .before .before .before .before .before .before .before .before .before .before .before .before .before .before .before in
-    repair-refuses (R g) (g .args .area .now) (g .args .fresh .now) (g .args .helpers .now) 1 _ (past-1 (c .before .before .before .before .before .before) _ (sym (lent-is (c .before .before .before .before .before) (length (g .args .area .now))) ∙ sym (c .before .before .before .check-lent .ensures) ∙ c .before .x2 .given .1))
-
-enum-told-2 : tie.Need-enum-told-2
-enum-told-2 c = search needs
-
-check-written-requires : tie.Need-check-written-requires
-check-written-requires c κs = search needs
-
-enum-known-x-3 : tie.Need-enum-known-x-3
-enum-known-x-3 c = search needs
-
-returns-3 : tie.Need-returns-3
-returns-3 c =
-    let g = c .before .before .before .before .before .before .before .before .before .before .before .before .before .before .before .before .before .before in
-    repair-refuses (R g) (g .args .area .now) (g .args .fresh .now) (g .args .helpers .now) 2 _ (past-2 (c .before .before .before .before) _ (sym (c .before .before .before .check-written .ensures) ∙ c .before .x3 .given .1))
-
-enum-told-3 : tie.Need-enum-told-3
-enum-told-3 c = search needs
-
-mul-check-counts : tie.Need-mul-check-counts
-mul-check-counts c = omega (arith, few-runs (R (c .before .before .before .before .before .before .before .before .before .before .before .before .before .before .before .before .before .before) .sizes) (legal-facts _ (sound-on (c .before .before .before .before .before .before .before .before .before) .is-legal)))
-
-check-counts-requires : tie.Need-check-counts-requires
-check-counts-requires c κs = search needs
-
-enum-known-x-4 : tie.Need-enum-known-x-4
-enum-known-x-4 c = search needs
-
-returns-4 : tie.Need-returns-4
-returns-4 c =
-    let g = c .before .before .before .before .before .before .before .before .before .before .before .before .before .before .before .before .before .before .before .before .before .before in
-    repair-refuses (R g) (g .args .area .now) (g .args .fresh .now) (g .args .helpers .now) 3 _ (past-3 (c .before .before .before .before .before) _ (sym (c .before .before .before .check-counts .ensures) ∙ c .before .x4 .given .1))
-
-enum-told-4 : tie.Need-enum-told-4
-enum-told-4 c = search needs
-
-check-two-lists-requires : tie.Need-check-two-lists-requires
-check-two-lists-requires c κs = search needs
-
-enum-known-x-5 : tie.Need-enum-known-x-5
-enum-known-x-5 c = search needs
-
-returns-5 : tie.Need-returns-5
-returns-5 c =
-    let g = c .before .before .before .before .before .before .before .before .before .before .before .before .before .before .before .before .before .before .before .before .before .before .before .before .before in
-    repair-refuses (R g) (g .args .area .now) (g .args .fresh .now) (g .args .helpers .now) 4 _ (past-4 (c .before .before .before .before) _ (sym (c .before .before .before .check-two-lists .ensures) ∙ c .before .x5 .given .1))
-
-enum-told-5 : tie.Need-enum-told-5
-enum-told-5 c = search needs
-
-check-fresh-requires : tie.Need-check-fresh-requires
-check-fresh-requires c κs =
-    let g = c .before .before .before .before .before .before .before .before .before .before .before .before .before .before .before .before .before .before .before .before .before .before .before .before in
-    let e = counted (R g) (g .args .area .now) (g .args .fresh .now) (g .args .helpers .now) (count-on (c .before .before .before)) in
-    (e .1 ∙ ap (λ (m : ℕ). m * R g .sizes .d) (sym (e .0)), omega (arith, e .1, few-runs (R g .sizes) (legal-facts _ (sound-on (c .before .before .before .before .before .before .before .before .before .before .before .before .before .before .before) .is-legal))))
-
-enum-known-x-6 : tie.Need-enum-known-x-6
-enum-known-x-6 c = search needs
-
-returns-6 : tie.Need-returns-6
-returns-6 c =
-    let g = c .before .before .before .before .before .before .before .before .before .before .before .before .before .before .before .before .before .before .before .before .before .before .before .before .before .before .before .before in
-    repair-refuses (R g) (g .args .area .now) (g .args .fresh .now) (g .args .helpers .now) 5 _ (past-5 (c .before .before .before .before) _ (sym (c .before .before .before .check-fresh .ensures) ∙ c .before .x6 .given .1))
-
-enum-told-6 : tie.Need-enum-told-6
-enum-told-6 c = search needs
-
-slice-aggregate-check-service : tie.Need-slice-aggregate-check-service
-slice-aggregate-check-service c = slice-aggregate-check-record (c .before .before .before .before .before .before .before .before .before .before .before .before .before .before .before .before .before .before .before .before .before .before)
-
-check-service-requires : tie.Need-check-service-requires
-check-service-requires c κs = search needs
-
-enum-known-x-7 : tie.Need-enum-known-x-7
-enum-known-x-7 c = search needs
-
-returns-7 : tie.Need-returns-7
-returns-7 c =
-    let g = c .before .before .before .before .before .before .before .before .before .before .before .before .before .before .before .before .before .before .before .before .before .before .before .before .before .before .before .before .before .before .before .before in
-    repair-refuses (R g) (g .args .area .now) (g .args .fresh .now) (g .args .helpers .now) 6 _ (past-6 (c .before .before .before .before .before) _ (sym (c .before .before .before .check-service .ensures) ∙ c .before .x7 .given .1))
-
-enum-told-7 : tie.Need-enum-told-7
-enum-told-7 c = search needs
-
-standard-points-requires : tie.Need-standard-points-requires
-standard-points-requires c κs = search needs
-
-slice-aggregate-check-points : tie.Need-slice-aggregate-check-points
-slice-aggregate-check-points c = search needs
-
-check-points-requires : tie.Need-check-points-requires
-check-points-requires c κs = few-points (c .before)
-
-enum-known-x-8 : tie.Need-enum-known-x-8
-enum-known-x-8 c = search needs
-
-returns-8 : tie.Need-returns-8
-returns-8 c = absurd (no-points _ (R (c .before .before .before .before .before .before .before .before .before .before .before .before .before .before .before .before .before .before .before .before .before .before .before .before .before .before .before .before .before .before .before .before .before .before .before .before .before) .sizes .n) _ (c .before .before .before .before .before .standard-points .ensures) (sym (c .before .before .before .check-points .ensures) ∙ c .before .x8 .given .1))
-
-enum-told-8 : tie.Need-enum-told-8
-enum-told-8 c = search needs
-
-slice-aggregate-fill-inverses : tie.Need-slice-aggregate-fill-inverses
-slice-aggregate-fill-inverses c = search needs
-
-fill-inverses-requires : tie.Need-fill-inverses-requires
-fill-inverses-requires c κs = search needs
-
-stripe-count-requires : tie.Need-stripe-count-requires
-stripe-count-requires c κs = let f = sound-on (c .before .before .before .before .before .before .before .before .before .before .before .before .before .before .before .before .before .before .before .before .before .before .before .before .before .before .before .before .before .before) in (f .is-legal, length-most _ f)
-
-slice-aggregate-repair-shares : tie.Need-slice-aggregate-repair-shares
-slice-aggregate-repair-shares c = search needs
-
-slice-aggregate-repair-shares-2 : tie.Need-slice-aggregate-repair-shares-2
-slice-aggregate-repair-shares-2 c = search needs
-
-repair-shares-requires : tie.Need-repair-shares-requires
-repair-shares-requires c κs =
-    let g = c .before .before .before .before .before .before .before .before .before .before .before .before .before .before .before .before .before .before .before .before .before .before .before .before .before .before .before .before .before .before .before .before .before .before .before .before .before .before .before .before .before .before .before in
-    let f = sound-on (c .before .before .before .before .before .before .before .before .before .before .before .before .before .before .before .before .before .before .before .before .before .before .before .before .before .before .before .before .before .before .before .before .before .before) in
-    let k = known (c .before .before .before .before .before .before .before .before .before .before .before .before) in
-    let all = below-all (R g .sizes .n) (g .args .fresh .now ++ g .args .helpers .now) (k .named-below) in (
+-- the places
+abbrev at-points : tie.After-check-repair → tie.After-standard-points
+at-points c = c .before .before .before
+
+abbrev st : tie.After-check-repair → tie.Start
+st c = at-points c .before .before .before .before .before .before
+
+abbrev R : tie.After-check-repair → Record
+R c = recordIn (st c .args .self)
+
+abbrev at-told : tie.After-stripe-count → tie.After-enum-told
+at-told c = c .before .before .before .before
+
+abbrev at-count : tie.After-repair-shares-arg → tie.After-stripe-count
+at-count c = c .before .before .before .before
+
+abbrev at-shares : tie.After-marks3 → tie.After-repair-shares
+at-shares c = c .before .before .before
+
+-- what the check told
+passed : (c : tie.After-enum-told)
+    → let k = c .before .before in let a = st k .args in checked (R k) (a .area .now) (a .fresh .now) (a .helpers .now) ≡ Pass
+passed c = sym (c .before .before .check-repair .ensures) ∙ c .enum-told .given .1
+
+asks : (c : tie.After-enum-told)
+    → let k = c .before .before in let a = st k .args in Repairable (R k) (at-points k .standard-points .result) (length (a .area .now)) (a .fresh .now) (a .helpers .now)
+asks c =
+    let k = c .before .before in
+    let a = st k .args in
+    repairable (R k) _ _ (a .fresh .now) (a .helpers .now) (at-points k .standard-points .ensures) (repair-facts standard (R k) _ (a .fresh .now) (a .helpers .now) (passed c))
+
+-- the work
+shares-ask : tie.Need-repair-shares-requires
+shares-ask c κs =
+    let n = at-count c in
+    let f = asks (at-told n) in
+    let e = n .stripe-count .ensures .0 in (
       f .is-legal,
-      few-points (c .before .before .before .before .before .before .before .before .before .before .before),
-      c .before .before .before .before .before .fill-inverses .ensures,
-      k .fresh-count,
-      all-below (R g .sizes .n) (g .args .fresh .now) (all-left (λ x. x < R g .sizes .n) (g .args .fresh .now) (g .args .helpers .now) all),
-      k .helper-count,
-      all-below (R g .sizes .n) (g .args .helpers .now) (all-right (λ x. x < R g .sizes .n) (g .args .fresh .now) (g .args .helpers .now) all),
-      k .fresh-different,
-      k .none-fresh,
+      f .few-points,
+      n .before .before .fill-inverses .ensures,
+      f .fresh-count,
+      f .fresh-known,
+      f .helper-count,
+      f .helpers-known,
+      f .fresh-different,
+      f .none-fresh,
       f .cap-high,
-      few-stripes (c .before .before .before),
-      k .area-is,
+      rw e (f .few-stripes),
+      f .area-is,
     )
 
-slice-aggregate-marks-on : tie.Need-slice-aggregate-marks-on
-slice-aggregate-marks-on c = slice-aggregate-check-record (c .before .before .before .before .before .before .before .before .before .before .before .before .before .before .before .before .before .before .before .before .before .before .before .before .before .before .before .before .before .before .before .before .before .before .before .before .before .before .before .before .before)
+-- there are 32 marks
+marks-long : tie.Need-slice-aggregate-check-repair
+marks-long c = search needs
 
-marks-on-requires : tie.Need-marks-on-requires
-marks-on-requires c κs =
-    let g = c .before .before .before .before .before .before .before .before .before .before .before .before .before .before .before .before .before .before .before .before .before .before .before .before .before .before .before .before .before .before .before .before .before .before .before .before .before .before .before .before .before .before .before .before .before .before .before in
-    let k = known (c .before .before .before .before .before .before .before .before .before .before .before .before .before .before .before .before) in
-    let all = below-all (R g .sizes .n) (g .args .fresh .now ++ g .args .helpers .now) (k .named-below) in
-    below-more (R g .sizes .n) (length (g .args .self .marks)) (g .args .fresh .now) (omega (arith, slice-aggregate-check-record (c .before .before .before .before .before .before .before .before .before .before .before .before .before .before .before .before .before .before .before .before .before .before .before .before .before .before .before .before .before .before .before .before .before .before .before .before .before .before .before .before .before), legal-facts _ (sound-on (c .before .before .before .before .before .before .before .before .before .before .before .before .before .before .before .before .before .before .before .before .before .before .before .before .before .before .before .before .before .before .before .before .before .before .before .before .before .before) .is-legal) .few))
-    (all-below (R g .sizes .n) (g .args .fresh .now) (all-left (λ x. x < R g .sizes .n) (g .args .fresh .now) (g .args .helpers .now) all))
+marks-ask : tie.Need-marks-on-requires
+marks-ask c κs =
+    let t = at-told (at-count (at-shares c .before)) in
+    let k = t .before .before in
+    let f = asks t in
+    below-more (R k .sizes .n) (length (R k .marks)) (st k .args .fresh .now) (omega (arith, marks-long (k .before .before), legal-facts _ (f .is-legal) .few)) (f .fresh-known)
 
-mul-t26 : tie.Need-mul-t26
-mul-t26 c = omega (arith, moved-few (c .before .before .before .before .before .before .before .before .before .before))
+repair-done : tie.Need-returns-2
+repair-done c =
+    let m = c .before in
+    let w = at-shares (m .before) in
+    let n = at-count (w .before) in
+    let k = at-told n .before .before in
+    let a = st k .args in
+    repair-works (R k) (a .area .now) (a .fresh .now) (a .helpers .now) _ _ _ _ _ (passed (at-told n)) (at-points k .standard-points .ensures) (n .stripe-count .ensures .0)
+    (w .before .before .before .before .bytes-moved .ensures) (m .marks-on .ensures) (w .repair-shares .ensures)
 
-mul-t28 : tie.Need-mul-t28
-mul-t28 c = let f = legal-facts _ (sound-on (c .before .before .before .before .before .before .before .before .before .before .before .before .before .before .before .before .before .before .before .before .before .before .before .before .before .before .before .before .before .before .before .before .before .before .before .before .before .before .before .before .before .before) .is-legal) in omega (arith, f .some-fresh, f .enough, f .few)
-
-add-t33 : tie.Need-add-t33
-add-t33 c = let f = legal-facts _ (sound-on (c .before .before .before .before .before .before .before .before .before .before .before .before .before .before .before .before .before .before .before .before .before .before .before .before .before .before .before .before .before .before .before .before .before .before .before .before .before .before .before .before .before .before .before) .is-legal) in omega (arith, f .some-fresh, f .enough, f .few)
-
-sub-t61 : tie.Need-sub-t61
-sub-t61 c = let f = legal-facts _ (sound-on (c .before .before .before .before .before .before .before .before .before .before .before .before .before .before .before .before .before .before .before .before .before .before .before .before .before .before .before .before .before .before .before .before .before .before .before .before .before .before .before .before .before .before .before) .is-legal) in omega (arith, f .some-fresh, f .enough, f .few)
-
-mul-t62 : tie.Need-mul-t62
-mul-t62 c = let g = c .before .before .before .before .before .before .before .before .before .before .before .before .before .before .before .before .before .before .before .before .before .before .before .before .before .before .before .before .before .before .before .before .before .before .before .before .before .before .before .before .before .before .before .before .before .before .before .before .before .before .before .before in let w = mul-le-mul (moved-few (c .before .before .before .before .before .before .before .before .before .before .before .before)) (α-most (R g .sizes) (legal-facts _ (sound-on (c .before .before .before .before .before .before .before .before .before .before .before .before .before .before .before .before .before .before .before .before .before .before .before .before .before .before .before .before .before .before .before .before .before .before .before .before .before .before .before .before .before .before .before) .is-legal))) in omega (arith, w)
-
-same-length : tie.Need-same-length
-same-length c = search needs
-
-returns-9 : tie.Need-returns-9
-returns-9 c =
-    let g = c .before .before .before .before .before .before .before .before .before .before .before .before .before .before .before .before .before .before .before .before .before .before .before .before .before .before .before .before .before .before .before .before .before .before .before .before .before .before .before .before .before .before .before .before .before .before .before .before .before .before .before .before in
-    repair-works (R g) (g .args .area .now) (g .args .fresh .now) (g .args .helpers .now) _ _ _ _ (c .before .before .before .before .before .before .before .before .before .before .before .before .before .before .before .before .before .before .before .before .standard-points .ensures) (c .before .before .before .before .before .before .before .before .before .before .before .before .stripe-count .ensures .0) (past-7 (c .before .before .before .before .before .before .before .before .before .before .before .before .before .before .before .before .before .before .before .before .before) _ tt) (c .before .before .before .before .marks-on .ensures) (c .before .before .before .before .before .before .before .before .repair-shares .ensures)
+repair-refused : (c : tie.After-x)
+    → let k = c .before .before in let a = st k .args in refused (R k) (a .area .now) [] (c .x .given .0 .0) ≡ repairCall standard (R k) (a .area .now) (a .fresh .now) (a .helpers .now)
+repair-refused c =
+    let k = c .before .before in
+    let a = st k .args in
+    repair-refuses (R k) (a .area .now) (a .fresh .now) (a .helpers .now) (k .check-repair .ensures) (c .x .given .1)
 
 pub repair-spec : {M : Type 1} → statement M
 repair-spec =
     tie.close
     (tie.spec
-    slice-aggregate-check-record
-    check-record-requires
-    enum-known-x
-    returns
-    enum-told
-    share-len-requires
-    mul-part-len
-    mul-check-lent
-    check-lent-requires
-    enum-known-x-2
-    returns-2
-    enum-told-2
-    check-written-requires
-    enum-known-x-3
-    returns-3
-    enum-told-3
-    mul-check-counts
-    check-counts-requires
-    enum-known-x-4
-    returns-4
-    enum-told-4
-    check-two-lists-requires
-    enum-known-x-5
-    returns-5
-    enum-told-5
-    check-fresh-requires
-    enum-known-x-6
-    returns-6
-    enum-told-6
-    slice-aggregate-check-service
-    check-service-requires
-    enum-known-x-7
-    returns-7
-    enum-told-7
-    standard-points-requires
-    slice-aggregate-check-points
-    check-points-requires
-    enum-known-x-8
-    returns-8
-    enum-told-8
-    slice-aggregate-fill-inverses
-    fill-inverses-requires
-    stripe-count-requires
-    slice-aggregate-repair-shares
-    slice-aggregate-repair-shares-2
-    repair-shares-requires
-    slice-aggregate-marks-on
-    marks-on-requires
-    mul-t26
-    mul-t28
-    add-t33
-    sub-t61
-    mul-t62
-    same-length
-    returns-9)
+    (λ c κs. search needs)
+    marks-long
+    (λ c. search needs)
+    (λ c κs. search needs)
+    (λ c. search needs)
+    (λ c κs. search needs)
+    (λ c. c .refuse .ensures _ [] ∙ repair-refused (c .before .before))
+    (λ c. search needs)
+    (λ c. search needs)
+    (λ c κs. search needs)
+    (λ c κs. let f = asks (c .before .before .before) in (f .is-legal, f .not-long))
+    (λ c κs. (asks (at-told c) .is-legal, c .stripe-count .ensures .1))
+    (λ c. search needs)
+    (λ c. search needs)
+    shares-ask
+    (λ c. marks-long (at-told (at-count (at-shares c .before)) .before .before .before .before))
+    marks-ask
+    (λ c. search needs)
+    repair-done)

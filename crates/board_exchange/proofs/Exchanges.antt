@@ -1,0 +1,68 @@
+-- An exchange packet: what it says of the call that its check passes, and what the call answers where it refuses and where it passes.
+-- Assumes nothing.
+use Prim.Native.Nat.{ℕ, _*_, _≤_, _<_}
+use mathlib.Core.Path.{_≡_, ap, ap₂, _∙_}
+use mathlib.Core.Bool.{true}
+use mathlib.Core.List.{List, [], _∷_, _++_}
+use borrow.Author.Tests.{ltb-false, eqb-true}
+use lib.Dec.{eqb}
+use lib.ListN.{length, drop}
+use Rattle.lists.specs.Tests.{below}
+use Rattle.lists.proofs.Tests.{not-no, alls-hold}
+use Rattle.lists.proofs.Boards.{below-all, all-below}
+use Rattle.sizes.specs.declared.Sizes.{Sizes}
+use Rattle.sizes.specs.declared.Refusal.{Refusal}
+use Rattle.sizes.specs.declared.Check.{Check}
+use Rattle.sizes.specs.declared.Check.the-variants.{Pass, Refuse}
+use Rattle.sizes.specs.declared.Answer.the-variants.{Done, Refused}
+use Rattle.sizes.specs.Refusals.{first, boardOrder}
+use Rattle.sizes.specs.Sizing.{maxStripes, legal, B, stripes}
+use Rattle.sizes.proofs.Lines.{first-clear}
+use Rattle.mbcr.specs.Rebuild.{exchangePacket}
+use Rattle.mbcr.proofs.Repair.{length-exchange}
+use Rattle.board_spec.specs.Calls.{exchangeLines, exchangeCall}
+use Rattle.checks.specs.Outcomes.{outcome}
+use Rattle.checks.proofs.Facts.{refused-by, done-by}
+
+pub record Exchanges (z : Sizes) (L : ℕ) (helpers packets : List ℕ) (receiver : ℕ) (output : List ℕ) : Type 0 where
+  pub is-legal : legal z ≡ true
+  pub not-long : L ≤ maxStripes * B z
+  pub enough : length helpers ≡ z .d
+  pub known : below (z .n) helpers ≡ true
+  pub receiver-known : receiver < z .n
+  pub packets-are : length packets ≡ z .d * (2 * stripes z L)
+  pub room : stripes z L ≤ length output
+
+module _ (z : Sizes) (xs : List ℕ) (L board : ℕ) (helpers packets : List ℕ) (receiver : ℕ) (output : List ℕ) where
+  abbrev pub checked : Check
+  checked = first boardOrder (exchangeLines z xs L board helpers packets receiver output)
+
+  pub exchanges : checked ≡ Pass → Exchanges z L helpers packets receiver output
+  unfolding exchangeLines
+  exchanges h =
+      let e = first-clear (exchangeLines z xs L board helpers packets receiver output) boardOrder h in
+      let k = e .1 .1 in
+      let known = below-all (z .n) (board ∷ receiver ∷ helpers) (not-no _ (k .1 .0)) in
+      record {
+        is-legal = not-no _ (e .0);
+        not-long = ltb-false _ _ (e .1 .0);
+        enough = eqb-true _ _ (alls-hold (eqb (length helpers) (z .d) ∷ []) (not-no _ (k .0)) .0);
+        known = all-below (z .n) helpers (known .1 .1);
+        receiver-known = known .1 .0;
+        packets-are = eqb-true _ _ (alls-hold (eqb (length packets) (z .d * (2 * stripes z L)) ∷ []) (not-no _ (k .1 .1 .1 .0)) .0);
+        room = ltb-false _ _ (k .1 .1 .1 .1 .0);
+      }
+
+  pub exchange-refuses : {x : Refusal} → checked ≡ Refuse x → outcome (Refused x) output ≡ exchangeCall z xs L board helpers packets receiver output
+  unfolding exchangeCall
+  exchange-refuses e = refused-by (exchangePacket z xs (stripes z L) helpers packets receiver) output e
+
+  pub exchange-works : (points written : List ℕ) (s : ℕ) → checked ≡ Pass → points ≡ xs → s ≡ stripes z L
+      → written ≡ exchangePacket z points s helpers packets receiver ++ drop s output
+      → outcome (Done s) written ≡ exchangeCall z xs L board helpers packets receiver output
+  unfolding exchangeCall
+  exchange-works points written s p same many e =
+      ap (λ (m : ℕ). outcome (Done m) written) many
+      ∙ done-by (exchangePacket z xs (stripes z L) helpers packets receiver) output written (stripes z L) p
+      (length-exchange z xs (stripes z L) helpers packets receiver)
+      (e ∙ ap₂ (λ (ys : List ℕ) (m : ℕ). exchangePacket z ys m helpers packets receiver ++ drop m output) same many)

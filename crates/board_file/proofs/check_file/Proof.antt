@@ -1,0 +1,268 @@
+-- `board_file::check_file` meets its contract: each early return is the first line that holds.
+-- Assumes nothing.
+use Prim.Native.Nat.{ℕ, _*_, _≤_}
+use mathlib.Core.Path.{_≡_, sym, ap, _∙_}
+use mathlib.Core.Bool.{not}
+use mathlib.Core.List.{List, [], _∷_}
+use native.Mathlib.Nat.{mul-le-mul-right}
+use native.Mathlib.Omega.{arith}
+use lib.Dec.{eqb}
+use lib.ListN.{length, take}
+use borrow.Author.Needs.{needs}
+use Rattle.lists.specs.Tests.{different, given}
+use Rattle.sizes.specs.declared.Refusal.the-variants.{Disagree, Points}
+use Rattle.sizes.specs.declared.Check.{Check}
+use Rattle.sizes.specs.declared.Check.the-variants.{Refuse}
+use Rattle.sizes.specs.Sizing.{α, stripes}
+use Rattle.sizes.specs.Refusals.{Line, _when_, first, boardOrder}
+use Rattle.sizes.proofs.Legal.{legal-facts, α-most}
+use Rattle.mbcr.specs.Share.{standard}
+use Rattle.mbcr.specs.Read.{readFile}
+use Rattle.mbcr.proofs.Points.{standard-points}
+use Rattle.board_spec.specs.Calls.{countLine, nodeLine, repeatLine, areaLine, shortLine, equalPoints, readRuns, fileLines}
+use Rattle.checks.specs.Steps.{asked, statedLines}
+use Rattle.checks.proofs.Chain.{thens, grouped, goes-on, refuses, ends}
+use Rattle.checks.proofs.Facts.{Stated, stated-facts}
+use Rattle.checks.proofs.Given.{as-many, few-bytes}
+use Rattle.board_file.proofs.FileCall.{Readable, readable, points-line}
+use Rattle.board_file.proofs.check_file.Statement.{statement}
+use Rattle.board_file.proofs.check_file.Tie as tie
+
+-- the lines of one test
+abbrev count-line : tie.Start → Line
+count-line g = countLine (eqb (length (g .args .boards .now)) (g .args .sizes .k) ∷ [])
+
+abbrev area-line : tie.Start → Line
+area-line g = let z = g .args .sizes in areaLine (eqb (length (g .args .held .now)) (z .k * (stripes z (g .args .len) * α z)) ∷ [])
+
+abbrev agree-line : tie.Start → List ℕ → Line
+agree-line g xs = Disagree when not (given (readFile (g .args .sizes) xs (g .args .len) (g .args .boards .now) (g .args .held .now)))
+
+abbrev points-are : tie.Start → Line
+points-are g = Points when equalPoints standard (readRuns (g .args .sizes) (g .args .boards .now))
+
+-- the lines that each check asks, and those after it
+abbrev agrees : tie.Start → List (List Line)
+agrees g = (agree-line g standard ∷ []) ∷ (points-are g ∷ []) ∷ []
+
+abbrev shorts : tie.Start → List (List Line)
+shorts g = (shortLine (g .args .out .now) (g .args .len) ∷ []) ∷ agrees g
+
+abbrev areas : tie.Start → List (List Line)
+areas g = (area-line g ∷ []) ∷ shorts g
+
+abbrev repeats : tie.Start → List (List Line)
+repeats g = (repeatLine (g .args .boards .now) ∷ []) ∷ areas g
+
+abbrev nodes : tie.Start → List (List Line)
+nodes g = (nodeLine (g .args .sizes) (g .args .boards .now) ∷ []) ∷ repeats g
+
+abbrev counts : tie.Start → List (List Line)
+counts g = (count-line g ∷ []) ∷ nodes g
+
+abbrev all : tie.Start → List (List Line)
+all g = statedLines (g .args .sizes) (g .args .len) ∷ counts g
+
+abbrev answer : tie.Start → Check
+answer g = first boardOrder (fileLines (g .args .sizes) standard (g .args .len) (g .args .boards .now) (g .args .held .now) (g .args .out .now))
+
+whole : (g : tie.Start) → thens (all g) ≡ answer g
+unfolding fileLines
+whole g = grouped (all g)
+
+-- 1 SIZE, 3 LONG
+abbrev st-stated : tie.After-check-stated → tie.Start
+st-stated c = c .before .before .before .before .before .before
+
+no-stated : (c : tie.After-stated) → Refuse (c .stated .given .0 .0) ≡ answer (st-stated (c .before .before))
+no-stated c = let k = c .before .before in refuses _ (whole (st-stated k)) (k .check-stated .ensures) (c .stated .given .1)
+
+-- 4 COUNT
+abbrev at-stated : tie.After-check-count → tie.After-check-stated
+at-stated c = c .before .before .before
+
+abbrev st-count : tie.After-check-count → tie.Start
+st-count c = st-stated (at-stated c)
+
+on-count : (c : tie.After-check-count) → thens (counts (st-count c)) ≡ answer (st-count c)
+on-count c = goes-on (whole (st-count c)) (at-stated c .check-stated .ensures) (c .before .enum-told .given .1)
+
+no-count : (c : tie.After-miscounted) → Refuse (c .miscounted .given .0 .0) ≡ answer (st-count (c .before .before))
+no-count c = let k = c .before .before in refuses _ (on-count k) (k .check-count .ensures) (c .miscounted .given .1)
+
+-- 5 NODE
+abbrev at-count : tie.After-check-nodes → tie.After-check-count
+at-count c = c .before .before .before
+
+abbrev st-nodes : tie.After-check-nodes → tie.Start
+st-nodes c = st-count (at-count c)
+
+on-nodes : (c : tie.After-check-nodes) → thens (nodes (st-nodes c)) ≡ answer (st-nodes c)
+on-nodes c = let k = at-count c in goes-on (on-count k) (k .check-count .ensures) (c .before .enum-told2 .given .1)
+
+no-nodes : (c : tie.After-named) → Refuse (c .named .given .0 .0) ≡ answer (st-nodes (c .before .before))
+no-nodes c = let k = c .before .before in refuses _ (on-nodes k) (k .check-nodes .ensures) (c .named .given .1)
+
+-- 6 REPEAT
+abbrev at-nodes : tie.After-check-repeat → tie.After-check-nodes
+at-nodes c = c .before .before .before
+
+abbrev st-repeat : tie.After-check-repeat → tie.Start
+st-repeat c = st-nodes (at-nodes c)
+
+on-repeat : (c : tie.After-check-repeat) → thens (repeats (st-repeat c)) ≡ answer (st-repeat c)
+on-repeat c = let k = at-nodes c in goes-on (on-nodes k) (k .check-nodes .ensures) (c .before .enum-told3 .given .1)
+
+no-repeat : (c : tie.After-repeated) → Refuse (c .repeated .given .0 .0) ≡ answer (st-repeat (c .before .before))
+no-repeat c = let k = c .before .before in refuses _ (on-repeat k) (k .check-repeat .ensures) (c .repeated .given .1)
+
+stated-on : (c : tie.After-check-repeat) → Stated (st-repeat c .args .sizes) (st-repeat c .args .len)
+stated-on c =
+    let k = at-count (at-nodes c) in
+    stated-facts _ _ (sym (at-stated k .check-stated .ensures) ∙ k .before .enum-told .given .1)
+
+-- 2 AREA
+abbrev at-repeat : tie.After-share-len → tie.After-check-repeat
+at-repeat c = c .before .before .before .before
+
+abbrev st-area : tie.After-share-len → tie.Start
+st-area c = st-repeat (at-repeat c)
+
+on-area : (c : tie.After-share-len) → thens (areas (st-area c)) ≡ answer (st-area c)
+on-area c = let k = at-repeat c in goes-on (on-repeat k) (k .check-repeat .ensures) (c .before .before .enum-told4 .given .1)
+
+few : (c : tie.After-share-len) → c .before .stripe-count .result * c .share-len .result ≤ 253952
+few c =
+    let ok = stated-on (at-repeat c) .is-legal in
+    few-bytes _ (c .share-len .result) _ _ (c .before .stripe-count .ensures .1) (c .share-len .ensures) ok (α-most _ (legal-facts _ ok))
+
+all-few : (c : tie.After-share-len) → st-area c .args .sizes .k * (c .before .stripe-count .result * c .share-len .result) ≤ 8126464
+all-few c =
+    let f = legal-facts _ (stated-on (at-repeat c) .is-legal) in
+    let q = c .before .stripe-count .result * c .share-len .result in
+    let most : st-area c .args .sizes .k * q ≤ 32 * q = mul-le-mul-right q (omega (arith, f .read-helpers, f .enough, f .few)) in
+    omega (arith, few c, most)
+
+abbrev at-len : tie.After-check-lent → tie.After-share-len
+at-len c = c .before .before
+
+is-area : (c : tie.After-check-lent) → c .check-lent .result ≡ asked (area-line (st-area (at-len c)))
+is-area c =
+    let k = at-len c in
+    let a = st-area k .args in
+    let many = as-many _ (k .share-len .result) _ _ _ (k .before .stripe-count .ensures .0) (k .share-len .ensures) (stated-on (at-repeat k) .is-legal) in
+    c .check-lent .ensures ∙ ap (λ (m : ℕ). asked (areaLine (eqb (length (a .held .now)) (a .sizes .k * m) ∷ []))) many
+
+no-area : (c : tie.After-lent) → Refuse (c .lent .given .0 .0) ≡ answer (st-area (at-len (c .before .before)))
+no-area c = let k = c .before .before in refuses _ (on-area (at-len k)) (is-area k) (c .lent .given .1)
+
+-- 7 SHORT
+abbrev at-area : tie.After-check-room → tie.After-check-lent
+at-area c = c .before .before .before
+
+abbrev st-short : tie.After-check-room → tie.Start
+st-short c = st-area (at-len (at-area c))
+
+on-short : (c : tie.After-check-room) → thens (shorts (st-short c)) ≡ answer (st-short c)
+on-short c = let k = at-area c in goes-on (on-area (at-len k)) (is-area k) (c .before .enum-told5 .given .1)
+
+no-short : (c : tie.After-short) → Refuse (c .short .given .0 .0) ≡ answer (st-short (c .before .before))
+no-short c = let k = c .before .before in refuses _ (on-short k) (k .check-room .ensures) (c .short .given .1)
+
+-- what the checks so far told
+readable-on : (c : tie.After-check-room) → let a = st-short c .args in Readable (a .sizes) (a .len) (a .boards .now) (length (a .held .now))
+readable-on c =
+    let l = at-len (at-area c) in
+    let r = at-repeat l in
+    let n = at-nodes r in
+    let k = at-count n in
+    readable _ _ _ _ (stated-on r) (sym (k .check-count .ensures) ∙ n .before .enum-told2 .given .1) (sym (n .check-nodes .ensures) ∙ r .before .enum-told3 .given .1)
+    (sym (r .check-repeat .ensures) ∙ l .before .before .enum-told4 .given .1) (sym (is-area (at-area c)) ∙ c .before .enum-told5 .given .1)
+
+few-points : (c : tie.After-check-room) → st-short c .args .sizes .n ≤ length (st-short c .args .points .now)
+few-points c =
+    let l : length (st-short c .args .points .now) ≡ 32 = ap length (st-short c .pre .points-are) in
+    omega (arith, l, legal-facts _ (readable-on c .stated .is-legal) .few)
+
+-- 10 DISAGREE
+abbrev at-room : tie.After-check-agrees → tie.After-check-room
+at-room c = c .before .before .before
+
+abbrev st-agrees : tie.After-check-agrees → tie.Start
+st-agrees c = st-short (at-room c)
+
+on-agrees : (c : tie.After-check-agrees) → thens (agrees (st-agrees c)) ≡ answer (st-agrees c)
+on-agrees c = let k = at-room c in goes-on (on-short k) (k .check-room .ensures) (c .before .enum-told6 .given .1)
+
+is-agrees : (c : tie.After-check-agrees) → c .check-agrees .result ≡ asked (agree-line (st-agrees c) standard)
+is-agrees c = let g = st-agrees c in c .check-agrees .ensures ∙ ap (λ (xs : List ℕ). asked (agree-line g xs)) (g .pre .points-are)
+
+no-agrees : (c : tie.After-disagree) → Refuse (c .disagree .given .0 .0) ≡ answer (st-agrees (c .before .before))
+no-agrees c = let k = c .before .before in refuses _ (on-agrees k) (is-agrees k) (c .disagree .given .1)
+
+agrees-ask : tie.Need-check-agrees-requires
+agrees-ask c κs =
+    let k = c .before .before in
+    let n = at-len (at-area k) .before in
+    let f = readable-on k in
+    let e = n .stripe-count .ensures .0 in
+    (f .stated .is-legal, few-points k, st-short k .pre .inverses-are, f .enough, f .known, n .stripe-count .ensures .1, e, rw e (f .held-is))
+
+-- 11 POINTS
+abbrev at-agrees : tie.After-check-points → tie.After-check-agrees
+at-agrees c = c .before .before .before
+
+abbrev st-points : tie.After-check-points → tie.Start
+st-points c = st-agrees (at-agrees c)
+
+on-points : (c : tie.After-check-points) → thens ((points-are (st-points c) ∷ []) ∷ []) ≡ answer (st-points c)
+on-points c = let k = at-agrees c in goes-on (on-agrees k) (is-agrees k) (c .before .enum-told7 .given .1)
+
+is-points : (c : tie.After-check-points) → c .check-points .result ≡ asked (points-are (st-points c))
+is-points c =
+    let g = st-points c in
+    let z = g .args .sizes in
+    let f = readable-on (at-room (at-agrees c)) in
+    let low = legal-facts z (f .stated .is-legal) .few in
+    c .check-points .ensures
+    ∙ ap (λ (xs : List ℕ). asked (Points when not (different (take (z .n) xs)))) (g .pre .points-are)
+    ∙ points-line z standard (standard-points z low) low (g .args .boards .now) (f .stated .is-legal) (f .known) (f .all-different)
+
+pub check-file-spec : {M : Type 1} → statement M
+check-file-spec =
+    tie.close
+    (tie.spec
+    (λ c κs. search needs)
+    (λ c. search needs)
+    (λ c. no-stated (c .before))
+    (λ c. search needs)
+    (λ c κs. search needs)
+    (λ c. search needs)
+    (λ c. no-count (c .before))
+    (λ c. search needs)
+    (λ c κs. search needs)
+    (λ c. search needs)
+    (λ c. no-nodes (c .before))
+    (λ c. search needs)
+    (λ c κs. search needs)
+    (λ c. search needs)
+    (λ c. no-repeat (c .before))
+    (λ c. search needs)
+    (λ c κs. let f = stated-on (c .before .before) in (f .is-legal, f .not-long))
+    (λ c κs. search needs)
+    (λ c. omega (arith, few c))
+    (λ c. omega (arith, all-few (c .before)))
+    (λ c κs. search needs)
+    (λ c. search needs)
+    (λ c. no-area (c .before))
+    (λ c. search needs)
+    (λ c κs. search needs)
+    (λ c. search needs)
+    (λ c. no-short (c .before))
+    (λ c. search needs)
+    agrees-ask
+    (λ c. search needs)
+    (λ c. no-agrees (c .before))
+    (λ c. search needs)
+    (λ c κs. few-points (at-room (c .before .before)))
+    (λ c. ends (on-points c) (is-points c)))

@@ -1,0 +1,80 @@
+-- A finished share: what it says of the call that its check passes, and what the call answers where it refuses and where it passes.
+-- Assumes nothing.
+use Prim.Native.Nat.{ℕ, _-_, _*_, _≤_, _<_}
+use mathlib.Core.Path.{_≡_, ap, ap₂, _∙_}
+use mathlib.Core.Bool.{true}
+use mathlib.Core.List.{List, [], _∷_, _++_}
+use borrow.Author.Tests.{ltb-false, eqb-true}
+use lib.Dec.{eqb}
+use lib.ListN.{length, drop}
+use Rattle.lists.specs.Tests.{below}
+use Rattle.lists.proofs.Tests.{not-no, alls-hold}
+use Rattle.lists.proofs.Alls.{all-left, all-right}
+use Rattle.lists.proofs.Boards.{below-all, all-below}
+use Rattle.sizes.specs.declared.Sizes.{Sizes}
+use Rattle.sizes.specs.declared.Refusal.{Refusal}
+use Rattle.sizes.specs.declared.Check.{Check}
+use Rattle.sizes.specs.declared.Check.the-variants.{Pass, Refuse}
+use Rattle.sizes.specs.declared.Answer.the-variants.{Done, Refused}
+use Rattle.sizes.specs.Refusals.{first, boardOrder}
+use Rattle.sizes.specs.Sizing.{maxStripes, legal, α, B, stripes}
+use Rattle.sizes.proofs.Lines.{first-clear}
+use Rattle.sizes.proofs.Legal.{legal-facts}
+use Rattle.mbcr.specs.Rebuild.{finishedShare}
+use Rattle.mbcr.proofs.Repair.{length-finished}
+use Rattle.board_spec.specs.Calls.{finishedLines, finishedCall}
+use Rattle.checks.specs.Outcomes.{outcome}
+use Rattle.checks.proofs.Facts.{refused-by, done-by}
+
+pub record Finishes (z : Sizes) (L board : ℕ) (helpers packets partners exchanges output : List ℕ) : Type 0 where
+  pub is-legal : legal z ≡ true
+  pub not-long : L ≤ maxStripes * B z
+  pub helpers-enough : length helpers ≡ z .d
+  pub partners-enough : length partners ≡ z .r - 1
+  pub helpers-known : below (z .n) helpers ≡ true
+  pub partners-known : below (z .n) partners ≡ true
+  pub board-known : board < z .n
+  pub packets-are : length packets ≡ z .d * (2 * stripes z L)
+  pub exchanges-are : length exchanges ≡ (z .r - 1) * stripes z L
+  pub room : stripes z L * α z ≤ length output
+
+module _ (z : Sizes) (xs : List ℕ) (L board : ℕ) (helpers packets partners exchanges output : List ℕ) where
+  abbrev pub checked : Check
+  checked = first boardOrder (finishedLines z xs L board helpers packets partners exchanges output)
+
+  pub finishes : checked ≡ Pass → Finishes z L board helpers packets partners exchanges output
+  unfolding finishedLines
+  finishes h =
+      let e = first-clear (finishedLines z xs L board helpers packets partners exchanges output) boardOrder h in
+      let k = e .1 .1 in
+      let counts = alls-hold (eqb (length helpers) (z .d) ∷ eqb (length partners) (z .r - 1) ∷ []) (not-no _ (k .0)) in
+      let known = below-all (z .n) (helpers ++ partners ++ (board ∷ [])) (not-no _ (k .1 .0)) in
+      let others = all-left (λ i. i < z .n) (helpers ++ partners) (board ∷ []) known in
+      let lents = eqb (length packets) (z .d * (2 * stripes z L)) ∷ eqb (length exchanges) ((z .r - 1) * stripes z L) ∷ [] in
+      let lengths = alls-hold lents (not-no _ (k .1 .1 .1 .0)) in
+      record {
+        is-legal = not-no _ (e .0);
+        not-long = ltb-false _ _ (e .1 .0);
+        helpers-enough = eqb-true _ _ (counts .0);
+        partners-enough = eqb-true _ _ (counts .1 .0);
+        helpers-known = all-below (z .n) helpers (all-left (λ i. i < z .n) helpers partners others);
+        partners-known = all-below (z .n) partners (all-right (λ i. i < z .n) helpers partners others);
+        board-known = all-right (λ i. i < z .n) (helpers ++ partners) (board ∷ []) known .0;
+        packets-are = eqb-true _ _ (lengths .0);
+        exchanges-are = eqb-true _ _ (lengths .1 .0);
+        room = ltb-false _ _ (k .1 .1 .1 .1 .0);
+      }
+
+  pub finish-refuses : {x : Refusal} → checked ≡ Refuse x → outcome (Refused x) output ≡ finishedCall z xs L board helpers packets partners exchanges output
+  unfolding finishedCall
+  finish-refuses e = refused-by (finishedShare z xs (stripes z L) board helpers packets partners exchanges) output e
+
+  pub finish-works : (points written : List ℕ) (s count : ℕ) → checked ≡ Pass → points ≡ xs → s ≡ stripes z L → count ≡ stripes z L * α z
+      → written ≡ finishedShare z points s board helpers packets partners exchanges ++ drop (s * α z) output
+      → outcome (Done count) written ≡ finishedCall z xs L board helpers packets partners exchanges output
+  unfolding finishedCall
+  finish-works points written s count p same many total e =
+      ap (λ (m : ℕ). outcome (Done m) written) total
+      ∙ done-by (finishedShare z xs (stripes z L) board helpers packets partners exchanges) output written (stripes z L * α z) p
+      (length-finished z xs (legal-facts z (finishes p .is-legal)) (stripes z L) board helpers packets partners exchanges)
+      (e ∙ ap₂ (λ (ys : List ℕ) (m : ℕ). finishedShare z ys m board helpers packets partners exchanges ++ drop (m * α z) output) same many)

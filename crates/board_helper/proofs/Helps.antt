@@ -1,0 +1,65 @@
+-- A helper packet: what it says of the call that its check passes, and what the call answers where it refuses and where it passes.
+-- Assumes nothing.
+use Prim.Native.Nat.{ℕ, _*_, _≤_, _<_}
+use mathlib.Core.Path.{_≡_, ap, ap₂, _∙_}
+use mathlib.Core.Bool.{true}
+use mathlib.Core.List.{List, [], _∷_, _++_}
+use borrow.Author.Tests.{ltb-false, eqb-true}
+use lib.Dec.{eqb}
+use lib.ListN.{length, drop}
+use Rattle.lists.proofs.Tests.{not-no, alls-hold}
+use Rattle.lists.proofs.Boards.{below-all}
+use Rattle.sizes.specs.declared.Sizes.{Sizes}
+use Rattle.sizes.specs.declared.Refusal.{Refusal}
+use Rattle.sizes.specs.declared.Check.{Check}
+use Rattle.sizes.specs.declared.Check.the-variants.{Pass, Refuse}
+use Rattle.sizes.specs.declared.Answer.the-variants.{Done, Refused}
+use Rattle.sizes.specs.Refusals.{first, boardOrder}
+use Rattle.sizes.specs.Sizing.{maxStripes, legal, α, B, stripes}
+use Rattle.sizes.proofs.Lines.{first-clear}
+use Rattle.mbcr.specs.Rebuild.{helperPacket}
+use Rattle.mbcr.proofs.Repair.{length-packet}
+use Rattle.board_spec.specs.Calls.{helperLines, helperCall}
+use Rattle.checks.specs.Outcomes.{outcome}
+use Rattle.checks.proofs.Facts.{refused-by, done-by}
+
+pub record Helps (z : Sizes) (L helper receiver : ℕ) (held output : List ℕ) : Type 0 where
+  pub is-legal : legal z ≡ true
+  pub not-long : L ≤ maxStripes * B z
+  pub helper-known : helper < z .n
+  pub receiver-known : receiver < z .n
+  pub held-is : length held ≡ stripes z L * α z
+  pub room : 2 * stripes z L ≤ length output
+
+module _ (z : Sizes) (xs : List ℕ) (L helper receiver : ℕ) (held output : List ℕ) where
+  abbrev pub checked : Check
+  checked = first boardOrder (helperLines z xs L helper receiver held output)
+
+  pub helps : checked ≡ Pass → Helps z L helper receiver held output
+  unfolding helperLines
+  helps h =
+      let e = first-clear (helperLines z xs L helper receiver held output) boardOrder h in
+      let k = e .1 .1 .1 in
+      let known = below-all (z .n) (helper ∷ receiver ∷ []) (not-no _ (k .0)) in
+      record {
+        is-legal = not-no _ (e .0);
+        not-long = ltb-false _ _ (e .1 .0);
+        helper-known = known .0;
+        receiver-known = known .1 .0;
+        held-is = eqb-true _ _ (alls-hold (eqb (length held) (stripes z L * α z) ∷ []) (not-no _ (k .1 .1 .0)) .0);
+        room = ltb-false _ _ (k .1 .1 .1 .0);
+      }
+
+  pub helper-refuses : {x : Refusal} → checked ≡ Refuse x → outcome (Refused x) output ≡ helperCall z xs L helper receiver held output
+  unfolding helperCall
+  helper-refuses e = refused-by (helperPacket z xs (stripes z L) helper receiver held) output e
+
+  pub helper-works : (points written : List ℕ) (s : ℕ) → checked ≡ Pass → points ≡ xs → s ≡ stripes z L
+      → written ≡ helperPacket z points s helper receiver held ++ drop (2 * s) output
+      → outcome (Done (2 * s)) written ≡ helperCall z xs L helper receiver held output
+  unfolding helperCall
+  helper-works points written s p same many e =
+      ap (λ (m : ℕ). outcome (Done (2 * m)) written) many
+      ∙ done-by (helperPacket z xs (stripes z L) helper receiver held) output written (2 * stripes z L) p
+      (length-packet z xs (stripes z L) helper receiver held)
+      (e ∙ ap₂ (λ (ys : List ℕ) (m : ℕ). helperPacket z ys m helper receiver held ++ drop (2 * m) output) same many)

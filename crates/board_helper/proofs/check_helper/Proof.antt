@@ -1,0 +1,228 @@
+-- `board_helper::check_helper` meets its contract: each early return is the first line that holds.
+-- Assumes nothing.
+use Prim.Native.Nat.{ℕ, _*_, _≤_, _<_}
+use mathlib.Core.Path.{_≡_, sym, ap, _∙_}
+use mathlib.Core.Bool.{true, not}
+use mathlib.Core.List.{List, [], _∷_}
+use native.Mathlib.Omega.{arith}
+use lib.Dec.{eqb}
+use lib.ListN.{length, take}
+use borrow.Author.Needs.{needs}
+use Rattle.lists.specs.Tests.{different}
+use Rattle.lists.proofs.Tests.{not-no}
+use Rattle.lists.proofs.Boards.{below-all}
+use Rattle.sizes.specs.declared.Refusal.the-variants.{Points}
+use Rattle.sizes.specs.declared.Check.{Check}
+use Rattle.sizes.specs.declared.Check.the-variants.{Refuse}
+use Rattle.sizes.specs.Sizing.{legal, α, stripes}
+use Rattle.sizes.specs.Refusals.{Line, _when_, first, boardOrder}
+use Rattle.sizes.proofs.Legal.{Legal, legal-facts, α-most}
+use Rattle.mbcr.specs.Share.{standard}
+use Rattle.mbcr.proofs.Points.{standard-points}
+use Rattle.board_spec.specs.Calls.{nodeLine, repeatLine, areaLine, shortLine, equalPoints, ownRuns, helperLines}
+use Rattle.board_spec.proofs.Runs.{own-runs}
+use Rattle.checks.specs.Steps.{asked, statedLines}
+use Rattle.checks.proofs.Answers.{passed}
+use Rattle.checks.proofs.Given.{as-many, few-bytes}
+use Rattle.checks.proofs.Chain.{thens, grouped, goes-on, refuses, ends}
+use Rattle.checks.proofs.Facts.{Stated, stated-facts}
+use Rattle.checks.proofs.Points.{points-line}
+use Rattle.board_helper.proofs.check_helper.Statement.{statement}
+use Rattle.board_helper.proofs.check_helper.Tie as tie
+
+abbrev named : tie.Start → List ℕ
+named g = g .args .helper ∷ g .args .receiver ∷ []
+
+abbrev S : tie.Start → ℕ
+S g = stripes (g .args .sizes) (g .args .len)
+
+-- the lines that each check asks, and those after it
+abbrev pointLine : tie.Start → Line
+pointLine g = Points when equalPoints standard (ownRuns (g .args .sizes) (g .args .helper))
+
+abbrev roomLine : tie.Start → Line
+roomLine g = shortLine (g .args .out .now) (2 * S g)
+
+abbrev heldLine : tie.Start → Line
+heldLine g = areaLine (eqb (length (g .args .held .now)) (S g * α (g .args .sizes)) ∷ [])
+
+abbrev points : tie.Start → List (List Line)
+points g = (pointLine g ∷ []) ∷ []
+
+abbrev shorts : tie.Start → List (List Line)
+shorts g = (roomLine g ∷ []) ∷ points g
+
+abbrev lents : tie.Start → List (List Line)
+lents g = (heldLine g ∷ []) ∷ shorts g
+
+abbrev repeats : tie.Start → List (List Line)
+repeats g = (repeatLine (named g) ∷ []) ∷ lents g
+
+abbrev nodes : tie.Start → List (List Line)
+nodes g = (nodeLine (g .args .sizes) (named g) ∷ []) ∷ repeats g
+
+abbrev stateds : tie.Start → List (List Line)
+stateds g = statedLines (g .args .sizes) (g .args .len) ∷ nodes g
+
+abbrev answer : tie.Start → Check
+answer g =
+    let a = g .args in
+    first boardOrder (helperLines (a .sizes) standard (a .len) (a .helper) (a .receiver) (a .held .now) (a .out .now))
+
+whole : (g : tie.Start) → thens (stateds g) ≡ answer g
+unfolding helperLines
+whole g = grouped (stateds g)
+
+-- 1 SIZE, 3 LONG
+abbrev st-stated : tie.After-check-stated → tie.Start
+st-stated c = c .before .before .before
+
+no-stated : (c : tie.After-stated) → Refuse (c .stated .given .0 .0) ≡ answer (st-stated (c .before .before))
+no-stated c = let k = c .before .before in refuses _ (whole (st-stated k)) (k .check-stated .ensures) (c .stated .given .1)
+
+-- 5 NODE
+abbrev at-stated : tie.After-check-nodes → tie.After-check-stated
+at-stated c = c .before .before .before .before
+
+abbrev st-node : tie.After-check-nodes → tie.Start
+st-node c = st-stated (at-stated c)
+
+stated-on : (c : tie.After-check-nodes) → let g = st-node c in Stated (g .args .sizes) (g .args .len)
+stated-on c = stated-facts _ _ (sym (at-stated c .check-stated .ensures) ∙ c .before .before .enum-told .given .1)
+
+on-node : (c : tie.After-check-nodes) → thens (nodes (st-node c)) ≡ answer (st-node c)
+on-node c = goes-on (whole (st-node c)) (at-stated c .check-stated .ensures) (c .before .before .enum-told .given .1)
+
+no-node : (c : tie.After-node) → Refuse (c .node .given .0 .0) ≡ answer (st-node (c .before .before))
+no-node c = let k = c .before .before in refuses _ (on-node k) (k .check-nodes .ensures) (c .node .given .1)
+
+-- 6 REPEAT
+abbrev at-node : tie.After-check-repeat → tie.After-check-nodes
+at-node c = c .before .before .before .before
+
+abbrev st-repeat : tie.After-check-repeat → tie.Start
+st-repeat c = st-node (at-node c)
+
+known-on : (c : tie.After-check-repeat) → st-repeat c .args .helper < st-repeat c .args .sizes .n
+known-on c =
+    let g = st-repeat c in
+    below-all (g .args .sizes .n) (named g)
+    (not-no _ (passed (nodeLine (g .args .sizes) (named g)) (sym (at-node c .check-nodes .ensures) ∙ c .before .before .enum-told2 .given .1))) .0
+
+on-repeat : (c : tie.After-check-repeat) → thens (repeats (st-repeat c)) ≡ answer (st-repeat c)
+on-repeat c = goes-on (on-node (at-node c)) (at-node c .check-nodes .ensures) (c .before .before .enum-told2 .given .1)
+
+no-repeat : (c : tie.After-repeat) → Refuse (c .repeat .given .0 .0) ≡ answer (st-repeat (c .before .before))
+no-repeat c = let k = c .before .before in refuses _ (on-repeat k) (k .check-repeat .ensures) (c .repeat .given .1)
+
+-- 2 AREA
+abbrev at-repeat : tie.After-share-len → tie.After-check-repeat
+at-repeat c = c .before .before .before .before
+
+abbrev st-len : tie.After-share-len → tie.Start
+st-len c = st-repeat (at-repeat c)
+
+legal-on : (c : tie.After-share-len) → legal (st-len c .args .sizes) ≡ true
+legal-on c = stated-on (at-node (at-repeat c)) .is-legal
+
+-- how long the share must be
+long-is : (c : tie.After-share-len) → c .before .stripe-count .result * c .share-len .result ≡ S (st-len c) * α (st-len c .args .sizes)
+long-is c = as-many _ _ _ _ _ (c .before .stripe-count .ensures .0) (c .share-len .ensures) (legal-on c)
+
+long-few : (c : tie.After-share-len) → c .before .stripe-count .result * c .share-len .result ≤ 253952
+long-few c =
+    few-bytes _ _ _ _ (c .before .stripe-count .ensures .1) (c .share-len .ensures) (legal-on c) (α-most _ (legal-facts _ (legal-on c)))
+
+on-lent : (c : tie.After-share-len) → thens (lents (st-len c)) ≡ answer (st-len c)
+on-lent c = goes-on (on-repeat (at-repeat c)) (at-repeat c .check-repeat .ensures) (c .before .before .enum-told3 .given .1)
+
+abbrev at-len : tie.After-check-lent → tie.After-share-len
+at-len c = c .before
+
+is-lent : (c : tie.After-check-lent) → c .check-lent .result ≡ asked (heldLine (st-len (at-len c)))
+is-lent c =
+    let g = st-len (at-len c) in
+    c .check-lent .ensures ∙ ap (λ (m : ℕ). asked (areaLine (eqb (length (g .args .held .now)) m ∷ []))) (long-is (at-len c))
+
+no-lent : (c : tie.After-lent) → Refuse (c .lent .given .0 .0) ≡ answer (st-len (at-len (c .before .before)))
+no-lent c = let k = c .before .before in refuses _ (on-lent (at-len k)) (is-lent k) (c .lent .given .1)
+
+-- 7 SHORT
+abbrev at-lent : tie.After-check-room → tie.After-check-lent
+at-lent c = c .before .before .before
+
+abbrev st-short : tie.After-check-room → tie.Start
+st-short c = st-len (at-len (at-lent c))
+
+on-short : (c : tie.After-check-room) → thens (shorts (st-short c)) ≡ answer (st-short c)
+on-short c = goes-on (on-lent (at-len (at-lent c))) (is-lent (at-lent c)) (c .before .enum-told4 .given .1)
+
+is-short : (c : tie.After-check-room) → c .check-room .result ≡ asked (roomLine (st-short c))
+is-short c =
+    c .check-room .ensures
+    ∙ ap (λ (m : ℕ). asked (shortLine (st-short c .args .out .now) (2 * m))) (at-len (at-lent c) .before .stripe-count .ensures .0)
+
+no-short : (c : tie.After-short) → Refuse (c .short .given .0 .0) ≡ answer (st-short (c .before .before))
+no-short c = let k = c .before .before in refuses _ (on-short k) (is-short k) (c .short .given .1)
+
+-- 11 POINTS
+abbrev at-room : tie.After-points → tie.After-check-room
+at-room c = c .before .before .before .before
+
+abbrev st-points : tie.After-points → tie.Start
+st-points c = st-short (at-room c)
+
+on-points : (c : tie.After-points) → thens (points (st-points c)) ≡ answer (st-points c)
+on-points c = goes-on (on-short (at-room c)) (is-short (at-room c)) (c .before .before .enum-told5 .given .1)
+
+sizes-on : (c : tie.After-points) → Legal (st-points c .args .sizes)
+sizes-on c = legal-facts _ (legal-on (at-len (at-lent (at-room c))))
+
+is-points : (c : tie.After-check-points) → c .check-points .result ≡ asked (pointLine (st-points (c .before)))
+is-points c =
+    let g = st-points (c .before) in
+    let z = g .args .sizes in
+    let f = sizes-on (c .before) in
+    let apart = standard-points z (f .few) in
+    c .check-points .ensures
+    ∙ ap (λ (xs : List ℕ). asked (Points when not (different (take (z .n) xs)))) (c .before .before .standard-points .ensures)
+    ∙ points-line z standard (f .few) apart (ownRuns z (g .args .helper))
+    (own-runs z standard f apart (g .args .helper) (known-on (at-repeat (at-len (at-lent (at-room (c .before)))))))
+
+points-asks : tie.Need-check-points-requires
+points-asks c κs = rw (c .before .standard-points .ensures) (sizes-on c .few)
+
+pub check-helper-spec : {M : Type 1} → statement M
+check-helper-spec =
+    tie.close
+    (tie.spec
+    (λ c κs. search needs)
+    (λ c. search needs)
+    (λ c. no-stated (c .before))
+    (λ c. search needs)
+    (λ c. search needs)
+    (λ c κs. search needs)
+    (λ c. search needs)
+    (λ c. no-node (c .before))
+    (λ c. search needs)
+    (λ c. search needs)
+    (λ c κs. search needs)
+    (λ c. search needs)
+    (λ c. no-repeat (c .before))
+    (λ c. search needs)
+    (λ c κs. let f = stated-on (at-node (c .before .before)) in (f .is-legal, f .not-long))
+    (λ c κs. search needs)
+    (λ c. omega (arith, long-few c))
+    (λ c κs. search needs)
+    (λ c. search needs)
+    (λ c. no-lent (c .before))
+    (λ c. search needs)
+    (λ c. omega (arith, at-len (c .before .before) .before .stripe-count .ensures .1))
+    (λ c κs. search needs)
+    (λ c. search needs)
+    (λ c. no-short (c .before))
+    (λ c. search needs)
+    (λ c κs. search needs)
+    (λ c. search needs)
+    points-asks
+    (λ c. ends (on-points (c .before)) (is-points c)))

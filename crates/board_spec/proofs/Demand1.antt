@@ -1,0 +1,434 @@
+-- Demand 1 at board level holds.
+-- Assumes nothing.
+use mathlib.Core.Path.{_≡_, refl, sym, ap, _∙_}
+use mathlib.Core.Bool.{Bool, true, false, not}
+use mathlib.Core.Logic.{_≢_, _↔_, _⊎_, inl, inr}
+use mathlib.Core.Option.{Option, none, some}
+use mathlib.Core.List.{List, [], _∷_, _++_}
+use Prim.Native.Nat.{ℕ, _-_, _*_, _≤_, _<_}
+use native.Mathlib.Omega.{arith}
+use lib.Dec.{eqb}
+use lib.ListN.{length, take, length-take}
+use lib.Seq.{take-at}
+use borrow.Author.Tests.{ltb-false, le-ltb, eqb-true, eq-eqb}
+use Rattle.lists.specs.Lists.{All, Bytes, over}
+use Rattle.lists.specs.Tests.{pick, same, given, below, different}
+use Rattle.lists.proofs.Pieces.{length-joined}
+use Rattle.lists.proofs.Tests.{not-no, alls-hold, hold-alls}
+use Rattle.sizes.specs.Refusals.{number, said, Line, holdsIn, first, boardOrder}
+use Rattle.sizes.specs.Sizing.{stripes, legal, B, α}
+use Rattle.sizes.specs.declared.Answer.the-variants.{Done, Refused}
+use Rattle.sizes.specs.declared.Check.{Check}
+use Rattle.sizes.specs.declared.Check.the-variants.{Pass, Refuse}
+use Rattle.sizes.specs.declared.Refusal.{Refusal}
+use Rattle.sizes.specs.declared.Refusal.the-variants.{Points, Size, Area, Long, Count, Node, Repeat, Short, Disagree}
+use Rattle.sizes.specs.declared.Sizes.{Sizes}
+use Rattle.sizes.proofs.Laws.{numbers-differ, number-low}
+use Rattle.sizes.proofs.Legal.{Legal, legal-facts}
+use Rattle.sizes.proofs.Lines.{Clear, clear-first, refuse-first, one-or-none, never, says-not, says-less, says-one, says-two, says-itself, says-no-file}
+use Rattle.mbcr.specs.Demand2.{Named}
+use Rattle.mbcr.specs.Read.{decodedFile, readFile}
+use Rattle.mbcr.specs.Rebuild.{helperPacket, exchangePacket, finishedShare}
+use Rattle.mbcr.specs.Share.{standard, DifferentPoints, share, shares}
+use Rattle.mbcr.proofs.Points.{Boards, boards-of, standard-points}
+use Rattle.mbcr.proofs.Read.{read-sound, read-complete, read-none}
+use Rattle.mbcr.proofs.Repair.{length-share, length-packet, length-exchange, length-finished}
+use Rattle.board_spec.specs.Calls.{BoardOutcome, settled, fileOf, shareLines, shareCall, fileLines, fileCall, helperLines, helperCall, exchangeLines, exchangeCall}
+use Rattle.board_spec.specs.Calls.{finishedLines, finishedCall, textLines, textCall, equalPoints, readRuns, ownRuns, finishRuns}
+use Rattle.board_spec.specs.Claims.{LinesSay}
+use Rattle.board_spec.specs.Demand1.{BoardEnds, BoardCalls, shareClaims, fileClaims, helperClaims, exchangeClaims, finishedClaims, textClaims}
+use Rattle.board_spec.specs.Text.{shareText}
+use Rattle.board_spec.proofs.Claims.{lines-say}
+use Rattle.board_spec.proofs.Runs.{own-runs, one-run, finish-runs, read-runs}
+
+-- ---- lines that do not hold
+
+-- the order up to SHORT
+abbrev seven : List Refusal → List Refusal
+seven rest = Size ∷ Long ∷ Count ∷ Node ∷ Repeat ∷ Area ∷ Short ∷ rest
+
+-- the lines that the proofs ask
+record Passed (lines : List Line) : Type 0 where
+  size : holdsIn lines Size ≡ false
+  count : holdsIn lines Count ≡ false
+  node : holdsIn lines Node ≡ false
+  repeat : holdsIn lines Repeat ≡ false
+  short : holdsIn lines Short ≡ false
+
+passed : (lines : List Line) (rest : List Refusal) → Clear lines (seven rest) → Passed lines
+passed lines rest h = record {
+  size = h .0;
+  count = h .1 .1 .0;
+  node = h .1 .1 .1 .0;
+  repeat = h .1 .1 .1 .1 .0;
+  short = h .1 .1 .1 .1 .1 .1 .0;
+}
+
+-- what SIZE, COUNT, NODE and REPEAT ask
+legal-of : (z : Sizes) → not (legal z) ≡ false → Legal z
+legal-of z h = legal-facts z (not-no (legal z) h)
+
+counted : (a b : ℕ) → not (pick (eqb a b) true false) ≡ false → a ≡ b
+counted a b h = eqb-true a b (alls-hold (eqb a b ∷ []) (not-no _ h) .0)
+
+named : (z : Sizes) (boards : List ℕ) → not (below (z .n) boards) ≡ false → not (different boards) ≡ false → Boards z boards
+named z boards h k = boards-of z boards (not-no _ h) (not-no _ k)
+
+-- ---- every call ends
+
+ends : (lines : List Line) (output bytes : List ℕ) → (Passed lines → length bytes ≤ length output)
+    → BoardEnds lines output bytes (settled (first boardOrder lines) bytes output)
+ends lines output bytes f = record {
+  one = one-or-none lines boardOrder;
+  refuses = λ x h. ap (λ (c : Check). settled c bytes output) (refuse-first lines boardOrder x h);
+  works = λ h. (ap (λ (c : Check). settled c bytes output) (clear-first lines boardOrder h), f (passed lines (Disagree ∷ Points ∷ []) h));
+}
+
+length-file-of : (t : Bool) (L : ℕ) (l : List ℕ) → length (fileOf (pick t (some (take L l)) none)) ≤ L
+length-file-of true L l = simp length-take (omega arith)
+length-file-of false L l = omega arith
+
+module _ (z : Sizes) (xs : List ℕ) where
+  share-ends : (node : ℕ) (file output : List ℕ)
+      → BoardEnds (shareLines z xs node file output) output (share z xs file node) (shareCall z xs node file output)
+  unfolding shareLines shareCall
+  share-ends node file output = ends _ output _ (λ p. rw (length-share z xs (legal-of z (p .size)) file node) (ltb-false _ _ (p .short)))
+
+  length-read : (L : ℕ) (boards held : List ℕ) → length (fileOf (readFile z xs L boards held)) ≤ L
+  unfolding readFile decodedFile
+  length-read L boards held = length-file-of (same (shares z xs (decodedFile z xs L boards held) boards) held) L _
+
+  file-ends : (L : ℕ) (boards held output : List ℕ)
+      → BoardEnds (fileLines z xs L boards held output) output (fileOf (readFile z xs L boards held)) (fileCall z xs L boards held output)
+  unfolding fileLines fileCall
+  file-ends L boards held output = ends _ output _ (λ p. omega (arith, length-read L boards held, ltb-false (length output) L (p .short)))
+
+  helper-ends : (L helper receiver : ℕ) (held output : List ℕ)
+      → BoardEnds (helperLines z xs L helper receiver held output) output (helperPacket z xs (stripes z L) helper receiver held) (helperCall z xs L helper receiver held output)
+  unfolding helperLines helperCall
+  helper-ends L helper receiver held output = ends _ output _ (λ p. rw (length-packet z xs (stripes z L) helper receiver held) (ltb-false _ _ (p .short)))
+
+  exchange-ends : (L board : ℕ) (helpers packets : List ℕ) (receiver : ℕ) (output : List ℕ)
+      → BoardEnds (exchangeLines z xs L board helpers packets receiver output) output (exchangePacket z xs (stripes z L) helpers packets receiver)
+      (exchangeCall z xs L board helpers packets receiver output)
+  unfolding exchangeLines exchangeCall
+  exchange-ends L board helpers packets receiver output =
+      ends _ output _ (λ p. rw (length-exchange z xs (stripes z L) helpers packets receiver) (ltb-false _ _ (p .short)))
+
+  finished-ends : (L board : ℕ) (helpers packets partners exchanges output : List ℕ)
+      → BoardEnds (finishedLines z xs L board helpers packets partners exchanges output) output (finishedShare z xs (stripes z L) board helpers packets partners exchanges)
+      (finishedCall z xs L board helpers packets partners exchanges output)
+  unfolding finishedLines finishedCall
+  finished-ends L board helpers packets partners exchanges output =
+      ends _ output _ (λ p. rw (length-finished z xs (legal-of z (p .size)) (stripes z L) board helpers packets partners exchanges) (ltb-false _ _ (p .short)))
+
+  text-ends : (L node : ℕ) (held output : List ℕ)
+      → BoardEnds (textLines z xs L node held output) output (shareText z L node held) (textCall z xs L node held output)
+  unfolding textLines textCall
+  text-ends L node held output = ends _ output _ (λ p. ltb-false (length output) (length (shareText z L node held)) (p .short))
+
+-- ---- no call answers POINTS with the standard points
+
+refusal-of : (c : Check) (x : Refusal) (bytes output : List ℕ) → settled c bytes output .answer .refusal ≡ number x → c ≡ Refuse x
+refusal-of Pass x bytes output e = absurd (omega (arith, number-low x))
+refusal-of (Refuse y) x bytes output e = ap Refuse (numbers-differ y x e)
+
+unequal : (lines : List Line) (bytes output : List ℕ) → (Passed lines → holdsIn lines Points ≡ false)
+    → settled (first boardOrder lines) bytes output .answer .refusal ≢ 11
+unequal lines bytes output h e =
+    never lines Points (seven (Disagree ∷ []))
+    (omega arith, (omega arith, (omega arith, (omega arith, (omega arith, (omega arith, (omega arith, (omega arith, tt))))))))
+    (λ c. h (passed lines (Disagree ∷ []) c)) (refusal-of _ Points bytes output e)
+
+module _ (z : Sizes) where
+  points-of : Legal z → DifferentPoints z standard
+  points-of f = standard-points z (f .few)
+
+  share-unequal : (node : ℕ) (file output : List ℕ) → shareCall z standard node file output .answer .refusal ≢ 11
+  unfolding shareLines shareCall
+  share-unequal node file output = unequal (shareLines z standard node file output) _ output (λ p. refl)
+
+  file-unequal : (L : ℕ) (boards held output : List ℕ) → fileCall z standard L boards held output .answer .refusal ≢ 11
+  unfolding fileLines fileCall
+  file-unequal L boards held output =
+      unequal (fileLines z standard L boards held output) _ output (λ p.
+      let f = legal-of z (p .size) in read-runs z standard f (points-of f) boards (named z boards (p .node) (p .repeat)))
+
+  helper-unequal : (L helper receiver : ℕ) (held output : List ℕ) → helperCall z standard L helper receiver held output .answer .refusal ≢ 11
+  unfolding helperLines helperCall
+  helper-unequal L helper receiver held output =
+      unequal (helperLines z standard L helper receiver held output) _ output (λ p.
+      let f = legal-of z (p .size) in
+      own-runs z standard f (points-of f) helper (named z (helper ∷ receiver ∷ []) (p .node) (p .repeat) .known .0))
+
+  exchange-unequal : (L board : ℕ) (helpers packets : List ℕ) (receiver : ℕ) (output : List ℕ)
+      → exchangeCall z standard L board helpers packets receiver output .answer .refusal ≢ 11
+  unfolding exchangeLines exchangeCall
+  exchange-unequal L board helpers packets receiver output =
+      unequal (exchangeLines z standard L board helpers packets receiver output) _ output (λ p.
+      let f = legal-of z (p .size) in
+      let b = named z (board ∷ receiver ∷ helpers) (p .node) (p .repeat) in
+      one-run z standard (points-of f) helpers (record { known = b .known .1 .1; once = b .once .1 .1 }))
+
+  finished-unequal : (L board : ℕ) (helpers packets partners exchanges output : List ℕ)
+      → finishedCall z standard L board helpers packets partners exchanges output .answer .refusal ≢ 11
+  unfolding finishedLines finishedCall
+  finished-unequal L board helpers packets partners exchanges output =
+      unequal (finishedLines z standard L board helpers packets partners exchanges output) _ output (λ p.
+      let f = legal-of z (p .size) in
+      finish-runs z standard (points-of f) board helpers partners (named z (helpers ++ partners ++ (board ∷ [])) (p .node) (p .repeat)))
+
+  text-unequal : (L node : ℕ) (held output : List ℕ) → textCall z standard L node held output .answer .refusal ≢ 11
+  unfolding textLines textCall
+  text-unequal L node held output = unequal (textLines z standard L node held output) _ output (λ p. refl)
+
+-- ---- a file is given just where there is one
+
+-- no line but DISAGREE holds
+abbrev Only : List Line → Type 0
+Only lines = All (λ x. (x ≡ Disagree) ⊎ (holdsIn lines x ≡ false)) boardOrder
+
+pub clear : (lines : List Line) (x : Refusal) → number x ≢ 10 → (x ≡ Disagree) ⊎ (holdsIn lines x ≡ false) → holdsIn lines x ≡ false
+clear lines x h (inl e) = absurd (h (ap number e))
+clear lines x h (inr e) = e
+
+module _ (lines : List Line) (h : Only lines) where
+  only-passed : Passed lines
+  only-passed = record {
+    size = clear lines Size (omega arith) (h .0);
+    count = clear lines Count (omega arith) (h .1 .1 .0);
+    node = clear lines Node (omega arith) (h .1 .1 .1 .0);
+    repeat = clear lines Repeat (omega arith) (h .1 .1 .1 .1 .0);
+    short = clear lines Short (omega arith) (h .1 .1 .1 .1 .1 .1 .0);
+  }
+
+  only-first : first boardOrder lines ≡ pick (holdsIn lines Disagree) (Refuse Disagree) Pass
+  only-first =
+      let p1 = only-passed .size in
+      let p2 = clear lines Long (omega arith) (h .1 .0) in
+      let p3 = only-passed .count in
+      let p4 = only-passed .node in
+      let p5 = only-passed .repeat in
+      let p6 = clear lines Area (omega arith) (h .1 .1 .1 .1 .1 .0) in
+      let p7 = only-passed .short in
+      let p9 = clear lines Points (omega arith) (h .1 .1 .1 .1 .1 .1 .1 .1 .0) in
+      rw (p1, p2, p3, p4, p5, p6, p7, p9)
+
+-- the outcome of a call that found this file, or none
+abbrev outcome : Option (List ℕ) → List ℕ → BoardOutcome
+outcome (some file) output = record { answer = said (Done (length file)); output = over file output }
+outcome none output = record { answer = said (Refused Disagree); output = output }
+
+found : (o : Option (List ℕ)) (output : List ℕ) → settled (pick (not (given o)) (Refuse Disagree) Pass) (fileOf o) output ≡ outcome o output
+found (some file) output = refl
+found none output = refl
+
+-- what was written is the file
+pub written : (file file′ output : List ℕ) → length file ≡ length file′ → over file output ≡ over file′ output → file ≡ file′
+written file file′ output l e =
+    sym (take-at file _ (length file′) l) ∙ ap (take (length file′)) e ∙ take-at file′ _ (length file′) refl
+
+module _ (z : Sizes) (xs : List ℕ) (L : ℕ) (boards held output : List ℕ) (pts : DifferentPoints z xs) (bh : Bytes held)
+    (h : Only (fileLines z xs L boards held output)) where
+  others : Passed (fileLines z xs L boards held output)
+  others = only-passed (fileLines z xs L boards held output) h
+
+  facts : Legal z
+  unfolding fileLines
+  facts = legal-of z (others .size)
+
+  count : length boards ≡ z .k
+  unfolding fileLines
+  count = counted (length boards) (z .k) (others .count)
+
+  boards-named : Boards z boards
+  unfolding fileLines
+  boards-named = named z boards (others .node) (others .repeat)
+
+  call-is : (o : Option (List ℕ)) → readFile z xs L boards held ≡ o → fileCall z xs L boards held output ≡ outcome o output
+  unfolding fileLines fileCall
+  call-is o e =
+      ap (λ (c : Check). settled c (fileOf (readFile z xs L boards held)) output) (only-first (fileLines z xs L boards held output) h)
+      ∙ found (readFile z xs L boards held) output ∙ ap (λ (o : Option (List ℕ)). outcome o output) e
+
+  gives : (file : List ℕ) → length file ≡ L → Bytes file
+      → (fileCall z xs L boards held output ≡ record { answer = said (Done L); output = over file output }) ↔ (shares z xs file boards ≡ held)
+  gives file l bf = (there (readFile z xs L boards held) refl, back)
+    where
+      there : (o : Option (List ℕ)) → readFile z xs L boards held ≡ o
+          → fileCall z xs L boards held output ≡ record { answer = said (Done L); output = over file output } → shares z xs file boards ≡ held
+      there none e q = absurd (omega (arith, ap (λ (o : BoardOutcome). o .answer .refusal) (sym (call-is none e) ∙ q)))
+      there (some f) e q =
+          let s = read-sound z xs facts pts boards boards-named count L held f bh e in
+          ap (λ (f : List ℕ). shares z xs f boards) (sym (written f file output (s .0 ∙ sym l) (ap (λ (o : BoardOutcome). o .output) (sym (call-is (some f) e) ∙ q)))) ∙ s .2
+
+      back : shares z xs file boards ≡ held → fileCall z xs L boards held output ≡ record { answer = said (Done L); output = over file output }
+      back e = call-is (some file) (read-complete z xs facts pts boards boards-named count L held file l bf e) ∙ ap (λ (v : ℕ). record { answer = said (Done v); output = over file output }) l
+
+  refuses : (fileCall z xs L boards held output ≡ record { answer = said (Refused Disagree); output = output })
+      ↔ ((file : List ℕ) → length file ≡ L → Bytes file → shares z xs file boards ≡ held → ⊥)
+  refuses = (λ q. none-is .0 (there (readFile z xs L boards held) refl q), λ f. call-is none (none-is .1 f))
+    where
+      none-is : (readFile z xs L boards held ≡ none) ↔ ((file : List ℕ) → length file ≡ L → Bytes file → shares z xs file boards ≡ held → ⊥)
+      none-is = read-none z xs facts pts boards boards-named count L held bh
+
+      there : (o : Option (List ℕ)) → readFile z xs L boards held ≡ o
+          → fileCall z xs L boards held output ≡ record { answer = said (Refused Disagree); output = output } → readFile z xs L boards held ≡ none
+      there none e q = e
+      there (some f) e q = absurd (omega (arith, ap (λ (o : BoardOutcome). o .answer .refusal) (sym (call-is (some f) e) ∙ q)))
+
+-- ---- what the lines say
+
+module _ (z : Sizes) (xs : List ℕ) where
+  share-lines : (node : ℕ) (file output : List ℕ) → LinesSay (shareLines z xs node file output) (shareClaims z xs node file output)
+  unfolding shareLines
+  share-lines node file output =
+      lines-say (shareLines z xs node file output) (shareClaims z xs node file output)
+      (refl, says-not _, (refl, says-less _ _, (refl, says-not _, (refl, says-less _ _, tt))))
+
+  file-lines : (L : ℕ) (boards held output : List ℕ) → LinesSay (fileLines z xs L boards held output) (fileClaims z xs L boards held output)
+  unfolding fileLines
+  file-lines L boards held output =
+      lines-say (fileLines z xs L boards held output) (fileClaims z xs L boards held output) (
+        refl,
+        says-not _,
+        (
+          refl,
+          says-less _ _,
+          (
+            refl,
+            says-one _ _,
+            (
+              refl,
+              says-not _,
+              (
+                refl,
+                says-not _,
+                (refl, says-one _ _, (refl, says-less _ _, (refl, says-no-file _, (refl, says-itself _, tt)))),
+              ),
+            ),
+          ),
+        ),
+      )
+
+  helper-lines : (L helper receiver : ℕ) (held output : List ℕ)
+      → LinesSay (helperLines z xs L helper receiver held output) (helperClaims z xs L helper receiver held output)
+  unfolding helperLines
+  helper-lines L helper receiver held output =
+      lines-say (helperLines z xs L helper receiver held output) (helperClaims z xs L helper receiver held output)
+      (refl, says-not _, (refl, says-less _ _, (refl, says-not _, (refl, says-not _, (refl, says-one _ _, (refl, says-less _ _, (refl, says-itself _, tt)))))))
+
+  exchange-lines : (L board : ℕ) (helpers packets : List ℕ) (receiver : ℕ) (output : List ℕ)
+      → LinesSay (exchangeLines z xs L board helpers packets receiver output) (exchangeClaims z xs L board helpers packets receiver output)
+  unfolding exchangeLines
+  exchange-lines L board helpers packets receiver output =
+      lines-say (exchangeLines z xs L board helpers packets receiver output) (exchangeClaims z xs L board helpers packets receiver output) (
+        refl,
+        says-not _,
+        (
+          refl,
+          says-less _ _,
+          (
+            refl,
+            says-one _ _,
+            (
+              refl,
+              says-not _,
+              (
+                refl,
+                says-not _,
+                (refl, says-one _ _, (refl, says-less _ _, (refl, says-itself _, tt))),
+              ),
+            ),
+          ),
+        ),
+      )
+
+  finished-lines : (L board : ℕ) (helpers packets partners exchanges output : List ℕ)
+      → LinesSay (finishedLines z xs L board helpers packets partners exchanges output) (finishedClaims z xs L board helpers packets partners exchanges output)
+  unfolding finishedLines
+  finished-lines L board helpers packets partners exchanges output =
+      lines-say (finishedLines z xs L board helpers packets partners exchanges output) (finishedClaims z xs L board helpers packets partners exchanges output) (
+        refl,
+        says-not _,
+        (
+          refl,
+          says-less _ _,
+          (
+            refl,
+            says-two _ _ _ _,
+            (
+              refl,
+              says-not _,
+              (
+                refl,
+                says-not _,
+                (refl, says-two _ _ _ _, (refl, says-less _ _, (refl, says-itself _, tt))),
+              ),
+            ),
+          ),
+        ),
+      )
+
+  text-lines : (L node : ℕ) (held output : List ℕ) → LinesSay (textLines z xs L node held output) (textClaims z xs L node held output)
+  unfolding textLines
+  text-lines L node held output =
+      lines-say (textLines z xs L node held output) (textClaims z xs L node held output)
+      (refl, says-not _, (refl, says-less _ _, (refl, says-not _, (refl, says-one _ _, (refl, says-less _ _, tt)))))
+
+-- ---- the reader gives the file
+
+module _ (z : Sizes) (xs file boards output : List ℕ) (ok : legal z ≡ true) (pts : DifferentPoints z xs) (bf : Bytes file) (few : length file ≤ 4096 * B z)
+    (h : Named z (z .k) boards) (room : length file ≤ length output) where
+  found-file : readFile z xs (length file) boards (shares z xs file boards) ≡ some file
+  found-file = read-complete z xs (legal-facts z ok) pts boards (boards-of z boards (h .1) (h .2)) (h .0) (length file) (shares z xs file boards) file refl bf refl
+
+  shares-long : length (shares z xs file boards) ≡ z .k * (stripes z (length file) * α z)
+  unfolding shares
+  shares-long = length-joined (stripes z (length file) * α z) (share z xs file) (λ i. length-share z xs (legal-facts z ok) file i) boards
+      ∙ ap (λ (m : ℕ). m * (stripes z (length file) * α z)) (h .0)
+
+  reader-gives : fileCall z xs (length file) boards (shares z xs file boards) output ≡ record { answer = said (Done (length file)); output = over file output }
+  unfolding fileCall fileLines
+  reader-gives =
+      let held : List ℕ = shares z xs file boards in
+      let c : first boardOrder (fileLines z xs (length file) boards held output) ≡ Pass = clear-first (fileLines z xs (length file) boards held output) boardOrder (
+        ap not ok,
+        (
+          le-ltb _ _ few,
+          (
+            ap not (hold-alls (eqb (length boards) (z .k) ∷ []) (eq-eqb _ _ (h .0), tt)),
+            (
+              ap not (h .1),
+              (
+                ap not (h .2),
+                (
+                  ap not (hold-alls (eqb (length held) (z .k * (stripes z (length file) * α z)) ∷ []) (eq-eqb _ _ shares-long, tt)),
+                  (le-ltb _ _ room, (ap (λ (o : Option (List ℕ)). not (given o)) found-file, (read-runs z xs (legal-facts z ok) pts boards (boards-of z boards (h .1) (h .2)), tt))),
+                ),
+              ),
+            ),
+          ),
+        ),
+      ) in
+      ap (λ (x : Check). settled x (fileOf (readFile z xs (length file) boards held)) output) c
+      ∙ ap (λ (o : Option (List ℕ)). record { answer = said (Done (length (fileOf o))); output = over (fileOf o) output }) found-file
+
+pub demand-1 : BoardCalls
+demand-1 = record {
+  share-lines = share-lines;
+  file-lines = file-lines;
+  helper-lines = helper-lines;
+  exchange-lines = exchange-lines;
+  finished-lines = finished-lines;
+  text-lines = text-lines;
+  reader-gives = reader-gives;
+  share-ends = share-ends;
+  file-ends = file-ends;
+  helper-ends = helper-ends;
+  exchange-ends = exchange-ends;
+  finished-ends = finished-ends;
+  text-ends = text-ends;
+  file-exact = λ z xs L boards held output pts bh h. (gives z xs L boards held output pts bh h, refuses z xs L boards held output pts bh h);
+  no-points = λ z. (share-unequal z, file-unequal z, helper-unequal z, exchange-unequal z, finished-unequal z, text-unequal z);
+}

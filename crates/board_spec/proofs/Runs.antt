@@ -1,0 +1,65 @@
+-- Interpolations at the points of different boards: no two points of one of them are equal.
+-- Assumes nothing.
+use mathlib.Core.Path.{_≡_, refl, ap}
+use mathlib.Core.Bool.{true, false, not}
+use mathlib.Core.List.{List, [], _∷_, _++_, map}
+use Prim.Native.Nat.{ℕ, _+_, _<_}
+use native.Mathlib.Omega.{arith}
+use Rattle.lists.specs.Tests.{different}
+use Rattle.lists.specs.Lists.{All, concat}
+use Rattle.lists.proofs.Tests.{all-every, every-all, not-no}
+use Rattle.lists.proofs.Alls.{append-all, all-imp}
+use Rattle.lists.proofs.Boards.{distinct-different}
+use Rattle.sizes.specs.declared.Sizes.{Sizes}
+use Rattle.sizes.proofs.Legal.{Legal}
+use Rattle.mbcr.specs.Share.{DifferentPoints, points}
+use Rattle.mbcr.proofs.Points.{Boards, neighbours-boards, points-distinct, boards-left}
+use Rattle.board_spec.specs.Calls.{equalPoints, ownRuns, finishRuns, readRuns}
+
+-- ---- any points
+
+-- each interpolation has different points
+abbrev pub Apart : List ℕ → List (List ℕ) → Type 0
+Apart xs runs = All (λ boards. different (points xs boards) ≡ true) runs
+
+module _ (xs : List ℕ) where
+  pub apart-unequal : (runs : List (List ℕ)) → Apart xs runs → equalPoints xs runs ≡ false
+  apart-unequal runs h = ap not (all-every (λ boards. different (points xs boards)) runs h)
+
+  pub unequal-apart : (runs : List (List ℕ)) → equalPoints xs runs ≡ false → Apart xs runs
+  unequal-apart runs h = every-all (λ boards. different (points xs boards)) runs (not-no _ h)
+
+  -- two groups of interpolations
+  pub unequal-append : (runs runs′ : List (List ℕ)) → equalPoints xs runs ≡ false → equalPoints xs runs′ ≡ false → equalPoints xs (runs ++ runs′) ≡ false
+  unequal-append runs runs′ h h′ = apart-unequal (runs ++ runs′) (append-all _ runs runs′ (unequal-apart runs h) (unequal-apart runs′ h′))
+
+  -- a group for each element
+  pub unequal-concat : {A : Type 0} (f : A → List (List ℕ)) (l : List A) → All (λ a. equalPoints xs (f a) ≡ false) l → equalPoints xs (concat (map f l)) ≡ false
+  unequal-concat f [] h = refl
+  unequal-concat f (a ∷ l) h = unequal-append (f a) (concat (map f l)) (h .0) (unequal-concat f l (h .1))
+
+-- ---- points of different boards
+
+module _ (z : Sizes) (xs : List ℕ) (pts : DifferentPoints z xs) where
+  boards-apart : (boards : List ℕ) → Boards z boards → different (points xs boards) ≡ true
+  boards-apart boards h = distinct-different (points xs boards) (points-distinct z xs pts boards h)
+
+  pub one-run : (boards : List ℕ) → Boards z boards → equalPoints xs (boards ∷ []) ≡ false
+  one-run boards h = apart-unequal xs (boards ∷ []) (boards-apart boards h, tt)
+
+  pub finish-runs : (i : ℕ) (helpers partners : List ℕ) → Boards z (helpers ++ partners ++ (i ∷ [])) → equalPoints xs (finishRuns i helpers partners) ≡ false
+  finish-runs i helpers partners h =
+      let b = boards-left z helpers partners (boards-left z (helpers ++ partners) (i ∷ []) h) in
+      apart-unequal xs (finishRuns i helpers partners) (boards-apart helpers b, (boards-apart _ h, tt))
+
+module _ (z : Sizes) (xs : List ℕ) (legal : Legal z) (pts : DifferentPoints z xs) where
+  pub own-runs : (j : ℕ) → j < z .n → equalPoints xs (ownRuns z j) ≡ false
+  own-runs j h =
+      let f = neighbours-boards z j (z .d + z .r) h (legal .enough) in
+      let g = neighbours-boards z j (z .d) h (omega (arith, legal .enough)) in
+      apart-unequal xs (ownRuns z j) (boards-apart z xs pts _ f, (boards-apart z xs pts _ g, tt))
+
+  pub read-runs : (boards : List ℕ) → Boards z boards → equalPoints xs (readRuns z boards) ≡ false
+  read-runs boards h =
+      unequal-append xs (boards ∷ []) (concat (map (ownRuns z) boards)) (one-run z xs pts boards h)
+      (unequal-concat xs (ownRuns z) boards (all-imp (λ j. j < z .n) (λ j. equalPoints xs (ownRuns z j) ≡ false) own-runs boards (h .known)))

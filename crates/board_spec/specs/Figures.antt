@@ -1,0 +1,240 @@
+-- Figures of the board-level calls over the definitions: for each call each refusal that it has, then each adjacent pair of the order, where
+-- both lines hold and the first is given; and figures with two stripes. proofs/Figures.antt has `figures`.
+-- Assumes nothing.
+use mathlib.Core.Path.{_≡_}
+use mathlib.Core.Bool.{true, false}
+use mathlib.Core.List.{List, [], _∷_, _++_, map}
+use Prim.Native.Nat.{ℕ}
+use lib.ListN.{replicate, set}
+use Rattle.sizes.specs.declared.Sizes.{Sizes}
+use Rattle.sizes.specs.declared.Answer.the-variants.{Done, Refused}
+use Rattle.sizes.specs.Sizing.{legal, stripes}
+use Rattle.sizes.specs.Refusals.{said}
+use Rattle.mbcr.specs.Share.{standard, share, shares}
+use Rattle.board_spec.specs.Text.{shareText}
+use Rattle.board_spec.specs.Calls.{BoardOutcome, ownRuns, finishRuns, readRuns, shareCall, fileCall, helperCall, exchangeCall, finishedCall, textCall}
+
+abbrev sizes : ℕ → ℕ → ℕ → ℕ → Sizes
+sizes n k d r = record { n = n; k = k; d = d; r = r }
+
+abbrev small : Sizes
+small = sizes 2 1 1 1
+
+-- one board too few
+abbrev tight : Sizes
+tight = sizes 1 1 1 1
+
+abbrev five : Sizes
+five = sizes 5 2 3 2
+
+-- B = 12, α = 7
+abbrev seven : Sizes
+seven = sizes 7 2 3 2
+
+-- document 01's points, but board a has that of board b
+abbrev alike : ℕ → ℕ → List ℕ
+alike a b = set standard a b
+
+-- eleven bytes 00, then 01
+abbrev file : List ℕ
+file = replicate 11 0 ++ (1 ∷ [])
+
+-- "L may be 0 to 4,096 × B": one more than 4,096 × 2
+abbrev long : ℕ
+long = 8193
+
+abbrev answers : List BoardOutcome → List ℕ
+answers os = map (λ o. o .answer .refusal) os
+
+-- the shares of boards 0 and 1, the last byte altered
+abbrev altered : List ℕ
+altered = replicate 7 0 ++ (0x01 ∷ 0x02 ∷ 0x03 ∷ 0x04 ∷ 0x00 ∷ 0x04 ∷ 0x06 ∷ [])
+
+pub record BoardFigures : Type 0 where
+  -- "n = 32, d + r = n, k = d are legal; n = 33, d + r = n + 1, k = d + 1, r = 0 give SIZE"
+  pub legal-sizes : map legal (small ∷ five ∷ sizes 32 16 16 16 ∷ sizes 32 1 1 1 ∷ []) ≡ true ∷ true ∷ true ∷ true ∷ []
+  pub illegal-sizes : map legal (sizes 33 1 1 1 ∷ tight ∷ sizes 5 4 3 2 ∷ sizes 5 2 3 0 ∷ sizes 5 0 3 2 ∷ []) ≡ false ∷ false ∷ false ∷ false ∷ false ∷ []
+  -- 1, 3, 5, 7; then 1 before 3, 3 before 5, 5 before 7
+  pub share-refusals :
+      answers
+      (shareCall (sizes 33 1 1 1) standard 0 [] []
+      ∷ shareCall small standard 0 (replicate long 0) []
+      ∷ shareCall five standard 5 [] []
+      ∷ shareCall five standard 0 (1 ∷ []) (replicate 6 0)
+      ∷ shareCall tight standard 0 (replicate long 0) []
+      ∷ shareCall small standard 2 (replicate long 0) []
+      ∷ shareCall five standard 5 (1 ∷ []) []
+      ∷ [])
+      ≡ 1 ∷ 3 ∷ 5 ∷ 7 ∷ 1 ∷ 3 ∷ 5 ∷ []
+  -- 1, 3, 4, 5, 6, 2, 7, 10; then each before the next
+  pub file-refusals :
+      answers
+      (fileCall (sizes 5 4 3 2) standard 12 (0 ∷ 1 ∷ []) altered []
+      ∷ fileCall small standard long (0 ∷ []) [] []
+      ∷ fileCall five standard 12 (0 ∷ []) [] []
+      ∷ fileCall five standard 12 (0 ∷ 5 ∷ []) [] []
+      ∷ fileCall five standard 12 (1 ∷ 1 ∷ []) [] []
+      ∷ fileCall five standard 12 (0 ∷ 1 ∷ []) (0 ∷ altered) (replicate 12 0)
+      ∷ fileCall five standard 12 (0 ∷ 1 ∷ []) (shares five standard file (0 ∷ 1 ∷ [])) (replicate 11 0)
+      ∷ fileCall small standard 1 (0 ∷ []) (0x05 ∷ 0x06 ∷ []) (0 ∷ [])
+      ∷ fileCall tight standard long (0 ∷ []) [] []
+      ∷ fileCall small standard long [] [] []
+      ∷ fileCall five standard 12 (9 ∷ []) [] []
+      ∷ fileCall five standard 12 (9 ∷ 9 ∷ []) [] []
+      ∷ fileCall five standard 12 (1 ∷ 1 ∷ []) [] (replicate 12 0)
+      ∷ fileCall five standard 12 (0 ∷ 1 ∷ []) [] []
+      ∷ fileCall five standard 12 (0 ∷ 1 ∷ []) altered (replicate 11 0)
+      ∷ [])
+      ≡ 1 ∷ 3 ∷ 4 ∷ 5 ∷ 6 ∷ 2 ∷ 7 ∷ 10 ∷ 1 ∷ 3 ∷ 4 ∷ 5 ∷ 6 ∷ 2 ∷ 7 ∷ []
+  -- 1, 3, 5 of the worker and of the receiver, 6, 2, 7; then each before the next
+  pub helper-refusals :
+      answers
+      (helperCall (sizes 5 2 3 0) standard 12 2 0 (replicate 7 0) []
+      ∷ helperCall small standard long 0 1 [] []
+      ∷ helperCall five standard 12 5 0 (replicate 7 0) []
+      ∷ helperCall five standard 12 2 5 (replicate 7 0) []
+      ∷ helperCall five standard 12 2 2 (replicate 7 0) []
+      ∷ helperCall five standard 12 2 0 (replicate 8 0) (0 ∷ 0 ∷ [])
+      ∷ helperCall five standard 12 2 0 (replicate 7 0) (0 ∷ [])
+      ∷ helperCall tight standard long 0 1 [] []
+      ∷ helperCall small standard long 2 1 [] []
+      ∷ helperCall five standard 12 5 5 [] []
+      ∷ helperCall five standard 12 2 2 [] []
+      ∷ helperCall five standard 12 2 0 [] []
+      ∷ [])
+      ≡ 1 ∷ 3 ∷ 5 ∷ 5 ∷ 6 ∷ 2 ∷ 7 ∷ 1 ∷ 3 ∷ 5 ∷ 6 ∷ 2 ∷ []
+  -- 1, 3, 4, 5 of the worker, of a helper and of the receiver, 6 of each, 2, 7; then each before the next
+  pub exchange-refusals :
+      answers
+      (exchangeCall (sizes 5 0 3 2) standard 12 0 (2 ∷ 3 ∷ 4 ∷ []) (replicate 6 0) 1 (0 ∷ [])
+      ∷ exchangeCall small standard long 0 (1 ∷ []) [] 1 []
+      ∷ exchangeCall five standard 12 0 (2 ∷ 3 ∷ []) (replicate 6 0) 1 (0 ∷ [])
+      ∷ exchangeCall five standard 12 5 (2 ∷ 3 ∷ 4 ∷ []) (replicate 6 0) 1 (0 ∷ [])
+      ∷ exchangeCall five standard 12 0 (2 ∷ 5 ∷ 4 ∷ []) (replicate 6 0) 1 (0 ∷ [])
+      ∷ exchangeCall five standard 12 0 (2 ∷ 3 ∷ 4 ∷ []) (replicate 6 0) 5 (0 ∷ [])
+      ∷ exchangeCall five standard 12 0 (2 ∷ 2 ∷ 4 ∷ []) (replicate 6 0) 1 (0 ∷ [])
+      ∷ exchangeCall five standard 12 3 (2 ∷ 3 ∷ 4 ∷ []) (replicate 6 0) 1 (0 ∷ [])
+      ∷ exchangeCall five standard 12 0 (2 ∷ 3 ∷ 4 ∷ []) (replicate 6 0) 4 (0 ∷ [])
+      ∷ exchangeCall five standard 12 0 (2 ∷ 3 ∷ 4 ∷ []) (replicate 6 0) 0 (0 ∷ [])
+      ∷ exchangeCall five standard 12 0 (2 ∷ 3 ∷ 4 ∷ []) (replicate 5 0) 1 (0 ∷ [])
+      ∷ exchangeCall five standard 12 0 (2 ∷ 3 ∷ 4 ∷ []) (replicate 6 0) 1 []
+      ∷ exchangeCall tight standard long 0 (1 ∷ []) [] 1 []
+      ∷ exchangeCall small standard long 0 [] [] 1 []
+      ∷ exchangeCall five standard 12 9 [] [] 1 []
+      ∷ exchangeCall five standard 12 9 (9 ∷ 3 ∷ 4 ∷ []) [] 1 []
+      ∷ exchangeCall five standard 12 0 (2 ∷ 2 ∷ 4 ∷ []) [] 1 (0 ∷ [])
+      ∷ exchangeCall five standard 12 0 (2 ∷ 3 ∷ 4 ∷ []) [] 1 []
+      ∷ [])
+      ≡ 1 ∷ 3 ∷ 4 ∷ 5 ∷ 5 ∷ 5 ∷ 6 ∷ 6 ∷ 6 ∷ 6 ∷ 2 ∷ 7 ∷ 1 ∷ 3 ∷ 4 ∷ 5 ∷ 6 ∷ 2 ∷ []
+  -- 1, 3, 4 of helpers and of partners, 5 of each, 6 of each, 2 of packets and of exchanges, 7; then each before the next
+  pub finished-refusals :
+      answers
+      (finishedCall (sizes 33 2 3 2) standard 12 0 (2 ∷ 3 ∷ 4 ∷ []) (replicate 6 0) (1 ∷ []) (0 ∷ []) (replicate 7 0)
+      ∷ finishedCall small standard long 0 (1 ∷ []) [] [] [] []
+      ∷ finishedCall five standard 12 0 (2 ∷ 3 ∷ []) (replicate 6 0) (1 ∷ []) (0 ∷ []) (replicate 7 0)
+      ∷ finishedCall five standard 12 0 (2 ∷ 3 ∷ 9 ∷ []) (replicate 6 0) [] (0 ∷ []) (replicate 7 0)
+      ∷ finishedCall five standard 12 5 (2 ∷ 3 ∷ 4 ∷ []) (replicate 6 0) (1 ∷ []) (0 ∷ []) (replicate 7 0)
+      ∷ finishedCall five standard 12 0 (2 ∷ 3 ∷ 5 ∷ []) (replicate 6 0) (1 ∷ []) (0 ∷ []) (replicate 7 0)
+      ∷ finishedCall five standard 12 0 (2 ∷ 3 ∷ 4 ∷ []) (replicate 6 0) (5 ∷ []) (0 ∷ []) (replicate 7 0)
+      ∷ finishedCall five standard 12 0 (2 ∷ 2 ∷ 4 ∷ []) (replicate 6 0) (1 ∷ []) (0 ∷ []) (replicate 7 0)
+      ∷ finishedCall five standard 12 0 (2 ∷ 3 ∷ 4 ∷ []) (replicate 6 0) (4 ∷ []) (0 ∷ []) (replicate 7 0)
+      ∷ finishedCall five standard 12 0 (2 ∷ 3 ∷ 4 ∷ []) (replicate 6 0) (0 ∷ []) (0 ∷ []) (replicate 7 0)
+      ∷ finishedCall five standard 12 2 (2 ∷ 3 ∷ 4 ∷ []) (replicate 6 0) (1 ∷ []) (0 ∷ []) (replicate 7 0)
+      ∷ finishedCall five standard 12 0 (2 ∷ 3 ∷ 4 ∷ []) (replicate 5 0) (1 ∷ []) (0 ∷ []) (replicate 7 0)
+      ∷ finishedCall five standard 12 0 (2 ∷ 3 ∷ 4 ∷ []) (replicate 6 0) (1 ∷ []) [] (replicate 7 0)
+      ∷ finishedCall five standard 12 0 (2 ∷ 3 ∷ 4 ∷ []) (replicate 6 0) (1 ∷ []) (0 ∷ []) (replicate 6 0)
+      ∷ finishedCall tight standard long 0 (1 ∷ []) [] [] [] []
+      ∷ finishedCall small standard long 0 [] [] [] [] []
+      ∷ finishedCall five standard 12 9 [] [] (1 ∷ []) [] []
+      ∷ finishedCall five standard 12 9 (9 ∷ 3 ∷ 4 ∷ []) [] (1 ∷ []) [] []
+      ∷ finishedCall five standard 12 0 (2 ∷ 2 ∷ 4 ∷ []) [] (1 ∷ []) (0 ∷ []) (replicate 7 0)
+      ∷ finishedCall five standard 12 0 (2 ∷ 3 ∷ 4 ∷ []) [] (1 ∷ []) (0 ∷ []) []
+      ∷ [])
+      ≡ 1 ∷ 3 ∷ 4 ∷ 4 ∷ 5 ∷ 5 ∷ 5 ∷ 6 ∷ 6 ∷ 6 ∷ 6 ∷ 2 ∷ 2 ∷ 7 ∷ 1 ∷ 3 ∷ 4 ∷ 5 ∷ 6 ∷ 2 ∷ []
+  -- 1, 3, 5, 2, 7; then each before the next
+  pub text-refusals :
+      answers
+      (textCall tight standard 2 0 (5 ∷ 6 ∷ []) (replicate 64 0)
+      ∷ textCall small standard long 0 [] (replicate 64 0)
+      ∷ textCall small standard 2 2 (5 ∷ 6 ∷ []) (replicate 64 0)
+      ∷ textCall small standard 2 0 (5 ∷ []) (replicate 64 0)
+      ∷ textCall small standard 2 0 (5 ∷ 6 ∷ []) (replicate 41 0)
+      ∷ textCall tight standard long 0 [] []
+      ∷ textCall small standard long 2 [] []
+      ∷ textCall small standard 2 2 [] []
+      ∷ textCall small standard 2 0 [] []
+      ∷ [])
+      ≡ 1 ∷ 3 ∷ 5 ∷ 2 ∷ 7 ∷ 1 ∷ 3 ∷ 5 ∷ 2 ∷ []
+  -- a refusal leaves the output; an accepted call answers its bytes, and output beyond them stays (the file 05 03, of which L = 1 leaves 03 in
+  -- the padding; the file 05 03 07)
+  pub refused-stays : fileCall small standard 1 (0 ∷ []) (0x05 ∷ 0x06 ∷ []) (replicate 3 0xEE) ≡ record { answer = record { refusal = 10; value = 0 }; output = replicate 3 0xEE }
+  pub file-read : fileCall small standard 3 (1 ∷ []) (0x06 ∷ 0x05 ∷ 0x07 ∷ 0x07 ∷ []) (replicate 4 0xEE)
+      ≡ record { answer = record { refusal = 0; value = 3 }; output = 0x05 ∷ 0x03 ∷ 0x07 ∷ 0xEE ∷ [] }
+  pub finished-written : finishedCall five standard 12 1 (2 ∷ 3 ∷ 4 ∷ []) (0x04 ∷ 0x02 ∷ 0x05 ∷ 0x03 ∷ 0x10 ∷ 0x04 ∷ []) (0 ∷ []) (0x00 ∷ []) (replicate 8 0xEE)
+      ≡ record { answer = record { refusal = 0; value = 7 }; output = 0x01 ∷ 0x02 ∷ 0x03 ∷ 0x04 ∷ 0x00 ∷ 0x04 ∷ 0x05 ∷ 0xEE ∷ [] }
+  -- "L = B is one stripe, B + 1 two"
+  pub stripe-counts : map (stripes five) (0 ∷ 1 ∷ 12 ∷ 13 ∷ 24 ∷ 25 ∷ []) ≡ 0 ∷ 1 ∷ 1 ∷ 2 ∷ 2 ∷ 3 ∷ []
+  -- "L may be 0 to 4,096 × B": 4,096 × 12 is not LONG, one more is
+  pub longest : answers (fileCall five standard 49152 [] [] [] ∷ fileCall five standard 49153 [] [] [] ∷ []) ≡ 4 ∷ 3 ∷ []
+  -- 11 POINTS, where two boards have the same point
+  pub points-refusals :
+      answers
+      (fileCall five (replicate 32 7) 12 (0 ∷ 1 ∷ []) (replicate 14 0) (replicate 12 0)
+      ∷ helperCall five (replicate 32 7) 12 2 0 (replicate 7 0) (0 ∷ 0 ∷ [])
+      ∷ exchangeCall five (replicate 32 7) 12 0 (2 ∷ 3 ∷ 4 ∷ []) (replicate 6 0) 1 (0 ∷ [])
+      ∷ finishedCall five (replicate 32 7) 12 0 (2 ∷ 3 ∷ 4 ∷ []) (replicate 6 0) (1 ∷ []) (0 ∷ []) (replicate 7 0)
+      ∷ [])
+      ≡ 11 ∷ 11 ∷ 11 ∷ 11 ∷ []
+  -- the boards at whose points each call interpolates, of n=7, k=2, d=3, r=2: for f and g of what board 5 keeps; for g and f of board 1 from the
+  -- packets of boards 6, 4, 2 and of its partner 0; for a file from boards 6 and 3
+  pub own-runs : ownRuns seven 5 ≡ (5 ∷ 6 ∷ 0 ∷ 1 ∷ 2 ∷ []) ∷ (5 ∷ 6 ∷ 0 ∷ []) ∷ []
+  pub finish-runs : finishRuns 1 (6 ∷ 4 ∷ 2 ∷ []) (0 ∷ []) ≡ (6 ∷ 4 ∷ 2 ∷ []) ∷ (6 ∷ 4 ∷ 2 ∷ 0 ∷ 1 ∷ []) ∷ []
+  pub read-runs : readRuns seven (6 ∷ 3 ∷ [])
+      ≡ (6 ∷ 3 ∷ []) ∷ (6 ∷ 0 ∷ 1 ∷ 2 ∷ 3 ∷ []) ∷ (6 ∷ 0 ∷ 1 ∷ []) ∷ (3 ∷ 4 ∷ 5 ∷ 6 ∷ 0 ∷ []) ∷ (3 ∷ 4 ∷ 5 ∷ []) ∷ []
+  -- and that each call asks these: 11 where two of its boards have one point, 0 where two others have
+  pub points-asked :
+      answers
+      (helperCall seven (alike 1 2) 12 5 3 (replicate 7 0) (0 ∷ 0 ∷ [])
+      ∷ helperCall seven (alike 3 4) 12 5 3 (replicate 7 0) (0 ∷ 0 ∷ [])
+      ∷ exchangeCall seven (alike 4 2) 12 1 (6 ∷ 4 ∷ 2 ∷ []) (replicate 6 0) 0 (0 ∷ [])
+      ∷ exchangeCall seven (alike 1 0) 12 1 (6 ∷ 4 ∷ 2 ∷ []) (replicate 6 0) 0 (0 ∷ [])
+      ∷ finishedCall seven (alike 0 1) 12 1 (6 ∷ 4 ∷ 2 ∷ []) (replicate 6 0) (0 ∷ []) (0 ∷ []) (replicate 7 0)
+      ∷ finishedCall seven (alike 3 5) 12 1 (6 ∷ 4 ∷ 2 ∷ []) (replicate 6 0) (0 ∷ []) (0 ∷ []) (replicate 7 0)
+      ∷ fileCall seven (alike 4 5) 12 (6 ∷ 3 ∷ []) (replicate 14 0) (replicate 12 0)
+      ∷ fileCall seven (alike 1 4) 12 (6 ∷ 3 ∷ []) (replicate 14 0) (replicate 12 0)
+      ∷ [])
+      ≡ 11 ∷ 0 ∷ 11 ∷ 0 ∷ 11 ∷ 0 ∷ 11 ∷ 0 ∷ []
+  -- two stripes, the last filled up with 00, and output just long enough: shares, a packet stripe by stripe, an exchange packet
+  pub two-stripes : map (λ i. shareCall small standard i (0x05 ∷ 0x03 ∷ 0x07 ∷ []) (replicate 4 0xEE)) (0 ∷ 1 ∷ [])
+      ≡ record { answer = record { refusal = 0; value = 4 }; output = 0x05 ∷ 0x06 ∷ 0x07 ∷ 0x07 ∷ [] }
+      ∷ record { answer = record { refusal = 0; value = 4 }; output = 0x06 ∷ 0x05 ∷ 0x07 ∷ 0x07 ∷ [] }
+      ∷ []
+  pub two-pairs : helperCall small standard 3 0 1 (0x05 ∷ 0x06 ∷ 0x07 ∷ 0x07 ∷ []) (replicate 4 0xEE)
+      ≡ record { answer = record { refusal = 0; value = 4 }; output = 0x06 ∷ 0x05 ∷ 0x07 ∷ 0x07 ∷ [] }
+  pub two-exchanged : exchangeCall (sizes 3 1 1 2) standard 4 0 (2 ∷ []) (0x0A ∷ 0x0B ∷ 0x0C ∷ 0x0D ∷ []) 1 (0xEE ∷ 0xEE ∷ [])
+      ≡ record { answer = record { refusal = 0; value = 2 }; output = 0x0A ∷ 0x0C ∷ [] }
+  -- document 01's example of a share as text
+  pub text : shareText small 2 0 (share small standard (0x05 ∷ 0x03 ∷ []) 0)
+      ≡ 0x6E ∷ 0x3D ∷ 0x32 ∷ 0x0A
+      ∷ 0x6B ∷ 0x3D ∷ 0x31 ∷ 0x0A
+      ∷ 0x64 ∷ 0x3D ∷ 0x31 ∷ 0x0A
+      ∷ 0x72 ∷ 0x3D ∷ 0x31 ∷ 0x0A
+      ∷ 0x6E ∷ 0x6F ∷ 0x64 ∷ 0x65 ∷ 0x3D ∷ 0x30 ∷ 0x0A
+      ∷ 0x6C ∷ 0x65 ∷ 0x6E ∷ 0x67 ∷ 0x74 ∷ 0x68 ∷ 0x3D ∷ 0x32 ∷ 0x0A
+      ∷ 0x64 ∷ 0x61 ∷ 0x74 ∷ 0x61 ∷ 0x3D ∷ 0x30 ∷ 0x35 ∷ 0x30 ∷ 0x36 ∷ 0x0A ∷ []
+  -- n=12, k=2, d=3, r=4, node 10, L = 1, nine bytes, through the call
+  pub longer-text : textCall (sizes 12 2 3 4) standard 1 10 (0x00 ∷ 0x01 ∷ 0x0F ∷ 0x10 ∷ 0x7F ∷ 0x80 ∷ 0xAB ∷ 0xCD ∷ 0xFF ∷ []) (replicate 59 0xEE)
+      ≡ record {
+        answer = record { refusal = 0; value = 58 };
+        output =
+            0x6E ∷ 0x3D ∷ 0x31 ∷ 0x32 ∷ 0x0A
+            ∷ 0x6B ∷ 0x3D ∷ 0x32 ∷ 0x0A
+            ∷ 0x64 ∷ 0x3D ∷ 0x33 ∷ 0x0A
+            ∷ 0x72 ∷ 0x3D ∷ 0x34 ∷ 0x0A
+            ∷ 0x6E ∷ 0x6F ∷ 0x64 ∷ 0x65 ∷ 0x3D ∷ 0x31 ∷ 0x30 ∷ 0x0A
+            ∷ 0x6C ∷ 0x65 ∷ 0x6E ∷ 0x67 ∷ 0x74 ∷ 0x68 ∷ 0x3D ∷ 0x31 ∷ 0x0A
+            ∷ 0x64 ∷ 0x61 ∷ 0x74 ∷ 0x61 ∷ 0x3D
+            ∷ 0x30 ∷ 0x30 ∷ 0x30 ∷ 0x31 ∷ 0x30 ∷ 0x66 ∷ 0x31 ∷ 0x30 ∷ 0x37 ∷ 0x66 ∷ 0x38 ∷ 0x30 ∷ 0x61 ∷ 0x62 ∷ 0x63 ∷ 0x64 ∷ 0x66 ∷ 0x66
+            ∷ 0x0A
+            ∷ 0xEE ∷ [];
+      }

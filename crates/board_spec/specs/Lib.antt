@@ -1,0 +1,5 @@
+pub mod Text
+pub mod Calls
+pub mod Claims
+pub mod Demand1
+pub mod Figures

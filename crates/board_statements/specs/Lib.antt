@@ -1,4 +1,0 @@
-pub mod Text
-pub mod Calls
-pub mod Demand1
-pub mod Figures

@@ -1,0 +1,192 @@
+-- `read_check::check_read` meets its contract: each early return is the first line that holds.
+-- Assumes nothing.
+use Prim.Native.Nat.{ℕ}
+use mathlib.Core.Path.{_≡_, refl, sym, ap, _∙_}
+use mathlib.Core.Bool.{not}
+use mathlib.Core.List.{List, [], _∷_}
+use lib.ListN.{length}
+use borrow.Author.Needs.{needs}
+use Rattle.lists.specs.Tests.{given}
+use Rattle.sizes.specs.declared.Refusal.the-variants.{Disagree, Points}
+use Rattle.sizes.specs.declared.Check.{Check}
+use Rattle.sizes.specs.declared.Check.the-variants.{Pass, Refuse}
+use Rattle.sizes.specs.Refusals.{Line, _when_, first, storeOrder}
+use Rattle.mbcr.specs.Share.{standard}
+use Rattle.board_spec.specs.Calls.{shortLine, equalPoints, readRuns}
+use Rattle.store_spec.specs.Record.{Record}
+use Rattle.store_spec.specs.Calls.{emptyLine, fileHeld, readLines}
+use Rattle.checks.specs.Steps.{asked}
+use Rattle.store_checks.specs.Steps.{recordOf}
+use Rattle.shared_checks.specs.Steps.{areaLines, boardLines}
+use Rattle.checks.proofs.Chain.{thens, grouped, goes-on, refuses, ends}
+use Rattle.shared_checks.proofs.Facts.{Lent, area-facts, Named, board-facts}
+use Rattle.read_check.proofs.Readable.{Readable, readable, points-line}
+use Rattle.read_check.proofs.check_read.Statement.{statement}
+use Rattle.read_check.proofs.check_read.Tie as tie
+
+abbrev R : tie.Start → Record
+R g = recordOf (g .args .sizes) (g .args .capacity) (g .args .written) (g .args .len) (g .args .marks .now)
+
+-- the lines that each check asks, and those after it
+abbrev points : tie.Start → List (List Line)
+points g = (Points when equalPoints standard (readRuns (g .args .sizes) (g .args .boards .now)) ∷ []) ∷ []
+
+abbrev disagrees : tie.Start → List (List Line)
+disagrees g = (Disagree when not (given (fileHeld standard (R g) (g .args .area .now) (g .args .boards .now))) ∷ []) ∷ points g
+
+abbrev shorts : tie.Start → List (List Line)
+shorts g = (shortLine (g .args .out .now) (g .args .len) ∷ []) ∷ disagrees g
+
+abbrev boards : tie.Start → List (List Line)
+boards g = boardLines (g .args .sizes) (g .args .sizes .k) (g .args .marks .now) (g .args .boards .now) ∷ shorts g
+
+abbrev empties : tie.Start → List (List Line)
+empties g = (emptyLine (R g) ∷ []) ∷ boards g
+
+abbrev areas : tie.Start → List (List Line)
+areas g = areaLines (R g) (length (g .args .area .now)) ∷ empties g
+
+abbrev answer : tie.Start → Check
+answer g = first storeOrder (readLines standard (R g) (g .args .area .now) (g .args .boards .now) (g .args .out .now))
+
+whole : (g : tie.Start) → thens (areas g) ≡ answer g
+unfolding readLines
+whole g = grouped (areas g)
+
+-- 1 SIZE, 2 AREA
+abbrev st-area : tie.After-check-area → tie.Start
+st-area c = c .before .before .before .before .before .before .before
+
+no-area : (c : tie.After-lent) → Refuse (c .lent .given .0 .0) ≡ answer (st-area (c .before .before))
+no-area c = let k = c .before .before in refuses _ (whole (st-area k)) (k .check-area .ensures) (c .lent .given .1)
+
+lent-on : (c : tie.After-enum-told) → let g = st-area (c .before .before) in Lent (R g) (length (g .args .area .now))
+lent-on c = area-facts _ _ (sym (c .before .before .check-area .ensures) ∙ c .enum-told .given .1)
+
+-- 8 EMPTY
+abbrev at-area : tie.After-check-written → tie.After-check-area
+at-area c = c .before .before .before
+
+abbrev st-empty : tie.After-check-written → tie.Start
+st-empty c = st-area (at-area c)
+
+on-empty : (c : tie.After-check-written) → thens (empties (st-empty c)) ≡ answer (st-empty c)
+on-empty c = goes-on (whole (st-empty c)) (at-area c .check-area .ensures) (cc)
+
+no-empty : (c : tie.After-empty) → Refuse (c .empty .given .0 .0) ≡ answer (st-empty (c .before .before))
+no-empty c = let k = c .before .before in refuses _ (on-empty k) (k .check-written .ensures) (c .empty .given .1)
+
+-- 4 COUNT, 5 NODE, 6 REPEAT, 9 DOWN
+abbrev at-empty : tie.After-check-boards → tie.After-check-written
+at-empty c = c .before .before .before
+
+abbrev st-boards : tie.After-check-boards → tie.Start
+st-boards c = st-empty (at-empty c)
+
+on-boards : (c : tie.After-check-boards) → thens (boards (st-boards c)) ≡ answer (st-boards c)
+on-boards c = goes-on (on-empty (at-empty c)) (at-empty c .check-written .ensures) (cc)
+
+no-boards : (c : tie.After-named) → Refuse (c .named .given .0 .0) ≡ answer (st-boards (c .before .before))
+no-boards c = let k = c .before .before in refuses _ (on-boards k) (k .check-boards .ensures) (c .named .given .1)
+
+-- 7 SHORT
+abbrev at-boards : tie.After-check-room → tie.After-check-boards
+at-boards c = c .before .before .before
+
+abbrev st-short : tie.After-check-room → tie.Start
+st-short c = st-boards (at-boards c)
+
+on-short : (c : tie.After-check-room) → thens (shorts (st-short c)) ≡ answer (st-short c)
+on-short c = goes-on (on-boards (at-boards c)) (at-boards c .check-boards .ensures) (cc)
+
+no-short : (c : tie.After-short) → Refuse (c .short .given .0 .0) ≡ answer (st-short (c .before .before))
+no-short c = let k = c .before .before in refuses _ (on-short k) (k .check-room .ensures) (c .short .given .1)
+
+-- what the checks so far told
+named-on : (c : tie.After-check-room) → let g = st-short c in Named (g .args .sizes) (g .args .sizes .k) (g .args .marks .now) (g .args .boards .now)
+named-on c =
+    let e : at-boards c .check-boards .result ≡ Pass = cc in
+    board-facts _ _ _ _ (sym (at-boards c .check-boards .ensures) ∙ e)
+
+readable-on : (c : tie.After-check-room) → let g = st-short c in Readable (R g) (g .args .points .now) (length (g .args .area .now)) (g .args .boards .now)
+readable-on c =
+    let g = st-short c in
+    let l = lent-on (at-empty (at-boards c) .before) in
+    let n = named-on c in
+    readable (R g) (g .args .points .now) _ (g .args .boards .now) (g .pre .points-are) (l .is-sound) (l .area-is) (n .enough) (n .known)
+
+-- 10 DISAGREE
+abbrev at-room : tie.After-stripe-count → tie.After-check-room
+at-room c = c .before .before .before
+
+abbrev at-count : tie.After-check-agrees → tie.After-stripe-count
+at-count c = c .before
+
+abbrev st-agrees : tie.After-check-agrees → tie.Start
+st-agrees c = st-short (at-room (at-count c))
+
+on-agrees : (c : tie.After-check-agrees) → thens (disagrees (st-agrees c)) ≡ answer (st-agrees c)
+on-agrees c = let k = at-room (at-count c) in goes-on (on-short k) (k .check-room .ensures) (cc)
+
+is-agrees : (c : tie.After-check-agrees)
+    → let g = st-agrees c in c .check-agrees .result ≡ asked (Disagree when not (given (fileHeld standard (R g) (g .args .area .now) (g .args .boards .now))))
+is-agrees c =
+    let g = st-agrees c in
+    c .check-agrees .ensures
+    ∙ ap (λ (xs : List ℕ). asked (Disagree when not (given (fileHeld xs (R g) (g .args .area .now) (g .args .boards .now))))) (g .pre .points-are)
+
+no-agrees : (c : tie.After-disagree) → Refuse (c .disagree .given .0 .0) ≡ answer (st-agrees (c .before .before))
+no-agrees c = let k = c .before .before in refuses _ (on-agrees k) (is-agrees k) (c .disagree .given .1)
+
+-- 11 POINTS
+abbrev at-agrees : tie.After-check-points → tie.After-check-agrees
+at-agrees c = c .before .before .before
+
+abbrev st-points : tie.After-check-points → tie.Start
+st-points c = st-agrees (at-agrees c)
+
+on-points : (c : tie.After-check-points) → thens (points (st-points c)) ≡ answer (st-points c)
+on-points c = let k = at-agrees c in goes-on (on-agrees k) (is-agrees k) (cc)
+
+is-points : (c : tie.After-check-points)
+    → let g = st-points c in c .check-points .result ≡ asked (Points when equalPoints standard (readRuns (g .args .sizes) (g .args .boards .now)))
+is-points c =
+    let g = st-points c in
+    let k = at-room (at-count (at-agrees c)) in
+    c .check-points .ensures
+    ∙ points-line (g .args .sizes) (g .args .points .now) (g .args .boards .now) (g .pre .points-are) (readable-on k .is-legal) (named-on k .known) (named-on k .all-different)
+
+agrees-asks : tie.Need-check-agrees-requires
+agrees-asks c κs =
+    let k = at-room c in
+    let f = readable-on k in
+    let e = c .stripe-count .ensures .0 in
+    (f .is-legal, f .few-points, st-short k .pre .inverses-are, f .enough, f .known, e, f .cap-high, rw e (f .few-stripes), f .area-is)
+
+pub check-read-spec : {M : Type 1} → statement M
+check-read-spec =
+    tie.close
+    (tie.spec
+    (λ c κs. search needs)
+    (λ c. search needs)
+    (λ c. no-area (c .before))
+    (λ c. search needs)
+    (λ c κs. search needs)
+    (λ c. search needs)
+    (λ c. no-empty (c .before))
+    (λ c. search needs)
+    (λ c κs. search needs)
+    (λ c. search needs)
+    (λ c. no-boards (c .before))
+    (λ c. search needs)
+    (λ c κs. search needs)
+    (λ c. search needs)
+    (λ c. no-short (c .before))
+    (λ c. search needs)
+    (λ c κs. let f = readable-on (c .before .before) in (f .is-legal, f .not-long))
+    agrees-asks
+    (λ c. search needs)
+    (λ c. no-agrees (c .before))
+    (λ c. search needs)
+    (λ c κs. readable-on (at-room (at-count (c .before .before))) .few-points)
+    (λ c. ends (on-points c) (is-points c)))

@@ -1,0 +1,60 @@
+//! The check of a read: its lines in document 01's order. Each check's answer is taken apart, and a refusal returned early.
+ghost use mathlib.Core.Path.{_≡_};
+ghost use Rattle.sizes.specs.Refusals.{first, storeOrder};
+ghost use Rattle.mbcr.specs.Share.{standard};
+ghost use Rattle.store_spec.specs.Calls.{readLines};
+ghost use Rattle.store_checks.specs.Steps.{recordOf};
+ghost use Rattle.read_check.specs.Steps.{Tables};
+use sizes::Check;
+use sizes::Sizes;
+
+// The first refusal of a read from these boards, on a record of these parts.
+pub fn check_read(
+    sizes: Sizes,
+    capacity: usize,
+    written: bool,
+    len: usize,
+    marks: &[bool],
+    points: &[u8],
+    inverses: &[u8],
+    area: &[u8],
+    boards: &[usize],
+    out: &[u8],
+) -> Check
+    requires { ⌜ Tables (now points) (now inverses) ⌝ }
+    ensures { λ r. ⌜ r ≡ first storeOrder (readLines standard (recordOf sizes capacity written len (now (marks .entry))) (now (area .entry)) (now (boards .entry)) (now (out .entry))) ⌝ }
+{
+    if let Check::Refuse(lent) = shared_checks::check_area(
+        sizes,
+        capacity,
+        written,
+        len,
+        marks,
+        area.len(),
+    ) {
+        return Check::Refuse(lent);
+    }
+    if let Check::Refuse(empty) = store_checks::check_written(written) {
+        return Check::Refuse(empty);
+    }
+    if let Check::Refuse(named) = shared_checks::check_boards(sizes, sizes.k, marks, boards) {
+        return Check::Refuse(named);
+    }
+    if let Check::Refuse(short) = checks::check_room(out, len) {
+        return Check::Refuse(short);
+    }
+    let count = checks::stripe_count(sizes, len);
+    if let Check::Refuse(disagree) = store_decode::check_agrees(
+        sizes,
+        capacity,
+        points,
+        inverses,
+        len,
+        count,
+        boards,
+        area,
+    ) {
+        return Check::Refuse(disagree);
+    }
+    checks::check_points(points, sizes.n)
+}

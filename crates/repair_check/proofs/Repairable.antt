@@ -1,0 +1,96 @@
+-- What the kernel of a repair asks, from what its check told. And what its single checks told.
+-- Assumes nothing.
+use Prim.Native.Nat.{ℕ, _*_, _≤_, _<_}
+use mathlib.Core.Path.{_≡_, _∙_}
+use mathlib.Core.Bool.{true, not}
+use mathlib.Core.List.{List, [], _∷_, _++_}
+use native.Mathlib.Nat.{mul-le-mul}
+use native.Mathlib.Omega.{arith}
+use lib.Dec.{eqb}
+use lib.ListN.{length, take}
+use borrow.Author.Tests.{eqb-true}
+use Rattle.lists.specs.Tests.{below, different, apart}
+use Rattle.lists.proofs.Alls.{all-left, all-right}
+use Rattle.lists.proofs.Boards.{below-all, all-below}
+use Rattle.lists.proofs.Tests.{not-no, alls-hold}
+use Rattle.sizes.specs.declared.Sizes.{Sizes}
+use Rattle.sizes.specs.declared.Refusal.the-variants.{Points}
+use Rattle.sizes.specs.declared.Check.the-variants.{Pass}
+use Rattle.sizes.specs.Sizing.{legal, B, stripes}
+use Rattle.sizes.specs.Refusals.{_when_}
+use Rattle.sizes.proofs.Legal.{legal-facts}
+use Rattle.mbcr.specs.Share.{standard}
+use Rattle.mbcr.proofs.Points.{standard-points}
+use Rattle.board_spec.specs.Calls.{countLine, nodeLine, equalPoints}
+use Rattle.store_spec.specs.Record.{Record, areaLen}
+use Rattle.store_spec.specs.Packets.{repairRuns}
+use Rattle.store_spec.proofs.Records.{Repairs}
+use Rattle.store_spec.proofs.StepRepair.{repair-points}
+use Rattle.checks.specs.Steps.{asked}
+use Rattle.checks.proofs.Answers.{passed, passes}
+use Rattle.store_checks.proofs.Repairs.{repeatOf, runsDiffer}
+use Rattle.shared_checks.proofs.Facts.{ready, points-pass}
+
+pub record Repairable (s : Record) (points : List ℕ) (m : ℕ) (fresh helpers : List ℕ) : Type 0 where
+  pub is-legal : legal (s .sizes) ≡ true
+  pub few-points : s .sizes .n ≤ length points
+  pub fresh-count : length fresh ≡ s .sizes .r
+  pub fresh-known : below (s .sizes .n) fresh ≡ true
+  pub helper-count : length helpers ≡ s .sizes .r * s .sizes .d
+  pub helpers-known : below (s .sizes .n) helpers ≡ true
+  pub fresh-different : different fresh ≡ true
+  pub none-fresh : apart fresh helpers ≡ true
+  pub cap-high : s .capacity ≤ 4096
+  pub few-stripes : stripes (s .sizes) (s .length) ≤ s .capacity
+  pub not-long : s .length ≤ 4096 * B (s .sizes)
+  pub area-is : m ≡ areaLen s
+
+pub repairable : (s : Record) (points : List ℕ) (m : ℕ) (fresh helpers : List ℕ) → points ≡ standard → Repairs s m fresh helpers
+    → Repairable s points m fresh helpers
+repairable s points m fresh helpers ep k =
+    let f = ready s points ep (k .is-sound) in
+    let n = s .sizes .n in
+    let all = below-all n (fresh ++ helpers) (k .named-below) in
+    record {
+      is-legal = f .is-legal;
+      few-points = f .few-points;
+      fresh-count = k .fresh-count;
+      fresh-known = all-below n fresh (all-left (λ x. x < n) fresh helpers all);
+      helper-count = k .helper-count;
+      helpers-known = all-below n helpers (all-right (λ x. x < n) fresh helpers all);
+      fresh-different = k .fresh-different;
+      none-fresh = k .none-fresh;
+      cap-high = f .cap-high;
+      few-stripes = f .few-stripes;
+      not-long = f .not-long;
+      area-is = k .area-is;
+    }
+
+-- the helpers of all fresh boards are few
+pub few-helpers : (z : Sizes) → legal z ≡ true → z .r * z .d ≤ 1024
+few-helpers z h =
+    let f = legal-facts z h in
+    let r : z .r ≤ 32 = omega (arith, f .enough, f .few) in
+    let d : z .d ≤ 32 = omega (arith, f .enough, f .few) in
+    mul-le-mul r d
+
+-- what COUNT tells where it passes
+pub counted : (z : Sizes) (fresh helpers : List ℕ) → asked (countLine (eqb (length fresh) (z .r) ∷ eqb (length helpers) (z .r * z .d) ∷ [])) ≡ Pass
+    → (length fresh ≡ z .r) × (length helpers ≡ z .r * z .d)
+counted z fresh helpers h =
+    let tests = eqb (length fresh) (z .r) ∷ eqb (length helpers) (z .r * z .d) ∷ [] in
+    let e = alls-hold tests (not-no _ (passed (countLine tests) h)) in
+    (eqb-true _ _ (e .0), eqb-true _ _ (e .1 .0))
+
+-- what `check_points` answers, as the line of a repair
+pub points-line : (s : Record) (points fresh helpers : List ℕ) → points ≡ standard → legal (s .sizes) ≡ true
+    → asked (nodeLine (s .sizes) (fresh ++ helpers)) ≡ Pass → asked (repeatOf (s .sizes .d) fresh helpers) ≡ Pass
+    → asked (Points when not (different (take (s .sizes .n) points))) ≡ asked (Points when equalPoints standard (repairRuns s fresh helpers))
+points-line s points fresh helpers ep ok node repeat =
+    let f = legal-facts (s .sizes) ok in
+    let known = not-no _ (passed (nodeLine (s .sizes) (fresh ++ helpers)) node) in
+    let tests = different fresh ∷ runsDiffer (s .sizes .d) fresh helpers ∷ apart fresh helpers ∷ [] in
+    let t = alls-hold tests (not-no _ (passed (repeatOf (s .sizes .d) fresh helpers) repeat)) in
+    points-pass points (s .sizes .n) ep
+    ∙ passes (Points when equalPoints standard (repairRuns s fresh helpers))
+    (repair-points standard s fresh helpers ok (standard-points (s .sizes) (f .few)) known (t .0) (t .1 .0) (t .1 .1 .0))

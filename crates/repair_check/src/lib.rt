@@ -1,0 +1,52 @@
+//! The check of a repair: its lines in document 01's order. Each check's answer is taken apart, and a refusal returned early.
+ghost use mathlib.Core.Path.{_≡_};
+ghost use Rattle.sizes.specs.Refusals.{first, storeOrder};
+ghost use Rattle.mbcr.specs.Share.{standard};
+ghost use Rattle.store_spec.specs.Calls.{repairLines};
+ghost use Rattle.store_checks.specs.Steps.{recordOf};
+use sizes::Check;
+use sizes::Sizes;
+
+// The first refusal of a repair of these fresh boards by these helpers, on a record of these parts and an area of so many bytes.
+pub fn check_repair(
+    sizes: Sizes,
+    capacity: usize,
+    written: bool,
+    len: usize,
+    marks: &[bool],
+    points: &[u8],
+    lent: usize,
+    fresh: &[usize],
+    helpers: &[usize],
+) -> Check
+    requires { ⌜ now points ≡ standard ⌝ }
+    ensures { λ r. ⌜ r ≡ first storeOrder (repairLines standard (recordOf sizes capacity written len (now (marks .entry))) lent (now (fresh .entry)) (now (helpers .entry))) ⌝ }
+{
+    if let Check::Refuse(area) = shared_checks::check_area(
+        sizes,
+        capacity,
+        written,
+        len,
+        marks,
+        lent,
+    ) {
+        return Check::Refuse(area);
+    }
+    if let Check::Refuse(empty) = store_checks::check_written(written) {
+        return Check::Refuse(empty);
+    }
+    let runs = sizes.r * sizes.d;
+    if let Check::Refuse(count) = checks::check_counts(fresh.len(), sizes.r, helpers.len(), runs) {
+        return Check::Refuse(count);
+    }
+    if let Check::Refuse(node) = store_checks::check_two_lists(sizes, fresh, helpers) {
+        return Check::Refuse(node);
+    }
+    if let Check::Refuse(repeat) = store_checks::check_fresh(sizes.d, fresh, helpers) {
+        return Check::Refuse(repeat);
+    }
+    if let Check::Refuse(down) = store_checks::check_service(marks, helpers) {
+        return Check::Refuse(down);
+    }
+    checks::check_points(points, sizes.n)
+}

@@ -1,0 +1,80 @@
+-- What it says of a call that its shared checks pass: what its kernels ask. And that no two of document 01's points are equal.
+-- Assumes nothing.
+use Prim.Native.Nat.{ℕ, _*_, _≤_}
+use mathlib.Core.Path.{_≡_, refl, ap}
+use mathlib.Core.Bool.{Bool, true, false, not}
+use mathlib.Core.List.{List}
+use native.Mathlib.Nat.{mul-le-mul-right}
+use native.Mathlib.Omega.{arith}
+use lib.ListN.{length, getD, take}
+use borrow.Author.Tests.{eqb-true}
+use Rattle.lists.specs.Tests.{every, below, different}
+use Rattle.lists.proofs.Tests.{not-no}
+use Rattle.sizes.specs.declared.Sizes.{Sizes}
+use Rattle.sizes.specs.declared.Refusal.the-variants.{Points}
+use Rattle.sizes.specs.declared.Check.{Check}
+use Rattle.sizes.specs.declared.Check.the-variants.{Pass, Refuse}
+use Rattle.sizes.specs.Sizing.{legal, B, stripes}
+use Rattle.sizes.specs.Refusals.{_when_, first, storeOrder}
+use Rattle.sizes.proofs.Legal.{legal-facts, stripes-least}
+use Rattle.sizes.proofs.Lines.{first-clear}
+use Rattle.mbcr.specs.Share.{standard}
+use Rattle.store_spec.specs.Record.{Record, sound, areaLen}
+use Rattle.store_spec.proofs.Records.{sound-facts}
+use Rattle.checks.specs.Steps.{asked}
+use Rattle.checks.proofs.Given.{no-points}
+use Rattle.shared_checks.specs.Steps.{areaLines, boardLines}
+
+pub record Lent (s : Record) (m : ℕ) : Type 0 where
+  pub is-sound : sound s ≡ true
+  pub area-is : m ≡ areaLen s
+
+pub area-facts : (s : Record) (m : ℕ) → first storeOrder (areaLines s m) ≡ Pass → Lent s m
+area-facts s m h = let e = first-clear (areaLines s m) storeOrder h in record { is-sound = not-no _ (e .0); area-is = eqb-true _ _ (not-no _ (e .1 .0)) }
+
+pub record Named (z : Sizes) (count : ℕ) (marks : List Bool) (boards : List ℕ) : Type 0 where
+  pub enough : length boards ≡ count
+  pub known : below (z .n) boards ≡ true
+  pub all-different : different boards ≡ true
+  pub all-up : every (λ i. getD marks i false) boards ≡ true
+
+pub board-facts : (z : Sizes) (count : ℕ) (marks : List Bool) (boards : List ℕ) → first storeOrder (boardLines z count marks boards) ≡ Pass
+    → Named z count marks boards
+board-facts z count marks boards h =
+    let e = first-clear (boardLines z count marks boards) storeOrder h .1 .1 .1 .1 in
+    record {
+      enough = eqb-true _ _ (not-no _ (e .0));
+      known = not-no _ (e .1 .0);
+      all-different = not-no _ (e .1 .1 .0);
+      all-up = not-no _ (e .1 .1 .1 .0);
+    }
+
+-- what kernels ask of a record and of the points
+pub record Ready (s : Record) (points : List ℕ) : Type 0 where
+  pub is-legal : legal (s .sizes) ≡ true
+  pub few-points : s .sizes .n ≤ length points
+  pub cap-high : s .capacity ≤ 4096
+  pub few-stripes : stripes (s .sizes) (s .length) ≤ s .capacity
+  pub not-long : s .length ≤ 4096 * B (s .sizes)
+
+pub ready : (s : Record) (points : List ℕ) → points ≡ standard → sound s ≡ true → Ready s points
+ready s points ep h =
+    let f = sound-facts s h in
+    let g = legal-facts _ (f .is-legal) in
+    let l : length points ≡ 32 = ap length ep in
+    let p : s .capacity * B (s .sizes) ≤ 4096 * B (s .sizes) = mul-le-mul-right (B (s .sizes)) (f .cap-high) in
+    record {
+      is-legal = f .is-legal;
+      few-points = omega (arith, l, g .few);
+      cap-high = f .cap-high;
+      few-stripes = stripes-least (s .sizes) g (s .length) (s .capacity) (f .fits);
+      not-long = omega (arith, f .fits, p);
+    }
+
+-- `check_points` passes
+pub points-pass : (points : List ℕ) (n : ℕ) → points ≡ standard → asked (Points when not (different (take n points))) ≡ Pass
+points-pass points n ep = go (asked (Points when not (different (take n points)))) refl
+  where
+    go : (c : Check) → asked (Points when not (different (take n points))) ≡ c → c ≡ Pass
+    go Pass e = refl
+    go (Refuse x) e = absurd (no-points points n x ep e)

@@ -1,0 +1,33 @@
+-- What demand 3 says, said of what the methods gave.
+-- Assumes nothing.
+use mathlib.Core.Path.{_≡_, sym, ap, _∙_}
+use mathlib.Core.Bool.{true}
+use mathlib.Core.List.{List, []}
+use Prim.Native.Nat.{ℕ}
+use Rattle.sizes.specs.Refusals.{said, Said}
+use Rattle.mbcr.specs.Share.{standard}
+use Rattle.store_spec.specs.Record.{held}
+use Rattle.store_spec.specs.Calls.{StoreOutcome}
+use Rattle.store_spec.specs.Ledger.{repair, read, act}
+use Rattle.store_spec.specs.Demand3.{Repaired}
+use Rattle.store_spec.proofs.Demand3.{accepted-repair}
+use Rattle.store.specs.declared.Store.{Store}
+use Rattle.store.specs.Handing.{recordIn}
+use Rattle.store.specs.Demand3.{Given, gave, Meets}
+use Rattle.store.specs.Gives.{CodeGives}
+
+module _ (s : Store) (area fresh helpers : List ℕ) (h : Given) (m : Meets s area (repair fresh helpers) h) (ok : said (h .handed .answer) .refusal ≡ 0) where
+  is-repaired : Repaired standard (recordIn s) area fresh helpers
+  unfolding act
+  is-repaired = accepted-repair standard (recordIn s) area fresh helpers (ap (λ (o : StoreOutcome). o .answer .refusal) (sym m) ∙ ok)
+
+pub code-gives : CodeGives
+unfolding act
+code-gives = record {
+  reads = λ s area b k lent a boards output count diff up room h m. m ∙ k .gives lent a boards output count diff up room;
+  moved = λ s area fresh helpers h m ok.
+      let p = is-repaired s area fresh helpers h m ok in
+      ap (λ (o : StoreOutcome). o .answer .value) m ∙ ap (λ (a : Said). a .value) (p .moved) ∙ p .moved-is;
+  has = λ s area fresh helpers h m ok i e.
+      ap (λ (o : StoreOutcome). held (recordIn s) (o .area) i) m ∙ is-repaired s area fresh helpers h m ok .has i e;
+}

@@ -1,0 +1,346 @@
+-- Demand 1 of the store holds.
+-- Assumes nothing.
+use Prim.Native.Nat.{ℕ, suc, _+_, _-_, _*_, _≤_, _<_}
+use mathlib.Core.Path.{_≡_, refl, sym, _∙_, ap, subst}
+use mathlib.Core.Bool.{Bool, true, false, not}
+use mathlib.Core.Logic.{_≢_, _↔_, _⊎_, inl, inr}
+use mathlib.Core.List.{List, [], _∷_, _++_}
+use mathlib.Core.Option.{Option, some, none}
+use native.Mathlib.Omega.{arith}
+use lib.ListN.{length, drop, take, getD, replicate, length-take, length-drop}
+use lib.Seq.{take-at, length-take-le}
+use lib.Dec.{eqb}
+use borrow.Author.Tests.{ltb-false, eqb-true, lt-ltb}
+use Rattle.lists.specs.Lists.{piece, All, tabulate}
+use Rattle.lists.specs.Tests.{among, alls, different, apart, every, below}
+use Rattle.lists.proofs.Alls.{all-left, all-imp}
+use Rattle.lists.proofs.Boards.{below-all}
+use Rattle.lists.proofs.Pieces.{piece-join}
+use Rattle.sizes.specs.Refusals.{Line, first, storeOrder, said, holdsIn}
+use Rattle.sizes.specs.Sizing.{legal, maxStripes, maxBoards, B, α, stripes}
+use Rattle.sizes.specs.declared.Answer.the-variants.{Done}
+use Rattle.sizes.specs.declared.Check.{Check}
+use Rattle.sizes.specs.declared.Check.the-variants.{Pass}
+use Rattle.sizes.specs.declared.Refusal.the-variants.{Area, Long, Empty, Count, Node, Repeat, Down, Short}
+use Rattle.sizes.specs.declared.Sizes.{Sizes}
+use Rattle.sizes.proofs.Legal.{legal-facts}
+use Rattle.sizes.proofs.Lines.{one-or-none, refuse-first, clear-first, says-not, says-differ, says-less, says-two, says-itself, says-no-file}
+use Rattle.mbcr.specs.Share.{share, stripe, kept}
+use Rattle.mbcr.proofs.Repair.{length-kept}
+use Rattle.board_spec.specs.Calls.{equalPoints, readRuns}
+use Rattle.store_spec.specs.Calls.{StoreOutcome, settle, accepted, refused, recordLine, setUpCall, writeLines, writeDone, writeCall, loseLines, loseDone, loseCall}
+use Rattle.store_spec.specs.Calls.{repairLines, repairDone, repairCall, readLines, readDone, readCall, fileHeld}
+use Rattle.board_spec.specs.Claims.{LinesSay}
+use Rattle.board_spec.proofs.Claims.{lines-say}
+use Rattle.store_spec.specs.Demand1.{StoreEnds, Stays, storeLines, StoreCalls, writeClaims, loseClaims, repairClaims, readClaims}
+use Rattle.store_spec.specs.Ledger.{Book, bookRecord, Call, write, lose, repair, read, bookLines}
+use Rattle.store_spec.specs.Packets.{freshShare, repairRuns, hearHelpers}
+use Rattle.store_spec.specs.Record.{Record, newRecord, allOff, sound, inService, stripeCount, held, writtenRecord, usedLen, partLen, areaLen}
+use Rattle.store_spec.proofs.Area.{held-stripe, length-shares, byte-stays, shares-same}
+use Rattle.store_spec.proofs.Demand3.{set-up-sound, passes}
+use Rattle.store_spec.proofs.Exact.{read-exact, write-unequal, lose-unequal, repair-unequal, read-unequal}
+use Rattle.store_spec.proofs.Marks.{off-from, off-none, on-below, off-above, first-below, among-first, mark-at}
+use Rattle.store_spec.proofs.Real.{code-lengths}
+use Rattle.store_spec.proofs.Records.{facts-sound, sound-facts, blank-length, blank-off, blank-if, Writes, write-facts, Sound, used-least, repair-facts, used-fits}
+use Rattle.store_spec.proofs.Repair.{fresh-length}
+use Rattle.store_spec.proofs.Step.{settle-pass, one-below, both-below, runs-different, every-same}
+
+-- ---- every call ends
+
+ends : (lines : List Line) (s : Record) (area output : List ℕ) (done : StoreOutcome) → done .answer .refusal ≡ 0
+    → StoreEnds lines s area output done (settle (first storeOrder lines) (refused s area output) done)
+ends lines s area output done z = record {
+  one = one-or-none lines storeOrder;
+  refuses = λ x h. ap (λ (c : Check). settle c (refused s area output) done) (refuse-first lines storeOrder x h);
+  works = λ h.
+      let e : settle (first storeOrder lines) (refused s area output) done ≡ done = settle-pass _ _ _ (clear-first lines storeOrder h) in
+      (e, ap (λ (o : StoreOutcome). o .answer .refusal) e ∙ z);
+}
+
+set-up-ends : (old : Record) (z : Sizes) (c : ℕ)
+    → StoreEnds (recordLine (newRecord z c) ∷ []) old [] [] (accepted 0 (newRecord z c) [] []) (setUpCall old z c)
+unfolding setUpCall
+set-up-ends old z c = ends _ old [] [] _ refl
+
+write-ends : (xs : List ℕ) (s : Record) (area file : List ℕ) → StoreEnds (writeLines s (length area) file) s area [] (writeDone xs s area file) (writeCall xs s area file)
+unfolding writeCall
+write-ends xs s area file = ends _ s area [] _ refl
+
+lose-ends : (s : Record) (area : List ℕ) (board : ℕ) → StoreEnds (loseLines s board) s area [] (loseDone s area board) (loseCall s area board)
+unfolding loseCall
+lose-ends s area board = ends _ s area [] _ refl
+
+repair-ends : (xs : List ℕ) (s : Record) (area fresh helpers : List ℕ)
+    → StoreEnds (repairLines xs s (length area) fresh helpers) s area [] (repairDone xs s area fresh helpers) (repairCall xs s area fresh helpers)
+unfolding repairCall
+repair-ends xs s area fresh helpers = ends _ s area [] _ refl
+
+read-ends : (xs : List ℕ) (s : Record) (area boards output : List ℕ)
+    → StoreEnds (readLines xs s area boards output) s area output (readDone xs s area boards output) (readCall xs s area boards output)
+unfolding readCall
+read-ends xs s area boards output = ends _ s area output _ refl
+
+-- ---- records
+
+off-new : (n m : ℕ) → allOff (drop n (replicate m false)) ≡ true
+off-new n m = off-from n (replicate m false) (λ i e. absurd (off-none (replicate m false) i (all-off m) e))
+  where
+    all-off : (m : ℕ) → allOff (replicate m false) ≡ true
+    all-off Prim.Native.Nat.zero = refl
+    all-off (suc m) = all-off m
+
+new-sound : (z : Sizes) (c : ℕ) → legal z ≡ true → 1 ≤ c → c ≤ maxStripes → sound (newRecord z c) ≡ true
+new-sound z c l a b =
+    facts-sound (newRecord z c) (record { is-legal = l; cap-low = a; cap-high = b; fits = omega arith; beyond = off-new (z .n) maxBoards; blank = refl })
+
+set-up-accepted : (old : Record) (z : Sizes) (c : ℕ) → (setUpCall old z c .answer .refusal ≡ 0) ↔ ((legal z ≡ true) × (1 ≤ c) × (c ≤ maxStripes))
+set-up-accepted old z c = (there, back)
+  where
+    there : setUpCall old z c .answer .refusal ≡ 0 → (legal z ≡ true) × (1 ≤ c) × (c ≤ maxStripes)
+    there h = let f = sound-facts (newRecord z c) (set-up-sound old z c h) in (f .is-legal, f .cap-low, f .cap-high)
+
+    back : (legal z ≡ true) × (1 ≤ c) × (c ≤ maxStripes) → setUpCall old z c .answer .refusal ≡ 0
+    back p =
+        set-up-ends old z c .works
+        (ap not (new-sound z c (p .0) (p .1) (p .2)), (refl, (refl, (refl, (refl, (refl, (refl, (refl, (refl, (refl, (refl, tt))))))))))) .1
+
+sound-there : (s : Record) → sound s ≡ true
+    → (legal (s .sizes) ≡ true) × (1 ≤ s .capacity) × (s .capacity ≤ maxStripes) × (s .length ≤ s .capacity * B (s .sizes))
+    × ((i : ℕ) → inService s i ≡ true → i < s .sizes .n) × (s .written ≡ false → (s .length ≡ 0) × ((i : ℕ) → inService s i ≡ true → ⊥))
+sound-there s h =
+    let f = sound-facts s h in (
+      f .is-legal,
+      f .cap-low,
+      f .cap-high,
+      f .fits,
+      (λ i e. on-below (s .sizes .n) (s .marks) i (f .beyond) e),
+      (λ w. (blank-length s (f .blank) w, λ i e. off-none (s .marks) i (blank-off s (f .blank) w) e)),
+    )
+
+sound-back : (s : Record)
+    → (legal (s .sizes) ≡ true) × (1 ≤ s .capacity) × (s .capacity ≤ maxStripes) × (s .length ≤ s .capacity * B (s .sizes))
+    × ((i : ℕ) → inService s i ≡ true → i < s .sizes .n) × (s .written ≡ false → (s .length ≡ 0) × ((i : ℕ) → inService s i ≡ true → ⊥))
+    → sound s ≡ true
+sound-back s p =
+    facts-sound s (record {
+      is-legal = p .0;
+      cap-low = p .1;
+      cap-high = p .2;
+      fits = p .3;
+      beyond = off-from (s .sizes .n) (s .marks) (p .4);
+      blank = blank-if s (λ w. (p .5 w .0, off-above (s .marks) (p .5 w .1)));
+    })
+
+-- ---- the area
+
+held-place : (s : Record) (area : List ℕ) (i t : ℕ) → t < stripeCount s
+    → piece (α (s .sizes)) t (held s area i) ≡ take (α (s .sizes)) (drop ((i * s .capacity + t) * α (s .sizes)) area)
+unfolding piece
+held-place s area i t h = held-stripe (α (s .sizes)) (s .capacity) (stripeCount s) area i t h
+
+module _ (xs : List ℕ) (s : Record) (area file : List ℕ) (h : writeCall xs s area file .answer .refusal ≡ 0) where
+  write-pass : first storeOrder (writeLines s (length area) file) ≡ Pass
+  unfolding writeCall
+  write-pass = passes (first storeOrder (writeLines s (length area) file)) s area [] (writeDone xs s area file) h
+
+  write-is : writeCall xs s area file ≡ writeDone xs s area file
+  unfolding writeCall
+  write-is = settle-pass _ _ _ write-pass
+
+  w : Writes s (length area) file
+  w = write-facts s (length area) file write-pass
+
+  g : Sound s
+  g = sound-facts s (w .is-sound)
+
+  new : Record
+  new = writtenRecord s (length file)
+
+  fits-new : usedLen new ≤ partLen new
+  unfolding new
+  fits-new = used-least (s .sizes) (length file) (s .capacity) (g .is-legal) (w .file-fits)
+
+  all-low : All (λ i. i < s .sizes .n) (tabulate (s .sizes .n) (λ i. i))
+  all-low = first-below (s .sizes .n) (s .sizes .n) (omega arith)
+
+  long : (i : ℕ) → length (share (s .sizes) xs file i) ≡ usedLen new
+  unfolding new
+  long i = code-lengths xs (s .sizes) (g .is-legal) .share-length file i
+
+  write-stays : Stays (writtenRecord s (length file)) (tabulate (s .sizes .n) (λ i. i)) area (writeCall xs s area file .area)
+  unfolding new
+  write-stays =
+      let e = ap (λ (o : StoreOutcome). o .area) write-is in
+      record {
+        as-long = ap length e ∙ length-shares new (share (s .sizes) xs file) (usedLen new) long fits-new (tabulate (s .sizes .n) (λ i. i)) area (w .area-is) all-low;
+        same-byte = λ p out. ap (λ (a : List ℕ). getD a p 0) e
+            ∙ byte-stays new (share (s .sizes) xs file) (usedLen new) long fits-new (tabulate (s .sizes .n) (λ i. i)) area (w .area-is) all-low p out;
+      }
+
+  write-place : (i t : ℕ) → i < s .sizes .n → t < stripes (s .sizes) (length file)
+      → take (α (s .sizes)) (drop ((i * s .capacity + t) * α (s .sizes)) (writeCall xs s area file .area)) ≡ kept (s .sizes) xs (stripe (s .sizes) file t) i
+  unfolding new share
+  write-place i t hi ht =
+      sym (held-place new (writeCall xs s area file .area) i t ht)
+      ∙ ap (λ (a : List ℕ). piece (α (s .sizes)) t (held new a i)) (ap (λ (o : StoreOutcome). o .area) write-is)
+      ∙ ap (piece (α (s .sizes)) t)
+      (shares-same new (share (s .sizes) xs file) (usedLen new) long fits-new (tabulate (s .sizes .n) (λ i. i)) area (w .area-is) all-low i
+      (among-first (s .sizes .n) i ∙ lt-ltb i (s .sizes .n) hi))
+      ∙ piece-join (stripes (s .sizes) (length file)) (α (s .sizes)) (λ s₂. kept (s .sizes) xs (stripe (s .sizes) file s₂) i)
+      (λ s₂ l. length-kept (s .sizes) xs (legal-facts (s .sizes) (g .is-legal)) (stripe (s .sizes) file s₂) i) t ht
+
+repair-stays : (xs : List ℕ) (s : Record) (area fresh helpers : List ℕ) → repairCall xs s area fresh helpers .answer .refusal ≡ 0
+    → Stays s fresh area (repairCall xs s area fresh helpers .area)
+unfolding repairCall
+repair-stays xs s area fresh helpers h =
+    let p = passes (first storeOrder (repairLines xs s (length area) fresh helpers)) s area [] (repairDone xs s area fresh helpers) h in
+    let f = repair-facts xs s (length area) fresh helpers p in
+    let g = sound-facts s (f .is-sound) in
+    let l = code-lengths xs (s .sizes) (g .is-legal) in
+    let long = fresh-length xs s area fresh helpers (length area) l (legal-facts (s .sizes) (g .is-legal) .some-fresh) f in
+    let low = all-left (λ x. x < s .sizes .n) fresh helpers (below-all (s .sizes .n) (fresh ++ helpers) (f .named-below)) in
+    let e : settle (first storeOrder (repairLines xs s (length area) fresh helpers)) (refused s area []) (repairDone xs s area fresh helpers) ≡ repairDone xs s area fresh helpers =
+    settle-pass _ _ _ p in
+    let q = ap (λ (o : StoreOutcome). o .area) e in
+    record {
+      as-long = ap length q ∙ length-shares s (freshShare xs s area fresh helpers) (usedLen s) long (used-fits s g) fresh area (f .area-is) low;
+      same-byte = λ p out. ap (λ (a : List ℕ). getD a p 0) q ∙ byte-stays s (freshShare xs s area fresh helpers) (usedLen s) long (used-fits s g) fresh area (f .area-is) low p out;
+    }
+
+-- ---- the ledger's lines
+
+module _ (xs : List ℕ) (b : Book) (area : List ℕ) (ok : legal (b .sizes) ≡ true) (low : All (λ i. i < b .sizes .n) (b .service)) (as-long : length area ≡ b .areaLength) where
+  up : (i : ℕ) → inService (bookRecord b) i ≡ among (b .service) i
+  up i =
+      mark-at (b .service) i
+      (all-imp (λ x. x < b .sizes .n) (λ x. x < maxBoards) (λ x h. let k = legal-facts (b .sizes) ok .few in omega arith) (b .service) low)
+
+  area-same : not (eqb (length area) (areaLen (bookRecord b))) ≡ not (eqb (b .areaLength) (areaLen (bookRecord b)))
+  area-same = ap (λ (m : ℕ). not (eqb m (areaLen (bookRecord b)))) as-long
+
+  lines-agree : (call : Call) → All (λ x. holdsIn (storeLines xs (bookRecord b) area call) x ≡ holdsIn (bookLines b call) x)
+      (Area ∷ Long ∷ Empty ∷ Count ∷ Node ∷ Repeat ∷ Down ∷ Short ∷ [])
+  unfolding storeLines writeLines loseLines repairLines readLines bookLines
+  lines-agree (write file) = (area-same, (refl, (refl, (refl, (refl, (refl, (refl, (refl, tt))))))))
+  lines-agree (lose board) = (refl, (refl, (refl, (refl, (ap not (one-below (b .sizes .n) board), (refl, (refl, (refl, tt))))))))
+  lines-agree (repair fresh helpers) = (
+    area-same,
+    (
+      refl,
+      (
+        refl,
+        (
+          refl,
+          (
+            ap not (both-below (b .sizes .n) fresh helpers),
+            (
+              ap (λ (t : Bool). not (alls (different fresh ∷ t ∷ apart fresh helpers ∷ []))) (runs-different (b .sizes .d) fresh helpers),
+              (ap not (every-same (inService (bookRecord b)) (among (b .service)) helpers up), (refl, tt)),
+            ),
+          ),
+        ),
+      ),
+    ),
+  )
+  lines-agree (read boards output) =
+      (area-same, (refl, (refl, (refl, (refl, (refl, (ap not (every-same (inService (bookRecord b)) (among (b .service)) boards up), (refl, tt))))))))
+
+-- ---- what the lines say
+
+write-lines : (s : Record) (m : ℕ) (file : List ℕ) → LinesSay (writeLines s m file) (writeClaims s m file)
+unfolding writeLines
+write-lines s m file =
+    lines-say (writeLines s m file) (writeClaims s m file) (refl, says-not _, (refl, says-differ _ _, (refl, says-less _ _, tt)))
+
+lose-lines : (s : Record) (board : ℕ) → LinesSay (loseLines s board) (loseClaims s board)
+unfolding loseLines
+lose-lines s board = lines-say (loseLines s board) (loseClaims s board) (refl, says-not _, (refl, says-not _, tt))
+
+-- REPEAT by the runs of helpers, as the ledger has them
+repeat-says : (s : Record) (fresh helpers : List ℕ)
+    → (not (alls (different fresh ∷ every (λ h. different (h .senders)) (hearHelpers (s .sizes .d) fresh helpers) ∷ apart fresh helpers ∷ [])) ≡ true)
+    ↔ (alls (different fresh ∷ every different (tabulate (length fresh) (λ a. piece (s .sizes .d) a helpers)) ∷ apart fresh helpers ∷ []) ≡ false)
+repeat-says s fresh helpers =
+    subst
+    (λ (t : Bool).
+    (not (alls (different fresh ∷ every (λ h. different (h .senders)) (hearHelpers (s .sizes .d) fresh helpers) ∷ apart fresh helpers ∷ [])) ≡ true)
+    ↔ (alls (different fresh ∷ t ∷ apart fresh helpers ∷ []) ≡ false))
+    (runs-different (s .sizes .d) fresh helpers) (says-not _)
+
+repair-lines : (xs : List ℕ) (s : Record) (m : ℕ) (fresh helpers : List ℕ)
+    → LinesSay (repairLines xs s m fresh helpers) (repairClaims s xs m fresh helpers)
+unfolding repairLines
+repair-lines xs s m fresh helpers =
+    lines-say (repairLines xs s m fresh helpers) (repairClaims s xs m fresh helpers) (
+      refl,
+      says-not _,
+      (
+        refl,
+        says-differ _ _,
+        (
+          refl,
+          says-not _,
+          (
+            refl,
+            says-two _ _ _ _,
+            (
+              refl,
+              says-not _,
+              (refl, repeat-says s fresh helpers, (refl, says-not _, (refl, says-itself _, tt))),
+            ),
+          ),
+        ),
+      ),
+    )
+
+read-lines : (xs : List ℕ) (s : Record) (area boards output : List ℕ)
+    → LinesSay (readLines xs s area boards output) (readClaims s xs area boards output)
+unfolding readLines
+read-lines xs s area boards output =
+    lines-say (readLines xs s area boards output) (readClaims s xs area boards output) (
+      refl,
+      says-not _,
+      (
+        refl,
+        says-differ _ _,
+        (
+          refl,
+          says-not _,
+          (
+            refl,
+            says-differ _ _,
+            (
+              refl,
+              says-not _,
+              (
+                refl,
+                says-not _,
+                (refl, says-not _, (refl, says-less _ _, (refl, says-no-file _, (refl, says-itself _, tt)))),
+              ),
+            ),
+          ),
+        ),
+      ),
+    )
+
+pub demand-1 : StoreCalls
+demand-1 = record {
+  write-lines = write-lines;
+  lose-lines = lose-lines;
+  repair-lines = repair-lines;
+  read-lines = read-lines;
+  set-up-ends = set-up-ends;
+  write-ends = write-ends;
+  lose-ends = lose-ends;
+  repair-ends = repair-ends;
+  read-ends = read-ends;
+  set-up-accepted = set-up-accepted;
+  sound-is = λ s. (sound-there s, sound-back s);
+  held-place = held-place;
+  write-place = write-place;
+  write-stays = write-stays;
+  repair-stays = repair-stays;
+  read-exact = read-exact;
+  lines-agree = λ xs b area call ok low as-long. lines-agree xs b area ok low as-long call;
+  no-points = λ s area. (write-unequal s area, lose-unequal s area, repair-unequal s area, read-unequal s area);
+}

@@ -1,0 +1,42 @@
+-- The store's figures: antt computes them.
+-- Assumes nothing.
+use mathlib.Core.Path.{_≡_, refl}
+use Rattle.lists.specs.Lists.{piece, put}
+use Rattle.gf256.specs.Field.{add, product, reduce, mul, squares, inverse}
+use Rattle.sizes.specs.Sizing.{legal, B, stripes}
+use Rattle.mbcr.specs.Share.{stripe, grid, F, neighbours, symbols, kept, share, shares}
+use Rattle.mbcr.specs.Rebuild.{received, exchanged, ownF, ownG, helperPair, helperPacket, gFrom, exchangePacket, fFrom, finishedStripe, finishedShare}
+use Rattle.mbcr.specs.Read.{through, bColumn, cRow, aColumn, decodedStripe, decodedFile, readFile}
+use Rattle.store_spec.specs.Record.{sound}
+use Rattle.store_spec.specs.Packets.{helperPackets, exchangePackets, repairPackets, freshShare}
+use Rattle.store_spec.specs.Calls.{writeLines, loseLines, repairLines, readLines, setUpCall, writeCall, loseCall, repairCall, readCall}
+use Rattle.store_spec.specs.FurtherFigures.{FurtherFigures}
+
+pub further-figures : FurtherFigures
+unfolding piece put add product reduce mul squares inverse legal B stripes stripe grid F neighbours symbols kept share shares received exchanged ownF
+    ownG helperPair helperPacket gFrom exchangePacket fFrom finishedStripe finishedShare through bColumn cRow aColumn decodedStripe decodedFile
+    readFile sound helperPackets exchangePackets repairPackets freshShare writeLines loseLines repairLines readLines setUpCall writeCall loseCall
+    repairCall readCall
+further-figures = record {
+  sound-records = refl;
+  unsound-records = refl;
+  set-up-new = refl;
+  set-up-refused = refl;
+  write-refusals = refl;
+  size-cases = refl;
+  lose-refusals = refl;
+  repair-refusals = refl;
+  read-refusals = refl;
+  repair-runs = refl;
+  points-refusals = refl;
+  refused-write = refl;
+  refused-repair = refl;
+  losses = refl;
+  repaired = refl;
+  read-back = refl;
+  own-helpers = refl;
+  own-partners = refl;
+  own-packets = refl;
+  write-places = refl;
+  repair-places = refl;
+}

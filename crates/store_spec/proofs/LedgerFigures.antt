@@ -1,0 +1,77 @@
+-- The ledger's figures: antt computes them.
+-- Assumes nothing.
+use Prim.Native.Nat.{ℕ}
+use mathlib.Core.Path.{_≡_, refl}
+use mathlib.Core.Bool.{Bool, true, false}
+use mathlib.Core.List.{List, [], _∷_}
+use lib.Dec.{eqb}
+use lib.ListN.{length}
+use borrow.Author.Tests.{eqb-true}
+use Rattle.lists.specs.Tests.{pick, every, below, same}
+use Rattle.lists.specs.Lists.{piece, put}
+use Rattle.lists.proofs.Tests.{both, every-all, same-eq}
+use Rattle.lists.proofs.Boards.{all-among, below-all}
+use Rattle.gf256.specs.Field.{add, product, reduce, mul, squares, inverse}
+use Rattle.sizes.specs.Sizing.{legal, B, stripes}
+use Rattle.mbcr.specs.Share.{standard, stripe, grid, F, neighbours, symbols, kept, share, shares}
+use Rattle.mbcr.specs.Rebuild.{received, exchanged, ownF, ownG, helperPair, helperPacket, gFrom, exchangePacket, fFrom, finishedStripe, finishedShare}
+use Rattle.mbcr.specs.Read.{through, bColumn, cRow, aColumn, decodedStripe, decodedFile, readFile}
+use Rattle.store_spec.specs.Record.{Record, part, sound}
+use Rattle.store_spec.specs.Packets.{helperPackets, exchangePackets, repairPackets, freshShare}
+use Rattle.store_spec.specs.Calls.{writeLines, loseLines, repairLines, readLines, setUpCall, writeCall, loseCall, repairCall, readCall}
+use Rattle.store_spec.specs.Ledger.{Call, write, lose, repair, read, Book, State, Step, Altered, Fair, Allowed, left, stepOutcome, bookLines, accept, enter, act}
+use Rattle.store_spec.specs.LedgerFigures.{start, opened, steps, LedgerFigures}
+
+-- ---- the premises of a list, tested
+
+abbrev pub bytes : Call → Bool
+bytes (write file) = below 256 file
+bytes (lose board) = true
+bytes (repair fresh helpers) = true
+bytes (read boards output) = true
+
+abbrev pub agrees : Book → Record → List ℕ → List ℕ → Bool
+agrees b s old new = pick (eqb (length new) (length old)) (every (λ i. same (part s new i) (part s old i)) (b .service)) false
+
+abbrev allows : State → Book → List Step → Bool
+allows w b [] = true
+allows w b (t ∷ ts) =
+    pick (agrees b (w .kept) (w .area) (t .area))
+    (pick (bytes (t .call)) (allows (left (stepOutcome standard w t)) (enter b (t .call) .book) ts) false)
+    false
+
+pub agree : (b : Book) (s : Record) (old new : List ℕ) → agrees b s old new ≡ true → Altered b s old new
+agree b s old new e =
+    let h = both (eqb (length new) (length old)) (every (λ i. same (part s new i) (part s old i)) (b .service)) e in
+    record {
+      as-long = eqb-true (length new) (length old) (h .0);
+      in-service = λ i k. same-eq (part s new i) (part s old i)
+          (all-among (λ x. same (part s new x) (part s old x) ≡ true) (b .service) i (every-all (λ x. same (part s new x) (part s old x)) (b .service) (h .1)) k);
+    }
+
+pub fair : (call : Call) → bytes call ≡ true → Fair call
+fair (write file) e = below-all 256 file e
+fair (lose board) e = tt
+fair (repair fresh helpers) e = tt
+fair (read boards output) e = tt
+
+allow : (w : State) (b : Book) (ts : List Step) → allows w b ts ≡ true → Allowed standard w b ts
+allow w b [] e = tt
+allow w b (t ∷ ts) e =
+    let h = both (agrees b (w .kept) (w .area) (t .area)) (pick (bytes (t .call)) (allows (left (stepOutcome standard w t)) (enter b (t .call) .book) ts) false) e in
+    let g = both (bytes (t .call)) (allows (left (stepOutcome standard w t)) (enter b (t .call) .book) ts) (h .1) in
+    (agree b (w .kept) (w .area) (t .area) (h .0), fair (t .call) (g .0), allow (left (stepOutcome standard w t)) (enter b (t .call) .book) ts (g .1))
+
+-- ---- the figures
+
+pub ledger-figures : LedgerFigures
+unfolding piece put add product reduce mul squares inverse legal B stripes stripe grid F neighbours symbols kept share shares received exchanged ownF
+    ownG helperPair helperPacket gFrom exchangePacket fFrom finishedStripe finishedShare through bColumn cRow aColumn decodedStripe decodedFile
+    readFile sound helperPackets exchangePackets repairPackets freshShare writeLines loseLines repairLines readLines setUpCall writeCall loseCall
+    repairCall readCall bookLines accept enter act
+ledger-figures = record {
+  allowed = allow start opened steps refl;
+  book-replies = refl;
+  store-replies = refl;
+  book-after = refl;
+}

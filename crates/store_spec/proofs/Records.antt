@@ -1,0 +1,184 @@
+-- What it says of a record that it is sound, and of a call that no line holds.
+-- Assumes nothing.
+use Prim.Native.Nat.{ℕ, _+_, _-_, _*_, _≤_}
+use mathlib.Core.Path.{_≡_, refl, ap}
+use mathlib.Core.Bool.{Bool, true, false, not}
+use mathlib.Core.List.{List, [], _∷_, _++_}
+use native.Mathlib.Nat.{mul-le-mul-right}
+use lib.Dec.{leb, eqb}
+use lib.ListN.{length, drop}
+use borrow.Author.Tests.{leb-true, le-leb, ltb-false, le-ltb, eqb-true, eq-eqb}
+use Rattle.lists.specs.Tests.{pick, alls, below, different, every, apart, given}
+use Rattle.lists.proofs.Tests.{alls-hold, hold-alls, not-no}
+use Rattle.sizes.specs.Refusals.{first, storeOrder}
+use Rattle.sizes.specs.Sizing.{legal, maxStripes, B, α, stripes}
+use Rattle.sizes.specs.declared.Check.the-variants.{Pass}
+use Rattle.sizes.specs.declared.Sizes.{Sizes}
+use Rattle.sizes.proofs.Legal.{stripes-least, legal-facts}
+use Rattle.sizes.proofs.Lines.{first-clear, clear-first}
+use Rattle.board_spec.specs.Calls.{equalPoints, readRuns}
+use Rattle.store_spec.specs.Calls.{writeLines, repairLines, readLines, fileHeld}
+use Rattle.store_spec.specs.Packets.{hearHelpers}
+use Rattle.store_spec.specs.Record.{Record, allOff, sound, usedLen, partLen, areaLen, inService}
+
+-- nothing stored and no mark on, or a file was accepted
+abbrev pub unwritten : Record → Bool
+unwritten s = pick (s .written) true (alls (eqb (s .length) 0 ∷ allOff (s .marks) ∷ []))
+
+pub record Sound (s : Record) : Type 0 where
+  pub is-legal : legal (s .sizes) ≡ true
+  pub cap-low : 1 ≤ s .capacity
+  pub cap-high : s .capacity ≤ maxStripes
+  pub fits : s .length ≤ s .capacity * B (s .sizes)
+  pub beyond : allOff (drop (s .sizes .n) (s .marks)) ≡ true
+  pub blank : unwritten s ≡ true
+
+soundTests : Record → List Bool
+soundTests s =
+    legal (s .sizes)
+    ∷ leb 1 (s .capacity)
+    ∷ leb (s .capacity) maxStripes
+    ∷ leb (s .length) (s .capacity * B (s .sizes))
+    ∷ allOff (drop (s .sizes .n) (s .marks))
+    ∷ unwritten s
+    ∷ []
+
+pub sound-facts : (s : Record) → sound s ≡ true → Sound s
+unfolding sound soundTests
+sound-facts s h =
+    let e = alls-hold (soundTests s) h in
+    record {
+      is-legal = e .0;
+      cap-low = leb-true _ _ (e .1 .0);
+      cap-high = leb-true _ _ (e .1 .1 .0);
+      fits = leb-true _ _ (e .1 .1 .1 .0);
+      beyond = e .1 .1 .1 .1 .0;
+      blank = e .1 .1 .1 .1 .1 .0;
+    }
+
+pub facts-sound : (s : Record) → Sound s → sound s ≡ true
+unfolding sound soundTests
+facts-sound s f =
+    hold-alls (soundTests s)
+    (f .is-legal, (le-leb _ _ (f .cap-low), (le-leb _ _ (f .cap-high), (le-leb _ _ (f .fits), (f .beyond, (f .blank, tt))))))
+
+pub blank-off : (s : Record) → unwritten s ≡ true → s .written ≡ false → allOff (s .marks) ≡ true
+blank-off s h w =
+    let k : alls (eqb (s .length) 0 ∷ allOff (s .marks) ∷ []) ≡ true = rw w at h in
+    alls-hold (eqb (s .length) 0 ∷ allOff (s .marks) ∷ []) k .1 .0
+
+pub blank-length : (s : Record) → unwritten s ≡ true → s .written ≡ false → s .length ≡ 0
+blank-length s h w =
+    let k : alls (eqb (s .length) 0 ∷ allOff (s .marks) ∷ []) ≡ true = rw w at h in
+    eqb-true _ _ (alls-hold (eqb (s .length) 0 ∷ allOff (s .marks) ∷ []) k .0)
+
+pub blank-if : (s : Record) → (s .written ≡ false → (s .length ≡ 0) × (allOff (s .marks) ≡ true)) → unwritten s ≡ true
+blank-if s h = go (s .written) refl
+  where
+    go : (t : Bool) → s .written ≡ t → pick t true (alls (eqb (s .length) 0 ∷ allOff (s .marks) ∷ [])) ≡ true
+    go true e = refl
+    go false e = let p = h e in hold-alls (eqb (s .length) 0 ∷ allOff (s .marks) ∷ []) (eq-eqb _ _ (p .0), (p .1, tt))
+
+-- the stripes of a file that fits lie in its boards' parts
+pub used-least : (z : Sizes) (L c : ℕ) → legal z ≡ true → L ≤ c * B z → stripes z L * α z ≤ c * α z
+used-least z L c ok h = mul-le-mul-right (α z) (stripes-least z (legal-facts z ok) L c h)
+
+pub used-fits : (s : Record) → Sound s → usedLen s ≤ partLen s
+used-fits s f = used-least (s .sizes) (s .length) (s .capacity) (f .is-legal) (f .fits)
+
+-- ---- no line holds
+
+pub record Writes (s : Record) (m : ℕ) (file : List ℕ) : Type 0 where
+  pub is-sound : sound s ≡ true
+  pub area-is : m ≡ areaLen s
+  pub file-fits : length file ≤ s .capacity * B (s .sizes)
+
+pub write-facts : (s : Record) (m : ℕ) (file : List ℕ) → first storeOrder (writeLines s m file) ≡ Pass → Writes s m file
+unfolding writeLines
+write-facts s m file h =
+    let e = first-clear (writeLines s m file) storeOrder h in
+    record { is-sound = not-no _ (e .0); area-is = eqb-true _ _ (not-no _ (e .1 .0)); file-fits = ltb-false _ _ (e .1 .1 .0) }
+
+pub record Repairs (s : Record) (m : ℕ) (fresh helpers : List ℕ) : Type 0 where
+  pub is-sound : sound s ≡ true
+  pub area-is : m ≡ areaLen s
+  pub is-written : s .written ≡ true
+  pub fresh-count : length fresh ≡ s .sizes .r
+  pub helper-count : length helpers ≡ s .sizes .r * s .sizes .d
+  pub named-below : below (s .sizes .n) (fresh ++ helpers) ≡ true
+  pub fresh-different : different fresh ≡ true
+  pub hear-different : every (λ h. different (h .senders)) (hearHelpers (s .sizes .d) fresh helpers) ≡ true
+  pub none-fresh : apart fresh helpers ≡ true
+  pub all-up : every (inService s) helpers ≡ true
+
+pub repair-facts : (xs : List ℕ) (s : Record) (m : ℕ) (fresh helpers : List ℕ) → first storeOrder (repairLines xs s m fresh helpers) ≡ Pass → Repairs s m fresh helpers
+unfolding repairLines
+repair-facts xs s m fresh helpers h =
+    let e = first-clear (repairLines xs s m fresh helpers) storeOrder h in
+    let c = alls-hold (eqb (length fresh) (s .sizes .r) ∷ eqb (length helpers) (s .sizes .r * s .sizes .d) ∷ []) (not-no _ (e .1 .1 .1 .1 .0)) in
+    let d = alls-hold (different fresh ∷ every (λ h. different (h .senders)) (hearHelpers (s .sizes .d) fresh helpers) ∷ apart fresh helpers ∷ []) (not-no _ (e .1 .1 .1 .1 .1 .1 .0)) in
+    record {
+      is-sound = not-no _ (e .0);
+      area-is = eqb-true _ _ (not-no _ (e .1 .0));
+      is-written = not-no _ (e .1 .1 .1 .0);
+      fresh-count = eqb-true _ _ (c .0);
+      helper-count = eqb-true _ _ (c .1 .0);
+      named-below = not-no _ (e .1 .1 .1 .1 .1 .0);
+      fresh-different = d .0;
+      hear-different = d .1 .0;
+      none-fresh = d .1 .1 .0;
+      all-up = not-no _ (e .1 .1 .1 .1 .1 .1 .1 .0);
+    }
+
+pub record Reads (s : Record) (m : ℕ) (boards output : List ℕ) : Type 0 where
+  pub is-sound : sound s ≡ true
+  pub area-is : m ≡ areaLen s
+  pub is-written : s .written ≡ true
+  pub count : length boards ≡ s .sizes .k
+  pub named-below : below (s .sizes .n) boards ≡ true
+  pub all-different : different boards ≡ true
+  pub all-up : every (inService s) boards ≡ true
+  pub room : s .length ≤ length output
+
+pub read-facts : (xs : List ℕ) (s : Record) (area boards output : List ℕ) → first storeOrder (readLines xs s area boards output) ≡ Pass
+    → Reads s (length area) boards output × (given (fileHeld xs s area boards) ≡ true)
+unfolding readLines
+read-facts xs s area boards output h =
+    let e = first-clear (readLines xs s area boards output) storeOrder h in (
+      record {
+        is-sound = not-no _ (e .0);
+        area-is = eqb-true _ _ (not-no _ (e .1 .0));
+        is-written = not-no _ (e .1 .1 .1 .0);
+        count = eqb-true _ _ (not-no _ (e .1 .1 .1 .1 .0));
+        named-below = not-no _ (e .1 .1 .1 .1 .1 .0);
+        all-different = not-no _ (e .1 .1 .1 .1 .1 .1 .0);
+        all-up = not-no _ (e .1 .1 .1 .1 .1 .1 .1 .0);
+        room = ltb-false _ _ (e .1 .1 .1 .1 .1 .1 .1 .1 .0);
+      },
+      not-no _ (e .1 .1 .1 .1 .1 .1 .1 .1 .1 .0),
+    )
+
+pub reads-pass : (xs : List ℕ) (s : Record) (area boards output : List ℕ) → Reads s (length area) boards output
+    → given (fileHeld xs s area boards) ≡ true → equalPoints xs (readRuns (s .sizes) boards) ≡ false
+    → first storeOrder (readLines xs s area boards output) ≡ Pass
+unfolding readLines
+reads-pass xs s area boards output f g p =
+    clear-first (readLines xs s area boards output) storeOrder (
+      ap not (f .is-sound),
+      (
+        ap not (eq-eqb _ _ (f .area-is)),
+        (
+          refl,
+          (
+            ap not (f .is-written),
+            (
+              ap not (eq-eqb _ _ (f .count)),
+              (
+                ap not (f .named-below),
+                (ap not (f .all-different), (ap not (f .all-up), (le-ltb _ _ (f .room), (ap not g, (p, tt))))),
+              ),
+            ),
+          ),
+        ),
+      ),
+    )

@@ -1,0 +1,129 @@
+-- A read: store and ledger reply alike; and every read of k different boards in service gives the book's file.
+-- Assumes nothing.
+use Prim.Native.Nat.{ℕ, suc, _+_, _-_, _*_, _≤_, _<_}
+use mathlib.Core.Path.{_≡_, refl, sym, _∙_, ap, subst}
+use mathlib.Core.Bool.{Bool, true, false, not}
+use mathlib.Core.List.{List, [], _∷_, _++_, map}
+use mathlib.Core.Option.{Option, some, none}
+use native.Mathlib.Omega.{arith}
+use lib.ListN.{length, getD}
+use lib.Dec.{eqb, ltb}
+use borrow.Author.Tests.{eqb-true}
+use Rattle.lists.specs.Lists.{over}
+use Rattle.lists.specs.Tests.{below, different, every, among, given}
+use Rattle.lists.proofs.Alls.{all-imp}
+use Rattle.lists.proofs.Boards.{joined-all, all-below, all-among}
+use Rattle.lists.proofs.Tests.{both, every-all, not-no}
+use Rattle.sizes.specs.Refusals.{first, storeOrder, said}
+use Rattle.sizes.specs.Sizing.{legal}
+use Rattle.sizes.specs.declared.Answer.the-variants.{Done}
+use Rattle.sizes.specs.declared.Check.the-variants.{Pass}
+use Rattle.sizes.specs.declared.Sizes.{Sizes}
+use Rattle.sizes.proofs.Legal.{legal-facts}
+use Rattle.sizes.proofs.Lines.{first-agree}
+use Rattle.mbcr.specs.Read.{readFile}
+use Rattle.mbcr.specs.Share.{DifferentPoints, share}
+use Rattle.mbcr.proofs.Points.{boards-of}
+use Rattle.board_spec.specs.Calls.{fileOf, equalPoints, readRuns}
+use Rattle.board_spec.proofs.Runs.{read-runs}
+use Rattle.store_spec.specs.Calls.{accepted, fileHeld, readLines, readCall}
+use Rattle.store_spec.specs.Ledger.{read, Book, bookRecord, bookLength, bookLines, act, enter, accept}
+use Rattle.store_spec.specs.Record.{held, inService}
+use Rattle.store_spec.proofs.Marks.{off-none, marksOf}
+use Rattle.store_spec.proofs.Records.{Sound, read-facts, blank-off, reads-pass}
+use Rattle.store_spec.proofs.Seam.{Laws}
+use Rattle.store_spec.proofs.Step.{Inv, facts, lawful, size-off, area-same, every-same, up, Good, good-both, refusal-good, settle-pass}
+
+module _ (xs : List ℕ) (laws : (z : Sizes) → legal z ≡ true → DifferentPoints z xs → Laws xs z) (b : Book) (area : List ℕ) (v : Inv xs b area) where
+  known : Sound (bookRecord b)
+  known = facts xs laws b area v
+
+  reading : (boards : List ℕ) → length boards ≡ b .sizes .k → below (b .sizes .n) boards ≡ true → different boards ≡ true → every (among (b .service)) boards ≡ true
+      → fileHeld xs (bookRecord b) area boards ≡ some (fileOf (b .file))
+  reading boards c l d u =
+      let m = joined-all (held (bookRecord b) area) (share (b .sizes) xs (fileOf (b .file))) boards
+      (all-imp (λ i. among (b .service) i ≡ true) _ (λ i e. v .holds i e) boards (every-all (among (b .service)) boards u)) in
+      ap (readFile (b .sizes) xs (bookLength b) boards) m ∙ lawful xs laws b area v .reads (fileOf (b .file)) (v .bytes) boards c l d
+
+  points-off : (boards : List ℕ) → below (b .sizes .n) boards ≡ true → different boards ≡ true → equalPoints xs (readRuns (b .sizes) boards) ≡ false
+  points-off boards l d = read-runs (b .sizes) xs (legal-facts (b .sizes) (known .is-legal)) (v .points) boards (boards-of (b .sizes) boards l d)
+
+  read-same : (boards output : List ℕ)
+      → first storeOrder (readLines xs (bookRecord b) area boards output) ≡ first storeOrder (bookLines b (read boards output))
+  unfolding readLines bookLines
+  read-same boards output =
+      first-agree (readLines xs (bookRecord b) area boards output) (bookLines b (read boards output)) storeOrder (
+        size-off xs laws b area v,
+        λ _. (
+          area-same xs laws b area v,
+          λ _. (
+            refl,
+            λ _. (
+              refl,
+              λ _. (
+                refl,
+                λ c. (
+                  refl,
+                  λ l. (
+                    refl,
+                    λ d. (
+                      ap not (every-same (inService (bookRecord b)) (among (b .service)) boards (up xs laws b area v)),
+                      λ u. (
+                        refl,
+                        λ _. (
+                          ap (λ (o : Option (List ℕ)). not (given o)) (reading boards (eqb-true _ _ (not-no _ c)) (not-no _ l) (not-no _ d) (not-no _ u)),
+                          λ _.
+                              (points-off boards (not-no _ l) (not-no _ d), λ _. tt),
+                        ),
+                      ),
+                    ),
+                  ),
+                ),
+              ),
+            ),
+          ),
+        ),
+      )
+
+  pub read-good : (boards output : List ℕ) → Good xs (act xs (record { kept = bookRecord b; area = area }) (read boards output)) (enter b (read boards output))
+  unfolding act enter accept readCall
+  read-good boards output =
+      good-both xs _ _ _ _ _ _ (read-same boards output) (refusal-good xs laws b area v output)
+      (λ e. let f = read-facts xs (bookRecord b) area boards output e .0 in
+      let u : every (among (b .service)) boards ≡ true = sym (every-same (inService (bookRecord b)) (among (b .service)) boards (up xs laws b area v)) ∙ f .all-up in
+      rw (reading boards (f .count) (f .named-below) (f .all-different) u) (record { alike = refl; same-record = refl; inv = v }))
+
+  -- where a board is in service, a file was accepted
+  some-written : (boards : List ℕ) → length boards ≡ b .sizes .k → every (among (b .service)) boards ≡ true → given (b .file) ≡ true
+  some-written [] c u = let k = legal-facts (b .sizes) (known .is-legal) .some-read in absurd (omega arith)
+  some-written (x ∷ l) c u = go (given (b .file)) refl
+    where
+      go : (t : Bool) → given (b .file) ≡ t → given (b .file) ≡ true
+      go true e = e
+      go false e =
+          absurd (off-none (marksOf (b .service)) x (blank-off (bookRecord b) (known .blank) e) (up xs laws b area v x ∙ both (among (b .service) x) (every (among (b .service)) l) u .0))
+
+  -- every read of k different boards in service with output long enough
+  pub read-gives : (boards output : List ℕ) → length boards ≡ b .sizes .k → different boards ≡ true → every (among (b .service)) boards ≡ true
+      → bookLength b ≤ length output
+      → readCall xs (bookRecord b) area boards output
+      ≡ accepted 0 (bookRecord b) area (over (fileOf (b .file)) output)
+  unfolding readCall
+  read-gives boards output c d u r =
+      let w = some-written boards c u in
+      let l : below (b .sizes .n) boards ≡ true = all-below (b .sizes .n) boards
+      (all-imp (λ i. among (b .service) i ≡ true) (λ i. i < b .sizes .n) (λ i e. all-among (λ x. x < b .sizes .n) (b .service) i (v .serving) e) boards
+      (every-all (among (b .service)) boards u)) in
+      let file = reading boards c l d u in
+      let p : first storeOrder (readLines xs (bookRecord b) area boards output) ≡ Pass = reads-pass xs (bookRecord b) area boards output (record {
+        is-sound = v .is-sound;
+        area-is = v .as-long ∙ v .room w;
+        is-written = w;
+        count = c;
+        named-below = l;
+        all-different = d;
+        all-up = every-same (inService (bookRecord b)) (among (b .service)) boards (up xs laws b area v) ∙ u;
+        room = r;
+      }) (ap (given) file) (points-off boards l d) in
+      settle-pass _ _ _ p
+      ∙ ap (λ (x : Option (List ℕ)). accepted 0 (bookRecord b) area (over (fileOf x) output)) file

@@ -1,0 +1,141 @@
+-- Demand 1 of the store: every call ends, on any record, area and lists, with its result or with the first refusal whose line holds, and a
+-- refusal hands back the record as it came and changes no byte. And what an accepted call does to record, area and output, over any area.
+-- proofs/Demand1.antt has `demand-1 : StoreCalls`.
+-- Assumes nothing.
+use mathlib.Core.Path.{_≡_}
+use mathlib.Core.Bool.{true, false}
+use mathlib.Core.Logic.{_≢_, _↔_, _⊎_}
+use mathlib.Core.Option.{none}
+use mathlib.Core.List.{List, [], _∷_, _++_}
+use Prim.Native.Nat.{ℕ, _+_, _*_, _≤_, _<_}
+use lib.ListN.{length, take, drop, getD}
+use Rattle.lists.specs.Tests.{every, alls, below, among, different, apart}
+use Rattle.lists.specs.Lists.{All, Bytes, tabulate, piece, over}
+use Rattle.sizes.specs.declared.Sizes.{Sizes}
+use Rattle.sizes.specs.declared.Refusal.{Refusal}
+use Rattle.sizes.specs.declared.Refusal.the-variants.{Size, Area, Long, Count, Node, Repeat, Short, Empty, Down, Disagree, Points}
+use Rattle.sizes.specs.declared.Answer.the-variants.{Done, Refused}
+use Rattle.sizes.specs.Sizing.{maxBoards, maxStripes, legal, α, B, stripes}
+use Rattle.sizes.specs.Refusals.{said, Line, holdsIn, storeOrder}
+use Rattle.sizes.specs.Laws.{First}
+use Rattle.mbcr.specs.Share.{standard, DifferentPoints, stripe, kept, share}
+use Rattle.board_spec.specs.Calls.{equalPoints, readRuns}
+use Rattle.board_spec.specs.Claims.{Claim, _means_, LinesSay}
+use Rattle.store_spec.specs.Packets.{repairRuns}
+use Rattle.store_spec.specs.Record.{Record, inService, sound, newRecord, writtenRecord, stripeCount, partLen, usedLen, held}
+use Rattle.store_spec.specs.Calls.{StoreOutcome, accepted, refused, fileHeld, recordLine, writeLines, loseLines, repairLines, readLines, setUpCall, writeDone, writeCall}
+use Rattle.store_spec.specs.Calls.{loseDone, loseCall, repairDone, repairCall, readDone, readCall}
+use Rattle.store_spec.specs.Ledger.{Call, write, lose, repair, read, Book, bookRecord, bookLines}
+
+-- one call: its lines; record, area and output as they came; what it does where no line holds; and its outcome
+pub record StoreEnds (lines : List Line) (s : Record) (area output : List ℕ) (done o : StoreOutcome) : Type 0 where
+  -- some line is the first that holds, or none holds
+  pub one : ((x : Refusal) × First storeOrder lines x) ⊎ All (λ x. holdsIn lines x ≡ false) storeOrder
+  -- "The first that applies is given", and all is as it came
+  pub refuses : (x : Refusal) → First storeOrder lines x → o ≡ record { answer = said (Refused x); handed = s; area = area; output = output }
+  -- "otherwise the call does its work"
+  pub works : All (λ x. holdsIn lines x ≡ false) storeOrder → (o ≡ done) × (o .answer .refusal ≡ 0)
+
+-- "Other bytes stay": of an area, outside the first S stripes of these boards
+pub record Stays (s : Record) (boards old new : List ℕ) : Type 0 where
+  pub as-long : length new ≡ length old
+  pub same-byte : (p : ℕ) → ((i : ℕ) → among boards i ≡ true → (p < i * partLen s) ⊎ (i * partLen s + usedLen s ≤ p)) → getD new p 0 ≡ getD old p 0
+
+-- a call's lines by the store
+unfoldable pub storeLines : List ℕ → Record → List ℕ → Call → List Line
+storeLines xs s area (write file) = writeLines s (length area) file
+storeLines xs s area (lose board) = loseLines s board
+storeLines xs s area (repair fresh helpers) = repairLines xs s (length area) fresh helpers
+storeLines xs s area (read boards output) = readLines xs s area boards output
+
+-- what the lines of each call say
+module _ (s : Record) where
+  -- the first two of them, where an area is lent
+  abbrev pub lentClaims : ℕ → List Claim
+  lentClaims m = Size means (sound s ≡ false) ∷ Area means (m ≢ s .sizes .n * (s .capacity * α (s .sizes))) ∷ []
+
+  abbrev pub writeClaims : ℕ → List ℕ → List Claim
+  writeClaims m file = lentClaims m ++ (Long means (s .capacity * B (s .sizes) < length file) ∷ [])
+
+  abbrev pub loseClaims : ℕ → List Claim
+  loseClaims board = Size means (sound s ≡ false) ∷ Node means (below (s .sizes .n) (board ∷ []) ≡ false) ∷ []
+
+  abbrev pub repairClaims : List ℕ → ℕ → List ℕ → List ℕ → List Claim
+  repairClaims xs m fresh helpers =
+      lentClaims m
+      ++ (Empty means (s .written ≡ false)
+      ∷ Count means ((length fresh ≡ s .sizes .r) × (length helpers ≡ s .sizes .r * s .sizes .d) → ⊥)
+      ∷ Node means (below (s .sizes .n) (fresh ++ helpers) ≡ false)
+      ∷ Repeat means
+      (alls (different fresh ∷ every different (tabulate (length fresh) (λ a. piece (s .sizes .d) a helpers)) ∷ apart fresh helpers ∷ []) ≡ false)
+      ∷ Down means (every (inService s) helpers ≡ false)
+      ∷ Points means (equalPoints xs (repairRuns s fresh helpers) ≡ true)
+      ∷ [])
+
+  abbrev pub readClaims : List ℕ → List ℕ → List ℕ → List ℕ → List Claim
+  readClaims xs area boards output =
+      lentClaims (length area)
+      ++ (Empty means (s .written ≡ false)
+      ∷ Count means (length boards ≢ s .sizes .k)
+      ∷ Node means (below (s .sizes .n) boards ≡ false)
+      ∷ Repeat means (different boards ≡ false)
+      ∷ Down means (every (inService s) boards ≡ false)
+      ∷ Short means (length output < s .length)
+      ∷ Disagree means (fileHeld xs s area boards ≡ none)
+      ∷ Points means (equalPoints xs (readRuns (s .sizes) boards) ≡ true)
+      ∷ [])
+
+pub record StoreCalls : Type 0 where
+  -- the lines of each call say this, and it has no others
+  pub write-lines : (s : Record) (m : ℕ) (file : List ℕ) → LinesSay (writeLines s m file) (writeClaims s m file)
+  pub lose-lines : (s : Record) (board : ℕ) → LinesSay (loseLines s board) (loseClaims s board)
+  pub repair-lines : (xs : List ℕ) (s : Record) (m : ℕ) (fresh helpers : List ℕ)
+      → LinesSay (repairLines xs s m fresh helpers) (repairClaims s xs m fresh helpers)
+  pub read-lines : (xs : List ℕ) (s : Record) (area boards output : List ℕ)
+      → LinesSay (readLines xs s area boards output) (readClaims s xs area boards output)
+  pub set-up-ends : (old : Record) (z : Sizes) (c : ℕ)
+      → StoreEnds (recordLine (newRecord z c) ∷ []) old [] [] (accepted 0 (newRecord z c) [] []) (setUpCall old z c)
+  pub write-ends : (xs : List ℕ) (s : Record) (area file : List ℕ)
+      → StoreEnds (writeLines s (length area) file) s area [] (writeDone xs s area file) (writeCall xs s area file)
+  pub lose-ends : (s : Record) (area : List ℕ) (board : ℕ) → StoreEnds (loseLines s board) s area [] (loseDone s area board) (loseCall s area board)
+  pub repair-ends : (xs : List ℕ) (s : Record) (area fresh helpers : List ℕ)
+      → StoreEnds (repairLines xs s (length area) fresh helpers) s area [] (repairDone xs s area fresh helpers) (repairCall xs s area fresh helpers)
+  pub read-ends : (xs : List ℕ) (s : Record) (area boards output : List ℕ)
+      → StoreEnds (readLines xs s area boards output) s area output (readDone xs s area boards output) (readCall xs s area boards output)
+  -- when a set-up is accepted
+  pub set-up-accepted : (old : Record) (z : Sizes) (c : ℕ) → (setUpCall old z c .answer .refusal ≡ 0) ↔ ((legal z ≡ true) × (1 ≤ c) × (c ≤ maxStripes))
+  -- the records that are not SIZE, in propositions
+  pub sound-is : (s : Record) → (sound s ≡ true)
+      ↔ ((legal (s .sizes) ≡ true) × (1 ≤ s .capacity) × (s .capacity ≤ maxStripes) × (s .length ≤ s .capacity * B (s .sizes))
+      × ((i : ℕ) → inService s i ≡ true → i < s .sizes .n)
+      × (s .written ≡ false → (s .length ≡ 0) × ((i : ℕ) → inService s i ≡ true → ⊥)))
+  -- "stripe s of board i starts at (i × C + s) × α", in what is held and after a write
+  pub held-place : (s : Record) (area : List ℕ) (i t : ℕ) → t < stripeCount s
+      → piece (α (s .sizes)) t (held s area i) ≡ take (α (s .sizes)) (drop ((i * s .capacity + t) * α (s .sizes)) area)
+  pub write-place : (xs : List ℕ) (s : Record) (area file : List ℕ) → writeCall xs s area file .answer .refusal ≡ 0
+      → (i t : ℕ) → i < s .sizes .n → t < stripes (s .sizes) (length file)
+      → take (α (s .sizes)) (drop ((i * s .capacity + t) * α (s .sizes)) (writeCall xs s area file .area)) ≡ kept (s .sizes) xs (stripe (s .sizes) file t) i
+  -- "Other bytes stay." "Only the first S stripes of fresh boards change."
+  pub write-stays : (xs : List ℕ) (s : Record) (area file : List ℕ) → writeCall xs s area file .answer .refusal ≡ 0
+      → Stays (writtenRecord s (length file)) (tabulate (s .sizes .n) (λ i. i)) area (writeCall xs s area file .area)
+  pub repair-stays : (xs : List ℕ) (s : Record) (area fresh helpers : List ℕ) → repairCall xs s area fresh helpers .answer .refusal ≡ 0
+      → Stays s fresh area (repairCall xs s area fresh helpers .area)
+  -- a read over any area, where no line but DISAGREE holds: it gives f exactly when f has length L and the k boards hold its shares, and
+  -- DISAGREE exactly when there is no such file
+  pub read-exact : (xs : List ℕ) (s : Record) (area boards output : List ℕ) → DifferentPoints (s .sizes) xs → Bytes area
+      → All (λ x. (x ≡ Disagree) ⊎ (holdsIn (readLines xs s area boards output) x ≡ false)) storeOrder
+      → ((file : List ℕ) → length file ≡ s .length → Bytes file
+      → (readCall xs s area boards output ≡ accepted 0 s area (over file output))
+      ↔ All (λ i. held s area i ≡ share (s .sizes) xs file i) boards)
+      × ((readCall xs s area boards output ≡ refused s area output Disagree)
+      ↔ ((file : List ℕ) → length file ≡ s .length → Bytes file → All (λ i. held s area i ≡ share (s .sizes) xs file i) boards → ⊥))
+  -- the ledger's lines are the store's: for each refusal but 1, 10 and 11, by any book that tells legal sizes and names boards below n
+  pub lines-agree : (xs : List ℕ) (b : Book) (area : List ℕ) (call : Call) → legal (b .sizes) ≡ true → All (λ i. i < b .sizes .n) (b .service) → length area ≡ b .areaLength
+      → All (λ x. holdsIn (storeLines xs (bookRecord b) area call) x ≡ holdsIn (bookLines b call) x)
+      (Area ∷ Long ∷ Empty ∷ Count ∷ Node ∷ Repeat ∷ Down ∷ Short ∷ [])
+  -- with document 01's points no call answers 11 POINTS, on any record, area and lists
+  pub no-points : (s : Record) (area : List ℕ) →
+      ((file : List ℕ) → writeCall standard s area file .answer .refusal ≢ 11)
+      × ((board : ℕ) → loseCall s area board .answer .refusal ≢ 11)
+      × ((fresh helpers : List ℕ) → repairCall standard s area fresh helpers .answer .refusal ≢ 11)
+      × ((boards output : List ℕ) → readCall standard s area boards output .answer .refusal ≢ 11)

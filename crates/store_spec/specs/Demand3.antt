@@ -1,0 +1,100 @@
+-- Demand 3, whole: one claim over any list of writes, losses, repairs and reads. proofs/Demand3.antt has `demand-3 : Demand3Claim`.
+-- Assumes nothing.
+use Prim.Native.Nat.{ℕ, _+_, _-_, _*_, _≤_, _<_}
+use mathlib.Core.Path.{_≡_}
+use mathlib.Core.Bool.{true}
+use mathlib.Core.List.{List, _++_, map}
+use lib.ListN.{length, take, drop, getD}
+use Rattle.lists.specs.Tests.{every, among, different}
+use Rattle.lists.specs.Lists.{joined, without, over}
+use Rattle.sizes.specs.declared.Sizes.{Sizes}
+use Rattle.sizes.specs.declared.Answer.the-variants.{Done}
+use Rattle.sizes.specs.Refusals.{said}
+use Rattle.mbcr.specs.Share.{standard, DifferentPoints, share}
+use Rattle.mbcr.specs.Rebuild.{helperPacket, exchangePacket, finishedShare}
+use Rattle.board_spec.specs.Calls.{fileOf}
+use Rattle.store_spec.specs.Record.{Record, stripeCount, held}
+use Rattle.store_spec.specs.Packets.{sentTo, sendersOf, contents, total, helperPackets, exchangePackets, repairPackets, freshShare}
+use Rattle.store_spec.specs.Calls.{StoreOutcome, accepted, setUpCall, repairCall, readCall}
+use Rattle.store_spec.specs.Ledger.{Call, Book, State, Step, Altered, Allowed, openBook, bookLength, bookRecord, replies, final, bookReplies, bookFinal}
+
+-- After the list, also where bytes of boards out of service were altered since the last call: `now` is the area.
+pub record Kept (xs : List ℕ) (w : State) (b : Book) : Type 0 where
+  -- the record is the one that the book tells
+  pub same-record : w .kept ≡ bookRecord b
+  -- "every board in service holds its share of that file": the first S stripes of its part of the area are its share
+  pub holds : (now : List ℕ) → Altered b (w .kept) (w .area) now
+      → (i : ℕ) → among (b .service) i ≡ true
+      → held (w .kept) now i ≡ share (b .sizes) xs (fileOf (b .file)) i
+  -- "a read of any k different boards in service, with output long enough, is accepted and gives exactly the last file accepted"
+  pub gives : (now : List ℕ) → Altered b (w .kept) (w .area) now
+      → (boards output : List ℕ)
+      → length boards ≡ b .sizes .k
+      → different boards ≡ true
+      → every (among (b .service)) boards ≡ true
+      → bookLength b ≤ length output
+      → readCall xs (w .kept) now boards output
+      ≡ accepted 0 (w .kept) now (over (fileOf (b .file)) output)
+
+-- An accepted repair, over any record and any area.
+pub record Repaired (xs : List ℕ) (s : Record) (area fresh helpers : List ℕ) : Type 0 where
+  -- "the bytes moved, the summed length of all packets: S × r × (2d + r − 1)"
+  pub moved : repairCall xs s area fresh helpers .answer ≡ said (Done (total (repairPackets xs s area fresh helpers)))
+  pub moved-is : total (repairPackets xs s area fresh helpers) ≡ stripeCount s * s .sizes .r * (2 * s .sizes .d + s .sizes .r - 1)
+  -- the packets are those of the helpers and those that fresh boards exchange, which the fresh shares are made of
+  pub packets-are : repairPackets xs s area fresh helpers ≡ helperPackets xs s area fresh helpers ++ exchangePackets xs s area fresh helpers
+  pub shares-are : (i : ℕ) → freshShare xs s area fresh helpers i
+      ≡ finishedShare (s .sizes) xs (stripeCount s) i
+      (sendersOf (sentTo i (helperPackets xs s area fresh helpers))) (contents (sentTo i (helperPackets xs s area fresh helpers)))
+      (sendersOf (sentTo i (exchangePackets xs s area fresh helpers))) (contents (sentTo i (exchangePackets xs s area fresh helpers)))
+  -- the a-th fresh board's helpers are the a-th run of d, its partners the other fresh boards
+  pub helpers-are : (a : ℕ) → a < length fresh
+      → sendersOf (sentTo (getD fresh a 0) (helperPackets xs s area fresh helpers)) ≡ take (s .sizes .d) (drop (a * s .sizes .d) helpers)
+  pub partners-are : (i : ℕ) → among fresh i ≡ true → sendersOf (sentTo i (exchangePackets xs s area fresh helpers)) ≡ without i fresh
+  -- "these are the board-level packets of its senders": a helper's from what it holds, a partner's from its own helper packets
+  pub helpers-send : (i : ℕ) → among fresh i ≡ true → contents (sentTo i (helperPackets xs s area fresh helpers))
+      ≡ joined (λ j. helperPacket (s .sizes) xs (stripeCount s) j i (held s area j)) (sendersOf (sentTo i (helperPackets xs s area fresh helpers)))
+  pub partners-send : (i : ℕ) → among fresh i ≡ true → contents (sentTo i (exchangePackets xs s area fresh helpers))
+      ≡ joined
+      (λ m. exchangePacket (s .sizes) xs (stripeCount s) (sendersOf (sentTo m (helperPackets xs s area fresh helpers)))
+      (contents (sentTo m (helperPackets xs s area fresh helpers))) i)
+      (without i fresh)
+  -- "every fresh board gets exactly 2d + r − 1 bytes per stripe"
+  pub gets : (i : ℕ) → among fresh i ≡ true
+      → total (sentTo i (repairPackets xs s area fresh helpers)) ≡ stripeCount s * (2 * s .sizes .d + s .sizes .r - 1)
+  -- "and, over any area, then holds what document 01's steps make of them": the finished share of just the packets sent to it
+  pub has : (i : ℕ) → among fresh i ≡ true → held s (repairCall xs s area fresh helpers .area) i ≡ freshShare xs s area fresh helpers i
+
+-- the store newly set up, whatever record was handed to it and whatever the area holds
+abbrev pub begun : Record → Sizes → ℕ → List ℕ → State
+begun old z c area = record { kept = setUpCall old z c .handed; area = area }
+
+abbrev pub calls : List Step → List Call
+calls steps = map (λ t. t .call) steps
+
+-- What demand 3 says of one list of calls.
+pub record Demand3 (xs : List ℕ) (old : Record) (z : Sizes) (c : ℕ) (area : List ℕ) (steps : List Step) : Type 0 where
+  -- "every call answers as document 01's ledger does"
+  pub alike : replies xs (begun old z c area) steps ≡ bookReplies (openBook z c (length area)) (calls steps)
+  -- "After the list"
+  pub after : Kept xs (final xs (begun old z c area) steps) (bookFinal (openBook z c (length area)) (calls steps))
+  -- "In each accepted repair", in this list or not
+  pub repaired : (s : Record) (any fresh helpers : List ℕ) → repairCall xs s any fresh helpers .answer .refusal ≡ 0 → Repaired xs s any fresh helpers
+
+-- Demand 3: for every accepted set-up, any first area and any list of calls that is allowed. The points are document 01's (`standard`) or any
+-- others that differ.
+abbrev pub Demand3Claim : Type 0
+Demand3Claim =
+    (xs : List ℕ) (old : Record) (z : Sizes) (c : ℕ) (area : List ℕ) (steps : List Step)
+    → setUpCall old z c .answer .refusal ≡ 0
+    → DifferentPoints z xs
+    → Allowed xs (begun old z c area) (openBook z c (length area)) steps
+    → Demand3 xs old z c area steps
+
+-- The same with document 01's points, which differ.
+abbrev pub Demand3Standard : Type 0
+Demand3Standard =
+    (old : Record) (z : Sizes) (c : ℕ) (area : List ℕ) (steps : List Step)
+    → setUpCall old z c .answer .refusal ≡ 0
+    → Allowed standard (begun old z c area) (openBook z c (length area)) steps
+    → Demand3 standard old z c area steps

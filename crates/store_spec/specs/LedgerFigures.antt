@@ -1,0 +1,75 @@
+-- Figures of the ledger: a list of calls, refused and accepted, with the replies written out; the store's replies to the same calls, with bytes
+-- of lost boards altered between them; the book after them. proofs/LedgerFigures.antt has `ledger-figures`.
+-- Assumes nothing.
+use mathlib.Core.Path.{_≡_}
+use mathlib.Core.List.{List, [], _∷_, _++_, map}
+use mathlib.Core.Option.{some}
+use Prim.Native.Nat.{ℕ}
+use lib.ListN.{replicate}
+use Rattle.mbcr.specs.Share.{standard}
+use Rattle.store_spec.specs.Record.{newRecord}
+use Rattle.store_spec.specs.Ledger.{Call, write, lose, repair, read, Reply, Book, State, Step, Allowed, openBook, replies, bookReplies, bookFinal}
+use Rattle.store_spec.specs.Demand3.{begun, calls}
+use Rattle.store_spec.specs.FurtherFigures.{five, fiveFile, boards234, area, spoiled, helpers}
+
+-- what is replied: the refusal's number or 0, the number reported, all bytes of the output
+abbrev reply : ℕ → ℕ → List ℕ → Reply
+reply refusal value output = record { answer = record { refusal = refusal; value = value }; output = output }
+
+abbrev step : List ℕ → Call → Step
+step lent call = record { area = lent; call = call }
+
+-- five boards of one stripe. Boards 0 and 1 are lost and spoiled, rebuilt, and board 1 is lost again and spoiled.
+abbrev blank : List ℕ
+blank = replicate 35 0xEE
+
+abbrev pub start : State
+start = begun (newRecord five 1) five 1 blank
+
+abbrev pub opened : Book
+opened = openBook five 1 35
+
+abbrev again : List ℕ
+again = replicate 7 0 ++ replicate 7 0x99 ++ boards234
+
+abbrev pub steps : List Step
+steps =
+    step blank (read (2 ∷ 3 ∷ []) (0x55 ∷ []))
+    ∷ step blank (write (replicate 13 0))
+    ∷ step blank (write fiveFile)
+    ∷ step area (lose 5)
+    ∷ step area (lose 0)
+    ∷ step area (lose 1)
+    ∷ step spoiled (read (0 ∷ 2 ∷ []) (replicate 14 0x55))
+    ∷ step spoiled (repair (0 ∷ 1 ∷ []) (2 ∷ 3 ∷ 4 ∷ 2 ∷ 3 ∷ []))
+    ∷ step spoiled (repair (0 ∷ 1 ∷ []) helpers)
+    ∷ step area (lose 1)
+    ∷ step again (read (4 ∷ 0 ∷ []) (replicate 14 0x55))
+    ∷ step again (read (4 ∷ 0 ∷ []) (replicate 11 0x55))
+    ∷ []
+
+abbrev pub told : List Reply
+told =
+    reply 8 0 (0x55 ∷ [])
+    ∷ reply 3 0 []
+    ∷ reply 0 0 []
+    ∷ reply 5 0 []
+    ∷ reply 0 0 []
+    ∷ reply 0 0 []
+    ∷ reply 9 0 (replicate 14 0x55)
+    ∷ reply 4 0 []
+    ∷ reply 0 14 []
+    ∷ reply 0 0 []
+    ∷ reply 0 0 (0 ∷ 0 ∷ 0 ∷ 0 ∷ 0 ∷ 0 ∷ 0 ∷ 0 ∷ 0 ∷ 0 ∷ 0 ∷ 1 ∷ 0x55 ∷ 0x55 ∷ [])
+    ∷ reply 7 0 (replicate 11 0x55)
+    ∷ []
+
+pub record LedgerFigures : Type 0 where
+  -- the list is allowed
+  pub allowed : Allowed standard start opened steps
+  -- what the ledger replies, and what the store does
+  pub book-replies : bookReplies opened (calls steps) ≡ told
+  pub store-replies : replies standard start steps ≡ told
+  -- the book after them
+  pub book-after : bookFinal opened (calls steps)
+      ≡ record { sizes = five; capacity = 1; areaLength = 35; file = some fiveFile; service = 0 ∷ 2 ∷ 3 ∷ 4 ∷ [] }

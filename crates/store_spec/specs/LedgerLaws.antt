@@ -1,0 +1,34 @@
+-- What a call changes in the ledger's book: nothing where it is refused; else the file and the boards in service that document 01 says, and no
+-- others. proofs/LedgerLaws.antt has `ledger-laws : LedgerLaws`.
+-- Assumes nothing.
+use mathlib.Core.Path.{_≡_}
+use mathlib.Core.Bool.{true, false}
+use mathlib.Core.List.{List}
+use mathlib.Core.Option.{some}
+use Prim.Native.Nat.{ℕ}
+use lib.Dec.{ltb, eqb}
+use Rattle.lists.specs.Tests.{pick, among}
+use Rattle.store_spec.specs.Ledger.{Call, write, lose, repair, read, Book, outputOf, enter}
+
+abbrev pub Accepted : Book → Call → Type 0
+Accepted b call = enter b call .reply .answer .refusal ≡ 0
+
+pub record LedgerLaws : Type 0 where
+  -- "and then changes nothing"
+  pub refused : (b : Book) (call : Call) → (Accepted b call → ⊥) → (enter b call .book ≡ b) × (enter b call .reply .output ≡ outputOf call)
+  -- sizes, capacity and the area's length stay
+  pub stay : (b : Book) (call : Call)
+      → (enter b call .book .sizes ≡ b .sizes) × (enter b call .book .capacity ≡ b .capacity) × (enter b call .book .areaLength ≡ b .areaLength)
+  -- "all n come into service"
+  pub writes : (b : Book) (file : List ℕ) → Accepted b (write file)
+      → (enter b (write file) .book .file ≡ some file) × ((i : ℕ) → among (enter b (write file) .book .service) i ≡ ltb i (b .sizes .n))
+  -- "its mark goes off"
+  pub loses : (b : Book) (board : ℕ) → Accepted b (lose board)
+      → (enter b (lose board) .book .file ≡ b .file)
+      × ((i : ℕ) → among (enter b (lose board) .book .service) i ≡ pick (eqb board i) false (among (b .service) i))
+  -- "Fresh boards .. come into service together"
+  pub repairs : (b : Book) (fresh helpers : List ℕ) → Accepted b (repair fresh helpers)
+      → (enter b (repair fresh helpers) .book .file ≡ b .file)
+      × ((i : ℕ) → among (enter b (repair fresh helpers) .book .service) i ≡ pick (among fresh i) true (among (b .service) i))
+  -- a read changes no book
+  pub reads : (b : Book) (boards output : List ℕ) → enter b (read boards output) .book ≡ b

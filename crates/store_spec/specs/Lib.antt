@@ -1,0 +1,12 @@
+pub mod Record
+pub mod Packets
+pub mod Calls
+pub mod Ledger
+pub mod Demand1
+pub mod Demand3
+pub mod Premises
+pub mod LedgerLaws
+pub mod MarkLaws
+pub mod FurtherFigures
+pub mod LedgerFigures
+pub mod Stripes

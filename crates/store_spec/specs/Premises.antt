@@ -1,0 +1,45 @@
+-- Demand 3's premises can be met: which lists of calls are allowed, and which areas are altered in no more than bytes of boards out of service.
+-- proofs/Premises.antt has `premises : Premises`.
+-- Assumes nothing.
+use mathlib.Core.Path.{_≡_}
+use mathlib.Core.Bool.{true}
+use mathlib.Core.List.{List, [], _∷_}
+use mathlib.Core.Logic.{_↔_}
+use Prim.Native.Nat.{ℕ, _+_, _*_, _≤_, _<_}
+use lib.ListN.{length, getD}
+use Rattle.lists.specs.Tests.{among}
+use Rattle.lists.specs.Lists.{All, Bytes}
+use Rattle.sizes.specs.declared.Sizes.{Sizes}
+use Rattle.sizes.specs.Sizing.{α}
+use Rattle.store_spec.specs.Record.{Record}
+use Rattle.store_spec.specs.Ledger.{Call, write, lose, repair, read, Book, State, Step, Altered, Allowed, left, act, openBook}
+use Rattle.store_spec.specs.Demand3.{begun, calls}
+
+-- the files that a list of calls writes
+abbrev pub files : List Call → List (List ℕ)
+files [] = []
+files (write file ∷ cs) = file ∷ files cs
+files (lose board ∷ cs) = files cs
+files (repair fresh helpers ∷ cs) = files cs
+files (read boards output ∷ cs) = files cs
+
+-- the steps of these calls with nothing altered between them: each is given the area that the last one left
+abbrev pub unaltered : List ℕ → State → List Call → List Step
+unaltered xs w [] = []
+unaltered xs w (call ∷ cs) = record { area = w .area; call = call } ∷ unaltered xs (left (act xs w call)) cs
+
+-- the two areas agree in each byte that lies in the C × α bytes of a board in service
+abbrev pub AgreeInService : Book → Record → List ℕ → List ℕ → Type 0
+AgreeInService b s old new =
+    (i p : ℕ) → among (b .service) i ≡ true
+    → i * (s .capacity * α (s .sizes)) ≤ p → p < i * (s .capacity * α (s .sizes)) + s .capacity * α (s .sizes)
+    → getD new p 0 ≡ getD old p 0
+
+pub record Premises : Type 0 where
+  -- every list of calls whose files are of bytes is allowed, with nothing altered, after a set-up of any sizes over any area
+  pub all-allowed : (xs : List ℕ) (old : Record) (z : Sizes) (c : ℕ) (area : List ℕ) (cs : List Call) → All Bytes (files cs)
+      → Allowed xs (begun old z c area) (openBook z c (length area)) (unaltered xs (begun old z c area) cs)
+  -- these steps are of these calls
+  pub same-calls : (xs : List ℕ) (w : State) (cs : List Call) → calls (unaltered xs w cs) ≡ cs
+  -- altered is an area exactly where it is as long and agrees in each byte of a board in service
+  pub altered-is : (b : Book) (s : Record) (old new : List ℕ) → Altered b s old new ↔ ((length new ≡ length old) × AgreeInService b s old new)

@@ -1,0 +1,43 @@
+-- A repair stripe by stripe: what one with room for a single stripe works out. `own j` is what board j holds of the stripe, `helpers i` the
+-- helpers of fresh board i.
+-- Assumes nothing.
+use Prim.Native.Nat.{ℕ}
+use mathlib.Core.Path.{_≡_}
+use mathlib.Core.Bool.{true}
+use mathlib.Core.List.{List, [], _∷_, map}
+use Rattle.lists.specs.Tests.{among}
+use Rattle.lists.specs.Lists.{join, piece, without}
+use Rattle.sizes.specs.declared.Sizes.{Sizes}
+use Rattle.sizes.specs.Sizing.{α}
+use Rattle.polynomial.specs.Polynomial.{eval}
+use Rattle.mbcr.specs.Share.{point}
+use Rattle.mbcr.specs.Rebuild.{ownF, ownG, gFrom, finishedStripe}
+use Rattle.store_spec.specs.Record.{Record, stripeCount, held}
+use Rattle.store_spec.specs.Packets.{sentTo, sendersOf, helperPackets, freshShare}
+use Rattle.store_spec.specs.Calls.{repairCall}
+
+module _ (z : Sizes) (xs : List ℕ) (own : ℕ → List ℕ) (fresh : List ℕ) (helpers : ℕ → List ℕ) where
+  -- the first bytes that fresh board i hears: F(x_j, y_i)
+  unfoldable pub firsts : ℕ → List ℕ
+  firsts i = map (λ j. eval (ownF z xs j (own j)) (point xs i)) (helpers i)
+
+  -- the second bytes: F(x_i, y_j)
+  unfoldable pub seconds : ℕ → List ℕ
+  seconds i = map (λ j. eval (ownG z xs j (own j)) (point xs i)) (helpers i)
+
+  -- the byte that fresh board m sends to fresh board i
+  unfoldable pub exchangedByte : ℕ → ℕ → ℕ
+  exchangedByte m i = eval (gFrom z xs (helpers m) (firsts m)) (point xs i)
+
+  -- the stripe that fresh board i finishes
+  unfoldable pub freshStripe : ℕ → List ℕ
+  freshStripe i = finishedStripe z xs i (helpers i) (firsts i) (seconds i) (without i fresh) (map (λ m. exchangedByte m i) (without i fresh))
+
+-- In an accepted repair over any area a fresh share is its finished stripes, each from the same stripe of its helpers.
+abbrev pub ByStripes : Type 0
+ByStripes =
+    (xs : List ℕ) (s : Record) (area fresh helpers : List ℕ) → repairCall xs s area fresh helpers .answer .refusal ≡ 0
+    → (i : ℕ) → among fresh i ≡ true
+    → freshShare xs s area fresh helpers i
+    ≡ join (stripeCount s)
+    (λ t. freshStripe (s .sizes) xs (λ j. piece (α (s .sizes)) t (held s area j)) fresh (λ m. sendersOf (sentTo m (helperPackets xs s area fresh helpers))) i)

@@ -1,0 +1,127 @@
+-- The contracts of the archive's eleven calls are what the definitions say: `zbk` and `zbkSetUp` for the store, and board level's calls. A contract is
+-- taken as the checker hands it to a caller: `Asked` is its `requires`, `Learnt` its `ensures`. So a call that ensures less, or requires
+-- something, is refused here.
+-- Assumes nothing.
+use mathlib.Core.Path.{_≡_}
+use mathlib.Core.List.{List, []}
+use Prim.Native.Nat.{ℕ}
+use contract.Lifetimes.{Lfts}
+use denote.Ref.{now}
+use denote.Triple.Clauses.{AtExit}
+use borrow.Fn.Kinds.{Dens, endedOf}
+use Rattle.mbcr.specs.Share.{standard}
+use Rattle.board_spec.specs.Calls.{BoardOutcome, shareCall, fileCall, helperCall, exchangeCall, finishedCall, textCall}
+use Rattle.store_spec.specs.Ledger.{write, lose, repair, read}
+use Rattle.answer_word.specs.Answers.{wordOf}
+use Rattle.zebrankai.specs.Archive.{sizesOf}
+use Rattle.zebrankai.specs.Lent.{Lent, zbkSetUp, zbk}
+use Rattle.zebrankai.proofs.zbk_set_up.Reads as set-ups
+use Rattle.zebrankai.proofs.zbk_set_up.Kinds as set-up-kinds
+use Rattle.zebrankai.proofs.zbk_write.Reads as writes
+use Rattle.zebrankai.proofs.zbk_write.Kinds as write-kinds
+use Rattle.zebrankai.proofs.zbk_lose.Reads as loses
+use Rattle.zebrankai.proofs.zbk_lose.Kinds as lose-kinds
+use Rattle.zebrankai.proofs.zbk_repair.Reads as repairs
+use Rattle.zebrankai.proofs.zbk_repair.Kinds as repair-kinds
+use Rattle.zebrankai.proofs.zbk_read.Reads as reads
+use Rattle.zebrankai.proofs.zbk_read.Kinds as read-kinds
+use Rattle.zebrankai.proofs.zbk_share.Reads as share-reads
+use Rattle.zebrankai.proofs.zbk_share.Kinds as share-kinds
+use Rattle.zebrankai.proofs.zbk_file.Reads as file-reads
+use Rattle.zebrankai.proofs.zbk_file.Kinds as file-kinds
+use Rattle.zebrankai.proofs.zbk_helper_packet.Reads as helper-reads
+use Rattle.zebrankai.proofs.zbk_helper_packet.Kinds as helper-kinds
+use Rattle.zebrankai.proofs.zbk_exchange_packet.Reads as exchange-reads
+use Rattle.zebrankai.proofs.zbk_exchange_packet.Kinds as exchange-kinds
+use Rattle.zebrankai.proofs.zbk_finished_share.Reads as finished-reads
+use Rattle.zebrankai.proofs.zbk_finished_share.Kinds as finished-kinds
+use Rattle.zebrankai.proofs.zbk_share_text.Reads as text-reads
+use Rattle.zebrankai.proofs.zbk_share_text.Kinds as text-kinds
+
+-- ---- the store
+
+abbrev lent : ℕ → List ℕ → List ℕ → List ℕ → Lent
+lent w ws area output = record { answer = w; words = ws; area = area; output = output }
+
+pub set-up-gives : (κs : Lfts 1) (a : Dens κs set-up-kinds.ps) (w : ℕ) (e : AtExit (endedOf 1 set-up-kinds.ps set-up-kinds.r) κs)
+    → set-ups.Asked κs a
+    × (set-ups.Learnt κs a w e
+    → lent w (now (e .0)) [] [] ≡ zbkSetUp (now (a .0)) (sizesOf (a .1 .0) (a .1 .1 .0) (a .1 .1 .1 .0) (a .1 .1 .1 .1 .0)) (a .1 .1 .1 .1 .1 .0))
+set-up-gives κs a w e = (tt, λ h. h)
+
+pub write-gives : (κs : Lfts 3) (a : Dens κs write-kinds.ps) (w : ℕ) (e : AtExit (endedOf 3 write-kinds.ps write-kinds.r) κs)
+    → writes.Asked κs a
+    × (writes.Learnt κs a w e → lent w (now (e .0)) (now (e .1 .0)) [] ≡ zbk (now (a .0)) (now (a .1 .0)) (write (now (a .1 .1 .0))))
+write-gives κs a w e = (tt, λ h. h)
+
+-- whatever the area, which it is not lent
+pub lose-gives : (κs : Lfts 1) (a : Dens κs lose-kinds.ps) (w : ℕ) (e : AtExit (endedOf 1 lose-kinds.ps lose-kinds.r) κs)
+    → loses.Asked κs a
+    × (loses.Learnt κs a w e → (area : List ℕ) → lent w (now (e .0)) area [] ≡ zbk (now (a .0)) area (lose (a .1 .0)))
+lose-gives κs a w e = (tt, λ h. h)
+
+pub repair-gives : (κs : Lfts 4) (a : Dens κs repair-kinds.ps) (w : ℕ) (e : AtExit (endedOf 4 repair-kinds.ps repair-kinds.r) κs)
+    → repairs.Asked κs a
+    × (repairs.Learnt κs a w e
+    → lent w (now (e .0)) (now (e .1 .0)) [] ≡ zbk (now (a .0)) (now (a .1 .0)) (repair (now (a .1 .1 .0)) (now (a .1 .1 .1 .0))))
+repair-gives κs a w e = (tt, λ h. h)
+
+pub read-gives : (κs : Lfts 4) (a : Dens κs read-kinds.ps) (w : ℕ) (e : AtExit (endedOf 4 read-kinds.ps read-kinds.r) κs)
+    → reads.Asked κs a
+    × (reads.Learnt κs a w e
+    → lent w (now (e .0)) (now (a .1 .0)) (now (e .1 .1 .1 .0)) ≡ zbk (now (a .0)) (now (a .1 .0)) (read (now (a .1 .1 .0)) (now (a .1 .1 .1 .0))))
+read-gives κs a w e = (tt, λ h. h)
+
+-- ---- board level: the word of the answer, and all bytes of the output; the arguments behind the four sizes are b
+
+abbrev Gives : ℕ → List ℕ → BoardOutcome → Type 0
+Gives w output o = (w ≡ wordOf (o .answer)) × (output ≡ o .output)
+
+pub share-gives : (κs : Lfts 2) (a : Dens κs share-kinds.ps) (w : ℕ) (e : AtExit (endedOf 2 share-kinds.ps share-kinds.r) κs)
+    → share-reads.Asked κs a
+    × (share-reads.Learnt κs a w e
+    → let b = a .1 .1 .1 .1 in
+    Gives w (now (e .1 .1 .1 .1 .1 .1 .0))
+    (shareCall (sizesOf (a .0) (a .1 .0) (a .1 .1 .0) (a .1 .1 .1 .0)) standard (b .0) (now (b .1 .0)) (now (b .1 .1 .0))))
+share-gives κs a w e = (tt, λ h. h)
+
+pub file-gives : (κs : Lfts 3) (a : Dens κs file-kinds.ps) (w : ℕ) (e : AtExit (endedOf 3 file-kinds.ps file-kinds.r) κs)
+    → file-reads.Asked κs a
+    × (file-reads.Learnt κs a w e
+    → let b = a .1 .1 .1 .1 in
+    Gives w (now (e .1 .1 .1 .1 .1 .1 .1 .0))
+    (fileCall (sizesOf (a .0) (a .1 .0) (a .1 .1 .0) (a .1 .1 .1 .0)) standard (b .0) (now (b .1 .0)) (now (b .1 .1 .0)) (now (b .1 .1 .1 .0))))
+file-gives κs a w e = (tt, λ h. h)
+
+pub helper-gives : (κs : Lfts 2) (a : Dens κs helper-kinds.ps) (w : ℕ) (e : AtExit (endedOf 2 helper-kinds.ps helper-kinds.r) κs)
+    → helper-reads.Asked κs a
+    × (helper-reads.Learnt κs a w e
+    → let b = a .1 .1 .1 .1 in
+    Gives w (now (e .1 .1 .1 .1 .1 .1 .1 .1 .0))
+    (helperCall (sizesOf (a .0) (a .1 .0) (a .1 .1 .0) (a .1 .1 .1 .0)) standard (b .0) (b .1 .0) (b .1 .1 .0) (now (b .1 .1 .1 .0)) (now (b .1 .1 .1 .1 .0))))
+helper-gives κs a w e = (tt, λ h. h)
+
+pub exchange-gives : (κs : Lfts 3) (a : Dens κs exchange-kinds.ps) (w : ℕ) (e : AtExit (endedOf 3 exchange-kinds.ps exchange-kinds.r) κs)
+    → exchange-reads.Asked κs a
+    × (exchange-reads.Learnt κs a w e
+    → let b = a .1 .1 .1 .1 in
+    Gives w (now (e .1 .1 .1 .1 .1 .1 .1 .1 .1 .0))
+    (exchangeCall (sizesOf (a .0) (a .1 .0) (a .1 .1 .0) (a .1 .1 .1 .0)) standard (b .0) (b .1 .0) (now (b .1 .1 .0)) (now (b .1 .1 .1 .0)) (b .1 .1 .1 .1 .0) (now (b .1 .1 .1 .1 .1 .0))))
+exchange-gives κs a w e = (tt, λ h. h)
+
+pub finished-gives : (κs : Lfts 5) (a : Dens κs finished-kinds.ps) (w : ℕ) (e : AtExit (endedOf 5 finished-kinds.ps finished-kinds.r) κs)
+    → finished-reads.Asked κs a
+    × (finished-reads.Learnt κs a w e
+    → let b = a .1 .1 .1 .1 in
+    Gives w (now (e .1 .1 .1 .1 .1 .1 .1 .1 .1 .1 .0))
+    (finishedCall (sizesOf (a .0) (a .1 .0) (a .1 .1 .0) (a .1 .1 .1 .0)) standard (b .0) (b .1 .0) (now (b .1 .1 .0)) (now (b .1 .1 .1 .0))
+    (now (b .1 .1 .1 .1 .0)) (now (b .1 .1 .1 .1 .1 .0)) (now (b .1 .1 .1 .1 .1 .1 .0))))
+finished-gives κs a w e = (tt, λ h. h)
+
+pub text-gives : (κs : Lfts 2) (a : Dens κs text-kinds.ps) (w : ℕ) (e : AtExit (endedOf 2 text-kinds.ps text-kinds.r) κs)
+    → text-reads.Asked κs a
+    × (text-reads.Learnt κs a w e
+    → let b = a .1 .1 .1 .1 in
+    Gives w (now (e .1 .1 .1 .1 .1 .1 .1 .0))
+    (textCall (sizesOf (a .0) (a .1 .0) (a .1 .1 .0) (a .1 .1 .1 .0)) standard (b .0) (b .1 .0) (now (b .1 .1 .0)) (now (b .1 .1 .1 .0))))
+text-gives κs a w e = (tt, λ h. h)

@@ -1,0 +1,74 @@
+//! Draws calls of the store, single ones and those of a history. Their lists are right, as far as there are boards in service for them.
+
+use crate::call::Call;
+use crate::code::Sizes;
+use crate::draw;
+use crate::random::Random;
+
+/// A single call of any kind; sometimes any boards are taken.
+pub fn call(random: &mut Random, sizes: Sizes, capacity: usize, in_service: &[usize]) -> Call {
+    let all: Vec<usize> = (0..sizes.n).collect();
+    let boards = if random.once_in(8) { &all } else { in_service };
+    match random.below(8) {
+        0 => Call::SetUp { sizes, capacity },
+        1 => lose(random, sizes),
+        2 => write(random, sizes, capacity),
+        3..=4 => repair(random, sizes, boards),
+        _ => read(random, sizes, boards),
+    }
+}
+
+/// The next call of a history: mostly losses, repairs and reads, so that boards are rebuilt from rebuilt boards; writes are few. Boards are mostly
+/// lost only as far as those in service can still rebuild them.
+pub fn next_call(random: &mut Random, sizes: Sizes, capacity: usize, in_service: &[usize]) -> Call {
+    let Sizes { n, d, r, .. } = sizes;
+    let lost = n - in_service.len();
+    let all: Vec<usize> = (0..n).collect();
+    // d helpers are left beside the boards that are lost or fresh
+    let can_repair = lost.max(r) + d <= n;
+    let can_lose = (lost + 1).max(r) + d <= n;
+    match random.below(20) {
+        0 => write(random, sizes, capacity),
+        1 => repair(random, sizes, &all),
+        2 => read(random, sizes, &all),
+        3..=9 if can_lose || random.once_in(10) => lose(random, sizes),
+        3..=14 if can_repair => repair(random, sizes, in_service),
+        3..=14 => write(random, sizes, capacity),
+        _ => read(random, sizes, in_service),
+    }
+}
+
+/// The output that a call is lent, over a file of so many bytes; empty where it takes none.
+pub fn output(random: &mut Random, call: &Call, length: usize) -> Vec<u8> {
+    match call {
+        Call::Read { .. } => draw::output(random, length),
+        _ => Vec::new(),
+    }
+}
+
+/// A write, sometimes of a file that is too long by one byte.
+fn write(random: &mut Random, sizes: Sizes, capacity: usize) -> Call {
+    let too_long = random.once_in(12);
+    let length = if too_long { capacity * sizes.stripe_len() + 1 } else { draw::length(random, sizes, capacity) };
+    Call::Write { file: random.bytes(length) }
+}
+
+fn lose(random: &mut Random, sizes: Sizes) -> Call {
+    Call::Lose { board: random.below(sizes.n) }
+}
+
+/// A repair: boards out of service first, each with helpers of its own out of those in service.
+fn repair(random: &mut Random, sizes: Sizes, in_service: &[usize]) -> Call {
+    let out_of_service = (0..sizes.n).filter(|board| !in_service.contains(board)).collect();
+    let mut fresh = random.choose(out_of_service, sizes.r);
+    let others = random.choose(in_service.to_vec(), sizes.r - fresh.len());
+    fresh.extend(others);
+    let left: Vec<usize> = in_service.iter().copied().filter(|board| !fresh.contains(board)).collect();
+    let helpers = (0..sizes.r).flat_map(|_| random.choose(left.clone(), sizes.d)).collect();
+    Call::Repair { fresh, helpers }
+}
+
+/// A read from k of these boards.
+fn read(random: &mut Random, sizes: Sizes, boards: &[usize]) -> Call {
+    Call::Read { boards: random.choose(boards.to_vec(), sizes.k) }
+}
