@@ -5,10 +5,12 @@
 # beside a neutral control, crates/NAME/neutral/LABEL.edit, which tests/neutral.sh tries.
 set -eu
 cd "$(dirname "$0")/.."
-# adds EDIT: whether a new text of code in src/, which is no contract's, has more operators, statements or braces than its old one
+# adds EDIT: whether a new text of code in src/, which is no contract's, has more operators, statements or braces than its old one; a number
+# below zero is an operand
 adds() {
     awk '
         /^file: / { code = /^file: src\// }
+        { gsub(/ -[0-9]+/, " 0") }
         /^old: / { contract = /≡|⌜/; n = gsub(/[&|^!+*\/%;{-]/, "") }
         /^new:/ && code && !contract && !/≡|⌜/ && gsub(/[&|^!+*\/%;{-]/, "") > n { found = 1 }
         END { exit !found }
