@@ -2,10 +2,9 @@
 ghost use mathlib.Core.Path.{_≡_};
 ghost use mathlib.Core.List.{[], _∷_, _++_};
 ghost use Prim.Native.Nat.{_+_, _*_, _≤_};
-ghost use lib.ListN.{length, drop};
+ghost use lib.ListN.{length, take};
 ghost use mathlib.Core.Bool.{true, not};
 ghost use lib.Dec.{eqb};
-ghost use lib.ListN.{take};
 ghost use Rattle.lists.specs.Tests.{different};
 ghost use Rattle.sizes.specs.Sizing.{legal, B, stripes};
 ghost use Rattle.sizes.specs.Refusals.{_when_, first, boardOrder};
@@ -15,18 +14,6 @@ ghost use Rattle.checks.specs.Steps.{asked, statedLines};
 use sizes::Check;
 use sizes::Refusal;
 use sizes::Sizes;
-
-// The boards to the beginning of out.
-pub fn copy_boards(boards: &[usize], out: &mut [usize])
-    requires { ⌜ length (now boards) ≤ length (now out) ⌝ }
-    ensures { λ _. ⌜ now (out .exit) ≡ now (boards .entry) ++ drop (length (now (boards .entry))) (now (out .entry)) ⌝ }
-{
-    let mut t: usize = 0;
-    while t < boards.len() {
-        out[t] = boards[t];
-        t += 1;
-    }
-}
 
 // The points of document 01: the byte i for board i.
 const STANDARD: [u8; 32] = [

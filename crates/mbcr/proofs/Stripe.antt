@@ -1,4 +1,4 @@
--- One stripe: what a board keeps fixes its f and g; helper pairs, exchanged bytes and the finishedShare stripe are those of the stripe's F.
+-- One stripe: what a board keeps fixes its f and g; helper pairs, exchanged bytes and the finished stripe are those of the stripe's F.
 -- Assumes nothing.
 use mathlib.Core.Path.{_≡_, refl, sym, ap, ap₂, fun-ext, _∙_}
 use mathlib.Core.List.{List, [], _∷_, _++_, map}

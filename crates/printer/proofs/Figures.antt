@@ -12,4 +12,4 @@ use Rattle.printer.specs.Figures.{PrinterFigures}
 
 pub figures : PrinterFigures
 unfolding piece add product reduce mul squares inverse legal B stripes stripe grid F neighbours symbols kept share shares decimal shareText shareLines shareCall shared printed
-figures = record { example = refl; empty = refl; all-differ = refl; most = refl; one-more = refl; malformed = refl; unended = refl; illegal = refl; long = refl; boards = refl }
+figures = record { refused-lines = refl; example = refl; empty = refl; all-differ = refl; most = refl; one-more = refl; malformed = refl; unended = refl; illegal = refl; long = refl; boards = refl }

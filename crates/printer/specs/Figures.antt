@@ -36,6 +36,11 @@ abbrev lengthAndData : List ℕ → List ℕ → List ℕ
 lengthAndData figures pairs = textLine (0x6C ∷ 0x65 ∷ 0x6E ∷ 0x67 ∷ 0x74 ∷ 0x68 ∷ []) figures ++ textLine (0x64 ∷ 0x61 ∷ 0x74 ∷ 0x61 ∷ []) pairs
 
 pub record PrinterFigures : Type 0 where
+  -- "one line `refused=` with the number"
+  pub refused-lines : map refusedLine (1 ∷ 11 ∷ [])
+      ≡ (0x72 ∷ 0x65 ∷ 0x66 ∷ 0x75 ∷ 0x73 ∷ 0x65 ∷ 0x64 ∷ 0x3D ∷ 0x31 ∷ 0x0A ∷ [])
+      ∷ (0x72 ∷ 0x65 ∷ 0x66 ∷ 0x75 ∷ 0x73 ∷ 0x65 ∷ 0x64 ∷ 0x3D ∷ 0x31 ∷ 0x31 ∷ 0x0A ∷ [])
+      ∷ []
   -- "Input n=2, k=1, d=1, r=1, node=0 and bytes 05 03 give, whole"
   pub example : printed (small zero-digit (5 ∷ 3 ∷ [])) ≡ small zero-digit (lengthAndData two (0x30 ∷ 0x35 ∷ 0x30 ∷ 0x36 ∷ []))
   pub empty : printed (small zero-digit []) ≡ small zero-digit (lengthAndData zero-digit [])

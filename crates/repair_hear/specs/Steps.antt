@@ -1,5 +1,5 @@
 -- A repair of one stripe by places: the a-th fresh board hears the a-th run of d helpers, and the other fresh boards in their order. The
--- definitions are those of the crate store_spec' specs/Stripes.antt, which names boards by their numbers; `own j` is what board j holds
+-- definitions are those of the crate store_spec's specs/Stripes.antt, which names boards by their numbers; `own j` is what board j holds
 -- of the stripe.
 -- Assumes nothing.
 use Prim.Native.Nat.{ℕ, zero, suc, _*_, _-_}

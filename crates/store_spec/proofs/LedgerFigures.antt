@@ -24,13 +24,13 @@ use Rattle.store_spec.specs.LedgerFigures.{start, opened, steps, LedgerF
 
 -- ---- the premises of a list, tested
 
-abbrev bytes : Call → Bool
+abbrev pub bytes : Call → Bool
 bytes (write file) = below 256 file
 bytes (lose board) = true
 bytes (repair fresh helpers) = true
 bytes (read boards output) = true
 
-abbrev agrees : Book → Record → List ℕ → List ℕ → Bool
+abbrev pub agrees : Book → Record → List ℕ → List ℕ → Bool
 agrees b s old new = pick (eqb (length new) (length old)) (every (λ i. same (part s new i) (part s old i)) (b .service)) false
 
 abbrev allows : State → Book → List Step → Bool
@@ -40,7 +40,7 @@ allows w b (t ∷ ts) =
     (pick (bytes (t .call)) (allows (left (stepOutcome standard w t)) (enter b (t .call) .book) ts) false)
     false
 
-agree : (b : Book) (s : Record) (old new : List ℕ) → agrees b s old new ≡ true → Altered b s old new
+pub agree : (b : Book) (s : Record) (old new : List ℕ) → agrees b s old new ≡ true → Altered b s old new
 agree b s old new e =
     let h = both (eqb (length new) (length old)) (every (λ i. same (part s new i) (part s old i)) (b .service)) e in
     record {
@@ -49,7 +49,7 @@ agree b s old new e =
           (all-among (λ x. same (part s new x) (part s old x) ≡ true) (b .service) i (every-all (λ x. same (part s new x) (part s old x)) (b .service) (h .1)) k);
     }
 
-fair : (call : Call) → bytes call ≡ true → Fair call
+pub fair : (call : Call) → bytes call ≡ true → Fair call
 fair (write file) e = below-all 256 file e
 fair (lose board) e = tt
 fair (repair fresh helpers) e = tt

@@ -1,4 +1,4 @@
--- The packets of a repair, stripe by stripe: a fresh share is its finishedShare stripes, each from the same stripe of the helpers.
+-- The packets of a repair, stripe by stripe: a fresh share is its finished stripes, each from the same stripe of the helpers.
 use Prim.Native.Nat.{ℕ, zero, suc, _+_, _-_, _*_, _≤_, _<_}
 use mathlib.Core.Path.{_≡_, refl, sym, _∙_, ap, subst}
 use mathlib.Core.Bool.{Bool, true, false}

@@ -1,14 +1,18 @@
 -- Figures of the archive's store calls, with words, answers and outputs written out: single calls, and a list of them, each on what the last
--- one left. proofs/Figures.antt has `archive-figures`.
+-- one left, with what demand 3 of the archive says of it: that it is allowed, what is compared, and where it ends. proofs/Figures.antt has
+-- `archive-figures`.
 -- Assumes nothing.
 use mathlib.Core.Path.{_≡_}
-use mathlib.Core.List.{List, [], _∷_}
+use mathlib.Core.List.{List, [], _∷_, map}
+use mathlib.Core.Option.{some}
 use Prim.Native.Nat.{ℕ}
 use lib.ListN.{replicate}
-use Rattle.store_spec.specs.Ledger.{write, lose, repair, read, Step}
+use Rattle.sizes.specs.declared.Sizes.{Sizes}
+use Rattle.store_spec.specs.Ledger.{write, lose, repair, read, Step, openBook, bookReplies}
+use Rattle.store_spec.specs.Demand3.{calls}
 use Rattle.zebrankai.specs.Archive.{sizesOf}
 use Rattle.zebrankai.specs.Lent.{Lent, zbkSetUp, zbk}
-use Rattle.zebrankai.specs.Demand3.{lents}
+use Rattle.zebrankai.specs.Demand3.{lents, AllowedLents, Told, told, inWord, endWords, endArea, endBook}
 
 -- n = 4, k = 1, d = 1, r = 2, C = 1: the file 01 02 03 is written on any bytes, boards 0 and 1 are lost and spoiled, one is read in vain, both
 -- are rebuilt, and the file is read from board 1
@@ -18,14 +22,39 @@ area = 0x01 ∷ 0x00 ∷ 0x09 ∷ 0x00 ∷ 0x09 ∷ 0x08 ∷ 0x09 ∷ 0x08 ∷ 0
 abbrev spoiled : List ℕ
 spoiled = 0x77 ∷ 0x77 ∷ 0x77 ∷ 0x66 ∷ 0x66 ∷ 0x66 ∷ 0x09 ∷ 0x08 ∷ 0x01 ∷ 0x08 ∷ 0x01 ∷ 0x00 ∷ []
 
-abbrev steps : List Step
+abbrev pub blank : List ℕ
+blank = replicate 12 0xEE
+
+abbrev pub four : Sizes
+four = sizesOf 4 1 1 2
+
+-- any eight words, over which the store is set up
+abbrev pub eight : List ℕ
+eight = replicate 8 8
+
+abbrev pub steps : List Step
 steps =
-    record { area = replicate 12 0xEE; call = write (1 ∷ 2 ∷ 3 ∷ []) }
+    record { area = blank; call = write (1 ∷ 2 ∷ 3 ∷ []) }
     ∷ record { area = area; call = lose 0 }
     ∷ record { area = area; call = lose 1 }
     ∷ record { area = spoiled; call = read (1 ∷ []) (replicate 4 0x55) }
     ∷ record { area = spoiled; call = repair (0 ∷ 1 ∷ []) (2 ∷ 3 ∷ []) }
     ∷ record { area = area; call = read (1 ∷ []) (replicate 4 0x55) }
+    ∷ []
+
+-- an answer word and an output
+abbrev says : ℕ → List ℕ → Told
+says w output = record { answer = w; output = output }
+
+-- DOWN; 6 bytes moved, which is 6 × 256; the file, and a byte past its end
+abbrev answers : List Told
+answers =
+    says 0 []
+    ∷ says 0 []
+    ∷ says 0 []
+    ∷ says 9 (replicate 4 0x55)
+    ∷ says 1536 []
+    ∷ says 0 (1 ∷ 2 ∷ 3 ∷ 0x55 ∷ [])
     ∷ []
 
 -- answer, marks, area and output of a call; the seven words before the marks are these after each
@@ -44,7 +73,17 @@ pub record ArchiveFigures : Type 0 where
       ≡ record { answer = 0; words = 7 ∷ 2 ∷ 4 ∷ 3 ∷ 5 ∷ 1 ∷ 6 ∷ 17 ∷ []; area = []; output = [] }
   pub not-lost : zbk (7 ∷ 2 ∷ 4 ∷ 3 ∷ 5 ∷ 1 ∷ 6 ∷ 25 ∷ []) [] (lose 7)
       ≡ record { answer = 5; words = 7 ∷ 2 ∷ 4 ∷ 3 ∷ 5 ∷ 1 ∷ 6 ∷ 25 ∷ []; area = []; output = [] }
-  -- boards 0 to 3, then 1 to 3, then 2 and 3, are in service; DOWN; 6 bytes moved, which is 6 × 256; the file, and a byte past its end
+  -- what is compared: the calls' words and outputs, and the ledger's
+  pub calls-say : map told (lents (zbkSetUp eight four 1 .words) steps) ≡ answers
+  pub ledger-says : map inWord (bookReplies (openBook four 1 12) (calls steps)) ≡ answers
+  -- bytes of lost boards altered between the calls are allowed
+  pub allowed : AllowedLents (zbkSetUp eight four 1 .words) blank (openBook four 1 12) steps
+  -- where it ends: all four boards in service, with the file
+  pub last-words : endWords eight four 1 blank steps ≡ 4 ∷ 1 ∷ 1 ∷ 2 ∷ 1 ∷ 1 ∷ 3 ∷ 15 ∷ []
+  pub last-area : endArea eight four 1 blank steps ≡ area
+  pub last-book : endBook eight four 1 blank steps
+      ≡ record { sizes = four; capacity = 1; areaLength = 12; file = some (1 ∷ 2 ∷ 3 ∷ []); service = 0 ∷ 1 ∷ 2 ∷ 3 ∷ [] }
+  -- boards 0 to 3, then 1 to 3, then 2 and 3, are in service
   pub listed : lents (4 ∷ 1 ∷ 1 ∷ 2 ∷ 1 ∷ 0 ∷ 0 ∷ 0 ∷ []) steps
       ≡ after 0 15 area []
       ∷ after 0 14 area []
