@@ -7,4 +7,5 @@ pub mod Read
 pub mod Places
 pub mod Linear
 pub mod Demand2
+pub mod Tight
 pub mod Figures

@@ -67,7 +67,7 @@ map-plus f g (x ∷ l) = ap {B = List ℕ} (λ t. add (f x) (g x) ∷ t) (map-pl
 
 -- ---- polynomials by their coefficients
 
-eval-ext : (p q : List ℕ) (x : ℕ) → ((i : ℕ) → getD p i 0 ≡ getD q i 0) → eval p x ≡ eval q x
+pub eval-ext : (p q : List ℕ) (x : ℕ) → ((i : ℕ) → getD p i 0 ≡ getD q i 0) → eval p x ≡ eval q x
 eval-ext [] q x h = sym (eval-zero q x (λ i. sym (h i)))
 eval-ext (a ∷ p) [] x h = eval-zero (a ∷ p) x h
 eval-ext (a ∷ p) (b ∷ q) x h = ap₂ (λ (c e : ℕ). add c (mul x e)) (h zero) (eval-ext p q x (λ i. h (suc i)))

@@ -111,17 +111,22 @@ pub fn share(sizes: Sizes, board: usize, file: &[u8]) -> Vec<u8> {
     share_by(sizes, &generator(sizes, board), file)
 }
 
+/// What boards keep of a stripe, as equations: the rows of their generators, one board after another.
+pub fn equations(sizes: Sizes, boards: &[usize]) -> Matrix {
+    let width = sizes.share_len();
+    let each: Vec<Matrix> = boards.iter().map(|&board| generator(sizes, board)).collect();
+    Matrix::new(boards.len() * width, sizes.stripe_len(), |e, m| each[e / width].at(e % width, m))
+}
+
 /// The file of `length` bytes that has these shares, one after another in the order of the boards; none where no file has them.
 pub fn file(sizes: Sizes, length: usize, boards: &[usize], shares: &[u8]) -> Option<Vec<u8>> {
     if sizes.stripes(length) == 0 {
         return Some(Vec::new());
     }
     let width = sizes.share_len();
-    let each: Vec<Matrix> = boards.iter().map(|&board| generator(sizes, board)).collect();
-    let equations = Matrix::new(boards.len() * width, sizes.stripe_len(), |e, m| each[e / width].at(e % width, m));
     let held: Vec<Matrix> = shares.chunks(shares.len() / boards.len()).map(|share| columns_of(share, width)).collect();
     let values = Matrix::new(boards.len() * width, sizes.stripes(length), |e, s| held[e / width].at(e % width, s));
-    match equations.solve(&values) {
+    match equations(sizes, boards).solve(&values) {
         Solutions::None => None,
         Solutions::Unsettled => panic!("{sizes:?}: the shares of boards {boards:?} do not settle a stripe"),
         Solutions::One(stripes) => {

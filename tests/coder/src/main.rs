@@ -3,9 +3,10 @@
 //!     coder [--seed N] [--calls N] [--only CASE] [--wrong answer|byte|word] [--trace] [--verbose]
 //!
 //! First the figures of document 01 are run, then random cases until so many calls are made: single calls at board level, single calls of the
-//! store over made-up records and areas, and long histories against a ledger. Each case draws from its own seed, made of the run's seed and
-//! the case's number: `--only` repeats one case. `--wrong` alters what the archive answers to one call, to show that this is reported.
-//! `--trace` prints each call before it is made, `--verbose` how often each call gave each refusal.
+//! store over made-up records and areas, long histories against a ledger, and second files that k − 1 boards do not tell from the first
+//! (request A.13 of document 02). Each case draws from its own seed, made of the run's seed and the case's number: `--only` repeats one case.
+//! `--wrong` alters what the archive answers to one call, to show that this is reported. `--trace` prints each call before it is made,
+//! `--verbose` how often each call gave each refusal.
 //!
 //! The last line counts calls and mismatches. The exit code is 1 where there is a mismatch, or where in a run of 20,000 calls or more some
 //! refusal that a call can give was never met.
@@ -26,6 +27,7 @@ mod spoil;
 mod store;
 mod store_cases;
 mod store_draw;
+mod tight;
 mod trial;
 
 use random::Random;
@@ -99,12 +101,14 @@ fn run_case(trial: &mut Trial, case: u64) {
         board_cases::run(trial, &mut random, sizes);
         store_cases::run(trial, &mut random, sizes);
         histories::run(trial, &mut random, sizes);
+        tight::run(trial, &mut random, sizes);
         return;
     }
     let sizes = draw::sizes(&mut random);
-    match random.below(9) {
+    match random.below(10) {
         0 => histories::run(trial, &mut random, sizes),
         1..=4 => store_cases::run(trial, &mut random, sizes),
+        5 => tight::run(trial, &mut random, sizes),
         _ => board_cases::run(trial, &mut random, sizes),
     }
 }

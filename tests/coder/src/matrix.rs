@@ -71,8 +71,8 @@ impl Matrix {
 
     /// Takes the unknown of a column out of the rows `targets`: adds to each, from place `from` on, the multiple of the column's own row that
     /// its cell in the column asks for.
-    fn clear(&mut self, column: usize, from: usize, targets: std::ops::Range<usize>) {
-        let row = self.row(column)[from..].to_vec();
+    fn clear(&mut self, own: usize, column: usize, from: usize, targets: std::ops::Range<usize>) {
+        let row = self.row(own)[from..].to_vec();
         for i in targets {
             let factor = self.at(i, column);
             if factor != 0 {
@@ -81,26 +81,61 @@ impl Matrix {
         }
     }
 
+    /// Brings a row that has the unknown of a column up from row `own` on, makes its cell there 01 and takes the unknown out of the rows below.
+    /// False where none has it.
+    fn settle(&mut self, own: usize, column: usize) -> bool {
+        let Some(pivot) = (own..self.rows).find(|&i| self.at(i, column) != 0) else {
+            return false;
+        };
+        self.swap_rows(own, pivot);
+        let inverse = FIELD.inverse(self.at(own, column));
+        FIELD.scale(&mut self.row_mut(own)[column..], inverse);
+        self.clear(own, column, column, own + 1..self.rows);
+        true
+    }
+
     /// The Z with `self` × Z = `right`, all columns of `right` at once.
     pub fn solve(&self, right: &Matrix) -> Solutions {
         let unknowns = self.columns;
         let mut system = self.beside(right);
         for column in 0..unknowns {
-            let Some(pivot) = (column..system.rows).find(|&i| system.at(i, column) != 0) else {
+            if !system.settle(column, column) {
                 return Solutions::Unsettled;
-            };
-            system.swap_rows(column, pivot);
-            let inverse = FIELD.inverse(system.at(column, column));
-            FIELD.scale(&mut system.row_mut(column)[column..], inverse);
-            system.clear(column, column, column + 1..system.rows);
+            }
         }
         // the rows below are 00 on the left by now
         if (unknowns..system.rows).any(|i| system.row(i)[unknowns..].iter().any(|&cell| cell != 0)) {
             return Solutions::None;
         }
         for column in (0..unknowns).rev() {
-            system.clear(column, unknowns, 0..column);
+            system.clear(column, column, unknowns, 0..column);
         }
         Solutions::One(Matrix::new(unknowns, right.columns, |i, j| system.at(i, unknowns + j)))
+    }
+
+    /// The lists z with `self` × z = 00: as many as span them all, each with 01 at an unknown that the equations leave free and 00 at the other
+    /// free ones. None where the rank is the number of unknowns.
+    pub fn kernel(&self) -> Vec<Vec<u8>> {
+        let mut system = self.clone();
+        let mut settled = Vec::new();
+        let mut free = Vec::new();
+        for column in 0..self.columns {
+            let own = settled.len();
+            if system.settle(own, column) {
+                system.clear(own, column, column, 0..own);
+                settled.push(column);
+            } else {
+                free.push(column);
+            }
+        }
+        let one = |&unknown: &usize| {
+            let mut list = vec![0; self.columns];
+            list[unknown] = 1;
+            for (own, &column) in settled.iter().enumerate() {
+                list[column] = system.at(own, unknown);
+            }
+            list
+        };
+        free.iter().map(one).collect()
     }
 }

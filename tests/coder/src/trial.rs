@@ -70,6 +70,9 @@ pub struct Trial {
     pub mismatches: u64,
     /// how often each call was accepted (0) or refused with each number, alike by the archive and by the coder
     pub met: [[u64; refusal::COUNTED]; CALLS.len()],
+    /// how many second files were found for k − 1 boards, and the calls made with them
+    pub second_files: u64,
+    pub second_calls: u64,
     pub place: Place,
     /// whether each call is printed before it is made, to find one that does not come back
     pub trace: bool,
@@ -88,6 +91,8 @@ impl Trial {
             calls: 0,
             mismatches: 0,
             met: [[0; refusal::COUNTED]; CALLS.len()],
+            second_files: 0,
+            second_calls: 0,
             place: Place::Figure(String::new()),
             trace: false,
             wrong,
@@ -166,6 +171,9 @@ impl Trial {
                 }
             }
         }
+        if self.second_files == 0 {
+            missing.push("a second file for k − 1 boards".to_string());
+        }
         missing
     }
 
@@ -175,6 +183,10 @@ impl Trial {
         for ((name, _), met) in CALLS.iter().zip(&self.met) {
             println!("{name:20} {}", met.iter().map(|count| format!("{count:>7}")).collect::<String>());
         }
+        println!(
+            "second files for k − 1 boards: {}, in {} of the calls of zbk_share",
+            self.second_files, self.second_calls
+        );
     }
 }
 
