@@ -28,7 +28,7 @@ use Rattle.checks.specs.Outcomes.{outcome}
 -- lines in the order in which a call tests them
 abbrev pub chain : List Line → Check
 chain [] = Pass
-chain (l ∷ lines) = pick (l .holds) (Refuse (l .gives)) (chain lines)
+chain (l ∷ lines) = pick (l .applies) (Refuse (l .refusal)) (chain lines)
 
 abbrev pub Passed : List Line → Type 0
 Passed lines = All (λ l. asked l ≡ Pass) lines

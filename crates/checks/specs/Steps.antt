@@ -10,7 +10,7 @@ use Rattle.sizes.specs.Refusals.{Line}
 use Rattle.board_spec.specs.Calls.{sizeLine, longLine}
 
 abbrev pub asked : Line → Check
-asked l = pick (l .holds) (Refuse (l .gives)) Pass
+asked l = pick (l .applies) (Refuse (l .refusal)) Pass
 
 abbrev pub statedLines : Sizes → ℕ → List Line
 statedLines z L = sizeLine z ∷ longLine z L ∷ []
