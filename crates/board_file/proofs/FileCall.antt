@@ -31,10 +31,10 @@ use Rattle.mbcr.proofs.Points.{boards-of}
 use Rattle.mbcr.proofs.Read.{length-decoded-file}
 use Rattle.board_spec.specs.Calls.{fileOf, countLine, nodeLine, repeatLine, areaLine, equalPoints, readRuns, fileLines, fileCall}
 use Rattle.board_spec.proofs.Runs.{read-runs}
-use Rattle.checks.specs.Steps.{asked}
+use Rattle.checks.specs.Steps.{asked, Stated}
 use Rattle.checks.specs.Outcomes.{outcome}
 use Rattle.checks.proofs.Answers.{passed, passes}
-use Rattle.checks.proofs.Facts.{Stated, refused-by, done-by}
+use Rattle.checks.proofs.Facts.{refused-by, done-by}
 
 -- ---- what the kernels ask
 

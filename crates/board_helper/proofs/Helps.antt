@@ -20,12 +20,12 @@ use Rattle.sizes.proofs.Lines.{first-clear}
 use Rattle.mbcr.specs.Rebuild.{helperPacket}
 use Rattle.mbcr.proofs.Repair.{length-packet}
 use Rattle.board_spec.specs.Calls.{helperLines, helperCall}
+use Rattle.checks.specs.Steps.{Stated}
 use Rattle.checks.specs.Outcomes.{outcome}
 use Rattle.checks.proofs.Facts.{refused-by, done-by}
 
 pub record Helps (z : Sizes) (L helper receiver : ℕ) (held output : List ℕ) : Type 0 where
-  pub is-legal : legal z ≡ true
-  pub not-long : L ≤ maxStripes * B z
+  pub stated : Stated z L
   pub helper-known : helper < z .n
   pub receiver-known : receiver < z .n
   pub held-is : length held ≡ stripes z L * α z
@@ -42,8 +42,7 @@ module _ (z : Sizes) (xs : List ℕ) (L helper receiver : ℕ) (held output : Li
       let k = e .1 .1 .1 in
       let known = below-all (z .n) (helper ∷ receiver ∷ []) (not-no _ (k .0)) in
       record {
-        is-legal = not-no _ (e .0);
-        not-long = ltb-false _ _ (e .1 .0);
+        stated = record { is-legal = not-no _ (e .0); not-long = ltb-false _ _ (e .1 .0) };
         helper-known = known .0;
         receiver-known = known .1 .0;
         held-is = eqb-true _ _ (alls-hold (eqb (length held) (stripes z L * α z) ∷ []) (not-no _ (k .1 .1 .0)) .0);

@@ -23,19 +23,13 @@ use Rattle.sizes.proofs.Legal.{legal-facts, α-most, B-most, stripes-least}
 use Rattle.sizes.proofs.Lines.{first-clear}
 use Rattle.board_spec.specs.Text.{shareText}
 use Rattle.board_spec.specs.Calls.{nodeLine, areaLine, textLines, textCall}
-use Rattle.checks.specs.Steps.{asked}
+use Rattle.checks.specs.Steps.{asked, Stated}
 use Rattle.checks.specs.Outcomes.{outcome}
 use Rattle.checks.proofs.Answers.{passed}
-use Rattle.checks.proofs.Facts.{Stated, refused-by, done-by}
+use Rattle.checks.proofs.Facts.{refused-by, done-by}
+use Rattle.text_writer.specs.Steps.{Writes}
 
--- what the writer asks
-pub record Writes (z : Sizes) (L node m : ℕ) : Type 0 where
-  pub is-legal : legal z ≡ true
-  pub low-node : node < 32
-  pub low-length : L ≤ 4096 * 992
-  pub low-held : m ≤ 4096 * 62
-
--- from the lines before SHORT
+-- what the writer asks, from the lines before SHORT
 pub writes : (z : Sizes) (L node m : ℕ) → Stated z L → asked (nodeLine z (node ∷ [])) ≡ Pass → asked (areaLine (eqb m (stripes z L * α z) ∷ [])) ≡ Pass
     → Writes z L node m
 writes z L node m s n a =

@@ -16,12 +16,8 @@ use Rattle.sizes.specs.Sizing.{maxStripes, legal, B}
 use Rattle.sizes.specs.Refusals.{first, boardOrder}
 use Rattle.sizes.proofs.Lines.{first-clear}
 use Rattle.board_spec.specs.Calls.{settled}
-use Rattle.checks.specs.Steps.{statedLines}
+use Rattle.checks.specs.Steps.{statedLines, Stated}
 use Rattle.checks.specs.Outcomes.{outcome}
-
-pub record Stated (z : Sizes) (L : ℕ) : Type 0 where
-  pub is-legal : legal z ≡ true
-  pub not-long : L ≤ maxStripes * B z
 
 pub stated-facts : (z : Sizes) (L : ℕ) → first boardOrder (statedLines z L) ≡ Pass → Stated z L
 stated-facts z L h = let e = first-clear (statedLines z L) boardOrder h in record { is-legal = not-no _ (e .0); not-long = ltb-false _ _ (e .1 .0) }

@@ -2,11 +2,10 @@
 //! the crate `store_spec` at document 01's points, for all input: the answer, the record, and every lent byte.
 ghost use mathlib.Core.Path.{_≡_};
 ghost use mathlib.Core.List.{List, []};
-ghost use mathlib.Core.Bool.{true};
-ghost use Prim.Native.Nat.{ℕ, _+_, _*_, _-_, _≤_};
-ghost use Rattle.sizes.specs.Sizing.{legal};
+ghost use Prim.Native.Nat.{ℕ, _+_, _*_, _-_};
 ghost use Rattle.mbcr.specs.Share.{standard};
 ghost use Rattle.store_spec.specs.Calls.{refused, setUpCall, writeCall, loseCall, repairCall, readCall};
+ghost use Rattle.store_checks.specs.Steps.{Bounded};
 ghost use Rattle.store.specs.Handing.{recordIn, outcomeIn};
 use sizes::Answer;
 use sizes::Check;
@@ -41,7 +40,7 @@ fn refuse(kept: Store, x: Refusal) -> Handed
 
 // The bytes that a repair of so many stripes moves.
 fn bytes_moved(sizes: Sizes, stripes: usize) -> usize
-    requires { ⌜ (legal sizes ≡ true) × (stripes ≤ 4096) ⌝ }
+    requires { ⌜ Bounded sizes stripes ⌝ }
     ensures { λ r. ⌜ r ≡ stripes * sizes .r * (2 * sizes .d + sizes .r - 1) ⌝ }
 {
     stripes * sizes.r * (2 * sizes.d + sizes.r - 1)
