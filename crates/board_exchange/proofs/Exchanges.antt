@@ -16,7 +16,7 @@ use Rattle.sizes.specs.declared.Check.{Check}
 use Rattle.sizes.specs.declared.Check.the-variants.{Pass, Refuse}
 use Rattle.sizes.specs.declared.Answer.the-variants.{Done, Refused}
 use Rattle.sizes.specs.Refusals.{first, boardOrder}
-use Rattle.sizes.specs.Sizing.{maxStripes, legal, B, stripes}
+use Rattle.sizes.specs.Sizing.{stripes}
 use Rattle.sizes.proofs.Lines.{first-clear}
 use Rattle.mbcr.specs.Rebuild.{exchangePacket}
 use Rattle.mbcr.proofs.Repair.{length-exchange}

@@ -17,7 +17,7 @@ use Rattle.sizes.specs.declared.Check.{Check}
 use Rattle.sizes.specs.declared.Check.the-variants.{Pass, Refuse}
 use Rattle.sizes.specs.declared.Answer.the-variants.{Done, Refused}
 use Rattle.sizes.specs.Refusals.{first, boardOrder}
-use Rattle.sizes.specs.Sizing.{maxStripes, legal, α, B, stripes}
+use Rattle.sizes.specs.Sizing.{α, stripes}
 use Rattle.sizes.proofs.Lines.{first-clear}
 use Rattle.sizes.proofs.Legal.{legal-facts}
 use Rattle.mbcr.specs.Rebuild.{finishedShare}

@@ -2,7 +2,6 @@
 -- Assumes nothing.
 use Prim.Native.Nat.{ℕ, _*_, _≤_, _<_}
 use mathlib.Core.Path.{_≡_, ap, ap₂, _∙_}
-use mathlib.Core.Bool.{true}
 use mathlib.Core.List.{List, [], _∷_, _++_}
 use borrow.Author.Tests.{ltb-false, eqb-true}
 use lib.Dec.{eqb}
@@ -15,7 +14,7 @@ use Rattle.sizes.specs.declared.Check.{Check}
 use Rattle.sizes.specs.declared.Check.the-variants.{Pass, Refuse}
 use Rattle.sizes.specs.declared.Answer.the-variants.{Done, Refused}
 use Rattle.sizes.specs.Refusals.{first, boardOrder}
-use Rattle.sizes.specs.Sizing.{maxStripes, legal, α, B, stripes}
+use Rattle.sizes.specs.Sizing.{α, stripes}
 use Rattle.sizes.proofs.Lines.{first-clear}
 use Rattle.mbcr.specs.Rebuild.{helperPacket}
 use Rattle.mbcr.proofs.Repair.{length-packet}

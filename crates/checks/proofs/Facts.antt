@@ -1,8 +1,7 @@
 -- What it says of a board-level call that its first two checks pass, and what a call answers by what its check answered.
 -- Assumes nothing.
-use Prim.Native.Nat.{ℕ, _*_, _≤_}
+use Prim.Native.Nat.{ℕ}
 use mathlib.Core.Path.{_≡_, sym, ap, _∙_}
-use mathlib.Core.Bool.{true}
 use mathlib.Core.List.{List, _++_}
 use lib.ListN.{length, drop}
 use borrow.Author.Tests.{ltb-false}
@@ -12,7 +11,6 @@ use Rattle.sizes.specs.declared.Refusal.{Refusal}
 use Rattle.sizes.specs.declared.Check.{Check}
 use Rattle.sizes.specs.declared.Check.the-variants.{Pass, Refuse}
 use Rattle.sizes.specs.declared.Answer.the-variants.{Done, Refused}
-use Rattle.sizes.specs.Sizing.{maxStripes, legal, B}
 use Rattle.sizes.specs.Refusals.{first, boardOrder}
 use Rattle.sizes.proofs.Lines.{first-clear}
 use Rattle.board_spec.specs.Calls.{settled}
