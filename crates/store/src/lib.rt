@@ -51,8 +51,7 @@ impl Store {
     pub fn set_up(self, sizes: Sizes, capacity: usize) -> Handed
         ensures { λ r. ⌜ outcomeIn r [] [] ≡ setUpCall (recordIn self) sizes capacity ⌝ }
     {
-        let marks = [false; 32];
-        if let Check::Refuse(x) = store_checks::check_record(sizes, capacity, false, 0, &marks) {
+        if let Check::Refuse(x) = record_checks::check_set_up(sizes, capacity) {
             return refuse(self, x);
         }
         Handed {
@@ -61,7 +60,7 @@ impl Store {
                 capacity: capacity,
                 written: false,
                 length: 0,
-                marks: marks,
+                marks: [false; 32],
             },
             answer: Answer::Done(0),
         }
@@ -106,17 +105,15 @@ impl Store {
     {
         let sizes = self.sizes;
         let marks = self.marks;
-        if let Check::Refuse(size) = store_checks::check_record(
+        if let Check::Refuse(x) = record_checks::check_lose(
             sizes,
             self.capacity,
             self.written,
             self.length,
             &marks,
+            board,
         ) {
-            return refuse(self, size);
-        }
-        if let Check::Refuse(node) = checks::check_node(sizes, board) {
-            return refuse(self, node);
+            return refuse(self, x);
         }
         let mut next = self;
         next.marks[board] = false;
