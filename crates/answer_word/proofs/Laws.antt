@@ -39,6 +39,6 @@ high r v h = omega (arith, div-add-mod' (r + 256 * v) 256, mod-lt (r + 256 * v) 
 
 pub answer-laws : AnswerLaws
 answer-laws = record {
-  refusal-is = λ a. low (said a .refusal) (said a .value) (small a);
-  value-is = λ a. high (said a .refusal) (said a .value) (small a);
+  refusal-is = λ a. low (said a .refusal) (said a .reported) (small a);
+  value-is = λ a. high (said a .refusal) (said a .reported) (small a);
 }

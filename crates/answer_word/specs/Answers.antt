@@ -5,4 +5,4 @@ use Rattle.sizes.specs.Refusals.{Said}
 
 -- the refusal's number in the low eight bits, the number reported above them
 abbrev pub wordOf : Said → ℕ
-wordOf a = a .refusal + 256 * a .value
+wordOf a = a .refusal + 256 * a .reported

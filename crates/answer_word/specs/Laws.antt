@@ -9,4 +9,4 @@ use Rattle.answer_word.specs.Answers.{wordOf}
 
 pub record AnswerLaws : Type 0 where
   pub refusal-is : (a : Answer) → wordOf (said a) % 256 ≡ said a .refusal
-  pub value-is : (a : Answer) → wordOf (said a) / 256 ≡ said a .value
+  pub value-is : (a : Answer) → wordOf (said a) / 256 ≡ said a .reported

@@ -7,7 +7,7 @@ use sizes::Answer;
 
 // The word of an answer that reports a number below 2^56.
 pub fn word_of(answer: Answer) -> u64
-    requires { ⌜ said answer .value < 72057594037927936 ⌝ }
+    requires { ⌜ said answer .reported < 72057594037927936 ⌝ }
     ensures { λ w. ⌜ w ≡ wordOf (said answer) ⌝ }
 {
     match answer {

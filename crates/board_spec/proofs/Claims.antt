@@ -8,7 +8,7 @@ use lib.Dec.{eqb}
 use Rattle.lists.specs.Tests.{pick}
 use Rattle.lists.proofs.Tests.{true-false}
 use Rattle.sizes.specs.declared.Refusal.{Refusal}
-use Rattle.sizes.specs.Refusals.{number, Line, holdsIn}
+use Rattle.sizes.specs.Refusals.{number, Line, appliesIn}
 use Rattle.board_spec.specs.Claims.{Claim, saysOf, LinesSay}
 
 -- line by line
@@ -16,7 +16,7 @@ abbrev pub EachSays : List Line → List Claim → Type 0
 EachSays [] [] = Unit
 EachSays [] (c ∷ cs) = ⊥
 EachSays (l ∷ lines) [] = ⊥
-EachSays (l ∷ lines) (c ∷ cs) = (l .gives ≡ c .gives) × ((l .holds ≡ true) ↔ c .says) × EachSays lines cs
+EachSays (l ∷ lines) (c ∷ cs) = (l .refusal ≡ c .refusal) × ((l .applies ≡ true) ↔ c .says) × EachSays lines cs
 
 either : (t : Bool) (a b : Bool) (A B : Type 0) → (a ≡ true) ↔ A → (b ≡ true) ↔ B → (pick t a b ≡ true) ↔ pick t A B
 either true a b A B h k = h
@@ -27,5 +27,5 @@ lines-say [] [] h x = (λ e. true-false e refl, λ e. absurd e)
 lines-say [] (c ∷ cs) h x = absurd h
 lines-say (l ∷ lines) [] h x = absurd h
 lines-say (l ∷ lines) (c ∷ cs) h x =
-    subst (λ (r : Refusal). (holdsIn (l ∷ lines) x ≡ true) ↔ pick (eqb (number r) (number x)) (c .says) (saysOf cs x)) (h .0)
-    (either (eqb (number (l .gives)) (number x)) (l .holds) (holdsIn lines x) (c .says) (saysOf cs x) (h .1) (lines-say lines cs (h .2) x))
+    subst (λ (r : Refusal). (appliesIn (l ∷ lines) x ≡ true) ↔ pick (eqb (number r) (number x)) (c .says) (saysOf cs x)) (h .0)
+    (either (eqb (number (l .refusal)) (number x)) (l .applies) (appliesIn lines x) (c .says) (saysOf cs x) (h .1) (lines-say lines cs (h .2) x))

@@ -15,7 +15,7 @@ use Rattle.lists.specs.Lists.{All, Bytes, over}
 use Rattle.lists.specs.Tests.{pick, same, given, below, different}
 use Rattle.lists.proofs.Pieces.{length-joined}
 use Rattle.lists.proofs.Tests.{not-no, alls-hold, hold-alls}
-use Rattle.sizes.specs.Refusals.{number, said, Line, holdsIn, first, boardOrder}
+use Rattle.sizes.specs.Refusals.{number, said, Line, appliesIn, first, boardOrder}
 use Rattle.sizes.specs.Sizing.{stripes, legal, B, α}
 use Rattle.sizes.specs.declared.Answer.the-variants.{Done, Refused}
 use Rattle.sizes.specs.declared.Check.{Check}
@@ -49,11 +49,11 @@ seven rest = Size ∷ Long ∷ Count ∷ Node ∷ Repeat ∷ Area ∷ Short ∷ 
 
 -- the lines that the proofs ask
 record Passed (lines : List Line) : Type 0 where
-  size : holdsIn lines Size ≡ false
-  count : holdsIn lines Count ≡ false
-  node : holdsIn lines Node ≡ false
-  repeat : holdsIn lines Repeat ≡ false
-  short : holdsIn lines Short ≡ false
+  size : appliesIn lines Size ≡ false
+  count : appliesIn lines Count ≡ false
+  node : appliesIn lines Node ≡ false
+  repeat : appliesIn lines Repeat ≡ false
+  short : appliesIn lines Short ≡ false
 
 passed : (lines : List Line) (rest : List Refusal) → Clear lines (seven rest) → Passed lines
 passed lines rest h = record {
@@ -133,7 +133,7 @@ refusal-of : (c : Check) (x : Refusal) (bytes output : List ℕ) → settled c b
 refusal-of Pass x bytes output e = absurd (omega (arith, number-low x))
 refusal-of (Refuse y) x bytes output e = ap Refuse (numbers-differ y x e)
 
-unequal : (lines : List Line) (bytes output : List ℕ) → (Passed lines → holdsIn lines Points ≡ false)
+unequal : (lines : List Line) (bytes output : List ℕ) → (Passed lines → appliesIn lines Points ≡ false)
     → settled (first boardOrder lines) bytes output .answer .refusal ≢ 11
 unequal lines bytes output h e =
     never lines Points (seven (Disagree ∷ []))
@@ -186,9 +186,9 @@ module _ (z : Sizes) where
 
 -- no line but DISAGREE holds
 abbrev Only : List Line → Type 0
-Only lines = All (λ x. (x ≡ Disagree) ⊎ (holdsIn lines x ≡ false)) boardOrder
+Only lines = All (λ x. (x ≡ Disagree) ⊎ (appliesIn lines x ≡ false)) boardOrder
 
-pub clear : (lines : List Line) (x : Refusal) → number x ≢ 10 → (x ≡ Disagree) ⊎ (holdsIn lines x ≡ false) → holdsIn lines x ≡ false
+pub clear : (lines : List Line) (x : Refusal) → number x ≢ 10 → (x ≡ Disagree) ⊎ (appliesIn lines x ≡ false) → appliesIn lines x ≡ false
 clear lines x h (inl e) = absurd (h (ap number e))
 clear lines x h (inr e) = e
 
@@ -202,7 +202,7 @@ module _ (lines : List Line) (h : Only lines) where
     short = clear lines Short (omega arith) (h .1 .1 .1 .1 .1 .1 .0);
   }
 
-  only-first : first boardOrder lines ≡ pick (holdsIn lines Disagree) (Refuse Disagree) Pass
+  only-first : first boardOrder lines ≡ pick (appliesIn lines Disagree) (Refuse Disagree) Pass
   only-first =
       let p1 = only-passed .size in
       let p2 = clear lines Long (omega arith) (h .1 .0) in

@@ -15,7 +15,7 @@ use Rattle.sizes.specs.declared.Sizes.{Sizes}
 use Rattle.sizes.specs.declared.Refusal.{Refusal}
 use Rattle.sizes.specs.declared.Refusal.the-variants.{Size, Area, Long, Count, Node, Repeat, Short, Disagree, Points}
 use Rattle.sizes.specs.declared.Answer.the-variants.{Done, Refused}
-use Rattle.sizes.specs.Refusals.{said, Line, holdsIn, boardOrder}
+use Rattle.sizes.specs.Refusals.{said, Line, appliesIn, boardOrder}
 use Rattle.sizes.specs.Laws.{First}
 use Rattle.mbcr.specs.Share.{standard, DifferentPoints, share, shares}
 use Rattle.mbcr.specs.Rebuild.{helperPacket, exchangePacket, finishedShare}
@@ -30,11 +30,11 @@ use Rattle.board_spec.specs.Calls.{exchangeLines, exchangeCall, finished
 -- one call: its lines, its output as it came, the bytes that it writes where it does its work, and its outcome
 pub record BoardEnds (lines : List Line) (output bytes : List ℕ) (o : BoardOutcome) : Type 0 where
   -- some line is the first that holds, or none holds
-  pub one : ((x : Refusal) × First boardOrder lines x) ⊎ All (λ x. holdsIn lines x ≡ false) boardOrder
+  pub one : ((x : Refusal) × First boardOrder lines x) ⊎ All (λ x. appliesIn lines x ≡ false) boardOrder
   -- "The first that applies is given", and all is as it came
   pub refuses : (x : Refusal) → First boardOrder lines x → o ≡ record { answer = said (Refused x); output = output }
   -- "otherwise the call does its work": so many bytes are answered, they are written, and output beyond them stays
-  pub works : All (λ x. holdsIn lines x ≡ false) boardOrder
+  pub works : All (λ x. appliesIn lines x ≡ false) boardOrder
       → (o ≡ record { answer = said (Done (length bytes)); output = over bytes output }) × (length bytes ≤ length output)
 
 -- what the lines of each call say
@@ -139,7 +139,7 @@ pub record BoardCalls : Type 0 where
   -- "a file from k shares": where no line but DISAGREE holds, and the points differ, it gives f exactly when f has length L and these shares,
   -- and DISAGREE exactly when there is no such file
   pub file-exact : (z : Sizes) (xs : List ℕ) (L : ℕ) (boards held output : List ℕ) → DifferentPoints z xs → Bytes held
-      → All (λ x. (x ≡ Disagree) ⊎ (holdsIn (fileLines z xs L boards held output) x ≡ false)) boardOrder
+      → All (λ x. (x ≡ Disagree) ⊎ (appliesIn (fileLines z xs L boards held output) x ≡ false)) boardOrder
       → ((file : List ℕ) → length file ≡ L → Bytes file
       → (fileCall z xs L boards held output ≡ record { answer = said (Done L); output = over file output }) ↔ (shares z xs file boards ≡ held))
       × ((fileCall z xs L boards held output ≡ record { answer = said (Refused Disagree); output = output })

@@ -167,11 +167,11 @@ pub record BoardFigures : Type 0 where
       ≡ 1 ∷ 3 ∷ 5 ∷ 2 ∷ 7 ∷ 1 ∷ 3 ∷ 5 ∷ 2 ∷ []
   -- a refusal leaves the output; an accepted call answers its bytes, and output beyond them stays (the file 05 03, of which L = 1 leaves 03 in
   -- the padding; the file 05 03 07)
-  pub refused-stays : fileCall small standard 1 (0 ∷ []) (0x05 ∷ 0x06 ∷ []) (replicate 3 0xEE) ≡ record { answer = record { refusal = 10; value = 0 }; output = replicate 3 0xEE }
+  pub refused-stays : fileCall small standard 1 (0 ∷ []) (0x05 ∷ 0x06 ∷ []) (replicate 3 0xEE) ≡ record { answer = record { refusal = 10; reported = 0 }; output = replicate 3 0xEE }
   pub file-read : fileCall small standard 3 (1 ∷ []) (0x06 ∷ 0x05 ∷ 0x07 ∷ 0x07 ∷ []) (replicate 4 0xEE)
-      ≡ record { answer = record { refusal = 0; value = 3 }; output = 0x05 ∷ 0x03 ∷ 0x07 ∷ 0xEE ∷ [] }
+      ≡ record { answer = record { refusal = 0; reported = 3 }; output = 0x05 ∷ 0x03 ∷ 0x07 ∷ 0xEE ∷ [] }
   pub finished-written : finishedCall five standard 12 1 (2 ∷ 3 ∷ 4 ∷ []) (0x04 ∷ 0x02 ∷ 0x05 ∷ 0x03 ∷ 0x10 ∷ 0x04 ∷ []) (0 ∷ []) (0x00 ∷ []) (replicate 8 0xEE)
-      ≡ record { answer = record { refusal = 0; value = 7 }; output = 0x01 ∷ 0x02 ∷ 0x03 ∷ 0x04 ∷ 0x00 ∷ 0x04 ∷ 0x05 ∷ 0xEE ∷ [] }
+      ≡ record { answer = record { refusal = 0; reported = 7 }; output = 0x01 ∷ 0x02 ∷ 0x03 ∷ 0x04 ∷ 0x00 ∷ 0x04 ∷ 0x05 ∷ 0xEE ∷ [] }
   -- "L = B is one stripe, B + 1 two"
   pub stripe-counts : map (stripes five) (0 ∷ 1 ∷ 12 ∷ 13 ∷ 24 ∷ 25 ∷ []) ≡ 0 ∷ 1 ∷ 1 ∷ 2 ∷ 2 ∷ 3 ∷ []
   -- "L may be 0 to 4,096 × B": 4,096 × 12 is not LONG, one more is
@@ -206,13 +206,13 @@ pub record BoardFigures : Type 0 where
       ≡ 11 ∷ 0 ∷ 11 ∷ 0 ∷ 11 ∷ 0 ∷ 11 ∷ 0 ∷ []
   -- two stripes, the last filled up with 00, and output just long enough: shares, a packet stripe by stripe, an exchange packet
   pub two-stripes : map (λ i. shareCall small standard i (0x05 ∷ 0x03 ∷ 0x07 ∷ []) (replicate 4 0xEE)) (0 ∷ 1 ∷ [])
-      ≡ record { answer = record { refusal = 0; value = 4 }; output = 0x05 ∷ 0x06 ∷ 0x07 ∷ 0x07 ∷ [] }
-      ∷ record { answer = record { refusal = 0; value = 4 }; output = 0x06 ∷ 0x05 ∷ 0x07 ∷ 0x07 ∷ [] }
+      ≡ record { answer = record { refusal = 0; reported = 4 }; output = 0x05 ∷ 0x06 ∷ 0x07 ∷ 0x07 ∷ [] }
+      ∷ record { answer = record { refusal = 0; reported = 4 }; output = 0x06 ∷ 0x05 ∷ 0x07 ∷ 0x07 ∷ [] }
       ∷ []
   pub two-pairs : helperCall small standard 3 0 1 (0x05 ∷ 0x06 ∷ 0x07 ∷ 0x07 ∷ []) (replicate 4 0xEE)
-      ≡ record { answer = record { refusal = 0; value = 4 }; output = 0x06 ∷ 0x05 ∷ 0x07 ∷ 0x07 ∷ [] }
+      ≡ record { answer = record { refusal = 0; reported = 4 }; output = 0x06 ∷ 0x05 ∷ 0x07 ∷ 0x07 ∷ [] }
   pub two-exchanged : exchangeCall (sizes 3 1 1 2) standard 4 0 (2 ∷ []) (0x0A ∷ 0x0B ∷ 0x0C ∷ 0x0D ∷ []) 1 (0xEE ∷ 0xEE ∷ [])
-      ≡ record { answer = record { refusal = 0; value = 2 }; output = 0x0A ∷ 0x0C ∷ [] }
+      ≡ record { answer = record { refusal = 0; reported = 2 }; output = 0x0A ∷ 0x0C ∷ [] }
   -- document 01's example of a share as text
   pub text : shareText small 2 0 (share small standard (0x05 ∷ 0x03 ∷ []) 0)
       ≡ 0x6E ∷ 0x3D ∷ 0x32 ∷ 0x0A
@@ -225,7 +225,7 @@ pub record BoardFigures : Type 0 where
   -- n=12, k=2, d=3, r=4, node 10, L = 1, nine bytes, through the call
   pub longer-text : textCall (sizes 12 2 3 4) standard 1 10 (0x00 ∷ 0x01 ∷ 0x0F ∷ 0x10 ∷ 0x7F ∷ 0x80 ∷ 0xAB ∷ 0xCD ∷ 0xFF ∷ []) (replicate 59 0xEE)
       ≡ record {
-        answer = record { refusal = 0; value = 58 };
+        answer = record { refusal = 0; reported = 58 };
         output =
             0x6E ∷ 0x3D ∷ 0x31 ∷ 0x32 ∷ 0x0A
             ∷ 0x6B ∷ 0x3D ∷ 0x32 ∷ 0x0A

@@ -14,24 +14,24 @@ use Rattle.sizes.specs.Refusals.{Line}
 use Rattle.sizes.proofs.Lines.{refuse-pass}
 use Rattle.checks.specs.Steps.{asked}
 
-pub passes : (l : Line) → l .holds ≡ false → Pass ≡ asked l
+pub passes : (l : Line) → l .applies ≡ false → Pass ≡ asked l
 passes l h = rw h refl
 
-pub refuses : (l : Line) → l .holds ≡ true → Refuse (l .gives) ≡ asked l
+pub refuses : (l : Line) → l .applies ≡ true → Refuse (l .refusal) ≡ asked l
 refuses l h = rw h refl
 
 -- and back
-pub passed : (l : Line) → asked l ≡ Pass → l .holds ≡ false
-passed l e = go (l .holds) e
+pub passed : (l : Line) → asked l ≡ Pass → l .applies ≡ false
+passed l e = go (l .applies) e
   where
-    go : (t : Bool) → pick t (Refuse (l .gives)) Pass ≡ Pass → t ≡ false
+    go : (t : Bool) → pick t (Refuse (l .refusal)) Pass ≡ Pass → t ≡ false
     go true e = absurd (refuse-pass refl e)
     go false e = refl
 
-pub refused : (l : Line) (x : Refusal) → asked l ≡ Refuse x → (l .holds ≡ true) × (l .gives ≡ x)
-refused l x e = go (l .holds) e
+pub refused : (l : Line) (x : Refusal) → asked l ≡ Refuse x → (l .applies ≡ true) × (l .refusal ≡ x)
+refused l x e = go (l .applies) e
   where
-    go : (t : Bool) → pick t (Refuse (l .gives)) Pass ≡ Refuse x → (t ≡ true) × (l .gives ≡ x)
+    go : (t : Bool) → pick t (Refuse (l .refusal)) Pass ≡ Refuse x → (t ≡ true) × (l .refusal ≡ x)
     go true e = (refl, cc)
     go false e = absurd (refuse-pass e refl)
 

@@ -37,10 +37,10 @@ ends {a} p e = e ∙ sym (last a) ∙ p
 -- lines in two parts
 pub split : (ls ms : List Line) → chain (ls ++ ms) ≡ then (chain ls) (chain ms)
 split [] ms = refl
-split (l ∷ ls) ms = go (l .holds) (split ls ms)
+split (l ∷ ls) ms = go (l .applies) (split ls ms)
   where
     go : (t : Bool) → chain (ls ++ ms) ≡ then (chain ls) (chain ms)
-        → pick t (Refuse (l .gives)) (chain (ls ++ ms)) ≡ then (pick t (Refuse (l .gives)) (chain ls)) (chain ms)
+        → pick t (Refuse (l .refusal)) (chain (ls ++ ms)) ≡ then (pick t (Refuse (l .refusal)) (chain ls)) (chain ms)
     go true e = refl
     go false e = e
 

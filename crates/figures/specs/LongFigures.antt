@@ -38,9 +38,9 @@ lost = withMarks written (false ∷ false ∷ true ∷ true ∷ true ∷ replica
 
 pub record LongFigures : Type 0 where
   -- n=5, k=2, d=3, r=2: two boards give the file back, and one altered byte is DISAGREE, which leaves all as it came
-  pub file-disagrees : fileCall five standard 12 (0 ∷ 1 ∷ []) altered (replicate 14 0xEE) ≡ record { answer = record { refusal = 10; value = 0 }; output = replicate 14 0xEE }
+  pub file-disagrees : fileCall five standard 12 (0 ∷ 1 ∷ []) altered (replicate 14 0xEE) ≡ record { answer = record { refusal = 10; reported = 0 }; output = replicate 14 0xEE }
   pub file-read : fileCall five standard 12 (1 ∷ 4 ∷ []) (shares five standard fiveFile (1 ∷ 4 ∷ [])) (replicate 14 0xEE)
-      ≡ record { answer = record { refusal = 0; value = 12 }; output = fiveFile ++ (0xEE ∷ 0xEE ∷ []) }
+      ≡ record { answer = record { refusal = 0; reported = 12 }; output = fiveFile ++ (0xEE ∷ 0xEE ∷ []) }
   pub store-disagrees : readCall standard written spoiled (1 ∷ 2 ∷ []) (replicate 14 0xEE)
       ≡ gives 10 0 written spoiled (replicate 14 0xEE)
   pub store-read : readCall standard written area (1 ∷ 0 ∷ []) (replicate 14 0xEE)

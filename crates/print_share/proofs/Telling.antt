@@ -71,7 +71,7 @@ settled-written false bytes l = refl
 -- what a call that is done wrote
 done-taken : (n : ℕ) (bytes l after : List ℕ) → outcome (Done n) after ≡ settled Pass bytes l → (take n after ≡ bytes) × (n ≤ length after)
 done-taken n bytes l after q =
-    let n-is : n ≡ length bytes = ap (λ (o : BoardOutcome). o .answer .value) q in
+    let n-is : n ≡ length bytes = ap (λ (o : BoardOutcome). o .answer .reported) q in
     let a-is : after ≡ over bytes l = ap (λ (o : BoardOutcome). o .output) q in
     (ap (take n) a-is ∙ take-at bytes _ n (sym n-is), omega (arith, n-is, ap length a-is, length-append bytes (drop (length bytes) l)))
 

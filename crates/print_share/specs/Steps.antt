@@ -22,7 +22,7 @@ placed bytes out = pick (ltb (length out) (length bytes)) (record { count = 0; o
 
 -- what a call wrote: none where it is refused
 abbrev pub wroteIn : BoardOutcome → Written
-wroteIn o = record { count = o .answer .value; out = o .output }
+wroteIn o = record { count = o .answer .reported; out = o .output }
 
 -- a file is to be printed of which the slice has not all the bytes that were counted
 abbrev pub lacks : Parser → List ℕ → Bool

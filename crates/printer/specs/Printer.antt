@@ -23,7 +23,7 @@ maxFile = 16384
 
 -- what a call answers, as text: that of the bytes which it wrote
 abbrev pub told : Sizes → ℕ → ℕ → BoardOutcome → List ℕ
-told z L node o = pick (eqb (o .answer .refusal) 0) (shareText z L node (take (o .answer .value) (o .output))) (refusedLine (o .answer .refusal))
+told z L node o = pick (eqb (o .answer .refusal) 0) (shareText z L node (take (o .answer .reported) (o .output))) (refusedLine (o .answer .refusal))
 
 -- "one share of a file", into room for it
 unfoldable pub shared : Sizes → ℕ → List ℕ → List ℕ

@@ -1,6 +1,6 @@
 -- What the kernels of a read ask, from what its checks told. And that no two points are equal.
 -- Assumes nothing.
-use Prim.Native.Nat.{ℕ, _*_, _≤_}
+use Prim.Native.Nat.{ℕ, _≤_}
 use mathlib.Core.Path.{_≡_, _∙_}
 use mathlib.Core.Bool.{true, not}
 use mathlib.Core.List.{List}
@@ -8,7 +8,7 @@ use lib.ListN.{length, take}
 use Rattle.lists.specs.Tests.{below, different}
 use Rattle.sizes.specs.declared.Sizes.{Sizes}
 use Rattle.sizes.specs.declared.Refusal.the-variants.{Points}
-use Rattle.sizes.specs.Sizing.{legal, B, stripes}
+use Rattle.sizes.specs.Sizing.{legal}
 use Rattle.sizes.specs.Refusals.{_when_}
 use Rattle.sizes.proofs.Legal.{legal-facts}
 use Rattle.mbcr.specs.Share.{standard}
@@ -18,32 +18,17 @@ use Rattle.board_spec.proofs.Runs.{read-runs}
 use Rattle.store_spec.specs.Record.{Record, sound, areaLen}
 use Rattle.checks.specs.Steps.{asked}
 use Rattle.checks.proofs.Answers.{passes}
-use Rattle.shared_checks.proofs.Facts.{ready, points-pass}
+use Rattle.shared_checks.proofs.Facts.{Ready, ready, points-pass}
 
 pub record Readable (s : Record) (points : List ℕ) (m : ℕ) (boards : List ℕ) : Type 0 where
-  pub is-legal : legal (s .sizes) ≡ true
-  pub few-points : s .sizes .n ≤ length points
+  pub is-ready : Ready s points
   pub enough : length boards ≡ s .sizes .k
   pub known : below (s .sizes .n) boards ≡ true
-  pub cap-high : s .capacity ≤ 4096
-  pub few-stripes : stripes (s .sizes) (s .length) ≤ s .capacity
-  pub not-long : s .length ≤ 4096 * B (s .sizes)
   pub area-is : m ≡ areaLen s
 
-pub readable : (s : Record) (points : List ℕ) (m : ℕ) (boards : List ℕ) → points ≡ standard → sound s ≡ true → m ≡ areaLen s
+pub readable : (s : Record) (points : List ℕ) (m : ℕ) (boards : List ℕ) → 32 ≤ length points → sound s ≡ true → m ≡ areaLen s
     → length boards ≡ s .sizes .k → below (s .sizes .n) boards ≡ true → Readable s points m boards
-readable s points m boards ep h a b k =
-    let f = ready s points ep h in
-    record {
-      is-legal = f .is-legal;
-      few-points = f .few-points;
-      enough = b;
-      known = k;
-      cap-high = f .cap-high;
-      few-stripes = f .few-stripes;
-      not-long = f .not-long;
-      area-is = a;
-    }
+readable s points m boards l h a b k = record { is-ready = ready s points l h; enough = b; known = k; area-is = a }
 
 -- what `check_points` answers, as the line of a read
 pub points-line : (z : Sizes) (points boards : List ℕ) → points ≡ standard → legal z ≡ true → below (z .n) boards ≡ true → different boards ≡ true

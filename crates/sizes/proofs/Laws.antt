@@ -50,7 +50,7 @@ number-low Disagree = omega arith
 number-low Points = omega arith
 
 answers-differ : (a b : Answer) → said a ≡ said b → a ≡ b
-answers-differ (Done v) (Done w) e = ap Done (ap (λ (s : Said). s .value) e)
+answers-differ (Done v) (Done w) e = ap Done (ap (λ (s : Said). s .reported) e)
 answers-differ (Done v) (Refused y) e = absurd (omega (arith, number-low y, ap (λ (s : Said). s .refusal) e))
 answers-differ (Refused x) (Done w) e = absurd (omega (arith, number-low x, ap (λ (s : Said). s .refusal) e))
 answers-differ (Refused x) (Refused y) e = ap Refused (numbers-differ x y (ap (λ (s : Said). s .refusal) e))

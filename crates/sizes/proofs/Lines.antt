@@ -13,7 +13,7 @@ use Rattle.lists.specs.Lists.{All}
 use Rattle.lists.specs.Tests.{pick, alls, given}
 use Rattle.lists.proofs.Tests.{true-false, hold-alls, alls-hold, is-false}
 use Rattle.sizes.specs.Laws.{First}
-use Rattle.sizes.specs.Refusals.{Line, holdsIn, first, number}
+use Rattle.sizes.specs.Refusals.{Line, appliesIn, first, number}
 use Rattle.sizes.specs.declared.Check.{Check}
 use Rattle.sizes.specs.declared.Check.the-variants.{Pass, Refuse}
 use Rattle.sizes.specs.declared.Refusal.{Refusal}
@@ -28,11 +28,11 @@ pick-pass false x c h = (refl, h)
 module _ (lines : List Line) where
   -- no line holds
   abbrev pub Clear : List Refusal → Type 0
-  Clear order = All (λ y. holdsIn lines y ≡ false) order
+  Clear order = All (λ y. appliesIn lines y ≡ false) order
 
   pub first-clear : (order : List Refusal) → first order lines ≡ Pass → Clear order
   first-clear [] h = tt
-  first-clear (x ∷ order) h = let p = pick-pass (holdsIn lines x) x (first order lines) h in (p .0, first-clear order (p .1))
+  first-clear (x ∷ order) h = let p = pick-pass (appliesIn lines x) x (first order lines) h in (p .0, first-clear order (p .1))
 
   pub clear-first : (order : List Refusal) → Clear order → first order lines ≡ Pass
   clear-first [] h = refl
@@ -40,13 +40,13 @@ module _ (lines : List Line) where
 
   pub first-refuse : (order : List Refusal) (x : Refusal) → first order lines ≡ Refuse x → First order lines x
   first-refuse [] x h = absurd (refuse-pass h refl)
-  first-refuse (y ∷ order) x h = go (holdsIn lines y) refl h (first-refuse order x)
+  first-refuse (y ∷ order) x h = go (appliesIn lines y) refl h (first-refuse order x)
     where
-      go : (t : Bool) → holdsIn lines y ≡ t → pick t (Refuse y) (first order lines) ≡ Refuse x → (first order lines ≡ Refuse x → First order lines x)
+      go : (t : Bool) → appliesIn lines y ≡ t → pick t (Refuse y) (first order lines) ≡ Refuse x → (first order lines ≡ Refuse x → First order lines x)
           → First (y ∷ order) lines x
       go true e k ih =
           let q : y ≡ x = cc in
-          record { before = []; after = order; place = ap (λ (a : Refusal). a ∷ order) q; none-before = tt; applies = ap (holdsIn lines) (sym q) ∙ e }
+          record { before = []; after = order; place = ap (λ (a : Refusal). a ∷ order) q; none-before = tt; applies = ap (appliesIn lines) (sym q) ∙ e }
       go false e k ih =
           let r = ih k in
           record {
@@ -76,13 +76,13 @@ module _ (lines : List Line) where
 module _ (l m : List Line) where
   abbrev pub Agree : List Refusal → Type 0
   Agree [] = Unit
-  Agree (x ∷ order) = (holdsIn l x ≡ holdsIn m x) × (holdsIn m x ≡ false → Agree order)
+  Agree (x ∷ order) = (appliesIn l x ≡ appliesIn m x) × (appliesIn m x ≡ false → Agree order)
 
   pub first-agree : (order : List Refusal) → Agree order → first order l ≡ first order m
   first-agree [] a = refl
-  first-agree (x ∷ order) a = go (holdsIn l x) (holdsIn m x) (a .0) refl (λ e. first-agree order (a .1 e))
+  first-agree (x ∷ order) a = go (appliesIn l x) (appliesIn m x) (a .0) refl (λ e. first-agree order (a .1 e))
     where
-      go : (t u : Bool) → t ≡ u → holdsIn m x ≡ u → (holdsIn m x ≡ false → first order l ≡ first order m)
+      go : (t u : Bool) → t ≡ u → appliesIn m x ≡ u → (appliesIn m x ≡ false → first order l ≡ first order m)
           → pick t (Refuse x) (first order l) ≡ pick u (Refuse x) (first order m)
       go true true e h f = refl
       go false false e h f = f h
@@ -91,12 +91,12 @@ module _ (l m : List Line) where
 
 -- a line that holds only where one before it does is never given
 pub never : (lines : List Line) (x : Refusal) (order : List Refusal) → All (λ y. number y ≢ number x) order
-    → (Clear lines order → holdsIn lines x ≡ false) → first (order ++ (x ∷ [])) lines ≢ Refuse x
+    → (Clear lines order → appliesIn lines x ≡ false) → first (order ++ (x ∷ [])) lines ≢ Refuse x
 never lines x [] a h e = refuse-pass e (clear-first lines (x ∷ []) (h tt, tt))
-never lines x (y ∷ order) a h e = go (holdsIn lines y) refl e (never lines x order (a .1))
+never lines x (y ∷ order) a h e = go (appliesIn lines y) refl e (never lines x order (a .1))
   where
-    go : (t : Bool) → holdsIn lines y ≡ t → pick t (Refuse y) (first (order ++ (x ∷ [])) lines) ≡ Refuse x
-        → ((Clear lines order → holdsIn lines x ≡ false) → first (order ++ (x ∷ [])) lines ≢ Refuse x) → ⊥
+    go : (t : Bool) → appliesIn lines y ≡ t → pick t (Refuse y) (first (order ++ (x ∷ [])) lines) ≡ Refuse x
+        → ((Clear lines order → appliesIn lines x ≡ false) → first (order ++ (x ∷ [])) lines ≢ Refuse x) → ⊥
     go true q e ih = a .0 (ap number (let s : y ≡ x = cc in s))
     go false q e ih = ih (λ c. h (q, c)) e
 

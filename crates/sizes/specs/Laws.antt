@@ -11,15 +11,15 @@ use Rattle.sizes.specs.declared.Refusal.{Refusal}
 use Rattle.sizes.specs.declared.Check.the-variants.{Pass, Refuse}
 use Rattle.sizes.specs.declared.Answer.{Answer}
 use Rattle.sizes.specs.Sizing.{legal, B, stripes}
-use Rattle.sizes.specs.Refusals.{number, Said, said, Line, holdsIn, first, storeOrder, boardOrder}
+use Rattle.sizes.specs.Refusals.{number, Said, said, Line, appliesIn, first, storeOrder, boardOrder}
 
 -- x is the first of the order whose line holds
 pub record First (order : List Refusal) (lines : List Line) (x : Refusal) : Type 0 where
   pub before : List Refusal
   pub after : List Refusal
   pub place : order ≡ before ++ (x ∷ after)
-  pub none-before : All (λ y. holdsIn lines y ≡ false) before
-  pub applies : holdsIn lines x ≡ true
+  pub none-before : All (λ y. appliesIn lines y ≡ false) before
+  pub applies : appliesIn lines x ≡ true
 
 pub record SizesAndRefusals : Type 0 where
   pub legal-is : (z : Sizes) → (legal z ≡ true) ↔ ((1 ≤ z .k) × (z .k ≤ z .d) × (1 ≤ z .r) × (z .d + z .r ≤ z .n) × (z .n ≤ 32))
@@ -37,4 +37,4 @@ pub record SizesAndRefusals : Type 0 where
   pub board-order : map number boardOrder ≡ 1 ∷ 3 ∷ 4 ∷ 5 ∷ 6 ∷ 2 ∷ 7 ∷ 10 ∷ 11 ∷ []
   -- "The first that applies is given." "A number is given only where its line holds; otherwise the call does its work."
   pub refuse-is : (order : List Refusal) (lines : List Line) (x : Refusal) → (first order lines ≡ Refuse x) ↔ First order lines x
-  pub pass-is : (order : List Refusal) (lines : List Line) → (first order lines ≡ Pass) ↔ All (λ y. holdsIn lines y ≡ false) order
+  pub pass-is : (order : List Refusal) (lines : List Line) → (first order lines ≡ Pass) ↔ All (λ y. appliesIn lines y ≡ false) order

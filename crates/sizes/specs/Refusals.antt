@@ -28,30 +28,30 @@ number Points = 11
 -- what an answer says: the refusal's number, 0 where it is accepted; and the number reported, 0 where it is refused
 pub record Said : Type 0 where
   pub refusal : ℕ
-  pub value : ℕ
+  pub reported : ℕ
 
 abbrev pub said : Answer → Said
-said (Done v) = record { refusal = 0; value = v }
-said (Refused x) = record { refusal = number x; value = 0 }
+said (Done v) = record { refusal = 0; reported = v }
+said (Refused x) = record { refusal = number x; reported = 0 }
 
 -- a line of the list: the refusal, and whether it applies
 infix 90 _when_
 pub record Line : Type 0 where
-  pub gives : Refusal
-  pub holds : Bool
+  pub refusal : Refusal
+  pub applies : Bool
 
 abbrev pub _when_ : Refusal → Bool → Line
-_when_ x b = record { gives = x; holds = b }
+_when_ x b = record { refusal = x; applies = b }
 
 -- whether a refusal's line holds among the lines of a call; a refusal that has no line there never does
-abbrev pub holdsIn : List Line → Refusal → Bool
-holdsIn [] x = false
-holdsIn (l ∷ lines) x = pick (eqb (number (l .gives)) (number x)) (l .holds) (holdsIn lines x)
+abbrev pub appliesIn : List Line → Refusal → Bool
+appliesIn [] x = false
+appliesIn (l ∷ lines) x = pick (eqb (number (l .refusal)) (number x)) (l .applies) (appliesIn lines x)
 
 -- "The first that applies is given."
 abbrev pub first : List Refusal → List Line → Check
 first [] lines = Pass
-first (x ∷ order) lines = pick (holdsIn lines x) (Refuse x) (first order lines)
+first (x ∷ order) lines = pick (appliesIn lines x) (Refuse x) (first order lines)
 
 -- "Store: 1, 2, 3, 8, 4, 5, 6, 9, 7, 10, 11."
 abbrev pub storeOrder : List Refusal

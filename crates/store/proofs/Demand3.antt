@@ -9,7 +9,7 @@ use Rattle.mbcr.specs.Share.{standard}
 use Rattle.store_spec.specs.Record.{Record}
 use Rattle.store_spec.specs.Calls.{StoreOutcome}
 use Rattle.store_spec.specs.Ledger.{Step, State, Reply, replyOf, left, act, replies, final, openBook, bookFinal}
-use Rattle.store_spec.specs.Demand3.{Kept, begun, calls}
+use Rattle.store_spec.specs.Demand3.{Intact, begun, calls}
 use Rattle.store_spec.proofs.Demand3.{demand-3-standard}
 use Rattle.store.specs.declared.Store.{Store}
 use Rattle.store.specs.Handing.{recordIn}
@@ -39,7 +39,7 @@ code-demand-3 old z c new made accepted area steps run ok r =
     let d = demand-3-standard (recordIn old) z c area steps (ap (λ (o : StoreOutcome). o .answer .refusal) (sym made) ∙ accepted) ok in
     let e : recordIn (new .store) ≡ begun (recordIn old) z c area .kept = ap (λ (o : StoreOutcome). o .handed) made in (
       answers (new .store) area steps run r ∙ ap (λ (k : Record). replies standard (record { kept = k; area = area }) steps) e ∙ d .alike,
-      subst (λ (w : State). Kept standard w (bookFinal (openBook z c (length area)) (calls steps)))
+      subst (λ (w : State). Intact standard w (bookFinal (openBook z c (length area)) (calls steps)))
           (ap (λ (k : Record). final standard (record { kept = k; area = area }) steps) (sym e) ∙ ends (new .store) area steps run r) (d .after),
       λ s any fresh helpers h m ok. d .repaired (recordIn s) any fresh helpers (ap (λ (o : StoreOutcome). o .answer .refusal) (sym m) ∙ ok),
     )

@@ -27,7 +27,7 @@ code-gives = record {
   reads = λ s area b k lent a boards output count diff up room h m. m ∙ k .gives lent a boards output count diff up room;
   moved = λ s area fresh helpers h m ok.
       let p = is-repaired s area fresh helpers h m ok in
-      ap (λ (o : StoreOutcome). o .answer .value) m ∙ ap (λ (a : Said). a .value) (p .moved) ∙ p .moved-is;
+      ap (λ (o : StoreOutcome). o .answer .reported) m ∙ ap (λ (a : Said). a .reported) (p .moved) ∙ p .moved-is;
   has = λ s area fresh helpers h m ok i e.
       ap (λ (o : StoreOutcome). held (recordIn s) (o .area) i) m ∙ is-repaired s area fresh helpers h m ok .has i e;
 }

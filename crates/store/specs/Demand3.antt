@@ -10,7 +10,7 @@ use Rattle.sizes.specs.Refusals.{said}
 use Rattle.mbcr.specs.Share.{standard}
 use Rattle.store_spec.specs.Calls.{StoreOutcome, setUpCall}
 use Rattle.store_spec.specs.Ledger.{Call, repair, Step, State, Reply, replyOf, act, Allowed, openBook, bookReplies, bookFinal}
-use Rattle.store_spec.specs.Demand3.{Kept, Repaired, begun, calls}
+use Rattle.store_spec.specs.Demand3.{Intact, Repaired, begun, calls}
 use Rattle.store.specs.declared.Store.{Store}
 use Rattle.store.specs.declared.Handed.{Handed}
 use Rattle.store.specs.Handing.{recordIn, outcomeIn}
@@ -47,6 +47,6 @@ CodeDemand3 =
     (old : Store) (z : Sizes) (c : ℕ) (new : Handed) → outcomeIn new [] [] ≡ setUpCall (recordIn old) z c → said (new .answer) .refusal ≡ 0
     → (area : List ℕ) (steps : List Step) (run : List Given) → Allowed standard (begun (recordIn old) z c area) (openBook z c (length area)) steps → Run (new .store) steps run
     → (map (λ h. replyOf (gave h)) run ≡ bookReplies (openBook z c (length area)) (calls steps))
-    × Kept standard (ending (new .store) area run) (bookFinal (openBook z c (length area)) (calls steps))
+    × Intact standard (ending (new .store) area run) (bookFinal (openBook z c (length area)) (calls steps))
     × ((s : Store) (any fresh helpers : List ℕ) (h : Given) → Meets s any (repair fresh helpers) h → said (h .handed .answer) .refusal ≡ 0
     → Repaired standard (recordIn s) any fresh helpers)

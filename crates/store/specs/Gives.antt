@@ -14,14 +14,14 @@ use Rattle.store_spec.specs.Record.{stripeCount, held}
 use Rattle.store_spec.specs.Packets.{freshShare}
 use Rattle.store_spec.specs.Calls.{accepted}
 use Rattle.store_spec.specs.Ledger.{repair, read, Book, Altered, bookLength}
-use Rattle.store_spec.specs.Demand3.{Kept}
+use Rattle.store_spec.specs.Demand3.{Intact}
 use Rattle.store.specs.declared.Store.{Store}
 use Rattle.store.specs.Handing.{recordIn}
 use Rattle.store.specs.Demand3.{Given, gave, Meets}
 
 pub record CodeGives : Type 0 where
   -- where demand 3's ending holds: a read of any k different boards in service, with output long enough, gave exactly the last file accepted
-  pub reads : (s : Store) (area : List ℕ) (b : Book) → Kept standard (record { kept = recordIn s; area = area }) b
+  pub reads : (s : Store) (area : List ℕ) (b : Book) → Intact standard (record { kept = recordIn s; area = area }) b
       → (lent : List ℕ) → Altered b (recordIn s) area lent
       → (boards output : List ℕ) → length boards ≡ b .sizes .k → different boards ≡ true → every (among (b .service)) boards ≡ true
       → bookLength b ≤ length output
@@ -29,6 +29,6 @@ pub record CodeGives : Type 0 where
       → gave h ≡ accepted 0 (recordIn s) lent (over (fileOf (b .file)) output)
   -- an accepted repair, over any record and any area: the bytes moved, and what each fresh board holds in the area that it left
   pub moved : (s : Store) (area fresh helpers : List ℕ) (h : Given) → Meets s area (repair fresh helpers) h → said (h .handed .answer) .refusal ≡ 0
-      → said (h .handed .answer) .value ≡ stripeCount (recordIn s) * s .sizes .r * (2 * s .sizes .d + s .sizes .r - 1)
+      → said (h .handed .answer) .reported ≡ stripeCount (recordIn s) * s .sizes .r * (2 * s .sizes .d + s .sizes .r - 1)
   pub has : (s : Store) (area fresh helpers : List ℕ) (h : Given) → Meets s area (repair fresh helpers) h → said (h .handed .answer) .refusal ≡ 0
       → (i : ℕ) → among fresh i ≡ true → held (recordIn s) (h .area) i ≡ freshShare standard (recordIn s) area fresh helpers i

@@ -16,7 +16,7 @@ use Rattle.lists.specs.Tests.{among, alls, different, apart, every, below}
 use Rattle.lists.proofs.Alls.{all-left, all-imp}
 use Rattle.lists.proofs.Boards.{below-all}
 use Rattle.lists.proofs.Pieces.{piece-join}
-use Rattle.sizes.specs.Refusals.{Line, first, storeOrder, said, holdsIn}
+use Rattle.sizes.specs.Refusals.{Line, first, storeOrder, said, appliesIn}
 use Rattle.sizes.specs.Sizing.{legal, maxStripes, maxBoards, B, α, stripes}
 use Rattle.sizes.specs.declared.Answer.the-variants.{Done}
 use Rattle.sizes.specs.declared.Check.{Check}
@@ -218,7 +218,7 @@ module _ (xs : List ℕ) (b : Book) (area : List ℕ) (ok : legal (b .sizes) ≡
   area-same : not (eqb (length area) (areaLen (bookRecord b))) ≡ not (eqb (b .areaLength) (areaLen (bookRecord b)))
   area-same = ap (λ (m : ℕ). not (eqb m (areaLen (bookRecord b)))) as-long
 
-  lines-agree : (call : Call) → All (λ x. holdsIn (storeLines xs (bookRecord b) area call) x ≡ holdsIn (bookLines b call) x)
+  lines-agree : (call : Call) → All (λ x. appliesIn (storeLines xs (bookRecord b) area call) x ≡ appliesIn (bookLines b call) x)
       (Area ∷ Long ∷ Empty ∷ Count ∷ Node ∷ Repeat ∷ Down ∷ Short ∷ [])
   unfolding storeLines writeLines loseLines repairLines readLines bookLines
   lines-agree (write file) = (area-same, (refl, (refl, (refl, (refl, (refl, (refl, (refl, tt))))))))

@@ -26,7 +26,7 @@ use Rattle.mbcr.specs.Share.{DifferentPoints, share, standard}
 use Rattle.mbcr.proofs.Points.{standard-points}
 use Rattle.board_spec.specs.Calls.{fileOf}
 use Rattle.store_spec.specs.Calls.{recordLine, StoreOutcome, settle, accepted, refused, repairLines, repairCall, repairDone, readCall, setUpCall}
-use Rattle.store_spec.specs.Demand3.{Repaired, calls, Kept, begun, Demand3Claim, Demand3Standard}
+use Rattle.store_spec.specs.Demand3.{Repaired, calls, Intact, begun, Demand3Claim, Demand3Standard}
 use Rattle.store_spec.specs.Ledger.{State, Book, Step, replies, bookReplies, final, bookFinal, Call, Fair, act, bookRecord, enter, Altered, stepOutcome, bookLength}
 use Rattle.store_spec.specs.Ledger.{Allowed, left, openBook, write, lose, repair, read}
 use Rattle.store_spec.specs.Packets.{helperPackets, exchangePackets, hearHelpers, hearPartners, freshShare, repairPackets}
@@ -86,7 +86,7 @@ accepted-repair xs s area fresh helpers h =
 
 record Run (xs : List ℕ) (w : State) (b : Book) (steps : List Step) : Type 0 where
   alike : replies xs w steps ≡ bookReplies b (calls steps)
-  kept : Kept xs (final xs w steps) (bookFinal b (calls steps))
+  intact : Intact xs (final xs w steps) (bookFinal b (calls steps))
 
 module _ (xs : List ℕ) (laws : (z : Sizes) → legal z ≡ true → DifferentPoints z xs → Laws xs z) where
   step : (b : Book) (area : List ℕ) → Inv xs b area → (call : Call) → Fair call → Good xs (act xs (record { kept = bookRecord b; area = area }) call) (enter b call)
@@ -107,8 +107,8 @@ module _ (xs : List ℕ) (laws : (z : Sizes) → legal z ≡ true → DifferentP
       (sym e)
       (step b (t .area) (altered-at w b (t .area) e v a) (t .call) ok)
 
-  kept-at : (w : State) (b : Book) → w .kept ≡ bookRecord b → Inv xs b (w .area) → Kept xs w b
-  kept-at w b e v =
+  intact-at : (w : State) (b : Book) → w .kept ≡ bookRecord b → Inv xs b (w .area) → Intact xs w b
+  intact-at w b e v =
       record {
         same-record = e;
         holds = λ now k. subst
@@ -124,11 +124,11 @@ module _ (xs : List ℕ) (laws : (z : Sizes) → legal z ≡ true → DifferentP
       }
 
   run : (steps : List Step) (w : State) (b : Book) → w .kept ≡ bookRecord b → Inv xs b (w .area) → Allowed xs w b steps → Run xs w b steps
-  run [] w b e v a = record { alike = refl; kept = kept-at w b e v }
+  run [] w b e v a = record { alike = refl; intact = intact-at w b e v }
   run (t ∷ ts) w b e v a =
       let g = one w b t e v (a .0) (a .1) in
       let r = run ts (left (stepOutcome xs w t)) (enter b (t .call) .book) (g .same-record) (g .inv) (a .2) in
-      record { alike = let x = g .alike in let y = r .alike in cc; kept = r .kept }
+      record { alike = let x = g .alike in let y = r .alike in cc; intact = r .intact }
 
 -- ---- the start
 
@@ -163,7 +163,7 @@ demand-3 xs old z c area steps accepted pts ok =
     (open-inv xs z c area (set-up-sound old z c accepted) pts) ok in
     record {
       alike = r .alike;
-      after = r .kept;
+      after = r .intact;
       repaired = λ s any fresh helpers h. accepted-repair xs s any fresh helpers h;
     }
 

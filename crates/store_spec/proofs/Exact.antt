@@ -17,7 +17,7 @@ use Rattle.lists.proofs.Boards.{among-all, joined-parts, below-all, joined-all}
 use Rattle.lists.proofs.Pieces.{joined-bytes}
 use Rattle.lists.proofs.Put.{part-end}
 use Rattle.lists.proofs.Tests.{not-no, alls-hold}
-use Rattle.sizes.specs.Refusals.{Line, holdsIn, storeOrder, number, said, first}
+use Rattle.sizes.specs.Refusals.{Line, appliesIn, storeOrder, number, said, first}
 use Rattle.sizes.specs.Sizing.{stripes, α}
 use Rattle.sizes.specs.declared.Answer.the-variants.{Done, Refused}
 use Rattle.sizes.specs.declared.Check.{Check}
@@ -44,7 +44,7 @@ use Rattle.store_spec.proofs.StepRepair.{repair-points}
 -- ---- no line but DISAGREE holds
 
 abbrev Only : List Line → Type 0
-Only lines = All (λ x. (x ≡ Disagree) ⊎ (holdsIn lines x ≡ false)) storeOrder
+Only lines = All (λ x. (x ≡ Disagree) ⊎ (appliesIn lines x ≡ false)) storeOrder
 
 -- the outcome of a read that found this file, or none
 abbrev outcome : Record → List ℕ → Option (List ℕ) → List ℕ → StoreOutcome
@@ -59,7 +59,7 @@ found s area output none = refl
 
 module _ (xs : List ℕ) (s : Record) (area boards output : List ℕ) (pts : DifferentPoints (s .sizes) xs) (ba : Bytes area)
     (h : Only (readLines xs s area boards output)) where
-  line : (x : Refusal) → number x ≢ 10 → (x ≡ Disagree) ⊎ (holdsIn (readLines xs s area boards output) x ≡ false) → holdsIn (readLines xs s area boards output) x ≡ false
+  line : (x : Refusal) → number x ≢ 10 → (x ≡ Disagree) ⊎ (appliesIn (readLines xs s area boards output) x ≡ false) → appliesIn (readLines xs s area boards output) x ≡ false
   line = clear (readLines xs s area boards output)
 
   facts : Reads s (length area) boards output
@@ -75,7 +75,7 @@ module _ (xs : List ℕ) (s : Record) (area boards output : List ℕ) (pts : Dif
     room = borrow.Author.Tests.ltb-false _ _ (line Short (omega arith) (h .1 .1 .1 .1 .1 .1 .1 .1 .0));
   }
 
-  only-first : first storeOrder (readLines xs s area boards output) ≡ pick (holdsIn (readLines xs s area boards output) Disagree) (Refuse Disagree) Pass
+  only-first : first storeOrder (readLines xs s area boards output) ≡ pick (appliesIn (readLines xs s area boards output) Disagree) (Refuse Disagree) Pass
   only-first =
       let p1 = line Size (omega arith) (h .0) in
       let p2 = line Area (omega arith) (h .1 .0) in
@@ -181,7 +181,7 @@ abbrev before : List Refusal
 before = Size ∷ Area ∷ Long ∷ Empty ∷ Count ∷ Node ∷ Repeat ∷ Down ∷ Short ∷ Disagree ∷ []
 
 unequal : (lines : List Line) (s : Record) (area output : List ℕ) (done : StoreOutcome) → done .answer .refusal ≡ 0
-    → (Clear lines before → holdsIn lines Points ≡ false)
+    → (Clear lines before → appliesIn lines Points ≡ false)
     → settle (first storeOrder lines) (refused s area output) done .answer .refusal ≢ 11
 unequal lines s area output done z h e =
     never lines Points before

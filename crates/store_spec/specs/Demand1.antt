@@ -16,7 +16,7 @@ use Rattle.sizes.specs.declared.Refusal.{Refusal}
 use Rattle.sizes.specs.declared.Refusal.the-variants.{Size, Area, Long, Count, Node, Repeat, Short, Empty, Down, Disagree, Points}
 use Rattle.sizes.specs.declared.Answer.the-variants.{Done, Refused}
 use Rattle.sizes.specs.Sizing.{maxBoards, maxStripes, legal, α, B, stripes}
-use Rattle.sizes.specs.Refusals.{said, Line, holdsIn, storeOrder}
+use Rattle.sizes.specs.Refusals.{said, Line, appliesIn, storeOrder}
 use Rattle.sizes.specs.Laws.{First}
 use Rattle.mbcr.specs.Share.{standard, DifferentPoints, stripe, kept, share}
 use Rattle.board_spec.specs.Calls.{equalPoints, readRuns}
@@ -30,11 +30,11 @@ use Rattle.store_spec.specs.Ledger.{Call, write, lose, repair, read, Boo
 -- one call: its lines; record, area and output as they came; what it does where no line holds; and its outcome
 pub record StoreEnds (lines : List Line) (s : Record) (area output : List ℕ) (done o : StoreOutcome) : Type 0 where
   -- some line is the first that holds, or none holds
-  pub one : ((x : Refusal) × First storeOrder lines x) ⊎ All (λ x. holdsIn lines x ≡ false) storeOrder
+  pub one : ((x : Refusal) × First storeOrder lines x) ⊎ All (λ x. appliesIn lines x ≡ false) storeOrder
   -- "The first that applies is given", and all is as it came
   pub refuses : (x : Refusal) → First storeOrder lines x → o ≡ record { answer = said (Refused x); handed = s; area = area; output = output }
   -- "otherwise the call does its work"
-  pub works : All (λ x. holdsIn lines x ≡ false) storeOrder → (o ≡ done) × (o .answer .refusal ≡ 0)
+  pub works : All (λ x. appliesIn lines x ≡ false) storeOrder → (o ≡ done) × (o .answer .refusal ≡ 0)
 
 -- "Other bytes stay": of an area, outside the first S stripes of these boards
 pub record Stays (s : Record) (boards old new : List ℕ) : Type 0 where
@@ -123,7 +123,7 @@ pub record StoreCalls : Type 0 where
   -- a read over any area, where no line but DISAGREE holds: it gives f exactly when f has length L and the k boards hold its shares, and
   -- DISAGREE exactly when there is no such file
   pub read-exact : (xs : List ℕ) (s : Record) (area boards output : List ℕ) → DifferentPoints (s .sizes) xs → Bytes area
-      → All (λ x. (x ≡ Disagree) ⊎ (holdsIn (readLines xs s area boards output) x ≡ false)) storeOrder
+      → All (λ x. (x ≡ Disagree) ⊎ (appliesIn (readLines xs s area boards output) x ≡ false)) storeOrder
       → ((file : List ℕ) → length file ≡ s .length → Bytes file
       → (readCall xs s area boards output ≡ accepted 0 s area (over file output))
       ↔ All (λ i. held s area i ≡ share (s .sizes) xs file i) boards)
@@ -131,7 +131,7 @@ pub record StoreCalls : Type 0 where
       ↔ ((file : List ℕ) → length file ≡ s .length → Bytes file → All (λ i. held s area i ≡ share (s .sizes) xs file i) boards → ⊥))
   -- the ledger's lines are the store's: for each refusal but 1, 10 and 11, by any book that tells legal sizes and names boards below n
   pub lines-agree : (xs : List ℕ) (b : Book) (area : List ℕ) (call : Call) → legal (b .sizes) ≡ true → All (λ i. i < b .sizes .n) (b .service) → length area ≡ b .areaLength
-      → All (λ x. holdsIn (storeLines xs (bookRecord b) area call) x ≡ holdsIn (bookLines b call) x)
+      → All (λ x. appliesIn (storeLines xs (bookRecord b) area call) x ≡ appliesIn (bookLines b call) x)
       (Area ∷ Long ∷ Empty ∷ Count ∷ Node ∷ Repeat ∷ Down ∷ Short ∷ [])
   -- with document 01's points no call answers 11 POINTS, on any record, area and lists
   pub no-points : (s : Record) (area : List ℕ) →

@@ -19,7 +19,7 @@ use Rattle.store_spec.specs.Calls.{StoreOutcome, accepted, setUpCall, re
 use Rattle.store_spec.specs.Ledger.{Call, Book, State, Step, Altered, Allowed, openBook, bookLength, bookRecord, replies, final, bookReplies, bookFinal}
 
 -- After the list, also where bytes of boards out of service were altered since the last call: `now` is the area.
-pub record Kept (xs : List ℕ) (w : State) (b : Book) : Type 0 where
+pub record Intact (xs : List ℕ) (w : State) (b : Book) : Type 0 where
   -- the record is the one that the book tells
   pub same-record : w .kept ≡ bookRecord b
   -- "every board in service holds its share of that file": the first S stripes of its part of the area are its share
@@ -77,7 +77,7 @@ pub record Demand3 (xs : List ℕ) (old : Record) (z : Sizes) (c : ℕ) (area : 
   -- "every call answers as document 01's ledger does"
   pub alike : replies xs (begun old z c area) steps ≡ bookReplies (openBook z c (length area)) (calls steps)
   -- "After the list"
-  pub after : Kept xs (final xs (begun old z c area) steps) (bookFinal (openBook z c (length area)) (calls steps))
+  pub after : Intact xs (final xs (begun old z c area) steps) (bookFinal (openBook z c (length area)) (calls steps))
   -- "In each accepted repair", in this list or not
   pub repaired : (s : Record) (any fresh helpers : List ℕ) → repairCall xs s any fresh helpers .answer .refusal ≡ 0 → Repaired xs s any fresh helpers
 

@@ -50,7 +50,7 @@ helpers = 2 ∷ 3 ∷ 4 ∷ 2 ∷ 3 ∷ 4 ∷ []
 
 -- an outcome by the refusal's number or 0, the number reported, record, area and output
 abbrev pub gives : ℕ → ℕ → Record → List ℕ → List ℕ → StoreOutcome
-gives refusal value handed area output = record { answer = record { refusal = refusal; value = value }; handed = handed; area = area; output = output }
+gives refusal value handed area output = record { answer = record { refusal = refusal; reported = value }; handed = handed; area = area; output = output }
 
 abbrev answers : List StoreOutcome → List ℕ
 answers os = map (λ o. o .answer .refusal) os

@@ -14,7 +14,7 @@ use Rattle.store_spec.specs.FurtherFigures.{five, fiveFile, boards234, a
 
 -- what is replied: the refusal's number or 0, the number reported, all bytes of the output
 abbrev reply : ℕ → ℕ → List ℕ → Reply
-reply refusal value output = record { answer = record { refusal = refusal; value = value }; output = output }
+reply refusal value output = record { answer = record { refusal = refusal; reported = value }; output = output }
 
 abbrev step : List ℕ → Call → Step
 step lent call = record { area = lent; call = call }

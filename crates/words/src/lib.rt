@@ -93,7 +93,7 @@ pub fn put_words(store: Store, words: &mut [u64])
 
 // The record that a call of the store hands on, in its words; and the word of its answer.
 pub fn hand_on(handed: Handed, words: &mut [u64]) -> u64
-    requires { ⌜ (length (now words) ≡ 8) × (said (handed .answer) .value < 72057594037927936) ⌝ }
+    requires { ⌜ (length (now words) ≡ 8) × (said (handed .answer) .reported < 72057594037927936) ⌝ }
     ensures { λ w. ⌜ (w ≡ wordOf (said (handed .answer))) × (now (words .exit) ≡ wordsOf (recordIn (handed .store))) ⌝ }
 {
     put_words(handed.store, words);

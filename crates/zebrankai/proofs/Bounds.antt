@@ -36,10 +36,10 @@ Fits v = v < 72057594037927936
 
 -- a refusal reports nothing, so only the bytes of a call that no line stops count
 settled-fits : (lines : List Line) (bytes output : List ℕ) → (Clear lines boardOrder → Fits (length bytes))
-    → Fits (settled (first boardOrder lines) bytes output .answer .value)
+    → Fits (settled (first boardOrder lines) bytes output .answer .reported)
 settled-fits lines bytes output h = go (first boardOrder lines) refl
   where
-    go : (c : Check) → first boardOrder lines ≡ c → Fits (settled c bytes output .answer .value)
+    go : (c : Check) → first boardOrder lines ≡ c → Fits (settled c bytes output .answer .reported)
     go Pass e = h (first-clear lines boardOrder e)
     go (Refuse x) e = omega arith
 
@@ -95,26 +95,26 @@ text-few z L node held f h e =
     )
 
 module _ (z : Sizes) (xs : List ℕ) where
-  pub share-fits : (node : ℕ) (file output : List ℕ) → Fits (shareCall z xs node file output .answer .value)
+  pub share-fits : (node : ℕ) (file output : List ℕ) → Fits (shareCall z xs node file output .answer .reported)
   unfolding shareLines shareCall
   share-fits node file output = settled-fits (shareLines z xs node file output) (share z xs file node) output (λ h.
       let f = few z (length file) (h .0) (h .1 .0) in
       omega (arith, length-share z xs (f .allowed) file node, few-in-share z (length file) f))
 
-  pub file-fits : (L : ℕ) (boards held output : List ℕ) → Fits (fileCall z xs L boards held output .answer .value)
+  pub file-fits : (L : ℕ) (boards held output : List ℕ) → Fits (fileCall z xs L boards held output .answer .reported)
   unfolding fileLines fileCall
   file-fits L boards held output = settled-fits (fileLines z xs L boards held output) (fileOf (readFile z xs L boards held)) output (λ h.
       let f = few z L (h .0) (h .1 .0) in
       omega (arith, length-file z xs L boards held, f .most-bytes))
 
-  pub helper-fits : (L helper receiver : ℕ) (held output : List ℕ) → Fits (helperCall z xs L helper receiver held output .answer .value)
+  pub helper-fits : (L helper receiver : ℕ) (held output : List ℕ) → Fits (helperCall z xs L helper receiver held output .answer .reported)
   unfolding helperLines helperCall
   helper-fits L helper receiver held output = settled-fits (helperLines z xs L helper receiver held output) (helperPacket z xs (stripes z L) helper receiver held) output (λ h.
       let f = few z L (h .0) (h .1 .0) in
       omega (arith, length-packet z xs (stripes z L) helper receiver held, f .most-stripes))
 
   pub exchange-fits : (L board : ℕ) (helpers packets : List ℕ) (receiver : ℕ) (output : List ℕ)
-      → Fits (exchangeCall z xs L board helpers packets receiver output .answer .value)
+      → Fits (exchangeCall z xs L board helpers packets receiver output .answer .reported)
   unfolding exchangeLines exchangeCall
   exchange-fits L board helpers packets receiver output =
       settled-fits (exchangeLines z xs L board helpers packets receiver output) (exchangePacket z xs (stripes z L) helpers packets receiver) output (λ h.
@@ -122,7 +122,7 @@ module _ (z : Sizes) (xs : List ℕ) where
       omega (arith, length-exchange z xs (stripes z L) helpers packets receiver, f .most-stripes))
 
   pub finished-fits : (L board : ℕ) (helpers packets partners exchanges output : List ℕ)
-      → Fits (finishedCall z xs L board helpers packets partners exchanges output .answer .value)
+      → Fits (finishedCall z xs L board helpers packets partners exchanges output .answer .reported)
   unfolding finishedLines finishedCall
   finished-fits L board helpers packets partners exchanges output =
       settled-fits (finishedLines z xs L board helpers packets partners exchanges output)
@@ -130,7 +130,7 @@ module _ (z : Sizes) (xs : List ℕ) where
       let f = few z L (h .0) (h .1 .0) in
       omega (arith, length-finished z xs (f .allowed) (stripes z L) board helpers packets partners exchanges, few-in-share z L f))
 
-  pub text-fits : (L node : ℕ) (held output : List ℕ) → Fits (textCall z xs L node held output .answer .value)
+  pub text-fits : (L node : ℕ) (held output : List ℕ) → Fits (textCall z xs L node held output .answer .reported)
   unfolding textLines textCall
   text-fits L node held output = settled-fits (textLines z xs L node held output) (shareText z L node held) output (λ h.
       text-few z L node held (few z L (h .0) (h .1 .0))

@@ -25,7 +25,7 @@ use Rattle.store_spec.specs.Packets.{total, repairPackets}
 use Rattle.store_spec.specs.Calls.{StoreOutcome, accepted, settle, refused, recordLine, setUpCall, repairLines, repairDone, repairCall, readCall}
 use Rattle.store_spec.specs.Ledger.{Call, read, Book, State, Step, Altered, Allowed, outputOf, left, act, stepOutcome, replies, final, openBook, enter, bookFinal}
 use Rattle.board_spec.specs.Calls.{fileOf}
-use Rattle.store_spec.specs.Demand3.{Kept, Demand3, begun, calls}
+use Rattle.store_spec.specs.Demand3.{Intact, Demand3, begun, calls}
 use Rattle.store_spec.proofs.Demand3.{demand-3-standard, accepted-repair}
 use Rattle.store_spec.proofs.Demand1.{demand-1}
 use Rattle.store_spec.proofs.MarkLaws.{mark-laws}
@@ -138,8 +138,8 @@ module _ (ws : List ℕ) (z : Sizes) (c : ℕ) (area : List ℕ) (steps : List S
         demand-3-standard (newRecord z c) z c area steps (begins ws z c e .accepts)
         (allowed (firstWords ws z c area steps) area start (openBook z c (length area)) steps tells-start ok)
 
-    kept : Kept standard (record { kept = recordFrom (endWords ws z c area steps); area = endArea ws z c area steps }) (endBook ws z c area steps)
-    kept = subst (λ (w : State). Kept standard w (endBook ws z c area steps)) (sym state-is) (of-definitions .after)
+    intact : Intact standard (record { kept = recordFrom (endWords ws z c area steps); area = endArea ws z c area steps }) (endBook ws z c area steps)
+    intact = subst (λ (w : State). Intact standard w (endBook ws z c area steps)) (sym state-is) (of-definitions .after)
 
     are-words : isRecord (endWords ws z c area steps) ≡ true
     are-words = ap isRecord (tells-last .words-are) ∙ word-laws .are-words (last .kept) (tells-last .full)
@@ -149,10 +149,10 @@ module _ (ws : List ℕ) (z : Sizes) (c : ℕ) (area : List ℕ) (steps : List S
     runs = record {
       alike = answers (firstWords ws z c area steps) area start steps tells-start ∙ ap (map inWord) (of-definitions .alike);
       are-words = are-words;
-      after = kept;
+      after = intact;
       gives = λ now a boards output count diff up room.
           sym (lent (λ s. readCall standard s now boards output) (endWords ws z c area steps) now output are-words)
-          ∙ ap inWords (kept .gives now a boards output count diff up room)
+          ∙ ap inWords (intact .gives now a boards output count diff up room)
           ∙ ap (λ (l : List ℕ). record { answer = 0; words = l; area = now; output = over (fileOf (endBook ws z c area steps .file)) output })
           (word-laws .words-back (endWords ws z c area steps) are-words);
     }

@@ -52,7 +52,7 @@ keeps ws area call = go (isRecord ws) refl
 
     go : (b : Bool) → isRecord ws ≡ b → Keeps (pick b (inWords o) (noRecord ws area (outputOf call))) ws area (outputOf call)
     go true is h =
-        ap inWords (mark-laws .refused-keeps standard (record { kept = recordFrom ws; area = area }) call (λ e. h (o .answer .value) (omega (arith, e))))
+        ap inWords (mark-laws .refused-keeps standard (record { kept = recordFrom ws; area = area }) call (λ e. h (o .answer .reported) (omega (arith, e))))
         ∙ ap (λ (l : List ℕ). record { answer = wordOf (o .answer); words = l; area = area; output = outputOf call }) (word-laws .words-back ws is)
     go false is h = refl
 

@@ -136,39 +136,39 @@ module _ (ws : List ℕ) (z : Sizes) (c : ℕ) where
 
 -- ---- the number that is reported
 
-settled-few : (s : Record) (area output : List ℕ) (done : StoreOutcome) (t : Check) → (t ≡ Pass → done .answer .value < 72057594037927936)
-    → settle t (refused s area output) done .answer .value < 72057594037927936
+settled-few : (s : Record) (area output : List ℕ) (done : StoreOutcome) (t : Check) → (t ≡ Pass → done .answer .reported < 72057594037927936)
+    → settle t (refused s area output) done .answer .reported < 72057594037927936
 settled-few s area output done Pass h = h refl
 settled-few s area output done (Refuse x) h = omega arith
 
 -- what a call's answer reports, by its definition
-pub as-told : (h : Handed) (area output : List ℕ) (o : StoreOutcome) → outcomeIn h area output ≡ o → o .answer .value < 72057594037927936 → said (h .answer) .value < 72057594037927936
-as-told h area output o e few = subst (λ (v : ℕ). v < 72057594037927936) (ap (λ (p : StoreOutcome). p .answer .value) (sym e)) few
+pub as-told : (h : Handed) (area output : List ℕ) (o : StoreOutcome) → outcomeIn h area output ≡ o → o .answer .reported < 72057594037927936 → said (h .answer) .reported < 72057594037927936
+as-told h area output o e few = subst (λ (v : ℕ). v < 72057594037927936) (ap (λ (p : StoreOutcome). p .answer .reported) (sym e)) few
 
 -- what `hand_on` asks
-pub handed-asks : (call : Record → StoreOutcome) (ws : List ℕ) → ((s : Record) → call s .answer .value < 72057594037927936)
+pub handed-asks : (call : Record → StoreOutcome) (ws : List ℕ) → ((s : Record) → call s .answer .reported < 72057594037927936)
     → (s : Record) (h : Handed) (after written : List ℕ) → isRecord ws ≡ true → outcomeIn h after written ≡ call s
-    → (length ws ≡ 8) × (said (h .answer) .value < 72057594037927936)
+    → (length ws ≡ 8) × (said (h .answer) .reported < 72057594037927936)
 handed-asks call ws few s h after written is e = (words-facts ws is .eight, as-told h after written (call s) e (few s))
 
-pub set-up-few : (s : Record) (z : Sizes) (c : ℕ) → setUpCall s z c .answer .value < 72057594037927936
+pub set-up-few : (s : Record) (z : Sizes) (c : ℕ) → setUpCall s z c .answer .reported < 72057594037927936
 unfolding setUpCall
 set-up-few s z c = settled-few s [] [] _ (first storeOrder (recordLine (newRecord z c) ∷ [])) (λ _. omega arith)
 
-pub write-few : (s : Record) (area file : List ℕ) → writeCall standard s area file .answer .value < 72057594037927936
+pub write-few : (s : Record) (area file : List ℕ) → writeCall standard s area file .answer .reported < 72057594037927936
 unfolding writeCall
 write-few s area file = settled-few s area [] (writeDone standard s area file) (first storeOrder (writeLines s (length area) file)) (λ _. omega arith)
 
-pub lose-few : (s : Record) (area : List ℕ) (board : ℕ) → loseCall s area board .answer .value < 72057594037927936
+pub lose-few : (s : Record) (area : List ℕ) (board : ℕ) → loseCall s area board .answer .reported < 72057594037927936
 unfolding loseCall
 lose-few s area board = settled-few s area [] (loseDone s area board) (first storeOrder (loseLines s board)) (λ _. omega arith)
 
-pub read-few : (s : Record) (area boards output : List ℕ) → readCall standard s area boards output .answer .value < 72057594037927936
+pub read-few : (s : Record) (area boards output : List ℕ) → readCall standard s area boards output .answer .reported < 72057594037927936
 unfolding readCall
 read-few s area boards output =
     settled-few s area output (readDone standard s area boards output) (first storeOrder (readLines standard s area boards output)) (λ _. omega arith)
 
-pub repair-few : (s : Record) (area fresh helpers : List ℕ) → repairCall standard s area fresh helpers .answer .value < 72057594037927936
+pub repair-few : (s : Record) (area fresh helpers : List ℕ) → repairCall standard s area fresh helpers .answer .reported < 72057594037927936
 unfolding repairCall
 repair-few s area fresh helpers =
     settled-few s area [] (repairDone standard s area fresh helpers) (first storeOrder (repairLines standard s (length area) fresh helpers))

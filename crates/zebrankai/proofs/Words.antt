@@ -13,8 +13,8 @@ use Rattle.zebrankai.proofs.Bounds.{Fits}
 
 module _ (a : Answer) (output : List ℕ) (o : BoardOutcome) (e : outcome a output ≡ o) where
   -- the answer's number is the definition's, so it is small where that is
-  pub fits : Fits (o .answer .value) → Fits (said a .value)
-  fits h = omega (arith, ap (λ (p : BoardOutcome). p .answer .value) e, h)
+  pub fits : Fits (o .answer .reported) → Fits (said a .reported)
+  fits h = omega (arith, ap (λ (p : BoardOutcome). p .answer .reported) e, h)
 
   -- the word and the output are the definition's
   pub tells : (w : ℕ) → w ≡ wordOf (said a) → (w ≡ wordOf (o .answer)) × (output ≡ o .output)

@@ -17,7 +17,7 @@ use Rattle.board_spec.specs.Calls.{fileOf}
 use Rattle.store_spec.specs.Record.{held}
 use Rattle.store_spec.specs.Packets.{total, repairPackets, freshShare}
 use Rattle.store_spec.specs.Ledger.{Call, repair, read, Reply, Book, State, Step, Altered, Fair, openBook, bookLength, enter, bookReplies, bookFinal}
-use Rattle.store_spec.specs.Demand3.{Kept, Repaired, calls}
+use Rattle.store_spec.specs.Demand3.{Intact, Repaired, calls}
 use Rattle.store_spec.specs.Premises.{files}
 use Rattle.answer_word.specs.Answers.{wordOf}
 use Rattle.words.specs.Words.{isRecord, recordFrom}
@@ -78,7 +78,7 @@ module _ (ws : List ℕ) (z : Sizes) (c : ℕ) (area : List ℕ) (steps : List S
   pub record ArchiveRun : Type 0 where
     pub alike : map told ran ≡ map inWord (bookReplies (openBook z c (length area)) (calls steps))
     pub are-words : isRecord endWords ≡ true
-    pub after : Kept standard (record { kept = recordFrom endWords; area = endArea }) endBook
+    pub after : Intact standard (record { kept = recordFrom endWords; area = endArea }) endBook
     -- "a read of any k different boards in service, with output long enough, is accepted and gives exactly the last file accepted"
     pub gives : (now : List ℕ) → Altered endBook (recordFrom endWords) endArea now
         → (boards output : List ℕ)

@@ -15,7 +15,7 @@ word-of-spec =
     tie.close
     (tie.spec
     (λ c. search needs)
-    (λ c. let e = ap (λ (a : Answer). said a .value) (c .before .answer .given .1) in omega (arith, c .before .before .before .pre, e))
+    (λ c. let e = ap (λ (a : Answer). said a .reported) (c .before .answer .given .1) in omega (arith, c .before .before .before .pre, e))
     (λ c. search needs)
     (λ c κs. search needs)
     (λ c. search needs)

@@ -21,7 +21,7 @@ use Rattle.checks.proofs.Chain.{thens, grouped, goes-on, refuses, ends}
 use Rattle.store_checks.specs.Steps.{recordOf}
 use Rattle.store_checks.proofs.Repairs.{repeatOf}
 use Rattle.shared_checks.specs.Steps.{areaLines}
-use Rattle.shared_checks.proofs.Facts.{area-facts, Ready, ready}
+use Rattle.shared_checks.proofs.Facts.{area-facts, Ready, ready, standard-enough}
 use Rattle.repair_check.proofs.Repairable.{few-helpers, counted, points-line}
 use Rattle.repair_check.proofs.check_repair.Statement.{statement}
 use Rattle.repair_check.proofs.check_repair.Tie as tie
@@ -71,7 +71,7 @@ no-area c = let k = c .before .before in refuses _ (whole (st-area k)) (k .check
 ready-on : (c : tie.After-enum-told) → let g = st-area (c .before .before) in Ready (R g) (g .args .points .now)
 ready-on c =
     let k = c .before .before in
-    ready _ _ (st-area k .pre) (area-facts _ _ (sym (k .check-area .ensures) ∙ c .enum-told .given .1) .is-sound)
+    ready _ _ (standard-enough _ (st-area k .pre)) (area-facts _ _ (sym (k .check-area .ensures) ∙ c .enum-told .given .1) .is-sound)
 
 -- 8 EMPTY
 abbrev at-area : tie.After-check-written → tie.After-check-area
@@ -161,7 +161,7 @@ is-points c =
     let k = at-repeat (at-down c) in
     let n = at-node k in
     c .check-points .ensures
-    ∙ points-line (R g) (g .args .points .now) (g .args .fresh .now) (g .args .helpers .now) (g .pre) (ready-on (at-empty (at-count n) .before) .is-legal)
+    ∙ points-line (R g) (g .args .points .now) (g .args .fresh .now) (g .args .helpers .now) (g .pre) (ready-on (at-empty (at-count n) .before) .stated .is-legal)
     (sym (n .check-two-lists .ensures) ∙ k .before .enum-told4 .given .1) (sym (k .check-fresh .ensures) ∙ at-down c .before .enum-told5 .given .1)
 
 -- what the checks ask
@@ -170,7 +170,10 @@ fresh-asks c κs =
     let n = c .before .before in
     let z = st-node n .args .sizes in
     let e = counts-on n in
-    (e .1 ∙ ap (λ (m : ℕ). m * z .d) (sym (e .0)), omega (arith, e .1, few-helpers z (ready-on (at-empty (at-count n) .before) .is-legal)))
+    record {
+      whole = e .1 ∙ ap (λ (m : ℕ). m * z .d) (sym (e .0));
+      few = omega (arith, e .1, few-helpers z (ready-on (at-empty (at-count n) .before) .stated .is-legal));
+    }
 
 pub check-repair-spec : {M : Type 1} → statement M
 check-repair-spec =
@@ -184,7 +187,7 @@ check-repair-spec =
     (λ c. search needs)
     (λ c. no-empty (c .before))
     (λ c. search needs)
-    (λ c. let k = c .before .before .before in omega (arith, few-helpers (st-empty k .args .sizes) (ready-on (k .before) .is-legal)))
+    (λ c. let k = c .before .before .before in omega (arith, few-helpers (st-empty k .args .sizes) (ready-on (k .before) .stated .is-legal)))
     (λ c κs. search needs)
     (λ c. search needs)
     (λ c. no-count (c .before))
