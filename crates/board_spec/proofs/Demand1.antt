@@ -4,15 +4,15 @@ use mathlib.Core.Path.{_≡_, refl, sym, ap, _∙_}
 use mathlib.Core.Bool.{Bool, true, false, not}
 use mathlib.Core.Logic.{_≢_, _↔_, _⊎_, inl, inr}
 use mathlib.Core.Option.{Option, none, some}
-use mathlib.Core.List.{List, [], _∷_, _++_}
-use Prim.Native.Nat.{ℕ, _-_, _*_, _≤_, _<_}
+use mathlib.Core.List.{List, [], _∷_}
+use Prim.Native.Nat.{ℕ, _*_, _≤_}
 use native.Mathlib.Omega.{arith}
 use lib.Dec.{eqb}
 use lib.ListN.{length, take, length-take}
 use lib.Seq.{take-at}
 use borrow.Author.Tests.{ltb-false, le-ltb, eqb-true, eq-eqb}
 use Rattle.lists.specs.Lists.{All, Bytes, over}
-use Rattle.lists.specs.Tests.{pick, same, given, below, different}
+use Rattle.lists.specs.Tests.{pick, same, given}
 use Rattle.lists.proofs.Pieces.{length-joined}
 use Rattle.lists.proofs.Tests.{not-no, alls-hold, hold-alls}
 use Rattle.sizes.specs.Refusals.{number, said, Line, appliesIn, first, boardOrder}
@@ -23,14 +23,13 @@ use Rattle.sizes.specs.declared.Check.the-variants.{Pass, Refuse}
 use Rattle.sizes.specs.declared.Refusal.{Refusal}
 use Rattle.sizes.specs.declared.Refusal.the-variants.{Size, Area, Long, Count, Node, Repeat, Short, Disagree}
 use Rattle.sizes.specs.declared.Sizes.{Sizes}
-use Rattle.sizes.proofs.Laws.{numbers-differ, number-low}
 use Rattle.sizes.proofs.Legal.{Legal, legal-facts}
-use Rattle.sizes.proofs.Lines.{Clear, clear-first, refuse-first, one-or-none, never, says-not, says-less, says-one, says-two, says-itself, says-no-file}
+use Rattle.sizes.proofs.Lines.{Clear, clear-first, refuse-first, one-or-none, says-not, says-less, says-one, says-two, says-no-file}
 use Rattle.mbcr.specs.Demand2.{Named}
 use Rattle.mbcr.specs.Read.{decodedFile, readFile}
 use Rattle.mbcr.specs.Rebuild.{helperPacket, exchangePacket, finishedShare}
-use Rattle.mbcr.specs.Share.{standard, DifferentPoints, share, shares}
-use Rattle.mbcr.proofs.Points.{Boards, boards-of, standard-points}
+use Rattle.mbcr.specs.Share.{DifferentPoints, share, shares}
+use Rattle.mbcr.proofs.Points.{Boards, boards-of}
 use Rattle.mbcr.proofs.Read.{read-sound, read-complete, read-none}
 use Rattle.mbcr.proofs.Repair.{length-share, length-packet, length-exchange, length-finished}
 use Rattle.board_spec.specs.Calls.{BoardOutcome, settled, fileOf, shareLines, shareCall, fileLines, fileCall, helperLines, helperCall, exchangeLines, exchangeCall}

@@ -20,7 +20,7 @@ pub fn check_repair(
     helpers: &[usize],
 ) -> Check
     requires { ⌜ now points ≡ standard ⌝ }
-    ensures { λ r. ⌜ r ≡ first storeOrder (repairLines standard (recordOf sizes capacity written len (now (marks .entry))) lent (now (fresh .entry)) (now (helpers .entry))) ⌝ }
+    ensures { λ r. ⌜ r ≡ first storeOrder (repairLines (recordOf sizes capacity written len (now (marks .entry))) lent (now (fresh .entry)) (now (helpers .entry))) ⌝ }
 {
     if let Check::Refuse(area) = shared_checks::check_area(
         sizes,

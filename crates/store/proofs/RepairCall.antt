@@ -25,7 +25,7 @@ use Rattle.store.proofs.Settled.{refused-by, done-by}
 
 module _ (s : Record) (area fresh helpers : List ℕ) where
   abbrev pub checked : Check
-  checked = first storeOrder (repairLines standard s (length area) fresh helpers)
+  checked = first storeOrder (repairLines s (length area) fresh helpers)
 
   pub repair-refuses : {r : Check} {x : Refusal} → r ≡ checked → r ≡ Refuse x → refused s area [] x ≡ repairCall standard s area fresh helpers
   unfolding repairCall
@@ -50,7 +50,7 @@ module _ (s : Record) (area fresh helpers : List ℕ) where
       → moved ≡ bytes count → marks ≡ turnOn fresh (s .marks) → after ≡ restored points count → mended moved marks after ≡ repairCall standard s area fresh helpers
   unfolding repairCall
   repair-works points after marks count moved p ep ec eb em ea =
-      let f = repair-facts standard s (length area) fresh helpers p in
+      let f = repair-facts s (length area) fresh helpers p in
       let legal = sound-facts s (f .is-sound) .is-legal in
       let done = repairDone standard s area fresh helpers in
       let d = done-by (refused s area []) done p in

@@ -54,7 +54,7 @@ abbrev areas : tie.Start → List (List Line)
 areas g = areaLines (R g) (g .args .lent) ∷ empties g
 
 abbrev answer : tie.Start → Check
-answer g = first storeOrder (repairLines standard (R g) (g .args .lent) (g .args .fresh .now) (g .args .helpers .now))
+answer g = first storeOrder (repairLines (R g) (g .args .lent) (g .args .fresh .now) (g .args .helpers .now))
 
 whole : (g : tie.Start) → thens (areas g) ≡ answer g
 unfolding repairLines

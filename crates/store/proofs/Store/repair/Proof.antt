@@ -47,7 +47,7 @@ asks : (c : tie.After-enum-told)
 asks c =
     let k = c .before .before in
     let a = st k .args in
-    repairable (R k) _ _ (a .fresh .now) (a .helpers .now) (at-points k .standard-points .ensures) (repair-facts standard (R k) _ (a .fresh .now) (a .helpers .now) (passed c))
+    repairable (R k) _ _ (a .fresh .now) (a .helpers .now) (at-points k .standard-points .ensures) (repair-facts (R k) _ (a .fresh .now) (a .helpers .now) (passed c))
 
 -- the work
 shares-ask : tie.Need-repair-shares-requires
