@@ -1,26 +1,21 @@
 -- From what the checks answered to what a call answers: the first line that holds, or the work.
 -- Assumes nothing.
 use Prim.Native.Nat.{ℕ, zero, suc, _*_, _≤_}
-use mathlib.Core.Path.{_≡_, refl, sym, ap, subst, _∙_}
-use mathlib.Core.Bool.{Bool, true, not}
+use mathlib.Core.Path.{_≡_, refl, sym, ap, _∙_}
+use mathlib.Core.Bool.{Bool, true}
 use mathlib.Core.List.{List, [], _∷_, _++_}
 use borrow.Author.Tests.{ltb-false}
 use native.Mathlib.Omega.{arith}
 use native.Mathlib.Nat.{mul-le-mul-right}
-use lib.ListN.{length, take, drop, take-append-drop}
+use lib.ListN.{length, drop}
 use Rattle.lists.specs.Lists.{All}
-use Rattle.lists.specs.Tests.{pick, different}
-use Rattle.lists.proofs.Tests.{true-false}
-use Rattle.lists.proofs.Alls.{Distinct, distinct-left}
-use Rattle.lists.proofs.Boards.{distinct, distinct-different}
+use Rattle.lists.specs.Tests.{pick}
 use Rattle.sizes.specs.declared.Refusal.{Refusal}
-use Rattle.sizes.specs.declared.Refusal.the-variants.{Points}
 use Rattle.sizes.specs.declared.Check.{Check}
 use Rattle.sizes.specs.declared.Check.the-variants.{Pass, Refuse}
 use Rattle.sizes.specs.declared.Answer.the-variants.{Done, Refused}
-use Rattle.sizes.specs.Refusals.{said, Line, _when_}
-use Rattle.mbcr.specs.Share.{standard}
-use Rattle.board_spec.specs.Calls.{BoardOutcome, settled, shortLine}
+use Rattle.sizes.specs.Refusals.{Line}
+use Rattle.board_spec.specs.Calls.{settled, shortLine}
 use Rattle.checks.specs.Steps.{asked}
 use Rattle.checks.proofs.Answers.{passed, refused}
 use Rattle.checks.specs.Outcomes.{outcome}
@@ -74,17 +69,6 @@ few-bytes s q a t h f g k =
 -- there is room for them
 pub has-room : (output : List ℕ) (s S a : ℕ) → s ≡ S → asked (shortLine output (S * a)) ≡ Pass → s * a ≤ length output
 has-room output s S a e h = rw e (ltb-false _ _ (passed (shortLine output (S * a)) h))
-
--- no two of document 01's points are equal, so POINTS is never given
-standard-apart : (n : ℕ) → different (take n standard) ≡ true
-standard-apart n =
-    let all : Distinct standard = distinct standard refl in
-    distinct-different (take n standard) (distinct-left (take n standard) (drop n standard) (subst Distinct (sym (take-append-drop n standard)) all))
-
-pub no-points : (xs : List ℕ) (n : ℕ) (x : Refusal) → xs ≡ standard → asked (Points when not (different (take n xs))) ≡ Refuse x → ⊥
-no-points xs n x e h =
-    let q : not (different (take n xs)) ≡ true = refused (Points when not (different (take n xs))) x h .0 in
-    true-false q (ap (λ (l : List ℕ). not (different (take n l))) e ∙ ap not (standard-apart n))
 
 -- the bytes of the packets of so many boards are few
 pub few-packets : (m s b : ℕ) → m ≤ 32 → s ≤ 4096 → b ≤ 2 → m * (b * s) ≤ 262144
