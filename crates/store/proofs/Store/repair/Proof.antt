@@ -20,7 +20,7 @@ use Rattle.store.proofs.Store.repair.Tie as tie
 
 -- the places
 abbrev st : tie.After-check-repair → tie.Start
-st c = c .before .before .before .before .before .before .before .before
+st c = c .before .before .before .before .before .before .before
 
 abbrev R : tie.After-check-repair → Record
 R c = recordIn (st c .args .self)
@@ -78,7 +78,7 @@ marks-ask c κs =
     let p = at-points (at-count (at-shares c .before)) in
     let k = p .before .before .before in
     let f = asks p in
-    below-more (R k .sizes .n) (length (R k .marks)) (st k .args .fresh .now) (omega (arith, marks-long (k .before .before), legal-facts _ (f .is-legal) .few)) (f .fresh-known)
+    below-more (R k .sizes .n) (length (R k .marks)) (st k .args .fresh .now) (omega (arith, marks-long (k .before), legal-facts _ (f .is-legal) .few)) (f .fresh-known)
 
 repair-done : tie.Need-returns-2
 repair-done c =
@@ -101,22 +101,21 @@ pub repair-spec : {M : Type 1} → statement M
 repair-spec =
     tie.close
     (tie.spec
-    (λ c κs. search needs)
     marks-long
-    (λ c. search needs)
     (λ c κs. search needs)
     (λ c. search needs)
     (λ c κs. search needs)
     (λ c. c .refuse .ensures _ [] ∙ repair-refused (c .before .before))
     (λ c. search needs)
+    (λ c κs. search needs)
     (λ c. search needs)
     (λ c κs. search needs)
     (λ c κs. let f = asks (c .before .before .before) in (f .is-legal, f .not-long))
-    (λ c κs. (asks (at-told c) .is-legal, c .stripe-count .ensures .1))
+    (λ c κs. (asks (at-points c) .is-legal, c .stripe-count .ensures .1))
     (λ c. search needs)
     (λ c. search needs)
     shares-ask
-    (λ c. marks-long (at-told (at-count (at-shares c .before)) .before .before .before .before))
+    (λ c. marks-long (at-told (at-count (at-shares c .before)) .before .before .before))
     marks-ask
     (λ c. search needs)
     repair-done)
