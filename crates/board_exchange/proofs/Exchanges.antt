@@ -16,17 +16,17 @@ use Rattle.sizes.specs.declared.Check.{Check}
 use Rattle.sizes.specs.declared.Check.the-variants.{Pass, Refuse}
 use Rattle.sizes.specs.declared.Answer.the-variants.{Done, Refused}
 use Rattle.sizes.specs.Refusals.{first, boardOrder}
-use Rattle.sizes.specs.Sizing.{maxStripes, legal, B, stripes}
+use Rattle.sizes.specs.Sizing.{stripes}
 use Rattle.sizes.proofs.Lines.{first-clear}
 use Rattle.mbcr.specs.Rebuild.{exchangePacket}
 use Rattle.mbcr.proofs.Repair.{length-exchange}
 use Rattle.board_spec.specs.Calls.{exchangeLines, exchangeCall}
+use Rattle.checks.specs.Steps.{Stated}
 use Rattle.checks.specs.Outcomes.{outcome}
 use Rattle.checks.proofs.Facts.{refused-by, done-by}
 
 pub record Exchanges (z : Sizes) (L : ℕ) (helpers packets : List ℕ) (receiver : ℕ) (output : List ℕ) : Type 0 where
-  pub is-legal : legal z ≡ true
-  pub not-long : L ≤ maxStripes * B z
+  pub stated : Stated z L
   pub enough : length helpers ≡ z .d
   pub known : below (z .n) helpers ≡ true
   pub receiver-known : receiver < z .n
@@ -44,8 +44,7 @@ module _ (z : Sizes) (xs : List ℕ) (L board : ℕ) (helpers packets : List ℕ
       let k = e .1 .1 in
       let known = below-all (z .n) (board ∷ receiver ∷ helpers) (not-no _ (k .1 .0)) in
       record {
-        is-legal = not-no _ (e .0);
-        not-long = ltb-false _ _ (e .1 .0);
+        stated = record { is-legal = not-no _ (e .0); not-long = ltb-false _ _ (e .1 .0) };
         enough = eqb-true _ _ (alls-hold (eqb (length helpers) (z .d) ∷ []) (not-no _ (k .0)) .0);
         known = all-below (z .n) helpers (known .1 .1);
         receiver-known = known .1 .0;

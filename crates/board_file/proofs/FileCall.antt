@@ -1,15 +1,14 @@
 -- A file from k shares: what the kernels ask, from what the checks told; and what the call answers by what its check answered.
 -- Assumes nothing.
 use Prim.Native.Nat.{ℕ, _*_, _≤_}
-use mathlib.Core.Path.{_≡_, refl, sym, ap, _∙_}
-use mathlib.Core.Bool.{Bool, true, false, not}
-use mathlib.Core.Option.{some, none}
+use mathlib.Core.Path.{_≡_, sym, ap, _∙_}
+use mathlib.Core.Bool.{true, false, not}
 use mathlib.Core.List.{List, [], _∷_, _++_}
 use borrow.Author.Tests.{ltb-false, eqb-true}
 use lib.Dec.{eqb}
 use lib.ListN.{length, drop}
-use Rattle.lists.specs.Tests.{pick, alls, same, below, different, given}
-use Rattle.lists.proofs.Tests.{true-false, not-no, alls-hold}
+use Rattle.lists.specs.Tests.{alls, below, different, given}
+use Rattle.lists.proofs.Tests.{not-no, alls-hold}
 use Rattle.sizes.specs.declared.Sizes.{Sizes}
 use Rattle.sizes.specs.declared.Refusal.{Refusal}
 use Rattle.sizes.specs.declared.Check.{Check}
@@ -19,14 +18,14 @@ use Rattle.sizes.specs.Refusals.{first, boardOrder}
 use Rattle.sizes.specs.Sizing.{α, stripes}
 use Rattle.sizes.proofs.Legal.{legal-facts}
 use Rattle.sizes.proofs.Lines.{first-clear}
-use Rattle.mbcr.specs.Share.{shares}
 use Rattle.mbcr.specs.Read.{decodedFile, readFile}
 use Rattle.mbcr.proofs.Read.{length-decoded-file}
 use Rattle.board_spec.specs.Calls.{fileOf, countLine, nodeLine, repeatLine, areaLine, fileLines, fileCall}
-use Rattle.checks.specs.Steps.{asked}
+use Rattle.board_spec.proofs.Files.{file-is}
+use Rattle.checks.specs.Steps.{asked, Stated}
 use Rattle.checks.specs.Outcomes.{outcome}
 use Rattle.checks.proofs.Answers.{passed}
-use Rattle.checks.proofs.Facts.{Stated, refused-by, done-by}
+use Rattle.checks.proofs.Facts.{refused-by, done-by}
 
 -- ---- what the kernels ask
 
@@ -54,16 +53,6 @@ readable z L boards m s count node repeat area =
     }
 
 -- ---- the call, at any points
-
-found : (t : Bool) (l : List ℕ) → given (pick t (some l) none) ≡ true → fileOf (pick t (some l) none) ≡ l
-found true l h = refl
-found false l h = absurd (true-false h refl)
-
--- where there is a file, it is what the shares decode to
-read-is : (z : Sizes) (xs : List ℕ) (L : ℕ) (boards held : List ℕ) → given (readFile z xs L boards held) ≡ true
-    → fileOf (readFile z xs L boards held) ≡ decodedFile z xs L boards held
-unfolding readFile
-read-is z xs L boards held h = found (same (shares z xs (decodedFile z xs L boards held) boards) held) (decodedFile z xs L boards held) h
 
 module _ (z : Sizes) (xs : List ℕ) (L : ℕ) (boards held output : List ℕ) where
   abbrev pub checked : Check
@@ -94,7 +83,7 @@ module _ (z : Sizes) (xs : List ℕ) (L : ℕ) (boards held output : List ℕ) w
   unfolding fileCall
   file-works points written p ep e =
       let f = file-readable p in
-      let read = read-is z xs L boards held (file-agrees p) in
+      let read = file-is z xs L boards held (file-agrees p) in
       done-by (fileOf (readFile z xs L boards held)) output written L p
       (ap length read ∙ length-decoded-file z xs (legal-facts z (f .stated .is-legal)) boards (f .enough) L held)
       (e ∙ ap (λ (ps : List ℕ). decodedFile z ps L boards held ++ drop L output) ep ∙ ap (λ (l : List ℕ). l ++ drop L output) (sym read))

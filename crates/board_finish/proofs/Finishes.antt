@@ -17,18 +17,18 @@ use Rattle.sizes.specs.declared.Check.{Check}
 use Rattle.sizes.specs.declared.Check.the-variants.{Pass, Refuse}
 use Rattle.sizes.specs.declared.Answer.the-variants.{Done, Refused}
 use Rattle.sizes.specs.Refusals.{first, boardOrder}
-use Rattle.sizes.specs.Sizing.{maxStripes, legal, α, B, stripes}
+use Rattle.sizes.specs.Sizing.{α, stripes}
 use Rattle.sizes.proofs.Lines.{first-clear}
 use Rattle.sizes.proofs.Legal.{legal-facts}
 use Rattle.mbcr.specs.Rebuild.{finishedShare}
 use Rattle.mbcr.proofs.Repair.{length-finished}
 use Rattle.board_spec.specs.Calls.{finishedLines, finishedCall}
+use Rattle.checks.specs.Steps.{Stated}
 use Rattle.checks.specs.Outcomes.{outcome}
 use Rattle.checks.proofs.Facts.{refused-by, done-by}
 
 pub record Finishes (z : Sizes) (L board : ℕ) (helpers packets partners exchanges output : List ℕ) : Type 0 where
-  pub is-legal : legal z ≡ true
-  pub not-long : L ≤ maxStripes * B z
+  pub stated : Stated z L
   pub helpers-enough : length helpers ≡ z .d
   pub partners-enough : length partners ≡ z .r - 1
   pub helpers-known : below (z .n) helpers ≡ true
@@ -53,8 +53,7 @@ module _ (z : Sizes) (xs : List ℕ) (L board : ℕ) (helpers packets partners e
       let lents = eqb (length packets) (z .d * (2 * stripes z L)) ∷ eqb (length exchanges) ((z .r - 1) * stripes z L) ∷ [] in
       let lengths = alls-hold lents (not-no _ (k .1 .1 .1 .0)) in
       record {
-        is-legal = not-no _ (e .0);
-        not-long = ltb-false _ _ (e .1 .0);
+        stated = record { is-legal = not-no _ (e .0); not-long = ltb-false _ _ (e .1 .0) };
         helpers-enough = eqb-true _ _ (counts .0);
         partners-enough = eqb-true _ _ (counts .1 .0);
         helpers-known = all-below (z .n) helpers (all-left (λ i. i < z .n) helpers partners others);
@@ -76,5 +75,5 @@ module _ (z : Sizes) (xs : List ℕ) (L board : ℕ) (helpers packets partners e
   finish-works points written s count p same many total e =
       ap (λ (m : ℕ). outcome (Done m) written) total
       ∙ done-by (finishedShare z xs (stripes z L) board helpers packets partners exchanges) output written (stripes z L * α z) p
-      (length-finished z xs (legal-facts z (finishes p .is-legal)) (stripes z L) board helpers packets partners exchanges)
+      (length-finished z xs (legal-facts z (finishes p .stated .is-legal)) (stripes z L) board helpers packets partners exchanges)
       (e ∙ ap₂ (λ (ys : List ℕ) (m : ℕ). finishedShare z ys m board helpers packets partners exchanges ++ drop (m * α z) output) same many)

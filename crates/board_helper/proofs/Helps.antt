@@ -2,7 +2,6 @@
 -- Assumes nothing.
 use Prim.Native.Nat.{ℕ, _*_, _≤_, _<_}
 use mathlib.Core.Path.{_≡_, ap, ap₂, _∙_}
-use mathlib.Core.Bool.{true}
 use mathlib.Core.List.{List, [], _∷_, _++_}
 use borrow.Author.Tests.{ltb-false, eqb-true}
 use lib.Dec.{eqb}
@@ -15,17 +14,17 @@ use Rattle.sizes.specs.declared.Check.{Check}
 use Rattle.sizes.specs.declared.Check.the-variants.{Pass, Refuse}
 use Rattle.sizes.specs.declared.Answer.the-variants.{Done, Refused}
 use Rattle.sizes.specs.Refusals.{first, boardOrder}
-use Rattle.sizes.specs.Sizing.{maxStripes, legal, α, B, stripes}
+use Rattle.sizes.specs.Sizing.{α, stripes}
 use Rattle.sizes.proofs.Lines.{first-clear}
 use Rattle.mbcr.specs.Rebuild.{helperPacket}
 use Rattle.mbcr.proofs.Repair.{length-packet}
 use Rattle.board_spec.specs.Calls.{helperLines, helperCall}
+use Rattle.checks.specs.Steps.{Stated}
 use Rattle.checks.specs.Outcomes.{outcome}
 use Rattle.checks.proofs.Facts.{refused-by, done-by}
 
 pub record Helps (z : Sizes) (L helper receiver : ℕ) (held output : List ℕ) : Type 0 where
-  pub is-legal : legal z ≡ true
-  pub not-long : L ≤ maxStripes * B z
+  pub stated : Stated z L
   pub helper-known : helper < z .n
   pub receiver-known : receiver < z .n
   pub held-is : length held ≡ stripes z L * α z
@@ -42,8 +41,7 @@ module _ (z : Sizes) (xs : List ℕ) (L helper receiver : ℕ) (held output : Li
       let k = e .1 .1 .1 in
       let known = below-all (z .n) (helper ∷ receiver ∷ []) (not-no _ (k .0)) in
       record {
-        is-legal = not-no _ (e .0);
-        not-long = ltb-false _ _ (e .1 .0);
+        stated = record { is-legal = not-no _ (e .0); not-long = ltb-false _ _ (e .1 .0) };
         helper-known = known .0;
         receiver-known = known .1 .0;
         held-is = eqb-true _ _ (alls-hold (eqb (length held) (stripes z L * α z) ∷ []) (not-no _ (k .1 .1 .0)) .0);

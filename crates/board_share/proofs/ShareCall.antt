@@ -2,7 +2,6 @@
 -- Assumes nothing.
 use Prim.Native.Nat.{ℕ, _*_, _≤_, _<_}
 use mathlib.Core.Path.{_≡_, ap, ap₂, _∙_}
-use mathlib.Core.Bool.{true}
 use mathlib.Core.List.{List, [], _∷_, _++_}
 use borrow.Author.Tests.{ltb-false}
 use lib.ListN.{length, drop}
@@ -14,18 +13,18 @@ use Rattle.sizes.specs.declared.Check.{Check}
 use Rattle.sizes.specs.declared.Check.the-variants.{Pass, Refuse}
 use Rattle.sizes.specs.declared.Answer.the-variants.{Done, Refused}
 use Rattle.sizes.specs.Refusals.{first, boardOrder}
-use Rattle.sizes.specs.Sizing.{maxStripes, legal, α, B, stripes}
+use Rattle.sizes.specs.Sizing.{α, stripes}
 use Rattle.sizes.proofs.Legal.{legal-facts}
 use Rattle.sizes.proofs.Lines.{first-clear}
 use Rattle.mbcr.specs.Share.{share}
 use Rattle.mbcr.proofs.Repair.{length-share}
 use Rattle.board_spec.specs.Calls.{shareLines, shareCall}
+use Rattle.checks.specs.Steps.{Stated}
 use Rattle.checks.specs.Outcomes.{outcome}
 use Rattle.checks.proofs.Facts.{refused-by, done-by}
 
 pub record Shares (z : Sizes) (node : ℕ) (file output : List ℕ) : Type 0 where
-  pub is-legal : legal z ≡ true
-  pub not-long : length file ≤ maxStripes * B z
+  pub stated : Stated z (length file)
   pub known : node < z .n
   pub room : stripes z (length file) * α z ≤ length output
 
@@ -38,8 +37,7 @@ module _ (z : Sizes) (xs : List ℕ) (node : ℕ) (file output : List ℕ) where
   share-facts h =
       let e = first-clear (shareLines z xs node file output) boardOrder h in
       record {
-        is-legal = not-no _ (e .0);
-        not-long = ltb-false _ _ (e .1 .0);
+        stated = record { is-legal = not-no _ (e .0); not-long = ltb-false _ _ (e .1 .0) };
         known = below-all (z .n) (node ∷ []) (not-no _ (e .1 .1 .1 .0)) .0;
         room = ltb-false _ _ (e .1 .1 .1 .1 .1 .1 .0);
       }
@@ -53,5 +51,5 @@ module _ (z : Sizes) (xs : List ℕ) (node : ℕ) (file output : List ℕ) where
   unfolding shareCall
   share-works points written s count p same here many e =
       ap (λ (m : ℕ). outcome (Done m) written) many
-      ∙ done-by (share z xs file node) output written (stripes z (length file) * α z) p (length-share z xs (legal-facts z (share-facts p .is-legal)) file node)
+      ∙ done-by (share z xs file node) output written (stripes z (length file) * α z) p (length-share z xs (legal-facts z (share-facts p .stated .is-legal)) file node)
       (e ∙ ap₂ (λ (ps : List ℕ) (m : ℕ). share z ps file node ++ drop (m * α z) output) same here)

@@ -1,5 +1,6 @@
 pub mod Text
 pub mod Runs
+pub mod Files
 pub mod Claims
 pub mod Demand1
 pub mod Figures

@@ -1,8 +1,7 @@
 -- A share as text, at any points: what it says of the call that its checks pass, and what the call answers by what its check answered.
 -- Assumes nothing.
-use Prim.Native.Nat.{ℕ, _*_, _≤_, _<_}
+use Prim.Native.Nat.{ℕ, _*_, _≤_}
 use mathlib.Core.Path.{_≡_, sym, ap, _∙_}
-use mathlib.Core.Bool.{true}
 use mathlib.Core.List.{List, [], _∷_, _++_}
 use native.Mathlib.Nat.{mul-le-mul-right}
 use native.Mathlib.Omega.{arith}
@@ -18,24 +17,18 @@ use Rattle.sizes.specs.declared.Check.{Check}
 use Rattle.sizes.specs.declared.Check.the-variants.{Pass, Refuse}
 use Rattle.sizes.specs.declared.Answer.the-variants.{Done, Refused}
 use Rattle.sizes.specs.Refusals.{first, boardOrder}
-use Rattle.sizes.specs.Sizing.{legal, α, stripes}
+use Rattle.sizes.specs.Sizing.{α, stripes}
 use Rattle.sizes.proofs.Legal.{legal-facts, α-most, B-most, stripes-least}
 use Rattle.sizes.proofs.Lines.{first-clear}
 use Rattle.board_spec.specs.Text.{shareText}
 use Rattle.board_spec.specs.Calls.{nodeLine, areaLine, textLines, textCall}
-use Rattle.checks.specs.Steps.{asked}
+use Rattle.checks.specs.Steps.{asked, Stated}
 use Rattle.checks.specs.Outcomes.{outcome}
 use Rattle.checks.proofs.Answers.{passed}
-use Rattle.checks.proofs.Facts.{Stated, refused-by, done-by}
+use Rattle.checks.proofs.Facts.{refused-by, done-by}
+use Rattle.text_writer.specs.Steps.{Writes}
 
--- what the writer asks
-pub record Writes (z : Sizes) (L node m : ℕ) : Type 0 where
-  pub is-legal : legal z ≡ true
-  pub low-node : node < 32
-  pub low-length : L ≤ 4096 * 992
-  pub low-held : m ≤ 4096 * 62
-
--- from the lines before SHORT
+-- what the writer asks, from the lines before SHORT
 pub writes : (z : Sizes) (L node m : ℕ) → Stated z L → asked (nodeLine z (node ∷ [])) ≡ Pass → asked (areaLine (eqb m (stripes z L * α z) ∷ [])) ≡ Pass
     → Writes z L node m
 writes z L node m s n a =

@@ -1,8 +1,7 @@
 -- What it says of a board-level call that its first two checks pass, and what a call answers by what its check answered.
 -- Assumes nothing.
-use Prim.Native.Nat.{ℕ, _*_, _≤_}
+use Prim.Native.Nat.{ℕ}
 use mathlib.Core.Path.{_≡_, sym, ap, _∙_}
-use mathlib.Core.Bool.{true}
 use mathlib.Core.List.{List, _++_}
 use lib.ListN.{length, drop}
 use borrow.Author.Tests.{ltb-false}
@@ -12,16 +11,11 @@ use Rattle.sizes.specs.declared.Refusal.{Refusal}
 use Rattle.sizes.specs.declared.Check.{Check}
 use Rattle.sizes.specs.declared.Check.the-variants.{Pass, Refuse}
 use Rattle.sizes.specs.declared.Answer.the-variants.{Done, Refused}
-use Rattle.sizes.specs.Sizing.{maxStripes, legal, B}
 use Rattle.sizes.specs.Refusals.{first, boardOrder}
 use Rattle.sizes.proofs.Lines.{first-clear}
 use Rattle.board_spec.specs.Calls.{settled}
-use Rattle.checks.specs.Steps.{statedLines}
+use Rattle.checks.specs.Steps.{statedLines, Stated}
 use Rattle.checks.specs.Outcomes.{outcome}
-
-pub record Stated (z : Sizes) (L : ℕ) : Type 0 where
-  pub is-legal : legal z ≡ true
-  pub not-long : L ≤ maxStripes * B z
 
 pub stated-facts : (z : Sizes) (L : ℕ) → first boardOrder (statedLines z L) ≡ Pass → Stated z L
 stated-facts z L h = let e = first-clear (statedLines z L) boardOrder h in record { is-legal = not-no _ (e .0); not-long = ltb-false _ _ (e .1 .0) }

@@ -6,11 +6,11 @@ ghost use lib.ListN.{length, take};
 ghost use mathlib.Core.Bool.{true, not};
 ghost use lib.Dec.{eqb};
 ghost use Rattle.lists.specs.Tests.{different};
-ghost use Rattle.sizes.specs.Sizing.{legal, B, stripes};
+ghost use Rattle.sizes.specs.Sizing.{legal, stripes};
 ghost use Rattle.sizes.specs.Refusals.{_when_, first, boardOrder};
 ghost use Rattle.mbcr.specs.Share.{standard};
 ghost use Rattle.board_spec.specs.Calls.{sizeLine, longLine, countLine, nodeLine, repeatLine, areaLine, shortLine};
-ghost use Rattle.checks.specs.Steps.{asked, statedLines};
+ghost use Rattle.checks.specs.Steps.{asked, statedLines, Stated};
 use sizes::Check;
 use sizes::Refusal;
 use sizes::Sizes;
@@ -239,7 +239,7 @@ pub fn check_room(output: &[u8], count: usize) -> Check
 
 // S of a length that is not LONG.
 pub fn stripe_count(sizes: Sizes, len: usize) -> usize
-    requires { ⌜ (legal sizes ≡ true) × (len ≤ 4096 * B sizes) ⌝ }
+    requires { ⌜ Stated sizes len ⌝ }
     ensures { λ r. ⌜ (r ≡ stripes sizes len) × (r ≤ 4096) ⌝ }
 {
     let stripe = sizes.stripe_len();

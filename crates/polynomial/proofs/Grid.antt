@@ -2,16 +2,15 @@
 -- Assumes nothing.
 use mathlib.Core.Path.{_≡_, refl, sym, ap, fun-ext, _∙_}
 use mathlib.Core.List.{List, [], _∷_, map}
-use Prim.Native.Nat.{ℕ, zero, suc, _<_, _≤_, _+_}
+use Prim.Native.Nat.{ℕ, _<_, _≤_, _+_}
 use native.Mathlib.Omega.{arith}
 use lib.ListN.{length, getD, List·getD-map, List·getD-eq-default}
 use native.Mathlib.Decide.{decLt}
-use lib.Seq.{ext-getD}
 use Rattle.lists.specs.Lists.{All, Bytes, fit}
 use Rattle.lists.proofs.Alls.{Distinct, all-imp, all-atD, byte-at}
 use Rattle.gf256.specs.Field.{add, mul}
 use Rattle.polynomial.specs.Polynomial.{eval, interpolate, scale, Grid, entry, column, atX, atY, evalGrid}
-use Rattle.polynomial.proofs.Linear.{eval-plus, eval-scale, plus-at, scale-at, same-polynomial, above, interpolate-fit, interpolate-low}
+use Rattle.polynomial.proofs.Linear.{eval-plus, eval-scale, plus-at, scale-at, same-polynomial, interpolate-fit}
 
 abbrev pub GridBytes : Grid → Type 0
 GridBytes = All Bytes
@@ -37,19 +36,6 @@ module _ (k d r : ℕ) (g : Grid) (s : Shape k d r g) where
         | yes l ↦ List·getD-eq-default (getD g i []) 0 (omega (arith, s .lower i hi l))
         | no n ↦ ap (λ (row : List ℕ). getD row j 0) (List·getD-eq-default g [] (omega arith))
       ]
-
-module _ (k d r : ℕ) (g h : Grid) (s : Shape k d r g) (t : Shape k d r h) where
-  row-lengths : (i : ℕ) → i < d → length (getD g i []) ≡ length (getD h i [])
-  row-lengths i l =
-      elim (decLt i k) [
-        | yes u ↦ s .upper i u ∙ sym (t .upper i u)
-        | no n ↦ s .lower i (omega arith) l ∙ sym (t .lower i (omega arith) l)
-      ]
-
-  grid-ext : ((i j : ℕ) → entry g i j ≡ entry h i j) → g ≡ h
-  grid-ext e =
-      ext-getD [] g h (s .rows ∙ sym (t .rows))
-      (λ i l. ext-getD 0 (getD g i []) (getD h i []) (row-lengths i (omega (arith, s .rows))) (λ j m. e i j))
 
 pub eval-atX : (g : Grid) (x y : ℕ) → eval (atX g x) y ≡ evalGrid g x y
 eval-atX [] x y = refl

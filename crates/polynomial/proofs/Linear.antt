@@ -5,9 +5,9 @@ use native.Mathlib.Decide.{decLt}
 use mathlib.Core.List.{List, [], _∷_, map}
 use Prim.Native.Nat.{ℕ, zero, suc, _<_, _≤_}
 use native.Mathlib.Omega.{arith}
-use lib.ListN.{length, getD, List·getD-eq-default}
+use lib.ListN.{length, getD}
 use Rattle.lists.specs.Lists.{All, Bytes, fit}
-use Rattle.lists.proofs.Alls.{Distinct, all-imp, all-of}
+use Rattle.lists.proofs.Alls.{Distinct, all-imp}
 use Rattle.lists.proofs.Pieces.{length-fit, fit-bytes}
 use Rattle.gf256.specs.Field.{add, mul}
 use Rattle.gf256.proofs.Field.{mul-lt}
@@ -126,10 +126,6 @@ same-polynomial p q xs high hp hq hs hd z i =
       where
         law : (a b : ℕ) → add (add a b) a ≡ b
         law a b = simp ring
-
--- the roots theorem for a list as long as the points
-pub roots-list : (p xs : List ℕ) → length p ≡ length xs → Bytes p → Bytes xs → Distinct xs → All (λ x. eval p x ≡ 0) xs → All (λ c. c ≡ 0) p
-roots-list p xs l hp hs hd z = all-of (λ c. c ≡ 0) 0 p (λ i k. roots p xs (λ i k. List·getD-eq-default p 0 (omega arith)) hp hs hd z i)
 
 -- What a decoder computes. From values at m points: the first m coefficients, where the others are zero ..
 pub interpolate-fit : (p xs : List ℕ) → ((i : ℕ) → length xs ≤ i → getD p i 0 ≡ 0) → Bytes p → Bytes xs → Distinct xs

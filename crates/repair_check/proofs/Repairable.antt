@@ -15,48 +15,38 @@ use Rattle.lists.proofs.Boards.{below-all, all-below}
 use Rattle.lists.proofs.Tests.{not-no, alls-hold}
 use Rattle.sizes.specs.declared.Sizes.{Sizes}
 use Rattle.sizes.specs.declared.Check.the-variants.{Pass}
-use Rattle.sizes.specs.Sizing.{legal, B, stripes}
+use Rattle.sizes.specs.Sizing.{legal}
 use Rattle.sizes.proofs.Legal.{legal-facts}
-use Rattle.mbcr.specs.Share.{standard}
 use Rattle.board_spec.specs.Calls.{countLine}
 use Rattle.store_spec.specs.Record.{Record, areaLen}
 use Rattle.store_spec.proofs.Records.{Repairs}
 use Rattle.checks.specs.Steps.{asked}
 use Rattle.checks.proofs.Answers.{passed, passes}
-use Rattle.shared_checks.proofs.Facts.{ready}
+use Rattle.shared_checks.proofs.Facts.{Ready, ready}
 
 pub record Repairable (s : Record) (points : List ℕ) (m : ℕ) (fresh helpers : List ℕ) : Type 0 where
-  pub is-legal : legal (s .sizes) ≡ true
-  pub few-points : s .sizes .n ≤ length points
+  pub is-ready : Ready s points
   pub fresh-count : length fresh ≡ s .sizes .r
   pub fresh-known : below (s .sizes .n) fresh ≡ true
   pub helper-count : length helpers ≡ s .sizes .r * s .sizes .d
   pub helpers-known : below (s .sizes .n) helpers ≡ true
   pub fresh-different : different fresh ≡ true
   pub none-fresh : apart fresh helpers ≡ true
-  pub cap-high : s .capacity ≤ 4096
-  pub few-stripes : stripes (s .sizes) (s .length) ≤ s .capacity
-  pub not-long : s .length ≤ 4096 * B (s .sizes)
   pub area-is : m ≡ areaLen s
 
-pub repairable : (s : Record) (points : List ℕ) (m : ℕ) (fresh helpers : List ℕ) → points ≡ standard → Repairs s m fresh helpers
+pub repairable : (s : Record) (points : List ℕ) (m : ℕ) (fresh helpers : List ℕ) → 32 ≤ length points → Repairs s m fresh helpers
     → Repairable s points m fresh helpers
-repairable s points m fresh helpers ep k =
-    let f = ready s points ep (k .is-sound) in
+repairable s points m fresh helpers l k =
     let n = s .sizes .n in
     let all = below-all n (fresh ++ helpers) (k .named-below) in
     record {
-      is-legal = f .is-legal;
-      few-points = f .few-points;
+      is-ready = ready s points l (k .is-sound);
       fresh-count = k .fresh-count;
       fresh-known = all-below n fresh (all-left (λ x. x < n) fresh helpers all);
       helper-count = k .helper-count;
       helpers-known = all-below n helpers (all-right (λ x. x < n) fresh helpers all);
       fresh-different = k .fresh-different;
       none-fresh = k .none-fresh;
-      cap-high = f .cap-high;
-      few-stripes = f .few-stripes;
-      not-long = f .not-long;
       area-is = k .area-is;
     }
 

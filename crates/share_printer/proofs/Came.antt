@@ -21,7 +21,7 @@ use Rattle.print_feed.proofs.Laws.{behind, feed-laws}
 use Rattle.print_share.specs.Steps.{Written, placed, toWrite}
 use Rattle.print_share.specs.Laws.{shown}
 use Rattle.print_share.proofs.Laws.{share-laws}
-use Rattle.share_printer.specs.Steps.{unless, afterRead, Reading, Printing}
+use Rattle.share_printer.specs.Steps.{unless, afterRead, Reading, Printing, Lent}
 
 -- ---- one read
 
@@ -79,7 +79,7 @@ left {t = t} a m e = record {
 
 -- ---- what is written
 
-module _ (file out : List ℕ) (n : length file ≡ 16384) (m : length out ≡ 34900) where
+module _ (file out : List ℕ) (l : Lent file out) where
   start : Feed
   start = record { parser = begin; file = file }
 
@@ -99,5 +99,5 @@ module _ (file out : List ℕ) (n : length file ≡ 16384) (m : length out ≡ 3
       s = feedAll start (a .input)
 
       go : (cut : Bool) → shown (placed (toWrite (unless cut s .parser) (unless cut s .file)) out) ≡ pick cut (refusedLine 1) (printed (a .input))
-      go true = share-laws .failed-read (s .parser) (s .file) out (feed-laws .same-length start (a .input) ∙ n) m
-      go false = share-laws .decides (s .parser) (s .file) out (feed-laws .same-length start (a .input) ∙ n) m ∙ feed-laws .decides file (a .input) n
+      go true = share-laws .failed-read (s .parser) (s .file) out (feed-laws .same-length start (a .input) ∙ l .file-room) (l .out-room)
+      go false = share-laws .decides (s .parser) (s .file) out (feed-laws .same-length start (a .input) ∙ l .file-room) (l .out-room) ∙ feed-laws .decides file (a .input) (l .file-room)

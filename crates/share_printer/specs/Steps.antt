@@ -34,3 +34,8 @@ pub record Printing (text : List ℕ) : Type 0 where
   pub input : List ℕ
   pub cut : Bool
   pub said : text ≡ pick cut (refusedLine 1) (printed input)
+
+-- the lengths of the program's own arrays
+pub record Lent (file out : List ℕ) : Type 0 where
+  pub file-room : length file ≡ 16384
+  pub out-room : length out ≡ 34900

@@ -7,7 +7,7 @@ ghost use lib.Dec.{ltb};
 ghost use lib.ListN.{length, take};
 ghost use Rattle.io.specs.Counts.{clamped};
 ghost use Rattle.printer.specs.Steps.{begin};
-ghost use Rattle.share_printer.specs.Steps.{afterRead, Reading, Printing};
+ghost use Rattle.share_printer.specs.Steps.{afterRead, Reading, Printing, Lent};
 use printer::Parser;
 
 // The parser after a read, and whether the input may go on.
@@ -64,8 +64,7 @@ fn read_all(file: &mut [u8]) -> Parser
 
 // What is to be written, to the beginning of out. Answers how many bytes it has. The lengths are asked of the program's own arrays.
 fn print(file: &mut [u8], out: &mut [u8]) -> usize
-    requires { ⌜ length (now file) ≡ 16384 ⌝ }
-    requires { ⌜ length (now out) ≡ 34900 ⌝ }
+    requires { ⌜ Lent (now file) (now out) ⌝ }
     ensures { λ r. ⌜ r ≤ length (now (out .exit)) ⌝ }
     ensures { λ r. ⌜ Printing (take r (now (out .exit))) ⌝ }
 {

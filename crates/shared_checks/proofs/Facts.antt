@@ -12,13 +12,14 @@ use Rattle.lists.specs.Tests.{every, below, different}
 use Rattle.lists.proofs.Tests.{not-no}
 use Rattle.sizes.specs.declared.Sizes.{Sizes}
 use Rattle.sizes.specs.declared.Check.the-variants.{Pass}
-use Rattle.sizes.specs.Sizing.{legal, B, stripes}
+use Rattle.sizes.specs.Sizing.{B, stripes}
 use Rattle.sizes.specs.Refusals.{first, storeOrder}
 use Rattle.sizes.proofs.Legal.{legal-facts, stripes-least}
 use Rattle.sizes.proofs.Lines.{first-clear}
 use Rattle.mbcr.specs.Share.{standard}
 use Rattle.store_spec.specs.Record.{Record, sound, areaLen}
 use Rattle.store_spec.proofs.Records.{sound-facts}
+use Rattle.checks.specs.Steps.{Stated}
 use Rattle.shared_checks.specs.Steps.{areaLines, boardLines}
 
 pub record Lent (s : Record) (m : ℕ) : Type 0 where
@@ -47,22 +48,23 @@ board-facts z count marks boards h =
 
 -- what kernels ask of a record and of the points
 pub record Ready (s : Record) (points : List ℕ) : Type 0 where
-  pub is-legal : legal (s .sizes) ≡ true
+  pub stated : Stated (s .sizes) (s .length)
   pub few-points : s .sizes .n ≤ length points
   pub cap-high : s .capacity ≤ 4096
   pub few-stripes : stripes (s .sizes) (s .length) ≤ s .capacity
-  pub not-long : s .length ≤ 4096 * B (s .sizes)
 
-pub ready : (s : Record) (points : List ℕ) → points ≡ standard → sound s ≡ true → Ready s points
-ready s points ep h =
+pub ready : (s : Record) (points : List ℕ) → 32 ≤ length points → sound s ≡ true → Ready s points
+ready s points enough h =
     let f = sound-facts s h in
     let g = legal-facts _ (f .is-legal) in
-    let l : length points ≡ 32 = ap length ep in
     let p : s .capacity * B (s .sizes) ≤ 4096 * B (s .sizes) = mul-le-mul-right (B (s .sizes)) (f .cap-high) in
     record {
-      is-legal = f .is-legal;
-      few-points = omega (arith, l, g .few);
+      stated = record { is-legal = f .is-legal; not-long = omega (arith, f .fits, p) };
+      few-points = omega (arith, enough, g .few);
       cap-high = f .cap-high;
       few-stripes = stripes-least (s .sizes) g (s .length) (s .capacity) (f .fits);
-      not-long = omega (arith, f .fits, p);
     }
+
+-- document 01's points are as many
+pub standard-enough : (points : List ℕ) → points ≡ standard → 32 ≤ length points
+standard-enough points e = let l : length points ≡ 32 = ap length e in omega (arith, l)

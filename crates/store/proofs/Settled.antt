@@ -8,21 +8,17 @@ use native.Mathlib.Omega.{arith}
 use lib.Dec.{ltb}
 use lib.ListN.{length}
 use Rattle.lists.specs.Lists.{tabulate, put}
-use Rattle.lists.proofs.Tests.{not-no}
-use Rattle.lists.proofs.Boards.{below-all}
 use Rattle.sizes.specs.declared.Sizes.{Sizes}
 use Rattle.sizes.specs.declared.Refusal.{Refusal}
 use Rattle.sizes.specs.declared.Check.{Check}
 use Rattle.sizes.specs.declared.Check.the-variants.{Pass, Refuse}
 use Rattle.sizes.specs.Refusals.{first, storeOrder}
 use Rattle.sizes.proofs.Legal.{legal-facts}
-use Rattle.sizes.proofs.Lines.{first-clear}
-use Rattle.mbcr.specs.Share.{standard, share}
+use Rattle.mbcr.specs.Share.{share}
 use Rattle.store_spec.specs.Record.{Record, newRecord, writtenRecord, partLen, putShares}
 use Rattle.store_spec.specs.Calls.{StoreOutcome, accepted, refused, settle, recordLine, writeLines, writeDone, writeCall}
 use Rattle.store_spec.specs.Calls.{loseLines, loseDone, loseCall, setUpCall}
-use Rattle.store_spec.proofs.Records.{sound-facts}
-use Rattle.checks.specs.Steps.{asked}
+use Rattle.store_spec.proofs.Records.{sound-facts, lose-facts}
 use Rattle.store_checks.specs.Steps.{recordOf}
 
 -- a call whose check answers r: where that is a refusal, and where the check passes
@@ -35,11 +31,14 @@ done-by out done e = sym (ap (λ (k : Check). settle k out done) e)
 -- ---- set up
 
 module _ (s : Record) (z : Sizes) (c : ℕ) where
-  pub set-up-refuses : {r : Check} {x : Refusal} → r ≡ asked (recordLine (newRecord z c)) → r ≡ Refuse x → refused s [] [] x ≡ setUpCall s z c
+  abbrev pub begun : Check
+  begun = first storeOrder (recordLine (newRecord z c) ∷ [])
+
+  pub set-up-refuses : {r : Check} {x : Refusal} → r ≡ begun → r ≡ Refuse x → refused s [] [] x ≡ setUpCall s z c
   unfolding setUpCall
   set-up-refuses e h = refused-by (refused s [] []) (accepted 0 (newRecord z c) [] []) e h
 
-  pub set-up-works : asked (recordLine (newRecord z c)) ≡ Pass → accepted 0 (newRecord z c) [] [] ≡ setUpCall s z c
+  pub set-up-works : begun ≡ Pass → accepted 0 (newRecord z c) [] [] ≡ setUpCall s z c
   unfolding setUpCall
   set-up-works e = done-by (refused s [] []) (accepted 0 (newRecord z c) [] []) e
 
@@ -49,9 +48,9 @@ module _ (s : Record) (board : ℕ) where
   abbrev pub lost : Check
   lost = first storeOrder (loseLines s board)
 
-  pub lose-refuses : {x : Refusal} → Refuse x ≡ lost → (area : List ℕ) → refused s area [] x ≡ loseCall s area board
+  pub lose-refuses : {r : Check} {x : Refusal} → r ≡ lost → r ≡ Refuse x → (area : List ℕ) → refused s area [] x ≡ loseCall s area board
   unfolding loseCall
-  lose-refuses e area = refused-by (refused s area []) (loseDone s area board) e refl
+  lose-refuses e h area = refused-by (refused s area []) (loseDone s area board) e h
 
   pub lose-works : lost ≡ Pass → (area : List ℕ) → loseDone s area board ≡ loseCall s area board
   unfolding loseCall
@@ -59,11 +58,7 @@ module _ (s : Record) (board : ℕ) where
 
   -- the board has a mark
   pub lose-marked : lost ≡ Pass → board < 32
-  unfolding loseLines
-  lose-marked h =
-      let e = first-clear (loseLines s board) storeOrder h in
-      let below = below-all (s .sizes .n) (board ∷ []) (not-no _ (e .1 .1 .1 .1 .1 .0)) in
-      omega (arith, below .0, legal-facts _ (sound-facts s (not-no _ (e .0)) .is-legal) .few)
+  lose-marked h = let f = lose-facts s board h in omega (arith, f .known, legal-facts _ (sound-facts s (f .is-sound) .is-legal) .few)
 
 -- ---- write
 
@@ -73,13 +68,13 @@ puts-same s t f [] area e = refl
 puts-same s t f (i ∷ boards) area e =
     puts-same s t f boards (put area (i * partLen s) (f i)) e ∙ ap (λ (m : ℕ). putShares t f boards (put area (i * m) (f i))) e
 
-module _ (s : Record) (area file : List ℕ) where
+module _ (xs : List ℕ) (s : Record) (area file : List ℕ) where
   abbrev pub checked : Check
   checked = first storeOrder (writeLines s (length area) file)
 
-  pub write-refuses : {r : Check} {x : Refusal} → r ≡ checked → r ≡ Refuse x → refused s area [] x ≡ writeCall standard s area file
+  pub write-refuses : {r : Check} {x : Refusal} → r ≡ checked → r ≡ Refuse x → refused s area [] x ≡ writeCall xs s area file
   unfolding writeCall
-  write-refuses e h = refused-by (refused s area []) (writeDone standard s area file) e h
+  write-refuses e h = refused-by (refused s area []) (writeDone xs s area file) e h
 
   -- what a write hands on with these marks and this area
   abbrev pub made : List Bool → List ℕ → StoreOutcome
@@ -87,12 +82,12 @@ module _ (s : Record) (area file : List ℕ) where
 
   -- the area with these shares in it
   abbrev pub shared : List ℕ → List ℕ
-  shared xs = putShares (recordOf (s .sizes) (s .capacity) true 0 []) (share (s .sizes) xs file) (tabulate (s .sizes .n) (λ i. i)) area
+  shared points = putShares (recordOf (s .sizes) (s .capacity) true 0 []) (share (s .sizes) points file) (tabulate (s .sizes .n) (λ i. i)) area
 
-  pub write-works : (marks : List Bool) (points after : List ℕ) → checked ≡ Pass → marks ≡ tabulate 32 (λ i. ltb i (s .sizes .n)) → points ≡ standard
-      → after ≡ shared points → made marks after ≡ writeCall standard s area file
+  pub write-works : (marks : List Bool) (points after : List ℕ) → checked ≡ Pass → marks ≡ tabulate 32 (λ i. ltb i (s .sizes .n)) → points ≡ xs
+      → after ≡ shared points → made marks after ≡ writeCall xs s area file
   unfolding writeCall
   write-works marks points after p em ep ea =
       let w = writtenRecord s (length file) in
-      let same = puts-same (recordOf (s .sizes) (s .capacity) true 0 []) w (share (s .sizes) standard file) (tabulate (s .sizes .n) (λ i. i)) area refl in
-      ap₂ made em (ea ∙ ap shared ep ∙ same) ∙ done-by (refused s area []) (writeDone standard s area file) p
+      let same = puts-same (recordOf (s .sizes) (s .capacity) true 0 []) w (share (s .sizes) xs file) (tabulate (s .sizes .n) (λ i. i)) area refl in
+      ap₂ made em (ea ∙ ap shared ep ∙ same) ∙ done-by (refused s area []) (writeDone xs s area file) p

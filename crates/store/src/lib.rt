@@ -2,11 +2,10 @@
 //! the crate `store_spec` at document 01's points, for all input: the answer, the record, and every lent byte.
 ghost use mathlib.Core.Path.{_≡_};
 ghost use mathlib.Core.List.{List, []};
-ghost use mathlib.Core.Bool.{true};
-ghost use Prim.Native.Nat.{ℕ, _+_, _*_, _-_, _≤_};
-ghost use Rattle.sizes.specs.Sizing.{legal};
+ghost use Prim.Native.Nat.{ℕ, _+_, _*_, _-_};
 ghost use Rattle.mbcr.specs.Share.{standard};
 ghost use Rattle.store_spec.specs.Calls.{refused, setUpCall, writeCall, loseCall, repairCall, readCall};
+ghost use Rattle.store_checks.specs.Steps.{Bounded};
 ghost use Rattle.store.specs.Handing.{recordIn, outcomeIn};
 use sizes::Answer;
 use sizes::Check;
@@ -41,7 +40,7 @@ fn refuse(kept: Store, x: Refusal) -> Handed
 
 // The bytes that a repair of so many stripes moves.
 fn bytes_moved(sizes: Sizes, stripes: usize) -> usize
-    requires { ⌜ (legal sizes ≡ true) × (stripes ≤ 4096) ⌝ }
+    requires { ⌜ Bounded sizes stripes ⌝ }
     ensures { λ r. ⌜ r ≡ stripes * sizes .r * (2 * sizes .d + sizes .r - 1) ⌝ }
 {
     stripes * sizes.r * (2 * sizes.d + sizes.r - 1)
@@ -52,8 +51,7 @@ impl Store {
     pub fn set_up(self, sizes: Sizes, capacity: usize) -> Handed
         ensures { λ r. ⌜ outcomeIn r [] [] ≡ setUpCall (recordIn self) sizes capacity ⌝ }
     {
-        let marks = [false; 32];
-        if let Check::Refuse(x) = store_checks::check_record(sizes, capacity, false, 0, &marks) {
+        if let Check::Refuse(x) = record_checks::check_set_up(sizes, capacity) {
             return refuse(self, x);
         }
         Handed {
@@ -62,7 +60,7 @@ impl Store {
                 capacity: capacity,
                 written: false,
                 length: 0,
-                marks: marks,
+                marks: [false; 32],
             },
             answer: Answer::Done(0),
         }
@@ -107,17 +105,15 @@ impl Store {
     {
         let sizes = self.sizes;
         let marks = self.marks;
-        if let Check::Refuse(size) = store_checks::check_record(
+        if let Check::Refuse(x) = record_checks::check_lose(
             sizes,
             self.capacity,
             self.written,
             self.length,
             &marks,
+            board,
         ) {
-            return refuse(self, size);
-        }
-        if let Check::Refuse(node) = checks::check_node(sizes, board) {
-            return refuse(self, node);
+            return refuse(self, x);
         }
         let mut next = self;
         next.marks[board] = false;

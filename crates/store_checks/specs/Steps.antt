@@ -1,10 +1,23 @@
--- The store's record from its parts.
+-- The store's record from its parts; and what its checks ask.
 -- Assumes nothing.
-use mathlib.Core.Bool.{Bool}
+use mathlib.Core.Path.{_≡_}
+use mathlib.Core.Bool.{Bool, true}
 use mathlib.Core.List.{List}
-use Prim.Native.Nat.{ℕ}
+use Prim.Native.Nat.{ℕ, _*_, _≤_}
+use lib.ListN.{length}
 use Rattle.sizes.specs.declared.Sizes.{Sizes}
+use Rattle.sizes.specs.Sizing.{legal}
 use Rattle.store_spec.specs.Record.{Record}
 
 abbrev pub recordOf : Sizes → ℕ → Bool → ℕ → List Bool → Record
 recordOf z capacity written length marks = record { sizes = z; capacity = capacity; written = written; length = length; marks = marks }
+
+-- legal sizes, and so few stripes that their bytes can be counted
+pub record Bounded (z : Sizes) (stripes : ℕ) : Type 0 where
+  pub is-legal : legal z ≡ true
+  pub few : stripes ≤ 4096
+
+-- a run of d helpers for each fresh board, and few in all
+pub record Runs (d : ℕ) (fresh helpers : List ℕ) : Type 0 where
+  pub whole : length helpers ≡ length fresh * d
+  pub few : length helpers ≤ 1024

@@ -3,7 +3,7 @@
 ghost use mathlib.Core.Path.{_≡_};
 ghost use mathlib.Core.Bool.{true, false, not};
 ghost use mathlib.Core.List.{[], _∷_, _++_};
-ghost use Prim.Native.Nat.{_*_, _≤_};
+ghost use Prim.Native.Nat.{_*_};
 ghost use lib.Dec.{ltb};
 ghost use lib.ListN.{length, getD, drop};
 ghost use Rattle.lists.specs.Lists.{tabulate};
@@ -16,7 +16,7 @@ ghost use Rattle.store_spec.specs.Record.{allOff, sound, turnOn};
 ghost use Rattle.store_spec.specs.Packets.{Hearing, hearHelpers};
 ghost use Rattle.store_spec.specs.Calls.{recordLine};
 ghost use Rattle.checks.specs.Steps.{asked};
-ghost use Rattle.store_checks.specs.Steps.{recordOf};
+ghost use Rattle.store_checks.specs.Steps.{recordOf, Bounded, Runs};
 use sizes::Check;
 use sizes::Refusal;
 use sizes::Sizes;
@@ -84,7 +84,7 @@ pub fn check_record(
 
 // 3 LONG, the store.
 pub fn check_fits(sizes: Sizes, capacity: usize, got: usize) -> Check
-    requires { ⌜ (legal sizes ≡ true) × (capacity ≤ 4096) ⌝ }
+    requires { ⌜ Bounded sizes capacity ⌝ }
     ensures { λ r. ⌜ r ≡ asked (Long when ltb (capacity * B sizes) got) ⌝ }
 {
     if capacity * sizes.stripe_len() < got {
@@ -106,7 +106,7 @@ pub fn check_two_lists(sizes: Sizes, boards: &[usize], others: &[usize]) -> Chec
 
 // Whether no board stands twice in the run of d helpers of one fresh board.
 fn runs_differ(d: usize, fresh: &[usize], helpers: &[usize]) -> bool
-    requires { ⌜ (length (now helpers) ≡ length (now fresh) * d) × (length (now helpers) ≤ 1024) ⌝ }
+    requires { ⌜ Runs d (now fresh) (now helpers) ⌝ }
     ensures { λ r. ⌜ r ≡ every (λ h. different (h .senders)) (hearHelpers d (now (fresh .entry)) (now (helpers .entry))) ⌝ }
 {
     let mut a: usize = 0;
@@ -124,7 +124,7 @@ fn runs_differ(d: usize, fresh: &[usize], helpers: &[usize]) -> bool
 
 // 6 REPEAT of a repair.
 pub fn check_fresh(d: usize, fresh: &[usize], helpers: &[usize]) -> Check
-    requires { ⌜ (length (now helpers) ≡ length (now fresh) * d) × (length (now helpers) ≤ 1024) ⌝ }
+    requires { ⌜ Runs d (now fresh) (now helpers) ⌝ }
     ensures { λ r. ⌜ r ≡ asked (Repeat when not (alls (different (now (fresh .entry)) ∷ every (λ h. different (h .senders)) (hearHelpers d (now (fresh .entry)) (now (helpers .entry))) ∷ apart (now (fresh .entry)) (now (helpers .entry)) ∷ []))) ⌝ }
 {
     if board_tests::different(fresh) {

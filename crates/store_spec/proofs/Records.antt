@@ -1,6 +1,6 @@
 -- What it says of a record that it is sound, and of a call that no line holds.
 -- Assumes nothing.
-use Prim.Native.Nat.{ℕ, _+_, _*_, _≤_}
+use Prim.Native.Nat.{ℕ, _+_, _*_, _≤_, _<_}
 use mathlib.Core.Path.{_≡_, refl, ap}
 use mathlib.Core.Bool.{Bool, true, false, not}
 use mathlib.Core.List.{List, [], _∷_, _++_}
@@ -10,13 +10,14 @@ use lib.ListN.{length, drop}
 use borrow.Author.Tests.{leb-true, le-leb, ltb-false, le-ltb, eqb-true, eq-eqb}
 use Rattle.lists.specs.Tests.{pick, alls, below, different, every, apart, given}
 use Rattle.lists.proofs.Tests.{alls-hold, hold-alls, not-no}
+use Rattle.lists.proofs.Boards.{below-all}
 use Rattle.sizes.specs.Refusals.{first, storeOrder}
 use Rattle.sizes.specs.Sizing.{legal, maxStripes, B, α, stripes}
 use Rattle.sizes.specs.declared.Check.the-variants.{Pass}
 use Rattle.sizes.specs.declared.Sizes.{Sizes}
 use Rattle.sizes.proofs.Legal.{stripes-least, legal-facts}
 use Rattle.sizes.proofs.Lines.{first-clear, clear-first}
-use Rattle.store_spec.specs.Calls.{writeLines, repairLines, readLines, fileHeld}
+use Rattle.store_spec.specs.Calls.{writeLines, loseLines, repairLines, readLines, fileHeld}
 use Rattle.store_spec.specs.Packets.{hearHelpers}
 use Rattle.store_spec.specs.Record.{Record, allOff, sound, usedLen, partLen, areaLen, inService}
 
@@ -97,6 +98,16 @@ unfolding writeLines
 write-facts s m file h =
     let e = first-clear (writeLines s m file) storeOrder h in
     record { is-sound = not-no _ (e .0); area-is = eqb-true _ _ (not-no _ (e .1 .0)); file-fits = ltb-false _ _ (e .1 .1 .0) }
+
+pub record Loses (s : Record) (board : ℕ) : Type 0 where
+  pub is-sound : sound s ≡ true
+  pub known : board < s .sizes .n
+
+pub lose-facts : (s : Record) (board : ℕ) → first storeOrder (loseLines s board) ≡ Pass → Loses s board
+unfolding loseLines
+lose-facts s board h =
+    let e = first-clear (loseLines s board) storeOrder h in
+    record { is-sound = not-no _ (e .0); known = below-all (s .sizes .n) (board ∷ []) (not-no _ (e .1 .1 .1 .1 .1 .0)) .0 }
 
 pub record Repairs (s : Record) (m : ℕ) (fresh helpers : List ℕ) : Type 0 where
   pub is-sound : sound s ≡ true

@@ -1,17 +1,16 @@
 //! Share text, written whole into a lent slice, and its length.
 ghost use mathlib.Core.Path.{_≡_};
-ghost use mathlib.Core.Bool.{true};
 ghost use mathlib.Core.List.{List};
-ghost use Prim.Native.Nat.{ℕ, _*_, _≤_, _<_};
+ghost use Prim.Native.Nat.{ℕ, _≤_};
 ghost use lib.ListN.{length};
 ghost use Rattle.lists.specs.Lists.{over};
-ghost use Rattle.sizes.specs.Sizing.{legal};
 ghost use Rattle.board_spec.specs.Text.{shareText};
+ghost use Rattle.text_writer.specs.Steps.{Writes};
 use sizes::Sizes;
 
 // How many bytes the text of a share of `held` bytes has.
 pub fn text_len(sizes: Sizes, total: usize, node: usize, held: usize) -> usize
-    requires { ⌜ (legal sizes ≡ true) × (node < 32) × (total ≤ 4096 * 992) × (held ≤ 4096 * 62) ⌝ }
+    requires { ⌜ Writes sizes total node held ⌝ }
     ensures { λ r. ⌜ ((share : List ℕ) → length share ≡ held → r ≡ length (shareText sizes total node share)) ⌝ }
 {
     let boards = text_lines::decimal_len(sizes.n)

@@ -17,11 +17,11 @@ use Rattle.sizes.proofs.Legal.{Legal, legal-facts}
 use Rattle.mbcr.specs.Share.{standard}
 use Rattle.mbcr.proofs.Points.{Boards, boards-of}
 use Rattle.board_spec.specs.Calls.{countLine, nodeLine, repeatLine, areaLine, shortLine, exchangeLines}
-use Rattle.checks.specs.Steps.{asked, statedLines}
+use Rattle.checks.specs.Steps.{asked, statedLines, Stated}
 use Rattle.checks.proofs.Answers.{passed}
 use Rattle.checks.proofs.Given.{few-packets}
 use Rattle.checks.proofs.Chain.{thens, grouped, goes-on, refuses, ends}
-use Rattle.checks.proofs.Facts.{Stated, stated-facts}
+use Rattle.checks.proofs.Facts.{stated-facts}
 use Rattle.board_exchange.proofs.check_exchange.Statement.{statement}
 use Rattle.board_exchange.proofs.check_exchange.Tie as tie
 
@@ -191,7 +191,7 @@ check-exchange-spec =
     (λ c. search needs)
     (λ c. no-repeat (c .before))
     (λ c. search needs)
-    (λ c κs. let f = stated-on (at-count (at-node (c .before .before))) in (f .is-legal, f .not-long))
+    (λ c κs. stated-on (at-count (at-node (c .before .before))))
     (λ c. omega (arith, c .stripe-count .ensures .1))
     (λ c. omega (arith, sent-few (c .before)))
     (λ c κs. search needs)

@@ -19,9 +19,9 @@ use Rattle.sizes.proofs.Legal.{legal-facts, α-most}
 use Rattle.mbcr.specs.Share.{standard}
 use Rattle.mbcr.specs.Read.{readFile}
 use Rattle.board_spec.specs.Calls.{countLine, nodeLine, repeatLine, areaLine, shortLine, fileLines}
-use Rattle.checks.specs.Steps.{asked, statedLines}
+use Rattle.checks.specs.Steps.{asked, statedLines, Stated}
 use Rattle.checks.proofs.Chain.{thens, grouped, goes-on, refuses, ends}
-use Rattle.checks.proofs.Facts.{Stated, stated-facts}
+use Rattle.checks.proofs.Facts.{stated-facts}
 use Rattle.checks.proofs.Given.{as-many, few-bytes}
 use Rattle.board_file.proofs.FileCall.{Readable, readable}
 use Rattle.board_file.proofs.check_file.Statement.{statement}
@@ -221,7 +221,7 @@ check-file-spec =
     (λ c. search needs)
     (λ c. no-repeat (c .before))
     (λ c. search needs)
-    (λ c κs. let f = stated-on (c .before .before) in (f .is-legal, f .not-long))
+    (λ c κs. stated-on (c .before .before))
     (λ c κs. search needs)
     (λ c. omega (arith, few c))
     (λ c. omega (arith, all-few (c .before)))

@@ -80,7 +80,7 @@ file-spec =
     (λ c. search needs)
     file-refused
     (λ c. search needs)
-    (λ c κs. (facts c .stated .is-legal, facts c .stated .not-long))
+    (λ c κs. facts c .stated)
     (λ c. search needs)
     (λ c. search needs)
     file-asks

@@ -18,11 +18,11 @@ use Rattle.sizes.proofs.Legal.{Legal, legal-facts, α-most}
 use Rattle.mbcr.specs.Share.{standard}
 use Rattle.mbcr.proofs.Points.{Boards, boards-of}
 use Rattle.board_spec.specs.Calls.{countLine, nodeLine, repeatLine, areaLine, shortLine, finishedLines}
-use Rattle.checks.specs.Steps.{asked, statedLines}
+use Rattle.checks.specs.Steps.{asked, statedLines, Stated}
 use Rattle.checks.proofs.Answers.{passed}
 use Rattle.checks.proofs.Given.{as-many, few-bytes, few-packets}
 use Rattle.checks.proofs.Chain.{thens, grouped, goes-on, refuses, ends}
-use Rattle.checks.proofs.Facts.{Stated, stated-facts}
+use Rattle.checks.proofs.Facts.{stated-facts}
 use Rattle.board_finish.proofs.check_finish.Statement.{statement}
 use Rattle.board_finish.proofs.check_finish.Tie as tie
 
@@ -221,7 +221,7 @@ check-finish-spec =
     (λ c. search needs)
     (λ c. no-repeat (c .before))
     (λ c. search needs)
-    (λ c κs. let f = stated-at c in (f .is-legal, f .not-long))
+    (λ c κs. stated-at c)
     (λ c. omega (arith, c .stripe-count .ensures .1))
     (λ c. omega (arith, packets-few (c .before)))
     (λ c. omega (arith, exchanges-few (c .before)))

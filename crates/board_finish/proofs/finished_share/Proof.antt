@@ -61,8 +61,8 @@ share-asks c κs =
     let n = at-count c in
     let f = facts (n .before) in
     let e = n .stripe-count .ensures in (
-      f .is-legal,
-      rw (at-points c .standard-points .ensures) (legal-facts _ (f .is-legal) .few),
+      f .stated .is-legal,
+      rw (at-points c .standard-points .ensures) (legal-facts _ (f .stated .is-legal) .few),
       at-inverses c .fill-inverses .ensures,
       e .1,
       rw (e .0) (f .packets-are),
@@ -79,7 +79,7 @@ count-fits : tie.Need-mul-t27
 count-fits c =
     let n = at-count (at-share c .before) in
     let f = facts (n .before) in
-    omega (arith, few-bytes _ _ _ _ (n .stripe-count .ensures .1) (c .share-len .ensures) (f .is-legal) (α-most _ (legal-facts _ (f .is-legal))))
+    omega (arith, few-bytes _ _ _ _ (n .stripe-count .ensures .1) (c .share-len .ensures) (f .stated .is-legal) (α-most _ (legal-facts _ (f .stated .is-legal))))
 
 done : tie.Need-returns-2
 done c =
@@ -89,7 +89,7 @@ done c =
     let many = n .stripe-count .ensures .0 in
     finish-works (a .sizes) standard (a .len) (a .board) (a .helpers .now) (a .packets .now) (a .partners .now) (a .exchanges .now) (a .out .now) _ _ _ _
     (passed (n .before)) (at-points (w .before) .standard-points .ensures) many
-    (as-many _ _ _ _ _ many (c .share-len .ensures) (facts (n .before) .is-legal)) (w .finished-share .ensures)
+    (as-many _ _ _ _ _ many (c .share-len .ensures) (facts (n .before) .stated .is-legal)) (w .finished-share .ensures)
 
 pub finished-share-spec : {M : Type 1} → statement M
 finished-share-spec =
@@ -100,7 +100,7 @@ finished-share-spec =
     (λ c. search needs)
     refused
     (λ c. search needs)
-    (λ c κs. let f = facts c in (f .is-legal, f .not-long))
+    (λ c κs. facts c .stated)
     (λ c κs. search needs)
     (λ c. search needs)
     (λ c κs. search needs)

@@ -15,10 +15,10 @@ use Rattle.sizes.specs.Refusals.{Line, first, boardOrder}
 use Rattle.sizes.proofs.Legal.{legal-facts, α-most}
 use Rattle.mbcr.specs.Share.{standard}
 use Rattle.board_spec.specs.Calls.{nodeLine, repeatLine, areaLine, shortLine, helperLines}
-use Rattle.checks.specs.Steps.{asked, statedLines}
+use Rattle.checks.specs.Steps.{asked, statedLines, Stated}
 use Rattle.checks.proofs.Given.{as-many, few-bytes}
 use Rattle.checks.proofs.Chain.{thens, grouped, goes-on, refuses, ends}
-use Rattle.checks.proofs.Facts.{Stated, stated-facts}
+use Rattle.checks.proofs.Facts.{stated-facts}
 use Rattle.board_helper.proofs.check_helper.Statement.{statement}
 use Rattle.board_helper.proofs.check_helper.Tie as tie
 
@@ -160,7 +160,7 @@ check-helper-spec =
     (λ c. search needs)
     (λ c. no-repeat (c .before))
     (λ c. search needs)
-    (λ c κs. let f = stated-on (at-node (c .before .before)) in (f .is-legal, f .not-long))
+    (λ c κs. stated-on (at-node (c .before .before)))
     (λ c κs. search needs)
     (λ c. omega (arith, long-few c))
     (λ c κs. search needs)

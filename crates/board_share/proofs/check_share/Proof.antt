@@ -13,9 +13,9 @@ use Rattle.sizes.specs.Refusals.{Line, first, boardOrder}
 use Rattle.sizes.proofs.Legal.{legal-facts, α-most}
 use Rattle.mbcr.specs.Share.{standard}
 use Rattle.board_spec.specs.Calls.{nodeLine, shortLine, shareLines}
-use Rattle.checks.specs.Steps.{asked, statedLines}
+use Rattle.checks.specs.Steps.{asked, statedLines, Stated}
 use Rattle.checks.proofs.Chain.{thens, grouped, goes-on, refuses, ends}
-use Rattle.checks.proofs.Facts.{Stated, stated-facts}
+use Rattle.checks.proofs.Facts.{stated-facts}
 use Rattle.checks.proofs.Given.{as-many, few-bytes}
 use Rattle.board_share.proofs.check_share.Statement.{statement}
 use Rattle.board_share.proofs.check_share.Tie as tie
@@ -100,7 +100,7 @@ check-share-spec =
     (λ c. search needs)
     (λ c. no-node (c .before))
     (λ c. search needs)
-    (λ c κs. let f = stated-on (c .before .before) in (f .is-legal, f .not-long))
+    (λ c κs. stated-on (c .before .before))
     (λ c κs. search needs)
     (λ c. omega (arith, few c))
     (λ c κs. search needs)

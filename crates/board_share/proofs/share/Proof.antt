@@ -33,7 +33,7 @@ facts c = let a = st (at-check c) .args in share-facts (a .sizes) standard (a .n
 -- the work
 few : (c : tie.After-share-len) → c .before .stripe-count .result * c .share-len .result ≤ 253952
 few c =
-    let ok = facts (at-told c) .is-legal in
+    let ok = facts (at-told c) .stated .is-legal in
     few-bytes _ (c .share-len .result) _ _ (c .before .stripe-count .ensures .1) (c .share-len .ensures) ok (α-most _ (legal-facts _ ok))
 
 share-asks : tie.Need-share-requires
@@ -43,7 +43,7 @@ share-asks c κs =
     let f = facts (n .before) in
     let e = n .stripe-count .ensures .0 in
     let l : length (p .standard-points .result) ≡ 32 = ap length (p .standard-points .ensures) in
-    (f .is-legal, f .known, omega (arith, l, legal-facts _ (f .is-legal) .few), e, n .stripe-count .ensures .1, rw e (f .room))
+    (f .stated .is-legal, f .known, omega (arith, l, legal-facts _ (f .stated .is-legal) .few), e, n .stripe-count .ensures .1, rw e (f .room))
 
 share-done : tie.Need-returns-2
 share-done c =
@@ -52,7 +52,7 @@ share-done c =
     let m = p .before in
     let e = m .before .stripe-count .ensures .0 in
     let a = st (at-check (at-told m)) .args in
-    let many = as-many _ (m .share-len .result) _ _ _ e (m .share-len .ensures) (facts (at-told m) .is-legal) in
+    let many = as-many _ (m .share-len .result) _ _ _ e (m .share-len .ensures) (facts (at-told m) .stated .is-legal) in
     share-works (a .sizes) standard (a .node) (a .file .now) (a .out .now) _ _ _ _ (passed (at-told m)) (p .standard-points .ensures) e many (w .share .ensures)
 
 share-refused : tie.Need-returns
@@ -70,7 +70,7 @@ share-spec =
     (λ c. search needs)
     share-refused
     (λ c. search needs)
-    (λ c κs. (facts c .is-legal, facts c .not-long))
+    (λ c κs. facts c .stated)
     (λ c κs. search needs)
     (λ c. omega (arith, few c))
     (λ c κs. search needs)

@@ -15,11 +15,12 @@ use Rattle.sizes.proofs.Legal.{legal-facts, α-most}
 use Rattle.mbcr.specs.Share.{standard}
 use Rattle.board_spec.specs.Text.{shareText}
 use Rattle.board_spec.specs.Calls.{nodeLine, areaLine, shortLine, textLines}
-use Rattle.checks.specs.Steps.{asked, statedLines}
+use Rattle.checks.specs.Steps.{asked, statedLines, Stated}
 use Rattle.checks.proofs.Chain.{thens, grouped, goes-on, refuses, ends}
-use Rattle.checks.proofs.Facts.{Stated, stated-facts}
+use Rattle.checks.proofs.Facts.{stated-facts}
 use Rattle.checks.proofs.Given.{as-many, few-bytes}
-use Rattle.board_text.proofs.TextCall.{Writes, writes}
+use Rattle.text_writer.specs.Steps.{Writes}
+use Rattle.board_text.proofs.TextCall.{writes}
 use Rattle.board_text.proofs.check_text.Statement.{statement}
 use Rattle.board_text.proofs.check_text.Tie as tie
 
@@ -134,13 +135,13 @@ check-text-spec =
     (λ c. search needs)
     (λ c. no-node (c .before))
     (λ c. search needs)
-    (λ c κs. let f = stated-on (c .before .before) in (f .is-legal, f .not-long))
+    (λ c κs. stated-on (c .before .before))
     (λ c κs. search needs)
     (λ c. omega (arith, few c))
     (λ c κs. search needs)
     (λ c. search needs)
     (λ c. no-area (c .before))
     (λ c. search needs)
-    (λ c κs. let f = writes-on c in (f .is-legal, f .low-node, f .low-length, f .low-held))
+    (λ c κs. writes-on c)
     (λ c κs. search needs)
     (λ c. ends (on-short (c .before .before)) (is-short c)))

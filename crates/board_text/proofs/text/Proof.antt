@@ -5,7 +5,8 @@ use lib.ListN.{length}
 use borrow.Author.Needs.{needs}
 use Rattle.sizes.specs.declared.Check.the-variants.{Pass}
 use Rattle.mbcr.specs.Share.{standard}
-use Rattle.board_text.proofs.TextCall.{Writes, checked, text-writes, text-room, text-refuses, text-works}
+use Rattle.text_writer.specs.Steps.{Writes}
+use Rattle.board_text.proofs.TextCall.{checked, text-writes, text-room, text-refuses, text-works}
 use Rattle.board_text.proofs.text.Statement.{statement}
 use Rattle.board_text.proofs.text.Tie as tie
 
@@ -52,7 +53,7 @@ text-spec =
     (λ c. search needs)
     text-refused
     (λ c. search needs)
-    (λ c κs. let f = writes-on c in (f .is-legal, f .low-node, f .low-length, f .low-held))
+    (λ c κs. writes-on c)
     write-asks
     (λ c. search needs)
     text-done)

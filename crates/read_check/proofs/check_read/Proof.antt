@@ -19,7 +19,7 @@ use Rattle.checks.specs.Steps.{asked}
 use Rattle.store_checks.specs.Steps.{recordOf}
 use Rattle.shared_checks.specs.Steps.{areaLines, boardLines}
 use Rattle.checks.proofs.Chain.{thens, grouped, goes-on, refuses, ends}
-use Rattle.shared_checks.proofs.Facts.{Lent, area-facts, Named, board-facts}
+use Rattle.shared_checks.proofs.Facts.{Lent, area-facts, Named, board-facts, standard-enough}
 use Rattle.read_check.proofs.Readable.{Readable, readable}
 use Rattle.read_check.proofs.check_read.Statement.{statement}
 use Rattle.read_check.proofs.check_read.Tie as tie
@@ -110,7 +110,7 @@ readable-on c =
     let g = st-short c in
     let l = lent-on (at-empty (at-boards c) .before) in
     let n = named-on c in
-    readable (R g) (g .args .points .now) _ (g .args .boards .now) (g .pre .points-are) (l .is-sound) (l .area-is) (n .enough) (n .known)
+    readable (R g) (g .args .points .now) _ (g .args .boards .now) (standard-enough _ (g .pre .points-are)) (l .is-sound) (l .area-is) (n .enough) (n .known)
 
 -- 10 DISAGREE
 abbrev at-room : tie.After-stripe-count → tie.After-check-room
@@ -136,8 +136,9 @@ agrees-asks : tie.Need-check-agrees-requires
 agrees-asks c κs =
     let k = at-room c in
     let f = readable-on k in
+    let r = f .is-ready in
     let e = c .stripe-count .ensures .0 in
-    (f .is-legal, f .few-points, st-short k .pre .inverses-are, f .enough, f .known, e, f .cap-high, rw e (f .few-stripes), f .area-is)
+    (r .stated .is-legal, r .few-points, st-short k .pre .inverses-are, f .enough, f .known, e, r .cap-high, rw e (r .few-stripes), f .area-is)
 
 pub check-read-spec : {M : Type 1} → statement M
 check-read-spec =
@@ -159,6 +160,6 @@ check-read-spec =
     (λ c. search needs)
     (λ c. no-short (c .before))
     (λ c. search needs)
-    (λ c κs. let f = readable-on (c .before .before) in (f .is-legal, f .not-long))
+    (λ c κs. readable-on (c .before .before) .is-ready .stated)
     agrees-asks
     (λ c. ends (on-agrees c) (is-agrees c)))

@@ -143,7 +143,10 @@ fresh-asks c κs =
     let n = c .before .before in
     let z = st-node n .args .sizes in
     let e = counts-on n in
-    (e .1 ∙ ap (λ (m : ℕ). m * z .d) (sym (e .0)), omega (arith, e .1, few-helpers z (legal-on (at-empty (at-count n) .before))))
+    record {
+      whole = e .1 ∙ ap (λ (m : ℕ). m * z .d) (sym (e .0));
+      few = omega (arith, e .1, few-helpers z (legal-on (at-empty (at-count n) .before)));
+    }
 
 pub check-repair-spec : {M : Type 1} → statement M
 check-repair-spec =

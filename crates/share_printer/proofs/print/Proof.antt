@@ -12,7 +12,7 @@ returns c =
     let read = answered .before .before .before in
     let at = read .before .before in
     let start = at .before .before .before .before in
-    printing (start .args .file .now) (start .args .out .now) (start .pre .0) (start .pre .1)
+    printing (start .args .file .now) (start .args .out .now) (start .pre)
     (record { count = w .result; out = w .last .1 .1 .0 }) (at .read-all .ensures) (w .ensures)
 
 pub print-spec : {M : Type 1} → statement M

@@ -9,12 +9,12 @@ use Rattle.store.proofs.bytes_moved.Statement.{statement}
 use Rattle.store.proofs.bytes_moved.Tie as tie
 
 legal-on : (g : tie.Start) → Legal (g .args .sizes)
-legal-on g = legal-facts _ (g .pre .0)
+legal-on g = legal-facts _ (g .pre .is-legal)
 
 few-fresh : (g : tie.Start) → g .args .stripes * g .args .sizes .r ≤ 131072
 few-fresh g =
     let r : g .args .sizes .r ≤ 32 = omega (arith, legal-on g .enough, legal-on g .few) in
-    mul-le-mul (g .pre .1) r
+    mul-le-mul (g .pre .few) r
 
 few-bytes : (g : tie.Start) → let z = g .args .sizes in g .args .stripes * z .r * (2 * z .d + z .r - 1) ≤ 12582912
 few-bytes g =

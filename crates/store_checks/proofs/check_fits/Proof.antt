@@ -13,10 +13,10 @@ use Rattle.store_checks.proofs.check_fits.Tie as tie
 
 -- the sizes are legal, so the answer of `stripe_len` is B
 stripe : (c : tie.After-stripe-len) → c .stripe-len .result ≡ B (c .before .args .sizes)
-stripe c = c .stripe-len .ensures ∙ (rw (c .before .pre .0) refl)
+stripe c = c .stripe-len .ensures ∙ (rw (c .before .pre .is-legal) refl)
 
 mul-if1 : tie.Need-mul-if1
-mul-if1 c = omega (arith, few (c .before .args .capacity) (c .stripe-len .result) _ (c .before .pre .1) (stripe c) (B-most _ (legal-facts _ (c .before .pre .0))))
+mul-if1 c = omega (arith, few (c .before .args .capacity) (c .stripe-len .result) _ (c .before .pre .few) (stripe c) (B-most _ (legal-facts _ (c .before .pre .is-legal))))
 
 returns : tie.Need-returns
 returns c = let a = c .before .before .args in rw (lt-ltb (a .capacity * B (a .sizes)) (a .got) (rw (stripe (c .before)) at (c .if1 .taken))) refl

@@ -30,7 +30,7 @@ run-end : (c : tie.In-loop Inv-loop μ-loop) → let a = st c .args in let i = c
 run-end c =
     let a = st c .args in
     let p = row-fits (c .before .loop .a) (length (a .fresh .now)) (a .d) (c .loop-test .taken) in
-    omega (arith, p, st c .pre .0)
+    omega (arith, p, st c .pre .whole)
 
 holds-first : tie.Need-loop-holds Inv-loop μ-loop
 holds-first c = let a = c .before .before .args in ap (λ (m : ℕ). runsDiffer (a .d) (a .fresh .now) (drop m (a .helpers .now))) (zero-mul (a .d))
@@ -64,9 +64,9 @@ runs-differ-spec =
     Inv-loop
     μ-loop
     holds-first
-    (λ c. omega (arith, run-end c, st c .pre .1))
-    (λ c. omega (arith, run-end c, st c .pre .1))
-    (λ c. omega (arith, run-end c, st c .pre .1))
+    (λ c. omega (arith, run-end c, st c .pre .few))
+    (λ c. omega (arith, run-end c, st c .pre .few))
+    (λ c. omega (arith, run-end c, st c .pre .few))
     (λ c. search needs)
     (λ c. search needs)
     (λ c. omega (arith, run-end c))

@@ -5,7 +5,9 @@ use native.Mathlib.Omega.{arith}
 use borrow.Author.Needs.{needs}
 use Rattle.text_lines.proofs.Decimals.{decimal-one, decimal-more, length-one, length-more}
 use Rattle.text_lines.proofs.Writes.{one, more}
-use Prim.Native.Nat.{ℕ, _<_, _≤_}
+use Prim.Native.Nat.{ℕ, _+_, _<_, _≤_}
+use lib.ListN.{length}
+use Rattle.board_spec.specs.Text.{decimal}
 use borrow.Fn.Kinds.{In}
 use borrow.Fn.PlainCycle.{Measures, is, falls, and}
 use Rattle.text_lines.proofs.put_decimal.Reads as put-decimal
@@ -35,6 +37,13 @@ abbrev st : (t : ℕ) → put-decimal-lts.After-slice-known2 (
 ) (put-decimal-at t) put-decimal.Post
 st t c = c .before .before .before .before .before .before
 
+-- where the call began, there is room for the digits
+abbrev room : (t : ℕ) → (g : put-decimal-lts.Start (
+  put-decimal-below t,
+  put-decimal.Post,
+) (put-decimal-at t) put-decimal.Post) → g .args .at + length (decimal (g .args .x)) ≤ length (g .args .out .now)
+room t g = g .pre .1
+
 returns-one : (t : ℕ) → put-decimal-lts.Need-returns (
   put-decimal-below t,
   put-decimal.Post,
@@ -59,7 +68,7 @@ returns-more t c =
     let g = st t c in
     let x = g .args .x in
     let h : 10 ≤ x = omega arith in
-    rw (decimal-more x h) (more (c .before .before .put-decimal .ensures) _ (rw (decimal-more x h) at (g .pre .1)))
+    rw (decimal-more x h) (more (c .before .before .put-decimal .ensures) _ (rw (decimal-more x h) at (room t g)))
 
 pub +put-decimal-spec : {M : Type 1} → statement M
 +put-decimal-spec = close μ-put-decimal λ t. put-decimal-lts.spec (

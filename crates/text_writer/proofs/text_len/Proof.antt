@@ -22,7 +22,7 @@ record Small (n k d r node total : ℕ) : Type 0 where
 small : (c : tie.Start) → let a = c .args in Small (a .sizes .n) (a .sizes .k) (a .sizes .d) (a .sizes .r) (a .node) (a .total)
 small c =
     let a = c .args in
-    let f = legal-facts (a .sizes) (c .pre .0) in
+    let f = legal-facts (a .sizes) (c .pre .is-legal) in
     record {
       for-n = omega (arith, decimal-most (a .sizes .n));
       for-k = omega (arith, decimal-most (a .sizes .k));

@@ -63,5 +63,5 @@ check-write-spec =
     (λ c. search needs)
     (λ c. no-area (c .before))
     (λ c. search needs)
-    (λ c κs. (sound-on c .is-legal, sound-on c .cap-high))
+    (λ c κs. record { is-legal = sound-on c .is-legal; few = sound-on c .cap-high })
     (λ c. ends (on-long c) (c .check-fits .ensures)))

@@ -8,6 +8,7 @@ use Rattle.mbcr.specs.Share.{standard}
 use Rattle.store_spec.specs.Record.{Record}
 use Rattle.store_spec.specs.Calls.{refused, readCall}
 use Rattle.store_spec.proofs.Records.{Reads, read-facts}
+use Rattle.shared_checks.proofs.Facts.{standard-enough}
 use Rattle.read_check.proofs.Readable.{Readable, readable}
 use Rattle.store.specs.Handing.{recordIn}
 use Rattle.store.proofs.ReadCall.{checked, read-refuses, read-works}
@@ -31,7 +32,7 @@ abbrev R : tie.After-check-read → Record
 R c = recordIn (st c .args .self)
 
 -- what the check told
-passed : (c : tie.After-enum-told) → let k = c .before .before in checked (R k) (st k .args .area .now) (st k .args .boards .now) (st k .args .out .now) ≡ Pass
+passed : (c : tie.After-enum-told) → let k = c .before .before in checked standard (R k) (st k .args .area .now) (st k .args .boards .now) (st k .args .out .now) ≡ Pass
 passed c = sym (c .before .before .check-read .ensures) ∙ c .enum-told .given .1
 
 facts : (c : tie.After-enum-told) → let k = c .before .before in Reads (R k) (length (st k .args .area .now)) (st k .args .boards .now) (st k .args .out .now)
@@ -42,7 +43,7 @@ asks : (c : tie.After-enum-told)
 asks c =
     let k = c .before .before in
     let f = facts c in
-    readable (R k) _ _ (st k .args .boards .now) (at-points k .standard-points .ensures) (f .is-sound) (f .area-is) (f .count) (f .named-below)
+    readable (R k) _ _ (st k .args .boards .now) (standard-enough _ (at-points k .standard-points .ensures)) (f .is-sound) (f .area-is) (f .count) (f .named-below)
 
 -- the work
 file-asks : tie.Need-file-requires
@@ -50,15 +51,16 @@ file-asks c κs =
     let n = c .before .before .before in
     let k = at-check n in
     let f = asks (n .before) in
+    let r = f .is-ready in
     let e = n .stripe-count .ensures .0 in
-    (f .is-legal, f .few-points, at-inverses k .fill-inverses .ensures, f .enough, f .known, e, f .cap-high, rw e (f .few-stripes), f .area-is, facts (n .before) .room)
+    (r .stated .is-legal, r .few-points, at-inverses k .fill-inverses .ensures, f .enough, f .known, e, r .cap-high, rw e (r .few-stripes), f .area-is, facts (n .before) .room)
 
 read-done : tie.Need-returns-2
 read-done c =
     let w = c .before .before in
     let n = w .before .before .before .before in
     let k = at-check n in
-    read-works (R k) (st k .args .area .now) (st k .args .boards .now) (st k .args .out .now) _ _ (at-points k .standard-points .ensures) (passed (n .before)) (w .file .ensures)
+    read-works standard (R k) (st k .args .area .now) (st k .args .boards .now) (st k .args .out .now) _ _ (at-points k .standard-points .ensures) (passed (n .before)) (w .file .ensures)
 
 read-refused : (c : tie.After-x)
     → let k = c .before .before in let a = st k .args in
@@ -66,7 +68,7 @@ read-refused : (c : tie.After-x)
 read-refused c =
     let k = c .before .before in
     let a = st k .args in
-    read-refuses (R k) (a .area .now) (a .boards .now) (a .out .now) (k .check-read .ensures) (c .x .given .1)
+    read-refuses standard (R k) (a .area .now) (a .boards .now) (a .out .now) (k .check-read .ensures) (c .x .given .1)
 
 pub read-spec : {M : Type 1} → statement M
 read-spec =
@@ -84,7 +86,7 @@ read-spec =
     (λ c. search needs)
     (λ c. c .refuse .ensures _ _ ∙ read-refused (c .before .before))
     (λ c. search needs)
-    (λ c κs. let f = asks c in (f .is-legal, f .not-long))
+    (λ c κs. asks c .is-ready .stated)
     (λ c. search needs)
     (λ c. search needs)
     file-asks

@@ -1,6 +1,6 @@
 -- `store::Store::repair` meets its contract: it hands on what its check refuses, and past it the fresh boards are rebuilt.
 -- Assumes nothing.
-use mathlib.Core.Path.{_≡_, refl, sym, ap, _∙_}
+use mathlib.Core.Path.{_≡_, sym, _∙_}
 use mathlib.Core.List.{[]}
 use native.Mathlib.Omega.{arith}
 use lib.ListN.{length}
@@ -12,6 +12,7 @@ use Rattle.own.proofs.Made.{below-more}
 use Rattle.store_spec.specs.Record.{Record}
 use Rattle.store_spec.specs.Calls.{refused, repairCall}
 use Rattle.store_spec.proofs.Records.{repair-facts}
+use Rattle.shared_checks.proofs.Facts.{standard-enough}
 use Rattle.repair_check.proofs.Repairable.{Repairable, repairable}
 use Rattle.store.specs.Handing.{recordIn}
 use Rattle.store.proofs.RepairCall.{checked, repair-refuses, repair-works}
@@ -39,7 +40,7 @@ at-shares c = c .before .before .before
 
 -- what the check told
 passed : (c : tie.After-enum-told)
-    → let k = c .before .before in let a = st k .args in checked (R k) (a .area .now) (a .fresh .now) (a .helpers .now) ≡ Pass
+    → let k = c .before .before in let a = st k .args in checked standard (R k) (a .area .now) (a .fresh .now) (a .helpers .now) ≡ Pass
 passed c = sym (c .before .before .check-repair .ensures) ∙ c .enum-told .given .1
 
 asks : (c : tie.After-standard-points)
@@ -47,16 +48,18 @@ asks : (c : tie.After-standard-points)
 asks c =
     let k = c .before .before .before in
     let a = st k .args in
-    repairable (R k) _ _ (a .fresh .now) (a .helpers .now) (c .standard-points .ensures) (repair-facts (R k) _ (a .fresh .now) (a .helpers .now) (passed (c .before)))
+    repairable (R k) _ _ (a .fresh .now) (a .helpers .now) (standard-enough _ (c .standard-points .ensures))
+    (repair-facts (R k) _ (a .fresh .now) (a .helpers .now) (passed (c .before)))
 
 -- the work
 shares-ask : tie.Need-repair-shares-requires
 shares-ask c κs =
     let n = at-count c in
     let f = asks (at-points n) in
+    let r = f .is-ready in
     let e = n .stripe-count .ensures .0 in (
-      f .is-legal,
-      f .few-points,
+      r .stated .is-legal,
+      r .few-points,
       n .before .before .fill-inverses .ensures,
       f .fresh-count,
       f .fresh-known,
@@ -64,8 +67,8 @@ shares-ask c κs =
       f .helpers-known,
       f .fresh-different,
       f .none-fresh,
-      f .cap-high,
-      rw e (f .few-stripes),
+      r .cap-high,
+      rw e (r .few-stripes),
       f .area-is,
     )
 
@@ -78,7 +81,7 @@ marks-ask c κs =
     let p = at-points (at-count (at-shares c .before)) in
     let k = p .before .before .before in
     let f = asks p in
-    below-more (R k .sizes .n) (length (R k .marks)) (st k .args .fresh .now) (omega (arith, marks-long (k .before), legal-facts _ (f .is-legal) .few)) (f .fresh-known)
+    below-more (R k .sizes .n) (length (R k .marks)) (st k .args .fresh .now) (omega (arith, marks-long (k .before), legal-facts _ (f .is-ready .stated .is-legal) .few)) (f .fresh-known)
 
 repair-done : tie.Need-returns-2
 repair-done c =
@@ -87,7 +90,7 @@ repair-done c =
     let n = at-count (w .before) in
     let k = at-told n .before .before in
     let a = st k .args in
-    repair-works (R k) (a .area .now) (a .fresh .now) (a .helpers .now) _ _ _ _ _ (passed (at-told n)) (at-points n .standard-points .ensures) (n .stripe-count .ensures .0)
+    repair-works standard (R k) (a .area .now) (a .fresh .now) (a .helpers .now) _ _ _ _ _ (passed (at-told n)) (at-points n .standard-points .ensures) (n .stripe-count .ensures .0)
     (w .before .before .before .before .bytes-moved .ensures) (m .marks-on .ensures) (w .repair-shares .ensures)
 
 repair-refused : (c : tie.After-x)
@@ -95,7 +98,7 @@ repair-refused : (c : tie.After-x)
 repair-refused c =
     let k = c .before .before in
     let a = st k .args in
-    repair-refuses (R k) (a .area .now) (a .fresh .now) (a .helpers .now) (k .check-repair .ensures) (c .x .given .1)
+    repair-refuses standard (R k) (a .area .now) (a .fresh .now) (a .helpers .now) (k .check-repair .ensures) (c .x .given .1)
 
 pub repair-spec : {M : Type 1} → statement M
 repair-spec =
@@ -110,8 +113,8 @@ repair-spec =
     (λ c κs. search needs)
     (λ c. search needs)
     (λ c κs. search needs)
-    (λ c κs. let f = asks (c .before .before .before) in (f .is-legal, f .not-long))
-    (λ c κs. (asks (at-points c) .is-legal, c .stripe-count .ensures .1))
+    (λ c κs. asks (c .before .before .before) .is-ready .stated)
+    (λ c κs. record { is-legal = asks (at-points c) .is-ready .stated .is-legal; few = c .stripe-count .ensures .1 })
     (λ c. search needs)
     (λ c. search needs)
     shares-ask

@@ -1,7 +1,7 @@
 -- `store::Store::write` meets its contract: it hands on what its check refuses, and past it the shares are written.
 -- Assumes nothing.
 use Prim.Native.Nat.{ℕ, _*_, _≤_}
-use mathlib.Core.Path.{_≡_, refl, sym, ap, _∙_}
+use mathlib.Core.Path.{_≡_, refl, sym, _∙_}
 use native.Mathlib.Nat.{mul-le-mul-right}
 use native.Mathlib.Omega.{arith}
 use mathlib.Core.List.{[]}
@@ -14,6 +14,7 @@ use Rattle.mbcr.specs.Share.{standard}
 use Rattle.store_spec.specs.Record.{Record}
 use Rattle.store_spec.specs.Calls.{refused, writeCall}
 use Rattle.store_spec.proofs.Records.{Sound, sound-facts, Writes, write-facts}
+use Rattle.shared_checks.proofs.Facts.{standard-enough}
 use Rattle.store.specs.Handing.{recordIn}
 use Rattle.store.proofs.Settled.{checked, write-refuses, write-works}
 use Rattle.store.proofs.Store.write.Statement.{statement}
@@ -27,7 +28,7 @@ abbrev R : tie.After-check-write → Record
 R c = recordIn (st c .args .self)
 
 -- what the check told
-passed : (c : tie.After-enum-told) → let k = c .before .before in checked (R k) (st k .args .area .now) (st k .args .file .now) ≡ Pass
+passed : (c : tie.After-enum-told) → let k = c .before .before in checked standard (R k) (st k .args .area .now) (st k .args .file .now) ≡ Pass
 passed c = sym (c .before .before .check-write .ensures) ∙ c .enum-told .given .1
 
 facts : (c : tie.After-enum-told) → let k = c .before .before in Writes (R k) (length (st k .args .area .now)) (st k .args .file .now)
@@ -52,7 +53,7 @@ shares-ask c κs =
     let f = sound-on t in
     let g = legal-facts _ (f .is-legal) in
     let e = n .stripe-count .ensures .0 in
-    let l : length (n .before .standard-points .result) ≡ 32 = ap length (n .before .standard-points .ensures) in
+    let l = standard-enough _ (n .before .standard-points .ensures) in
     (f .is-legal, f .cap-high, omega (arith, l, g .few), e, rw e (stripes-least (s .sizes) g _ (s .capacity) (facts t .file-fits)), facts t .area-is)
 
 write-done : tie.Need-returns-2
@@ -60,13 +61,13 @@ write-done c =
     let w = c .before .before .before in
     let p = w .before .before .before .before in
     let k = p .before .before .before in
-    write-works (R k) (st k .args .area .now) (st k .args .file .now) _ _ _ (passed (p .before)) (c .first-on .ensures) (p .standard-points .ensures) (w .write-shares .ensures)
+    write-works standard (R k) (st k .args .area .now) (st k .args .file .now) _ _ _ (passed (p .before)) (c .first-on .ensures) (p .standard-points .ensures) (w .write-shares .ensures)
 
 write-refused : (c : tie.After-x)
     → let k = c .before .before in let a = st k .args in refused (R k) (a .area .now) [] (c .x .given .0 .0) ≡ writeCall standard (R k) (a .area .now) (a .file .now)
 write-refused c =
     let k = c .before .before in
-    write-refuses (R k) (st k .args .area .now) (st k .args .file .now) (k .check-write .ensures) (c .x .given .1)
+    write-refuses standard (R k) (st k .args .area .now) (st k .args .file .now) (k .check-write .ensures) (c .x .given .1)
 
 pub write-spec : {M : Type 1} → statement M
 write-spec =
@@ -79,7 +80,7 @@ write-spec =
     (λ c. c .refuse .ensures _ [] ∙ write-refused (c .before .before))
     (λ c. search needs)
     (λ c κs. search needs)
-    (λ c κs. (sound-on (c .before) .is-legal, at-most (c .before)))
+    (λ c κs. record { is-legal = sound-on (c .before) .is-legal; not-long = at-most (c .before) })
     (λ c. search needs)
     shares-ask
     (λ c κs. search needs)
