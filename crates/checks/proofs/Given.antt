@@ -26,7 +26,6 @@ few-bytes s q a t h f g k =
     let p : s * q ≤ 4096 * q = mul-le-mul-right q h in
     omega arith
 
-
 -- the bytes of the packets of so many boards are few
 pub few-packets : (m s b : ℕ) → m ≤ 32 → s ≤ 4096 → b ≤ 2 → m * (b * s) ≤ 262144
 few-packets m s b h k l =
