@@ -44,8 +44,8 @@ enum {
     ZBK_RECORD_WORDS = 8
 };
 
-/* Why a call was refused. Where several hold, the first is given: of the store in the order 1, 2, 3, 8, 4, 5, 6, 9, 7, 10, 11, at board level
- * in the order 1, 3, 4, 5, 6, 2, 7, 10, 11. */
+/* Why a call was refused. Where several hold, the first is given: of the store in the order 1, 2, 3, 8, 4, 5, 6, 9, 7, 10, at board level
+ * in the order 1, 3, 4, 5, 6, 2, 7, 10. 11 is not used: no call answers it. */
 enum zbk_refusal_number {
     /* The call was accepted. */
     ZBK_ACCEPTED = 0,
@@ -68,9 +68,7 @@ enum zbk_refusal_number {
     /* A board to read from, or a helper, is out of service. */
     ZBK_DOWN = 9,
     /* No file of this length has these shares. */
-    ZBK_DISAGREE = 10,
-    /* Two equal points in one interpolation; it never happens with this code's points. */
-    ZBK_POINTS = 11
+    ZBK_DISAGREE = 10
 };
 
 /* The words of a record, by place. Keep them together with the area; change them only by the calls. */

@@ -77,7 +77,7 @@ falsified() {
     "$coder" --seed "$1" --calls 4000 --wrong "$2" || status=$?
     [ "$status" -eq 1 ]
 }
-for kind in answer byte word; do
+for kind in answer eleven byte word; do
     for seed in 1 2 3 4; do
         name="a wrong $kind is reported (seed $seed)"
         step "$name" falsified "$seed" "$kind"
@@ -86,6 +86,11 @@ for kind in answer byte word; do
         if [ -z "$altered" ] || [ "$altered" != "$reported" ]; then
             cat "$work/log"
             echo "FAIL $name: altered at call '$altered', reported at '$reported'"
+            exit 1
+        fi
+        if [ "$kind" = eleven ] && ! grep -q '^MISMATCH .* the answer has the number 11, which is not used$' "$work/log"; then
+            cat "$work/log"
+            echo "FAIL $name: it is not said that 11 is not used"
             exit 1
         fi
     done

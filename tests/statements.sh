@@ -33,7 +33,7 @@ done
 # how much a buyer reads: definitions, theorem statements, tables; without imports, blanks and comments
 lines() { cat "$@" | grep -v -E '^[[:space:]]*(--|use |$)' | wc -l | tr -d ' '; }
 tables=$(ls crates/*/specs/*Figures.antt)
-claims=$(ls crates/*/specs/*Laws.antt crates/*/specs/Demand?.antt crates/*/specs/Stripes.antt crates/*/specs/Premises.antt crates/*/specs/Gives.antt crates/*/specs/Claims.antt crates/*/specs/Tight.antt)
+claims=$(ls crates/*/specs/*Laws.antt crates/*/specs/Demand?.antt crates/*/specs/Stripes.antt crates/*/specs/Premises.antt crates/*/specs/Gives.antt crates/*/specs/Claims.antt crates/*/specs/Tight.antt crates/*/specs/Runs.antt)
 definitions=$(ls crates/*/specs/*.antt | grep -v -e '/Lib.antt$')
 # what only inner functions cite: no public call's contract rests on it
 inner=$(ls crates/*/specs/Steps.antt)

@@ -3,8 +3,8 @@
 use std::error::Error;
 use std::fmt;
 
-/// Why a call was refused. Where several hold, the first is given: of the store in the order 1, 2, 3, 8, 4, 5, 6, 9, 7, 10, 11, at board
-/// level in the order 1, 3, 4, 5, 6, 2, 7, 10, 11.
+/// Why a call was refused. Where several hold, the first is given: of the store in the order 1, 2, 3, 8, 4, 5, 6, 9, 7, 10, at board
+/// level in the order 1, 3, 4, 5, 6, 2, 7, 10. 11 is not used: no call answers it.
 #[derive(Clone, Copy, Debug, PartialEq, Eq, Hash)]
 #[repr(u8)]
 pub enum Refusal {
@@ -28,13 +28,11 @@ pub enum Refusal {
     Down = 9,
     /// The shares belong to no file of this length.
     Disagree = 10,
-    /// Two equal points in one interpolation; it never happens with this code's points.
-    Points = 11,
 }
 
 impl Refusal {
     /// All refusals, in the order of their numbers.
-    pub const ALL: [Refusal; 11] = [
+    pub const ALL: [Refusal; 10] = [
         Refusal::Size,
         Refusal::Area,
         Refusal::Long,
@@ -45,7 +43,6 @@ impl Refusal {
         Refusal::Empty,
         Refusal::Down,
         Refusal::Disagree,
-        Refusal::Points,
     ];
 
     /// The refusal with a number; none where no refusal has it.
@@ -71,7 +68,6 @@ impl Refusal {
             Refusal::Empty => "EMPTY",
             Refusal::Down => "DOWN",
             Refusal::Disagree => "DISAGREE",
-            Refusal::Points => "POINTS",
         }
     }
 
@@ -90,7 +86,6 @@ impl Refusal {
             Refusal::Empty => "A repair or a read before any file was written.",
             Refusal::Down => "A board to read from, or a helper, is out of service.",
             Refusal::Disagree => "No file of this length has these shares.",
-            Refusal::Points => "Two equal points in one interpolation; it never happens with this code's points.",
         }
     }
 }

@@ -53,13 +53,14 @@ fn sizes_that_are_not_legal_have_no_lengths() {
 #[test]
 fn every_refusal_has_its_number_name_and_sentence() {
     let numbers: Vec<u8> = Refusal::ALL.iter().map(|refusal| refusal.number()).collect();
-    assert_eq!(numbers, (1..=11).collect::<Vec<u8>>());
+    assert_eq!(numbers, (1..=10).collect::<Vec<u8>>());
     for refusal in Refusal::ALL {
         assert_eq!(Refusal::from_number(refusal.number()), Some(refusal));
         assert_eq!(refusal.name(), format!("{refusal:?}").to_uppercase());
         assert!(refusal.sentence().ends_with('.'));
     }
-    assert_eq!((Refusal::from_number(0), Refusal::from_number(12)), (None, None));
+    // 11 is not used
+    assert_eq!([0, 11, 12].map(Refusal::from_number), [None, None, None]);
     assert_eq!(Refusal::Count.to_string(), "COUNT (4): A list has the wrong number of boards.");
 }
 

@@ -38,11 +38,7 @@ fn check_exchange(
     if let Check::Refuse(lent) = checks::check_lent(packets.len(), sizes.d * (2 * stripes)) {
         return Check::Refuse(lent);
     }
-    if let Check::Refuse(short) = checks::check_room(out, stripes) {
-        return Check::Refuse(short);
-    }
-    let points = checks::standard_points();
-    checks::check_points(&points, sizes.n)
+    checks::check_room(out, stripes)
 }
 
 // The exchange packet that a board being rebuilt makes of its d helper packets, for another. Answers the number of bytes written.

@@ -1,39 +1,30 @@
 -- A file from k shares: what the kernels ask, from what the checks told; and what the call answers by what its check answered.
 -- Assumes nothing.
-use Prim.Native.Nat.{ℕ, _*_, _≤_, _<_}
+use Prim.Native.Nat.{ℕ, _*_, _≤_}
 use mathlib.Core.Path.{_≡_, sym, ap, _∙_}
-use mathlib.Core.Logic.{_≢_}
 use mathlib.Core.Bool.{true, false, not}
 use mathlib.Core.List.{List, [], _∷_, _++_}
-use native.Mathlib.Omega.{arith}
 use borrow.Author.Tests.{ltb-false, eqb-true}
 use lib.Dec.{eqb}
-use lib.ListN.{length, getD, take, drop}
-use lib.Seq.{length-take-le, getD-take}
+use lib.ListN.{length, drop}
 use Rattle.lists.specs.Tests.{alls, below, different, given}
 use Rattle.lists.proofs.Tests.{not-no, alls-hold}
-use Rattle.lists.proofs.Alls.{distinct-of}
-use Rattle.lists.proofs.Boards.{distinct-different}
 use Rattle.sizes.specs.declared.Sizes.{Sizes}
 use Rattle.sizes.specs.declared.Refusal.{Refusal}
-use Rattle.sizes.specs.declared.Refusal.the-variants.{Points}
 use Rattle.sizes.specs.declared.Check.{Check}
 use Rattle.sizes.specs.declared.Check.the-variants.{Pass, Refuse}
 use Rattle.sizes.specs.declared.Answer.the-variants.{Done, Refused}
-use Rattle.sizes.specs.Refusals.{_when_, first, boardOrder}
-use Rattle.sizes.specs.Sizing.{legal, α, stripes}
+use Rattle.sizes.specs.Refusals.{first, boardOrder}
+use Rattle.sizes.specs.Sizing.{α, stripes}
 use Rattle.sizes.proofs.Legal.{legal-facts}
 use Rattle.sizes.proofs.Lines.{first-clear}
-use Rattle.mbcr.specs.Share.{DifferentPoints, point}
 use Rattle.mbcr.specs.Read.{decodedFile, readFile}
-use Rattle.mbcr.proofs.Points.{boards-of}
 use Rattle.mbcr.proofs.Read.{length-decoded-file}
-use Rattle.board_spec.specs.Calls.{fileOf, countLine, nodeLine, repeatLine, areaLine, equalPoints, readRuns, fileLines, fileCall}
-use Rattle.board_spec.proofs.Runs.{read-runs}
+use Rattle.board_spec.specs.Calls.{fileOf, countLine, nodeLine, repeatLine, areaLine, fileLines, fileCall}
 use Rattle.board_spec.proofs.Files.{file-is}
 use Rattle.checks.specs.Steps.{asked, Stated}
 use Rattle.checks.specs.Outcomes.{outcome}
-use Rattle.checks.proofs.Answers.{passed, passes}
+use Rattle.checks.proofs.Answers.{passed}
 use Rattle.checks.proofs.Facts.{refused-by, done-by}
 
 -- ---- what the kernels ask
@@ -60,26 +51,6 @@ readable z L boards m s count node repeat area =
       all-different = not-no _ (passed (repeatLine boards) repeat);
       held-is = one _ _ (passed (areaLine (eqb m (z .k * (stripes z L * α z)) ∷ [])) area);
     }
-
--- ---- points of different boards
-
-module _ (z : Sizes) (xs : List ℕ) (pts : DifferentPoints z xs) (enough : z .n ≤ length xs) where
-  apart : (i j : ℕ) → i < j → j < length (take (z .n) xs) → getD (take (z .n) xs) j 0 ≢ getD (take (z .n) xs) i 0
-  apart i j h k e =
-      let l : length (take (z .n) xs) ≡ z .n = length-take-le (z .n) xs enough in
-      let e′ : point xs i ≡ point xs j = sym (getD-take (z .n) xs i 0 (omega arith)) ∙ sym e ∙ getD-take (z .n) xs j 0 (omega arith) in
-      let p : i ≡ j = pts .differ i j (omega arith) (omega arith) e′ in
-      omega arith
-
-  points-differ : different (take (z .n) xs) ≡ true
-  points-differ = distinct-different (take (z .n) xs) (distinct-of (take (z .n) xs) apart)
-
-  -- what `check_points` answers, as the line of the call
-  pub points-line : (boards : List ℕ) → legal z ≡ true → below (z .n) boards ≡ true → different boards ≡ true
-      → asked (Points when not (different (take (z .n) xs))) ≡ asked (Points when equalPoints xs (readRuns z boards))
-  points-line boards h k d =
-      sym (passes (Points when not (different (take (z .n) xs))) (ap not points-differ))
-      ∙ passes (Points when equalPoints xs (readRuns z boards)) (read-runs z xs (legal-facts z h) pts boards (boards-of z boards k d))
 
 -- ---- the call, at any points
 

@@ -44,18 +44,7 @@ fn check_file(
     if let Check::Refuse(short) = checks::check_room(out, len) {
         return Check::Refuse(short);
     }
-    if let Check::Refuse(disagree) = agreement::check_agrees(
-        sizes,
-        points,
-        inverses,
-        len,
-        stripes,
-        boards,
-        held,
-    ) {
-        return Check::Refuse(disagree);
-    }
-    checks::check_points(points, sizes.n)
+    agreement::check_agrees(sizes, points, inverses, len, stripes, boards, held)
 }
 
 // The file of so many bytes that k shares give, or DISAGREE where no such file has them. Answers the number of bytes written.

@@ -52,11 +52,7 @@ fn check_finish(
     ) {
         return Check::Refuse(lent);
     }
-    if let Check::Refuse(short) = checks::check_room(out, stripes * sizes.share_len()) {
-        return Check::Refuse(short);
-    }
-    let points = checks::standard_points();
-    checks::check_points(&points, sizes.n)
+    checks::check_room(out, stripes * sizes.share_len())
 }
 
 // The share of a board being rebuilt, of its d helper packets and its r - 1 partners' packets. Answers the number of bytes written.

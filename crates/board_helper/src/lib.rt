@@ -36,11 +36,7 @@ fn check_helper(
         return Check::Refuse(lent);
     }
     let count = 2 * stripes;
-    if let Check::Refuse(short) = checks::check_room(out, count) {
-        return Check::Refuse(short);
-    }
-    let points = checks::standard_points();
-    checks::check_points(&points, sizes.n)
+    checks::check_room(out, count)
 }
 
 // The helper packet that a board makes of its share of a file of so many bytes, for another board. Answers the number of bytes written.

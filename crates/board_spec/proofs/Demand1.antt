@@ -4,15 +4,15 @@ use mathlib.Core.Path.{_≡_, refl, sym, ap, _∙_}
 use mathlib.Core.Bool.{Bool, true, false, not}
 use mathlib.Core.Logic.{_≢_, _↔_, _⊎_, inl, inr}
 use mathlib.Core.Option.{Option, none, some}
-use mathlib.Core.List.{List, [], _∷_, _++_}
-use Prim.Native.Nat.{ℕ, _-_, _*_, _≤_, _<_}
+use mathlib.Core.List.{List, [], _∷_}
+use Prim.Native.Nat.{ℕ, _*_, _≤_}
 use native.Mathlib.Omega.{arith}
 use lib.Dec.{eqb}
 use lib.ListN.{length, take, length-take}
 use lib.Seq.{take-at}
 use borrow.Author.Tests.{ltb-false, le-ltb, eqb-true, eq-eqb}
 use Rattle.lists.specs.Lists.{All, Bytes, over}
-use Rattle.lists.specs.Tests.{pick, same, given, below, different}
+use Rattle.lists.specs.Tests.{pick, same, given}
 use Rattle.lists.proofs.Pieces.{length-joined}
 use Rattle.lists.proofs.Tests.{not-no, alls-hold, hold-alls}
 use Rattle.sizes.specs.Refusals.{number, said, Line, appliesIn, first, boardOrder}
@@ -21,25 +21,24 @@ use Rattle.sizes.specs.declared.Answer.the-variants.{Done, Refused}
 use Rattle.sizes.specs.declared.Check.{Check}
 use Rattle.sizes.specs.declared.Check.the-variants.{Pass, Refuse}
 use Rattle.sizes.specs.declared.Refusal.{Refusal}
-use Rattle.sizes.specs.declared.Refusal.the-variants.{Points, Size, Area, Long, Count, Node, Repeat, Short, Disagree}
+use Rattle.sizes.specs.declared.Refusal.the-variants.{Size, Area, Long, Count, Node, Repeat, Short, Disagree}
 use Rattle.sizes.specs.declared.Sizes.{Sizes}
-use Rattle.sizes.proofs.Laws.{numbers-differ, number-low}
 use Rattle.sizes.proofs.Legal.{Legal, legal-facts}
-use Rattle.sizes.proofs.Lines.{Clear, clear-first, refuse-first, one-or-none, never, says-not, says-less, says-one, says-two, says-itself, says-no-file}
+use Rattle.sizes.proofs.Lines.{Clear, clear-first, refuse-first, one-or-none, says-not, says-less, says-one, says-two, says-no-file}
 use Rattle.mbcr.specs.Demand2.{Named}
 use Rattle.mbcr.specs.Read.{decodedFile, readFile}
 use Rattle.mbcr.specs.Rebuild.{helperPacket, exchangePacket, finishedShare}
-use Rattle.mbcr.specs.Share.{standard, DifferentPoints, share, shares}
-use Rattle.mbcr.proofs.Points.{Boards, boards-of, standard-points}
+use Rattle.mbcr.specs.Share.{DifferentPoints, share, shares}
+use Rattle.mbcr.proofs.Points.{Boards, boards-of}
 use Rattle.mbcr.proofs.Read.{read-sound, read-complete, read-none}
 use Rattle.mbcr.proofs.Repair.{length-share, length-packet, length-exchange, length-finished}
 use Rattle.board_spec.specs.Calls.{BoardOutcome, settled, fileOf, shareLines, shareCall, fileLines, fileCall, helperLines, helperCall, exchangeLines, exchangeCall}
-use Rattle.board_spec.specs.Calls.{finishedLines, finishedCall, textLines, textCall, equalPoints, readRuns, ownRuns, finishRuns}
+use Rattle.board_spec.specs.Calls.{finishedLines, finishedCall, textLines, textCall}
 use Rattle.board_spec.specs.Claims.{LinesSay}
 use Rattle.board_spec.specs.Demand1.{BoardEnds, BoardCalls, shareClaims, fileClaims, helperClaims, exchangeClaims, finishedClaims, textClaims}
 use Rattle.board_spec.specs.Text.{shareText}
 use Rattle.board_spec.proofs.Claims.{lines-say}
-use Rattle.board_spec.proofs.Runs.{own-runs, one-run, finish-runs, read-runs}
+use Rattle.board_spec.proofs.Runs.{legal-of, named}
 
 -- ---- lines that do not hold
 
@@ -64,15 +63,9 @@ passed lines rest h = record {
   short = h .1 .1 .1 .1 .1 .1 .0;
 }
 
--- what SIZE, COUNT, NODE and REPEAT ask
-legal-of : (z : Sizes) → not (legal z) ≡ false → Legal z
-legal-of z h = legal-facts z (not-no (legal z) h)
-
+-- what COUNT asks
 counted : (a b : ℕ) → not (pick (eqb a b) true false) ≡ false → a ≡ b
 counted a b h = eqb-true a b (alls-hold (eqb a b ∷ []) (not-no _ h) .0)
-
-named : (z : Sizes) (boards : List ℕ) → not (below (z .n) boards) ≡ false → not (different boards) ≡ false → Boards z boards
-named z boards h k = boards-of z boards (not-no _ h) (not-no _ k)
 
 -- ---- every call ends
 
@@ -81,7 +74,7 @@ ends : (lines : List Line) (output bytes : List ℕ) → (Passed lines → lengt
 ends lines output bytes f = record {
   one = one-or-none lines boardOrder;
   refuses = λ x h. ap (λ (c : Check). settled c bytes output) (refuse-first lines boardOrder x h);
-  works = λ h. (ap (λ (c : Check). settled c bytes output) (clear-first lines boardOrder h), f (passed lines (Disagree ∷ Points ∷ []) h));
+  works = λ h. (ap (λ (c : Check). settled c bytes output) (clear-first lines boardOrder h), f (passed lines (Disagree ∷ []) h));
 }
 
 length-file-of : (t : Bool) (L : ℕ) (l : List ℕ) → length (fileOf (pick t (some (take L l)) none)) ≤ L
@@ -127,61 +120,6 @@ module _ (z : Sizes) (xs : List ℕ) where
   unfolding textLines textCall
   text-ends L node held output = ends _ output _ (λ p. ltb-false (length output) (length (shareText z L node held)) (p .short))
 
--- ---- no call answers POINTS with the standard points
-
-refusal-of : (c : Check) (x : Refusal) (bytes output : List ℕ) → settled c bytes output .answer .refusal ≡ number x → c ≡ Refuse x
-refusal-of Pass x bytes output e = absurd (omega (arith, number-low x))
-refusal-of (Refuse y) x bytes output e = ap Refuse (numbers-differ y x e)
-
-unequal : (lines : List Line) (bytes output : List ℕ) → (Passed lines → appliesIn lines Points ≡ false)
-    → settled (first boardOrder lines) bytes output .answer .refusal ≢ 11
-unequal lines bytes output h e =
-    never lines Points (seven (Disagree ∷ []))
-    (omega arith, (omega arith, (omega arith, (omega arith, (omega arith, (omega arith, (omega arith, (omega arith, tt))))))))
-    (λ c. h (passed lines (Disagree ∷ []) c)) (refusal-of _ Points bytes output e)
-
-module _ (z : Sizes) where
-  points-of : Legal z → DifferentPoints z standard
-  points-of f = standard-points z (f .few)
-
-  share-unequal : (node : ℕ) (file output : List ℕ) → shareCall z standard node file output .answer .refusal ≢ 11
-  unfolding shareLines shareCall
-  share-unequal node file output = unequal (shareLines z standard node file output) _ output (λ p. refl)
-
-  file-unequal : (L : ℕ) (boards held output : List ℕ) → fileCall z standard L boards held output .answer .refusal ≢ 11
-  unfolding fileLines fileCall
-  file-unequal L boards held output =
-      unequal (fileLines z standard L boards held output) _ output (λ p.
-      let f = legal-of z (p .size) in read-runs z standard f (points-of f) boards (named z boards (p .node) (p .repeat)))
-
-  helper-unequal : (L helper receiver : ℕ) (held output : List ℕ) → helperCall z standard L helper receiver held output .answer .refusal ≢ 11
-  unfolding helperLines helperCall
-  helper-unequal L helper receiver held output =
-      unequal (helperLines z standard L helper receiver held output) _ output (λ p.
-      let f = legal-of z (p .size) in
-      own-runs z standard f (points-of f) helper (named z (helper ∷ receiver ∷ []) (p .node) (p .repeat) .known .0))
-
-  exchange-unequal : (L board : ℕ) (helpers packets : List ℕ) (receiver : ℕ) (output : List ℕ)
-      → exchangeCall z standard L board helpers packets receiver output .answer .refusal ≢ 11
-  unfolding exchangeLines exchangeCall
-  exchange-unequal L board helpers packets receiver output =
-      unequal (exchangeLines z standard L board helpers packets receiver output) _ output (λ p.
-      let f = legal-of z (p .size) in
-      let b = named z (board ∷ receiver ∷ helpers) (p .node) (p .repeat) in
-      one-run z standard (points-of f) helpers (record { known = b .known .1 .1; once = b .once .1 .1 }))
-
-  finished-unequal : (L board : ℕ) (helpers packets partners exchanges output : List ℕ)
-      → finishedCall z standard L board helpers packets partners exchanges output .answer .refusal ≢ 11
-  unfolding finishedLines finishedCall
-  finished-unequal L board helpers packets partners exchanges output =
-      unequal (finishedLines z standard L board helpers packets partners exchanges output) _ output (λ p.
-      let f = legal-of z (p .size) in
-      finish-runs z standard (points-of f) board helpers partners (named z (helpers ++ partners ++ (board ∷ [])) (p .node) (p .repeat)))
-
-  text-unequal : (L node : ℕ) (held output : List ℕ) → textCall z standard L node held output .answer .refusal ≢ 11
-  unfolding textLines textCall
-  text-unequal L node held output = unequal (textLines z standard L node held output) _ output (λ p. refl)
-
 -- ---- a file is given just where there is one
 
 -- no line but DISAGREE holds
@@ -211,8 +149,7 @@ module _ (lines : List Line) (h : Only lines) where
       let p5 = only-passed .repeat in
       let p6 = clear lines Area (omega arith) (h .1 .1 .1 .1 .1 .0) in
       let p7 = only-passed .short in
-      let p9 = clear lines Points (omega arith) (h .1 .1 .1 .1 .1 .1 .1 .1 .0) in
-      rw (p1, p2, p3, p4, p5, p6, p7, p9)
+      rw (p1, p2, p3, p4, p5, p6, p7)
 
 -- the outcome of a call that found this file, or none
 abbrev outcome : Option (List ℕ) → List ℕ → BoardOutcome
@@ -304,7 +241,7 @@ module _ (z : Sizes) (xs : List ℕ) where
               (
                 refl,
                 says-not _,
-                (refl, says-one _ _, (refl, says-less _ _, (refl, says-no-file _, (refl, says-itself _, tt)))),
+                (refl, says-one _ _, (refl, says-less _ _, (refl, says-no-file _, tt))),
               ),
             ),
           ),
@@ -316,7 +253,7 @@ module _ (z : Sizes) (xs : List ℕ) where
   unfolding helperLines
   helper-lines L helper receiver held output =
       lines-say (helperLines z xs L helper receiver held output) (helperClaims z xs L helper receiver held output)
-      (refl, says-not _, (refl, says-less _ _, (refl, says-not _, (refl, says-not _, (refl, says-one _ _, (refl, says-less _ _, (refl, says-itself _, tt)))))))
+      (refl, says-not _, (refl, says-less _ _, (refl, says-not _, (refl, says-not _, (refl, says-one _ _, (refl, says-less _ _, tt))))))
 
   exchange-lines : (L board : ℕ) (helpers packets : List ℕ) (receiver : ℕ) (output : List ℕ)
       → LinesSay (exchangeLines z xs L board helpers packets receiver output) (exchangeClaims z xs L board helpers packets receiver output)
@@ -337,7 +274,7 @@ module _ (z : Sizes) (xs : List ℕ) where
               (
                 refl,
                 says-not _,
-                (refl, says-one _ _, (refl, says-less _ _, (refl, says-itself _, tt))),
+                (refl, says-one _ _, (refl, says-less _ _, tt)),
               ),
             ),
           ),
@@ -363,7 +300,7 @@ module _ (z : Sizes) (xs : List ℕ) where
               (
                 refl,
                 says-not _,
-                (refl, says-two _ _ _ _, (refl, says-less _ _, (refl, says-itself _, tt))),
+                (refl, says-two _ _ _ _, (refl, says-less _ _, tt)),
               ),
             ),
           ),
@@ -404,7 +341,7 @@ module _ (z : Sizes) (xs file boards output : List ℕ) (ok : legal z ≡ true) 
                 ap not (h .2),
                 (
                   ap not (hold-alls (eqb (length held) (z .k * (stripes z (length file) * α z)) ∷ []) (eq-eqb _ _ shares-long, tt)),
-                  (le-ltb _ _ room, (ap (λ (o : Option (List ℕ)). not (given o)) found-file, (read-runs z xs (legal-facts z ok) pts boards (boards-of z boards (h .1) (h .2)), tt))),
+                  (le-ltb _ _ room, (ap (λ (o : Option (List ℕ)). not (given o)) found-file, tt)),
                 ),
               ),
             ),
@@ -430,5 +367,4 @@ demand-1 = record {
   finished-ends = finished-ends;
   text-ends = text-ends;
   file-exact = λ z xs L boards held output pts bh h. (gives z xs L boards held output pts bh h, refuses z xs L boards held output pts bh h);
-  no-points = λ z. (share-unequal z, file-unequal z, helper-unequal z, exchange-unequal z, finished-unequal z, text-unequal z);
 }

@@ -1,20 +1,26 @@
--- Interpolations at the points of different boards: no two points of one of them are equal.
+-- Interpolations at the points of different boards: no two points of one of them are equal. So a call that is not refused meets none.
 -- Assumes nothing.
 use mathlib.Core.Path.{_≡_, refl, ap}
 use mathlib.Core.Bool.{true, false, not}
 use mathlib.Core.List.{List, [], _∷_, _++_, map}
 use Prim.Native.Nat.{ℕ, _+_, _<_}
 use native.Mathlib.Omega.{arith}
-use Rattle.lists.specs.Tests.{different}
+use Rattle.lists.specs.Tests.{different, below}
 use Rattle.lists.specs.Lists.{All, concat}
 use Rattle.lists.proofs.Tests.{all-every, every-all, not-no}
 use Rattle.lists.proofs.Alls.{append-all, all-imp}
 use Rattle.lists.proofs.Boards.{distinct-different}
 use Rattle.sizes.specs.declared.Sizes.{Sizes}
-use Rattle.sizes.proofs.Legal.{Legal}
+use Rattle.sizes.specs.declared.Check.the-variants.{Pass}
+use Rattle.sizes.specs.Refusals.{Line, appliesIn, first, boardOrder}
+use Rattle.sizes.specs.declared.Refusal.the-variants.{Size, Node, Repeat}
+use Rattle.sizes.specs.Sizing.{legal}
+use Rattle.sizes.proofs.Legal.{Legal, legal-facts}
+use Rattle.sizes.proofs.Lines.{first-clear}
 use Rattle.mbcr.specs.Share.{DifferentPoints, points}
-use Rattle.mbcr.proofs.Points.{Boards, neighbours-boards, points-distinct, boards-left}
-use Rattle.board_spec.specs.Calls.{equalPoints, ownRuns, finishRuns, readRuns}
+use Rattle.mbcr.proofs.Points.{Boards, boards-of, neighbours-boards, points-distinct, boards-left}
+use Rattle.board_spec.specs.Calls.{fileLines, helperLines, exchangeLines, finishedLines}
+use Rattle.board_spec.specs.Runs.{equalPoints, ownRuns, exchangeRuns, finishRuns, readRuns, BoardRuns}
 
 -- ---- any points
 
@@ -63,3 +69,55 @@ module _ (z : Sizes) (xs : List ℕ) (legal : Legal z) (pts : DifferentPoints z 
   read-runs boards h =
       unequal-append xs (boards ∷ []) (concat (map (ownRuns z) boards)) (one-run z xs pts boards h)
       (unequal-concat xs (ownRuns z) boards (all-imp (λ j. j < z .n) (λ j. equalPoints xs (ownRuns z j) ≡ false) own-runs boards (h .known)))
+
+-- ---- the calls
+
+-- what SIZE, NODE and REPEAT leave
+pub legal-of : (z : Sizes) → not (legal z) ≡ false → Legal z
+legal-of z h = legal-facts z (not-no (legal z) h)
+
+pub named : (z : Sizes) (boards : List ℕ) → not (below (z .n) boards) ≡ false → not (different boards) ≡ false → Boards z boards
+named z boards h k = boards-of z boards (not-no _ h) (not-no _ k)
+
+-- the lines that these proofs ask
+record Passed (lines : List Line) : Type 0 where
+  size : appliesIn lines Size ≡ false
+  node : appliesIn lines Node ≡ false
+  repeat : appliesIn lines Repeat ≡ false
+
+passed : (lines : List Line) → first boardOrder lines ≡ Pass → Passed lines
+passed lines h = let e = first-clear lines boardOrder h in record { size = e .0; node = e .1 .1 .1 .0; repeat = e .1 .1 .1 .1 .0 }
+
+module _ (z : Sizes) (xs : List ℕ) (L : ℕ) where
+  file-apart : (boards held output : List ℕ) → DifferentPoints z xs
+      → first boardOrder (fileLines z xs L boards held output) ≡ Pass → equalPoints xs (readRuns z boards) ≡ false
+  unfolding fileLines
+  file-apart boards held output pts h =
+      let p = passed (fileLines z xs L boards held output) h in
+      read-runs z xs (legal-of z (p .size)) pts boards (named z boards (p .node) (p .repeat))
+
+  helper-apart : (helper receiver : ℕ) (held output : List ℕ) → DifferentPoints z xs
+      → first boardOrder (helperLines z xs L helper receiver held output) ≡ Pass → equalPoints xs (ownRuns z helper) ≡ false
+  unfolding helperLines
+  helper-apart helper receiver held output pts h =
+      let p = passed (helperLines z xs L helper receiver held output) h in
+      own-runs z xs (legal-of z (p .size)) pts helper (named z (helper ∷ receiver ∷ []) (p .node) (p .repeat) .known .0)
+
+  exchange-apart : (board : ℕ) (helpers packets : List ℕ) (receiver : ℕ) (output : List ℕ) → DifferentPoints z xs
+      → first boardOrder (exchangeLines z xs L board helpers packets receiver output) ≡ Pass → equalPoints xs (exchangeRuns helpers) ≡ false
+  unfolding exchangeLines
+  exchange-apart board helpers packets receiver output pts h =
+      let p = passed (exchangeLines z xs L board helpers packets receiver output) h in
+      let b = named z (board ∷ receiver ∷ helpers) (p .node) (p .repeat) in
+      one-run z xs pts helpers (record { known = b .known .1 .1; once = b .once .1 .1 })
+
+  finished-apart : (board : ℕ) (helpers packets partners exchanges output : List ℕ) → DifferentPoints z xs
+      → first boardOrder (finishedLines z xs L board helpers packets partners exchanges output) ≡ Pass
+      → equalPoints xs (finishRuns board helpers partners) ≡ false
+  unfolding finishedLines
+  finished-apart board helpers packets partners exchanges output pts h =
+      let p = passed (finishedLines z xs L board helpers packets partners exchanges output) h in
+      finish-runs z xs pts board helpers partners (named z (helpers ++ partners ++ (board ∷ [])) (p .node) (p .repeat))
+
+pub board-runs : BoardRuns
+board-runs = record { file-apart = file-apart; helper-apart = helper-apart; exchange-apart = exchange-apart; finished-apart = finished-apart }

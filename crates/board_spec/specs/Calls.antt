@@ -3,20 +3,20 @@
 -- Assumes nothing.
 use mathlib.Core.Bool.{Bool, not}
 use mathlib.Core.Option.{Option, some, none}
-use mathlib.Core.List.{List, [], _∷_, _++_, map}
+use mathlib.Core.List.{List, [], _∷_, _++_}
 use Prim.Native.Nat.{ℕ, _+_, _*_, _-_}
 use lib.Dec.{ltb, eqb}
 use lib.ListN.{length}
-use Rattle.lists.specs.Tests.{every, alls, below, different, given}
-use Rattle.lists.specs.Lists.{concat, over}
+use Rattle.lists.specs.Tests.{alls, below, different, given}
+use Rattle.lists.specs.Lists.{over}
 use Rattle.sizes.specs.declared.Sizes.{Sizes}
-use Rattle.sizes.specs.declared.Refusal.the-variants.{Size, Area, Long, Count, Node, Repeat, Short, Disagree, Points}
+use Rattle.sizes.specs.declared.Refusal.the-variants.{Size, Area, Long, Count, Node, Repeat, Short, Disagree}
 use Rattle.sizes.specs.declared.Check.{Check}
 use Rattle.sizes.specs.declared.Check.the-variants.{Pass, Refuse}
 use Rattle.sizes.specs.declared.Answer.the-variants.{Done, Refused}
 use Rattle.sizes.specs.Sizing.{maxStripes, legal, α, B, stripes}
 use Rattle.sizes.specs.Refusals.{Said, said, Line, _when_, first, boardOrder}
-use Rattle.mbcr.specs.Share.{points, neighbours, share}
+use Rattle.mbcr.specs.Share.{share}
 use Rattle.mbcr.specs.Rebuild.{helperPacket, exchangePacket, finishedShare}
 use Rattle.mbcr.specs.Read.{readFile}
 use Rattle.board_spec.specs.Text.{shareText}
@@ -36,22 +36,6 @@ settled Pass bytes output = record { answer = said (Done (length bytes)); output
 abbrev pub fileOf : Option (List ℕ) → List ℕ
 fileOf none = []
 fileOf (some file) = file
-
--- "two equal points in one interpolation", of interpolations at the points of these boards
-abbrev pub equalPoints : List ℕ → List (List ℕ) → Bool
-equalPoints xs runs = not (every (λ boards. different (points xs boards)) runs)
-
--- the boards at whose points f_j and g_j are found from what board j keeps
-abbrev pub ownRuns : Sizes → ℕ → List (List ℕ)
-ownRuns z j = neighbours z j (z .d + z .r) ∷ neighbours z j (z .d) ∷ []
-
--- those at whose points g_i and f_i are found from packets
-abbrev pub finishRuns : ℕ → List ℕ → List ℕ → List (List ℕ)
-finishRuns i helpers partners = helpers ∷ (helpers ++ partners ++ (i ∷ [])) ∷ []
-
--- those at whose points a file is found from shares
-abbrev pub readRuns : Sizes → List ℕ → List (List ℕ)
-readRuns z boards = boards ∷ concat (map (ownRuns z) boards)
 
 -- "1 SIZE: sizes not legal"
 abbrev pub sizeLine : Sizes → Line
@@ -107,7 +91,6 @@ module _ (z : Sizes) (xs : List ℕ) where
       ∷ areaLine (eqb (length held) (k * (stripes z L * α z)) ∷ [])
       ∷ shortLine output L
       ∷ Disagree when not (given (readFile z xs L boards held))
-      ∷ Points when equalPoints xs (readRuns z boards)
       ∷ []
 
   unfoldable pub fileCall : ℕ → List ℕ → List ℕ → List ℕ → BoardOutcome
@@ -122,7 +105,6 @@ module _ (z : Sizes) (xs : List ℕ) where
       ∷ repeatLine (helper ∷ receiver ∷ [])
       ∷ areaLine (eqb (length held) (stripes z L * α z) ∷ [])
       ∷ shortLine output (2 * stripes z L)
-      ∷ Points when equalPoints xs (ownRuns z helper)
       ∷ []
 
   unfoldable pub helperCall : ℕ → ℕ → ℕ → List ℕ → List ℕ → BoardOutcome
@@ -139,7 +121,6 @@ module _ (z : Sizes) (xs : List ℕ) where
       ∷ repeatLine (board ∷ receiver ∷ helpers)
       ∷ areaLine (eqb (length packets) (d * (2 * stripes z L)) ∷ [])
       ∷ shortLine output (stripes z L)
-      ∷ Points when equalPoints xs (helpers ∷ [])
       ∷ []
 
   unfoldable pub exchangeCall : ℕ → ℕ → List ℕ → List ℕ → ℕ → List ℕ → BoardOutcome
@@ -156,7 +137,6 @@ module _ (z : Sizes) (xs : List ℕ) where
       ∷ repeatLine (helpers ++ partners ++ (board ∷ []))
       ∷ areaLine (eqb (length packets) (d * (2 * stripes z L)) ∷ eqb (length exchanges) ((r - 1) * stripes z L) ∷ [])
       ∷ shortLine output (stripes z L * α z)
-      ∷ Points when equalPoints xs (finishRuns board helpers partners)
       ∷ []
 
   unfoldable pub finishedCall : ℕ → ℕ → List ℕ → List ℕ → List ℕ → List ℕ → List ℕ → BoardOutcome

@@ -13,18 +13,18 @@ use Rattle.lists.specs.Tests.{pick, below, different}
 use Rattle.lists.specs.Lists.{All, Bytes, over}
 use Rattle.sizes.specs.declared.Sizes.{Sizes}
 use Rattle.sizes.specs.declared.Refusal.{Refusal}
-use Rattle.sizes.specs.declared.Refusal.the-variants.{Size, Area, Long, Count, Node, Repeat, Short, Disagree, Points}
+use Rattle.sizes.specs.declared.Refusal.the-variants.{Size, Area, Long, Count, Node, Repeat, Short, Disagree}
 use Rattle.sizes.specs.declared.Answer.the-variants.{Done, Refused}
 use Rattle.sizes.specs.Refusals.{said, Line, appliesIn, boardOrder}
 use Rattle.sizes.specs.Laws.{First}
-use Rattle.mbcr.specs.Share.{standard, DifferentPoints, share, shares}
+use Rattle.mbcr.specs.Share.{DifferentPoints, share, shares}
 use Rattle.mbcr.specs.Rebuild.{helperPacket, exchangePacket, finishedShare}
 use Rattle.mbcr.specs.Read.{readFile}
 use Rattle.mbcr.specs.Demand2.{Named}
 use Rattle.sizes.specs.Sizing.{maxStripes, legal, α, B, stripes}
 use Rattle.board_spec.specs.Claims.{Claim, _means_, LinesSay}
 use Rattle.board_spec.specs.Text.{decimal, hexPair, shareText}
-use Rattle.board_spec.specs.Calls.{BoardOutcome, fileOf, equalPoints, ownRuns, finishRuns, readRuns, shareLines, shareCall, fileLines, fileCall, helperLines, helperCall}
+use Rattle.board_spec.specs.Calls.{BoardOutcome, fileOf, shareLines, shareCall, fileLines, fileCall, helperLines, helperCall}
 use Rattle.board_spec.specs.Calls.{exchangeLines, exchangeCall, finishedLines, finishedCall, textLines, textCall}
 
 -- one call: its lines, its output as it came, the bytes that it writes where it does its work, and its outcome
@@ -57,7 +57,6 @@ module _ (z : Sizes) (xs : List ℕ) where
       ∷ Area means (length held ≢ z .k * (stripes z L * α z))
       ∷ Short means (length output < L)
       ∷ Disagree means (readFile z xs L boards held ≡ none)
-      ∷ Points means (equalPoints xs (readRuns z boards) ≡ true)
       ∷ []
 
   abbrev pub helperClaims : ℕ → ℕ → ℕ → List ℕ → List ℕ → List Claim
@@ -68,7 +67,6 @@ module _ (z : Sizes) (xs : List ℕ) where
       ∷ Repeat means (different (helper ∷ receiver ∷ []) ≡ false)
       ∷ Area means (length held ≢ stripes z L * α z)
       ∷ Short means (length output < 2 * stripes z L)
-      ∷ Points means (equalPoints xs (ownRuns z helper) ≡ true)
       ∷ []
 
   abbrev pub exchangeClaims : ℕ → ℕ → List ℕ → List ℕ → ℕ → List ℕ → List Claim
@@ -80,7 +78,6 @@ module _ (z : Sizes) (xs : List ℕ) where
       ∷ Repeat means (different (board ∷ receiver ∷ helpers) ≡ false)
       ∷ Area means (length packets ≢ z .d * (2 * stripes z L))
       ∷ Short means (length output < stripes z L)
-      ∷ Points means (equalPoints xs (helpers ∷ []) ≡ true)
       ∷ []
 
   abbrev pub finishedClaims : ℕ → ℕ → List ℕ → List ℕ → List ℕ → List ℕ → List ℕ → List Claim
@@ -92,7 +89,6 @@ module _ (z : Sizes) (xs : List ℕ) where
       ∷ Repeat means (different (helpers ++ partners ++ (board ∷ [])) ≡ false)
       ∷ Area means ((length packets ≡ z .d * (2 * stripes z L)) × (length exchanges ≡ (z .r - 1) * stripes z L) → ⊥)
       ∷ Short means (length output < stripes z L * α z)
-      ∷ Points means (equalPoints xs (finishRuns board helpers partners) ≡ true)
       ∷ []
 
   abbrev pub textClaims : ℕ → ℕ → List ℕ → List ℕ → List Claim
@@ -144,14 +140,6 @@ pub record BoardCalls : Type 0 where
       → (fileCall z xs L boards held output ≡ record { answer = said (Done L); output = over file output }) ↔ (shares z xs file boards ≡ held))
       × ((fileCall z xs L boards held output ≡ record { answer = said (Refused Disagree); output = output })
       ↔ ((file : List ℕ) → length file ≡ L → Bytes file → shares z xs file boards ≡ held → ⊥))
-  -- with document 01's points no call answers 11 POINTS, on any input
-  pub no-points : (z : Sizes) →
-      ((node : ℕ) (file output : List ℕ) → shareCall z standard node file output .answer .refusal ≢ 11)
-      × ((L : ℕ) (boards held output : List ℕ) → fileCall z standard L boards held output .answer .refusal ≢ 11)
-      × ((L helper receiver : ℕ) (held output : List ℕ) → helperCall z standard L helper receiver held output .answer .refusal ≢ 11)
-      × ((L board : ℕ) (helpers packets : List ℕ) (receiver : ℕ) (output : List ℕ) → exchangeCall z standard L board helpers packets receiver output .answer .refusal ≢ 11)
-      × ((L board : ℕ) (helpers packets partners exchanges output : List ℕ) → finishedCall z standard L board helpers packets partners exchanges output .answer .refusal ≢ 11)
-      × ((L node : ℕ) (held output : List ℕ) → textCall z standard L node held output .answer .refusal ≢ 11)
 
 -- the number that decimal digits spell, after the number v
 abbrev pub value : List ℕ → ℕ → ℕ

@@ -12,7 +12,8 @@ use Rattle.sizes.specs.Sizing.{legal, stripes}
 use Rattle.sizes.specs.Refusals.{said}
 use Rattle.mbcr.specs.Share.{standard, share, shares}
 use Rattle.board_spec.specs.Text.{shareText}
-use Rattle.board_spec.specs.Calls.{BoardOutcome, ownRuns, finishRuns, readRuns, shareCall, fileCall, helperCall, exchangeCall, finishedCall, textCall}
+use Rattle.board_spec.specs.Runs.{equalPoints, ownRuns, exchangeRuns, finishRuns, readRuns}
+use Rattle.board_spec.specs.Calls.{BoardOutcome, shareCall, fileCall, helperCall, exchangeCall, finishedCall, textCall}
 
 abbrev sizes : ℕ → ℕ → ℕ → ℕ → Sizes
 sizes n k d r = record { n = n; k = k; d = d; r = r }
@@ -176,34 +177,25 @@ pub record BoardFigures : Type 0 where
   pub stripe-counts : map (stripes five) (0 ∷ 1 ∷ 12 ∷ 13 ∷ 24 ∷ 25 ∷ []) ≡ 0 ∷ 1 ∷ 1 ∷ 2 ∷ 2 ∷ 3 ∷ []
   -- "L may be 0 to 4,096 × B": 4,096 × 12 is not LONG, one more is
   pub longest : answers (fileCall five standard 49152 [] [] [] ∷ fileCall five standard 49153 [] [] [] ∷ []) ≡ 4 ∷ 3 ∷ []
-  -- 11 POINTS, where two boards have the same point
-  pub points-refusals :
-      answers
-      (fileCall five (replicate 32 7) 12 (0 ∷ 1 ∷ []) (replicate 14 0) (replicate 12 0)
-      ∷ helperCall five (replicate 32 7) 12 2 0 (replicate 7 0) (0 ∷ 0 ∷ [])
-      ∷ exchangeCall five (replicate 32 7) 12 0 (2 ∷ 3 ∷ 4 ∷ []) (replicate 6 0) 1 (0 ∷ [])
-      ∷ finishedCall five (replicate 32 7) 12 0 (2 ∷ 3 ∷ 4 ∷ []) (replicate 6 0) (1 ∷ []) (0 ∷ []) (replicate 7 0)
-      ∷ [])
-      ≡ 11 ∷ 11 ∷ 11 ∷ 11 ∷ []
   -- the boards at whose points each call interpolates, of n=7, k=2, d=3, r=2: for f and g of what board 5 keeps; for g and f of board 1 from the
-  -- packets of boards 6, 4, 2 and of its partner 0; for a file from boards 6 and 3
+  -- packets of boards 6, 4, 2 and of its partner 0, and for g alone; for a file from boards 6 and 3
   pub own-runs : ownRuns seven 5 ≡ (5 ∷ 6 ∷ 0 ∷ 1 ∷ 2 ∷ []) ∷ (5 ∷ 6 ∷ 0 ∷ []) ∷ []
   pub finish-runs : finishRuns 1 (6 ∷ 4 ∷ 2 ∷ []) (0 ∷ []) ≡ (6 ∷ 4 ∷ 2 ∷ []) ∷ (6 ∷ 4 ∷ 2 ∷ 0 ∷ 1 ∷ []) ∷ []
+  pub exchange-runs : exchangeRuns (6 ∷ 4 ∷ 2 ∷ []) ≡ (6 ∷ 4 ∷ 2 ∷ []) ∷ []
   pub read-runs : readRuns seven (6 ∷ 3 ∷ [])
       ≡ (6 ∷ 3 ∷ []) ∷ (6 ∷ 0 ∷ 1 ∷ 2 ∷ 3 ∷ []) ∷ (6 ∷ 0 ∷ 1 ∷ []) ∷ (3 ∷ 4 ∷ 5 ∷ 6 ∷ 0 ∷ []) ∷ (3 ∷ 4 ∷ 5 ∷ []) ∷ []
-  -- and that each call asks these: 11 where two of its boards have one point, 0 where two others have
-  pub points-asked :
-      answers
-      (helperCall seven (alike 1 2) 12 5 3 (replicate 7 0) (0 ∷ 0 ∷ [])
-      ∷ helperCall seven (alike 3 4) 12 5 3 (replicate 7 0) (0 ∷ 0 ∷ [])
-      ∷ exchangeCall seven (alike 4 2) 12 1 (6 ∷ 4 ∷ 2 ∷ []) (replicate 6 0) 0 (0 ∷ [])
-      ∷ exchangeCall seven (alike 1 0) 12 1 (6 ∷ 4 ∷ 2 ∷ []) (replicate 6 0) 0 (0 ∷ [])
-      ∷ finishedCall seven (alike 0 1) 12 1 (6 ∷ 4 ∷ 2 ∷ []) (replicate 6 0) (0 ∷ []) (0 ∷ []) (replicate 7 0)
-      ∷ finishedCall seven (alike 3 5) 12 1 (6 ∷ 4 ∷ 2 ∷ []) (replicate 6 0) (0 ∷ []) (0 ∷ []) (replicate 7 0)
-      ∷ fileCall seven (alike 4 5) 12 (6 ∷ 3 ∷ []) (replicate 14 0) (replicate 12 0)
-      ∷ fileCall seven (alike 1 4) 12 (6 ∷ 3 ∷ []) (replicate 14 0) (replicate 12 0)
-      ∷ [])
-      ≡ 11 ∷ 0 ∷ 11 ∷ 0 ∷ 11 ∷ 0 ∷ 11 ∷ 0 ∷ []
+  -- two of these boards with one point are equal points, two others are not
+  pub equal-points :
+      equalPoints (alike 1 2) (ownRuns seven 5)
+      ∷ equalPoints (alike 3 4) (ownRuns seven 5)
+      ∷ equalPoints (alike 4 2) (exchangeRuns (6 ∷ 4 ∷ 2 ∷ []))
+      ∷ equalPoints (alike 1 0) (exchangeRuns (6 ∷ 4 ∷ 2 ∷ []))
+      ∷ equalPoints (alike 0 1) (finishRuns 1 (6 ∷ 4 ∷ 2 ∷ []) (0 ∷ []))
+      ∷ equalPoints (alike 3 5) (finishRuns 1 (6 ∷ 4 ∷ 2 ∷ []) (0 ∷ []))
+      ∷ equalPoints (alike 4 5) (readRuns seven (6 ∷ 3 ∷ []))
+      ∷ equalPoints (alike 1 4) (readRuns seven (6 ∷ 3 ∷ []))
+      ∷ []
+      ≡ true ∷ false ∷ true ∷ false ∷ true ∷ false ∷ true ∷ false ∷ []
   -- two stripes, the last filled up with 00, and output just long enough: shares, a packet stripe by stripe, an exchange packet
   pub two-stripes : map (λ i. shareCall small standard i (0x05 ∷ 0x03 ∷ 0x07 ∷ []) (replicate 4 0xEE)) (0 ∷ 1 ∷ [])
       ≡ record { answer = record { refusal = 0; reported = 4 }; output = 0x05 ∷ 0x06 ∷ 0x07 ∷ 0x07 ∷ [] }

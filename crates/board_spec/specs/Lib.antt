@@ -2,4 +2,5 @@ pub mod Text
 pub mod Calls
 pub mod Claims
 pub mod Demand1
+pub mod Runs
 pub mod Figures

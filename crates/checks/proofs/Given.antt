@@ -1,24 +1,15 @@
--- Lines in the order in which a call tests them; that the bytes of shares and packets are few; and that POINTS is never given.
+-- Lines in the order in which a call tests them; and that the bytes of shares and packets are few.
 -- Assumes nothing.
 use Prim.Native.Nat.{ℕ, _*_, _≤_}
-use mathlib.Core.Path.{_≡_, refl, sym, ap, subst, _∙_}
-use mathlib.Core.Bool.{Bool, true, not}
+use mathlib.Core.Path.{_≡_, refl, _∙_}
+use mathlib.Core.Bool.{Bool, true}
 use mathlib.Core.List.{List, [], _∷_}
 use native.Mathlib.Omega.{arith}
 use native.Mathlib.Nat.{mul-le-mul-right}
-use lib.ListN.{take, drop, take-append-drop}
-use Rattle.lists.specs.Tests.{pick, different}
-use Rattle.lists.proofs.Tests.{true-false}
-use Rattle.lists.proofs.Alls.{Distinct, distinct-left}
-use Rattle.lists.proofs.Boards.{distinct, distinct-different}
-use Rattle.sizes.specs.declared.Refusal.{Refusal}
-use Rattle.sizes.specs.declared.Refusal.the-variants.{Points}
+use Rattle.lists.specs.Tests.{pick}
 use Rattle.sizes.specs.declared.Check.{Check}
 use Rattle.sizes.specs.declared.Check.the-variants.{Pass, Refuse}
-use Rattle.sizes.specs.Refusals.{Line, _when_}
-use Rattle.mbcr.specs.Share.{standard}
-use Rattle.checks.specs.Steps.{asked}
-use Rattle.checks.proofs.Answers.{refused}
+use Rattle.sizes.specs.Refusals.{Line}
 
 -- lines in the order in which a call tests them
 abbrev pub chain : List Line → Check
@@ -34,17 +25,6 @@ few-bytes s q a t h f g k =
     let e : q ≡ a = f ∙ rw g refl in
     let p : s * q ≤ 4096 * q = mul-le-mul-right q h in
     omega arith
-
--- no two of document 01's points are equal, so POINTS is never given
-standard-apart : (n : ℕ) → different (take n standard) ≡ true
-standard-apart n =
-    let all : Distinct standard = distinct standard refl in
-    distinct-different (take n standard) (distinct-left (take n standard) (drop n standard) (subst Distinct (sym (take-append-drop n standard)) all))
-
-pub no-points : (xs : List ℕ) (n : ℕ) (x : Refusal) → xs ≡ standard → asked (Points when not (different (take n xs))) ≡ Refuse x → ⊥
-no-points xs n x e h =
-    let q : not (different (take n xs)) ≡ true = refused (Points when not (different (take n xs))) x h .0 in
-    true-false q (ap (λ (l : List ℕ). not (different (take n l))) e ∙ ap not (standard-apart n))
 
 -- the bytes of the packets of so many boards are few
 pub few-packets : (m s b : ℕ) → m ≤ 32 → s ≤ 4096 → b ≤ 2 → m * (b * s) ≤ 262144

@@ -3,4 +3,3 @@ pub mod Joined
 pub mod Given
 pub mod Chain
 pub mod Facts
-pub mod Points

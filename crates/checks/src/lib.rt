@@ -237,18 +237,6 @@ pub fn check_room(output: &[u8], count: usize) -> Check
     }
 }
 
-// 11 POINTS: whether two of the first n points are equal.
-pub fn check_points(points: &[u8], n: usize) -> Check
-    requires { ⌜ n ≤ length (now points) ⌝ }
-    ensures { λ r. ⌜ r ≡ asked (Refusal.Points when not (different (take n (now (points .entry))))) ⌝ }
-{
-    if board_tests::points_differ(&points[0..n]) {
-        Check::Pass
-    } else {
-        Check::Refuse(Refusal::Points)
-    }
-}
-
 // S of a length that is not LONG.
 pub fn stripe_count(sizes: Sizes, len: usize) -> usize
     requires { ⌜ Stated sizes len ⌝ }

@@ -44,17 +44,5 @@ pub fn check_read(
         return Check::Refuse(short);
     }
     let count = checks::stripe_count(sizes, len);
-    if let Check::Refuse(disagree) = store_decode::check_agrees(
-        sizes,
-        capacity,
-        points,
-        inverses,
-        len,
-        count,
-        boards,
-        area,
-    ) {
-        return Check::Refuse(disagree);
-    }
-    checks::check_points(points, sizes.n)
+    store_decode::check_agrees(sizes, capacity, points, inverses, len, count, boards, area)
 }

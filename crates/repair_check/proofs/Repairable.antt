@@ -1,35 +1,28 @@
 -- What the kernel of a repair asks, from what its check told. And what its single checks told.
 -- Assumes nothing.
 use Prim.Native.Nat.{ℕ, _*_, _≤_, _<_}
-use mathlib.Core.Path.{_≡_, _∙_}
-use mathlib.Core.Bool.{true, not}
+use mathlib.Core.Path.{_≡_}
+use mathlib.Core.Bool.{true}
 use mathlib.Core.List.{List, [], _∷_, _++_}
 use native.Mathlib.Nat.{mul-le-mul}
 use native.Mathlib.Omega.{arith}
 use lib.Dec.{eqb}
-use lib.ListN.{length, take}
+use lib.ListN.{length}
 use borrow.Author.Tests.{eqb-true}
 use Rattle.lists.specs.Tests.{below, different, apart}
 use Rattle.lists.proofs.Alls.{all-left, all-right}
 use Rattle.lists.proofs.Boards.{below-all, all-below}
 use Rattle.lists.proofs.Tests.{not-no, alls-hold}
 use Rattle.sizes.specs.declared.Sizes.{Sizes}
-use Rattle.sizes.specs.declared.Refusal.the-variants.{Points}
 use Rattle.sizes.specs.declared.Check.the-variants.{Pass}
 use Rattle.sizes.specs.Sizing.{legal}
-use Rattle.sizes.specs.Refusals.{_when_}
 use Rattle.sizes.proofs.Legal.{legal-facts}
-use Rattle.mbcr.specs.Share.{standard}
-use Rattle.mbcr.proofs.Points.{standard-points}
-use Rattle.board_spec.specs.Calls.{countLine, nodeLine, equalPoints}
+use Rattle.board_spec.specs.Calls.{countLine}
 use Rattle.store_spec.specs.Record.{Record, areaLen}
-use Rattle.store_spec.specs.Packets.{repairRuns}
 use Rattle.store_spec.proofs.Records.{Repairs}
-use Rattle.store_spec.proofs.StepRepair.{repair-points}
 use Rattle.checks.specs.Steps.{asked}
 use Rattle.checks.proofs.Answers.{passed, passes}
-use Rattle.store_checks.proofs.Repairs.{repeatOf, runsDiffer}
-use Rattle.shared_checks.proofs.Facts.{Ready, ready, points-pass}
+use Rattle.shared_checks.proofs.Facts.{Ready, ready}
 
 pub record Repairable (s : Record) (points : List ℕ) (m : ℕ) (fresh helpers : List ℕ) : Type 0 where
   pub is-ready : Ready s points
@@ -72,16 +65,3 @@ counted z fresh helpers h =
     let tests = eqb (length fresh) (z .r) ∷ eqb (length helpers) (z .r * z .d) ∷ [] in
     let e = alls-hold tests (not-no _ (passed (countLine tests) h)) in
     (eqb-true _ _ (e .0), eqb-true _ _ (e .1 .0))
-
--- what `check_points` answers, as the line of a repair
-pub points-line : (s : Record) (points fresh helpers : List ℕ) → points ≡ standard → legal (s .sizes) ≡ true
-    → asked (nodeLine (s .sizes) (fresh ++ helpers)) ≡ Pass → asked (repeatOf (s .sizes .d) fresh helpers) ≡ Pass
-    → asked (Points when not (different (take (s .sizes .n) points))) ≡ asked (Points when equalPoints standard (repairRuns s fresh helpers))
-points-line s points fresh helpers ep ok node repeat =
-    let f = legal-facts (s .sizes) ok in
-    let known = not-no _ (passed (nodeLine (s .sizes) (fresh ++ helpers)) node) in
-    let tests = different fresh ∷ runsDiffer (s .sizes .d) fresh helpers ∷ apart fresh helpers ∷ [] in
-    let t = alls-hold tests (not-no _ (passed (repeatOf (s .sizes .d) fresh helpers) repeat)) in
-    points-pass points (s .sizes .n) ep
-    ∙ passes (Points when equalPoints standard (repairRuns s fresh helpers))
-    (repair-points standard s fresh helpers ok (standard-points (s .sizes) (f .few)) known (t .0) (t .1 .0) (t .1 .1 .0))

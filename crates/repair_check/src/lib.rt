@@ -1,7 +1,6 @@
 //! The check of a repair: its lines in document 01's order. Each check's answer is taken apart, and a refusal returned early.
 ghost use mathlib.Core.Path.{_≡_};
 ghost use Rattle.sizes.specs.Refusals.{first, storeOrder};
-ghost use Rattle.mbcr.specs.Share.{standard};
 ghost use Rattle.store_spec.specs.Calls.{repairLines};
 ghost use Rattle.store_checks.specs.Steps.{recordOf};
 use sizes::Check;
@@ -14,13 +13,11 @@ pub fn check_repair(
     written: bool,
     len: usize,
     marks: &[bool],
-    points: &[u8],
     lent: usize,
     fresh: &[usize],
     helpers: &[usize],
 ) -> Check
-    requires { ⌜ now points ≡ standard ⌝ }
-    ensures { λ r. ⌜ r ≡ first storeOrder (repairLines standard (recordOf sizes capacity written len (now (marks .entry))) lent (now (fresh .entry)) (now (helpers .entry))) ⌝ }
+    ensures { λ r. ⌜ r ≡ first storeOrder (repairLines (recordOf sizes capacity written len (now (marks .entry))) lent (now (fresh .entry)) (now (helpers .entry))) ⌝ }
 {
     if let Check::Refuse(area) = shared_checks::check_area(
         sizes,
@@ -45,8 +42,5 @@ pub fn check_repair(
     if let Check::Refuse(repeat) = store_checks::check_fresh(sizes.d, fresh, helpers) {
         return Check::Refuse(repeat);
     }
-    if let Check::Refuse(down) = store_checks::check_service(marks, helpers) {
-        return Check::Refuse(down);
-    }
-    checks::check_points(points, sizes.n)
+    store_checks::check_service(marks, helpers)
 }

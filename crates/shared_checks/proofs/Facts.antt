@@ -1,28 +1,25 @@
--- What it says of a call that its shared checks pass: what its kernels ask. And that no two of document 01's points are equal.
+-- What it says of a call that its shared checks pass: what its kernels ask.
 -- Assumes nothing.
 use Prim.Native.Nat.{ℕ, _*_, _≤_}
-use mathlib.Core.Path.{_≡_, refl, ap}
-use mathlib.Core.Bool.{Bool, true, false, not}
+use mathlib.Core.Path.{_≡_, ap}
+use mathlib.Core.Bool.{Bool, true, false}
 use mathlib.Core.List.{List}
 use native.Mathlib.Nat.{mul-le-mul-right}
 use native.Mathlib.Omega.{arith}
-use lib.ListN.{length, getD, take}
+use lib.ListN.{length, getD}
 use borrow.Author.Tests.{eqb-true}
 use Rattle.lists.specs.Tests.{every, below, different}
 use Rattle.lists.proofs.Tests.{not-no}
 use Rattle.sizes.specs.declared.Sizes.{Sizes}
-use Rattle.sizes.specs.declared.Refusal.the-variants.{Points}
-use Rattle.sizes.specs.declared.Check.{Check}
-use Rattle.sizes.specs.declared.Check.the-variants.{Pass, Refuse}
+use Rattle.sizes.specs.declared.Check.the-variants.{Pass}
 use Rattle.sizes.specs.Sizing.{B, stripes}
-use Rattle.sizes.specs.Refusals.{_when_, first, storeOrder}
+use Rattle.sizes.specs.Refusals.{first, storeOrder}
 use Rattle.sizes.proofs.Legal.{legal-facts, stripes-least}
 use Rattle.sizes.proofs.Lines.{first-clear}
 use Rattle.mbcr.specs.Share.{standard}
 use Rattle.store_spec.specs.Record.{Record, sound, areaLen}
 use Rattle.store_spec.proofs.Records.{sound-facts}
-use Rattle.checks.specs.Steps.{asked, Stated}
-use Rattle.checks.proofs.Given.{no-points}
+use Rattle.checks.specs.Steps.{Stated}
 use Rattle.shared_checks.specs.Steps.{areaLines, boardLines}
 
 pub record Lent (s : Record) (m : ℕ) : Type 0 where
@@ -71,11 +68,3 @@ ready s points enough h =
 -- document 01's points are as many
 pub standard-enough : (points : List ℕ) → points ≡ standard → 32 ≤ length points
 standard-enough points e = let l : length points ≡ 32 = ap length e in omega (arith, l)
-
--- `check_points` passes
-pub points-pass : (points : List ℕ) (n : ℕ) → points ≡ standard → asked (Points when not (different (take n points))) ≡ Pass
-points-pass points n ep = go (asked (Points when not (different (take n points)))) refl
-  where
-    go : (c : Check) → asked (Points when not (different (take n points))) ≡ c → c ≡ Pass
-    go Pass e = refl
-    go (Refuse x) e = absurd (no-points points n x ep e)

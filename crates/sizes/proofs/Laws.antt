@@ -2,12 +2,13 @@
 -- Assumes nothing.
 use mathlib.Core.Path.{_≡_, refl, sym, _∙_, ap}
 use mathlib.Core.Bool.{true, false}
+use mathlib.Core.Logic.{_≢_}
 use mathlib.Core.List.{List, [], _∷_}
 use Prim.Native.Nat.{ℕ, _≤_}
 use native.Mathlib.Omega.{arith}
 use Rattle.sizes.specs.declared.Sizes.{Sizes}
 use Rattle.sizes.specs.declared.Refusal.{Refusal}
-use Rattle.sizes.specs.declared.Refusal.the-variants.{Size, Area, Long, Count, Node, Repeat, Short, Empty, Down, Disagree, Points}
+use Rattle.sizes.specs.declared.Refusal.the-variants.{Size, Area, Long, Count, Node, Repeat, Short, Empty, Down, Disagree}
 use Rattle.sizes.specs.declared.Answer.{Answer}
 use Rattle.sizes.specs.declared.Answer.the-variants.{Done, Refused}
 use Rattle.sizes.specs.Refusals.{number, Said, said}
@@ -17,7 +18,7 @@ use Rattle.sizes.proofs.Lines.{first-clear, clear-first, first-refuse, 
 
 -- a refusal by its number
 named : ℕ → Refusal
-named n = lib.ListN.getD (Size ∷ Area ∷ Long ∷ Count ∷ Node ∷ Repeat ∷ Short ∷ Empty ∷ Down ∷ Disagree ∷ Points ∷ []) (Prim.Native.Nat._-_ n 1) Size
+named n = lib.ListN.getD (Size ∷ Area ∷ Long ∷ Count ∷ Node ∷ Repeat ∷ Short ∷ Empty ∷ Down ∷ Disagree ∷ []) (Prim.Native.Nat._-_ n 1) Size
 
 named-number : (x : Refusal) → named (number x) ≡ x
 unfolding named
@@ -31,7 +32,6 @@ named-number Short = refl
 named-number Empty = refl
 named-number Down = refl
 named-number Disagree = refl
-named-number Points = refl
 
 pub numbers-differ : (x y : Refusal) → number x ≡ number y → x ≡ y
 numbers-differ x y e = sym (named-number x) ∙ ap named e ∙ named-number y
@@ -47,7 +47,18 @@ number-low Short = omega arith
 number-low Empty = omega arith
 number-low Down = omega arith
 number-low Disagree = omega arith
-number-low Points = omega arith
+
+pub never-eleven : (x : Refusal) → number x ≢ 11
+never-eleven Size e = omega (arith, e)
+never-eleven Area e = omega (arith, e)
+never-eleven Long e = omega (arith, e)
+never-eleven Count e = omega (arith, e)
+never-eleven Node e = omega (arith, e)
+never-eleven Repeat e = omega (arith, e)
+never-eleven Short e = omega (arith, e)
+never-eleven Empty e = omega (arith, e)
+never-eleven Down e = omega (arith, e)
+never-eleven Disagree e = omega (arith, e)
 
 answers-differ : (a b : Answer) → said a ≡ said b → a ≡ b
 answers-differ (Done v) (Done w) e = ap Done (ap (λ (s : Said). s .reported) e)
@@ -66,6 +77,7 @@ laws = record {
   stripes-least = λ z h. stripes-least z (legal-facts z h);
   stripes-none = λ z h. stripes-none z (legal-facts z h);
   numbers-differ = numbers-differ;
+  never-eleven = never-eleven;
   answers-differ = answers-differ;
   store-order = refl;
   board-order = refl;

@@ -2,7 +2,7 @@
 -- Assumes nothing.
 use mathlib.Core.Path.{_≡_}
 use mathlib.Core.Bool.{true, false}
-use mathlib.Core.Logic.{_↔_}
+use mathlib.Core.Logic.{_≢_, _↔_}
 use mathlib.Core.List.{List, [], _∷_, _++_, map}
 use Prim.Native.Nat.{ℕ, _+_, _*_, _≤_}
 use Rattle.lists.specs.Lists.{All}
@@ -31,10 +31,12 @@ pub record SizesAndRefusals : Type 0 where
   pub stripes-none : (z : Sizes) → legal z ≡ true → stripes z 0 ≡ 0
   -- two refusals never share a number, nor two answers what they say
   pub numbers-differ : (x y : Refusal) → number x ≡ number y → x ≡ y
+  -- request A.5: "the number is never given again"
+  pub never-eleven : (x : Refusal) → number x ≢ 11
   pub answers-differ : (a b : Answer) → said a ≡ said b → a ≡ b
   -- the two orders, by number
-  pub store-order : map number storeOrder ≡ 1 ∷ 2 ∷ 3 ∷ 8 ∷ 4 ∷ 5 ∷ 6 ∷ 9 ∷ 7 ∷ 10 ∷ 11 ∷ []
-  pub board-order : map number boardOrder ≡ 1 ∷ 3 ∷ 4 ∷ 5 ∷ 6 ∷ 2 ∷ 7 ∷ 10 ∷ 11 ∷ []
+  pub store-order : map number storeOrder ≡ 1 ∷ 2 ∷ 3 ∷ 8 ∷ 4 ∷ 5 ∷ 6 ∷ 9 ∷ 7 ∷ 10 ∷ []
+  pub board-order : map number boardOrder ≡ 1 ∷ 3 ∷ 4 ∷ 5 ∷ 6 ∷ 2 ∷ 7 ∷ 10 ∷ []
   -- "The first that applies is given." "A number is given only where its line holds; otherwise the call does its work."
   pub refuse-is : (order : List Refusal) (lines : List Line) (x : Refusal) → (first order lines ≡ Refuse x) ↔ First order lines x
   pub pass-is : (order : List Refusal) (lines : List Line) → (first order lines ≡ Pass) ↔ All (λ y. appliesIn lines y ≡ false) order

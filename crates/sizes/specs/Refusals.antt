@@ -6,12 +6,13 @@ use Prim.Native.Nat.{ℕ}
 use lib.Dec.{eqb}
 use Rattle.lists.specs.Tests.{pick}
 use Rattle.sizes.specs.declared.Refusal.{Refusal}
-use Rattle.sizes.specs.declared.Refusal.the-variants.{Size, Area, Long, Count, Node, Repeat, Short, Empty, Down, Disagree, Points}
+use Rattle.sizes.specs.declared.Refusal.the-variants.{Size, Area, Long, Count, Node, Repeat, Short, Empty, Down, Disagree}
 use Rattle.sizes.specs.declared.Check.{Check}
 use Rattle.sizes.specs.declared.Check.the-variants.{Pass, Refuse}
 use Rattle.sizes.specs.declared.Answer.{Answer}
 use Rattle.sizes.specs.declared.Answer.the-variants.{Done, Refused}
 
+-- 11 is not used: request A.5 took POINTS, "two equal points in one interpolation", out
 abbrev pub number : Refusal → ℕ
 number Size = 1
 number Area = 2
@@ -23,7 +24,6 @@ number Short = 7
 number Empty = 8
 number Down = 9
 number Disagree = 10
-number Points = 11
 
 -- what an answer says: the refusal's number, 0 where it is accepted; and the number reported, 0 where it is refused
 pub record Said : Type 0 where
@@ -53,10 +53,10 @@ abbrev pub first : List Refusal → List Line → Check
 first [] lines = Pass
 first (x ∷ order) lines = pick (appliesIn lines x) (Refuse x) (first order lines)
 
--- "Store: 1, 2, 3, 8, 4, 5, 6, 9, 7, 10, 11."
+-- "Store: 1, 2, 3, 8, 4, 5, 6, 9, 7, 10"
 abbrev pub storeOrder : List Refusal
-storeOrder = Size ∷ Area ∷ Long ∷ Empty ∷ Count ∷ Node ∷ Repeat ∷ Down ∷ Short ∷ Disagree ∷ Points ∷ []
+storeOrder = Size ∷ Area ∷ Long ∷ Empty ∷ Count ∷ Node ∷ Repeat ∷ Down ∷ Short ∷ Disagree ∷ []
 
--- "Board level: 1, 3, 4, 5, 6, 2, 7, 10, 11."
+-- "Board level: 1, 3, 4, 5, 6, 2, 7, 10"
 abbrev pub boardOrder : List Refusal
-boardOrder = Size ∷ Long ∷ Count ∷ Node ∷ Repeat ∷ Area ∷ Short ∷ Disagree ∷ Points ∷ []
+boardOrder = Size ∷ Long ∷ Count ∷ Node ∷ Repeat ∷ Area ∷ Short ∷ Disagree ∷ []

@@ -24,7 +24,7 @@ use Rattle.store.proofs.Settled.{refused-by, done-by}
 
 module _ (xs : List ℕ) (s : Record) (area fresh helpers : List ℕ) where
   abbrev pub checked : Check
-  checked = first storeOrder (repairLines xs s (length area) fresh helpers)
+  checked = first storeOrder (repairLines s (length area) fresh helpers)
 
   pub repair-refuses : {r : Check} {x : Refusal} → r ≡ checked → r ≡ Refuse x → refused s area [] x ≡ repairCall xs s area fresh helpers
   unfolding repairCall
@@ -49,7 +49,7 @@ module _ (xs : List ℕ) (s : Record) (area fresh helpers : List ℕ) where
       → moved ≡ bytes count → marks ≡ turnOn fresh (s .marks) → after ≡ restored points count → mended moved marks after ≡ repairCall xs s area fresh helpers
   unfolding repairCall
   repair-works points after marks count moved p ep ec eb em ea =
-      let f = repair-facts xs s (length area) fresh helpers p in
+      let f = repair-facts s (length area) fresh helpers p in
       let legal = sound-facts s (f .is-sound) .is-legal in
       let done = repairDone xs s area fresh helpers in
       let d = done-by (refused s area []) done p in

@@ -132,20 +132,19 @@ impl Store {
         let written = self.written;
         let length = self.length;
         let mut marks = self.marks;
-        let points = checks::standard_points();
         if let Check::Refuse(x) = repair_check::check_repair(
             sizes,
             capacity,
             written,
             length,
             &marks,
-            &points,
             area.len(),
             fresh,
             helpers,
         ) {
             return refuse(self, x);
         }
+        let points = checks::standard_points();
         let mut inverses = [0u8; 256];
         interpolation::fill_inverses(&mut inverses);
         let stripes = checks::stripe_count(sizes, length);

@@ -1,44 +1,40 @@
 -- Demand 1 of the store holds.
 -- Assumes nothing.
-use Prim.Native.Nat.{ℕ, suc, _+_, _-_, _*_, _≤_, _<_}
+use Prim.Native.Nat.{ℕ, suc, _+_, _*_, _≤_, _<_}
 use mathlib.Core.Path.{_≡_, refl, sym, _∙_, ap, subst}
 use mathlib.Core.Bool.{Bool, true, false, not}
-use mathlib.Core.Logic.{_≢_, _↔_, _⊎_, inl, inr}
+use mathlib.Core.Logic.{_↔_}
 use mathlib.Core.List.{List, [], _∷_, _++_}
-use mathlib.Core.Option.{Option, some, none}
 use native.Mathlib.Omega.{arith}
-use lib.ListN.{length, drop, take, getD, replicate, length-take, length-drop}
-use lib.Seq.{take-at, length-take-le}
+use lib.ListN.{length, drop, take, getD, replicate}
 use lib.Dec.{eqb}
-use borrow.Author.Tests.{ltb-false, eqb-true, lt-ltb}
+use borrow.Author.Tests.{lt-ltb}
 use Rattle.lists.specs.Lists.{piece, All, tabulate}
-use Rattle.lists.specs.Tests.{among, alls, different, apart, every, below}
+use Rattle.lists.specs.Tests.{among, alls, different, apart, every}
 use Rattle.lists.proofs.Alls.{all-left, all-imp}
 use Rattle.lists.proofs.Boards.{below-all}
 use Rattle.lists.proofs.Pieces.{piece-join}
-use Rattle.sizes.specs.Refusals.{Line, first, storeOrder, said, appliesIn}
+use Rattle.sizes.specs.Refusals.{Line, first, storeOrder, appliesIn}
 use Rattle.sizes.specs.Sizing.{legal, maxStripes, maxBoards, B, α, stripes}
-use Rattle.sizes.specs.declared.Answer.the-variants.{Done}
 use Rattle.sizes.specs.declared.Check.{Check}
 use Rattle.sizes.specs.declared.Check.the-variants.{Pass}
 use Rattle.sizes.specs.declared.Refusal.the-variants.{Area, Long, Empty, Count, Node, Repeat, Down, Short}
 use Rattle.sizes.specs.declared.Sizes.{Sizes}
 use Rattle.sizes.proofs.Legal.{legal-facts}
-use Rattle.sizes.proofs.Lines.{one-or-none, refuse-first, clear-first, says-not, says-differ, says-less, says-two, says-itself, says-no-file}
+use Rattle.sizes.proofs.Lines.{one-or-none, refuse-first, clear-first, says-not, says-differ, says-less, says-two, says-no-file}
 use Rattle.mbcr.specs.Share.{share, stripe, kept}
 use Rattle.mbcr.proofs.Repair.{length-kept}
-use Rattle.board_spec.specs.Calls.{equalPoints, readRuns}
 use Rattle.store_spec.specs.Calls.{StoreOutcome, settle, accepted, refused, recordLine, setUpCall, writeLines, writeDone, writeCall, loseLines, loseDone, loseCall}
-use Rattle.store_spec.specs.Calls.{repairLines, repairDone, repairCall, readLines, readDone, readCall, fileHeld}
+use Rattle.store_spec.specs.Calls.{repairLines, repairDone, repairCall, readLines, readDone, readCall}
 use Rattle.board_spec.specs.Claims.{LinesSay}
 use Rattle.board_spec.proofs.Claims.{lines-say}
 use Rattle.store_spec.specs.Demand1.{StoreEnds, Stays, storeLines, StoreCalls, writeClaims, loseClaims, repairClaims, readClaims}
 use Rattle.store_spec.specs.Ledger.{Book, bookRecord, Call, write, lose, repair, read, bookLines}
-use Rattle.store_spec.specs.Packets.{freshShare, repairRuns, hearHelpers}
+use Rattle.store_spec.specs.Packets.{freshShare, hearHelpers}
 use Rattle.store_spec.specs.Record.{Record, newRecord, allOff, sound, inService, stripeCount, held, writtenRecord, usedLen, partLen, areaLen}
 use Rattle.store_spec.proofs.Area.{held-stripe, length-shares, byte-stays, shares-same}
 use Rattle.store_spec.proofs.Demand3.{set-up-sound, passes}
-use Rattle.store_spec.proofs.Exact.{read-exact, write-unequal, lose-unequal, repair-unequal, read-unequal}
+use Rattle.store_spec.proofs.Exact.{read-exact}
 use Rattle.store_spec.proofs.Marks.{off-from, off-none, on-below, off-above, first-below, among-first, mark-at}
 use Rattle.store_spec.proofs.Real.{code-lengths}
 use Rattle.store_spec.proofs.Records.{facts-sound, sound-facts, blank-length, blank-off, blank-if, Writes, write-facts, Sound, used-least, repair-facts, used-fits}
@@ -71,7 +67,7 @@ unfolding loseCall
 lose-ends s area board = ends _ s area [] _ refl
 
 repair-ends : (xs : List ℕ) (s : Record) (area fresh helpers : List ℕ)
-    → StoreEnds (repairLines xs s (length area) fresh helpers) s area [] (repairDone xs s area fresh helpers) (repairCall xs s area fresh helpers)
+    → StoreEnds (repairLines s (length area) fresh helpers) s area [] (repairDone xs s area fresh helpers) (repairCall xs s area fresh helpers)
 unfolding repairCall
 repair-ends xs s area fresh helpers = ends _ s area [] _ refl
 
@@ -102,7 +98,7 @@ set-up-accepted old z c = (there, back)
     back : (legal z ≡ true) × (1 ≤ c) × (c ≤ maxStripes) → setUpCall old z c .answer .refusal ≡ 0
     back p =
         set-up-ends old z c .works
-        (ap not (new-sound z c (p .0) (p .1) (p .2)), (refl, (refl, (refl, (refl, (refl, (refl, (refl, (refl, (refl, (refl, tt))))))))))) .1
+        (ap not (new-sound z c (p .0) (p .1) (p .2)), (refl, (refl, (refl, (refl, (refl, (refl, (refl, (refl, (refl, tt)))))))))) .1
 
 sound-there : (s : Record) → sound s ≡ true
     → (legal (s .sizes) ≡ true) × (1 ≤ s .capacity) × (s .capacity ≤ maxStripes) × (s .length ≤ s .capacity * B (s .sizes))
@@ -193,13 +189,13 @@ repair-stays : (xs : List ℕ) (s : Record) (area fresh helpers : List ℕ) → 
     → Stays s fresh area (repairCall xs s area fresh helpers .area)
 unfolding repairCall
 repair-stays xs s area fresh helpers h =
-    let p = passes (first storeOrder (repairLines xs s (length area) fresh helpers)) s area [] (repairDone xs s area fresh helpers) h in
-    let f = repair-facts xs s (length area) fresh helpers p in
+    let p = passes (first storeOrder (repairLines s (length area) fresh helpers)) s area [] (repairDone xs s area fresh helpers) h in
+    let f = repair-facts s (length area) fresh helpers p in
     let g = sound-facts s (f .is-sound) in
     let l = code-lengths xs (s .sizes) (g .is-legal) in
     let long = fresh-length xs s area fresh helpers (length area) l (legal-facts (s .sizes) (g .is-legal) .some-fresh) f in
     let low = all-left (λ x. x < s .sizes .n) fresh helpers (below-all (s .sizes .n) (fresh ++ helpers) (f .named-below)) in
-    let e : settle (first storeOrder (repairLines xs s (length area) fresh helpers)) (refused s area []) (repairDone xs s area fresh helpers) ≡ repairDone xs s area fresh helpers =
+    let e : settle (first storeOrder (repairLines s (length area) fresh helpers)) (refused s area []) (repairDone xs s area fresh helpers) ≡ repairDone xs s area fresh helpers =
     settle-pass _ _ _ p in
     let q = ap (λ (o : StoreOutcome). o .area) e in
     record {
@@ -267,11 +263,10 @@ repeat-says s fresh helpers =
     ↔ (alls (different fresh ∷ t ∷ apart fresh helpers ∷ []) ≡ false))
     (runs-different (s .sizes .d) fresh helpers) (says-not _)
 
-repair-lines : (xs : List ℕ) (s : Record) (m : ℕ) (fresh helpers : List ℕ)
-    → LinesSay (repairLines xs s m fresh helpers) (repairClaims s xs m fresh helpers)
+repair-lines : (s : Record) (m : ℕ) (fresh helpers : List ℕ) → LinesSay (repairLines s m fresh helpers) (repairClaims s m fresh helpers)
 unfolding repairLines
-repair-lines xs s m fresh helpers =
-    lines-say (repairLines xs s m fresh helpers) (repairClaims s xs m fresh helpers) (
+repair-lines s m fresh helpers =
+    lines-say (repairLines s m fresh helpers) (repairClaims s m fresh helpers) (
       refl,
       says-not _,
       (
@@ -286,7 +281,7 @@ repair-lines xs s m fresh helpers =
             (
               refl,
               says-not _,
-              (refl, repeat-says s fresh helpers, (refl, says-not _, (refl, says-itself _, tt))),
+              (refl, repeat-says s fresh helpers, (refl, says-not _, tt)),
             ),
           ),
         ),
@@ -315,7 +310,7 @@ read-lines xs s area boards output =
               (
                 refl,
                 says-not _,
-                (refl, says-not _, (refl, says-less _ _, (refl, says-no-file _, (refl, says-itself _, tt)))),
+                (refl, says-not _, (refl, says-less _ _, (refl, says-no-file _, tt))),
               ),
             ),
           ),
@@ -342,5 +337,4 @@ demand-1 = record {
   repair-stays = repair-stays;
   read-exact = read-exact;
   lines-agree = λ xs b area call ok low as-long. lines-agree xs b area ok low as-long call;
-  no-points = λ s area. (write-unequal s area, lose-unequal s area, repair-unequal s area, read-unequal s area);
 }

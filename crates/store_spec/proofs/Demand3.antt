@@ -48,9 +48,9 @@ passes (Refuse x) s area output done e = absurd (omega (arith, number-low x))
 
 -- ---- a repair over any record and any area
 
-module _ (xs : List ℕ) (s : Record) (area fresh helpers : List ℕ) (pass : first storeOrder (repairLines xs s (length area) fresh helpers) ≡ Pass) where
+module _ (xs : List ℕ) (s : Record) (area fresh helpers : List ℕ) (pass : first storeOrder (repairLines s (length area) fresh helpers) ≡ Pass) where
   facts : Repairs s (length area) fresh helpers
-  facts = repair-facts xs s (length area) fresh helpers pass
+  facts = repair-facts s (length area) fresh helpers pass
 
   is-done : repairCall xs s area fresh helpers ≡ repairDone xs s area fresh helpers
   unfolding repairCall
@@ -79,7 +79,7 @@ module _ (xs : List ℕ) (s : Record) (area fresh helpers : List ℕ) (pass : fi
 pub accepted-repair : (xs : List ℕ) (s : Record) (area fresh helpers : List ℕ) → repairCall xs s area fresh helpers .answer .refusal ≡ 0 → Repaired xs s area fresh helpers
 unfolding repairCall
 accepted-repair xs s area fresh helpers h =
-    let p = passes (first storeOrder (repairLines xs s (length area) fresh helpers)) s area [] (repairDone xs s area fresh helpers) h in
+    let p = passes (first storeOrder (repairLines s (length area) fresh helpers)) s area [] (repairDone xs s area fresh helpers) h in
     repaired xs s area fresh helpers p (code-lengths xs (s .sizes) (sound-facts s (facts xs s area fresh helpers p .is-sound) .is-legal))
 
 -- ---- a list of calls

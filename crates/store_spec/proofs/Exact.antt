@@ -1,45 +1,36 @@
--- A read over any area: the file is given just where the boards hold its shares. And no call answers POINTS with document 01's points.
+-- A read over any area: the file is given just where the boards hold its shares.
 -- Assumes nothing.
-use Prim.Native.Nat.{ℕ, _-_, _*_, _<_}
+use Prim.Native.Nat.{ℕ, _*_, _<_}
 use mathlib.Core.Path.{_≡_, refl, sym, _∙_, ap}
 use mathlib.Core.Bool.{false, not}
 use mathlib.Core.Logic.{_≢_, _↔_, _⊎_}
-use mathlib.Core.List.{List, [], _∷_}
+use mathlib.Core.List.{List}
 use mathlib.Core.Option.{Option, some, none}
 use native.Mathlib.Omega.{arith}
 use lib.ListN.{length, drop, length-drop}
 use lib.Seq.{length-take-le}
 use borrow.Author.Tests.{eqb-true}
 use Rattle.lists.specs.Lists.{All, over, Bytes, joined}
-use Rattle.lists.specs.Tests.{pick, given, different, every, apart}
+use Rattle.lists.specs.Tests.{pick, given}
 use Rattle.lists.proofs.Alls.{take-alls, drop-alls, all-imp}
 use Rattle.lists.proofs.Boards.{among-all, joined-parts, below-all, joined-all}
 use Rattle.lists.proofs.Pieces.{joined-bytes}
 use Rattle.lists.proofs.Put.{part-end}
-use Rattle.lists.proofs.Tests.{not-no, alls-hold}
-use Rattle.sizes.specs.Refusals.{Line, appliesIn, storeOrder, number, said, first}
+use Rattle.lists.proofs.Tests.{not-no}
+use Rattle.sizes.specs.Refusals.{Line, appliesIn, storeOrder, number, first}
 use Rattle.sizes.specs.Sizing.{stripes, α}
-use Rattle.sizes.specs.declared.Answer.the-variants.{Done, Refused}
 use Rattle.sizes.specs.declared.Check.{Check}
 use Rattle.sizes.specs.declared.Check.the-variants.{Refuse, Pass}
 use Rattle.sizes.specs.declared.Refusal.{Refusal}
-use Rattle.sizes.specs.declared.Refusal.the-variants.{Points, Size, Area, Long, Count, Node, Repeat, Short, Empty, Down, Disagree}
-use Rattle.sizes.proofs.Laws.{number-low, numbers-differ}
-use Rattle.sizes.proofs.Legal.{Legal, legal-facts}
-use Rattle.sizes.proofs.Lines.{Clear, never}
+use Rattle.sizes.specs.declared.Refusal.the-variants.{Size, Area, Long, Count, Node, Repeat, Short, Empty, Down, Disagree}
 use Rattle.mbcr.specs.Demand2.{Demand2, Named}
-use Rattle.mbcr.specs.Share.{shares, share, standard, DifferentPoints}
+use Rattle.mbcr.specs.Share.{shares, share, DifferentPoints}
 use Rattle.mbcr.proofs.Demand2.{demand-2}
-use Rattle.mbcr.proofs.Points.{standard-points, boards-of}
 use Rattle.board_spec.proofs.Demand1.{clear, written}
 use Rattle.board_spec.specs.Calls.{fileOf}
-use Rattle.board_spec.proofs.Runs.{read-runs}
-use Rattle.store_spec.specs.Calls.{StoreOutcome, accepted, refused, settle, readLines, fileHeld, readCall, readDone, writeCall, writeLines, writeDone, loseCall, loseLines}
-use Rattle.store_spec.specs.Calls.{loseDone, repairCall, repairLines, repairDone}
-use Rattle.store_spec.specs.Packets.{hearHelpers}
-use Rattle.store_spec.specs.Record.{Record, held, usedLen, partLen, sound}
+use Rattle.store_spec.specs.Calls.{StoreOutcome, accepted, refused, settle, readLines, fileHeld, readCall, readDone}
+use Rattle.store_spec.specs.Record.{Record, held, usedLen, partLen}
 use Rattle.store_spec.proofs.Records.{Reads, Sound, sound-facts, used-fits}
-use Rattle.store_spec.proofs.StepRepair.{repair-points}
 
 -- ---- no line but DISAGREE holds
 
@@ -86,8 +77,7 @@ module _ (xs : List ℕ) (s : Record) (area boards output : List ℕ) (pts : Dif
       let p7 = line Repeat (omega arith) (h .1 .1 .1 .1 .1 .1 .0) in
       let p8 = line Down (omega arith) (h .1 .1 .1 .1 .1 .1 .1 .0) in
       let p9 = line Short (omega arith) (h .1 .1 .1 .1 .1 .1 .1 .1 .0) in
-      let p11 = line Points (omega arith) (h .1 .1 .1 .1 .1 .1 .1 .1 .1 .1 .0) in
-      rw (p1, p2, p3, p4, p5, p6, p7, p8, p9, p11)
+      rw (p1, p2, p3, p4, p5, p6, p7, p8, p9)
 
   call-is : (o : Option (List ℕ)) → fileHeld xs s area boards ≡ o → readCall xs s area boards output ≡ outcome s area o output
   unfolding readLines readCall
@@ -169,49 +159,3 @@ module _ (xs : List ℕ) (s : Record) (area boards output : List ℕ) (pts : Dif
       × ((readCall xs s area boards output ≡ refused s area output Disagree)
       ↔ ((file : List ℕ) → length file ≡ s .length → Bytes file → All (λ i. held s area i ≡ share (s .sizes) xs file i) boards → ⊥))
   read-exact = (gives, refuses)
-
--- ---- POINTS
-
-refusal-of : (c : Check) (x : Refusal) (s : Record) (area output : List ℕ) (done : StoreOutcome) → done .answer .refusal ≡ 0
-    → settle c (refused s area output) done .answer .refusal ≡ number x → c ≡ Refuse x
-refusal-of Pass x s area output done z e = absurd (omega (arith, number-low x))
-refusal-of (Refuse y) x s area output done z e = ap Refuse (numbers-differ y x e)
-
-abbrev before : List Refusal
-before = Size ∷ Area ∷ Long ∷ Empty ∷ Count ∷ Node ∷ Repeat ∷ Down ∷ Short ∷ Disagree ∷ []
-
-unequal : (lines : List Line) (s : Record) (area output : List ℕ) (done : StoreOutcome) → done .answer .refusal ≡ 0
-    → (Clear lines before → appliesIn lines Points ≡ false)
-    → settle (first storeOrder lines) (refused s area output) done .answer .refusal ≢ 11
-unequal lines s area output done z h e =
-    never lines Points before
-    (omega arith, (omega arith, (omega arith, (omega arith, (omega arith, (omega arith, (omega arith, (omega arith, (omega arith, (omega arith, tt))))))))))
-    h (refusal-of _ Points s area output done z e)
-
-module _ (s : Record) (area : List ℕ) where
-  pub write-unequal : (file : List ℕ) → writeCall standard s area file .answer .refusal ≢ 11
-  unfolding writeCall writeLines
-  write-unequal file = unequal (writeLines s (length area) file) s area [] (writeDone standard s area file) refl (λ p. refl)
-
-  pub lose-unequal : (board : ℕ) → loseCall s area board .answer .refusal ≢ 11
-  unfolding loseCall loseLines
-  lose-unequal board = unequal (loseLines s board) s area [] (loseDone s area board) refl (λ p. refl)
-
-  -- the first test is SIZE
-  sized : not (sound s) ≡ false → Legal (s .sizes)
-  sized h = legal-facts (s .sizes) (sound-facts s (not-no _ h) .is-legal)
-
-  pub repair-unequal : (fresh helpers : List ℕ) → repairCall standard s area fresh helpers .answer .refusal ≢ 11
-  unfolding repairCall repairLines
-  repair-unequal fresh helpers =
-      unequal (repairLines standard s (length area) fresh helpers) s area [] (repairDone standard s area fresh helpers) refl (λ p.
-      let f = sized (p .0) in
-      let t = alls-hold (different fresh ∷ every (λ h. different (h .senders)) (hearHelpers (s .sizes .d) fresh helpers) ∷ apart fresh helpers ∷ []) (not-no _ (p .1 .1 .1 .1 .1 .1 .0)) in
-      repair-points standard s fresh helpers (sound-facts s (not-no _ (p .0)) .is-legal) (standard-points (s .sizes) (f .few)) (not-no _ (p .1 .1 .1 .1 .1 .0)) (t .0) (t .1 .0) (t .1 .1 .0))
-
-  pub read-unequal : (boards output : List ℕ) → readCall standard s area boards output .answer .refusal ≢ 11
-  unfolding readCall readLines
-  read-unequal boards output =
-      unequal (readLines standard s area boards output) s area output (readDone standard s area boards output) refl (λ p.
-      let f = sized (p .0) in
-      read-runs (s .sizes) standard f (standard-points (s .sizes) (f .few)) boards (boards-of (s .sizes) boards (not-no _ (p .1 .1 .1 .1 .1 .0)) (not-no _ (p .1 .1 .1 .1 .1 .1 .0))))

@@ -28,7 +28,6 @@ further-figures = record {
   repair-refusals = refl;
   read-refusals = refl;
   repair-runs = refl;
-  points-refusals = refl;
   refused-write = refl;
   refused-repair = refl;
   losses = refl;

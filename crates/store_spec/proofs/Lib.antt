@@ -4,6 +4,7 @@ pub mod Real
 pub mod Area
 pub mod Packets
 pub mod Records
+pub mod Runs
 pub mod Marks
 pub mod Repair
 pub mod Step

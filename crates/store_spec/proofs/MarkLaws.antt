@@ -79,7 +79,7 @@ module _ (xs : List ℕ) (s : Record) (area : List ℕ) where
 
   did-repair : (fresh helpers : List ℕ) → repairCall xs s area fresh helpers .answer .refusal ≡ 0 → repairCall xs s area fresh helpers ≡ repairDone xs s area fresh helpers
   unfolding repairCall
-  did-repair fresh helpers e = by-done (first storeOrder (repairLines xs s (length area) fresh helpers)) s area [] (repairDone xs s area fresh helpers) e
+  did-repair fresh helpers e = by-done (first storeOrder (repairLines s (length area) fresh helpers)) s area [] (repairDone xs s area fresh helpers) e
 
   same : (t : Check) (output : List ℕ) (done : StoreOutcome) → done .handed ≡ s → settle t (refused s area output) done .handed ≡ s
   same Pass output done e = e
@@ -105,7 +105,7 @@ refused-keeps xs w (write file) h =
 refused-keeps xs w (lose board) h =
     keeps (first storeOrder (loseLines (w .kept) board)) (w .kept) (w .area) [] (loseDone (w .kept) (w .area) board) refl h
 refused-keeps xs w (repair fresh helpers) h =
-    keeps (first storeOrder (repairLines xs (w .kept) (length (w .area)) fresh helpers)) (w .kept) (w .area) []
+    keeps (first storeOrder (repairLines (w .kept) (length (w .area)) fresh helpers)) (w .kept) (w .area) []
     (repairDone xs (w .kept) (w .area) fresh helpers) refl h
 refused-keeps xs w (read boards output) h =
     keeps (first storeOrder (readLines xs (w .kept) (w .area) boards output)) (w .kept) (w .area) output
@@ -128,7 +128,7 @@ full-marks xs w (lose board) e =
     full (first storeOrder (loseLines (w .kept) board)) (w .kept) (w .area) [] (loseDone (w .kept) (w .area) board) e
     (length-set (w .kept .marks) board false ∙ e)
 full-marks xs w (repair fresh helpers) e =
-    full (first storeOrder (repairLines xs (w .kept) (length (w .area)) fresh helpers)) (w .kept) (w .area) []
+    full (first storeOrder (repairLines (w .kept) (length (w .area)) fresh helpers)) (w .kept) (w .area) []
     (repairDone xs (w .kept) (w .area) fresh helpers) e (length-on fresh (w .kept .marks) ∙ e)
 full-marks xs w (read boards output) e =
     full (first storeOrder (readLines xs (w .kept) (w .area) boards output)) (w .kept) (w .area) output

@@ -1,6 +1,6 @@
 -- What it says of a record that it is sound, and of a call that no line holds.
 -- Assumes nothing.
-use Prim.Native.Nat.{ℕ, _+_, _-_, _*_, _≤_, _<_}
+use Prim.Native.Nat.{ℕ, _+_, _*_, _≤_, _<_}
 use mathlib.Core.Path.{_≡_, refl, ap}
 use mathlib.Core.Bool.{Bool, true, false, not}
 use mathlib.Core.List.{List, [], _∷_, _++_}
@@ -17,7 +17,6 @@ use Rattle.sizes.specs.declared.Check.the-variants.{Pass}
 use Rattle.sizes.specs.declared.Sizes.{Sizes}
 use Rattle.sizes.proofs.Legal.{stripes-least, legal-facts}
 use Rattle.sizes.proofs.Lines.{first-clear, clear-first}
-use Rattle.board_spec.specs.Calls.{equalPoints, readRuns}
 use Rattle.store_spec.specs.Calls.{writeLines, loseLines, repairLines, readLines, fileHeld}
 use Rattle.store_spec.specs.Packets.{hearHelpers}
 use Rattle.store_spec.specs.Record.{Record, allOff, sound, usedLen, partLen, areaLen, inService}
@@ -122,10 +121,10 @@ pub record Repairs (s : Record) (m : ℕ) (fresh helpers : List ℕ) : Type 0 wh
   pub none-fresh : apart fresh helpers ≡ true
   pub all-up : every (inService s) helpers ≡ true
 
-pub repair-facts : (xs : List ℕ) (s : Record) (m : ℕ) (fresh helpers : List ℕ) → first storeOrder (repairLines xs s m fresh helpers) ≡ Pass → Repairs s m fresh helpers
+pub repair-facts : (s : Record) (m : ℕ) (fresh helpers : List ℕ) → first storeOrder (repairLines s m fresh helpers) ≡ Pass → Repairs s m fresh helpers
 unfolding repairLines
-repair-facts xs s m fresh helpers h =
-    let e = first-clear (repairLines xs s m fresh helpers) storeOrder h in
+repair-facts s m fresh helpers h =
+    let e = first-clear (repairLines s m fresh helpers) storeOrder h in
     let c = alls-hold (eqb (length fresh) (s .sizes .r) ∷ eqb (length helpers) (s .sizes .r * s .sizes .d) ∷ []) (not-no _ (e .1 .1 .1 .1 .0)) in
     let d = alls-hold (different fresh ∷ every (λ h. different (h .senders)) (hearHelpers (s .sizes .d) fresh helpers) ∷ apart fresh helpers ∷ []) (not-no _ (e .1 .1 .1 .1 .1 .1 .0)) in
     record {
@@ -170,10 +169,10 @@ read-facts xs s area boards output h =
     )
 
 pub reads-pass : (xs : List ℕ) (s : Record) (area boards output : List ℕ) → Reads s (length area) boards output
-    → given (fileHeld xs s area boards) ≡ true → equalPoints xs (readRuns (s .sizes) boards) ≡ false
+    → given (fileHeld xs s area boards) ≡ true
     → first storeOrder (readLines xs s area boards output) ≡ Pass
 unfolding readLines
-reads-pass xs s area boards output f g p =
+reads-pass xs s area boards output f g =
     clear-first (readLines xs s area boards output) storeOrder (
       ap not (f .is-sound),
       (
@@ -186,7 +185,7 @@ reads-pass xs s area boards output f g p =
               ap not (eq-eqb _ _ (f .count)),
               (
                 ap not (f .named-below),
-                (ap not (f .all-different), (ap not (f .all-up), (le-ltb _ _ (f .room), (ap not g, (p, tt))))),
+                (ap not (f .all-different), (ap not (f .all-up), (le-ltb _ _ (f .room), (ap not g, tt)))),
               ),
             ),
           ),

@@ -160,7 +160,7 @@ module _ (xs : List ℕ) (laws : (z : Sizes) → legal z ≡ true → DifferentP
   unfolding writeLines bookLines
   write-same file =
       first-agree (writeLines (bookRecord b) (length area) file) (bookLines b (write file)) storeOrder
-      (size-off, λ _. (area-same, λ _. (refl, λ _. (refl, λ _. (refl, λ _. (refl, λ _. (refl, λ _. (refl, λ _. (refl, λ _. (refl, λ _. (refl, λ _. tt)))))))))))
+      (size-off, λ _. (area-same, λ _. (refl, λ _. (refl, λ _. (refl, λ _. (refl, λ _. (refl, λ _. (refl, λ _. (refl, λ _. (refl, λ _. tt))))))))))
 
   write-inv : (file : List ℕ) → Bytes file → Writes (bookRecord b) (length area) file
       → Inv xs (noted b (some file) (tabulate (b .sizes .n) (λ i. i))) (writeDone xs (bookRecord b) area file .area)
@@ -207,7 +207,7 @@ module _ (xs : List ℕ) (laws : (z : Sizes) → legal z ≡ true → DifferentP
   unfolding loseLines bookLines
   lose-same board =
       first-agree (loseLines (bookRecord b) board) (bookLines b (lose board)) storeOrder
-      (size-off, λ _. (refl, λ _. (refl, λ _. (refl, λ _. (refl, λ _. (ap not (one-below (b .sizes .n) board), λ _. (refl, λ _. (refl, λ _. (refl, λ _. (refl, λ _. (refl, λ _. tt)))))))))))
+      (size-off, λ _. (refl, λ _. (refl, λ _. (refl, λ _. (refl, λ _. (ap not (one-below (b .sizes .n) board), λ _. (refl, λ _. (refl, λ _. (refl, λ _. (refl, λ _. tt))))))))))
 
   lose-inv : (board : ℕ) → Inv xs (noted b (b .file) (without board (b .service))) area
   lose-inv board =

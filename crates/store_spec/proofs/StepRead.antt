@@ -1,31 +1,27 @@
 -- A read: store and ledger reply alike; and every read of k different boards in service gives the book's file.
 -- Assumes nothing.
-use Prim.Native.Nat.{ℕ, suc, _+_, _-_, _*_, _≤_, _<_}
-use mathlib.Core.Path.{_≡_, refl, sym, _∙_, ap, subst}
+use Prim.Native.Nat.{ℕ, _≤_, _<_}
+use mathlib.Core.Path.{_≡_, refl, sym, _∙_, ap}
 use mathlib.Core.Bool.{Bool, true, false, not}
-use mathlib.Core.List.{List, [], _∷_, _++_, map}
-use mathlib.Core.Option.{Option, some, none}
+use mathlib.Core.List.{List, [], _∷_}
+use mathlib.Core.Option.{Option, some}
 use native.Mathlib.Omega.{arith}
-use lib.ListN.{length, getD}
-use lib.Dec.{eqb, ltb}
+use lib.ListN.{length}
 use borrow.Author.Tests.{eqb-true}
 use Rattle.lists.specs.Lists.{over}
 use Rattle.lists.specs.Tests.{below, different, every, among, given}
 use Rattle.lists.proofs.Alls.{all-imp}
 use Rattle.lists.proofs.Boards.{joined-all, all-below, all-among}
 use Rattle.lists.proofs.Tests.{both, every-all, not-no}
-use Rattle.sizes.specs.Refusals.{first, storeOrder, said}
+use Rattle.sizes.specs.Refusals.{first, storeOrder}
 use Rattle.sizes.specs.Sizing.{legal}
-use Rattle.sizes.specs.declared.Answer.the-variants.{Done}
 use Rattle.sizes.specs.declared.Check.the-variants.{Pass}
 use Rattle.sizes.specs.declared.Sizes.{Sizes}
 use Rattle.sizes.proofs.Legal.{legal-facts}
 use Rattle.sizes.proofs.Lines.{first-agree}
 use Rattle.mbcr.specs.Read.{readFile}
 use Rattle.mbcr.specs.Share.{DifferentPoints, share}
-use Rattle.mbcr.proofs.Points.{boards-of}
-use Rattle.board_spec.specs.Calls.{fileOf, equalPoints, readRuns}
-use Rattle.board_spec.proofs.Runs.{read-runs}
+use Rattle.board_spec.specs.Calls.{fileOf}
 use Rattle.store_spec.specs.Calls.{accepted, fileHeld, readLines, readCall}
 use Rattle.store_spec.specs.Ledger.{read, Book, bookRecord, bookLength, bookLines, act, enter, accept}
 use Rattle.store_spec.specs.Record.{held, inService}
@@ -44,9 +40,6 @@ module _ (xs : List ℕ) (laws : (z : Sizes) → legal z ≡ true → DifferentP
       let m = joined-all (held (bookRecord b) area) (share (b .sizes) xs (fileOf (b .file))) boards
       (all-imp (λ i. among (b .service) i ≡ true) _ (λ i e. v .holds i e) boards (every-all (among (b .service)) boards u)) in
       ap (readFile (b .sizes) xs (bookLength b) boards) m ∙ lawful xs laws b area v .reads (fileOf (b .file)) (v .bytes) boards c l d
-
-  points-off : (boards : List ℕ) → below (b .sizes .n) boards ≡ true → different boards ≡ true → equalPoints xs (readRuns (b .sizes) boards) ≡ false
-  points-off boards l d = read-runs (b .sizes) xs (legal-facts (b .sizes) (known .is-legal)) (v .points) boards (boards-of (b .sizes) boards l d)
 
   read-same : (boards output : List ℕ)
       → first storeOrder (readLines xs (bookRecord b) area boards output) ≡ first storeOrder (bookLines b (read boards output))
@@ -72,8 +65,7 @@ module _ (xs : List ℕ) (laws : (z : Sizes) → legal z ≡ true → DifferentP
                         refl,
                         λ _. (
                           ap (λ (o : Option (List ℕ)). not (given o)) (reading boards (eqb-true _ _ (not-no _ c)) (not-no _ l) (not-no _ d) (not-no _ u)),
-                          λ _.
-                              (points-off boards (not-no _ l) (not-no _ d), λ _. tt),
+                          λ _. tt,
                         ),
                       ),
                     ),
@@ -124,6 +116,6 @@ module _ (xs : List ℕ) (laws : (z : Sizes) → legal z ≡ true → DifferentP
         all-different = d;
         all-up = every-same (inService (bookRecord b)) (among (b .service)) boards (up xs laws b area v) ∙ u;
         room = r;
-      }) (ap (given) file) (points-off boards l d) in
+      }) (ap (given) file) in
       settle-pass _ _ _ p
       ∙ ap (λ (x : Option (List ℕ)). accepted 0 (bookRecord b) area (over (fileOf x) output)) file

@@ -109,12 +109,12 @@ module _ (z : Sizes) (xs : List ℕ) (S : ℕ) (hold : ℕ → List ℕ) where
 -- ---- an accepted repair
 
 module _ (xs : List ℕ) (s : Record) (area fresh helpers : List ℕ) (h : repairCall xs s area fresh helpers .answer .refusal ≡ 0) where
-  pass : first storeOrder (repairLines xs s (length area) fresh helpers) ≡ Pass
+  pass : first storeOrder (repairLines s (length area) fresh helpers) ≡ Pass
   unfolding repairCall
-  pass = passes (first storeOrder (repairLines xs s (length area) fresh helpers)) s area [] (repairDone xs s area fresh helpers) h
+  pass = passes (first storeOrder (repairLines s (length area) fresh helpers)) s area [] (repairDone xs s area fresh helpers) h
 
   f : Repairs s (length area) fresh helpers
-  f = repair-facts xs s (length area) fresh helpers pass
+  f = repair-facts s (length area) fresh helpers pass
 
   legal-is : legal (s .sizes) ≡ true
   legal-is = sound-facts s (f .is-sound) .is-legal

@@ -2,7 +2,7 @@
 -- every lent byte after it. `xs` are the boards' points; `m` in the lines is the area's length.
 -- Assumes nothing.
 use Prim.Native.Nat.{ℕ, _*_}
-use mathlib.Core.Bool.{Bool, false, not}
+use mathlib.Core.Bool.{false, not}
 use mathlib.Core.List.{List, [], _∷_, _++_}
 use mathlib.Core.Option.{Option}
 use lib.Dec.{ltb, eqb}
@@ -11,7 +11,7 @@ use Rattle.lists.specs.Tests.{every, alls, different, apart, given}
 use Rattle.lists.specs.Lists.{tabulate, joined, over}
 use Rattle.sizes.specs.declared.Sizes.{Sizes}
 use Rattle.sizes.specs.declared.Refusal.{Refusal}
-use Rattle.sizes.specs.declared.Refusal.the-variants.{Size, Area, Long, Count, Repeat, Short, Empty, Down, Disagree, Points}
+use Rattle.sizes.specs.declared.Refusal.the-variants.{Size, Area, Long, Count, Repeat, Short, Empty, Down, Disagree}
 use Rattle.sizes.specs.declared.Check.{Check}
 use Rattle.sizes.specs.declared.Check.the-variants.{Pass, Refuse}
 use Rattle.sizes.specs.declared.Answer.the-variants.{Done, Refused}
@@ -19,9 +19,9 @@ use Rattle.sizes.specs.Sizing.{B}
 use Rattle.sizes.specs.Refusals.{Said, said, Line, _when_, first, storeOrder}
 use Rattle.mbcr.specs.Share.{share}
 use Rattle.mbcr.specs.Read.{readFile}
-use Rattle.board_spec.specs.Calls.{fileOf, equalPoints, readRuns, nodeLine}
+use Rattle.board_spec.specs.Calls.{fileOf, nodeLine}
 use Rattle.store_spec.specs.Record.{Record, inService, sound, newRecord, writtenRecord, withMarks, turnOn, areaLen, held, putShares}
-use Rattle.store_spec.specs.Packets.{Hearing, hearHelpers, repairPackets, freshShare, total, repairRuns}
+use Rattle.store_spec.specs.Packets.{hearHelpers, repairPackets, freshShare, total}
 
 -- what a call answers, the record that it hands on, and the lent bytes after it
 pub record StoreOutcome : Type 0 where
@@ -70,8 +70,8 @@ unfoldable pub loseLines : Record → ℕ → List Line
 loseLines s board = recordLine s ∷ nodeLine (s .sizes) (board ∷ []) ∷ []
 
 -- "4 COUNT: a list of the wrong length". "6 REPEAT: a board .. twice among the fresh; twice in one helper list; a fresh board as helper".
-unfoldable pub repairLines : List ℕ → Record → ℕ → List ℕ → List ℕ → List Line
-repairLines xs s m fresh helpers =
+unfoldable pub repairLines : Record → ℕ → List ℕ → List ℕ → List Line
+repairLines s m fresh helpers =
     recordLine s
     ∷ lentLine s m
     ∷ emptyLine s
@@ -79,7 +79,6 @@ repairLines xs s m fresh helpers =
     ∷ nodeLine (s .sizes) (fresh ++ helpers)
     ∷ Repeat when not (alls (different fresh ∷ every (λ h. different (h .senders)) (hearHelpers (s .sizes .d) fresh helpers) ∷ apart fresh helpers ∷ []))
     ∷ downLine s helpers
-    ∷ Points when equalPoints xs (repairRuns s fresh helpers)
     ∷ []
 
 -- the file that the named boards hold, if there is one
@@ -99,7 +98,6 @@ readLines xs s area boards output =
     ∷ downLine s boards
     ∷ Short when ltb (length output) (s .length)
     ∷ Disagree when not (given (fileHeld xs s area boards))
-    ∷ Points when equalPoints xs (readRuns (s .sizes) boards)
     ∷ []
 
 -- ---- the calls
@@ -134,7 +132,7 @@ repairDone xs s area fresh helpers =
 
 unfoldable pub repairCall : List ℕ → Record → List ℕ → List ℕ → List ℕ → StoreOutcome
 repairCall xs s area fresh helpers =
-    settle (first storeOrder (repairLines xs s (length area) fresh helpers)) (refused s area []) (repairDone xs s area fresh helpers)
+    settle (first storeOrder (repairLines s (length area) fresh helpers)) (refused s area []) (repairDone xs s area fresh helpers)
 
 -- "Read: k boards; the file goes to the first L bytes of the output, the rest of it stays."
 abbrev pub readDone : List ℕ → Record → List ℕ → List ℕ → List ℕ → StoreOutcome

@@ -13,15 +13,13 @@ use Rattle.lists.specs.Tests.{every, alls, below, among, different, apart}
 use Rattle.lists.specs.Lists.{All, Bytes, tabulate, piece, over}
 use Rattle.sizes.specs.declared.Sizes.{Sizes}
 use Rattle.sizes.specs.declared.Refusal.{Refusal}
-use Rattle.sizes.specs.declared.Refusal.the-variants.{Size, Area, Long, Count, Node, Repeat, Short, Empty, Down, Disagree, Points}
-use Rattle.sizes.specs.declared.Answer.the-variants.{Done, Refused}
-use Rattle.sizes.specs.Sizing.{maxBoards, maxStripes, legal, α, B, stripes}
+use Rattle.sizes.specs.declared.Refusal.the-variants.{Size, Area, Long, Count, Node, Repeat, Short, Empty, Down, Disagree}
+use Rattle.sizes.specs.declared.Answer.the-variants.{Refused}
+use Rattle.sizes.specs.Sizing.{maxStripes, legal, α, B, stripes}
 use Rattle.sizes.specs.Refusals.{said, Line, appliesIn, storeOrder}
 use Rattle.sizes.specs.Laws.{First}
-use Rattle.mbcr.specs.Share.{standard, DifferentPoints, stripe, kept, share}
-use Rattle.board_spec.specs.Calls.{equalPoints, readRuns}
+use Rattle.mbcr.specs.Share.{DifferentPoints, stripe, kept, share}
 use Rattle.board_spec.specs.Claims.{Claim, _means_, LinesSay}
-use Rattle.store_spec.specs.Packets.{repairRuns}
 use Rattle.store_spec.specs.Record.{Record, inService, sound, newRecord, writtenRecord, stripeCount, partLen, usedLen, held}
 use Rattle.store_spec.specs.Calls.{StoreOutcome, accepted, refused, fileHeld, recordLine, writeLines, loseLines, repairLines, readLines, setUpCall, writeDone, writeCall}
 use Rattle.store_spec.specs.Calls.{loseDone, loseCall, repairDone, repairCall, readDone, readCall}
@@ -45,7 +43,7 @@ pub record Stays (s : Record) (boards old new : List ℕ) : Type 0 where
 unfoldable pub storeLines : List ℕ → Record → List ℕ → Call → List Line
 storeLines xs s area (write file) = writeLines s (length area) file
 storeLines xs s area (lose board) = loseLines s board
-storeLines xs s area (repair fresh helpers) = repairLines xs s (length area) fresh helpers
+storeLines xs s area (repair fresh helpers) = repairLines s (length area) fresh helpers
 storeLines xs s area (read boards output) = readLines xs s area boards output
 
 -- what the lines of each call say
@@ -60,8 +58,8 @@ module _ (s : Record) where
   abbrev pub loseClaims : ℕ → List Claim
   loseClaims board = Size means (sound s ≡ false) ∷ Node means (below (s .sizes .n) (board ∷ []) ≡ false) ∷ []
 
-  abbrev pub repairClaims : List ℕ → ℕ → List ℕ → List ℕ → List Claim
-  repairClaims xs m fresh helpers =
+  abbrev pub repairClaims : ℕ → List ℕ → List ℕ → List Claim
+  repairClaims m fresh helpers =
       lentClaims m
       ++ (Empty means (s .written ≡ false)
       ∷ Count means ((length fresh ≡ s .sizes .r) × (length helpers ≡ s .sizes .r * s .sizes .d) → ⊥)
@@ -69,7 +67,6 @@ module _ (s : Record) where
       ∷ Repeat means
       (alls (different fresh ∷ every different (tabulate (length fresh) (λ a. piece (s .sizes .d) a helpers)) ∷ apart fresh helpers ∷ []) ≡ false)
       ∷ Down means (every (inService s) helpers ≡ false)
-      ∷ Points means (equalPoints xs (repairRuns s fresh helpers) ≡ true)
       ∷ [])
 
   abbrev pub readClaims : List ℕ → List ℕ → List ℕ → List ℕ → List Claim
@@ -82,15 +79,13 @@ module _ (s : Record) where
       ∷ Down means (every (inService s) boards ≡ false)
       ∷ Short means (length output < s .length)
       ∷ Disagree means (fileHeld xs s area boards ≡ none)
-      ∷ Points means (equalPoints xs (readRuns (s .sizes) boards) ≡ true)
       ∷ [])
 
 pub record StoreCalls : Type 0 where
   -- the lines of each call say this, and it has no others
   pub write-lines : (s : Record) (m : ℕ) (file : List ℕ) → LinesSay (writeLines s m file) (writeClaims s m file)
   pub lose-lines : (s : Record) (board : ℕ) → LinesSay (loseLines s board) (loseClaims s board)
-  pub repair-lines : (xs : List ℕ) (s : Record) (m : ℕ) (fresh helpers : List ℕ)
-      → LinesSay (repairLines xs s m fresh helpers) (repairClaims s xs m fresh helpers)
+  pub repair-lines : (s : Record) (m : ℕ) (fresh helpers : List ℕ) → LinesSay (repairLines s m fresh helpers) (repairClaims s m fresh helpers)
   pub read-lines : (xs : List ℕ) (s : Record) (area boards output : List ℕ)
       → LinesSay (readLines xs s area boards output) (readClaims s xs area boards output)
   pub set-up-ends : (old : Record) (z : Sizes) (c : ℕ)
@@ -99,7 +94,7 @@ pub record StoreCalls : Type 0 where
       → StoreEnds (writeLines s (length area) file) s area [] (writeDone xs s area file) (writeCall xs s area file)
   pub lose-ends : (s : Record) (area : List ℕ) (board : ℕ) → StoreEnds (loseLines s board) s area [] (loseDone s area board) (loseCall s area board)
   pub repair-ends : (xs : List ℕ) (s : Record) (area fresh helpers : List ℕ)
-      → StoreEnds (repairLines xs s (length area) fresh helpers) s area [] (repairDone xs s area fresh helpers) (repairCall xs s area fresh helpers)
+      → StoreEnds (repairLines s (length area) fresh helpers) s area [] (repairDone xs s area fresh helpers) (repairCall xs s area fresh helpers)
   pub read-ends : (xs : List ℕ) (s : Record) (area boards output : List ℕ)
       → StoreEnds (readLines xs s area boards output) s area output (readDone xs s area boards output) (readCall xs s area boards output)
   -- when a set-up is accepted
@@ -129,13 +124,7 @@ pub record StoreCalls : Type 0 where
       ↔ All (λ i. held s area i ≡ share (s .sizes) xs file i) boards)
       × ((readCall xs s area boards output ≡ refused s area output Disagree)
       ↔ ((file : List ℕ) → length file ≡ s .length → Bytes file → All (λ i. held s area i ≡ share (s .sizes) xs file i) boards → ⊥))
-  -- the ledger's lines are the store's: for each refusal but 1, 10 and 11, by any book that tells legal sizes and names boards below n
+  -- the ledger's lines are the store's: for each refusal but 1 and 10, by any book that tells legal sizes and names boards below n
   pub lines-agree : (xs : List ℕ) (b : Book) (area : List ℕ) (call : Call) → legal (b .sizes) ≡ true → All (λ i. i < b .sizes .n) (b .service) → length area ≡ b .areaLength
       → All (λ x. appliesIn (storeLines xs (bookRecord b) area call) x ≡ appliesIn (bookLines b call) x)
       (Area ∷ Long ∷ Empty ∷ Count ∷ Node ∷ Repeat ∷ Down ∷ Short ∷ [])
-  -- with document 01's points no call answers 11 POINTS, on any record, area and lists
-  pub no-points : (s : Record) (area : List ℕ) →
-      ((file : List ℕ) → writeCall standard s area file .answer .refusal ≢ 11)
-      × ((board : ℕ) → loseCall s area board .answer .refusal ≢ 11)
-      × ((fresh helpers : List ℕ) → repairCall standard s area fresh helpers .answer .refusal ≢ 11)
-      × ((boards output : List ℕ) → readCall standard s area boards output .answer .refusal ≢ 11)

@@ -11,7 +11,8 @@ use Rattle.sizes.specs.declared.Answer.the-variants.{Done, Refused}
 use Rattle.sizes.specs.Refusals.{said}
 use Rattle.mbcr.specs.Share.{standard}
 use Rattle.store_spec.specs.Record.{Record, sound, newRecord, withMarks}
-use Rattle.store_spec.specs.Packets.{sentTo, sendersOf, contents, helperPackets, exchangePackets, repairPackets, repairRuns}
+use Rattle.store_spec.specs.Runs.{repairRuns}
+use Rattle.store_spec.specs.Packets.{sentTo, sendersOf, contents, helperPackets, exchangePackets, repairPackets}
 use Rattle.store_spec.specs.Calls.{StoreOutcome, setUpCall, writeCall, loseCall, repairCall, readCall}
 
 -- "n=2, k=d=r=1, file 05 03"
@@ -187,13 +188,6 @@ pub record FurtherFigures : Type 0 where
   pub repair-runs : repairRuns four-lost (0 ∷ 1 ∷ []) (2 ∷ 3 ∷ [])
       ≡ (2 ∷ 3 ∷ 0 ∷ []) ∷ (2 ∷ []) ∷ (2 ∷ []) ∷ (2 ∷ 1 ∷ 0 ∷ [])
       ∷ (3 ∷ 0 ∷ 1 ∷ []) ∷ (3 ∷ []) ∷ (3 ∷ []) ∷ (3 ∷ 0 ∷ 1 ∷ []) ∷ []
-  -- 11 POINTS of a repair and of a read, where two boards have the same point
-  pub points-refusals :
-      answers
-      (repairCall (replicate 32 7) four-lost four-spoiled (0 ∷ 1 ∷ []) (2 ∷ 3 ∷ [])
-      ∷ readCall (replicate 32 7) (half-full 2) (replicate 8 0) (1 ∷ []) (replicate 2 0)
-      ∷ [])
-      ≡ 11 ∷ 11 ∷ []
   -- a refused write and a refused repair leave record and area
   pub refused-write : writeCall standard (newRecord five 1) (replicate 35 0xAB) (replicate 13 0)
       ≡ gives 3 0 (newRecord five 1) (replicate 35 0xAB) []

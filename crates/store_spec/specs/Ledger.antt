@@ -52,7 +52,7 @@ noted b file service = record { sizes = b .sizes; capacity = b .capacity; areaLe
 abbrev pub bookLength : Book → ℕ
 bookLength b = length (fileOf (b .file))
 
--- the lines by this book; "1, 10 and 11 never hold in it"; "for losing only 1 and 5, whatever the area's length"
+-- the lines by this book; 1 and 10 "never hold in it"; "for losing only 1 and 5, whatever the area's length"
 unfoldable pub bookLines : Book → Call → List Line
 bookLines b (write file) =
     Area when not (eqb (b .areaLength) (b .sizes .n * (b .capacity * α (b .sizes))))

@@ -3,6 +3,7 @@ pub mod Packets
 pub mod Calls
 pub mod Ledger
 pub mod Demand1
+pub mod Runs
 pub mod Demand3
 pub mod Premises
 pub mod LedgerLaws

@@ -1,13 +1,12 @@
 -- Document 01, repair: the list of its packets, those of the helpers and then those that fresh boards exchange, and the shares made of them.
 -- Assumes nothing.
-use Prim.Native.Nat.{ℕ, _+_, _*_}
+use Prim.Native.Nat.{ℕ, _+_}
 use mathlib.Core.List.{List, [], _∷_, _++_, map}
 use lib.Dec.{eqb}
 use lib.ListN.{length, take, drop}
 use Rattle.lists.specs.Tests.{pick}
 use Rattle.lists.specs.Lists.{concat, without}
 use Rattle.mbcr.specs.Rebuild.{helperPacket, exchangePacket, finishedShare}
-use Rattle.board_spec.specs.Calls.{ownRuns, finishRuns}
 use Rattle.store_spec.specs.Record.{Record, stripeCount, held}
 
 pub record Packet : Type 0 where
@@ -71,9 +70,3 @@ module _ (xs : List ℕ) (s : Record) (area fresh helpers : List ℕ) where
       finishedShare (s .sizes) xs (stripeCount s) i
       (sendersOf (sentTo i helperPackets)) (contents (sentTo i helperPackets))
       (sendersOf (sentTo i exchangePackets)) (contents (sentTo i exchangePackets))
-
--- the boards at whose points a repair interpolates: each helper for its f and g, each fresh board for its own
-abbrev pub repairRuns : Record → List ℕ → List ℕ → List (List ℕ)
-repairRuns s fresh helpers =
-    concat (map (λ h. concat (map (ownRuns (s .sizes)) (h .senders)) ++ finishRuns (h .receiver) (h .senders) (without (h .receiver) fresh))
-    (hearHelpers (s .sizes .d) fresh helpers))

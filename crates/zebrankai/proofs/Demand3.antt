@@ -178,7 +178,7 @@ archive-repairs ws area fresh helpers v h =
     let s = recordFrom ws in
     let e = taken (λ s. repairCall standard s area fresh helpers) ws area [] v h in
     let is = lent (λ s. repairCall standard s area fresh helpers) ws area [] e in
-    let ok = small (first storeOrder (repairLines standard s (length area) fresh helpers)) s area (repairDone standard s area fresh helpers) v refl
+    let ok = small (first storeOrder (repairLines s (length area) fresh helpers)) s area (repairDone standard s area fresh helpers) v refl
     (ap (λ (o : Lent). o .answer) is ∙ h) in
     let p = accepted-repair standard s area fresh helpers ok in
     record {

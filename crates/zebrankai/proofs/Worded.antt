@@ -171,9 +171,9 @@ read-few s area boards output =
 pub repair-few : (s : Record) (area fresh helpers : List ℕ) → repairCall standard s area fresh helpers .answer .reported < 72057594037927936
 unfolding repairCall
 repair-few s area fresh helpers =
-    settled-few s area [] (repairDone standard s area fresh helpers) (first storeOrder (repairLines standard s (length area) fresh helpers))
+    settled-few s area [] (repairDone standard s area fresh helpers) (first storeOrder (repairLines s (length area) fresh helpers))
     (λ p.
-    let f = repair-facts standard s (length area) fresh helpers p in
+    let f = repair-facts s (length area) fresh helpers p in
     let g = sound-facts s (f .is-sound) in
     let l = legal-facts (s .sizes) (g .is-legal) in
     let e = moved-is standard s area fresh helpers (length area) (code-lengths standard (s .sizes) (g .is-legal)) (l .some-fresh) f in

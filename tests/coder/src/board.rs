@@ -17,7 +17,7 @@ struct Asked<'a> {
 }
 
 impl Asked<'_> {
-    /// The refusal to give before the work, "Board level: 1, 3, 4, 5, 6, 2, 7, 10, 11"; 1 and 3 were asked before.
+    /// The refusal to give before the work, "Board level: 1, 3, 4, 5, 6, 2, 7, 10"; 1 and 3 were asked before.
     fn refusal(&self, n: usize, out: usize) -> Option<u8> {
         let repeated = |list: &[usize]| (0..list.len()).any(|i| list[..i].contains(&list[i]));
         if self.lists.iter().any(|(list, count)| list.len() != *count) {

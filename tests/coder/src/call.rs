@@ -18,7 +18,9 @@ pub mod refusal {
     pub const DOWN: u8 = 9;
     pub const DISAGREE: u8 = 10;
     /// One more than the highest number.
-    pub const COUNTED: usize = 12;
+    pub const COUNTED: usize = 11;
+    /// The number that is not used, and that no call answers.
+    pub const UNUSED: u64 = 11;
 }
 
 /// A call with all its arguments but those that it may change.

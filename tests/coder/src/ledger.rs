@@ -26,7 +26,7 @@ impl Book {
         Book { sizes, capacity, area_len, file: None, in_service: BTreeSet::new() }
     }
 
-    /// The number of the first line that holds for a call, "1, 2, 3, 8, 4, 5, 6, 9, 7, 10, 11"; "1, 10 and 11 never hold in it".
+    /// The number of the first line that holds for a call, "1, 2, 3, 8, 4, 5, 6, 9, 7, 10"; 1 and 10 never hold in it.
     fn refusal(&self, call: &Call, out: usize) -> Option<u8> {
         let Sizes { n, k, d, r } = self.sizes;
         let wrong_area = self.area_len != n * self.capacity * self.sizes.share_len();

@@ -1,6 +1,6 @@
 //! The unrelated coder: holds the archive to a coder that shares no method with it, and reports each mismatch with what repeats it.
 //!
-//!     coder [--seed N] [--calls N] [--only CASE] [--wrong answer|byte|word] [--trace] [--verbose]
+//!     coder [--seed N] [--calls N] [--only CASE] [--wrong answer|eleven|byte|word] [--trace] [--verbose]
 //!
 //! First the figures of document 01 are run, then random cases until so many calls are made: single calls at board level, single calls of the
 //! store over made-up records and areas, long histories against a ledger, and second files that k − 1 boards do not tell from the first
@@ -71,9 +71,10 @@ fn options() -> Result<Options, String> {
 fn wrong_kind(word: Option<String>) -> Result<WrongKind, String> {
     match word.as_deref() {
         Some("answer") => Ok(WrongKind::Answer),
+        Some("eleven") => Ok(WrongKind::Eleven),
         Some("byte") => Ok(WrongKind::Byte),
         Some("word") => Ok(WrongKind::Word),
-        _ => Err("--wrong wants answer, byte or word".to_string()),
+        _ => Err("--wrong wants answer, eleven, byte or word".to_string()),
     }
 }
 

@@ -136,7 +136,7 @@ fn lose(board: usize, lent: &Lent) -> Result<Outcome, u8> {
     Ok(Outcome::accepted(0, Lent { record: record.words(), ..lent.clone() }))
 }
 
-/// "Store: 1, 2, 3, 8, 4, 5, 6, 9, 7, 10, 11."
+/// "Store: 1, 2, 3, 8, 4, 5, 6, 9, 7, 10".
 fn check_repair(record: &Record, fresh: &[usize], helpers: &[usize]) -> Result<(), u8> {
     let Sizes { n, d, r, .. } = record.sizes;
     if !record.written {

@@ -32,6 +32,8 @@ pub struct Wrong {
 pub enum WrongKind {
     /// the answer itself
     Answer,
+    /// the answer becomes a refusal with the number that is not used
+    Eleven,
     /// a byte of the area or of the output
     Byte,
     /// a word of the record
@@ -39,7 +41,7 @@ pub enum WrongKind {
 }
 
 impl Wrong {
-    /// Alters one bit of an outcome, and says where; none where the outcome has nothing of the kind.
+    /// Alters one bit of an outcome, or its answer, and says where; none where the outcome has nothing of the kind.
     fn alter(&self, outcome: &mut Outcome) -> Option<String> {
         let turn = self.at as usize;
         let Outcome { answer, lent } = outcome;
@@ -47,6 +49,10 @@ impl Wrong {
             WrongKind::Answer => {
                 *answer ^= 1 << (turn % 12);
                 Some(format!("bit {} of the answer", turn % 12))
+            }
+            WrongKind::Eleven => {
+                *answer = refusal::UNUSED;
+                Some("the answer, which is 11 now,".to_string())
             }
             WrongKind::Byte => {
                 let (name, bytes) =
@@ -111,6 +117,10 @@ impl Trial {
         let mut performed = archive::perform(call, lent);
         self.falsify(&mut performed.outcome);
         self.show_progress();
+        if performed.outcome.answer & 255 == refusal::UNUSED {
+            self.report(&format!("{call} over {}: the answer has the number 11, which is not used", Short(lent)));
+            return false;
+        }
         match difference(&performed, expected) {
             None => {
                 let number = (expected.answer & 255) as usize;

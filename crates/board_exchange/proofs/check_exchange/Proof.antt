@@ -6,27 +6,22 @@ use mathlib.Core.Bool.{not}
 use mathlib.Core.List.{List, [], _∷_}
 use native.Mathlib.Omega.{arith}
 use lib.Dec.{eqb}
-use lib.ListN.{length, take}
+use lib.ListN.{length}
 use borrow.Author.Needs.{needs}
-use Rattle.lists.specs.Tests.{different}
 use Rattle.lists.proofs.Tests.{not-no}
-use Rattle.sizes.specs.declared.Sizes.{Sizes}
-use Rattle.sizes.specs.declared.Refusal.the-variants.{Points}
 use Rattle.sizes.specs.declared.Check.{Check}
 use Rattle.sizes.specs.declared.Check.the-variants.{Pass, Refuse}
 use Rattle.sizes.specs.Sizing.{stripes}
-use Rattle.sizes.specs.Refusals.{Line, _when_, first, boardOrder}
+use Rattle.sizes.specs.Refusals.{Line, first, boardOrder}
 use Rattle.sizes.proofs.Legal.{Legal, legal-facts}
 use Rattle.mbcr.specs.Share.{standard}
-use Rattle.mbcr.proofs.Points.{Boards, boards-of, standard-points}
-use Rattle.board_spec.specs.Calls.{countLine, nodeLine, repeatLine, areaLine, shortLine, equalPoints, exchangeLines}
-use Rattle.board_spec.proofs.Runs.{one-run}
+use Rattle.mbcr.proofs.Points.{Boards, boards-of}
+use Rattle.board_spec.specs.Calls.{countLine, nodeLine, repeatLine, areaLine, shortLine, exchangeLines}
 use Rattle.checks.specs.Steps.{asked, statedLines, Stated}
 use Rattle.checks.proofs.Answers.{passed}
 use Rattle.checks.proofs.Given.{few-packets}
 use Rattle.checks.proofs.Chain.{thens, grouped, goes-on, refuses, ends}
 use Rattle.checks.proofs.Facts.{stated-facts}
-use Rattle.checks.proofs.Points.{points-line}
 use Rattle.board_exchange.proofs.check_exchange.Statement.{statement}
 use Rattle.board_exchange.proofs.check_exchange.Tie as tie
 
@@ -37,20 +32,14 @@ abbrev S : tie.Start → ℕ
 S g = stripes (g .args .sizes) (g .args .len)
 
 -- the lines that each check asks, and those after it
-abbrev pointLine : tie.Start → Line
-pointLine g = Points when equalPoints standard (g .args .helpers .now ∷ [])
-
 abbrev roomLine : tie.Start → Line
 roomLine g = shortLine (g .args .out .now) (S g)
 
 abbrev sentLine : tie.Start → Line
 sentLine g = areaLine (eqb (length (g .args .packets .now)) (g .args .sizes .d * (2 * S g)) ∷ [])
 
-abbrev points : tie.Start → List (List Line)
-points g = (pointLine g ∷ []) ∷ []
-
 abbrev shorts : tie.Start → List (List Line)
-shorts g = (roomLine g ∷ []) ∷ points g
+shorts g = (roomLine g ∷ []) ∷ []
 
 abbrev lents : tie.Start → List (List Line)
 lents g = (sentLine g ∷ []) ∷ shorts g
@@ -182,39 +171,6 @@ on-short c = goes-on (on-lent (at-stripes (at-lent c))) (is-lent (at-lent c)) (c
 is-short : (c : tie.After-check-room) → c .check-room .result ≡ asked (roomLine (st-short c))
 is-short c = c .check-room .ensures ∙ ap (λ (m : ℕ). asked (shortLine (st-short c .args .out .now) m)) (at-stripes (at-lent c) .stripe-count .ensures .0)
 
-no-short : (c : tie.After-short) → Refuse (c .short .given .0 .0) ≡ answer (st-short (c .before .before))
-no-short c = let k = c .before .before in refuses _ (on-short k) (is-short k) (c .short .given .1)
-
--- 11 POINTS
-abbrev at-room : tie.After-points → tie.After-check-room
-at-room c = c .before .before .before .before
-
-abbrev st-points : tie.After-points → tie.Start
-st-points c = st-short (at-room c)
-
-on-points : (c : tie.After-points) → thens (points (st-points c)) ≡ answer (st-points c)
-on-points c = goes-on (on-short (at-room c)) (is-short (at-room c)) (c .before .before .enum-told6 .given .1)
-
-few-on : (c : tie.After-points) → st-points c .args .sizes .n ≤ 32
-few-on c = sizes-on (at-stripes (at-lent (at-room c))) .few
-
--- all but the first of different boards
-rest : {z : Sizes} {i : ℕ} {l : List ℕ} → Boards z (i ∷ l) → Boards z l
-rest b = record { known = b .known .1; once = b .once .1 }
-
-is-points : (c : tie.After-check-points) → c .check-points .result ≡ asked (pointLine (st-points (c .before)))
-is-points c =
-    let a = st-points (c .before) .args in
-    let z = a .sizes in
-    let apart = standard-points z (few-on (c .before)) in
-    c .check-points .ensures
-    ∙ ap (λ (xs : List ℕ). asked (Points when not (different (take (z .n) xs)))) (c .before .before .standard-points .ensures)
-    ∙ points-line z standard (few-on (c .before)) apart (a .helpers .now ∷ [])
-    (one-run z standard apart (a .helpers .now) (rest (rest (boards-on (at-stripes (at-lent (at-room (c .before))))))))
-
-points-asks : tie.Need-check-points-requires
-points-asks c κs = rw (c .before .standard-points .ensures) (few-on c)
-
 pub check-exchange-spec : {M : Type 1} → statement M
 check-exchange-spec =
     tie.close
@@ -243,10 +199,4 @@ check-exchange-spec =
     (λ c. no-lent (c .before))
     (λ c. search needs)
     (λ c κs. search needs)
-    (λ c. search needs)
-    (λ c. no-short (c .before))
-    (λ c. search needs)
-    (λ c κs. search needs)
-    (λ c. search needs)
-    points-asks
-    (λ c. ends (on-points (c .before)) (is-points c)))
+    (λ c. ends (on-short c) (is-short c)))

@@ -7,10 +7,10 @@ use mathlib.Core.List.{List, [], _∷_}
 use native.Mathlib.Nat.{mul-le-mul-right}
 use native.Mathlib.Omega.{arith}
 use lib.Dec.{eqb}
-use lib.ListN.{length, take}
+use lib.ListN.{length}
 use borrow.Author.Needs.{needs}
-use Rattle.lists.specs.Tests.{different, given}
-use Rattle.sizes.specs.declared.Refusal.the-variants.{Disagree, Points}
+use Rattle.lists.specs.Tests.{given}
+use Rattle.sizes.specs.declared.Refusal.the-variants.{Disagree}
 use Rattle.sizes.specs.declared.Check.{Check}
 use Rattle.sizes.specs.declared.Check.the-variants.{Refuse}
 use Rattle.sizes.specs.Sizing.{α, stripes}
@@ -18,13 +18,12 @@ use Rattle.sizes.specs.Refusals.{Line, _when_, first, boardOrder}
 use Rattle.sizes.proofs.Legal.{legal-facts, α-most}
 use Rattle.mbcr.specs.Share.{standard}
 use Rattle.mbcr.specs.Read.{readFile}
-use Rattle.mbcr.proofs.Points.{standard-points}
-use Rattle.board_spec.specs.Calls.{countLine, nodeLine, repeatLine, areaLine, shortLine, equalPoints, readRuns, fileLines}
+use Rattle.board_spec.specs.Calls.{countLine, nodeLine, repeatLine, areaLine, shortLine, fileLines}
 use Rattle.checks.specs.Steps.{asked, statedLines, Stated}
 use Rattle.checks.proofs.Chain.{thens, grouped, goes-on, refuses, ends}
 use Rattle.checks.proofs.Facts.{stated-facts}
 use Rattle.checks.proofs.Given.{as-many, few-bytes}
-use Rattle.board_file.proofs.FileCall.{Readable, readable, points-line}
+use Rattle.board_file.proofs.FileCall.{Readable, readable}
 use Rattle.board_file.proofs.check_file.Statement.{statement}
 use Rattle.board_file.proofs.check_file.Tie as tie
 
@@ -38,12 +37,9 @@ area-line g = let z = g .args .sizes in areaLine (eqb (length (g .args .held .no
 abbrev agree-line : tie.Start → List ℕ → Line
 agree-line g xs = Disagree when not (given (readFile (g .args .sizes) xs (g .args .len) (g .args .boards .now) (g .args .held .now)))
 
-abbrev points-are : tie.Start → Line
-points-are g = Points when equalPoints standard (readRuns (g .args .sizes) (g .args .boards .now))
-
 -- the lines that each check asks, and those after it
 abbrev agrees : tie.Start → List (List Line)
-agrees g = (agree-line g standard ∷ []) ∷ (points-are g ∷ []) ∷ []
+agrees g = (agree-line g standard ∷ []) ∷ []
 
 abbrev shorts : tie.Start → List (List Line)
 shorts g = (shortLine (g .args .out .now) (g .args .len) ∷ []) ∷ agrees g
@@ -197,9 +193,6 @@ on-agrees c = let k = at-room c in goes-on (on-short k) (k .check-room .ensures)
 is-agrees : (c : tie.After-check-agrees) → c .check-agrees .result ≡ asked (agree-line (st-agrees c) standard)
 is-agrees c = let g = st-agrees c in c .check-agrees .ensures ∙ ap (λ (xs : List ℕ). asked (agree-line g xs)) (g .pre .points-are)
 
-no-agrees : (c : tie.After-disagree) → Refuse (c .disagree .given .0 .0) ≡ answer (st-agrees (c .before .before))
-no-agrees c = let k = c .before .before in refuses _ (on-agrees k) (is-agrees k) (c .disagree .given .1)
-
 agrees-ask : tie.Need-check-agrees-requires
 agrees-ask c κs =
     let k = c .before .before in
@@ -207,26 +200,6 @@ agrees-ask c κs =
     let f = readable-on k in
     let e = n .stripe-count .ensures .0 in
     (f .stated .is-legal, few-points k, st-short k .pre .inverses-are, f .enough, f .known, n .stripe-count .ensures .1, e, rw e (f .held-is))
-
--- 11 POINTS
-abbrev at-agrees : tie.After-check-points → tie.After-check-agrees
-at-agrees c = c .before .before .before
-
-abbrev st-points : tie.After-check-points → tie.Start
-st-points c = st-agrees (at-agrees c)
-
-on-points : (c : tie.After-check-points) → thens ((points-are (st-points c) ∷ []) ∷ []) ≡ answer (st-points c)
-on-points c = let k = at-agrees c in goes-on (on-agrees k) (is-agrees k) (c .before .enum-told7 .given .1)
-
-is-points : (c : tie.After-check-points) → c .check-points .result ≡ asked (points-are (st-points c))
-is-points c =
-    let g = st-points c in
-    let z = g .args .sizes in
-    let f = readable-on (at-room (at-agrees c)) in
-    let low = legal-facts z (f .stated .is-legal) .few in
-    c .check-points .ensures
-    ∙ ap (λ (xs : List ℕ). asked (Points when not (different (take (z .n) xs)))) (g .pre .points-are)
-    ∙ points-line z standard (standard-points z low) low (g .args .boards .now) (f .stated .is-legal) (f .known) (f .all-different)
 
 pub check-file-spec : {M : Type 1} → statement M
 check-file-spec =
@@ -261,8 +234,4 @@ check-file-spec =
     (λ c. no-short (c .before))
     (λ c. search needs)
     agrees-ask
-    (λ c. search needs)
-    (λ c. no-agrees (c .before))
-    (λ c. search needs)
-    (λ c κs. few-points (at-room (c .before .before)))
-    (λ c. ends (on-points c) (is-points c)))
+    (λ c. ends (on-agrees c) (is-agrees c)))

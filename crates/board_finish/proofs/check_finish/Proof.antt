@@ -7,26 +7,22 @@ use mathlib.Core.List.{List, [], _∷_, _++_}
 use native.Mathlib.Nat.{mul-comm}
 use native.Mathlib.Omega.{arith}
 use lib.Dec.{eqb}
-use lib.ListN.{length, take}
+use lib.ListN.{length}
 use borrow.Author.Needs.{needs}
-use Rattle.lists.specs.Tests.{different}
 use Rattle.lists.proofs.Tests.{not-no}
-use Rattle.sizes.specs.declared.Refusal.the-variants.{Points}
 use Rattle.sizes.specs.declared.Check.{Check}
 use Rattle.sizes.specs.declared.Check.the-variants.{Refuse}
 use Rattle.sizes.specs.Sizing.{α, stripes}
-use Rattle.sizes.specs.Refusals.{Line, _when_, first, boardOrder}
+use Rattle.sizes.specs.Refusals.{Line, first, boardOrder}
 use Rattle.sizes.proofs.Legal.{Legal, legal-facts, α-most}
 use Rattle.mbcr.specs.Share.{standard}
-use Rattle.mbcr.proofs.Points.{Boards, boards-of, standard-points}
-use Rattle.board_spec.specs.Calls.{countLine, nodeLine, repeatLine, areaLine, shortLine, equalPoints, finishRuns, finishedLines}
-use Rattle.board_spec.proofs.Runs.{finish-runs}
+use Rattle.mbcr.proofs.Points.{Boards, boards-of}
+use Rattle.board_spec.specs.Calls.{countLine, nodeLine, repeatLine, areaLine, shortLine, finishedLines}
 use Rattle.checks.specs.Steps.{asked, statedLines, Stated}
 use Rattle.checks.proofs.Answers.{passed}
 use Rattle.checks.proofs.Given.{as-many, few-bytes, few-packets}
 use Rattle.checks.proofs.Chain.{thens, grouped, goes-on, refuses, ends}
 use Rattle.checks.proofs.Facts.{stated-facts}
-use Rattle.checks.proofs.Points.{points-line}
 use Rattle.board_finish.proofs.check_finish.Statement.{statement}
 use Rattle.board_finish.proofs.check_finish.Tie as tie
 
@@ -37,9 +33,6 @@ abbrev S : tie.Start → ℕ
 S g = stripes (g .args .sizes) (g .args .len)
 
 -- the lines that each check asks, and those after it
-abbrev runs : tie.Start → List (List ℕ)
-runs g = finishRuns (g .args .board) (g .args .helpers .now) (g .args .partners .now)
-
 abbrev roomLine : tie.Start → Line
 roomLine g = shortLine (g .args .out .now) (S g * α (g .args .sizes))
 
@@ -54,11 +47,8 @@ heardLine g =
     let z = g .args .sizes in
     countLine (eqb (length (g .args .helpers .now)) (z .d) ∷ eqb (length (g .args .partners .now)) (z .r - 1) ∷ [])
 
-abbrev points : tie.Start → List (List Line)
-points g = (Points when equalPoints standard (runs g) ∷ []) ∷ []
-
 abbrev shorts : tie.Start → List (List Line)
-shorts g = (roomLine g ∷ []) ∷ points g
+shorts g = (roomLine g ∷ []) ∷ []
 
 abbrev lents : tie.Start → List (List Line)
 lents g = (sentLine g (S g) ∷ []) ∷ shorts g
@@ -210,38 +200,6 @@ share-few c =
 is-short : (c : tie.After-check-room) → c .check-room .result ≡ asked (roomLine (st-short (c .before)))
 is-short c = c .check-room .ensures ∙ ap (λ (m : ℕ). asked (shortLine (st-short (c .before) .args .out .now) m)) (share-is (c .before))
 
-no-short : (c : tie.After-short) → Refuse (c .short .given .0 .0) ≡ answer (st-short (c .before .before .before))
-no-short c = let k = c .before .before in refuses _ (on-short (k .before)) (is-short k) (c .short .given .1)
-
--- 11 POINTS
-abbrev at-room : tie.After-points → tie.After-check-room
-at-room c = c .before .before .before .before
-
-abbrev at-len : tie.After-points → tie.After-share-len
-at-len c = at-room c .before
-
-abbrev st-points : tie.After-points → tie.Start
-st-points c = st-short (at-len c)
-
-on-points : (c : tie.After-points) → thens (points (st-points c)) ≡ answer (st-points c)
-on-points c = goes-on (on-short (at-len c)) (is-short (at-room c)) (c .before .before .enum-told6 .given .1)
-
-few-on : (c : tie.After-points) → st-points c .args .sizes .n ≤ 32
-few-on c = sizes-on (at-number (at-len c)) .few
-
-is-points : (c : tie.After-check-points) → c .check-points .result ≡ asked (Points when equalPoints standard (runs (st-points (c .before))))
-is-points c =
-    let g = st-points (c .before) in
-    let z = g .args .sizes in
-    let apart = standard-points z (few-on (c .before)) in
-    c .check-points .ensures
-    ∙ ap (λ (xs : List ℕ). asked (Points when not (different (take (z .n) xs)))) (c .before .before .standard-points .ensures)
-    ∙ points-line z standard (few-on (c .before)) apart (runs g)
-    (finish-runs z standard apart (g .args .board) (g .args .helpers .now) (g .args .partners .now) (boards-on (at-number (at-len (c .before)))))
-
-points-asks : tie.Need-check-points-requires
-points-asks c κs = rw (c .before .standard-points .ensures) (few-on c)
-
 pub check-finish-spec : {M : Type 1} → statement M
 check-finish-spec =
     tie.close
@@ -274,10 +232,4 @@ check-finish-spec =
     (λ c κs. search needs)
     (λ c. omega (arith, share-few c))
     (λ c κs. search needs)
-    (λ c. search needs)
-    (λ c. no-short (c .before))
-    (λ c. search needs)
-    (λ c κs. search needs)
-    (λ c. search needs)
-    points-asks
-    (λ c. ends (on-points (c .before)) (is-points c)))
+    (λ c. ends (on-short (c .before)) (is-short c)))

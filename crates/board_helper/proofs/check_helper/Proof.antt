@@ -1,32 +1,24 @@
 -- `board_helper::check_helper` meets its contract: each early return is the first line that holds.
 -- Assumes nothing.
-use Prim.Native.Nat.{ℕ, _*_, _≤_, _<_}
+use Prim.Native.Nat.{ℕ, _*_, _≤_}
 use mathlib.Core.Path.{_≡_, sym, ap, _∙_}
-use mathlib.Core.Bool.{true, not}
+use mathlib.Core.Bool.{true}
 use mathlib.Core.List.{List, [], _∷_}
 use native.Mathlib.Omega.{arith}
 use lib.Dec.{eqb}
-use lib.ListN.{length, take}
+use lib.ListN.{length}
 use borrow.Author.Needs.{needs}
-use Rattle.lists.specs.Tests.{different}
-use Rattle.lists.proofs.Tests.{not-no}
-use Rattle.lists.proofs.Boards.{below-all}
-use Rattle.sizes.specs.declared.Refusal.the-variants.{Points}
 use Rattle.sizes.specs.declared.Check.{Check}
 use Rattle.sizes.specs.declared.Check.the-variants.{Refuse}
 use Rattle.sizes.specs.Sizing.{legal, α, stripes}
-use Rattle.sizes.specs.Refusals.{Line, _when_, first, boardOrder}
-use Rattle.sizes.proofs.Legal.{Legal, legal-facts, α-most}
+use Rattle.sizes.specs.Refusals.{Line, first, boardOrder}
+use Rattle.sizes.proofs.Legal.{legal-facts, α-most}
 use Rattle.mbcr.specs.Share.{standard}
-use Rattle.mbcr.proofs.Points.{standard-points}
-use Rattle.board_spec.specs.Calls.{nodeLine, repeatLine, areaLine, shortLine, equalPoints, ownRuns, helperLines}
-use Rattle.board_spec.proofs.Runs.{own-runs}
+use Rattle.board_spec.specs.Calls.{nodeLine, repeatLine, areaLine, shortLine, helperLines}
 use Rattle.checks.specs.Steps.{asked, statedLines, Stated}
-use Rattle.checks.proofs.Answers.{passed}
 use Rattle.checks.proofs.Given.{as-many, few-bytes}
 use Rattle.checks.proofs.Chain.{thens, grouped, goes-on, refuses, ends}
 use Rattle.checks.proofs.Facts.{stated-facts}
-use Rattle.checks.proofs.Points.{points-line}
 use Rattle.board_helper.proofs.check_helper.Statement.{statement}
 use Rattle.board_helper.proofs.check_helper.Tie as tie
 
@@ -37,20 +29,14 @@ abbrev S : tie.Start → ℕ
 S g = stripes (g .args .sizes) (g .args .len)
 
 -- the lines that each check asks, and those after it
-abbrev pointLine : tie.Start → Line
-pointLine g = Points when equalPoints standard (ownRuns (g .args .sizes) (g .args .helper))
-
 abbrev roomLine : tie.Start → Line
 roomLine g = shortLine (g .args .out .now) (2 * S g)
 
 abbrev heldLine : tie.Start → Line
 heldLine g = areaLine (eqb (length (g .args .held .now)) (S g * α (g .args .sizes)) ∷ [])
 
-abbrev points : tie.Start → List (List Line)
-points g = (pointLine g ∷ []) ∷ []
-
 abbrev shorts : tie.Start → List (List Line)
-shorts g = (roomLine g ∷ []) ∷ points g
+shorts g = (roomLine g ∷ []) ∷ []
 
 abbrev lents : tie.Start → List (List Line)
 lents g = (heldLine g ∷ []) ∷ shorts g
@@ -102,12 +88,6 @@ at-node c = c .before .before .before .before
 
 abbrev st-repeat : tie.After-check-repeat → tie.Start
 st-repeat c = st-node (at-node c)
-
-known-on : (c : tie.After-check-repeat) → st-repeat c .args .helper < st-repeat c .args .sizes .n
-known-on c =
-    let g = st-repeat c in
-    below-all (g .args .sizes .n) (named g)
-    (not-no _ (passed (nodeLine (g .args .sizes) (named g)) (sym (at-node c .check-nodes .ensures) ∙ c .before .before .enum-told2 .given .1))) .0
 
 on-repeat : (c : tie.After-check-repeat) → thens (repeats (st-repeat c)) ≡ answer (st-repeat c)
 on-repeat c = goes-on (on-node (at-node c)) (at-node c .check-nodes .ensures) (c .before .before .enum-told2 .given .1)
@@ -162,36 +142,6 @@ is-short c =
     c .check-room .ensures
     ∙ ap (λ (m : ℕ). asked (shortLine (st-short c .args .out .now) (2 * m))) (at-len (at-lent c) .before .stripe-count .ensures .0)
 
-no-short : (c : tie.After-short) → Refuse (c .short .given .0 .0) ≡ answer (st-short (c .before .before))
-no-short c = let k = c .before .before in refuses _ (on-short k) (is-short k) (c .short .given .1)
-
--- 11 POINTS
-abbrev at-room : tie.After-points → tie.After-check-room
-at-room c = c .before .before .before .before
-
-abbrev st-points : tie.After-points → tie.Start
-st-points c = st-short (at-room c)
-
-on-points : (c : tie.After-points) → thens (points (st-points c)) ≡ answer (st-points c)
-on-points c = goes-on (on-short (at-room c)) (is-short (at-room c)) (c .before .before .enum-told5 .given .1)
-
-sizes-on : (c : tie.After-points) → Legal (st-points c .args .sizes)
-sizes-on c = legal-facts _ (legal-on (at-len (at-lent (at-room c))))
-
-is-points : (c : tie.After-check-points) → c .check-points .result ≡ asked (pointLine (st-points (c .before)))
-is-points c =
-    let g = st-points (c .before) in
-    let z = g .args .sizes in
-    let f = sizes-on (c .before) in
-    let apart = standard-points z (f .few) in
-    c .check-points .ensures
-    ∙ ap (λ (xs : List ℕ). asked (Points when not (different (take (z .n) xs)))) (c .before .before .standard-points .ensures)
-    ∙ points-line z standard (f .few) apart (ownRuns z (g .args .helper))
-    (own-runs z standard f apart (g .args .helper) (known-on (at-repeat (at-len (at-lent (at-room (c .before)))))))
-
-points-asks : tie.Need-check-points-requires
-points-asks c κs = rw (c .before .standard-points .ensures) (sizes-on c .few)
-
 pub check-helper-spec : {M : Type 1} → statement M
 check-helper-spec =
     tie.close
@@ -219,10 +169,4 @@ check-helper-spec =
     (λ c. search needs)
     (λ c. omega (arith, at-len (c .before .before) .before .stripe-count .ensures .1))
     (λ c κs. search needs)
-    (λ c. search needs)
-    (λ c. no-short (c .before))
-    (λ c. search needs)
-    (λ c κs. search needs)
-    (λ c. search needs)
-    points-asks
-    (λ c. ends (on-points (c .before)) (is-points c)))
+    (λ c. ends (on-short c) (is-short c)))

@@ -1,18 +1,18 @@
 -- `read_check::check_read` meets its contract: each early return is the first line that holds.
 -- Assumes nothing.
 use Prim.Native.Nat.{ℕ}
-use mathlib.Core.Path.{_≡_, refl, sym, ap, _∙_}
+use mathlib.Core.Path.{_≡_, sym, ap, _∙_}
 use mathlib.Core.Bool.{not}
 use mathlib.Core.List.{List, [], _∷_}
 use lib.ListN.{length}
 use borrow.Author.Needs.{needs}
 use Rattle.lists.specs.Tests.{given}
-use Rattle.sizes.specs.declared.Refusal.the-variants.{Disagree, Points}
+use Rattle.sizes.specs.declared.Refusal.the-variants.{Disagree}
 use Rattle.sizes.specs.declared.Check.{Check}
 use Rattle.sizes.specs.declared.Check.the-variants.{Pass, Refuse}
 use Rattle.sizes.specs.Refusals.{Line, _when_, first, storeOrder}
 use Rattle.mbcr.specs.Share.{standard}
-use Rattle.board_spec.specs.Calls.{shortLine, equalPoints, readRuns}
+use Rattle.board_spec.specs.Calls.{shortLine}
 use Rattle.store_spec.specs.Record.{Record}
 use Rattle.store_spec.specs.Calls.{emptyLine, fileHeld, readLines}
 use Rattle.checks.specs.Steps.{asked}
@@ -20,7 +20,7 @@ use Rattle.store_checks.specs.Steps.{recordOf}
 use Rattle.shared_checks.specs.Steps.{areaLines, boardLines}
 use Rattle.checks.proofs.Chain.{thens, grouped, goes-on, refuses, ends}
 use Rattle.shared_checks.proofs.Facts.{Lent, area-facts, Named, board-facts, standard-enough}
-use Rattle.read_check.proofs.Readable.{Readable, readable, points-line}
+use Rattle.read_check.proofs.Readable.{Readable, readable}
 use Rattle.read_check.proofs.check_read.Statement.{statement}
 use Rattle.read_check.proofs.check_read.Tie as tie
 
@@ -28,11 +28,8 @@ abbrev R : tie.Start → Record
 R g = recordOf (g .args .sizes) (g .args .capacity) (g .args .written) (g .args .len) (g .args .marks .now)
 
 -- the lines that each check asks, and those after it
-abbrev points : tie.Start → List (List Line)
-points g = (Points when equalPoints standard (readRuns (g .args .sizes) (g .args .boards .now)) ∷ []) ∷ []
-
 abbrev disagrees : tie.Start → List (List Line)
-disagrees g = (Disagree when not (given (fileHeld standard (R g) (g .args .area .now) (g .args .boards .now))) ∷ []) ∷ points g
+disagrees g = (Disagree when not (given (fileHeld standard (R g) (g .args .area .now) (g .args .boards .now))) ∷ []) ∷ []
 
 abbrev shorts : tie.Start → List (List Line)
 shorts g = (shortLine (g .args .out .now) (g .args .len) ∷ []) ∷ disagrees g
@@ -135,27 +132,6 @@ is-agrees c =
     c .check-agrees .ensures
     ∙ ap (λ (xs : List ℕ). asked (Disagree when not (given (fileHeld xs (R g) (g .args .area .now) (g .args .boards .now))))) (g .pre .points-are)
 
-no-agrees : (c : tie.After-disagree) → Refuse (c .disagree .given .0 .0) ≡ answer (st-agrees (c .before .before))
-no-agrees c = let k = c .before .before in refuses _ (on-agrees k) (is-agrees k) (c .disagree .given .1)
-
--- 11 POINTS
-abbrev at-agrees : tie.After-check-points → tie.After-check-agrees
-at-agrees c = c .before .before .before
-
-abbrev st-points : tie.After-check-points → tie.Start
-st-points c = st-agrees (at-agrees c)
-
-on-points : (c : tie.After-check-points) → thens (points (st-points c)) ≡ answer (st-points c)
-on-points c = let k = at-agrees c in goes-on (on-agrees k) (is-agrees k) (cc)
-
-is-points : (c : tie.After-check-points)
-    → let g = st-points c in c .check-points .result ≡ asked (Points when equalPoints standard (readRuns (g .args .sizes) (g .args .boards .now)))
-is-points c =
-    let g = st-points c in
-    let k = at-room (at-count (at-agrees c)) in
-    c .check-points .ensures
-    ∙ points-line (g .args .sizes) (g .args .points .now) (g .args .boards .now) (g .pre .points-are) (readable-on k .is-ready .stated .is-legal) (named-on k .known) (named-on k .all-different)
-
 agrees-asks : tie.Need-check-agrees-requires
 agrees-asks c κs =
     let k = at-room c in
@@ -186,8 +162,4 @@ check-read-spec =
     (λ c. search needs)
     (λ c κs. readable-on (c .before .before) .is-ready .stated)
     agrees-asks
-    (λ c. search needs)
-    (λ c. no-agrees (c .before))
-    (λ c. search needs)
-    (λ c κs. readable-on (at-room (at-count (c .before .before))) .is-ready .few-points)
-    (λ c. ends (on-points c) (is-points c)))
+    (λ c. ends (on-agrees c) (is-agrees c)))

@@ -1,28 +1,27 @@
 -- `repair_check::check_repair` meets its contract: each early return is the first line that holds.
 -- Assumes nothing.
 use Prim.Native.Nat.{ℕ, _*_}
-use mathlib.Core.Path.{_≡_, refl, sym, ap, _∙_}
+use mathlib.Core.Path.{_≡_, sym, ap, _∙_}
+use mathlib.Core.Bool.{true}
 use mathlib.Core.List.{List, [], _∷_, _++_}
 use native.Mathlib.Omega.{arith}
 use lib.Dec.{eqb}
 use lib.ListN.{length}
 use borrow.Author.Needs.{needs}
-use Rattle.sizes.specs.declared.Refusal.the-variants.{Points}
 use Rattle.sizes.specs.declared.Check.{Check}
 use Rattle.sizes.specs.declared.Check.the-variants.{Refuse}
-use Rattle.sizes.specs.Refusals.{Line, _when_, first, storeOrder}
-use Rattle.mbcr.specs.Share.{standard}
-use Rattle.board_spec.specs.Calls.{countLine, nodeLine, equalPoints}
+use Rattle.sizes.specs.Sizing.{legal}
+use Rattle.sizes.specs.Refusals.{Line, first, storeOrder}
+use Rattle.board_spec.specs.Calls.{countLine, nodeLine}
 use Rattle.store_spec.specs.Record.{Record}
-use Rattle.store_spec.specs.Packets.{repairRuns}
+use Rattle.store_spec.proofs.Records.{sound-facts}
 use Rattle.store_spec.specs.Calls.{emptyLine, downLine, repairLines}
-use Rattle.checks.specs.Steps.{asked}
 use Rattle.checks.proofs.Chain.{thens, grouped, goes-on, refuses, ends}
 use Rattle.store_checks.specs.Steps.{recordOf}
 use Rattle.store_checks.proofs.Repairs.{repeatOf}
 use Rattle.shared_checks.specs.Steps.{areaLines}
-use Rattle.shared_checks.proofs.Facts.{area-facts, Ready, ready, standard-enough}
-use Rattle.repair_check.proofs.Repairable.{few-helpers, counted, points-line}
+use Rattle.shared_checks.proofs.Facts.{area-facts}
+use Rattle.repair_check.proofs.Repairable.{few-helpers, counted}
 use Rattle.repair_check.proofs.check_repair.Statement.{statement}
 use Rattle.repair_check.proofs.check_repair.Tie as tie
 
@@ -30,11 +29,8 @@ abbrev R : tie.Start → Record
 R g = recordOf (g .args .sizes) (g .args .capacity) (g .args .written) (g .args .len) (g .args .marks .now)
 
 -- the lines that each check asks, and those after it
-abbrev points : tie.Start → List (List Line)
-points g = (Points when equalPoints standard (repairRuns (R g) (g .args .fresh .now) (g .args .helpers .now)) ∷ []) ∷ []
-
 abbrev downs : tie.Start → List (List Line)
-downs g = (downLine (R g) (g .args .helpers .now) ∷ []) ∷ points g
+downs g = (downLine (R g) (g .args .helpers .now) ∷ []) ∷ []
 
 abbrev repeats : tie.Start → List (List Line)
 repeats g = (repeatOf (g .args .sizes .d) (g .args .fresh .now) (g .args .helpers .now) ∷ []) ∷ downs g
@@ -54,7 +50,7 @@ abbrev areas : tie.Start → List (List Line)
 areas g = areaLines (R g) (g .args .lent) ∷ empties g
 
 abbrev answer : tie.Start → Check
-answer g = first storeOrder (repairLines standard (R g) (g .args .lent) (g .args .fresh .now) (g .args .helpers .now))
+answer g = first storeOrder (repairLines (R g) (g .args .lent) (g .args .fresh .now) (g .args .helpers .now))
 
 whole : (g : tie.Start) → thens (areas g) ≡ answer g
 unfolding repairLines
@@ -62,16 +58,16 @@ whole g = grouped (areas g)
 
 -- 1 SIZE, 2 AREA
 abbrev st-area : tie.After-check-area → tie.Start
-st-area c = c .before .before .before .before .before
+st-area c = c .before .before .before .before
 
 no-area : (c : tie.After-area) → Refuse (c .area .given .0 .0) ≡ answer (st-area (c .before .before))
 no-area c = let k = c .before .before in refuses _ (whole (st-area k)) (k .check-area .ensures) (c .area .given .1)
 
 -- what is known of the record past it
-ready-on : (c : tie.After-enum-told) → let g = st-area (c .before .before) in Ready (R g) (g .args .points .now)
-ready-on c =
+legal-on : (c : tie.After-enum-told) → legal (st-area (c .before .before) .args .sizes) ≡ true
+legal-on c =
     let k = c .before .before in
-    ready _ _ (standard-enough _ (st-area k .pre)) (area-facts _ _ (sym (k .check-area .ensures) ∙ c .enum-told .given .1) .is-sound)
+    sound-facts _ (area-facts _ _ (sym (k .check-area .ensures) ∙ c .enum-told .given .1) .is-sound) .is-legal
 
 -- 8 EMPTY
 abbrev at-area : tie.After-check-written → tie.After-check-area
@@ -141,29 +137,6 @@ st-down c = st-repeat (at-repeat c)
 on-down : (c : tie.After-check-service) → thens (downs (st-down c)) ≡ answer (st-down c)
 on-down c = goes-on (on-repeat (at-repeat c)) (at-repeat c .check-fresh .ensures) (cc)
 
-no-down : (c : tie.After-down) → Refuse (c .down .given .0 .0) ≡ answer (st-down (c .before .before))
-no-down c = let k = c .before .before in refuses _ (on-down k) (k .check-service .ensures) (c .down .given .1)
-
--- 11 POINTS
-abbrev at-down : tie.After-check-points → tie.After-check-service
-at-down c = c .before .before .before
-
-abbrev st-points : tie.After-check-points → tie.Start
-st-points c = st-down (at-down c)
-
-on-points : (c : tie.After-check-points) → thens (points (st-points c)) ≡ answer (st-points c)
-on-points c = goes-on (on-down (at-down c)) (at-down c .check-service .ensures) (cc)
-
-is-points : (c : tie.After-check-points)
-    → let g = st-points c in c .check-points .result ≡ asked (Points when equalPoints standard (repairRuns (R g) (g .args .fresh .now) (g .args .helpers .now)))
-is-points c =
-    let g = st-points c in
-    let k = at-repeat (at-down c) in
-    let n = at-node k in
-    c .check-points .ensures
-    ∙ points-line (R g) (g .args .points .now) (g .args .fresh .now) (g .args .helpers .now) (g .pre) (ready-on (at-empty (at-count n) .before) .stated .is-legal)
-    (sym (n .check-two-lists .ensures) ∙ k .before .enum-told4 .given .1) (sym (k .check-fresh .ensures) ∙ at-down c .before .enum-told5 .given .1)
-
 -- what the checks ask
 fresh-asks : tie.Need-check-fresh-requires
 fresh-asks c κs =
@@ -172,7 +145,7 @@ fresh-asks c κs =
     let e = counts-on n in
     record {
       whole = e .1 ∙ ap (λ (m : ℕ). m * z .d) (sym (e .0));
-      few = omega (arith, e .1, few-helpers z (ready-on (at-empty (at-count n) .before) .stated .is-legal));
+      few = omega (arith, e .1, few-helpers z (legal-on (at-empty (at-count n) .before)));
     }
 
 pub check-repair-spec : {M : Type 1} → statement M
@@ -187,7 +160,7 @@ check-repair-spec =
     (λ c. search needs)
     (λ c. no-empty (c .before))
     (λ c. search needs)
-    (λ c. let k = c .before .before .before in omega (arith, few-helpers (st-empty k .args .sizes) (ready-on (k .before) .stated .is-legal)))
+    (λ c. let k = c .before .before .before in omega (arith, few-helpers (st-empty k .args .sizes) (legal-on (k .before))))
     (λ c κs. search needs)
     (λ c. search needs)
     (λ c. no-count (c .before))
@@ -201,8 +174,4 @@ check-repair-spec =
     (λ c. no-repeat (c .before))
     (λ c. search needs)
     (λ c κs. search needs)
-    (λ c. search needs)
-    (λ c. no-down (c .before))
-    (λ c. search needs)
-    (λ c κs. ready-on (at-empty (at-count (at-node (at-repeat (c .before .before)))) .before) .few-points)
-    (λ c. ends (on-points c) (is-points c)))
+    (λ c. ends (on-down c) (c .check-service .ensures)))

@@ -1,6 +1,6 @@
 -- `store::Store::repair` meets its contract: it hands on what its check refuses, and past it the fresh boards are rebuilt.
 -- Assumes nothing.
-use mathlib.Core.Path.{_≡_, refl, sym, ap, _∙_}
+use mathlib.Core.Path.{_≡_, sym, _∙_}
 use mathlib.Core.List.{[]}
 use native.Mathlib.Omega.{arith}
 use lib.ListN.{length}
@@ -20,17 +20,17 @@ use Rattle.store.proofs.Store.repair.Statement.{statement}
 use Rattle.store.proofs.Store.repair.Tie as tie
 
 -- the places
-abbrev at-points : tie.After-check-repair → tie.After-standard-points
-at-points c = c .before .before .before
-
 abbrev st : tie.After-check-repair → tie.Start
-st c = at-points c .before .before .before .before .before .before
+st c = c .before .before .before .before .before .before .before
 
 abbrev R : tie.After-check-repair → Record
 R c = recordIn (st c .args .self)
 
+abbrev at-points : tie.After-stripe-count → tie.After-standard-points
+at-points c = c .before .before .before .before
+
 abbrev at-told : tie.After-stripe-count → tie.After-enum-told
-at-told c = c .before .before .before .before
+at-told c = at-points c .before
 
 abbrev at-count : tie.After-repair-shares-arg → tie.After-stripe-count
 at-count c = c .before .before .before .before
@@ -43,19 +43,19 @@ passed : (c : tie.After-enum-told)
     → let k = c .before .before in let a = st k .args in checked standard (R k) (a .area .now) (a .fresh .now) (a .helpers .now) ≡ Pass
 passed c = sym (c .before .before .check-repair .ensures) ∙ c .enum-told .given .1
 
-asks : (c : tie.After-enum-told)
-    → let k = c .before .before in let a = st k .args in Repairable (R k) (at-points k .standard-points .result) (length (a .area .now)) (a .fresh .now) (a .helpers .now)
+asks : (c : tie.After-standard-points)
+    → let k = c .before .before .before in let a = st k .args in Repairable (R k) (c .standard-points .result) (length (a .area .now)) (a .fresh .now) (a .helpers .now)
 asks c =
-    let k = c .before .before in
+    let k = c .before .before .before in
     let a = st k .args in
-    repairable (R k) _ _ (a .fresh .now) (a .helpers .now) (standard-enough _ (at-points k .standard-points .ensures))
-    (repair-facts standard (R k) _ (a .fresh .now) (a .helpers .now) (passed c))
+    repairable (R k) _ _ (a .fresh .now) (a .helpers .now) (standard-enough _ (c .standard-points .ensures))
+    (repair-facts (R k) _ (a .fresh .now) (a .helpers .now) (passed (c .before)))
 
 -- the work
 shares-ask : tie.Need-repair-shares-requires
 shares-ask c κs =
     let n = at-count c in
-    let f = asks (at-told n) in
+    let f = asks (at-points n) in
     let r = f .is-ready in
     let e = n .stripe-count .ensures .0 in (
       r .stated .is-legal,
@@ -78,10 +78,10 @@ marks-long c = search needs
 
 marks-ask : tie.Need-marks-on-requires
 marks-ask c κs =
-    let t = at-told (at-count (at-shares c .before)) in
-    let k = t .before .before in
-    let f = asks t in
-    below-more (R k .sizes .n) (length (R k .marks)) (st k .args .fresh .now) (omega (arith, marks-long (k .before .before), legal-facts _ (f .is-ready .stated .is-legal) .few)) (f .fresh-known)
+    let p = at-points (at-count (at-shares c .before)) in
+    let k = p .before .before .before in
+    let f = asks p in
+    below-more (R k .sizes .n) (length (R k .marks)) (st k .args .fresh .now) (omega (arith, marks-long (k .before), legal-facts _ (f .is-ready .stated .is-legal) .few)) (f .fresh-known)
 
 repair-done : tie.Need-returns-2
 repair-done c =
@@ -90,7 +90,7 @@ repair-done c =
     let n = at-count (w .before) in
     let k = at-told n .before .before in
     let a = st k .args in
-    repair-works standard (R k) (a .area .now) (a .fresh .now) (a .helpers .now) _ _ _ _ _ (passed (at-told n)) (at-points k .standard-points .ensures) (n .stripe-count .ensures .0)
+    repair-works standard (R k) (a .area .now) (a .fresh .now) (a .helpers .now) _ _ _ _ _ (passed (at-told n)) (at-points n .standard-points .ensures) (n .stripe-count .ensures .0)
     (w .before .before .before .before .bytes-moved .ensures) (m .marks-on .ensures) (w .repair-shares .ensures)
 
 repair-refused : (c : tie.After-x)
@@ -104,22 +104,21 @@ pub repair-spec : {M : Type 1} → statement M
 repair-spec =
     tie.close
     (tie.spec
-    (λ c κs. search needs)
     marks-long
-    (λ c. search needs)
     (λ c κs. search needs)
     (λ c. search needs)
     (λ c κs. search needs)
     (λ c. c .refuse .ensures _ [] ∙ repair-refused (c .before .before))
     (λ c. search needs)
+    (λ c κs. search needs)
     (λ c. search needs)
     (λ c κs. search needs)
     (λ c κs. asks (c .before .before .before) .is-ready .stated)
-    (λ c κs. record { is-legal = asks (at-told c) .is-ready .stated .is-legal; few = c .stripe-count .ensures .1 })
+    (λ c κs. record { is-legal = asks (at-points c) .is-ready .stated .is-legal; few = c .stripe-count .ensures .1 })
     (λ c. search needs)
     (λ c. search needs)
     shares-ask
-    (λ c. marks-long (at-told (at-count (at-shares c .before)) .before .before .before .before))
+    (λ c. marks-long (at-told (at-count (at-shares c .before)) .before .before .before))
     marks-ask
     (λ c. search needs)
     repair-done)
