@@ -36,7 +36,7 @@ tables=$(ls crates/*/specs/*Figures.antt)
 claims=$(ls crates/*/specs/*Laws.antt crates/*/specs/Demand?.antt crates/*/specs/Stripes.antt crates/*/specs/Premises.antt crates/*/specs/Gives.antt crates/*/specs/Claims.antt crates/*/specs/Tight.antt crates/*/specs/Runs.antt)
 definitions=$(ls crates/*/specs/*.antt | grep -v -e '/Lib.antt$')
 # what only inner functions cite: no public call's contract rests on it
-inner=$(ls crates/*/specs/Steps.antt)
+inner=$(ls crates/*/specs/Steps.antt crates/gf256_mul/specs/Tables.antt)
 # the archive's words, beside the calls that they are for
 archive='crates/answer_word/specs/Answers.antt crates/words/specs/Words.antt crates/zebrankai/specs/Archive.antt crates/zebrankai/specs/Lent.antt'
 for f in $tables $claims $inner $archive; do definitions=$(printf '%s\n' $definitions | grep -vxF "$f"); done

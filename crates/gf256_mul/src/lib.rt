@@ -1,6 +1,9 @@
-// The sum and the product of two bytes, by the definitions of the crate gf256. A product is the sum of some of eight multiples of a factor:
-// with no table, and compiled to no branch, so that a row is multiplied many bytes at a time.
+// The sum and the product of two bytes, by the definitions of the crate gf256. `mul` takes a product from two tables, of the powers of 02 and of
+// the logarithms. `times` is for a row that has one factor: the sum of some of eight multiples of that factor, with no table, and compiled to no
+// branch, so that a row is multiplied many bytes at a time.
 // Assumes nothing.
+mod tables; // tables.rt: the powers of 02 and the logarithms
+
 ghost use mathlib.Core.Path.{_≡_};
 ghost use Prim.Native.Nat.{_*_, _%_};
 ghost use Rattle.gf256.specs.Field.{add, mul};
@@ -77,9 +80,20 @@ pub fn add(a: u8, b: u8) -> u8
     a ^ b
 }
 
-// The product of a and b.
+// The product of a and b: 00 where a factor is 00, else the power of 02 at the sum of their logarithms, less 255 where it is 255 or more.
 pub fn mul(a: u8, b: u8) -> u8
     ensures { λ r. ⌜ r ≡ mul a b ⌝ }
 {
-    times(multiples_of(a), b)
+    if a == 0 {
+        return 0;
+    }
+    if b == 0 {
+        return 0;
+    }
+    let n = tables::log(a) as usize + tables::log(b) as usize;
+    if n < 255 {
+        tables::exp(n)
+    } else {
+        tables::exp(n - 255)
+    }
 }

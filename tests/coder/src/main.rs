@@ -1,12 +1,13 @@
 //! The unrelated coder: holds the archive to a coder that shares no method with it, and reports each mismatch with what repeats it.
 //!
 //!     coder [--seed N] [--calls N] [--only CASE] [--wrong answer|eleven|byte|word] [--trace] [--verbose]
+//!     coder --products
 //!
-//! First the figures of document 01 are run, then random cases until so many calls are made: single calls at board level, single calls of the
-//! store over made-up records and areas, long histories against a ledger, and second files that k − 1 boards do not tell from the first
-//! (request A.13 of document 02). Each case draws from its own seed, made of the run's seed and the case's number: `--only` repeats one case.
+//! First the figures of document 01 are run and products of bytes tried, then random cases until so many calls are made: single calls at board
+//! level, single calls of the store over made-up records and areas, long histories against a ledger, and second files that k − 1 boards do not
+//! tell from the first (request A.13 of document 02). Each case draws from its own seed, made of the run's seed and the case's number: `--only` repeats one case.
 //! `--wrong` alters what the archive answers to one call, to show that this is reported. `--trace` prints each call before it is made,
-//! `--verbose` how often each call gave each refusal.
+//! `--verbose` how often each call gave each refusal. `--products` makes no call: it writes all products and inverses of the coder's own field.
 //!
 //! The last line counts calls and mismatches. The exit code is 1 where there is a mismatch, or where in a run of 20,000 calls or more some
 //! refusal that a call can give was never met.
@@ -22,6 +23,7 @@ mod figures;
 mod histories;
 mod ledger;
 mod matrix;
+mod products;
 mod random;
 mod spoil;
 mod store;
@@ -31,6 +33,7 @@ mod tight;
 mod trial;
 
 use random::Random;
+use std::io::Write;
 use std::process::ExitCode;
 use std::sync::atomic::{AtomicU64, Ordering};
 use trial::{Place, Trial, Wrong, WrongKind};
@@ -45,10 +48,12 @@ struct Options {
     wrong: Option<WrongKind>,
     trace: bool,
     verbose: bool,
+    products: bool,
 }
 
 fn options() -> Result<Options, String> {
-    let mut options = Options { seed: 1, calls: 300_000, only: None, wrong: None, trace: false, verbose: false };
+    let mut options =
+        Options { seed: 1, calls: 300_000, only: None, wrong: None, trace: false, verbose: false, products: false };
     let mut words = std::env::args().skip(1);
     while let Some(word) = words.next() {
         let mut number = || {
@@ -61,6 +66,7 @@ fn options() -> Result<Options, String> {
             "--only" => options.only = Some(number()?),
             "--trace" => options.trace = true,
             "--verbose" => options.verbose = true,
+            "--products" => options.products = true,
             "--wrong" => options.wrong = Some(wrong_kind(words.next())?),
             _ => return Err(format!("{word}: not an option")),
         }
@@ -122,6 +128,12 @@ fn main() -> ExitCode {
             return ExitCode::from(2);
         }
     };
+    if options.products {
+        return match std::io::stdout().write_all(&products::rows()) {
+            Ok(()) => ExitCode::SUCCESS,
+            Err(_) => ExitCode::FAILURE,
+        };
+    }
     tell_where(options.seed);
     // a fault in the first three quarters, so that a call that fits it follows
     let at = 1 + Random::of_case(options.seed, u64::MAX).next() % (options.calls.max(4) * 3 / 4);
@@ -132,6 +144,7 @@ fn main() -> ExitCode {
         run_case(&mut trial, case);
     } else {
         figures::run(&mut trial);
+        products::run(&mut trial);
         let mut case = 0;
         while trial.calls < options.calls {
             run_case(&mut trial, case);
