@@ -1,15 +1,15 @@
 -- Tables of multiples: a number is the sum of its four windows, so a product is the sum of four of the sixteen multiples.
 -- Assumes nothing.
 use mathlib.Core.Path.{_≡_, refl, sym, ap, ap₂, _∙_}
-use mathlib.Core.List.{List, [], _∷_, _++_}
-use Prim.Native.Nat.{ℕ, zero, suc, _+_, _*_, _-_, _/_, _%_, _^_, _<_, _≤_}
+use mathlib.Core.List.{List, [], _∷_}
+use Prim.Native.Nat.{ℕ, zero, suc, _+_, _*_, _/_, _%_, _<_}
 use native.Mathlib.Omega.{arith}
 use lib.ListN.{length, getD, take, drop, replicate}
 use lib.Seq.{drop-cons}
 use lib.Dec.{T, eqb, eqb→eq}
-use Rattle.lists.specs.Lists.{All, join, piece}
+use Rattle.lists.specs.Lists.{piece}
 use Rattle.lists.proofs.Pieces.{piece-join}
-use Rattle.gf256.specs.Field.{add, mul}
+use Rattle.gf256.specs.Field.{add}
 use Rattle.gf256.proofs.Field.{all, all-at, add-mul}
 use Rattle.gf256.proofs.Sums.{add-zero-l, add-zero-r, add-assoc}
 use Rattle.polynomial.specs.Polynomial.{plus, scale}
@@ -27,7 +27,8 @@ windows-test = tt
 windows-are : (c : ℕ) → c < 256 → windows c ≡ c
 windows-are c h = eqb→eq _ _ (all-at 256 _ windows-test c h)
 
-scale-plus : (a b : ℕ) (row : List ℕ) → plus (scale a row) (scale b row) ≡ scale (add a b) row
+-- two multiples of a row
+pub scale-plus : (a b : ℕ) (row : List ℕ) → plus (scale a row) (scale b row) ≡ scale (add a b) row
 scale-plus a b [] = refl
 scale-plus a b (x ∷ row) = ap₂ {C = List ℕ} (λ y l. y ∷ l) (sym (add-mul x a b)) (scale-plus a b row)
 

@@ -2,11 +2,11 @@
 -- Assumes nothing.
 use mathlib.Core.Path.{_≡_, refl, sym, ap, ap₂, _∙_}
 use mathlib.Core.List.{List, [], _∷_, _++_, append-nil, append-assoc}
-use Prim.Native.Nat.{ℕ, zero, suc, _+_, _*_, _-_, _/_, _%_, _^_, _<_, _≤_}
+use Prim.Native.Nat.{ℕ, zero, suc, _+_, _*_, _-_, _/_, _%_, _<_, _≤_}
 use native.Mathlib.Nat.{add-zero}
 use native.Mathlib.Numerals.{add-one}
 use native.Mathlib.Omega.{arith}
-use lib.ListN.{length, getD, take, drop, set, length-drop, drop-of-length-le}
+use lib.ListN.{length, getD, take, drop, set, length-append, length-drop, drop-of-length-le}
 use lib.Seq.{getD-drop, drop-drop, take-add, take-all, take-at, drop-at, take-suc-set}
 use lib.Bits.{bitXor}
 use borrow.Rule.Slice.PartMut.{putMid}
@@ -131,25 +131,32 @@ pub word-end : (out : List ℕ) (x v j : ℕ) → j ≡ 8 → length out ≡ 8 �
 word-end out x v j e l inv =
     sym (ap (λ (k : ℕ). take k out ++ bytesOf (8 - k) v) e ∙ append-nil (take 8 out) ∙ take-all 8 out (omega arith)) ∙ inv
 
--- four words in their places
+-- ---- lists of one length put side by side
+
 put-next : (p r y l : List ℕ) (a m : ℕ) → length p ≡ a → l ≡ p ++ r → putMid a m l y ≡ (p ++ y) ++ drop m r
 put-next p r y l a m lp e =
     ap (λ (l : List ℕ). putMid a m l y) e
     ∙ ap₂ {C = List ℕ} (λ (x : List ℕ) (z : List ℕ). x ++ (y ++ drop m z)) (take-at p r a lp) (drop-at p r a lp)
     ∙ sym (append-assoc p y (drop m r))
 
-pub put-four : (l : List ℕ) (x : Row) (wa wb wc wd : List ℕ) → length l ≡ 32 → wa ≡ bytesOf 8 (x .a) → wb ≡ bytesOf 8 (x .b)
+-- four of them fill a list
+pub put-four : (w : ℕ) (l a b e f : List ℕ) → length l ≡ w + w + w + w → length a ≡ w → length b ≡ w → length e ≡ w
+    → putMid (w + w + w) w (putMid (w + w) w (putMid w w (a ++ drop w l) b) e) f ≡ a ++ (b ++ (e ++ f))
+put-four w l a b e f h la lb le =
+    let r : List ℕ = drop w l in
+    let lab : length (a ++ b) ≡ w + w = length-append a b ∙ ap₂ _+_ la lb in
+    let labe : length ((a ++ b) ++ e) ≡ w + w + w = length-append (a ++ b) e ∙ ap₂ _+_ lab le in
+    let none : drop w (drop w (drop w r)) ≡ [] =
+    ap (drop w) (drop-drop w w r) ∙ drop-drop w (w + w) r ∙ drop-drop (w + w + w) w l ∙ drop-of-length-le l {i = w + (w + w + w)} (omega arith) in
+    put-next ((a ++ b) ++ e) (drop w (drop w r)) f _ (w + w + w) w labe (put-next (a ++ b) (drop w r) e _ (w + w) w lab (put-next a r b _ w w la refl))
+    ∙ ap (λ (z : List ℕ). (((a ++ b) ++ e) ++ f) ++ z) none ∙ simp (append-assoc, append-nil)
+
+-- the four words of a row in their places
+pub put-words : (l : List ℕ) (x : Row) (wa wb wc wd : List ℕ) → length l ≡ 32 → wa ≡ bytesOf 8 (x .a) → wb ≡ bytesOf 8 (x .b)
     → wc ≡ bytesOf 8 (x .c) → wd ≡ bytesOf 8 (x .d)
     → putMid 24 8 (putMid 16 8 (putMid 8 8 (wa ++ drop 8 l) wb) wc) wd ≡ rowBytes x
 unfolding rowBytes
-put-four l x wa wb wc wd h ea eb ec ed =
-    let a : List ℕ = bytesOf 8 (x .a) in
-    let b : List ℕ = bytesOf 8 (x .b) in
-    let e : List ℕ = bytesOf 8 (x .c) in
-    let f : List ℕ = bytesOf 8 (x .d) in
-    let r : List ℕ = drop 8 l in
+put-words l x wa wb wc wd h ea eb ec ed =
     rw (ea, eb, ec, ed)
-    (put-next ((a ++ b) ++ e) (drop 8 (drop 8 r)) f _ 24 8 refl
-    (put-next (a ++ b) (drop 8 r) e _ 16 8 refl (put-next a r b _ 8 8 refl refl))
-    ∙ ap (λ (z : List ℕ). (((a ++ b) ++ e) ++ f) ++ z)
-    (ap (drop 8) (drop-drop 8 8 r) ∙ drop-drop 8 16 r ∙ drop-drop 24 8 l ∙ drop-of-length-le l {i = 32} (omega arith)))
+    (put-four 8 l (bytesOf 8 (x .a)) (bytesOf 8 (x .b)) (bytesOf 8 (x .c)) (bytesOf 8 (x .d)) h
+    (length-bytes 8 (x .a)) (length-bytes 8 (x .b)) (length-bytes 8 (x .c)))

@@ -1,6 +1,6 @@
 -- `row_sums::put_row` meets its contract.
 -- Assumes nothing.
-use Rattle.row_sums.proofs.Words.{put-four}
+use Rattle.row_sums.proofs.Words.{put-words}
 use borrow.Author.Needs.{needs}
 use Rattle.row_sums.proofs.put_row.Statement.{statement}
 use Rattle.row_sums.proofs.put_row.Tie as tie
@@ -72,7 +72,7 @@ same-length c = search needs
 returns : tie.Need-returns
 returns c =
     let s = st c in
-    put-four (s .args .out .now) (s .args .x) _ _ _ _ (s .pre)
+    put-words (s .args .out .now) (s .args .x) _ _ _ _ (s .pre)
     ((put-word c) .put-word .ensures) ((put-word2 c) .put-word2 .ensures) ((put-word3 c) .put-word3 .ensures) (c .before .before .put-word4 .ensures)
 
 pub put-row-spec : {M : Type 1} → statement M

@@ -1,9 +1,9 @@
 -- `row_sums::row_sum` meets its contract. The loop's invariant: the sum so far and what the rows left add are the whole sum.
 -- Assumes nothing.
-use mathlib.Core.Path.{_≡_, refl, sym, ap, _∙_}
+use mathlib.Core.Path.{_≡_, sym, ap, _∙_}
 use mathlib.Core.List.{List, []}
-use Prim.Native.Nat.{ℕ, suc, _+_, _*_, _-_, _<_, _≤_}
-use lib.ListN.{length, getD, take, drop, drop-of-length-le}
+use Prim.Native.Nat.{ℕ, _-_, _<_, _≤_}
+use lib.ListN.{length, getD, drop, drop-of-length-le}
 use Rattle.polynomial.specs.Polynomial.{plus}
 use Rattle.row_sums.specs.Steps.{rowBytes, Tabled, Wide, combined}
 use Rattle.row_sums.proofs.Words.{length-row}
