@@ -8,7 +8,7 @@ use lib.ListN.{length, getD, take, drop, replicate}
 use lib.Seq.{drop-cons}
 use lib.Dec.{T, eqb, eqb→eq}
 use Rattle.lists.specs.Lists.{piece}
-use Rattle.lists.proofs.Pieces.{piece-join}
+use Rattle.lists.proofs.Pieces.{piece-join, length-join}
 use Rattle.gf256.specs.Field.{add}
 use Rattle.gf256.proofs.Field.{all, all-at, add-mul}
 use Rattle.gf256.proofs.Sums.{add-zero-l, add-zero-r, add-assoc}
@@ -36,6 +36,10 @@ scale-plus a b (x ∷ row) = ap₂ {C = List ℕ} (λ y l. y ∷ l) (sym (add-mu
 multiple : (row : List ℕ) (e : ℕ) → length row ≡ 32 → e < 16 → piece 32 e (multiples row) ≡ scale (factor e) row
 unfolding multiples
 multiple row e l h = piece-join 16 32 (λ e. scale (factor e) row) (λ e _. length-scale (factor e) row ∙ l) e h
+
+pub length-multiples : (row : List ℕ) → length row ≡ 32 → length (multiples row) ≡ 512
+unfolding multiples
+length-multiples row l = length-join 16 32 (λ e. scale (factor e) row) (λ e _. length-scale (factor e) row ∙ l)
 
 -- where it lies
 at : (t row : List ℕ) (e i : ℕ) → length row ≡ 32 → t ≡ multiples row → e < 16 → i ≡ e * 32 → take 32 (drop i t) ≡ scale (factor e) row
