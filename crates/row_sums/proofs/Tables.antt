@@ -67,19 +67,19 @@ wide-at [] i w h = absurd (omega arith)
 wide-at (row ∷ rows) zero w h = w .0
 wide-at (row ∷ rows) (suc i) w h = wide-at rows i (w .1) (omega arith)
 
-length-combined : (cs : List ℕ) (rows : List (List ℕ)) → Wide rows → length (combined cs rows) ≡ 32
+pub length-combined : (cs : List ℕ) (rows : List (List ℕ)) → Wide rows → length (combined cs rows) ≡ 32
 length-combined [] rows w = refl
 length-combined (c ∷ cs) [] w = refl
 length-combined (c ∷ cs) (row ∷ rows) w =
     length-plus (scale c row) (combined cs rows) (length-scale c row ∙ w .0 ∙ sym (length-combined cs rows (w .1))) ∙ length-scale c row ∙ w .0
 
-plus-assoc : (p q r : List ℕ) → plus (plus p q) r ≡ plus p (plus q r)
+pub plus-assoc : (p q r : List ℕ) → plus (plus p q) r ≡ plus p (plus q r)
 plus-assoc [] q r = refl
 plus-assoc (x ∷ p) [] r = refl
 plus-assoc (x ∷ p) (y ∷ q) [] = refl
 plus-assoc (x ∷ p) (y ∷ q) (z ∷ r) = ap₂ {C = List ℕ} (λ a l. a ∷ l) (add-assoc x y z) (plus-assoc p q r)
 
-zeros-plus : (n : ℕ) (p : List ℕ) → length p ≡ n → plus (replicate n 0) p ≡ p
+pub zeros-plus : (n : ℕ) (p : List ℕ) → length p ≡ n → plus (replicate n 0) p ≡ p
 zeros-plus zero p h = refl
 zeros-plus (suc n) [] h = absurd (omega arith)
 zeros-plus (suc n) (x ∷ p) h = ap₂ {C = List ℕ} (λ a l. a ∷ l) (add-zero-l x) (zeros-plus n p (omega arith))
@@ -90,7 +90,7 @@ plus-zeros zero (x ∷ p) h = absurd (omega arith)
 plus-zeros (suc n) [] h = absurd (omega arith)
 plus-zeros (suc n) (x ∷ p) h = ap₂ {C = List ℕ} (λ a l. a ∷ l) (add-zero-r x) (plus-zeros n p (omega arith))
 
-wide-drop : (i : ℕ) (rows : List (List ℕ)) → Wide rows → Wide (drop i rows)
+pub wide-drop : (i : ℕ) (rows : List (List ℕ)) → Wide rows → Wide (drop i rows)
 wide-drop zero rows w = w
 wide-drop (suc i) [] w = tt
 wide-drop (suc i) (row ∷ rows) w = wide-drop i rows (w .1)
