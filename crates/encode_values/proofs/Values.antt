@@ -16,7 +16,7 @@ use Rattle.sizes.proofs.Legal.{Legal}
 use Rattle.polynomial.specs.Polynomial.{eval, evals, atY}
 use Rattle.mbcr.specs.Share.{point, grid, F}
 use Rattle.mbcr.proofs.Shape.{upper-row, lower-row}
-use Rattle.encode_values.specs.Steps.{rowValues, boardValues}
+use Rattle.encode_values.specs.Steps.{rowValues}
 use Rattle.encode_values.proofs.Sums.{upperValues, length-upper, length-values}
 
 -- joins, one after the other
@@ -89,9 +89,27 @@ module _ (z : Sizes) (legal : Legal z) (u : List ℕ) (lu : length u ≡ B z) (x
       tabulate-ext d (λ i. getD rows (i * 32 + l) 0) (λ i. eval (getD (grid z u) i []) (point xs l)) (λ i h. row-byte rows rest i l e h hl)
       ∙ tabulate-map (λ row. eval row (point xs l)) d (grid z u) [] length-grid
 
-  -- and its values are those of F
-  pub columns-are : (rows rest : List ℕ) → rows ≡ rowValues z xs u ++ rest → join n (λ l. evals (tabulate d (λ i. getD rows (i * 32 + l) 0)) xs) ≡ boardValues z xs u
-  unfolding boardValues F
-  columns-are rows rest e =
-      join-ext n (λ l. evals (tabulate d (λ i. getD rows (i * 32 + l) 0)) xs) (λ l. evals (atY (grid z u) (point xs l)) xs)
-      (λ l h. ap (λ (p : List ℕ). evals p xs) (column-is rows rest l e (omega (arith, legal .few))))
+  -- its values are those of F
+  pub column-value : (rows rest : List ℕ) (l x : ℕ) → rows ≡ rowValues z xs u ++ rest → l < 32
+      → eval (tabulate d (λ i. getD rows (i * 32 + l) 0)) x ≡ F z u x (point xs l)
+  unfolding F
+  column-value rows rest l x e hl = ap (λ (p : List ℕ). eval p x) (column-is rows rest l e hl)
+
+  -- at all points
+  pub column-row : (rows rest row : List ℕ) (l b : ℕ) → rows ≡ rowValues z xs u ++ rest → row ≡ evals (tabulate d (λ i. getD rows (i * 32 + l) 0)) xs
+      → l < 32 → b < 32 → getD row b 0 ≡ F z u (point xs b) (point xs l)
+  column-row rows rest row l b e er hl hb =
+      ap (λ (t : List ℕ). getD t b 0) er ∙ map-at (λ x. eval (tabulate d (λ i. getD rows (i * 32 + l) 0)) x) xs b (omega arith)
+      ∙ column-value rows rest l (point xs b) e hl
+
+  -- and of all columns
+  pub columns-at : (rows rest values more : List ℕ) (l b : ℕ) → rows ≡ rowValues z xs u ++ rest
+      → values ≡ join n (λ l. evals (tabulate d (λ i. getD rows (i * 32 + l) 0)) xs) ++ more → l < n → b < 32
+      → getD values (l * 32 + b) 0 ≡ F z u (point xs b) (point xs l)
+  columns-at rows rest values more l b e ev hl hb =
+      let f : ℕ → List ℕ = λ l. evals (tabulate d (λ i. getD rows (i * 32 + l) 0)) xs in
+      let long : (l : ℕ) → length (f l) ≡ 32 = λ l. length-values (tabulate d (λ i. getD rows (i * 32 + l) 0)) xs lx in
+      ap (λ (t : List ℕ). getD t (l * 32 + b) 0) ev
+      ∙ List·getD-append (join n f) more 0 (l * 32 + b) (omega (arith, length-join n 32 f (λ l h. long l)))
+      ∙ sym (piece-at 32 l (join n f) b 0 hb)
+      ∙ column-row rows rest (piece 32 l (join n f)) l b e (piece-join n 32 f (λ l h. long l) l hl) (omega (arith, legal .few)) hb

@@ -12,7 +12,3 @@ module _ (z : Sizes) (points : List ℕ) (u : List ℕ) where
   -- row i has the values of the coefficient of X^i, a polynomial in Y, at all points
   unfoldable pub rowValues : List ℕ
   rowValues = join (z .d) (λ i. evals (getD (grid z u) i []) points)
-
-  -- row l has F at all points for X and the point of board l for Y
-  unfoldable pub boardValues : List ℕ
-  boardValues = join (z .n) (λ l. map (λ x. F z u x (point points l)) points)

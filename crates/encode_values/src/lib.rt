@@ -11,7 +11,7 @@ ghost use Rattle.sizes.specs.Sizing.{legal, B};
 ghost use Rattle.polynomial.specs.Polynomial.{evals};
 ghost use Rattle.row_sums.specs.Steps.{rowBytes, Tabled};
 ghost use Rattle.powers.specs.Steps.{powerRows};
-ghost use Rattle.encode_values.specs.Steps.{rowValues, boardValues};
+ghost use Rattle.encode_values.specs.Steps.{rowValues};
 use row_sums::Row;
 use sizes::Sizes;
 
@@ -90,13 +90,4 @@ pub fn column_values(tables: &[u8], d: usize, n: usize, rows: &[u8], values: &mu
         );
         l += 1;
     }
-}
-
-// F of a stripe at all points for X and the point of each board for Y, a row for each board, to the beginning of values. rows is for work.
-pub fn board_values(sizes: Sizes, tables: &[u8], u: &[u8], rows: &mut [u8], values: &mut [u8])
-    requires { ⌜ (legal sizes ≡ true) × (length (now tables) ≡ 16384) × (length (now u) ≡ B sizes) × (length (now rows) ≡ 992) × (length (now values) ≡ 1024) ⌝ }
-    ensures { λ _. ⌜ ((points : List ℕ) → length points ≡ 32 → Tabled (powerRows points (sizes .d + sizes .r)) (now (tables .entry)) → now (values .exit) ≡ boardValues sizes points (now (u .entry)) ++ drop (sizes .n * 32) (now (values .entry))) ⌝ }
-{
-    row_values(sizes, tables, u, rows);
-    column_values(tables, sizes.d, sizes.n, rows, values);
 }
