@@ -1,4 +1,4 @@
--- `stripe_rows::stripe_rows` meets its contract.
+-- `stripe_rows::stripe_rows` meets its contract. The callees' contracts, put together.
 -- Assumes nothing.
 use mathlib.Core.Path.{_≡_, refl, sym, ap, ap₂, _∙_}
 use Prim.Native.Nat.{ℕ, _+_, _*_, _-_, _<_, _≤_}
@@ -6,17 +6,35 @@ use native.Mathlib.Omega.{arith}
 use lib.ListN.{length}
 use borrow.Author.Needs.{needs}
 use borrow.Author.Needs.{needs}
+use mathlib.Core.List.{List, _++_}
+use lib.ListN.{drop}
+use lib.Seq.{length-take-le}
+use Rattle.sizes.specs.Sizing.{B}
+use Rattle.sizes.proofs.Legal.{legal-facts, B-most}
+use Rattle.mbcr.proofs.Shape.{length-stripe}
+use Rattle.encode_values.specs.Steps.{rowValues}
+use Rattle.stripe_rows.proofs.Stripe.{stripe-long, stripe-start, whole-stripe}
 use Rattle.stripe_rows.proofs.stripe_rows.Statement.{statement}
 use Rattle.stripe_rows.proofs.stripe_rows.Tie as tie
+
+-- the length of a stripe, and where stripe s starts
+long : (c : tie.After-stripe-len) → c .stripe-len .result ≡ B (c .before .before .before .before .args .sizes)
+long c = let s = c .before .before .before .before in stripe-long (s .args .sizes) _ (s .pre .0) (c .stripe-len .ensures)
+
+start : (c : tie.After-stripe-len) → (c .before .before .before .before .args .s * c .stripe-len .result ≤ 4096 * 992) × (c .stripe-len .result ≤ 992)
+start c =
+    let s = c .before .before .before .before in
+    let f = legal-facts _ (s .pre .0) in
+    (stripe-start (s .args .sizes) (s .args .s) (c .stripe-len .result) f (long c) (omega arith), omega (arith, long c, B-most _ f))
 
 stripe-len-requires : tie.Need-stripe-len-requires
 stripe-len-requires c κs = search needs
 
 mul-from : tie.Need-mul-from
-mul-from c = search needs
+mul-from c = let e = start c in omega arith
 
 add-to : tie.Need-add-to
-add-to c = search needs
+add-to c = let e = start c in omega arith
 
 sub-row-values : tie.Need-sub-row-values
 sub-row-values c = search needs
@@ -28,7 +46,11 @@ part-row-values-end : tie.Need-part-row-values-end
 part-row-values-end c = search needs
 
 row-values-requires : tie.Need-row-values-requires
-row-values-requires c κs = search needs
+row-values-requires c κs =
+    let s = c .before .before .before .before .before .before .before in
+    let a = s .args in
+    let e = whole-stripe (a .sizes) (a .file .now) (a .s) _ (long (c .before .before .before)) (c .before .before .if1 .taken) in
+    (s .pre .0, s .pre .1, ap length e ∙ length-stripe (a .sizes) (a .file .now) (a .s), s .pre .3)
 
 cut-rows-requires : tie.Need-cut-rows-requires
 cut-rows-requires c κs = search needs
@@ -37,13 +59,18 @@ same-length : tie.Need-same-length
 same-length c = search needs
 
 returns : tie.Need-returns
-returns c = search needs
+returns c =
+    λ xs lx t.
+    let s = c .before .before .before .before .before .before .before .before .before .before in
+    let a = s .args in
+    let e = whole-stripe (a .sizes) (a .file .now) (a .s) _ (long (c .before .before .before .before .before .before)) (c .before .before .before .before .before .if1 .taken) in
+    c .before .before .row-values .ensures xs lx t ∙ ap (λ (u : List ℕ). rowValues (a .sizes) xs u ++ drop (a .sizes .d * 32) (a .rows .now)) e
 
 same-length-2 : tie.Need-same-length-2
 same-length-2 c = search needs
 
 returns-2 : tie.Need-returns-2
-returns-2 c = search needs
+returns-2 c = c .before .before .cut-rows .ensures
 
 pub stripe-rows-spec : {M : Type 1} → statement M
 stripe-rows-spec =

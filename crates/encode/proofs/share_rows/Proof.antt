@@ -1,0 +1,81 @@
+-- `encode::share_rows` meets its contract. The callees' contracts, put together.
+-- Assumes nothing.
+use mathlib.Core.Path.{_≡_, refl, sym, ap, ap₂, _∙_}
+use Prim.Native.Nat.{ℕ, _+_, _*_, _-_, _<_, _≤_}
+use native.Mathlib.Omega.{arith}
+use lib.ListN.{length}
+use borrow.Author.Needs.{needs}
+use borrow.Author.Needs.{needs}
+use mathlib.Core.List.{List, _++_}
+use lib.ListN.{getD, drop, length-append}
+use Rattle.lists.specs.Lists.{tabulate}
+use Rattle.lists.proofs.Pieces.{tabulate-all, length-tabulate}
+use Rattle.sizes.proofs.Legal.{legal-facts}
+use Rattle.powers.specs.Steps.{powerRow, powerRows}
+use Rattle.powers.proofs.Turns.{powers-wide}
+use Rattle.encode_values.proofs.Sums.{values-sum, tabled-fewer}
+use Rattle.row_sums.proofs.Words.{length-row}
+use Rattle.encode.proofs.Shares.{share-made}
+use Rattle.encode.proofs.share_rows.Statement.{statement}
+use Rattle.encode.proofs.share_rows.Tie as tie
+
+slice-aggregate-rows-at : tie.Need-slice-aggregate-rows-at
+slice-aggregate-rows-at c = search needs
+
+rows-at-requires : tie.Need-rows-at-requires
+rows-at-requires c κs = let f = legal-facts _ (c .before .before .before .before .pre .0) in (omega arith, omega arith, refl)
+
+column-sum-requires : tie.Need-column-sum-requires
+column-sum-requires c κs = let f = legal-facts _ (c .before .before .before .before .before .before .pre .0) in search needs
+
+slice-aggregate-put-row : tie.Need-slice-aggregate-put-row
+slice-aggregate-put-row c = search needs
+
+put-row-requires : tie.Need-put-row-requires
+put-row-requires c κs = search needs
+
+slice-aggregate-keep-rows : tie.Need-slice-aggregate-keep-rows
+slice-aggregate-keep-rows c = search needs
+
+slice-aggregate-keep-rows-2 : tie.Need-slice-aggregate-keep-rows-2
+slice-aggregate-keep-rows-2 c = search needs
+
+keep-rows-requires : tie.Need-keep-rows-requires
+keep-rows-requires c κs =
+    let s = c .before .before .before .before .before .before .before .before .before .before .before .before .before in
+    let f = legal-facts _ (s .pre .0) in
+    (s .pre .0, s .pre .1, omega (arith, f .few, ap length (c .before .before .before .before .before .before .before .before .rows-at .ensures)), omega (arith, f .few, ap length (c .before .before .before .before .put-row .ensures), length-row (c .before .before .before .before .before .before .column-sum .result)), s .pre .4)
+
+same-length : tie.Need-same-length
+same-length c = search needs
+
+returns : tie.Need-returns
+returns c =
+    λ xs u rest lx lu t ex er.
+    let s = c .before .before .before .before .before .before .before .before .before .before .before .before .before .before .before .before in
+    let a = s .args in
+    let z = a .sizes in
+    let f = legal-facts _ (s .pre .0) in
+    let col : ℕ → ℕ = λ j. getD (a .rows .now) (j * 32 + a .i) 0 in
+    let lr : length (powerRows xs (z .d)) ≡ z .d = length-tabulate (z .d) (powerRow xs) in
+    c .before .before .keep-rows .ensures
+    ∙ share-made z f xs u (a .rows .now) rest _ _ (a .i) (a .x) lx lu (s .pre .1) ex er (c .before .before .before .before .before .before .before .before .before .before .before .rows-at .ensures)
+    (c .before .before .before .before .before .before .before .put-row .ensures
+    ∙ c .before .before .before .before .before .before .before .before .before .column-sum .ensures (powerRows xs (z .d)) (omega arith) (powers-wide xs (z .d) lx) (tabled-fewer xs (a .tables .now) (z .d) (z .d + z .r) (omega arith) t)
+    ∙ values-sum (tabulate (z .d) col) xs (z .d) lx (omega (arith, length-tabulate (z .d) col))
+    (tabulate-all (λ b. b < 256) (z .d) col (λ j h. omega (arith, c .before .before .before .before .before .before .before .before .before .before .before .before .before .before .shared-slice-known2 .given (j * 32 + a .i)))))
+
+pub share-rows-spec : {M : Type 1} → statement M
+share-rows-spec =
+    tie.close
+    (tie.spec
+    slice-aggregate-rows-at
+    rows-at-requires
+    column-sum-requires
+    slice-aggregate-put-row
+    put-row-requires
+    slice-aggregate-keep-rows
+    slice-aggregate-keep-rows-2
+    keep-rows-requires
+    same-length
+    returns)
