@@ -5,7 +5,7 @@ use mathlib.Core.List.{List, [], _++_, append-nil}
 use Prim.Native.Nat.{ℕ, _+_, _*_, _-_, _%_, _<_, _≤_}
 use native.Mathlib.Nat.{mod-lt, mod-add-mod, add-assoc}
 use native.Mathlib.Omega.{arith}
-use lib.ListN.{length, getD, take, drop, set, length-drop, drop-of-length-le}
+use lib.ListN.{length, getD, take, drop, set, length-append, length-drop, drop-of-length-le}
 use lib.Seq.{take-at, drop-at, getD-take, getD-drop, length-take-le}
 use borrow.Rule.Slice.PartMut.{putMid}
 use Rattle.lists.proofs.Pieces.{length-tabulate, tabulate-ext, fill-loop, fill-all}
@@ -67,3 +67,9 @@ around-turn n f i t b v out₀ out h eb ev e = fill-loop (λ t. f ((i + t) % n))
 pub around-end : (n : ℕ) (f : ℕ → ℕ) (i t : ℕ) (out₀ out : List ℕ) → t ≡ length out₀ → out ≡ around n f i t ++ drop t out₀ → out ≡ around n f i (length out₀)
 around-end n f i t out₀ out e h =
     h ∙ ap (λ (m : ℕ). around n f i m ++ drop m out₀) e ∙ fill-all (λ t. f ((i + t) % n)) out₀ (length out₀) (omega arith)
+
+pub length-keptOf : (z : Sizes) (f g : ℕ → ℕ) (i : ℕ) → length (keptOf z f g i) ≡ z .d + z .r + (z .d - 1)
+unfolding keptOf
+length-keptOf z f g i =
+    length-append (around (z .n) f i (z .d + z .r)) (around (z .n) g ((i + 1) % z .n) (z .d - 1))
+    ∙ ap₂ _+_ (length-around (z .n) f i (z .d + z .r)) (length-around (z .n) g ((i + 1) % z .n) (z .d - 1))
