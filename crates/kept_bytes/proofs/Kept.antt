@@ -1,6 +1,6 @@
 -- What a board keeps of a stripe: F at its neighbours' points, taken around the boards.
 -- Assumes nothing.
-use mathlib.Core.Path.{_≡_, refl, sym, ap, ap₂, _∙_}
+use mathlib.Core.Path.{_≡_, sym, ap, ap₂, _∙_}
 use mathlib.Core.List.{List, _++_, map}
 use Prim.Native.Nat.{ℕ, zero, suc, _+_, _-_, _%_, _<_, _≤_}
 use native.Mathlib.Nat.{mod-add-mod}
@@ -11,7 +11,7 @@ use Rattle.lists.proofs.Pieces.{map-tabulate, tabulate-ext}
 use Rattle.sizes.specs.declared.Sizes.{Sizes}
 use Rattle.sizes.proofs.Legal.{Legal}
 use Rattle.mbcr.specs.Share.{point, points, neighbours, F, symbols, kept}
-use Rattle.kept_bytes.specs.Steps.{around, keptOf}
+use Rattle.kept_bytes.specs.Steps.{keptOf}
 use Rattle.kept_bytes.proofs.Turns.{around-ext}
 
 -- values at points, by the boards

@@ -2,15 +2,13 @@
 -- Assumes nothing.
 use mathlib.Core.Path.{_≡_, refl, sym, ap, ap₂, _∙_}
 use mathlib.Core.List.{List, [], _∷_, _++_}
-use Prim.Native.Nat.{ℕ, suc, _+_, _*_, _-_, _<_, _≤_}
+use Prim.Native.Nat.{ℕ, suc, _+_, _*_, _<_, _≤_}
 use native.Mathlib.Numerals.{add-one}
 use native.Mathlib.Omega.{arith}
-use native.Mathlib.Nat.{suc-mul}
 use lib.ListN.{length, take, drop, replicate, length-map, length-drop}
 use lib.Seq.{take-append-le, drop-append-le}
-use borrow.Rule.Slice.PartMut.{putMid}
 use Rattle.lists.specs.Lists.{join, piece}
-use Rattle.lists.proofs.Pieces.{length-tabulate, tabulate-at, tabulate-all, length-join, piece-join, join-turn}
+use Rattle.lists.proofs.Pieces.{length-tabulate, tabulate-at, tabulate-all, length-join, piece-join}
 use Rattle.gf256.proofs.Field.{mul-comm}
 use Rattle.polynomial.specs.Polynomial.{power}
 use Rattle.row_sums.specs.Steps.{multiples, Tabled, Wide}
@@ -47,17 +45,6 @@ front : (i m : ℕ) (a b : List ℕ) → i + m ≤ length a → take m (drop i (
 front i m a b h =
     let g : m ≤ length (drop i a) = omega (arith, length-drop i a) in
     ap (take m) (drop-append-le i a b (omega arith)) ∙ take-append-le m (drop i a) b g
-
--- a turn of a loop that puts one piece of w bytes behind the others
-pub join-loop : (f : ℕ → List ℕ) (w s : ℕ) (out₀ out ys : List ℕ) → ((i : ℕ) → i < s → length (f i) ≡ w) → ys ≡ f s
-    → out ≡ join s f ++ drop (s * w) out₀ → putMid (s * w) (s * w + w - s * w) out ys ≡ join (s + 1) f ++ drop ((s + 1) * w) out₀
-join-loop f w s out₀ out ys h ey eo =
-    let a : s * w + w - s * w ≡ w = omega arith in
-    let b : (s + 1) * w ≡ s * w + w = ap (λ (m : ℕ). m * w) (add-one s) ∙ suc-mul s w in
-    ap₂ {C = List ℕ} (λ (m : ℕ) (y : List ℕ). putMid (s * w) m out y) a ey
-    ∙ ap (λ (l : List ℕ). putMid (s * w) w l (f s)) eo
-    ∙ join-turn s w f out₀ h
-    ∙ ap₂ {C = List ℕ} (λ (i j : ℕ). join i f ++ drop j out₀) (sym (add-one s)) (sym b)
 
 -- what is filled in are tables of the powers
 pub powers-tabled : (xs tables rest : List ℕ) (w : ℕ) → length xs ≡ 32 → tables ≡ join w (λ j. multiples (powerRow xs j)) ++ rest

@@ -1,9 +1,9 @@
 -- Stripe after stripe of all boards: what is put, and that it is the shares in their places.
 -- Assumes nothing.
-use mathlib.Core.Path.{_≡_, refl, sym, ap, ap₂, _∙_}
+use mathlib.Core.Path.{_≡_, refl, sym, ap, _∙_}
 use mathlib.Core.List.{List, [], _∷_, _++_}
-use mathlib.Core.Logic.{_⊎_, inr}
-use Prim.Native.Nat.{ℕ, zero, suc, _+_, _*_, _-_, _≤_, _<_}
+use mathlib.Core.Logic.{inr}
+use Prim.Native.Nat.{ℕ, zero, suc, _+_, _*_, _≤_, _<_}
 use native.Mathlib.Nat.{mul-le-mul-right}
 use native.Mathlib.Omega.{arith}
 use lib.ListN.{length, getD}
@@ -13,7 +13,7 @@ use Rattle.sizes.specs.declared.Sizes.{Sizes}
 use Rattle.sizes.specs.Sizing.{B, α, stripes}
 use Rattle.sizes.proofs.Legal.{Legal, row-fits}
 use Rattle.polynomial.specs.Polynomial.{evals}
-use Rattle.mbcr.specs.Share.{point, stripe, kept, share}
+use Rattle.mbcr.specs.Share.{stripe, kept, share}
 use Rattle.mbcr.proofs.Repair.{length-kept}
 use Rattle.mbcr.proofs.Shape.{length-stripe}
 use Rattle.store_spec.specs.Record.{Record, partLen, putShares}

@@ -91,5 +91,14 @@ pub fn write_shares(
     let mut rows = [0u8; 992];
     let mut values = [0u8; 1024];
     powers::fill_powers(points, m, &mut tables);
-    write_stripes(sizes, &tables, part, file, count, &mut rows, &mut values, area);
+    write_stripes(
+        sizes,
+        &tables,
+        part,
+        file,
+        count,
+        &mut rows,
+        &mut values,
+        area,
+    );
 }

@@ -1,34 +1,41 @@
 -- `encode::share` meets its contract. The callees' contracts, put together.
 -- Assumes nothing.
-use mathlib.Core.Path.{_≡_, refl, sym, ap, ap₂, _∙_}
-use Prim.Native.Nat.{ℕ, _+_, _*_, _-_, _<_, _≤_}
+use mathlib.Core.Path.{refl}
+use Prim.Native.Nat.{_+_}
 use native.Mathlib.Omega.{arith}
-use lib.ListN.{length}
 use borrow.Author.Needs.{needs}
-use borrow.Author.Needs.{needs}
-use mathlib.Core.List.{List}
-use lib.ListN.{drop}
 use Rattle.sizes.proofs.Legal.{legal-facts}
-use Rattle.mbcr.specs.Share.{stripe}
-use Rattle.mbcr.proofs.Shape.{length-stripe}
 use Rattle.powers.proofs.Turns.{powers-tabled}
 use Rattle.encode.proofs.Shares.{stripes-share}
 use Rattle.encode.proofs.share.Statement.{statement}
 use Rattle.encode.proofs.share.Tie as tie
+
+-- places in the code
+abbrev st : tie.After-shared-slice-known3 → tie.Start
+st c = c .before .before .before .before .before
+
+abbrev st-2 : tie.After-tables → tie.Start
+st-2 c = c .before .before .before .before .before .before
+
+abbrev fill-powers : tie.After-slice-known2 → tie.After-fill-powers
+fill-powers c = c .before .before .before .before .before .before .before .before
+
+abbrev st-3 : tie.After-slice-known2 → tie.Start
+st-3 c = (fill-powers c) .before .before .before .before .before .before .before
 
 add-m : tie.Need-add-m
 add-m c = omega (arith, legal-facts _ (c .before .before .before .before .pre .0))
 
 shared-slice-read-x : tie.Need-shared-slice-read-x
 shared-slice-read-x c =
-    let f = legal-facts _ (c .before .before .before .before .before .pre .0) in omega (arith, f .few, c .before .before .before .before .before .pre .1, c .before .before .before .before .before .pre .2)
+    let f = legal-facts _ ((st c) .pre .0) in omega (arith, f .few, (st c) .pre .1, (st c) .pre .2)
 
 slice-aggregate-fill-powers : tie.Need-slice-aggregate-fill-powers
 slice-aggregate-fill-powers c = search needs
 
 fill-powers-requires : tie.Need-fill-powers-requires
 fill-powers-requires c κs =
-    let s = c .before .before .before .before .before .before in let f = legal-facts _ (s .pre .0) in (s .pre .2, omega (arith, f .enough, f .few), omega (arith, f .enough, f .few))
+    let s = st-2 c in let f = legal-facts _ (s .pre .0) in (s .pre .2, omega (arith, f .enough, f .few), omega (arith, f .enough, f .few))
 
 slice-aggregate-share-stripes : tie.Need-slice-aggregate-share-stripes
 slice-aggregate-share-stripes c = search needs
@@ -44,23 +51,15 @@ same-length c = search needs
 
 returns : tie.Need-returns
 returns c =
-    let s = c .before .before .before .before .before .before .before .before .before .before .before .before .before .before .before in
+    let s = st-3 c in
     let a = s .args in
     let z = a .sizes in
     let xs = a .points .now in
-    let t = powers-tabled xs _ _ (z .d + z .r) (s .pre .2) (c .before .before .before .before .before .before .before .before .fill-powers .ensures) in
+    let t = powers-tabled xs _ _ (z .d + z .r) (s .pre .2) ((fill-powers c) .fill-powers .ensures) in
     stripes-share z xs (a .file .now) _ _ (a .i) (a .count) (s .pre .3) (c .before .before .before .share-stripes .ensures xs (s .pre .2) t refl)
 
 pub share-spec : {M : Type 1} → statement M
 share-spec =
     tie.close
-    (tie.spec
-    add-m
-    shared-slice-read-x
-    slice-aggregate-fill-powers
-    fill-powers-requires
-    slice-aggregate-share-stripes
-    slice-aggregate-share-stripes-2
-    share-stripes-requires
-    same-length
-    returns)
+    (tie.spec add-m shared-slice-read-x slice-aggregate-fill-powers fill-powers-requires slice-aggregate-share-stripes slice-aggregate-share-stripes-2
+    share-stripes-requires same-length returns)

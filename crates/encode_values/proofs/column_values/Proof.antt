@@ -11,7 +11,8 @@ use Rattle.lists.specs.Lists.{tabulate, join}
 use Rattle.polynomial.specs.Polynomial.{evals}
 use Rattle.row_sums.specs.Steps.{Tabled}
 use Rattle.powers.specs.Steps.{powerRow, powerRows}
-use Rattle.powers.proofs.Turns.{join-loop, powers-wide}
+use Rattle.grid.proofs.Kept.{join-loop}
+use Rattle.powers.proofs.Turns.{powers-wide}
 use Rattle.lists.proofs.Pieces.{length-tabulate, tabulate-all}
 use Rattle.encode_values.proofs.Sums.{values-sum, length-values}
 use Rattle.encode_values.proofs.column_values.Statement.{statement}

@@ -12,7 +12,8 @@ use Rattle.lists.proofs.Alls.{all-of}
 use Rattle.polynomial.specs.Polynomial.{evals}
 use Rattle.row_sums.specs.Steps.{Tabled}
 use Rattle.powers.specs.Steps.{powerRows}
-use Rattle.powers.proofs.Turns.{join-loop, powers-wide}
+use Rattle.grid.proofs.Kept.{join-loop}
+use Rattle.powers.proofs.Turns.{powers-wide}
 use Rattle.lists.proofs.Pieces.{part-piece, length-tabulate}
 use Rattle.encode_values.proofs.Sums.{run-end, run-values, length-values}
 use Rattle.encode_values.proofs.lower_values.Statement.{statement}

@@ -10,7 +10,7 @@ use lib.ListN.{drop}
 use Rattle.lists.specs.Lists.{join}
 use Rattle.row_sums.specs.Steps.{Tabled}
 use Rattle.powers.specs.Steps.{powerRows}
-use Rattle.powers.proofs.Turns.{join-loop}
+use Rattle.grid.proofs.Kept.{join-loop}
 use Rattle.encode_values.proofs.Sums.{upperValues, length-upper}
 use Rattle.encode_values.proofs.upper_values.Statement.{statement}
 use Rattle.encode_values.proofs.upper_values.Tie as tie

@@ -1,13 +1,10 @@
 -- `kept_bytes::keep` meets its contract. The callees' contracts, put together.
 -- Assumes nothing.
-use mathlib.Core.Path.{_≡_}
 use Prim.Native.Nat.{ℕ, _+_, _*_, _-_}
 use native.Mathlib.Omega.{arith}
-use lib.ListN.{length}
 use borrow.Author.Needs.{needs}
 use mathlib.Core.List.{List}
-use lib.ListN.{getD, take, drop, length-drop}
-use lib.Seq.{length-take-le}
+use lib.ListN.{getD, take, drop}
 use native.Mathlib.Nat.{mod-lt}
 use Rattle.sizes.proofs.Legal.{legal-facts}
 use Rattle.kept_bytes.proofs.Turns.{parts-kept, row-of, row-long}

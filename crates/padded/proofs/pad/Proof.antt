@@ -1,7 +1,7 @@
 -- `padded::pad` meets its contract. The loop's invariant: the bytes so far, before what was there.
 -- Assumes nothing.
-use mathlib.Core.Path.{_≡_, refl, sym, ap, ap₂, _∙_}
-use Prim.Native.Nat.{ℕ, _+_, _*_, _-_, _<_, _≤_}
+use mathlib.Core.Path.{_≡_, refl, _∙_}
+use Prim.Native.Nat.{_+_, _-_, _≤_}
 use native.Mathlib.Omega.{arith}
 use lib.ListN.{length}
 use borrow.Author.Needs.{needs}
@@ -19,6 +19,10 @@ Inv-loop file base out₀ m t₀ out t =
 
 abbrev μ-loop : tie.MeasureT-loop
 μ-loop file base out₀ m t₀ out t = m - t
+
+-- places in the code
+abbrev st : tie.After-byte Inv-loop μ-loop → tie.Start Inv-loop μ-loop
+st c = c .before .before .before .before .before
 
 loop-holds : tie.Need-loop-holds Inv-loop μ-loop
 loop-holds c = (refl, omega arith, refl)
@@ -41,7 +45,7 @@ loop-less c = search needs
 loop-again : tie.Need-loop-again Inv-loop μ-loop
 loop-again c =
     let l = c .before .before .loop in
-    let a = c .before .before .before .before .before .args in (
+    let a = (st c) .args in (
       fill-loop (λ t. getD (a .file .now) (a .base + t) 0) (a .out .now) (l .out) (l .t) _ (omega arith) (c .byte .ensures) (l .inv .0),
       omega arith,
       length-set (l .out) (l .t) _ ∙ l .inv .2,
@@ -59,15 +63,4 @@ returns c =
 pub pad-spec : {M : Type 1} → statement M
 pad-spec =
     tie.close
-    (tie.spec
-    Inv-loop
-    μ-loop
-    loop-holds
-    add-byte
-    byte-requires
-    slice-write-out
-    add-t
-    loop-less
-    loop-again
-    same-length
-    returns)
+    (tie.spec Inv-loop μ-loop loop-holds add-byte byte-requires slice-write-out add-t loop-less loop-again same-length returns)

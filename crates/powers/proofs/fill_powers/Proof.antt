@@ -10,7 +10,8 @@ use lib.ListN.{drop}
 use Rattle.lists.specs.Lists.{join}
 use Rattle.row_sums.specs.Steps.{multiples}
 use Rattle.powers.specs.Steps.{powerRow}
-use Rattle.powers.proofs.Turns.{join-loop, power-start, power-turn, length-power-multiples}
+use Rattle.grid.proofs.Kept.{join-loop}
+use Rattle.powers.proofs.Turns.{power-start, power-turn, length-power-multiples}
 use Rattle.powers.proofs.fill_powers.Statement.{statement}
 use Rattle.powers.proofs.fill_powers.Tie as tie
 

@@ -1,14 +1,12 @@
 -- `stripe_rows::stripe_rows` meets its contract. The callees' contracts, put together.
 -- Assumes nothing.
-use mathlib.Core.Path.{_≡_, refl, sym, ap, ap₂, _∙_}
-use Prim.Native.Nat.{ℕ, _+_, _*_, _-_, _<_, _≤_}
+use mathlib.Core.Path.{_≡_, ap, _∙_}
+use Prim.Native.Nat.{ℕ, _*_, _≤_}
 use native.Mathlib.Omega.{arith}
 use lib.ListN.{length}
 use borrow.Author.Needs.{needs}
-use borrow.Author.Needs.{needs}
 use mathlib.Core.List.{List, _++_}
 use lib.ListN.{drop}
-use lib.Seq.{length-take-le}
 use Rattle.sizes.specs.Sizing.{B}
 use Rattle.sizes.proofs.Legal.{legal-facts, B-most}
 use Rattle.mbcr.proofs.Shape.{length-stripe}
@@ -16,6 +14,19 @@ use Rattle.encode_values.specs.Steps.{rowValues}
 use Rattle.stripe_rows.proofs.Stripe.{stripe-long, stripe-start, whole-stripe}
 use Rattle.stripe_rows.proofs.stripe_rows.Statement.{statement}
 use Rattle.stripe_rows.proofs.stripe_rows.Tie as tie
+
+-- places in the code
+abbrev st : tie.After-row-values-arg2 → tie.Start
+st c = c .before .before .before .before .before .before .before
+
+abbrev Then1 : tie.After-slice-known2 → tie.Then1
+Then1 c = c .before .before .before .before .before
+
+abbrev stripe-len : tie.After-slice-known2 → tie.After-stripe-len
+stripe-len c = (Then1 c) .before
+
+abbrev st-2 : tie.After-slice-known2 → tie.Start
+st-2 c = (stripe-len c) .before .before .before .before
 
 -- the length of a stripe, and where stripe s starts
 long : (c : tie.After-stripe-len) → c .stripe-len .result ≡ B (c .before .before .before .before .args .sizes)
@@ -47,7 +58,7 @@ part-row-values-end c = search needs
 
 row-values-requires : tie.Need-row-values-requires
 row-values-requires c κs =
-    let s = c .before .before .before .before .before .before .before in
+    let s = st c in
     let a = s .args in
     let e = whole-stripe (a .sizes) (a .file .now) (a .s) _ (long (c .before .before .before)) (c .before .before .if1 .taken) in
     (s .pre .0, s .pre .1, ap length e ∙ length-stripe (a .sizes) (a .file .now) (a .s), s .pre .3)
@@ -61,9 +72,9 @@ same-length c = search needs
 returns : tie.Need-returns
 returns c =
     λ xs lx t.
-    let s = c .before .before .before .before .before .before .before .before .before .before in
+    let s = st-2 c in
     let a = s .args in
-    let e = whole-stripe (a .sizes) (a .file .now) (a .s) _ (long (c .before .before .before .before .before .before)) (c .before .before .before .before .before .if1 .taken) in
+    let e = whole-stripe (a .sizes) (a .file .now) (a .s) _ (long ((stripe-len c))) ((Then1 c) .if1 .taken) in
     c .before .before .row-values .ensures xs lx t ∙ ap (λ (u : List ℕ). rowValues (a .sizes) xs u ++ drop (a .sizes .d * 32) (a .rows .now)) e
 
 same-length-2 : tie.Need-same-length-2
@@ -75,16 +86,5 @@ returns-2 c = c .before .before .cut-rows .ensures
 pub stripe-rows-spec : {M : Type 1} → statement M
 stripe-rows-spec =
     tie.close
-    (tie.spec
-    stripe-len-requires
-    mul-from
-    add-to
-    sub-row-values
-    part-row-values-start
-    part-row-values-end
-    row-values-requires
-    cut-rows-requires
-    same-length
-    returns
-    same-length-2
-    returns-2)
+    (tie.spec stripe-len-requires mul-from add-to sub-row-values part-row-values-start part-row-values-end row-values-requires cut-rows-requires
+    same-length returns same-length-2 returns-2)
