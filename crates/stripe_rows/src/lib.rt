@@ -12,7 +12,7 @@ ghost use Rattle.powers.specs.Steps.{powerRows};
 ghost use Rattle.encode_values.specs.Steps.{rowValues};
 use sizes::Sizes;
 
-// The same of a stripe that the file does not fill.
+// The values of all rows of a stripe that the file does not fill, filled up with 00.
 fn cut_rows(sizes: Sizes, tables: &[u8], file: &[u8], s: usize, rows: &mut [u8])
     requires { ⌜ (legal sizes ≡ true) × (length (now tables) ≡ 16384) × (s < 4096) × (length (now rows) ≡ 992) ⌝ }
     ensures { λ _. ⌜ ((points : List ℕ) → length points ≡ 32 → Tabled (powerRows points (sizes .d + sizes .r)) (now (tables .entry)) → now (rows .exit) ≡ rowValues sizes points (stripe sizes (now (file .entry)) s) ++ drop (sizes .d * 32) (now (rows .entry))) ⌝ }
@@ -24,7 +24,7 @@ fn cut_rows(sizes: Sizes, tables: &[u8], file: &[u8], s: usize, rows: &mut [u8])
     encode_values::row_values(sizes, tables, &last[0..b], rows);
 }
 
-// The values of all rows of the polynomial of stripe s at all points, to the beginning of rows.
+// The values of all rows of the polynomial of stripe s of a file at all points, to the beginning of rows.
 pub fn stripe_rows(sizes: Sizes, tables: &[u8], file: &[u8], s: usize, rows: &mut [u8])
     requires { ⌜ (legal sizes ≡ true) × (length (now tables) ≡ 16384) × (s < 4096) × (length (now rows) ≡ 992) ⌝ }
     ensures { λ _. ⌜ ((points : List ℕ) → length points ≡ 32 → Tabled (powerRows points (sizes .d + sizes .r)) (now (tables .entry)) → now (rows .exit) ≡ rowValues sizes points (stripe sizes (now (file .entry)) s) ++ drop (sizes .d * 32) (now (rows .entry))) ⌝ }

@@ -1,7 +1,7 @@
 -- `store_write::put_boards` meets its contract. The loop's invariant: what the boards so far keep is in its place.
 -- Assumes nothing.
 use mathlib.Core.Path.{_≡_, refl, ap, _∙_}
-use Prim.Native.Nat.{ℕ, _+_, _*_, _-_, _≤_}
+use Prim.Native.Nat.{ℕ, _+_, _*_, _-_, _<_, _≤_}
 use native.Mathlib.Omega.{arith}
 use lib.ListN.{length}
 use borrow.Author.Needs.{needs}
@@ -83,7 +83,9 @@ keep-requires c κs =
     let a = s .args in
     let l = c .before .before .loop in
     let e = end (c .before) in
-    (s .pre .0, (let f = legal-facts _ (s .pre .0) in omega (arith, c .before .loop-test .taken, f .read-helpers, f .enough)), s .pre .3, part-long (l .i * a .part + a .at) (α (a .sizes)) (l .area) (omega arith))
+    let f = legal-facts _ (s .pre .0) in
+    let hi : l .i < a .sizes .n = omega (arith, c .before .loop-test .taken, f .read-helpers, f .enough) in
+    (s .pre .0, hi, s .pre .3, part-long (l .i * a .part + a .at) (α (a .sizes)) (l .area) (omega arith))
 
 add-i : tie.Need-add-i Inv-loop μ-loop
 add-i c = search needs
