@@ -1,12 +1,12 @@
--- A stripe of a file: the bytes where they lie, or filled up with 00.
+-- A stripe of a file in the working array, filled up with 00.
 -- Assumes nothing.
-use mathlib.Core.Path.{_≡_, refl, sym, ap, _∙_}
+use mathlib.Core.Path.{_≡_, sym, ap, _∙_}
 use mathlib.Core.Bool.{true}
-use mathlib.Core.List.{List, [], _∷_}
-use Prim.Native.Nat.{ℕ, zero, suc, _+_, _*_, _-_, _<_, _≤_}
+use mathlib.Core.List.{List}
+use Prim.Native.Nat.{ℕ, _*_, _-_, _<_, _≤_}
 use native.Mathlib.Nat.{mul-le-mul}
 use native.Mathlib.Omega.{arith}
-use lib.ListN.{length, take, drop, length-append, length-drop}
+use lib.ListN.{length, take, drop, length-append}
 use lib.Seq.{take-at, length-take-le}
 use borrow.Rule.Slice.PartMut.{putMid}
 use Rattle.lists.specs.Tests.{pick}
@@ -23,20 +23,6 @@ stripe-long z b h e = e ∙ ap (λ t. pick t (B z) 0) h
 
 pub stripe-start : (z : Sizes) (s b : ℕ) → Legal z → b ≡ B z → s < 4096 → s * b ≤ 4096 * 992
 stripe-start z s b f e h = mul-le-mul {n₁ = s} {n₂ = 4096} {m₂ = 992} (omega arith) (omega (arith, B-most z f))
-
--- nothing is filled up
-fit-take : (m : ℕ) (l : List ℕ) → m ≤ length l → take m l ≡ fit m l
-fit-take zero l h = refl
-fit-take (suc m) [] h = absurd (omega arith)
-fit-take (suc m) (x ∷ l) h = ap {B = List ℕ} (λ l. x ∷ l) (fit-take m l (omega arith))
-
--- a stripe that the file fills
-pub whole-stripe : (z : Sizes) (file : List ℕ) (s b : ℕ) → b ≡ B z → s * b + b ≤ length file → take (s * b + b - s * b) (drop (s * b) file) ≡ stripe z file s
-unfolding stripe
-whole-stripe z file s b e h =
-    let m : s * b + b - s * b ≡ b = omega arith in
-    ap (λ (v : ℕ). take v (drop (s * b) file)) m ∙ fit-take b (drop (s * b) file) (omega (arith, length-drop (s * b) file))
-    ∙ ap (λ (v : ℕ). fit v (drop (s * v) file)) e
 
 -- a stripe that is filled up
 pub cut-stripe : (z : Sizes) (file zeros last : List ℕ) (s b : ℕ) → b ≡ B z → b ≤ length zeros
