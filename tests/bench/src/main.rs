@@ -1,5 +1,5 @@
-//! The bench: encode (a write to all boards), read (of k boards), repair (of r boards) and one share (the call of a single board) through the archive,
-//! beside two coders in plain Rust; and the bytes that a repair moves against the cut-set bound.
+//! The bench: encode (a write to all boards), read (of k boards), repair (of r boards) and one share (the call of a single board) through the
+//! archive, beside two coders in plain Rust; and the bytes that a repair moves against the cut-set bound.
 //!
 //!     bench [--quick]
 //!
@@ -31,8 +31,8 @@ const EIGHT: Sizes = Sizes { n: 8, k: 4, d: 6, r: 2 };
 const SIXTEEN: Sizes = Sizes { n: 16, k: 8, d: 12, r: 4 };
 const THIRTY_TWO: Sizes = Sizes { n: 32, k: 16, d: 24, r: 8 };
 
-/// What is measured, each with the length of its file: the size that A.7 asks for first; then other sizes; then files of 1, 5 and 20 whole stripes;
-/// then a file that leaves its last stripe all but empty.
+/// What is measured, each with the length of its file: the size that A.7 asks for first; then other sizes; then files of 1, 5 and 20 whole
+/// stripes; then a file that leaves its last stripe all but empty.
 const RUNS: [(Sizes, usize); 15] = [
     (TWELVE, 32_768),
     (FIVE, 32_768),
@@ -51,7 +51,7 @@ const RUNS: [(Sizes, usize); 15] = [
     (EIGHT, 1_001),
 ];
 
-/// How often plain's time encode and read may take at the size that A.7 asks for.
+/// How many times plain's time encode and read may take at the size that A.7 asks for.
 const MOST: f64 = 2.0;
 
 /// How long each run takes; the first one twice as long.

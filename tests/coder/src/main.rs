@@ -4,7 +4,8 @@
 //!
 //! First the figures of document 01 are run, then random cases until so many calls are made: single calls at board level, single calls of the
 //! store over made-up records and areas, long histories against a ledger, second files that k − 1 boards do not tell from the first (request
-//! A.13 of document 02), and shares with one byte altered where least shows it (request A.7). Each case draws from its own seed, made of the run's seed and the case's number: `--only` repeats one case.
+//! A.13 of document 02), and shares with one byte altered where least shows it (request A.7). Each case draws from its own seed, made of the
+//! run's seed and the case's number: `--only` repeats one case.
 //! `--wrong` alters what the archive answers to one call, to show that this is reported. `--trace` prints each call before it is made,
 //! `--verbose` how often each call gave each refusal, and how often an altered byte was accepted and refused.
 //!

@@ -47,13 +47,16 @@ pub fn lagrange(sizes: Sizes, boards: &[usize]) -> Rows {
     rows
 }
 
-/// For a board that keeps the values of a polynomial at the first `kept` boards from itself on: the factors by which these give its value at each of
-/// the boards behind them, a row for each.
+/// For a board that keeps the values of a polynomial at the first `kept` boards from itself on: the factors by which these give its value at each
+/// of the boards behind them, a row for each.
 pub fn missing(sizes: Sizes, board: usize, kept: usize) -> Rows {
     let boards: Vec<usize> = from_board(sizes, board).collect();
     let (near, far) = boards.split_at(kept);
-    let at_all = lagrange(sizes, near);
     let mut factors = Rows::new(0, kept);
+    if far.is_empty() {
+        return factors;
+    }
+    let at_all = lagrange(sizes, near);
     for &other in far {
         factors.push(at_all.column(other));
     }
@@ -68,8 +71,8 @@ pub fn value_at(kept: &[u8], factors: &Rows, steps: usize) -> u8 {
     }
 }
 
-/// The coefficients of Lagrange's polynomials for some points: row t has those of the polynomial that is 1 at the t-th point and 0 at the others. It
-/// is the product of X − x over all points, divided by X less its own point and by the value there.
+/// The coefficients of Lagrange's polynomials for some points: row t has those of the polynomial that is 1 at the t-th point and 0 at the others.
+/// It is the product of X − x over all points, divided by X less its own point, and then by the value there.
 pub fn coefficients(points: &[u8]) -> Rows {
     let count = points.len();
     let product = product_of(points);

@@ -62,17 +62,17 @@ struct Decoder<'a> {
     tops: Vec<Rows>,
     /// coefficients in Y, from values at the boards from the first one read on
     by_y: Rows,
-    /// coefficients in X, from values at the boards read; behind them, for i from k on, those of X to the i
+    /// coefficients in X, from values at the boards read; behind them, for i from k on, those of what has the values of X to the i there
     by_x: Rows,
     /// the coefficients of f of each board
     f: Rows,
-    /// values and sums that are worked on
+    /// a column of the grid
     line: Vec<u8>,
 }
 
 impl<'a> Decoder<'a> {
     fn new(sizes: Sizes, boards: &'a [usize], factors: &'a Factors) -> Decoder<'a> {
-        let Sizes { k, d, r, n } = sizes;
+        let Sizes { k, d, r, .. } = sizes;
         let near = |board: usize, count: usize| from_board(sizes, board).take(count).map(point).collect::<Vec<u8>>();
         let tops = boards.iter().map(|&board| tops(&coefficients(&near(board, d)), k)).collect();
         Decoder {
@@ -83,7 +83,7 @@ impl<'a> Decoder<'a> {
             by_y: coefficients(&near(boards[0], d + r)),
             by_x: by_x(sizes, boards),
             f: Rows::new(k, d + r),
-            line: vec![0; n],
+            line: vec![0; k],
         }
     }
 
@@ -94,7 +94,7 @@ impl<'a> Decoder<'a> {
         let (b, c) = rest.split_at_mut(k * (d + r - k));
         self.lower(kept, c);
         self.take_f(kept);
-        let line = &mut self.line[..k];
+        let line = &mut self.line;
         for j in 0..d + r {
             line.fill(0);
             add_multiples(line, self.f.column(j), self.by_x.iter());
@@ -144,7 +144,8 @@ fn tops(matrix: &Rows, k: usize) -> Rows {
     rows
 }
 
-/// The coefficients of Lagrange's polynomials for the boards read, and behind them, for i from k to d − 1, those of the polynomial with the values x to the i.
+/// The coefficients of Lagrange's polynomials for the boards read, and behind them, for i from k to d − 1, those of the polynomial that has the
+/// values of X to the i there.
 fn by_x(sizes: Sizes, boards: &[usize]) -> Rows {
     let points: Vec<u8> = boards.iter().map(|&board| point(board)).collect();
     let units = coefficients(&points);
