@@ -2,15 +2,16 @@
 -- Assumes nothing.
 use mathlib.Core.Path.{_≡_, refl, sym, ap, ap₂, _∙_}
 use mathlib.Core.Bool.{true}
-use mathlib.Core.List.{List, _++_}
-use Prim.Native.Nat.{ℕ, suc, _+_, _*_, _%_, _<_, _≤_}
+use mathlib.Core.List.{List, [], _∷_, _++_}
+use Prim.Native.Nat.{ℕ, zero, suc, _+_, _*_, _%_, _<_, _≤_}
 use native.Mathlib.Nat.{add-assoc, mod-lt, mod-eq-of-lt, mod-self, mod-add-mod, suc-mul}
 use native.Mathlib.Omega.{arith}
 use lib.ListN.{length, getD, drop, List·getD-eq-default}
+use lib.Seq.{getD-drop}
 use Rattle.lists.specs.Tests.{below}
 use Rattle.lists.specs.Lists.{Bytes, tabulate, fit}
-use Rattle.lists.proofs.Alls.{Distinct}
-use Rattle.lists.proofs.Boards.{all-below, distinct-different}
+use Rattle.lists.proofs.Alls.{Distinct, all-at, all-imp}
+use Rattle.lists.proofs.Boards.{below-all, all-below, distinct-different}
 use Rattle.lists.proofs.Pieces.{length-tabulate, tabulate-at, tabulate-ext, tabulate-all, length-fit, fit-at}
 use Rattle.gf256.specs.Field.{mul}
 use Rattle.gf256.proofs.Field.{mul-comm, mul-zero}
@@ -94,3 +95,31 @@ pub near-made : (pts near out : List ℕ) (n j i m k L : ℕ) → near ≡ tabul
     → out ≡ fit L (factorsAt pts (tabulate m (λ t. (j + t) % n)) i)
 near-made pts near out n j i m k L e h eo =
     eo ∙ ap (λ (l : List ℕ). fit L (factorsAt pts l i)) (e ∙ ap (λ (q : ℕ). tabulate q (λ t. (j + t) % n)) h)
+
+-- ---- 00 behind
+
+zeros-at : (m j : ℕ) → getD {A = ℕ} (tabulate m (λ j. 0)) j 0 ≡ 0
+zeros-at zero j = refl
+zeros-at (suc m) zero = refl
+zeros-at (suc m) (suc j) = zeros-at m j
+
+behind : (vs zs : List ℕ) → ((j : ℕ) → getD zs j 0 ≡ 0) → (j : ℕ) → getD (vs ++ zs) j 0 ≡ getD vs j 0
+behind [] zs h j = h j
+behind (v ∷ vs) zs h zero = refl
+behind (v ∷ vs) zs h (suc j) = behind vs zs h j
+
+-- a row that is 00 behind its values counts as these
+pub dot-row : (fs vs row row₀ : List ℕ) (m r : ℕ) → row₀ ≡ tabulate 32 (λ j. 0) → row ≡ vs ++ drop m row₀
+    → r ≡ sum (length fs) (λ j. mul (getD fs j 0) (getD row j 0)) → r ≡ dotOf fs vs
+dot-row fs vs row row₀ m r z e h =
+    h ∙ sum-same (length fs) (λ j. mul (getD fs j 0) (getD row j 0)) (λ j. mul (getD fs j 0) (getD vs j 0))
+    (λ j k. ap (mul (getD fs j 0)) (ap (λ (l : List ℕ). getD l j 0) e
+    ∙ behind vs (drop m row₀) (λ i. getD-drop m row₀ i 0 ∙ ap (λ (l : List ℕ). getD l (m + i) 0) z ∙ zeros-at 32 (m + i)) j))
+
+-- ---- boards of a list
+
+pub board-below : (n : ℕ) (boards : List ℕ) (t : ℕ) → below n boards ≡ true → t < length boards → getD boards t 0 < n
+board-below n boards t h l = all-at (λ x. x < n) 0 boards (below-all n boards h) t l
+
+pub below-more : (n m : ℕ) (boards : List ℕ) → n ≤ m → below n boards ≡ true → below m boards ≡ true
+below-more n m boards l h = all-below m boards (all-imp (λ x. x < n) (λ x. x < m) (λ x e. omega arith) boards (below-all n boards h))
