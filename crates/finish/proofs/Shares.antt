@@ -10,6 +10,8 @@ use lib.Seq.{take-at}
 use borrow.Rule.Slice.PartMut.{putMid}
 use Rattle.lists.specs.Tests.{below, different}
 use Rattle.lists.specs.Lists.{Bytes, join}
+use Rattle.lists.proofs.Alls.{all-left, all-right}
+use Rattle.lists.proofs.Boards.{below-all, all-below}
 use Rattle.lists.proofs.Pieces.{join-ext}
 use Rattle.sizes.specs.declared.Sizes.{Sizes}
 use Rattle.sizes.specs.Sizing.{α}
@@ -36,13 +38,15 @@ gather-made z S s packets exchanges f a b h l ea eb =
     ap (take last) (back-next (z .d) (last - z .d) f a b la) ∙ take-at (a ++ b) (drop (last - z .d) (drop (z .d) f)) last lab ∙ ap₂ {C = List ℕ} (λ x y. x ++ y) ea eb
 
 -- a stripe, from what its callees give
-pub stripe-step : (z : Sizes) (i L S s e w : ℕ) (rows packets exchanges firsts got g rowsG rowsF out : List ℕ) → e ≡ z .d - 1 → rowsG ≡ take (z .d * 32) rows
-    → rowsF ≡ drop (z .d * 32) rows → firsts ≡ received z S 0 s packets → take (w - 1) got ≡ received z S 1 s packets ++ exchanged z S s exchanges
-    → g ≡ rowSums L firsts rowsG → out ≡ finishedBy (z .n) i L e rowsF g (take (w - 1) got) → out ≡ stripeBy z i L rows S s packets exchanges
+pub stripe-step : (z : Sizes) (i L L₀ S s e w w₀ : ℕ) (rows packets exchanges firsts got g rowsG rowsF out : List ℕ)
+    → out ≡ finishedBy (z .n) i L e rowsF g (take (w - 1) got) → g ≡ rowSums L₀ firsts rowsG → L₀ ≡ L → firsts ≡ received z S 0 s packets
+    → take (w₀ - 1) got ≡ received z S 1 s packets ++ exchanged z S s exchanges → rowsG ≡ take (z .d * 32) rows → rowsF ≡ drop (z .d * 32) rows
+    → e ≡ z .d - 1 → w ≡ w₀ → out ≡ stripeBy z i L rows S s packets exchanges
 unfolding stripeBy
-stripe-step z i L S s e w rows packets exchanges firsts got g rowsG rowsF out ee er ef e₁ e₂ eg eo =
+stripe-step z i L L₀ S s e w w₀ rows packets exchanges firsts got g rowsG rowsF out eo eg el e₁ e₂ er ef ee ew =
     eo ∙ ap₂ (λ (k : ℕ) (q : List ℕ). finishedBy (z .n) i L k q g (take (w - 1) got)) ee ef
-    ∙ ap₂ (λ (q rest : List ℕ). finishedBy (z .n) i L (z .d - 1) (drop (z .d * 32) rows) q rest) (eg ∙ ap₂ (rowSums L) e₁ er) e₂
+    ∙ ap₂ (λ (q rest : List ℕ). finishedBy (z .n) i L (z .d - 1) (drop (z .d * 32) rows) q rest) (eg ∙ ap₂ (rowSums L₀) e₁ er ∙ ap (λ (k : ℕ). rowSums k (received z S 0 s packets) (take (z .d * 32) rows)) el)
+    (ap (λ (k : ℕ). take (k - 1) got) ew ∙ e₂)
 
 pub length-stripe : (z : Sizes) → Legal z → (i L S s : ℕ) (rows packets exchanges : List ℕ) → length (stripeBy z i L rows S s packets exchanges) ≡ α z
 unfolding stripeBy
@@ -76,3 +80,7 @@ last-known n i helpers partners h =
     let all = below-all n (helpers ++ partners ++ (i ∷ [])) h in
     let two = all-left (λ b. b < n) (helpers ++ partners) (i ∷ []) all in
     (all-below n helpers (all-left (λ b. b < n) helpers partners two), all-below n partners (all-right (λ b. b < n) helpers partners two), all-right (λ b. b < n) (helpers ++ partners) (i ∷ []) all .0)
+
+-- at the end of the loop over the stripes
+pub share-end : (f : ℕ → List ℕ) (w : ℕ) (out₀ out : List ℕ) (s S : ℕ) → s ≡ S → out ≡ join s f ++ drop (s * w) out₀ → out ≡ join S f ++ drop (S * w) out₀
+share-end f w out₀ out s S e h = rw e at h

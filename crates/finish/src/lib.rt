@@ -56,6 +56,7 @@ fn stripe_by(
 fn share_by(
     sizes: Sizes,
     i: usize,
+    lanes: usize,
     rows: &[u8],
     stripes: usize,
     packets: &[u8],
@@ -66,8 +67,8 @@ fn share_by(
     f: &mut [u8],
     out: &mut [u8],
 )
-    requires { ⌜ (legal sizes ≡ true) × (i < sizes .n) × (stripes ≤ 4096) × (length (now rows) ≡ (sizes .d + (sizes .d + sizes .r)) * 32) × (length (now packets) ≡ sizes .d * (2 * stripes)) × (length (now exchanges) ≡ (sizes .r - 1) * stripes) × (length (now firsts) ≡ sizes .d) × (length (now got) ≡ sizes .d + sizes .r) × (sizes .n ≤ length (now f)) × (length (now f) ≤ 32) × (length (now g) ≡ length (now f)) × (stripes * α sizes ≤ length (now out)) ⌝ }
-    ensures { λ _. ⌜ now (out .exit) ≡ join stripes (λ s. stripeBy sizes i (length (now (f .entry))) (now (rows .entry)) stripes s (now (packets .entry)) (now (exchanges .entry))) ++ drop (stripes * α sizes) (now (out .entry)) ⌝ }
+    requires { ⌜ (legal sizes ≡ true) × (i < sizes .n) × (stripes ≤ 4096) × (length (now rows) ≡ (sizes .d + (sizes .d + sizes .r)) * 32) × (length (now packets) ≡ sizes .d * (2 * stripes)) × (length (now exchanges) ≡ (sizes .r - 1) * stripes) × (length (now firsts) ≡ sizes .d) × (length (now got) ≡ sizes .d + sizes .r) × (sizes .n ≤ lanes) × (lanes ≤ 32) × (length (now f) ≡ lanes) × (length (now g) ≡ lanes) × (stripes * α sizes ≤ length (now out)) ⌝ }
+    ensures { λ _. ⌜ now (out .exit) ≡ join stripes (λ s. stripeBy sizes i lanes (now (rows .entry)) stripes s (now (packets .entry)) (now (exchanges .entry))) ++ drop (stripes * α sizes) (now (out .entry)) ⌝ }
 {
     let a = 2 * sizes.d + sizes.r - 1;
     let mut s: usize = 0;
@@ -92,7 +93,7 @@ fn share_by(
     }
 }
 
-// The same, with space of its own, L bytes of a row at a time.
+// The same, with space of its own, so many bytes of a row at a time.
 fn share_work(
     sizes: Sizes,
     i: usize,
@@ -115,6 +116,7 @@ fn share_work(
     share_by(
         sizes,
         i,
+        lanes,
         rows,
         stripes,
         packets,

@@ -37,7 +37,15 @@ pub fn all_boards(helpers: &[usize], partners: &[usize], i: usize, out: &mut [us
 
 // The bytes of a stripe that board i writes: g are the values of its g at all points, and `got` has in all places but the last the second bytes
 // of its helpers and those of its partners. rows are Lagrange's rows of all of these and of itself. f is for work.
-pub fn finish(n: usize, i: usize, rows: &[u8], g: &[u8], got: &mut [u8], f: &mut [u8], out: &mut [u8])
+pub fn finish(
+    n: usize,
+    i: usize,
+    rows: &[u8],
+    g: &[u8],
+    got: &mut [u8],
+    f: &mut [u8],
+    out: &mut [u8],
+)
     requires { ⌜ (i < n) × (n ≤ 32) × (1 ≤ length (now got)) × (length (now got) ≤ 32) × (length (now got) * 32 ≤ length (now rows)) × (n ≤ length (now g)) × (n ≤ length (now f)) × (length (now f) ≤ 32) × (length (now got) ≤ length (now out)) ⌝ }
     ensures { λ _. ⌜ now (out .exit) ≡ finishedBy n i (length (now (f .entry))) (length (now (out .entry)) - length (now (got .entry))) (now (rows .entry)) (now (g .entry)) (take (length (now (got .entry)) - 1) (now (got .entry))) ⌝ }
 {
@@ -51,7 +59,15 @@ pub fn finish(n: usize, i: usize, rows: &[u8], g: &[u8], got: &mut [u8], f: &mut
 }
 
 // Lagrange's rows of a board that finishes: of its helpers, and of helpers, partners and itself. `all` is for work.
-pub fn board_rows(points: &[u8], helpers: &[usize], partners: &[usize], i: usize, inverses: &[u8], all: &mut [usize], rows: &mut [u8])
+pub fn board_rows(
+    points: &[u8],
+    helpers: &[usize],
+    partners: &[usize],
+    i: usize,
+    inverses: &[u8],
+    all: &mut [usize],
+    rows: &mut [u8],
+)
     requires { ⌜ (now inverses ≡ tabulate 256 inverse) × (length (now points) ≡ 32) × (below 32 (now helpers) ≡ true) × (below 32 (now partners) ≡ true) × (i < 32) × (length (now all) ≡ length (now helpers) + length (now partners) + 1) × (length (now all) ≤ 32) × (length (now rows) ≡ (length (now helpers) + length (now all)) * 32) ⌝ }
     ensures { λ _. ⌜ now (rows .exit) ≡ boardRows (now (points .entry)) (now (helpers .entry)) (now (partners .entry)) i ⌝ }
 {

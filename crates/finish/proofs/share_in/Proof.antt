@@ -1,0 +1,97 @@
+-- `finish::share_in` meets its contract: the rows, and the share by them.
+-- Assumes nothing.
+use mathlib.Core.Path.{_≡_, sym, ap, _∙_}
+use mathlib.Core.Bool.{true}
+use mathlib.Core.List.{List, _++_}
+use Prim.Native.Nat.{ℕ, _+_, _*_, _<_}
+use lib.ListN.{length, drop}
+use Rattle.lists.specs.Tests.{below}
+use Rattle.lists.proofs.Alls.{all-of}
+use Rattle.sizes.specs.Sizing.{α}
+use Rattle.sizes.proofs.Legal.{Legal, legal-facts}
+use Rattle.factors.proofs.Values.{below-more}
+use Rattle.finish.proofs.Shares.{share-is, last-known}
+use borrow.Author.Needs.{needs}
+use native.Mathlib.Omega.{arith}
+use Rattle.finish.proofs.share_in.Statement.{statement}
+use Rattle.finish.proofs.share_in.Tie as tie
+
+-- the places
+abbrev st-at-slice-known3 : tie.After-slice-known3 → tie.Start
+st-at-slice-known3 c = c .before .before .before .before .before .before .before .before .before
+
+abbrev st-at-board-rows-arg2 : tie.After-board-rows-arg2 → tie.Start
+st-at-board-rows-arg2 c = c .before .before .before .before .before .before .before .before .before .before .before .before
+
+abbrev st-at-share-work-arg2 : tie.After-share-work-arg2 → tie.Start
+st-at-share-work-arg2 c = c .before .before .before .before .before .before .before .before .before .before .before .before .before .before .before .before .before .before .before
+
+abbrev whole-vectors-at-share-work-arg2 : tie.After-share-work-arg2 → tie.After-whole-vectors
+whole-vectors-at-share-work-arg2 c = c .before .before .before .before .before .before .before .before .before
+
+abbrev st-at-slice-known6 : tie.After-slice-known6 → tie.Start
+st-at-slice-known6 c = c .before .before .before .before .before .before .before .before .before .before .before .before .before .before .before .before .before .before .before .before .before .before
+
+abbrev whole-vectors-at-slice-known6 : tie.After-slice-known6 → tie.After-whole-vectors
+whole-vectors-at-slice-known6 c = c .before .before .before .before .before .before .before .before .before .before .before .before
+
+abbrev shared-slice-known4-at-slice-known6 : tie.After-slice-known6 → tie.After-shared-slice-known4
+shared-slice-known4-at-slice-known6 c = c .before .before .before .before .before .before .before .before .before .before .before .before .before .before .before .before .before .before
+
+abbrev shared-slice-known6-at-slice-known6 : tie.After-slice-known6 → tie.After-shared-slice-known6
+shared-slice-known6-at-slice-known6 c = c .before .before .before .before .before .before .before .before .before .before .before .before .before .before .before .before
+
+abbrev board-rows-at-slice-known6 : tie.After-slice-known6 → tie.After-board-rows
+board-rows-at-slice-known6 c = c .before .before .before .before .before .before .before .before .before
+
+facts : (c : tie.Start) → Legal (c .args .sizes)
+facts c = legal-facts _ (c .pre .0)
+
+known : (c : tie.Start) → let a = c .args in (below (a .sizes .n) (a .helpers .now) ≡ true) × (below (a .sizes .n) (a .partners .now) ≡ true) × (a .i < a .sizes .n)
+known c = last-known (c .args .sizes .n) (c .args .i) (c .args .helpers .now) (c .args .partners .now) (c .pre .9)
+
+board-rows-requires : tie.Need-board-rows-requires
+board-rows-requires c κs =
+    let p = st-at-board-rows-arg2 c .pre in
+    let a = st-at-board-rows-arg2 c .args in
+    let f = facts (st-at-board-rows-arg2 c) in
+    let k = known (st-at-board-rows-arg2 c) in (
+      p .3,
+      p .1,
+      below-more (a .sizes .n) 32 (a .helpers .now) (f .few) (k .0),
+      below-more (a .sizes .n) 32 (a .partners .now) (f .few) (k .1),
+      omega arith,
+      omega arith,
+      omega arith,
+      omega arith,
+    )
+
+share-work-requires : tie.Need-share-work-requires
+share-work-requires c κs =
+    let p = st-at-share-work-arg2 c .pre in
+    let k = known (st-at-share-work-arg2 c) in
+    (p .0, k .2, p .4, omega (arith, c .before .before .before .rows .given), p .5, p .6, whole-vectors-at-share-work-arg2 c .whole-vectors .ensures .0, whole-vectors-at-share-work-arg2 c .whole-vectors .ensures .1, p .11)
+
+returns : tie.Need-returns
+returns c =
+    let a = st-at-slice-known6 c .args in
+    let p = st-at-slice-known6 c .pre in
+    let v = whole-vectors-at-slice-known6 c .whole-vectors .ensures in
+    let bp = all-of (λ x. x < 256) 0 (a .packets .now) (λ i l. omega (arith, shared-slice-known4-at-slice-known6 c .shared-slice-known4 .given i)) in
+    let be = all-of (λ x. x < 256) 0 (a .exchanges .now) (λ i l. omega (arith, shared-slice-known6-at-slice-known6 c .shared-slice-known6 .given i)) in
+    c .before .before .share-work .ensures
+    ∙ ap (λ (l : List ℕ). l ++ drop (a .stripes * α (a .sizes)) (a .out .now))
+    (share-is (a .sizes) (a .points .now) (facts (st-at-slice-known6 c)) (p .2) (a .i) (a .stripes) _ (a .helpers .now) (a .packets .now) (a .partners .now) (a .exchanges .now) _
+    ((known (st-at-slice-known6 c)) .2) (p .7) (p .8) (p .9) (p .10) bp be (v .0) (v .1) (board-rows-at-slice-known6 c .board-rows .ensures))
+
+pub share-in-spec : {M : Type 1} → statement M
+share-in-spec =
+    tie.close
+    (tie.spec
+    (λ c κs. let f = facts (st-at-slice-known3 c) in search needs)
+    board-rows-requires
+    share-work-requires
+    (λ c. search needs)
+    (λ c. search needs)
+    (λ c. search needs)
+    returns)
