@@ -1,6 +1,6 @@
 -- `finish::gather` meets its contract: the callees' contracts, put together.
 -- Assumes nothing.
-use Rattle.own.proofs.Made.{gather-made}
+use Rattle.finish.proofs.Shares.{gather-made}
 use borrow.Author.Needs.{needs}
 use Rattle.finish.proofs.gather.Statement.{statement}
 use Rattle.finish.proofs.gather.Tie as tie
