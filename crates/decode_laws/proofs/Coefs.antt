@@ -4,21 +4,23 @@ use mathlib.Core.Path.{_≡_, refl, sym, ap, ap₂, _∙_}
 use mathlib.Core.List.{List, [], _∷_, _++_, map}
 use Prim.Native.Nat.{ℕ, zero, suc, _+_, _*_, _-_, _%_, _<_, _≤_}
 use native.Mathlib.Omega.{arith}
-use lib.ListN.{length, getD, drop}
+use lib.ListN.{length, getD, drop, List·getD-eq-default, List·getD-append, length-append, length-map}
 use lib.Seq.{getD-drop}
 use Rattle.lists.specs.Lists.{All, Bytes, tabulate, join, piece, fit}
 use Rattle.lists.proofs.Alls.{all-at, byte-at}
-use Rattle.lists.proofs.Pieces.{length-tabulate, tabulate-at, tabulate-all, tabulate-ext, tabulate-map, join-ext, length-join, piece-join, length-fit}
+use Rattle.lists.proofs.Pieces.{length-tabulate, tabulate-at, tabulate-all, tabulate-ext, tabulate-map, join-ext, length-join, piece-join, length-fit, fit-at, map-at}
 use Rattle.gf256.specs.Field.{mul}
+use Rattle.gf256.proofs.Field.{mul-comm, zero-mul}
 use Rattle.sizes.specs.declared.Sizes.{Sizes}
 use Rattle.sizes.proofs.Legal.{row-fits}
-use Rattle.polynomial.specs.Polynomial.{eval, evals, interpolate}
-use Rattle.polynomial.proofs.Poly.{eval-byte, interpolate-bytes, length-interpolate, interpolate-evals}
+use Rattle.polynomial.specs.Polynomial.{eval, evals, interpolate, sum}
+use Rattle.polynomial.proofs.Poly.{eval-byte, evals-bytes, interpolate-bytes, length-interpolate, interpolate-evals}
 use Rattle.mbcr.specs.Share.{DifferentPoints, points, neighbours, point}
 use Rattle.mbcr.proofs.Points.{Boards, length-neighbours, length-points, points-bytes, points-distinct}
-use Rattle.lagrange.specs.Steps.{weight}
-use Rattle.decode_laws.specs.Steps.{cell, sums, offset, valueBy, valuesOf, factorsOf, factorRows, unitRows, byRows}
-use Rattle.decode_laws.proofs.Rows.{join-at, cell-fit, sums-ext, rows-through}
+use Rattle.lagrange.specs.Steps.{unit, weight}
+use Rattle.decode_laws.specs.Steps.{cell, sums, offset, valueBy, valuesOf, factorsOf, factorRows, unitRows, byRows, topRows, topsOf}
+use Rattle.decode_laws.proofs.Sums.{sum-below, sum-cut}
+use Rattle.decode_laws.proofs.Rows.{join-at, cell-fit, coefficient, sums-ext, rows-through}
 use Rattle.decode_laws.proofs.Values.{Factors, value-at}
 
 length-factors : (z : Sizes) (xs : List ℕ) (c b : ℕ) → length (factorsOf z xs c b) ≡ (z .n - c) * 32
@@ -80,9 +82,6 @@ module _ (z : Sizes) (xs : List ℕ) (pts : DifferentPoints z xs) (bs : List ℕ
 
   -- the coefficients, from values at c boards
   module _ (C : List ℕ) (boards : Boards z C) (lC : length C ≡ c) where
-    ps : List ℕ
-    ps = points xs C
-
     row-coefs : (t : ℕ) (va : List ℕ) → t < length bs → ((i : ℕ) → i < c → getD va (t * c + i) 0 ≡ eval (p t) (point xs (getD C i 0)))
         → sums c (λ s. getD va (t * c + s) 0) (unitRows (points xs C)) ≡ fit 32 (p t)
     row-coefs t va h e =
@@ -106,3 +105,45 @@ module _ (z : Sizes) (xs : List ℕ) (pts : DifferentPoints z xs) (bs : List ℕ
         ∙ join-ext (length bs) _ _ (λ t ht. row-coefs t va ht (λ i hi.
         join-at (length bs) c (λ t. tabulate c (λ i. eval (p t) (point xs (getD C i 0)))) (λ t l. length-tabulate c _) t i ht hi
         ∙ tabulate-at c (λ i. eval (p t) (point xs (getD C i 0))) 0 i hi))
+
+    -- some of them, by a row of the inverse matrix each; behind the values anything may stand
+    abbrev qs : List ℕ
+    qs = points xs C
+
+    abbrev U : ℕ → ℕ → ℕ
+    U s i = getD (interpolate qs (unit (length qs) s)) i 0
+
+    lq : length qs ≡ c
+    lq = length-points xs C ∙ lC
+
+    value-of : (t s : ℕ) → s < c → getD (evals (p t) qs) s 0 ≡ eval (p t) (point xs (getD C s 0))
+    value-of t s h = map-at (λ x. eval (p t) x) qs s (omega (arith, lq)) ∙ ap (eval (p t)) (map-at (point xs) C s (omega (arith, lC)))
+
+    module _ (k : ℕ) where
+      abbrev top : ℕ → List ℕ
+      top i = tabulate (length qs) (λ s. U s (k + i))
+
+      top-at : (i s : ℕ) → i < c - k → s < c → cell (topRows k qs) i s ≡ U s (k + i)
+      unfolding topRows
+      top-at i s hi hs = cell-fit (length qs - k) top i s (omega (arith, lq)) (omega arith) ∙ tabulate-at (length qs) (λ s. U s (k + i)) 0 s (omega (arith, lq))
+
+      top-past : (i s : ℕ) → i < c - k → c ≤ s → s < 32 → cell (topRows k qs) i s ≡ 0
+      unfolding topRows
+      top-past i s hi hs ls =
+          cell-fit (length qs - k) top i s (omega (arith, lq)) ls
+          ∙ List·getD-eq-default (top i) 0 (omega (arith, length-tabulate (length qs) (λ s. U s (k + i)), lq))
+
+      pub tops-are : (m : ℕ) → c ≤ m → m ≤ 32 → (va : List ℕ)
+          → ((t i : ℕ) → t < length bs → i < c → getD va (t * c + i) 0 ≡ eval (p t) (point xs (getD C i 0)))
+          → (i t : ℕ) → i < c - k → t < length bs → getD (topsOf (c - k) (length bs) c m (topRows k (points xs C)) va) (i * length bs + t) 0 ≡ getD (p t) (k + i) 0
+      unfolding topsOf
+      tops-are m lm hm va e i t hi ht =
+          let term : ℕ → ℕ → ℕ → ℕ = λ i t s. mul (cell (topRows k qs) i s) (getD va (t * c + s) 0) in
+          join-at (c - k) (length bs) (λ i. tabulate (length bs) (λ t. sum m (term i t))) (λ i q. length-tabulate (length bs) (λ t. sum m (term i t))) i t hi ht
+          ∙ tabulate-at (length bs) (λ t. sum m (term i t)) 0 t ht
+          ∙ sum-cut c m (term i t) lm (λ s q l. ap (λ (v : ℕ). mul v (getD va (t * c + s) 0)) (top-past i s hi q (omega arith)) ∙ zero-mul _)
+          ∙ ap (λ (n : ℕ). sum n (term i t)) (sym lq)
+          ∙ sum-below (length qs) (term i t) (λ s. mul (getD (evals (p t) qs) s 0) (U s (k + i)))
+          (λ s q. mul-comm _ _ ∙ ap₂ mul (e t s ht (omega (arith, lq)) ∙ sym (value-of t s (omega (arith, lq)))) (top-at i s hi (omega (arith, lq))))
+          ∙ coefficient qs (points-bytes z xs pts C boards) (points-distinct z xs pts C boards) (evals (p t) qs) (sym (length-map qs (λ x. eval (p t) x))) (evals-bytes (p t) qs (p-bytes t ht)) (k + i)
+          ∙ ap (λ (q : List ℕ). getD q (k + i) 0) (interpolate-evals (p t) qs (length-p t ht ∙ sym lq) (p-bytes t ht) (points-bytes z xs pts C boards) (points-distinct z xs pts C boards))

@@ -28,7 +28,7 @@ use Rattle.mbcr.specs.Rebuild.{ownF, ownG}
 use Rattle.mbcr.specs.Read.{through, aColumn, bColumn, cRow, decodedStripe}
 use Rattle.mbcr.proofs.Points.{Boards, length-neighbours, length-points, points-bytes, points-distinct}
 use Rattle.lagrange.specs.Steps.{unit}
-use Rattle.decode_laws.specs.Steps.{cell, sums, seeds, seedRows, byColumns, parts, stripeBy}
+use Rattle.decode_laws.specs.Steps.{cell, sums, seeds, seedRows, byRows, byColumns, turned, parts, stripeBy}
 use Rattle.decode_laws.proofs.Sums.{sum-below}
 use Rattle.decode_laws.proofs.Rows.{join-at, cell-fit, row-fit, sums-through, length-sums, sums-at, sums-ext}
 use Rattle.decode_laws.proofs.Mixed.{mixed-rows}
@@ -79,7 +79,8 @@ no-more : (a b : ℕ) → b ≡ 0 → add a b ≡ a
 no-more a b e = ap (add a) e ∙ add-zero-r a
 
 module _ (z : Sizes) (xs : List ℕ) (legal : Legal z) (pts : DifferentPoints z xs) (bs : List ℕ) (boards : Boards z bs) (lb : length bs ≡ z .k)
-    (w : ℕ → List ℕ) (lw : (t : ℕ) → t < z .k → length (w t) ≡ α z) (bw : (t : ℕ) → t < z .k → Bytes (w t)) where
+    (w : ℕ → List ℕ) (lw : (t : ℕ) → t < z .k → length (w t) ≡ α z) (bw : (t : ℕ) → t < z .k → Bytes (w t))
+    (tops : List ℕ) (tops-at : (i t : ℕ) → i < z .d - z .k → t < z .k → getD tops (i * z .k + t) 0 ≡ getD (ownG z xs (getD bs t 0) (w t)) (z .k + i) 0) where
   open Sizes z using (n, k, d, r)
 
   abbrev ps : List ℕ
@@ -96,9 +97,6 @@ module _ (z : Sizes) (xs : List ℕ) (legal : Legal z) (pts : DifferentPoints z 
 
   abbrev F : List ℕ
   F = join k (λ t. fit 32 (f t))
-
-  abbrev G : List ℕ
-  G = join k (λ t. fit 32 (g t))
 
   lp : length ps ≡ k
   lp = length-points xs bs ∙ lb
@@ -123,27 +121,24 @@ module _ (z : Sizes) (xs : List ℕ) (legal : Legal z) (pts : DifferentPoints z 
   e-unit s j hs hj =
       e-at s j (omega (arith, lp, kd)) hj ∙ ap (λ q. getD (interpolate ps (pick q (unit (length ps) s) (map (λ x. power x s) ps))) j 0) (lt-ltb s (length ps) hs)
 
-  g-cell : (s i : ℕ) → s < k → i < d → cell G s i ≡ getD (g s) i 0
-  g-cell s i hs hi = cell-fit k g s i hs (omega (arith, d32))
-
   f-cell : (s j : ℕ) → s < k → j < 32 → cell F s j ≡ getD (f s) j 0
   f-cell s j hs hj = cell-fit k f s j hs hj
 
   -- row k + i
-  low-row : (i : ℕ) → i < d - k → sums k (λ s. cell G s (k + i)) e ≡ fit 32 (cRow z xs bs w (k + i))
+  low-row : (i : ℕ) → i < d - k → sums k (λ s. getD tops (i * k + s) 0) e ≡ fit 32 (cRow z xs bs w (k + i))
   unfolding cRow through
   low-row i h =
-      sums-ext k _ (λ t. getD (g t) (k + i) 0) e e (λ s hs. g-cell s (k + i) hs (omega arith)) (λ s j hs hj. refl)
+      sums-ext k _ (λ t. getD (g t) (k + i) 0) e e (λ s hs. tops-at i s h hs) (λ s j hs hj. refl)
       ∙ ap (λ (m : ℕ). sums m (λ t. getD (g t) (k + i) 0) e) (sym lp)
       ∙ sums-through ps bp dp e e-unit (λ t. getD (g t) (k + i) 0)
       (tabulate-all (λ a. a < 256) (length ps) _ (λ t ht. byte-at (g t) (own-g-bytes z xs legal (getD bs t 0) (w t) (lw t (omega (arith, lp))) (bw t (omega (arith, lp)))) (k + i)))
       ∙ ap (λ (m : ℕ). fit 32 (interpolate ps (tabulate m (λ t. getD (g t) (k + i) 0)))) lp
 
   abbrev low : List ℕ
-  low = byColumns (d - k) k k G e
+  low = byRows (d - k) k tops e
 
   low-is : low ≡ join (d - k) (λ i. fit 32 (cRow z xs bs w (k + i)))
-  unfolding byColumns
+  unfolding byRows
   low-is = join-ext (d - k) _ (λ i. fit 32 (cRow z xs bs w (k + i))) (λ i h. low-row i h)
 
   length-F : length F ≡ k * 32
@@ -190,31 +185,31 @@ module _ (z : Sizes) (xs : List ℕ) (legal : Legal z) (pts : DifferentPoints z 
           ∙ getD-append-add F low (i * 32 + j) 0 ∙ ap (λ (l : List ℕ). cell l i j) low-is
           ∙ cell-fit (d - k) (λ i. cRow z xs bs w (k + i)) i j (omega arith) hj ∙ sym (β-high j i) ∙ ap (β j) v
 
-  abbrev high : List ℕ
-  high = byColumns k 0 d e (F ++ low)
+  abbrev columns : List ℕ
+  columns = byColumns (d + r) 0 d (F ++ low) e
 
-  abbrev row : ℕ → List ℕ
-  row i = sums d (λ s. cell e s (0 + i)) (F ++ low)
+  abbrev column : ℕ → List ℕ
+  column j = sums d (λ s. cell (F ++ low) s (0 + j)) e
 
   -- what column j takes from c
   abbrev γ : ℕ → ℕ → List ℕ
   γ m j = replicate m 0 ++ tabulate (d - m) (λ i. β j (m + i))
 
-  row-at : (i j : ℕ) → i < k → j < 32 → getD (row i) j 0 ≡ getD (interpolate ps (tabulate k (λ t. add (β j t) (eval (γ k j) (getD ps t 0))))) i 0
-  row-at i j hi hj =
-      sums-at d (λ s. cell e s (0 + i)) (F ++ low) j hj
+  column-at : (i j : ℕ) → i < k → j < 32 → getD (column j) i 0 ≡ getD (interpolate ps (tabulate k (λ t. add (β j t) (eval (γ k j) (getD ps t 0))))) i 0
+  column-at i j hi hj =
+      sums-at d (λ s. cell (F ++ low) s (0 + j)) e i (omega (arith, kd, d32))
       ∙ sum-below d _ (λ s. mul (getD (interpolate ps (seeds ps s)) i 0) (β j s))
-      (λ s hs. ap₂ mul (ap (cell e s) (zero-add i) ∙ e-at s i hs (omega (arith, kd, d32))) (both-at s j hs hj))
+      (λ s hs. ap₂ mul (ap (cell (F ++ low) s) (zero-add j) ∙ both-at s j hs hj) (e-at s i hs (omega (arith, kd, d32))) ∙ mul-comm (β j s) _)
       ∙ mixed-rows ps bp dp d (omega (arith, lp, kd)) (β j) (β-byte j) i
       ∙ ap (λ (m : ℕ). getD (interpolate ps (tabulate m (λ t. add (β j t) (eval (γ m j) (getD ps t 0))))) i 0) lp
 
   point-at : (t : ℕ) → t < k → getD ps t 0 ≡ point xs (getD bs t 0)
   point-at t h = map-at (point xs) bs t (omega (arith, lb))
 
-  a-row : (i j : ℕ) → i < k → j < k → getD (row i) j 0 ≡ getD (aColumn z xs bs w j) i 0
+  a-column : (i j : ℕ) → i < k → j < k → getD (column j) i 0 ≡ getD (aColumn z xs bs w j) i 0
   unfolding aColumn through
-  a-row i j hi hj =
-      row-at i j hi (omega (arith, kd, d32))
+  a-column i j hi hj =
+      column-at i j hi (omega (arith, kd, d32))
       ∙ ap (λ (l : List ℕ). getD (interpolate ps l) i 0)
       (tabulate-ext k _ _ (λ t ht. ap₂ add (β-low j t ht)
       (ap₂ (λ (l : List ℕ) (y : ℕ). eval l y) (ap (λ (l : List ℕ). replicate k 0 ++ l) (tabulate-ext (d - k) _ _ (λ i h. β-high j i))) (point-at t ht))))
@@ -245,39 +240,31 @@ module _ (z : Sizes) (xs : List ℕ) (legal : Legal z) (pts : DifferentPoints z 
           List·getD-eq-default (γ k j) 0
           (omega (arith, length-append (replicate k 0) (tabulate (d - k) (λ i. β j (k + i))), length-replicate {A = ℕ} k 0, length-tabulate (d - k) (λ i. β j (k + i)), kd))
 
-  b-row : (i j : ℕ) → i < k → k ≤ j → j < 32 → getD (row i) j 0 ≡ getD (bColumn z xs bs w j) i 0
+  b-column : (i j : ℕ) → i < k → k ≤ j → j < 32 → getD (column j) i 0 ≡ getD (bColumn z xs bs w j) i 0
   unfolding bColumn through
-  b-row i j hi hj lj =
-      row-at i j hi lj
+  b-column i j hi hj lj =
+      column-at i j hi lj
       ∙ ap (λ (l : List ℕ). getD (interpolate ps l) i 0)
       (tabulate-ext k _ _ (λ t ht. no-more (β j t) _ (eval-zero (γ k j) (getD ps t 0) (λ i. γ-none j i hj)) ∙ β-low j t ht))
-
-  -- parts of rows
-  part-of : (a m : ℕ) (l : List ℕ) → a + m ≤ length l → take m (drop a l) ≡ tabulate m (λ j. getD l (a + j) 0)
-  part-of a m l h =
-      sym (tabulate-take m (drop a l) (omega (arith, length-drop a l))) ∙ tabulate-ext m _ _ (λ j q. getD-drop a l j 0)
-
-  high-piece : (i : ℕ) → i < k → piece 32 i high ≡ row i
-  unfolding byColumns
-  high-piece i h = piece-join k 32 row (λ i q. length-sums d _ (F ++ low)) i h
-
-  length-row : (i : ℕ) → length (row i) ≡ 32
-  length-row i = length-sums d (λ s. cell e s (0 + i)) (F ++ low)
 
   w32 : d + r ≤ 32
   w32 = omega (arith, legal .enough, legal .few)
 
-  a-part : parts k 0 k high ≡ join k (λ i. tabulate k (λ j. getD (aColumn z xs bs w j) i 0))
-  unfolding parts
-  a-part =
-      join-ext k _ _ (λ i hi. ap (λ (l : List ℕ). take k (drop 0 l)) (high-piece i hi) ∙ part-of 0 k (row i) (omega (arith, length-row i, kd, d32))
-      ∙ tabulate-ext k _ _ (λ j hj. ap (λ (m : ℕ). getD (row i) m 0) (zero-add j) ∙ a-row i j hi hj))
+  columns-at : (i j : ℕ) → i < k → j < d + r → cell columns j i ≡ getD (column j) i 0
+  unfolding byColumns
+  columns-at i j hi hj = join-at (d + r) 32 column (λ j q. length-sums d (λ s. cell (F ++ low) s (0 + j)) e) j i hj (omega (arith, kd, d32))
 
-  b-part : parts k k (d + r - k) high ≡ join k (λ i. tabulate (d + r - k) (λ j. getD (bColumn z xs bs w (k + j)) i 0))
-  unfolding parts
+  a-part : turned k 0 k columns ≡ join k (λ i. tabulate k (λ j. getD (aColumn z xs bs w j) i 0))
+  unfolding turned
+  a-part =
+      join-ext k _ _ (λ i hi. tabulate-ext k _ _ (λ j hj.
+      ap (λ (m : ℕ). cell columns m i) (zero-add j) ∙ columns-at i j hi (omega (arith, kd)) ∙ a-column i j hi hj))
+
+  b-part : turned k k (d + r - k) columns ≡ join k (λ i. tabulate (d + r - k) (λ j. getD (bColumn z xs bs w (k + j)) i 0))
+  unfolding turned
   b-part =
-      join-ext k _ _ (λ i hi. ap (λ (l : List ℕ). take (d + r - k) (drop k l)) (high-piece i hi) ∙ part-of k (d + r - k) (row i) (omega (arith, length-row i, kd, w32))
-      ∙ tabulate-ext (d + r - k) _ _ (λ j hj. b-row i (k + j) hi (omega arith) (omega (arith, w32))))
+      join-ext k _ _ (λ i hi. tabulate-ext (d + r - k) _ _ (λ j hj.
+      columns-at i (k + j) hi (omega arith) ∙ b-column i (k + j) hi (omega arith) (omega (arith, w32))))
 
   length-c : (s : ℕ) → length (cRow z xs bs w s) ≡ k
   unfolding cRow through
@@ -292,6 +279,6 @@ module _ (z : Sizes) (xs : List ℕ) (legal : Legal z) (pts : DifferentPoints z 
       ∙ take-fit 32 (cRow z xs bs w (k + i)) (omega (arith, length-c (k + i), kd, d32)))
 
   -- the stripe
-  pub stripe-by : stripeBy k d (d + r) e F G ≡ decodedStripe z xs bs w
+  pub stripe-by : stripeBy k d (d + r) e F tops ≡ decodedStripe z xs bs w
   unfolding stripeBy decodedStripe
   stripe-by = ap₂ {C = List ℕ} (λ x y. x ++ y) (ap₂ {C = List ℕ} (λ x y. x ++ y) a-part b-part) c-part

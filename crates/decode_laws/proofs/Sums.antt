@@ -18,10 +18,10 @@ sum-none zero f h = refl
 sum-none (suc n) f h = ap₂ add (h 0 (omega arith)) (sum-none n (λ i. f (suc i)) (λ i l. h (suc i) (omega arith))) ∙ add-self 0
 
 -- terms that are 0 behind
-pub sum-cut : (m n : ℕ) (f : ℕ → ℕ) → m ≤ n → ((i : ℕ) → m ≤ i → f i ≡ 0) → sum n f ≡ sum m f
-sum-cut zero n f h z = sum-none n f (λ i l. z i (omega arith))
+pub sum-cut : (m n : ℕ) (f : ℕ → ℕ) → m ≤ n → ((i : ℕ) → m ≤ i → i < n → f i ≡ 0) → sum n f ≡ sum m f
+sum-cut zero n f h z = sum-none n f (λ i l. z i (omega arith) l)
 sum-cut (suc m) zero f h z = absurd (omega arith)
-sum-cut (suc m) (suc n) f h z = ap (add (f 0)) (sum-cut m n (λ i. f (suc i)) (omega arith) (λ i l. z (suc i) (omega arith)))
+sum-cut (suc m) (suc n) f h z = ap (add (f 0)) (sum-cut m n (λ i. f (suc i)) (omega arith) (λ i l k. z (suc i) (omega arith) (omega arith)))
 
 four : (a b c e : ℕ) → add (add a b) (add c e) ≡ add (add a c) (add b e)
 four a b c e = simp ring

@@ -85,14 +85,10 @@ module _ (z : Sizes) (xs : List ℕ) (pts : DifferentPoints z xs) (c : ℕ) (few
         ∙ ap (λ (k : ℕ). sum k (λ t. mul (getD vs t 0) (weight near t y))) length-near
         ∙ sum-below c (λ t. mul (getD vs t 0) (weight near t y)) (λ j. mul (cell factors (o - c) j) (getD (fit 32 vs) j 0))
         (λ j k. mul-comm (getD vs j 0) (weight near j y) ∙ ap₂ mul (sym (fs o j h l k)) (sym (fit-at 32 vs j (omega arith))))
-        ∙ sym (sum-cut c m (λ j. mul (cell factors (o - c) j) (getD (fit 32 vs) j 0)) lm (λ j k. ap (mul (cell factors (o - c) j)) (none j k) ∙ mul-zero _))
+        ∙ sym (sum-cut c m (λ j. mul (cell factors (o - c) j) (getD (fit 32 vs) j 0)) lm (λ j k q. ap (mul (cell factors (o - c) j)) (none j k q) ∙ mul-zero _))
       where
-        none : (j : ℕ) → c ≤ j → getD (fit 32 vs) j 0 ≡ 0
-        none j k = go (decLt j 32)
-          where
-            go : Dec (j < 32) → getD (fit 32 vs) j 0 ≡ 0
-            go (yes q) = fit-at 32 vs j q ∙ List·getD-eq-default vs 0 (omega arith)
-            go (no q) = List·getD-eq-default (fit 32 vs) 0 (omega (arith, Rattle.lists.proofs.Pieces.length-fit 32 vs))
+        none : (j : ℕ) → c ≤ j → j < m → getD (fit 32 vs) j 0 ≡ 0
+        none j k q = fit-at 32 vs j (omega arith) ∙ List·getD-eq-default vs 0 (omega arith)
 
     pub value-there : (o : ℕ) → o < n → valueBy c o m factors (fit 32 vs) ≡ eval (interpolate near vs) (point xs ((b + o) % n))
     unfolding valueBy

@@ -49,6 +49,10 @@ gRow c w = fit 32 (take 1 w ++ drop c w)
 unfoldable pub unitRows : List ℕ → List ℕ
 unitRows xs = join (length xs) (λ t. fit 32 (interpolate xs (unit (length xs) t)))
 
+-- for each power of X from the k-th on, its coefficient in each of them: 00 behind
+unfoldable pub topRows : ℕ → List ℕ → List ℕ
+topRows k xs = join (length xs - k) (λ i. fit 32 (tabulate (length xs) (λ s. getD (interpolate xs (unit (length xs) s)) (k + i) 0)))
+
 -- the values 1 at one point and 0 at the others; or, past the number of points, powers of the points
 abbrev pub seeds : List ℕ → ℕ → List ℕ
 seeds xs s = pick (ltb s (length xs)) (unit (length xs) s) (map (λ x. power x s) xs)
@@ -77,12 +81,21 @@ byColumns count from m a rows = join count (λ i. sums m (λ s. cell a s (from +
 unfoldable pub parts : ℕ → ℕ → ℕ → List ℕ → List ℕ
 parts count from m rows = join count (λ i. take m (drop from (piece 32 i rows)))
 
--- a stripe of coefficients f and g of k boards, a row each, with the rows e of coefficients: first the rows from k to d − 1, then those before
+-- a column of m rows, from one on, for each of the first bytes
+unfoldable pub turned : ℕ → ℕ → ℕ → List ℕ → List ℕ
+turned count from m rows = join count (λ i. tabulate m (λ j. cell rows (from + j) i))
+
+-- for each row of coefficients, the sum of its first m numbers times those of each board, of which d stand one after another
+unfoldable pub topsOf : ℕ → ℕ → ℕ → ℕ → List ℕ → List ℕ → List ℕ
+topsOf count k d m rows va = join count (λ i. tabulate k (λ t. sum m (λ s. mul (cell rows i s) (getD va (t * d + s) 0))))
+
+-- a stripe: from the coefficients of f of k boards, a row each; the coefficients of X^k, .. of their g, k for each power; and the rows e. First
+-- its rows from k to d − 1, then the columns of those before
 unfoldable pub stripeBy : ℕ → ℕ → ℕ → List ℕ → List ℕ → List ℕ → List ℕ
-stripeBy k d w e f g =
-    let low = byColumns (d - k) k k g e in
-    let high = byColumns k 0 d e (f ++ low) in
-    parts k 0 k high ++ parts k k (w - k) high ++ parts (d - k) 0 k low
+stripeBy k d w e f tops =
+    let low = byRows (d - k) k tops e in
+    let columns = byColumns w 0 d (f ++ low) e in
+    turned k 0 k columns ++ turned k k (w - k) columns ++ parts (d - k) 0 k low
 
 -- values of k boards at k boards meet: value j of the i-th of the first, and value i of the j-th of the others
 unfoldable pub meets : ℕ → List ℕ → List ℕ → Bool
