@@ -5,3 +5,4 @@ pub mod Mixed
 pub mod Stripe
 pub mod Coefs
 pub mod Agree
+pub mod Loops
