@@ -1,15 +1,16 @@
 -- Loops over rows: a sum that grows at its end, and bytes changed in their places.
 -- Assumes nothing.
 use mathlib.Core.Path.{_≡_, refl, sym, ap, ap₂, _∙_}
-use mathlib.Core.List.{List, _++_}
-use Prim.Native.Nat.{ℕ, zero, suc, _+_, _<_, _≤_}
-use native.Mathlib.Nat.{add-zero}
+use mathlib.Core.List.{List, [], _∷_, _++_, append-nil}
+use Prim.Native.Nat.{ℕ, zero, suc, _+_, _*_, _-_, _<_, _≤_}
+use native.Mathlib.Nat.{add-zero, suc-mul, sub-zero}
 use native.Mathlib.Numerals.{add-one}
 use native.Mathlib.Omega.{arith}
-use lib.ListN.{length, getD, drop, set}
-use lib.Seq.{getD-append-add, getD-drop}
-use Rattle.lists.specs.Lists.{tabulate}
-use Rattle.lists.proofs.Pieces.{length-tabulate, fill-loop, fill-end, fill-all}
+use lib.ListN.{length, getD, take, drop, set, drop-of-length-le}
+use lib.Seq.{getD-append-add, getD-drop, take-at, drop-at, drop-drop, take-take, take-append-le, length-take-le, drop-cons}
+use borrow.Rule.Slice.PartMut.{putMid}
+use Rattle.lists.specs.Lists.{tabulate, concat, join}
+use Rattle.lists.proofs.Pieces.{length-tabulate, tabulate-at, fill-loop, fill-end, fill-all, join-turn}
 use Rattle.gf256.specs.Field.{add}
 use Rattle.gf256.proofs.Ring.{ring}
 use Rattle.gf256.proofs.Sums.{add-zero-l, add-zero-r}
@@ -47,3 +48,42 @@ pub changed : (f : ℕ → ℕ) (a₀ a : List ℕ) (t : ℕ) → length a₀ �
 changed f a₀ a t h k e =
     let m : t ≡ length a₀ = omega arith in
     fill-end f a₀ a t (length a₀) m e ∙ fill-all f a₀ (length a₀) (omega arith)
+
+-- ---- parts that are lent and put back
+
+-- a turn of a loop that puts one piece of w bytes behind the others
+pub join-loop : (f : ℕ → List ℕ) (w s : ℕ) (out₀ out ys : List ℕ) → ((i : ℕ) → i < s → length (f i) ≡ w) → ys ≡ f s
+    → out ≡ join s f ++ drop (s * w) out₀ → putMid (s * w) (s * w + w - s * w) out ys ≡ join (s + 1) f ++ drop ((s + 1) * w) out₀
+join-loop f w s out₀ out ys h ey eo =
+    let a : s * w + w - s * w ≡ w = omega arith in
+    let b : (s + 1) * w ≡ s * w + w = ap (λ (m : ℕ). m * w) (add-one s) ∙ suc-mul s w in
+    ap₂ {C = List ℕ} (λ (m : ℕ) (y : List ℕ). putMid (s * w) m out y) a ey
+    ∙ ap (λ (l : List ℕ). putMid (s * w) w l (f s)) eo
+    ∙ join-turn s w f out₀ h
+    ∙ ap₂ {C = List ℕ} (λ (i j : ℕ). join i f ++ drop j out₀) (sym (add-one s)) (sym b)
+
+-- a turn of a loop from the end down, that changes the last piece that is as it was
+pub back-loop : (f : ℕ → List ℕ) (w m s : ℕ) (out₀ out ys : List ℕ) → s < m → s * w + w ≤ length out₀ → ys ≡ f s
+    → out ≡ take (s * w + w) out₀ ++ concat (drop (suc s) (tabulate m f))
+    → putMid (s * w) (s * w + w - s * w) out ys ≡ take (s * w) out₀ ++ concat (drop s (tabulate m f))
+back-loop f w m s out₀ out ys h l ey eo =
+    let a : s * w + w - s * w ≡ w = omega arith in
+    let rest : List ℕ = concat (drop (suc s) (tabulate m f)) in
+    let n : length (take (s * w + w) out₀) ≡ s * w + w = length-take-le (s * w + w) out₀ l in
+    let c : drop s (tabulate m f) ≡ f s ∷ drop (suc s) (tabulate m f) =
+    drop-cons (tabulate m f) s [] (rw (length-tabulate m f) h) ∙ ap (λ (x : List ℕ). x ∷ drop (suc s) (tabulate m f)) (tabulate-at m f [] s h) in
+    ap₂ {C = List ℕ} (λ (m : ℕ) (y : List ℕ). putMid (s * w) m out y) a ey
+    ∙ ap (λ (q : List ℕ). putMid (s * w) w q (f s)) eo
+    ∙ ap₂ {C = List ℕ} (λ x y. x ++ (f s ++ y))
+    (take-append-le (s * w) (take (s * w + w) out₀) rest (omega arith) ∙ take-take (s * w) (s * w + w) out₀ (omega arith))
+    (drop-drop w (s * w) (take (s * w + w) out₀ ++ rest) ∙ drop-at (take (s * w + w) out₀) rest (s * w + w) n)
+    ∙ ap (λ (q : List (List ℕ)). take (s * w) out₀ ++ concat q) (sym c)
+
+-- the end of a loop that fills all of a list by pieces
+pub join-end : (f : ℕ → List ℕ) (w s m : ℕ) (out₀ out : List ℕ) → s ≡ m → length out₀ ≤ m * w → out ≡ join s f ++ drop (s * w) out₀ → out ≡ join m f
+join-end f w s m out₀ out e l h =
+    h ∙ ap (λ (i : ℕ). join i f ++ drop (i * w) out₀) e ∙ ap (λ (r : List ℕ). join m f ++ r) (drop-of-length-le out₀ {i = m * w} l) ∙ append-nil (join m f)
+
+-- the first m of a list, lent and put back, lent again
+pub part-back : (m : ℕ) (l a : List ℕ) → length a ≡ m → take (m - 0) (drop 0 (putMid 0 (m - 0) l a)) ≡ a
+part-back m l a e = ap (λ (k : ℕ). take k (putMid 0 (m - 0) l a)) (sub-zero m) ∙ take-at a (drop (m - 0) l) m e

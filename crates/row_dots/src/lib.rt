@@ -2,7 +2,7 @@
 // Assumes nothing.
 ghost use mathlib.Core.Path.{_≡_};
 ghost use Prim.Native.Nat.{_≤_};
-ghost use lib.ListN.{length, getD};
+ghost use lib.ListN.{length, getD, take};
 ghost use Rattle.lists.specs.Lists.{tabulate};
 ghost use Rattle.gf256.specs.Field.{mul, add};
 ghost use Rattle.polynomial.specs.Polynomial.{sum};
@@ -17,6 +17,19 @@ pub fn clear(out: &mut [u8])
     let mut j: usize = 0;
     while j < n {
         out[j] = 0;
+        j += 1;
+    }
+}
+
+// The first bytes of a, as many as out has.
+pub fn copy(a: &[u8], out: &mut [u8])
+    requires { ⌜ length (now out) ≤ length (now a) ⌝ }
+    ensures { λ _. ⌜ now (out .exit) ≡ take (length (now (out .entry))) (now (a .entry)) ⌝ }
+{
+    let n = out.len();
+    let mut j: usize = 0;
+    while j < n {
+        out[j] = a[j];
         j += 1;
     }
 }
