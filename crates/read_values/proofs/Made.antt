@@ -84,3 +84,14 @@ board-below n l i h k = all-at (λ x. x < n) 0 l (below-all n l h) i k
 -- what is left from a place on
 pub rest-part : (a : ℕ) (l : List ℕ) → take (length l - a) (drop a l) ≡ drop a l
 rest-part a l = take-all (length l - a) (drop a l) (omega (arith, length-drop a l))
+
+-- a sum of products of a row's beginning with 32 bytes from a place on
+pub top-made : (m at : ℕ) (row va : List ℕ) (r : ℕ) → m ≤ 32 → length row ≡ 32 → at + 32 ≤ length va
+    → r ≡ sum (length (take (m - 0) (drop 0 row))) (λ j. mul (getD (take (m - 0) (drop 0 row)) j 0) (getD (take (at + 32 - at) (drop at va)) j 0))
+    → r ≡ sum m (λ s. mul (getD row s 0) (getD va (at + s) 0))
+top-made m at row va r hm lr h er =
+    let q : at + 32 - at ≡ 32 = omega arith in
+    let l : length (take m row) ≡ m = length-take-le m row (omega arith) in
+    er ∙ ap₂ (λ (n k : ℕ). sum (length (take n row)) (λ j. mul (getD (take n row) j 0) (getD (take k (drop at va)) j 0))) (sub-zero m) q
+    ∙ ap (λ (n : ℕ). sum n (λ j. mul (getD (take m row) j 0) (getD (take 32 (drop at va)) j 0))) l
+    ∙ sum-below m _ _ (λ j k. ap₂ mul (getD-take m row j 0 k) (getD-take 32 (drop at va) j 0 (omega arith) ∙ getD-drop at va j 0))

@@ -7,7 +7,9 @@ ghost use Prim.Native.Nat.{_+_, _-_, _*_, _<_, _≤_};
 ghost use lib.ListN.{length, getD, take, drop};
 ghost use Rattle.lists.specs.Tests.{below};
 ghost use Rattle.lists.specs.Lists.{All, tabulate, join, fit};
-ghost use Rattle.decode_laws.specs.Steps.{offset, valueBy, valuesOf, fRow, gRow};
+ghost use Rattle.gf256.specs.Field.{mul};
+ghost use Rattle.polynomial.specs.Polynomial.{sum};
+ghost use Rattle.decode_laws.specs.Steps.{offset, valueBy, valuesOf, topsOf, fRow, gRow};
 
 // Bytes to the beginning of a row, and 00 behind.
 fn padded(a: &[u8], out: &mut [u8])
@@ -103,5 +105,36 @@ pub fn values(n: usize, c: usize, m: usize, boards: &[usize], targets: &[usize],
         let end = at + q;
         board_values(n, c, m, b, targets, &factors[from..], &rows[row..row_end], &mut out[at..end]);
         t += 1;
+    }
+}
+
+// For one row of coefficients, the sum of its first m bytes times those of each board, of which d stand one after another.
+fn top(d: usize, m: usize, row: &[u8], va: &[u8], out: &mut [u8])
+    requires { ⌜ (d ≤ 32) × (m ≤ 32) × (length (now row) ≡ 32) × (length (now out) ≤ 32) × (length (now out) * d + 32 ≤ length (now va)) ⌝ }
+    ensures { λ _. ⌜ now (out .exit) ≡ tabulate (length (now (out .entry))) (λ t. sum m (λ s. mul (getD (now (row .entry)) s 0) (getD (now (va .entry)) (t * d + s) 0))) ⌝ }
+{
+    let k = out.len();
+    let mut t: usize = 0;
+    while t < k {
+        let from = t * d;
+        let to = from + 32;
+        out[t] = row_dots::dot(&row[0..m], &va[from..to]);
+        t += 1;
+    }
+}
+
+// The same for each row of coefficients.
+pub fn tops(count: usize, k: usize, d: usize, m: usize, rows: &[u8], va: &[u8], out: &mut [u8])
+    requires { ⌜ (count ≤ 32) × (k ≤ 32) × (d ≤ 32) × (m ≤ 32) × (count * 32 ≤ length (now rows)) × (k * d + 32 ≤ length (now va)) × (length (now out) ≡ count * k) ⌝ }
+    ensures { λ _. ⌜ now (out .exit) ≡ topsOf count k d m (now (rows .entry)) (now (va .entry)) ⌝ }
+{
+    let mut i: usize = 0;
+    while i < count {
+        let from = i * 32;
+        let to = from + 32;
+        let at = i * k;
+        let end = at + k;
+        top(d, m, &rows[from..to], va, &mut out[at..end]);
+        i += 1;
     }
 }
