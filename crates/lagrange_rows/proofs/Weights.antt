@@ -13,7 +13,7 @@ use borrow.Rule.Slice.PartMut.{putMid}
 use Rattle.lists.specs.Tests.{below}
 use Rattle.lists.specs.Lists.{tabulate, concat, join, piece}
 use Rattle.lists.proofs.Put.{within}
-use Rattle.lists.proofs.Pieces.{length-tabulate, tabulate-at, tabulate-ext, map-at, length-join, piece-join, part-piece}
+use Rattle.lists.proofs.Pieces.{length-tabulate, tabulate-at, tabulate-ext, map-at, length-join, piece-join, piece-at, part-piece}
 use Rattle.gf256.specs.Field.{add, mul, inverse}
 use Rattle.gf256.proofs.Field.{one-mul, mul-lt}
 use Rattle.gf256.proofs.Ring.{ring}
@@ -213,3 +213,26 @@ module _ (pts boards xs : List ℕ) where
 
 pub befores-made : (pts boards xs rows : List ℕ) → xs ≡ points pts boards → rows ≡ join (length xs) (beforeRow pts xs) → rows ≡ befores pts boards xs
 befores-made pts boards xs rows e h = h ∙ ap (λ (n : ℕ). join n (beforeRow pts xs)) (ap length e ∙ length-points pts boards)
+
+-- ---- the bytes of the rows
+
+pub length-lagrange : (pts boards : List ℕ) (t : ℕ) → length (lagrangeRow pts boards t) ≡ 32
+unfolding lagrangeRow
+length-lagrange pts boards t = length-tabulate 32 (λ m. weight (points pts boards) t (point pts m))
+
+lagrange-byte : (pts boards : List ℕ) (t i : ℕ) → i < 32 → getD (lagrangeRow pts boards t) i 0 ≡ weight (points pts boards) t (point pts i)
+unfolding lagrangeRow
+lagrange-byte pts boards t i h = tabulate-at 32 (λ m. weight (points pts boards) t (point pts m)) 0 i h
+
+pub lagrange-at : (pts boards : List ℕ) (t i : ℕ) → t < length boards → i < 32
+    → getD (lagrangeRows pts boards) (t * 32 + i) 0 ≡ weight (points pts boards) t (point pts i)
+unfolding lagrangeRows
+lagrange-at pts boards t i ht hi =
+    let rows : List ℕ = join (length boards) (lagrangeRow pts boards) in
+    sym (piece-at 32 t rows i 0 hi)
+    ∙ ap (λ (l : List ℕ). getD l i 0) (piece-join (length boards) 32 (lagrangeRow pts boards) (λ s h. length-lagrange pts boards s) t ht)
+    ∙ lagrange-byte pts boards t i hi
+
+pub length-rows : (pts boards : List ℕ) → length (lagrangeRows pts boards) ≡ length boards * 32
+unfolding lagrangeRows
+length-rows pts boards = length-join (length boards) 32 (lagrangeRow pts boards) (λ s h. length-lagrange pts boards s)

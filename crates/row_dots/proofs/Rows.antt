@@ -6,10 +6,10 @@ use Prim.Native.Nat.{ℕ, zero, suc, _+_, _*_, _-_, _<_, _≤_}
 use native.Mathlib.Nat.{add-zero, suc-mul, sub-zero}
 use native.Mathlib.Numerals.{add-one}
 use native.Mathlib.Omega.{arith}
-use lib.ListN.{length, getD, take, drop, set, drop-of-length-le}
+use lib.ListN.{length, getD, take, drop, set, length-take, length-drop, drop-of-length-le}
 use lib.Seq.{getD-append-add, getD-drop, take-at, drop-at, drop-drop, take-take, take-append-le, length-take-le, drop-cons}
 use borrow.Rule.Slice.PartMut.{putMid}
-use Rattle.lists.specs.Lists.{tabulate, concat, join}
+use Rattle.lists.specs.Lists.{tabulate, concat, join, fit}
 use Rattle.lists.proofs.Pieces.{length-tabulate, tabulate-at, fill-loop, fill-end, fill-all, join-turn}
 use Rattle.gf256.specs.Field.{add}
 use Rattle.gf256.proofs.Ring.{ring}
@@ -24,6 +24,17 @@ sum-suc (suc m) f = ap (add (f 0)) (sum-suc m (λ i. f (suc i))) ∙ law (f 0) (
   where
     law : (a b c : ℕ) → add a (add b c) ≡ add (add a b) c
     law a b c = simp ring
+
+pub sum-same : (m : ℕ) (f g : ℕ → ℕ) → ((i : ℕ) → i < m → f i ≡ g i) → sum m f ≡ sum m g
+sum-same zero f g h = refl
+sum-same (suc m) f g h = ap₂ add (h 0 (omega arith)) (sum-same m (λ i. f (suc i)) (λ i. g (suc i)) (λ i k. h (suc i) (omega arith)))
+
+-- terms that are 00 add nothing
+pub sum-cut : (c m : ℕ) (f : ℕ → ℕ) → c ≤ m → ((i : ℕ) → c ≤ i → f i ≡ 0) → sum m f ≡ sum c f
+sum-cut zero zero f h z = refl
+sum-cut zero (suc m) f h z = ap₂ add (z 0 (omega arith)) (sum-cut zero m (λ i. f (suc i)) (omega arith) (λ i k. z (suc i) (omega arith))) ∙ add-zero-l 0
+sum-cut (suc c) zero f h z = absurd (omega arith)
+sum-cut (suc c) (suc m) f h z = ap (add (f 0)) (sum-cut c m (λ i. f (suc i)) (omega arith) (λ i k. z (suc i) (omega arith)))
 
 -- a turn of the loop
 pub sum-turn : (f : ℕ → ℕ) (j s v : ℕ) → s ≡ sum j f → v ≡ f j → add s v ≡ sum (j + 1) f
@@ -87,3 +98,17 @@ join-end f w s m out₀ out e l h =
 -- the first m of a list, lent and put back, lent again
 pub part-back : (m : ℕ) (l a : List ℕ) → length a ≡ m → take (m - 0) (drop 0 (putMid 0 (m - 0) l a)) ≡ a
 part-back m l a e = ap (λ (k : ℕ). take k (putMid 0 (m - 0) l a)) (sub-zero m) ∙ take-at a (drop (m - 0) l) m e
+
+-- n elements of one list copied over n of another, as the borrow checker has the parts
+pub copied : (k p k′ q n : ℕ) (out src ys : List ℕ) → k ≡ n → k′ ≡ n → p + n ≤ length out
+    → ys ≡ take (length (take k (drop p out))) (take k′ (drop q src)) → ys ≡ take n (drop q src)
+copied k p k′ q n out src ys e e′ h ey =
+    let l : length (take k (drop p out)) ≡ n = simp (length-take, length-drop) (omega arith) in
+    ey ∙ ap₂ {C = List ℕ} (λ (i j : ℕ). take i (take j (drop q src))) l e′ ∙ take-take n n (drop q src) (omega arith)
+
+-- filled up with 00
+pub fit-zeros : (l : List ℕ) (m : ℕ) → length l ≤ m → l ++ drop (length l) (tabulate m (λ j. 0)) ≡ fit m l
+fit-zeros [] zero h = refl
+fit-zeros [] (suc m) h = ap {B = List ℕ} (λ l. 0 ∷ l) (fit-zeros [] m (omega arith))
+fit-zeros (x ∷ l) zero h = absurd (omega arith)
+fit-zeros (x ∷ l) (suc m) h = ap {B = List ℕ} (λ l. x ∷ l) (fit-zeros l m (omega arith))
