@@ -23,7 +23,7 @@ use Rattle.decode_laws.proofs.Sums.{sum-below, sum-cut}
 use Rattle.decode_laws.proofs.Rows.{join-at, cell-fit, coefficient, sums-ext, rows-through}
 use Rattle.decode_laws.proofs.Values.{Factors, value-at}
 
-length-factors : (z : Sizes) (xs : List ℕ) (c b : ℕ) → length (factorsOf z xs c b) ≡ (z .n - c) * 32
+pub length-factors : (z : Sizes) (xs : List ℕ) (c b : ℕ) → length (factorsOf z xs c b) ≡ (z .n - c) * 32
 unfolding factorsOf
 length-factors z xs c b = length-join (z .n - c) 32 _ (λ o h. length-fit 32 (tabulate c (λ j. weight (points xs (neighbours z b c)) j (point xs ((b + (c + o)) % z .n)))))
 
