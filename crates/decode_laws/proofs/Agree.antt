@@ -29,7 +29,7 @@ use Rattle.mbcr.proofs.Points.{Boards}
 use Rattle.mbcr.proofs.Decode.{length-decoded, decoded-bytes, decoded-true}
 use Rattle.pairs.specs.Steps.{Pairs, Kept}
 use Rattle.pairs.proofs.Pairs.{pairs-agree}
-use Rattle.decode_laws.specs.Steps.{meets, zeros, boardAgrees, stripeAgrees, stripeReads}
+use Rattle.decode_laws.specs.Steps.{meets, pairsMeet, zeros, boardAgrees, stripeAgrees, stripeReads}
 use Rattle.decode_laws.proofs.Rows.{join-at}
 
 -- ---- tests
@@ -165,7 +165,8 @@ module _ (z : Sizes) (xs : List ℕ) (legal : Legal z) (pts : DifferentPoints z 
       true-alls k (boardAgrees z xs bs w (take m D)) (λ t ht.
       ap (λ (l : List ℕ). same l (w t)) (ap (λ (l : List ℕ). kept z xs l (getD bs t 0)) e ∙ agree .0 (meets-pairs h) t ht) ∙ same-refl (w t))
 
-  pub stripe-agrees : (m : ℕ) → stripeAgrees z xs bs w (take m D) ≡ pick (meets k fv gv) (zeros (drop m D)) false
+  pub stripe-agrees : (m : ℕ) → stripeAgrees z xs bs w (take m D) ≡ pick (pairsMeet z xs bs w) (zeros (drop m D)) false
+  unfolding pairsMeet
   stripe-agrees m =
       same-truth _ _ (λ h. let a = agreed m h in both-true _ _ (a .0) (a .1))
       (λ h. let a = both (meets k fv gv) (zeros (drop m D)) h in agreeing m (a .0) (a .1))

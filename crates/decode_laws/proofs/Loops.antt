@@ -1,16 +1,18 @@
 -- Parts of lists that were lent and are put back, as the borrow checker has them, and loops that put pieces behind each other.
 -- Assumes nothing.
 use mathlib.Core.Path.{_≡_, refl, sym, ap, ap₂, _∙_}
+use mathlib.Core.Bool.{Bool, true, false}
 use mathlib.Core.List.{List, _++_, append-nil, append-assoc}
-use Prim.Native.Nat.{ℕ, _+_, _*_, _-_, _<_, _≤_}
+use Prim.Native.Nat.{ℕ, suc, _+_, _*_, _-_, _<_, _≤_}
 use native.Mathlib.Nat.{sub-zero, suc-mul}
 use native.Mathlib.Numerals.{add-one}
 use native.Mathlib.Omega.{arith}
 use lib.ListN.{length, take, drop, length-append, drop-of-length-le}
-use lib.Seq.{take-at, drop-at}
+use lib.Seq.{take-at, drop-at, drop-cons}
 use borrow.Rule.Slice.PartMut.{putMid}
-use Rattle.lists.specs.Lists.{join}
-use Rattle.lists.proofs.Pieces.{join-turn}
+use Rattle.lists.specs.Tests.{pick, alls}
+use Rattle.lists.specs.Lists.{tabulate, join}
+use Rattle.lists.proofs.Pieces.{join-turn, length-tabulate, tabulate-at}
 
 -- a turn of a loop that puts one piece of w bytes behind the others
 pub join-loop : (f : ℕ → List ℕ) (w s : ℕ) (out₀ out ys : List ℕ) → ((i : ℕ) → i < s → length (f i) ≡ w) → ys ≡ f s
@@ -48,3 +50,23 @@ three-parts a b u x y w h lx ly =
     put-next (x ++ y) s w _ b (length u - b) n (put-next x r y (x ++ r) a (b - a) lx refl)
     ∙ ap (λ (l : List ℕ). (x ++ y) ++ w ++ l) (drop-of-length-le s {i = length u - b} (simp lib.ListN.length-drop (omega arith)))
     ∙ append-nil (x ++ y ++ w)
+
+-- ---- a loop over tests
+
+module _ (q : ℕ → Bool) (n t : ℕ) where
+  abbrev T : List Bool
+  T = tabulate n q
+
+  first : t < n → alls (drop t T) ≡ pick (q t) (alls (drop (suc t) T)) false
+  first h =
+      ap alls (drop-cons T t true (rw (length-tabulate n q) h)) ∙ ap (λ (b : Bool). pick b (alls (drop (suc t) T)) false) (tabulate-at n q true t h)
+
+  pub alls-next : t < n → q t ≡ true → alls (drop (t + 1) T) ≡ alls (drop t T)
+  alls-next h e =
+      ap (λ (m : ℕ). alls (drop m T)) (add-one t) ∙ sym (first h ∙ ap (λ (b : Bool). pick b (alls (drop (suc t) T)) false) e)
+
+  pub alls-no : t < n → q t ≡ false → alls (drop t T) ≡ false
+  alls-no h e = first h ∙ ap (λ (b : Bool). pick b (alls (drop (suc t) T)) false) e
+
+  pub alls-end : n ≤ t → alls (drop t T) ≡ true
+  alls-end h = ap alls (drop-of-length-le T {i = t} (rw (length-tabulate n q) h))

@@ -2,16 +2,17 @@
 -- Assumes nothing.
 use mathlib.Core.Bool.{Bool}
 use mathlib.Core.List.{List, [], _∷_, _++_, map}
-use Prim.Native.Nat.{ℕ, _+_, _*_, _-_, _%_}
+use Prim.Native.Nat.{ℕ, _+_, _*_, _-_, _%_, _≤_}
 use lib.Dec.{eqb, ltb, leb}
 use lib.ListN.{length, getD, take, drop}
 use Rattle.lists.specs.Tests.{pick, alls, every, same}
-use Rattle.lists.specs.Lists.{tabulate, join, piece, fit}
+use Rattle.lists.specs.Lists.{All, tabulate, join, piece, fit}
 use Rattle.gf256.specs.Field.{mul}
-use Rattle.polynomial.specs.Polynomial.{interpolate, sum, power}
+use Rattle.polynomial.specs.Polynomial.{eval, interpolate, sum, power}
 use Rattle.sizes.specs.declared.Sizes.{Sizes}
 use Rattle.sizes.specs.Sizing.{α, B}
 use Rattle.mbcr.specs.Share.{point, points, neighbours, kept}
+use Rattle.mbcr.specs.Rebuild.{ownF, ownG}
 use Rattle.mbcr.specs.Read.{decodedStripe}
 use Rattle.lagrange.specs.Steps.{unit, weight}
 
@@ -101,6 +102,13 @@ stripeBy k d w e f tops =
 unfoldable pub meets : ℕ → List ℕ → List ℕ → Bool
 meets k fv gv = alls (tabulate k (λ i. alls (tabulate k (λ j. eqb (getD fv (i * k + j) 0) (getD gv (j * k + i) 0)))))
 
+-- the pairs of boards meet: f of each and g of each have one value at each other's points, w t being the bytes of boards[t]
+unfoldable pub pairsMeet : Sizes → List ℕ → List ℕ → (ℕ → List ℕ) → Bool
+pairsMeet z xs boards w =
+    meets (z .k)
+    (join (z .k) (λ t. tabulate (z .k) (λ i. eval (ownF z xs (getD boards t 0) (w t)) (point xs (getD boards i 0)))))
+    (join (z .k) (λ t. tabulate (z .k) (λ i. eval (ownG z xs (getD boards t 0) (w t)) (point xs (getD boards i 0)))))
+
 -- each byte is 00
 abbrev pub zeros : List ℕ → Bool
 zeros l = every (λ a. eqb a 0) l
@@ -121,3 +129,7 @@ module _ (z : Sizes) (xs : List ℕ) where
 -- what boards[t] holds of stripe s, where its bytes start at starts[t]
 unfoldable pub heldAt : Sizes → List ℕ → List ℕ → ℕ → ℕ → List ℕ
 heldAt z starts bytes s t = take (α z) (drop (getD starts t 0 + s * α z) bytes)
+
+-- there are S stripes from each of these places on
+abbrev pub Placed : Sizes → List ℕ → List ℕ → ℕ → Type 0
+Placed z starts bytes S = All (λ p. p + S * α z ≤ length bytes) starts
