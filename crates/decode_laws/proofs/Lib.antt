@@ -6,3 +6,4 @@ pub mod Stripe
 pub mod Coefs
 pub mod Agree
 pub mod Loops
+pub mod Held
