@@ -60,7 +60,7 @@ module _ (z : Sizes) (xs : List ℕ) (legal : Legal z) (pts : DifferentPoints z 
       let one : length (take 1 w) ≡ 1 = length-take-le 1 w (omega (arith, legal .some-fresh)) in
       let lf : length (take (d + r) w) ≡ d + r = length-take-le (d + r) w (omega arith) in
       let lg : length (take 1 w ++ drop (d + r) w) ≡ d =
-          length-append (take 1 w) (drop (d + r) w) ∙ ap₂ _+_ one (length-drop (d + r) w) ∙ omega (arith, legal .some-read, legal .read-helpers) in
+      length-append (take 1 w) (drop (d + r) w) ∙ ap₂ _+_ one (length-drop (d + r) w) ∙ omega (arith, legal .some-read, legal .read-helpers) in
       ap₂ {C = List ℕ} (λ x y. x ++ y)
       (evals-interpolate (points xs (neighbours z i (d + r))) (take (d + r) w)
       (length-points xs (neighbours z i (d + r)) ∙ length-neighbours z i (d + r) ∙ sym lf)
@@ -126,7 +126,7 @@ module _ (z : Sizes) (xs : List ℕ) (legal : Legal z) (pts : DifferentPoints z 
       let e : length (points xs (neighbours z (getD bs t 0) d)) ≡ d = length-points xs (neighbours z (getD bs t 0) d) ∙ length-neighbours z (getD bs t 0) d in
       let one : length (take 1 (w t)) ≡ 1 = length-take-le 1 (w t) (omega (arith, lw t h, α-parts z legal, legal .some-fresh)) in
       let l : length (take 1 (w t) ++ drop (d + r) (w t)) ≡ d =
-          length-append (take 1 (w t)) (drop (d + r) (w t)) ∙ ap₂ _+_ one (length-drop (d + r) (w t)) ∙ omega (arith, lw t h, α-parts z legal, legal .some-read, legal .read-helpers) in
+      length-append (take 1 (w t)) (drop (d + r) (w t)) ∙ ap₂ _+_ one (length-drop (d + r) (w t)) ∙ omega (arith, lw t h, α-parts z legal, legal .some-read, legal .read-helpers) in
       length-interpolate (points xs (neighbours z (getD bs t 0) d)) (take 1 (w t) ++ drop (d + r) (w t)) (e ∙ sym l) ∙ e
 
   f-bytes : (t : ℕ) → t < k → Bytes (f t)
@@ -214,7 +214,7 @@ module _ (z : Sizes) (xs : List ℕ) (legal : Legal z) (pts : DifferentPoints z 
   is-c i j hi li hj =
       let e : k + (i - k) ≡ i = omega arith in
       let p : length (join k A ++ join k Bs) ≡ k * (d + r) =
-          length-append (join k A) (join k Bs) ∙ ap₂ _+_ length-A length-B ∙ sym (mul-add k k (d + r - k)) ∙ ap (λ (y : ℕ). k * y) (add-sub-of-le (omega (arith, legal .read-helpers))) in
+      length-append (join k A) (join k Bs) ∙ ap₂ _+_ length-A length-B ∙ sym (mul-add k k (d + r - k)) ∙ ap (λ (y : ℕ). k * y) (add-sub-of-le (omega (arith, legal .read-helpers))) in
       entry-c z legal u lu i j hi li hj
       ∙ ap (λ (q : ℕ). getD ((join k A ++ join k Bs) ++ join (d - k) C) (q + ((i - k) * k + j)) 0) (sym p)
       ∙ getD-append-add (join k A ++ join k Bs) (join (d - k) C) ((i - k) * k + j) 0

@@ -68,8 +68,26 @@ fn stripe_meets(
     let w = d + sizes.r;
     let at = s * (w + (d - 1));
     read_values::rows_of(d, w, starts, at, bytes, fs, gs);
-    read_values::values(n, w, row_values::whole_vectors(w), boards, boards, ff, fs, fv);
-    read_values::values(n, d, row_values::whole_vectors(d), boards, boards, gf, gs, gv);
+    read_values::values(
+        n,
+        w,
+        row_values::whole_vectors(w),
+        boards,
+        boards,
+        ff,
+        fs,
+        fv,
+    );
+    read_values::values(
+        n,
+        d,
+        row_values::whole_vectors(d),
+        boards,
+        boards,
+        gf,
+        gs,
+        gv,
+    );
     values_meet(k, fv, gv)
 }
 
@@ -93,7 +111,20 @@ pub fn stripes_meet(
 {
     let mut s: usize = 0;
     while s < stripes {
-        if !stripe_meets(sizes, points, boards, starts, bytes, s, ff, gf, fs, gs, fv, gv) {
+        if !stripe_meets(
+            sizes,
+            points,
+            boards,
+            starts,
+            bytes,
+            s,
+            ff,
+            gf,
+            fs,
+            gs,
+            fv,
+            gv,
+        ) {
             return false;
         }
         s += 1;

@@ -128,7 +128,16 @@ fn board_factors(sizes: Sizes, c: usize, b: usize, rows: &[u8], out: &mut [u8])
 }
 
 // The factors of board b. near and rows are for work.
-fn factors_in(sizes: Sizes, points: &[u8], inverses: &[u8], c: usize, b: usize, near: &mut [usize], rows: &mut [u8], out: &mut [u8])
+fn factors_in(
+    sizes: Sizes,
+    points: &[u8],
+    inverses: &[u8],
+    c: usize,
+    b: usize,
+    near: &mut [usize],
+    rows: &mut [u8],
+    out: &mut [u8],
+)
     requires { ⌜ (now inverses ≡ tabulate 256 inverse) × (length (now points) ≡ 32) × (sizes .n ≤ 32) × (c ≤ sizes .n) × (b < sizes .n) × (length (now near) ≡ c) × (length (now rows) ≡ c * 32) × (length (now out) ≡ (sizes .n - c) * 32) ⌝ }
     ensures { λ _. ⌜ now (out .exit) ≡ factorsOf sizes (now (points .entry)) c b ⌝ }
 {
@@ -138,7 +147,16 @@ fn factors_in(sizes: Sizes, points: &[u8], inverses: &[u8], c: usize, b: usize, 
 }
 
 // The factors of each of some boards. near and rows are for work.
-fn factor_rows_in(sizes: Sizes, points: &[u8], inverses: &[u8], c: usize, boards: &[usize], near: &mut [usize], rows: &mut [u8], out: &mut [u8])
+fn factor_rows_in(
+    sizes: Sizes,
+    points: &[u8],
+    inverses: &[u8],
+    c: usize,
+    boards: &[usize],
+    near: &mut [usize],
+    rows: &mut [u8],
+    out: &mut [u8],
+)
     requires { ⌜ (now inverses ≡ tabulate 256 inverse) × (length (now points) ≡ 32) × (sizes .n ≤ 32) × (c ≤ sizes .n) × (length (now boards) ≤ 32) × (below (sizes .n) (now boards) ≡ true) × (length (now near) ≡ c) × (length (now rows) ≡ c * 32) × (length (now out) ≡ length (now boards) * ((sizes .n - c) * 32)) ⌝ }
     ensures { λ _. ⌜ now (out .exit) ≡ factorRows sizes (now (points .entry)) c (now (boards .entry)) ⌝ }
 {
@@ -155,12 +173,28 @@ fn factor_rows_in(sizes: Sizes, points: &[u8], inverses: &[u8], c: usize, boards
 }
 
 // The factors of each of some boards.
-pub fn factor_rows(sizes: Sizes, points: &[u8], inverses: &[u8], c: usize, boards: &[usize], out: &mut [u8])
+pub fn factor_rows(
+    sizes: Sizes,
+    points: &[u8],
+    inverses: &[u8],
+    c: usize,
+    boards: &[usize],
+    out: &mut [u8],
+)
     requires { ⌜ (now inverses ≡ tabulate 256 inverse) × (length (now points) ≡ 32) × (sizes .n ≤ 32) × (c ≤ sizes .n) × (length (now boards) ≤ 32) × (below (sizes .n) (now boards) ≡ true) × (length (now out) ≡ length (now boards) * ((sizes .n - c) * 32)) ⌝ }
     ensures { λ _. ⌜ now (out .exit) ≡ factorRows sizes (now (points .entry)) c (now (boards .entry)) ⌝ }
 {
     let q = c * 32;
     let mut near = [0usize; 32];
     let mut rows = [0u8; 1024];
-    factor_rows_in(sizes, points, inverses, c, boards, &mut near[0..c], &mut rows[0..q], out);
+    factor_rows_in(
+        sizes,
+        points,
+        inverses,
+        c,
+        boards,
+        &mut near[0..c],
+        &mut rows[0..q],
+        out,
+    );
 }

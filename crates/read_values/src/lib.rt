@@ -34,7 +34,15 @@ fn board_rows(d: usize, w: usize, held: &[u8], f: &mut [u8], g: &mut [u8])
 }
 
 // The same of each of some boards, whose bytes start at these places and a number of bytes behind them.
-pub fn rows_of(d: usize, w: usize, starts: &[usize], at: usize, bytes: &[u8], fs: &mut [u8], gs: &mut [u8])
+pub fn rows_of(
+    d: usize,
+    w: usize,
+    starts: &[usize],
+    at: usize,
+    bytes: &[u8],
+    fs: &mut [u8],
+    gs: &mut [u8],
+)
     requires { ⌜ (1 ≤ d) × (d ≤ 32) × (1 ≤ w) × (w ≤ 32) × (length (now starts) ≤ 32) × All (λ p. p + at + (w + (d - 1)) ≤ length (now bytes)) (now starts) × (length (now fs) ≡ length (now starts) * 32) × (length (now gs) ≡ length (now starts) * 32) ⌝ }
     ensures { λ _. ⌜ (now (fs .exit) ≡ join (length (now (starts .entry))) (λ t. fRow w (take (w + (d - 1)) (drop (getD (now (starts .entry)) t 0 + at) (now (bytes .entry)))))) × (now (gs .exit) ≡ join (length (now (starts .entry))) (λ t. gRow w (take (w + (d - 1)) (drop (getD (now (starts .entry)) t 0 + at) (now (bytes .entry)))))) ⌝ }
 {
@@ -74,7 +82,16 @@ fn value(n: usize, c: usize, m: usize, o: usize, factors: &[u8], row: &[u8]) -> 
 }
 
 // The values at some boards of the polynomial of board b.
-fn board_values(n: usize, c: usize, m: usize, b: usize, targets: &[usize], factors: &[u8], row: &[u8], out: &mut [u8])
+fn board_values(
+    n: usize,
+    c: usize,
+    m: usize,
+    b: usize,
+    targets: &[usize],
+    factors: &[u8],
+    row: &[u8],
+    out: &mut [u8],
+)
     requires { ⌜ (n ≤ 32) × (c ≤ n) × (m ≤ 32) × (b < n) × (below n (now targets) ≡ true) × ((n - c) * 32 ≤ length (now factors)) × (length (now row) ≡ 32) × (length (now out) ≡ length (now targets)) ⌝ }
     ensures { λ _. ⌜ now (out .exit) ≡ tabulate (length (now (targets .entry))) (λ i. valueBy c (offset n b (getD (now (targets .entry)) i 0)) m (now (factors .entry)) (now (row .entry))) ⌝ }
 {
@@ -88,7 +105,16 @@ fn board_values(n: usize, c: usize, m: usize, b: usize, targets: &[usize], facto
 }
 
 // The values at some boards of the polynomial of each of others.
-pub fn values(n: usize, c: usize, m: usize, boards: &[usize], targets: &[usize], factors: &[u8], rows: &[u8], out: &mut [u8])
+pub fn values(
+    n: usize,
+    c: usize,
+    m: usize,
+    boards: &[usize],
+    targets: &[usize],
+    factors: &[u8],
+    rows: &[u8],
+    out: &mut [u8],
+)
     requires { ⌜ (n ≤ 32) × (c ≤ n) × (m ≤ 32) × (length (now boards) ≤ 32) × (below n (now boards) ≡ true) × (length (now targets) ≤ 32) × (below n (now targets) ≡ true) × (length (now boards) * ((n - c) * 32) ≤ length (now factors)) × (length (now rows) ≡ length (now boards) * 32) × (length (now out) ≡ length (now boards) * length (now targets)) ⌝ }
     ensures { λ _. ⌜ now (out .exit) ≡ valuesOf n c m (now (boards .entry)) (now (targets .entry)) (now (factors .entry)) (now (rows .entry)) ⌝ }
 {
@@ -103,7 +129,16 @@ pub fn values(n: usize, c: usize, m: usize, boards: &[usize], targets: &[usize],
         let row_end = row + 32;
         let at = t * q;
         let end = at + q;
-        board_values(n, c, m, b, targets, &factors[from..], &rows[row..row_end], &mut out[at..end]);
+        board_values(
+            n,
+            c,
+            m,
+            b,
+            targets,
+            &factors[from..],
+            &rows[row..row_end],
+            &mut out[at..end],
+        );
         t += 1;
     }
 }

@@ -116,11 +116,18 @@ values-requires c κs =
     let g = (start-from-after-values-arg2 c) in
     let z = g .args .sizes in
     let f = facts g in
-    let lb = g .pre .2 in
-    (omega (arith, f), omega (arith, f), omega (arith, (c .before .before) .whole-vectors .ensures), omega (arith, f), g .pre .3, omega (arith, f), g .pre .3,
-    omega (arith, ap length (g .pre .7), length-factor-rows z (g .args .points .now) (z .d + z .r) (g .args .boards .now)),
-    f-long (g .args .starts .now) (g .args .bytes .now) (z .d + z .r) (z .d + z .r + (z .d - 1)) (g .args .s * (z .d + z .r + (z .d - 1))) _ ((after-rows-of-from-after-values-arg2 c) .rows-of .ensures .0) ∙ ap (λ (m : ℕ). m * 32) (g .pre .4 ∙ sym lb),
-    g .pre .11 ∙ ap₂ _*_ (sym lb) (sym lb))
+    let lb = g .pre .2 in (
+      omega (arith, f),
+      omega (arith, f),
+      omega (arith, (c .before .before) .whole-vectors .ensures),
+      omega (arith, f),
+      g .pre .3,
+      omega (arith, f),
+      g .pre .3,
+      omega (arith, ap length (g .pre .7), length-factor-rows z (g .args .points .now) (z .d + z .r) (g .args .boards .now)),
+      f-long (g .args .starts .now) (g .args .bytes .now) (z .d + z .r) (z .d + z .r + (z .d - 1)) (g .args .s * (z .d + z .r + (z .d - 1))) _ ((after-rows-of-from-after-values-arg2 c) .rows-of .ensures .0) ∙ ap (λ (m : ℕ). m * 32) (g .pre .4 ∙ sym lb),
+      g .pre .11 ∙ ap₂ _*_ (sym lb) (sym lb),
+    )
 
 whole-vectors-requires-2 : tie.Need-whole-vectors-requires-2
 whole-vectors-requires-2 c κs = omega (arith, facts (start-from-after-slice-known7 c))
@@ -130,11 +137,18 @@ values-requires-2 c κs =
     let g = (start-from-after-values-arg4 c) in
     let z = g .args .sizes in
     let f = facts g in
-    let lb = g .pre .2 in
-    (omega (arith, f), omega (arith, f), omega (arith, (c .before .before) .whole-vectors2 .ensures), omega (arith, f), g .pre .3, omega (arith, f), g .pre .3,
-    omega (arith, ap length (g .pre .8), length-factor-rows z (g .args .points .now) (z .d) (g .args .boards .now)),
-    g-long (g .args .starts .now) (g .args .bytes .now) (z .d + z .r) (z .d + z .r + (z .d - 1)) (g .args .s * (z .d + z .r + (z .d - 1))) _ ((after-rows-of-from-after-values-arg4 c) .rows-of .ensures .1) ∙ ap (λ (m : ℕ). m * 32) (g .pre .4 ∙ sym lb),
-    g .pre .12 ∙ ap₂ _*_ (sym lb) (sym lb))
+    let lb = g .pre .2 in (
+      omega (arith, f),
+      omega (arith, f),
+      omega (arith, (c .before .before) .whole-vectors2 .ensures),
+      omega (arith, f),
+      g .pre .3,
+      omega (arith, f),
+      g .pre .3,
+      omega (arith, ap length (g .pre .8), length-factor-rows z (g .args .points .now) (z .d) (g .args .boards .now)),
+      g-long (g .args .starts .now) (g .args .bytes .now) (z .d + z .r) (z .d + z .r + (z .d - 1)) (g .args .s * (z .d + z .r + (z .d - 1))) _ ((after-rows-of-from-after-values-arg4 c) .rows-of .ensures .1) ∙ ap (λ (m : ℕ). m * 32) (g .pre .4 ∙ sym lb),
+      g .pre .12 ∙ ap₂ _*_ (sym lb) (sym lb),
+    )
 
 values-meet-requires : tie.Need-values-meet-requires
 values-meet-requires c κs =

@@ -70,10 +70,21 @@ stripe-meets-requires : tie.Need-stripe-meets-requires Inv-loop μ-loop
 stripe-meets-requires c κs =
     let g = (start-from-after-stripe-meets-arg4 c) in
     let a = g .args in
-    let l = (at-loop-from-after-stripe-meets-arg4 c) .loop in
-    (g .pre .0, g .pre .1, g .pre .2, g .pre .3, g .pre .4,
-    placed-before (a .sizes) (a .starts .now) (a .bytes .now) (l .s + 1) (a .stripes) (omega arith) (g .pre .5), omega (arith, g .pre .6), g .pre .7, g .pre .8,
-    l .inv .2 ∙ g .pre .9, l .inv .3 ∙ g .pre .10, l .inv .4 ∙ g .pre .11, l .inv .5 ∙ g .pre .12)
+    let l = (at-loop-from-after-stripe-meets-arg4 c) .loop in (
+      g .pre .0,
+      g .pre .1,
+      g .pre .2,
+      g .pre .3,
+      g .pre .4,
+      placed-before (a .sizes) (a .starts .now) (a .bytes .now) (l .s + 1) (a .stripes) (omega arith) (g .pre .5),
+      omega (arith, g .pre .6),
+      g .pre .7,
+      g .pre .8,
+      l .inv .2 ∙ g .pre .9,
+      l .inv .3 ∙ g .pre .10,
+      l .inv .4 ∙ g .pre .11,
+      l .inv .5 ∙ g .pre .12,
+    )
 
 same-length : tie.Need-same-length Inv-loop μ-loop
 same-length c = search needs

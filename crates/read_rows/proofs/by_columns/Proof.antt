@@ -75,11 +75,11 @@ loop-again c =
     let a = g .args in
     let l = (at-loop-from-after-slice-known2 c) .loop in (
       (λ rows lr tr.
-      join-loop (λ i. sums (a .m) (λ s. cell (a .a .now) s (a .from + i)) rows) 32 (l .i) (a .out .now) (l .out) _ (λ i h. length-sums (a .m) _ rows)
-      ((c .before .before) .put-row .ensures
-      ∙ (after-column-sum-from-after-slice-known2 c) .column-sum .ensures (each (a .m) rows (a .tables .now) lr tr) (omega (arith, length-each (a .m) rows (a .tables .now) lr tr)) (each-wide (a .m) rows (a .tables .now) lr tr) (each-tabled (a .m) rows (a .tables .now) lr tr)
-      ∙ column-made (a .m) rows (a .tables .now) lr tr (λ s. cell (a .a .now) s (a .from + l .i)))
-      (l .inv .0 rows lr tr)),
+          join-loop (λ i. sums (a .m) (λ s. cell (a .a .now) s (a .from + i)) rows) 32 (l .i) (a .out .now) (l .out) _ (λ i h. length-sums (a .m) _ rows)
+          ((c .before .before) .put-row .ensures
+          ∙ (after-column-sum-from-after-slice-known2 c) .column-sum .ensures (each (a .m) rows (a .tables .now) lr tr) (omega (arith, length-each (a .m) rows (a .tables .now) lr tr)) (each-wide (a .m) rows (a .tables .now) lr tr) (each-tabled (a .m) rows (a .tables .now) lr tr)
+          ∙ column-made (a .m) rows (a .tables .now) lr tr (λ s. cell (a .a .now) s (a .from + l .i)))
+          (l .inv .0 rows lr tr)),
       omega arith,
       search needs,
     )

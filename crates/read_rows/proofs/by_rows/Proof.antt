@@ -107,13 +107,13 @@ loop-again c =
     let l = (at-loop-from-after-slice-known2 c) .loop in
     let e = end (in-loop-from-after-slice-known2 c) in (
       (λ rows lr tr.
-      let f : ℕ → List ℕ = λ i. sums (a .m) (λ s. getD (a .a .now) (i * a .m + s) 0) rows in
-      let n : length (take (l .i * a .m + a .m - l .i * a .m) (drop (l .i * a .m) (a .a .now))) ≡ a .m = simp (length-take, length-drop) (omega arith) in
-      join-loop f 32 (l .i) (a .out .now) (l .out) _ (λ i h. length-sums (a .m) _ rows)
-      ((c .before .before) .put-row .ensures
-      ∙ (after-row-sum-from-after-slice-known2 c) .row-sum .ensures (each (a .m) rows (a .tables .now) lr tr) (omega (arith, length-each (a .m) rows (a .tables .now) lr tr)) (each-wide (a .m) rows (a .tables .now) lr tr) (each-tabled (a .m) rows (a .tables .now) lr tr)
-      ∙ row-made (a .m) rows (a .tables .now) lr tr (a .a .now) (l .i) (omega arith))
-      (l .inv .0 rows lr tr)),
+          let f : ℕ → List ℕ = λ i. sums (a .m) (λ s. getD (a .a .now) (i * a .m + s) 0) rows in
+          let n : length (take (l .i * a .m + a .m - l .i * a .m) (drop (l .i * a .m) (a .a .now))) ≡ a .m = simp (length-take, length-drop) (omega arith) in
+          join-loop f 32 (l .i) (a .out .now) (l .out) _ (λ i h. length-sums (a .m) _ rows)
+          ((c .before .before) .put-row .ensures
+          ∙ (after-row-sum-from-after-slice-known2 c) .row-sum .ensures (each (a .m) rows (a .tables .now) lr tr) (omega (arith, length-each (a .m) rows (a .tables .now) lr tr)) (each-wide (a .m) rows (a .tables .now) lr tr) (each-tabled (a .m) rows (a .tables .now) lr tr)
+          ∙ row-made (a .m) rows (a .tables .now) lr tr (a .a .now) (l .i) (omega arith))
+          (l .inv .0 rows lr tr)),
       omega arith,
       search needs,
     )

@@ -80,8 +80,8 @@ loop-again c =
     let a = (start-from-after-slice-known2 c) .args in
     let l = (at-loop-from-after-slice-known2 c) .loop in (
       join-loop (λ i. tabulate (a .m) (λ j. cell (a .rows .now) (a .from + j) i)) (a .m) (l .i) (a .out .now) (l .out) _ (λ i h. length-tabulate (a .m) (λ j. cell (a .rows .now) (a .from + j) i))
-      ((c .before .before) .gather .ensures ∙ ap (λ (m : ℕ). tabulate m (λ j. cell (a .rows .now) (a .from + j) (l .i))) (long (in-loop-from-after-slice-known2 c)))
-      (l .inv .0),
+          ((c .before .before) .gather .ensures ∙ ap (λ (m : ℕ). tabulate m (λ j. cell (a .rows .now) (a .from + j) (l .i))) (long (in-loop-from-after-slice-known2 c)))
+          (l .inv .0),
       omega arith,
       search needs,
     )

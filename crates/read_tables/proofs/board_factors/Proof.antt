@@ -91,9 +91,9 @@ loop-again c =
     let a = g .args in
     let l = (at-loop-from-after-slice-known2 c) .loop in (
       join-loop (λ o. fit 32 (tabulate (a .c) (λ t. cell (a .rows .now) t ((a .b + (a .c + o)) % a .sizes .n)))) 32 (l .o) (a .out .now) (l .out) _
-      (λ i h. length-fit 32 (tabulate (a .c) (λ t. cell (a .rows .now) t ((a .b + (a .c + i)) % a .sizes .n))))
-      ((c .before .before) .column .ensures ∙ ap (λ (n : ℕ). fit n (tabulate (a .c) (λ t. cell (a .rows .now) t ((a .b + (a .c + l .o)) % a .sizes .n)))) (long (in-loop-from-after-slice-known2 c)))
-      (l .inv .0),
+          (λ i h. length-fit 32 (tabulate (a .c) (λ t. cell (a .rows .now) t ((a .b + (a .c + i)) % a .sizes .n))))
+          ((c .before .before) .column .ensures ∙ ap (λ (n : ℕ). fit n (tabulate (a .c) (λ t. cell (a .rows .now) t ((a .b + (a .c + l .o)) % a .sizes .n)))) (long (in-loop-from-after-slice-known2 c)))
+          (l .inv .0),
       omega arith,
       search needs,
     )

@@ -108,7 +108,7 @@ loop-again c =
     let a = g .args in
     let l = (at-loop-from-after-slice-known6 c) .loop in (
       join-loop (λ t. factorsOf (a .sizes) (a .points .now) (a .c) (getD (a .boards .now) t 0)) ((a .sizes .n - a .c) * 32) (l .t) (a .out .now) (l .out) _
-      (λ t h. length-factors (a .sizes) (a .points .now) (a .c) (getD (a .boards .now) t 0)) ((after-factors-in-from-after-slice-known6 c) .factors-in .ensures) (l .inv .0),
+          (λ t h. length-factors (a .sizes) (a .points .now) (a .c) (getD (a .boards .now) t 0)) ((after-factors-in-from-after-slice-known6 c) .factors-in .ensures) (l .inv .0),
       omega arith,
       search needs,
       search needs,

@@ -80,9 +80,9 @@ loop-again c =
     let a = g .args in
     let l = (at-loop-from-after-slice-known2 c) .loop in (
       join-loop (λ s. multiples (piece 32 s (a .rows .now))) 512 (l .s) (a .tables .now) (l .tables) _
-      (λ s h. length-multiples (piece 32 s (a .rows .now)) (length-piece 32 s (a .rows .now) (omega (arith, row-fits s (a .count) 32 (omega arith), g .pre))))
-      ((c .before .before) .fill-multiples .ensures ∙ ap multiples (part-piece 32 (l .s) (a .rows .now)))
-      (l .inv .0),
+          (λ s h. length-multiples (piece 32 s (a .rows .now)) (length-piece 32 s (a .rows .now) (omega (arith, row-fits s (a .count) 32 (omega arith), g .pre))))
+          ((c .before .before) .fill-multiples .ensures ∙ ap multiples (part-piece 32 (l .s) (a .rows .now)))
+          (l .inv .0),
       omega arith,
       search needs,
     )

@@ -68,7 +68,7 @@ loop-again c =
     let a = g .args in
     let l = (at-loop-from-after-slice-known2 c) .loop in (
       join-loop (λ s. fit 32 (interpolate (a .xs .now) (seeds (a .xs .now) s))) 32 (l .s) (a .rows .now) (l .rows) _
-      (λ s h. length-fit 32 (interpolate (a .xs .now) (seeds (a .xs .now) s))) ((c .before .before) .seed-row .ensures) (l .inv .0),
+          (λ s h. length-fit 32 (interpolate (a .xs .now) (seeds (a .xs .now) s))) ((c .before .before) .seed-row .ensures) (l .inv .0),
       omega arith,
       search needs,
     )

@@ -75,9 +75,9 @@ loop-again c =
     let a = g .args in
     let l = (at-loop-from-after-slice-known2 c) .loop in (
       join-loop (λ i. fit 32 (tabulate (a .m) (λ s. cell (a .rows .now) s (a .k + i)))) 32 (l .i) (a .out .now) (l .out) _
-      (λ i h. length-fit 32 (tabulate (a .m) (λ s. cell (a .rows .now) s (a .k + i))))
-      ((c .before .before) .column .ensures ∙ ap (λ (n : ℕ). fit n (tabulate (a .m) (λ s. cell (a .rows .now) s (a .k + l .i)))) (long (in-loop-from-after-slice-known2 c)))
-      (l .inv .0),
+          (λ i h. length-fit 32 (tabulate (a .m) (λ s. cell (a .rows .now) s (a .k + i))))
+          ((c .before .before) .column .ensures ∙ ap (λ (n : ℕ). fit n (tabulate (a .m) (λ s. cell (a .rows .now) s (a .k + l .i)))) (long (in-loop-from-after-slice-known2 c)))
+          (l .inv .0),
       omega arith,
       search needs,
     )

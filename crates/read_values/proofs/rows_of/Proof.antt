@@ -124,11 +124,11 @@ loop-again c =
     let e : from + (a .w + (a .d - 1)) - from ≡ a .w + (a .d - 1) = omega arith in
     let v = (after-board-rows-from-after-slice-known4 c) .board-rows .ensures in (
       join-loop (λ t. fRow (a .w) (take (a .w + (a .d - 1)) (drop (getD (a .starts .now) t 0 + a .at) (a .bytes .now)))) 32 (l .t) (a .fs .now) (l .fs) _
-      (λ i h. length-fit 32 (take (a .w) (take (a .w + (a .d - 1)) (drop (getD (a .starts .now) i 0 + a .at) (a .bytes .now)))))
-      (v .0 ∙ ap (λ (m : ℕ). fRow (a .w) (take m (drop from (a .bytes .now)))) e) (l .inv .0),
+          (λ i h. length-fit 32 (take (a .w) (take (a .w + (a .d - 1)) (drop (getD (a .starts .now) i 0 + a .at) (a .bytes .now)))))
+          (v .0 ∙ ap (λ (m : ℕ). fRow (a .w) (take m (drop from (a .bytes .now)))) e) (l .inv .0),
       join-loop (λ t. gRow (a .w) (take (a .w + (a .d - 1)) (drop (getD (a .starts .now) t 0 + a .at) (a .bytes .now)))) 32 (l .t) (a .gs .now) (l .gs) _
-      (λ i h. let q : List ℕ = take (a .w + (a .d - 1)) (drop (getD (a .starts .now) i 0 + a .at) (a .bytes .now)) in length-fit 32 (take 1 q ++ drop (a .w) q))
-      (v .1 ∙ ap (λ (m : ℕ). gRow (a .w) (take m (drop from (a .bytes .now)))) e) (l .inv .1),
+          (λ i h. let q : List ℕ = take (a .w + (a .d - 1)) (drop (getD (a .starts .now) i 0 + a .at) (a .bytes .now)) in length-fit 32 (take 1 q ++ drop (a .w) q))
+          (v .1 ∙ ap (λ (m : ℕ). gRow (a .w) (take m (drop from (a .bytes .now)))) e) (l .inv .1),
       omega arith,
       search needs,
       search needs,

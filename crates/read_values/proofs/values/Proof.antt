@@ -136,11 +136,11 @@ loop-again c =
     let a = g .args in
     let l = (at-loop-from-after-slice-known2 c) .loop in (
       join-loop (λ t. tabulate (length (a .targets .now)) (λ i. valueBy (a .c) (offset (a .n) (getD (a .boards .now) t 0) (getD (a .targets .now) i 0)) (a .m) (drop (t * ((a .n - a .c) * 32)) (a .factors .now)) (piece 32 t (a .rows .now)))) (length (a .targets .now)) (l .t) (a .out .now) (l .out) _
-      (λ t h. length-tabulate (length (a .targets .now)) _)
-      ((c .before .before) .board-values .ensures
-      ∙ ap₂ (λ (f r : List ℕ). tabulate (length (a .targets .now)) (λ i. valueBy (a .c) (offset (a .n) (getD (a .boards .now) (l .t) 0) (getD (a .targets .now) i 0)) (a .m) f r))
-      (rest-part (l .t * ((a .n - a .c) * 32)) (a .factors .now)) (part-piece 32 (l .t) (a .rows .now)))
-      (l .inv .0),
+          (λ t h. length-tabulate (length (a .targets .now)) _)
+          ((c .before .before) .board-values .ensures
+          ∙ ap₂ (λ (f r : List ℕ). tabulate (length (a .targets .now)) (λ i. valueBy (a .c) (offset (a .n) (getD (a .boards .now) (l .t) 0) (getD (a .targets .now) i 0)) (a .m) f r))
+          (rest-part (l .t * ((a .n - a .c) * 32)) (a .factors .now)) (part-piece 32 (l .t) (a .rows .now)))
+          (l .inv .0),
       omega arith,
       search needs,
     )
