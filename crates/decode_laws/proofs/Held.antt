@@ -116,7 +116,8 @@ module _ (z : Sizes) (xs : List ℕ) (legal : Legal z) (pts : DifferentPoints z 
     unfolding ownF
     f-values targets kt =
         ap₂ (valuesOf n (d + r) m bs targets) ef (f-rows fs es)
-        ∙ values-are z xs pts bs known (d + r) (legal .enough) w-few (λ t. take (d + r) (w t)) (λ t h. length-f z xs legal (getD bs t 0) (w t) (lw t h)) (λ t h. f-bytes z xs legal (getD bs t 0) (w t) (lw t h) (bw t))
+        ∙ values-are z xs pts bs known (d + r) (legal .enough) w-few (λ t. take (d + r) (w t)) (λ t h. length-f z xs legal (getD bs t 0) (w t) (lw t h))
+        (λ t h. f-bytes z xs legal (getD bs t 0) (w t) (lw t h) (bw t))
         m lm hm targets kt
 
     pub f-coefs : (C : List ℕ) → Boards z C → length C ≡ d + r
@@ -124,7 +125,8 @@ module _ (z : Sizes) (xs : List ℕ) (legal : Legal z) (pts : DifferentPoints z 
     unfolding ownF
     f-coefs C boards lC =
         ap₂ (λ (p q : List ℕ). byRows (length bs) (d + r) (valuesOf n (d + r) m bs C p q) (unitRows (points xs C))) ef (f-rows fs es)
-        ∙ coefs-are z xs pts bs known (d + r) (legal .enough) w-few (λ t. take (d + r) (w t)) (λ t h. length-f z xs legal (getD bs t 0) (w t) (lw t h)) (λ t h. f-bytes z xs legal (getD bs t 0) (w t) (lw t h) (bw t))
+        ∙ coefs-are z xs pts bs known (d + r) (legal .enough) w-few (λ t. take (d + r) (w t)) (λ t h. length-f z xs legal (getD bs t 0) (w t) (lw t h))
+        (λ t h. f-bytes z xs legal (getD bs t 0) (w t) (lw t h) (bw t))
         C boards lC m lm hm
 
   module _ (gf gs : List ℕ) (ef : gf ≡ factorRows z xs d bs)
@@ -134,7 +136,8 @@ module _ (z : Sizes) (xs : List ℕ) (legal : Legal z) (pts : DifferentPoints z 
     unfolding ownG
     g-values targets kt =
         ap₂ (valuesOf n d m bs targets) ef (g-rows gs es)
-        ∙ values-are z xs pts bs known d (omega (arith, legal .enough)) d-few (λ t. take 1 (w t) ++ drop (d + r) (w t)) (λ t h. length-g z xs legal (getD bs t 0) (w t) (lw t h)) (λ t h. g-bytes z xs legal (getD bs t 0) (w t) (lw t h) (bw t))
+        ∙ values-are z xs pts bs known d (omega (arith, legal .enough)) d-few (λ t. take 1 (w t) ++ drop (d + r) (w t)) (λ t h. length-g z xs legal (getD bs t 0) (w t) (lw t h))
+        (λ t h. g-bytes z xs legal (getD bs t 0) (w t) (lw t h) (bw t))
         m lm hm targets kt
 
   -- the pairs, from the values

@@ -45,7 +45,8 @@ pub stripe-step : (z : Sizes) (i L L₀ S s e w w₀ : ℕ) (rows packets exchan
 unfolding stripeBy
 stripe-step z i L L₀ S s e w w₀ rows packets exchanges firsts got g rowsG rowsF out eo eg el e₁ e₂ er ef ee ew =
     eo ∙ ap₂ (λ (k : ℕ) (q : List ℕ). finishedBy (z .n) i L k q g (take (w - 1) got)) ee ef
-    ∙ ap₂ (λ (q rest : List ℕ). finishedBy (z .n) i L (z .d - 1) (drop (z .d * 32) rows) q rest) (eg ∙ ap₂ (rowSums L₀) e₁ er ∙ ap (λ (k : ℕ). rowSums k (received z S 0 s packets) (take (z .d * 32) rows)) el)
+    ∙ ap₂ (λ (q rest : List ℕ). finishedBy (z .n) i L (z .d - 1) (drop (z .d * 32) rows) q rest)
+    (eg ∙ ap₂ (rowSums L₀) e₁ er ∙ ap (λ (k : ℕ). rowSums k (received z S 0 s packets) (take (z .d * 32) rows)) el)
     (ap (λ (k : ℕ). take (k - 1) got) ew ∙ e₂)
 
 pub length-stripe : (z : Sizes) → Legal z → (i L S s : ℕ) (rows packets exchanges : List ℕ) → length (stripeBy z i L rows S s packets exchanges) ≡ α z

@@ -257,7 +257,14 @@ module _ (z : Sizes) (xs : List ℕ) (legal : Legal z) (pts : DifferentPoints z 
   high-past : (i j : ℕ) → d ≤ i → getD (high j) i 0 ≡ 0
   high-past i j h =
       List·getD-eq-default (high j) 0
-      (omega (arith, length-append (replicate k 0) (tabulate (d - k) (λ i. getD (cRow z xs bs w (k + i)) j 0)), length-replicate {A = ℕ} k 0, length-tabulate (d - k) (λ i. getD (cRow z xs bs w (k + i)) j 0), legal .read-helpers))
+      (omega (
+        arith,
+        length-append (replicate k 0) (tabulate (d - k) (λ i. getD (cRow z xs bs w (k + i)) j 0)),
+        length-replicate {A = ℕ} k 0,
+        length-tabulate (d - k)
+            (λ i. getD (cRow z xs bs w (k + i)) j 0),
+        legal .read-helpers,
+      ))
 
   a-past : (i j : ℕ) → k ≤ i → getD (aColumn z xs bs w j) i 0 ≡ 0
   unfolding aColumn

@@ -96,5 +96,6 @@ factors-made z xs c b hn hb hc =
     let lb : length bs ≡ c = length-tabulate c (λ t. (b + t) % z .n) in
     join-ext (z .n - c) _ _ (λ o ho. ap (fit 32) (tabulate-ext c _ _ (λ t ht.
     let q : (b + (c + o)) % z .n < z .n = mod-lt (b + (c + o)) (omega arith) in
-    join-at (length bs) 32 (λ t. tabulate 32 (λ m. weight (points xs bs) t (point xs m))) (λ t l. length-tabulate 32 (λ m. weight (points xs bs) t (point xs m))) t ((b + (c + o)) % z .n) (omega arith) (omega arith)
+    join-at (length bs) 32 (λ t. tabulate 32 (λ m. weight (points xs bs) t (point xs m))) (λ t l. length-tabulate 32 (λ m. weight (points xs bs) t (point xs m))) t ((b + (c + o)) % z .n)
+    (omega arith) (omega arith)
     ∙ tabulate-at 32 (λ m. weight (points xs bs) t (point xs m)) 0 ((b + (c + o)) % z .n) (omega arith))))

@@ -69,8 +69,18 @@ board-rows-requires c κs =
 share-work-requires : tie.Need-share-work-requires
 share-work-requires c κs =
     let p = st-at-share-work-arg2 c .pre in
-    let k = known (st-at-share-work-arg2 c) in
-    (p .0, k .2, p .4, omega (arith, c .before .before .before .rows .given), p .5, p .6, whole-vectors-at-share-work-arg2 c .whole-vectors .ensures .0, whole-vectors-at-share-work-arg2 c .whole-vectors .ensures .1, p .11)
+    let k = known (st-at-share-work-arg2 c) in (
+      p .0,
+      k .2,
+      p .4,
+      omega (arith, c .before .before .before .rows .given),
+      p .5,
+      p .6,
+      whole-vectors-at-share-work-arg2 c .whole-vectors .ensures .0,
+      whole-vectors-at-share-work-arg2
+          c .whole-vectors .ensures .1,
+      p .11,
+    )
 
 returns : tie.Need-returns
 returns c =

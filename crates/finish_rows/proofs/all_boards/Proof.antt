@@ -24,7 +24,8 @@ same-length c = simp length-set (c .before .out2 .given .1 ∙ out-at-slice-know
 returns : tie.Need-returns
 returns c =
     let a = st-at-slice-known3 c .args in
-    boards-made (a .helpers .now) (a .partners .now) (a .out .now) _ _ (a .i) (st-at-slice-known3 c .pre) (copy-boards-at-slice-known3 c .copy-boards .ensures) (c .before .before .copy-boards2 .ensures)
+    boards-made (a .helpers .now) (a .partners .now) (a .out .now) _ _ (a .i) (st-at-slice-known3 c .pre) (copy-boards-at-slice-known3 c .copy-boards .ensures)
+    (c .before .before .copy-boards2 .ensures)
 
 pub all-boards-spec : {M : Type 1} → statement M
 all-boards-spec =

@@ -18,7 +18,8 @@ use Rattle.lagrange_rows.proofs.products_after.Tie as tie
 
 abbrev Inv-loop : tie.InvT-loop
 Inv-loop points boards xs inverses rows₀ row₀ t₀ rows row t =
-    (rows ≡ left points boards xs t) × (row ≡ afterRow points xs t) × (t ≤ length boards) × (length rows ≡ length boards * 32) × (length row ≡ 32) × (length xs ≡ length boards) × (length rows ≡ length rows₀)
+    (rows ≡ left points boards xs t) × (row ≡ afterRow points xs t) × (t ≤ length boards) × (length rows ≡ length boards * 32) × (length row ≡ 32) × (length xs ≡ length boards) ×
+    (length rows ≡ length rows₀)
 
 abbrev μ-loop : tie.MeasureT-loop
 μ-loop points boards xs inverses rows₀ row₀ t₀ rows row t = t

@@ -105,8 +105,17 @@ mul-at c = omega (arith, few (start-from-after-struct-known c))
 rows-of-requires : tie.Need-rows-of-requires
 rows-of-requires c κs =
     let g = (start-from-after-rows-of-arg2 c) in
-    let f = facts g in
-    (omega (arith, f), omega (arith, f), omega (arith, f), omega (arith, f), omega (arith, f), placed-part (g .args .sizes) f (g .args .starts .now) (g .args .bytes .now) (g .args .s) (g .pre .5), g .pre .9 ∙ ap (λ (m : ℕ). m * 32) (sym (g .pre .4)), g .pre .10 ∙ ap (λ (m : ℕ). m * 32) (sym (g .pre .4)))
+    let f = facts g in (
+      omega (arith, f),
+      omega (arith, f),
+      omega (arith, f),
+      omega (arith, f),
+      omega (arith, f),
+      placed-part (g .args .sizes) f (g .args .starts .now) (g .args .bytes .now) (g .args .s)
+          (g .pre .5),
+      g .pre .9 ∙ ap (λ (m : ℕ). m * 32) (sym (g .pre .4)),
+      g .pre .10 ∙ ap (λ (m : ℕ). m * 32) (sym (g .pre .4)),
+    )
 
 whole-vectors-requires : tie.Need-whole-vectors-requires
 whole-vectors-requires c κs = omega (arith, facts (start-from-after-slice-known6 c))
@@ -125,7 +134,8 @@ values-requires c κs =
       omega (arith, f),
       g .pre .3,
       omega (arith, ap length (g .pre .7), length-factor-rows z (g .args .points .now) (z .d + z .r) (g .args .boards .now)),
-      f-long (g .args .starts .now) (g .args .bytes .now) (z .d + z .r) (z .d + z .r + (z .d - 1)) (g .args .s * (z .d + z .r + (z .d - 1))) _ ((after-rows-of-from-after-values-arg2 c) .rows-of .ensures .0) ∙ ap (λ (m : ℕ). m * 32) (g .pre .4 ∙ sym lb),
+      f-long (g .args .starts .now) (g .args .bytes .now) (z .d + z .r) (z .d + z .r + (z .d - 1)) (g .args .s * (z .d + z .r + (z .d - 1))) _
+          ((after-rows-of-from-after-values-arg2 c) .rows-of .ensures .0) ∙ ap (λ (m : ℕ). m * 32) (g .pre .4 ∙ sym lb),
       g .pre .11 ∙ ap₂ _*_ (sym lb) (sym lb),
     )
 
@@ -146,7 +156,8 @@ values-requires-2 c κs =
       omega (arith, f),
       g .pre .3,
       omega (arith, ap length (g .pre .8), length-factor-rows z (g .args .points .now) (z .d) (g .args .boards .now)),
-      g-long (g .args .starts .now) (g .args .bytes .now) (z .d + z .r) (z .d + z .r + (z .d - 1)) (g .args .s * (z .d + z .r + (z .d - 1))) _ ((after-rows-of-from-after-values-arg4 c) .rows-of .ensures .1) ∙ ap (λ (m : ℕ). m * 32) (g .pre .4 ∙ sym lb),
+      g-long (g .args .starts .now) (g .args .bytes .now) (z .d + z .r) (z .d + z .r + (z .d - 1)) (g .args .s * (z .d + z .r + (z .d - 1))) _
+          ((after-rows-of-from-after-values-arg4 c) .rows-of .ensures .1) ∙ ap (λ (m : ℕ). m * 32) (g .pre .4 ∙ sym lb),
       g .pre .12 ∙ ap₂ _*_ (sym lb) (sym lb),
     )
 
@@ -154,8 +165,12 @@ values-meet-requires : tie.Need-values-meet-requires
 values-meet-requires c κs =
     let g = (start-from-after-values-meet-arg2 c) in
     let f = facts g in
-    let lb = g .pre .2 in
-    (omega (arith, f), ap length ((after-values-from-after-values-meet-arg2 c) .values .ensures) ∙ length-values _ _ _ _ _ _ _ ∙ ap₂ _*_ lb lb, ap length ((after-values2-from-after-values-meet-arg2 c) .values2 .ensures) ∙ length-values _ _ _ _ _ _ _ ∙ ap₂ _*_ lb lb)
+    let lb = g .pre .2 in (
+      omega (arith, f),
+      ap length ((after-values-from-after-values-meet-arg2 c) .values .ensures) ∙ length-values _ _ _ _ _ _ _ ∙ ap₂ _*_ lb lb,
+      ap length
+          ((after-values2-from-after-values-meet-arg2 c) .values2 .ensures) ∙ length-values _ _ _ _ _ _ _ ∙ ap₂ _*_ lb lb,
+    )
 
 same-length : tie.Need-same-length
 same-length c = search needs
@@ -179,10 +194,12 @@ returns c =
     ∙ meets-made z (a .points .now) (facts g) (g .pre .1) (a .boards .now) (known g) (g .pre .2) (a .starts .now) (a .bytes .now) (g .pre .4) (a .s) (g .pre .5) b _ _
     ((after-values-from-after-values-meet c) .values .ensures
     ∙ f-values z (a .points .now) (facts g) (g .pre .1) (a .boards .now) (known g) (g .pre .2) (a .starts .now) (a .bytes .now) (g .pre .4) (a .s) (g .pre .5) b (a .ff .now) _ (g .pre .7)
-    ((after-rows-of-from-after-values-meet c) .rows-of .ensures .0) ((after-whole-vectors-from-after-values-meet c) .whole-vectors .result) ((after-whole-vectors-from-after-values-meet c) .whole-vectors .ensures .0) ((after-whole-vectors-from-after-values-meet c) .whole-vectors .ensures .1) (a .boards .now) (known g))
+    ((after-rows-of-from-after-values-meet c) .rows-of .ensures .0) ((after-whole-vectors-from-after-values-meet c) .whole-vectors .result)
+    ((after-whole-vectors-from-after-values-meet c) .whole-vectors .ensures .0) ((after-whole-vectors-from-after-values-meet c) .whole-vectors .ensures .1) (a .boards .now) (known g))
     ((after-values2-from-after-values-meet c) .values2 .ensures
     ∙ g-values z (a .points .now) (facts g) (g .pre .1) (a .boards .now) (known g) (g .pre .2) (a .starts .now) (a .bytes .now) (g .pre .4) (a .s) (g .pre .5) b (a .gf .now) _ (g .pre .8)
-    ((after-rows-of-from-after-values-meet c) .rows-of .ensures .1) ((after-whole-vectors2-from-after-values-meet c) .whole-vectors2 .result) ((after-whole-vectors2-from-after-values-meet c) .whole-vectors2 .ensures .0) ((after-whole-vectors2-from-after-values-meet c) .whole-vectors2 .ensures .1) (a .boards .now) (known g))
+    ((after-rows-of-from-after-values-meet c) .rows-of .ensures .1) ((after-whole-vectors2-from-after-values-meet c) .whole-vectors2 .result)
+    ((after-whole-vectors2-from-after-values-meet c) .whole-vectors2 .ensures .0) ((after-whole-vectors2-from-after-values-meet c) .whole-vectors2 .ensures .1) (a .boards .now) (known g))
 
 pub stripe-meets-spec : {M : Type 1} → statement M
 stripe-meets-spec =

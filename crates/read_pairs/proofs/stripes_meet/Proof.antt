@@ -101,7 +101,8 @@ same-length-4 c = search needs
 returns : tie.Need-returns Inv-loop μ-loop
 returns c =
     let l = (at-loop-from-then1 c) .loop in
-    sym (sym (l .inv .0) ∙ alls-no (tests (start-from-then1 c)) ((start-from-then1 c) .args .stripes) (l .s) ((in-loop-from-then1 c) .loop-test .taken) (sym ((after-stripe-meets-from-then1 c) .stripe-meets .ensures) ∙ not-true ((after-stripe-meets-from-then1 c) .stripe-meets .result) (c .if1 .taken)))
+    sym (sym (l .inv .0) ∙ alls-no (tests (start-from-then1 c)) ((start-from-then1 c) .args .stripes) (l .s) ((in-loop-from-then1 c) .loop-test .taken)
+    (sym ((after-stripe-meets-from-then1 c) .stripe-meets .ensures) ∙ not-true ((after-stripe-meets-from-then1 c) .stripe-meets .result) (c .if1 .taken)))
 
 add-s : tie.Need-add-s Inv-loop μ-loop
 add-s c = search needs
@@ -111,8 +112,16 @@ loop-less c = search needs
 
 loop-again : tie.Need-loop-again Inv-loop μ-loop
 loop-again c =
-    let l = (at-loop-from-else1 c) .loop in
-    (alls-next (tests (start-from-else1 c)) ((start-from-else1 c) .args .stripes) (l .s) ((in-loop-from-else1 c) .loop-test .taken) (sym ((after-stripe-meets-from-else1 c) .stripe-meets .ensures) ∙ not-false ((after-stripe-meets-from-else1 c) .stripe-meets .result) (c .if1 .left)) ∙ l .inv .0, omega arith, search needs, search needs, search needs, search needs)
+    let l = (at-loop-from-else1 c) .loop in (
+      alls-next (tests (start-from-else1 c)) ((start-from-else1 c) .args .stripes) (l .s) ((in-loop-from-else1 c) .loop-test .taken)
+          (sym ((after-stripe-meets-from-else1 c) .stripe-meets .ensures) ∙ not-false ((after-stripe-meets-from-else1 c) .stripe-meets .result) (c .if1 .left)) ∙ l .inv .0,
+      omega arith,
+      search
+          needs,
+      search needs,
+      search needs,
+      search needs,
+    )
 
 same-length-5 : tie.Need-same-length-5 Inv-loop μ-loop
 same-length-5 c = search needs

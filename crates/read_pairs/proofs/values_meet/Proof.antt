@@ -47,7 +47,8 @@ returns : tie.Need-returns Inv-loop μ-loop
 unfolding meets
 returns c =
     let l = (c .before .before .before) .loop in
-    sym (sym (l .inv .0) ∙ alls-no (tests (start-from-then1 c)) ((start-from-then1 c) .args .k) (l .i) ((c .before .before) .loop-test .taken) (sym ((c .before) .board-meets .ensures) ∙ not-true ((c .before) .board-meets .result) (c .if1 .taken)))
+    sym (sym (l .inv .0) ∙ alls-no (tests (start-from-then1 c)) ((start-from-then1 c) .args .k) (l .i) ((c .before .before) .loop-test .taken)
+    (sym ((c .before) .board-meets .ensures) ∙ not-true ((c .before) .board-meets .result) (c .if1 .taken)))
 
 add-i : tie.Need-add-i Inv-loop μ-loop
 add-i c = search needs
@@ -57,8 +58,11 @@ loop-less c = search needs
 
 loop-again : tie.Need-loop-again Inv-loop μ-loop
 loop-again c =
-    let l = (c .before .before .before) .loop in
-    (alls-next (tests (start-from-else1 c)) ((start-from-else1 c) .args .k) (l .i) ((c .before .before) .loop-test .taken) (sym ((c .before) .board-meets .ensures) ∙ not-false ((c .before) .board-meets .result) (c .if1 .left)) ∙ l .inv .0, omega arith)
+    let l = (c .before .before .before) .loop in (
+      alls-next (tests (start-from-else1 c)) ((start-from-else1 c) .args .k) (l .i) ((c .before .before) .loop-test .taken)
+          (sym ((c .before) .board-meets .ensures) ∙ not-false ((c .before) .board-meets .result) (c .if1 .left)) ∙ l .inv .0,
+      omega arith,
+    )
 
 returns-2 : tie.Need-returns-2 Inv-loop μ-loop
 unfolding meets

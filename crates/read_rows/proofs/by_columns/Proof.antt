@@ -77,7 +77,8 @@ loop-again c =
       (λ rows lr tr.
           join-loop (λ i. sums (a .m) (λ s. cell (a .a .now) s (a .from + i)) rows) 32 (l .i) (a .out .now) (l .out) _ (λ i h. length-sums (a .m) _ rows)
           ((c .before .before) .put-row .ensures
-          ∙ (after-column-sum-from-after-slice-known2 c) .column-sum .ensures (each (a .m) rows (a .tables .now) lr tr) (omega (arith, length-each (a .m) rows (a .tables .now) lr tr)) (each-wide (a .m) rows (a .tables .now) lr tr) (each-tabled (a .m) rows (a .tables .now) lr tr)
+          ∙ (after-column-sum-from-after-slice-known2 c) .column-sum .ensures (each (a .m) rows (a .tables .now) lr tr) (omega (arith, length-each (a .m) rows (a .tables .now) lr tr))
+          (each-wide (a .m) rows (a .tables .now) lr tr) (each-tabled (a .m) rows (a .tables .now) lr tr)
           ∙ column-made (a .m) rows (a .tables .now) lr tr (λ s. cell (a .a .now) s (a .from + l .i)))
           (l .inv .0 rows lr tr)),
       omega arith,
@@ -92,7 +93,8 @@ unfolding byColumns
 returns c =
     let a = (start-from-after-loop c) .args in
     let l = (c .before) .loop in
-    λ rows lr tr. join-end (λ i. sums (a .m) (λ s. cell (a .a .now) s (a .from + i)) rows) 32 (l .i) (a .count) (a .out .now) (l .out) (omega arith) ((start-from-after-loop c) .pre .4) (l .inv .0 rows lr tr)
+    λ rows lr tr. join-end (λ i. sums (a .m) (λ s. cell (a .a .now) s (a .from + i)) rows) 32 (l .i) (a .count) (a .out .now) (l .out) (omega arith) ((start-from-after-loop c) .pre .4)
+    (l .inv .0 rows lr tr)
 
 pub by-columns-spec : {M : Type 1} → statement M
 by-columns-spec =

@@ -78,7 +78,8 @@ row-sum-requires : tie.Need-row-sum-requires Inv-loop μ-loop
 row-sum-requires c κs =
     let e = end (c .before) in
     let g = (start-from-after-row-sum-arg c) in
-    let l : length (take ((c .before .before) .loop .i * g .args .m + g .args .m - (c .before .before) .loop .i * g .args .m) (drop ((c .before .before) .loop .i * g .args .m) (g .args .a .now))) ≡ g .args .m =
+    let l : length (take ((c .before .before) .loop .i * g .args .m + g .args .m - (c .before .before) .loop .i * g .args .m) (drop ((c .before .before) .loop .i * g .args .m) (g .args .a .now)))
+    ≡ g .args .m =
     simp (length-take, length-drop) (omega arith) in
     (omega arith, rw l (g .pre .3))
 
@@ -111,7 +112,8 @@ loop-again c =
           let n : length (take (l .i * a .m + a .m - l .i * a .m) (drop (l .i * a .m) (a .a .now))) ≡ a .m = simp (length-take, length-drop) (omega arith) in
           join-loop f 32 (l .i) (a .out .now) (l .out) _ (λ i h. length-sums (a .m) _ rows)
           ((c .before .before) .put-row .ensures
-          ∙ (after-row-sum-from-after-slice-known2 c) .row-sum .ensures (each (a .m) rows (a .tables .now) lr tr) (omega (arith, length-each (a .m) rows (a .tables .now) lr tr)) (each-wide (a .m) rows (a .tables .now) lr tr) (each-tabled (a .m) rows (a .tables .now) lr tr)
+          ∙ (after-row-sum-from-after-slice-known2 c) .row-sum .ensures (each (a .m) rows (a .tables .now) lr tr) (omega (arith, length-each (a .m) rows (a .tables .now) lr tr))
+          (each-wide (a .m) rows (a .tables .now) lr tr) (each-tabled (a .m) rows (a .tables .now) lr tr)
           ∙ row-made (a .m) rows (a .tables .now) lr tr (a .a .now) (l .i) (omega arith))
           (l .inv .0 rows lr tr)),
       omega arith,
@@ -126,7 +128,8 @@ unfolding byRows
 returns c =
     let a = (start-from-after-loop c) .args in
     let l = (c .before) .loop in
-    λ rows lr tr. join-end (λ i. sums (a .m) (λ s. getD (a .a .now) (i * a .m + s) 0) rows) 32 (l .i) (a .count) (a .out .now) (l .out) (omega arith) ((start-from-after-loop c) .pre .4) (l .inv .0 rows lr tr)
+    λ rows lr tr. join-end (λ i. sums (a .m) (λ s. getD (a .a .now) (i * a .m + s) 0) rows) 32 (l .i) (a .count) (a .out .now) (l .out) (omega arith) ((start-from-after-loop c) .pre .4)
+    (l .inv .0 rows lr tr)
 
 pub by-rows-spec : {M : Type 1} → statement M
 by-rows-spec =

@@ -96,7 +96,8 @@ loop-again c =
     let a = (start-from-after-slice-known2 c) .args in
     let l = (at-loop-from-after-slice-known2 c) .loop in
     let n : (i : ℕ) → i < a .count → length (take (a .m) (drop 0 (piece 32 i (a .rows .now)))) ≡ a .m =
-    λ i h. length-take-le (a .m) (piece 32 i (a .rows .now)) (omega (arith, (start-from-after-slice-known2 c) .pre, length-piece 32 i (a .rows .now) (omega (arith, (start-from-after-slice-known2 c) .pre, row-fits i (a .count) 32 h)))) in (
+    λ i h. length-take-le (a .m) (piece 32 i (a .rows .now)) (omega
+    (arith, (start-from-after-slice-known2 c) .pre, length-piece 32 i (a .rows .now) (omega (arith, (start-from-after-slice-known2 c) .pre, row-fits i (a .count) 32 h)))) in (
       join-loop (λ i. take (a .m) (drop 0 (piece 32 i (a .rows .now)))) (a .m) (l .i) (a .out .now) (l .out) _ (λ i h. n i (omega arith))
           ((c .before .before) .copy .ensures ∙ ap₂ (λ (m : ℕ) (p : List ℕ). take m p) (long (in-loop-from-after-slice-known2 c)) (part-piece 32 (l .i) (a .rows .now)))
           (l .inv .0),

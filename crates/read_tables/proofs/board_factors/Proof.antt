@@ -92,7 +92,8 @@ loop-again c =
     let l = (at-loop-from-after-slice-known2 c) .loop in (
       join-loop (λ o. fit 32 (tabulate (a .c) (λ t. cell (a .rows .now) t ((a .b + (a .c + o)) % a .sizes .n)))) 32 (l .o) (a .out .now) (l .out) _
           (λ i h. length-fit 32 (tabulate (a .c) (λ t. cell (a .rows .now) t ((a .b + (a .c + i)) % a .sizes .n))))
-          ((c .before .before) .column .ensures ∙ ap (λ (n : ℕ). fit n (tabulate (a .c) (λ t. cell (a .rows .now) t ((a .b + (a .c + l .o)) % a .sizes .n)))) (long (in-loop-from-after-slice-known2 c)))
+          ((c .before .before) .column .ensures ∙ ap (λ (n : ℕ). fit n (tabulate (a .c) (λ t. cell (a .rows .now) t ((a .b + (a .c + l .o)) % a .sizes .n))))
+          (long (in-loop-from-after-slice-known2 c)))
           (l .inv .0),
       omega arith,
       search needs,
@@ -106,7 +107,8 @@ returns c =
     let g = (start-from-after-loop c) in
     let a = g .args in
     let l = (c .before) .loop in
-    join-end (λ o. fit 32 (tabulate (a .c) (λ t. cell (a .rows .now) t ((a .b + (a .c + o)) % a .sizes .n)))) 32 (l .o) (a .sizes .n - a .c) (a .out .now) (l .out) (omega arith) (g .pre .4) (l .inv .0)
+    join-end (λ o. fit 32 (tabulate (a .c) (λ t. cell (a .rows .now) t ((a .b + (a .c + o)) % a .sizes .n)))) 32 (l .o) (a .sizes .n - a .c) (a .out .now) (l .out) (omega arith) (g .pre .4)
+    (l .inv .0)
 
 pub board-factors-spec : {M : Type 1} → statement M
 board-factors-spec =

@@ -52,12 +52,14 @@ abbrev start-from-after-loop : tie.After-loop Inv-loop μ-loop → tie.Start Inv
 start-from-after-loop c = c .before .before .before .before .before .before .before .before .before
 
 -- where the factors of a turn end
-end : (c : tie.In-loop Inv-loop μ-loop) → let a = (start-from-in-loop c) .args in (c .before) .loop .t * ((a .sizes .n - a .c) * 32) + (a .sizes .n - a .c) * 32 ≤ length (a .boards .now) * ((a .sizes .n - a .c) * 32)
+end : (c : tie.In-loop Inv-loop μ-loop) → let a = (start-from-in-loop c) .args in (c .before) .loop .t * ((a .sizes .n - a .c) * 32) + (a .sizes .n - a .c) * 32 ≤ length (a .boards .now) *
+    ((a .sizes .n - a .c) * 32)
 end c = row-fits _ _ _ (c .loop-test .taken)
 
 -- the board of a turn
 known : (c : tie.In-loop Inv-loop μ-loop) → let a = (start-from-in-loop c) .args in getD (a .boards .now) ((c .before) .loop .t) 0 < a .sizes .n
-known c = all-at (λ i. i < (start-from-in-loop c) .args .sizes .n) 0 ((start-from-in-loop c) .args .boards .now) (below-all ((start-from-in-loop c) .args .sizes .n) ((start-from-in-loop c) .args .boards .now) ((start-from-in-loop c) .pre .5)) ((c .before) .loop .t) (c .loop-test .taken)
+known c = all-at (λ i. i < (start-from-in-loop c) .args .sizes .n) 0 ((start-from-in-loop c) .args .boards .now)
+    (below-all ((start-from-in-loop c) .args .sizes .n) ((start-from-in-loop c) .args .boards .now) ((start-from-in-loop c) .pre .5)) ((c .before) .loop .t) (c .loop-test .taken)
 
 sub-m : tie.Need-sub-m Inv-loop μ-loop
 sub-m c = search needs
@@ -66,8 +68,14 @@ mul-m : tie.Need-mul-m Inv-loop μ-loop
 mul-m c = search needs
 
 loop-holds : tie.Need-loop-holds Inv-loop μ-loop
-loop-holds c =
-    (ap (λ (m : ℕ). drop m ((start-from-after-struct-known c) .args .out .now)) (sym (zero-mul (((start-from-after-struct-known c) .args .sizes .n - (start-from-after-struct-known c) .args .c) * 32))), omega arith, refl, refl, refl)
+loop-holds c = (
+  ap (λ (m : ℕ). drop m ((start-from-after-struct-known c) .args .out .now))
+      (sym (zero-mul (((start-from-after-struct-known c) .args .sizes .n - (start-from-after-struct-known c) .args .c) * 32))),
+  omega arith,
+  refl,
+  refl,
+  refl,
+)
 
 mul-at : tie.Need-mul-at Inv-loop μ-loop
 mul-at c = omega (arith, end c)
@@ -129,7 +137,8 @@ returns c =
     let g = (start-from-after-loop c) in
     let a = g .args in
     let l = (c .before) .loop in
-    join-end (λ t. factorsOf (a .sizes) (a .points .now) (a .c) (getD (a .boards .now) t 0)) ((a .sizes .n - a .c) * 32) (l .t) (length (a .boards .now)) (a .out .now) (l .out) (omega arith) (g .pre .8) (l .inv .0)
+    join-end (λ t. factorsOf (a .sizes) (a .points .now) (a .c) (getD (a .boards .now) t 0)) ((a .sizes .n - a .c) * 32) (l .t) (length (a .boards .now)) (a .out .now) (l .out) (omega arith)
+    (g .pre .8) (l .inv .0)
 
 pub factor-rows-in-spec : {M : Type 1} → statement M
 factor-rows-in-spec =

@@ -54,7 +54,8 @@ returns : tie.Need-returns
 returns c =
     let g = (start-from-after-slice-known4 c) in
     let a = g .args in
-    seed-row-made (a .xs .now) (a .s) _ _ _ (g .pre .1) ((after-clear-from-after-slice-known4 c) .clear .ensures ∙ ap (λ (k : ℕ). tabulate k (λ _. 0)) (g .pre .2)) ((after-fill-seeds-from-after-slice-known4 c) .fill-seeds .ensures) ((c .before .before) .interpolate .ensures)
+    seed-row-made (a .xs .now) (a .s) _ _ _ (g .pre .1) ((after-clear-from-after-slice-known4 c) .clear .ensures ∙ ap (λ (k : ℕ). tabulate k (λ _. 0)) (g .pre .2))
+    ((after-fill-seeds-from-after-slice-known4 c) .fill-seeds .ensures) ((c .before .before) .interpolate .ensures)
 
 pub seed-row-spec : {M : Type 1} → statement M
 seed-row-spec =

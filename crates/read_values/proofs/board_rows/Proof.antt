@@ -63,13 +63,16 @@ same-length c = search needs
 same-length-2 : tie.Need-same-length-2
 same-length-2 c =
     let a = (start-from-after-slice-known4 c) .args in
-    ap length (g-made (a .w) (a .d) (a .held .now) (a .g .now) _ ((start-from-after-slice-known4 c) .pre .6) ((start-from-after-slice-known4 c) .pre .2) ((start-from-after-slice-known4 c) .pre .4) ((c .before .before) .padded2 .ensures)) ∙ length-fit 32 (take 1 (a .held .now) ++ drop (a .w) (a .held .now)) ∙ sym ((start-from-after-slice-known4 c) .pre .6)
+    ap length (g-made (a .w) (a .d) (a .held .now) (a .g .now) _ ((start-from-after-slice-known4 c) .pre .6) ((start-from-after-slice-known4 c) .pre .2)
+    ((start-from-after-slice-known4 c) .pre .4) ((c .before .before) .padded2 .ensures)) ∙ length-fit 32 (take 1 (a .held .now) ++ drop (a .w) (a .held .now)) ∙ sym
+    ((start-from-after-slice-known4 c) .pre .6)
 
 returns : tie.Need-returns
 returns c =
     let a = (start-from-after-slice-known4 c) .args in (
       f-made (a .w) (a .held .now) (a .f .now) _ ((start-from-after-slice-known4 c) .pre .5) ((after-padded-from-after-slice-known4 c) .padded .ensures),
-      g-made (a .w) (a .d) (a .held .now) (a .g .now) _ ((start-from-after-slice-known4 c) .pre .6) ((start-from-after-slice-known4 c) .pre .2) ((start-from-after-slice-known4 c) .pre .4) ((c .before .before) .padded2 .ensures),
+      g-made (a .w) (a .d) (a .held .now) (a .g .now) _ ((start-from-after-slice-known4 c) .pre .6) ((start-from-after-slice-known4 c) .pre .2) ((start-from-after-slice-known4 c) .pre .4)
+          ((c .before .before) .padded2 .ensures),
     )
 
 pub board-rows-spec : {M : Type 1} → statement M

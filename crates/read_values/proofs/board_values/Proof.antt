@@ -76,7 +76,8 @@ loop-again : tie.Need-loop-again Inv-loop μ-loop
 loop-again c =
     let a = (start-from-after-value c) .args in
     let l = (at-loop-from-after-value c) .loop in (
-      fill-loop _ (a .out .now) (l .out) (l .i) _ (omega arith) (c .value .ensures ∙ ap (λ (o : ℕ). valueBy (a .c) o (a .m) (a .factors .now) (a .row .now)) ((c .before) .offset .ensures)) (l .inv .0),
+      fill-loop _ (a .out .now) (l .out) (l .i) _ (omega arith) (c .value .ensures ∙ ap (λ (o : ℕ). valueBy (a .c) o (a .m) (a .factors .now) (a .row .now)) ((c .before) .offset .ensures))
+          (l .inv .0),
       omega arith,
       length-set (l .out) (l .i) _ ∙ l .inv .2,
     )

@@ -41,7 +41,8 @@ same-length c = search needs
 
 returns : tie.Need-returns
 returns c =
-    padded-made ((start-from-after-slice-known3 c) .args .a .now) ((start-from-after-slice-known3 c) .args .out .now) _ _ ((start-from-after-slice-known3 c) .pre) ((after-copy-from-after-slice-known3 c) .copy .ensures) ((c .before .before) .clear .ensures)
+    padded-made ((start-from-after-slice-known3 c) .args .a .now) ((start-from-after-slice-known3 c) .args .out .now) _ _ ((start-from-after-slice-known3 c) .pre)
+    ((after-copy-from-after-slice-known3 c) .copy .ensures) ((c .before .before) .clear .ensures)
 
 pub padded-spec : {M : Type 1} → statement M
 padded-spec =

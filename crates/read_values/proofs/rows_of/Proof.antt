@@ -145,8 +145,10 @@ returns c =
     let g = (start-from-after-loop c) in
     let a = g .args in
     let l = (c .before) .loop in (
-      join-end (λ t. fRow (a .w) (take (a .w + (a .d - 1)) (drop (getD (a .starts .now) t 0 + a .at) (a .bytes .now)))) 32 (l .t) (length (a .starts .now)) (a .fs .now) (l .fs) (omega arith) (g .pre .6) (l .inv .0),
-      join-end (λ t. gRow (a .w) (take (a .w + (a .d - 1)) (drop (getD (a .starts .now) t 0 + a .at) (a .bytes .now)))) 32 (l .t) (length (a .starts .now)) (a .gs .now) (l .gs) (omega arith) (g .pre .7) (l .inv .1),
+      join-end (λ t. fRow (a .w) (take (a .w + (a .d - 1)) (drop (getD (a .starts .now) t 0 + a .at) (a .bytes .now)))) 32 (l .t) (length (a .starts .now)) (a .fs .now) (l .fs) (omega arith)
+          (g .pre .6) (l .inv .0),
+      join-end (λ t. gRow (a .w) (take (a .w + (a .d - 1)) (drop (getD (a .starts .now) t 0 + a .at) (a .bytes .now)))) 32 (l .t) (length (a .starts .now)) (a .gs .now) (l .gs) (omega arith)
+          (g .pre .7) (l .inv .1),
     )
 
 pub rows-of-spec : {M : Type 1} → statement M

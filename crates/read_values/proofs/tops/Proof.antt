@@ -106,7 +106,8 @@ loop-again c =
       join-loop (λ i. tabulate (a .k) (λ t. sum (a .m) (λ s. mul (cell (a .rows .now) i s) (getD (a .va .now) (t * a .d + s) 0)))) (a .k) (l .i) (a .out .now) (l .out) _
           (λ i h. length-tabulate (a .k) _)
           ((c .before .before) .top .ensures
-          ∙ ap (λ (n : ℕ). tabulate n (λ t. sum (a .m) (λ s. mul (getD (take (l .i * 32 + 32 - l .i * 32) (drop (l .i * 32) (a .rows .now))) s 0) (getD (a .va .now) (t * a .d + s) 0)))) (long (in-loop-from-after-slice-known2 c))
+          ∙ ap (λ (n : ℕ). tabulate n (λ t. sum (a .m) (λ s. mul (getD (take (l .i * 32 + 32 - l .i * 32) (drop (l .i * 32) (a .rows .now))) s 0) (getD (a .va .now) (t * a .d + s) 0))))
+          (long (in-loop-from-after-slice-known2 c))
           ∙ tabulate-ext (a .k) _ _ (λ t h. sum-below (a .m) _ _ (λ s q. ap (λ (v : ℕ). mul v (getD (a .va .now) (t * a .d + s) 0))
           (ap (λ (r : List ℕ). getD r s 0) (part-piece 32 (l .i) (a .rows .now)) ∙ piece-at 32 (l .i) (a .rows .now) s 0 (omega (arith, g .pre .3))))))
           (l .inv .0),
@@ -123,7 +124,8 @@ returns c =
     let g = (start-from-after-loop c) in
     let a = g .args in
     let l = (c .before) .loop in
-    join-end (λ i. tabulate (a .k) (λ t. sum (a .m) (λ s. mul (cell (a .rows .now) i s) (getD (a .va .now) (t * a .d + s) 0)))) (a .k) (l .i) (a .count) (a .out .now) (l .out) (omega arith) (g .pre .6) (l .inv .0)
+    join-end (λ i. tabulate (a .k) (λ t. sum (a .m) (λ s. mul (cell (a .rows .now) i s) (getD (a .va .now) (t * a .d + s) 0)))) (a .k) (l .i) (a .count) (a .out .now) (l .out) (omega arith)
+    (g .pre .6) (l .inv .0)
 
 pub tops-spec : {M : Type 1} → statement M
 tops-spec =

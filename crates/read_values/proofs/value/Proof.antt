@@ -52,14 +52,16 @@ returns : tie.Need-returns
 unfolding valueBy
 returns c =
     let a = (start-from-after-shared-slice-known3 c) .args in
-    sym (ap (λ (t : Bool). pick t (getD (a .row .now) (a .o) 0) (sum (a .m) (λ j. mul (cell (a .factors .now) (a .o - a .c) j) (getD (a .row .now) j 0)))) (lt-ltb (a .o) (a .c) ((c .before) .if1 .taken)))
+    sym (ap (λ (t : Bool). pick t (getD (a .row .now) (a .o) 0) (sum (a .m) (λ j. mul (cell (a .factors .now) (a .o - a .c) j) (getD (a .row .now) j 0))))
+    (lt-ltb (a .o) (a .c) ((c .before) .if1 .taken)))
 
 returns-2 : tie.Need-returns-2
 unfolding valueBy
 returns-2 c =
     let a = (start-from-after-dot c) .args in
     dot-made (a .c) (a .o) (a .m) ((a .o - a .c) * 32) (a .factors .now) (a .row .now) _ refl (omega (arith, end (c .before .before))) (c .dot .ensures)
-    ∙ sym (ap (λ (t : Bool). pick t (getD (a .row .now) (a .o) 0) (sum (a .m) (λ j. mul (cell (a .factors .now) (a .o - a .c) j) (getD (a .row .now) j 0)))) (le-ltb (a .o) (a .c) ((c .before .before) .if1 .left)))
+    ∙ sym (ap (λ (t : Bool). pick t (getD (a .row .now) (a .o) 0) (sum (a .m) (λ j. mul (cell (a .factors .now) (a .o - a .c) j) (getD (a .row .now) j 0))))
+    (le-ltb (a .o) (a .c) ((c .before .before) .if1 .left)))
 
 pub value-spec : {M : Type 1} → statement M
 value-spec =

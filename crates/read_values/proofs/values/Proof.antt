@@ -47,16 +47,19 @@ abbrev start-from-after-loop : tie.After-loop Inv-loop μ-loop → tie.Start Inv
 start-from-after-loop c = c .before .before .before .before .before .before .before
 
 -- where what a turn reads and writes ends
-end-out : (c : tie.In-loop Inv-loop μ-loop) → let a = (start-from-in-loop c) .args in (c .before) .loop .t * length (a .targets .now) + length (a .targets .now) ≤ length (a .boards .now) * length (a .targets .now)
+end-out : (c : tie.In-loop Inv-loop μ-loop) → let a = (start-from-in-loop c) .args in (c .before) .loop .t * length (a .targets .now) + length (a .targets .now) ≤ length (a .boards .now) * length
+    (a .targets .now)
 end-out c = row-fits _ _ _ (c .loop-test .taken)
 
-end-factors : (c : tie.In-loop Inv-loop μ-loop) → let a = (start-from-in-loop c) .args in (c .before) .loop .t * ((a .n - a .c) * 32) + (a .n - a .c) * 32 ≤ length (a .boards .now) * ((a .n - a .c) * 32)
+end-factors : (c : tie.In-loop Inv-loop μ-loop) → let a = (start-from-in-loop c) .args in (c .before) .loop .t * ((a .n - a .c) * 32) + (a .n - a .c) * 32 ≤ length (a .boards .now) *
+    ((a .n - a .c) * 32)
 end-factors c = row-fits _ _ _ (c .loop-test .taken)
 
 known : (c : tie.In-loop Inv-loop μ-loop) → let a = (start-from-in-loop c) .args in getD (a .boards .now) ((c .before) .loop .t) 0 < a .n
 known c = board-below _ ((start-from-in-loop c) .args .boards .now) ((c .before) .loop .t) ((start-from-in-loop c) .pre .4) (c .loop-test .taken)
 
-long : (c : tie.In-loop Inv-loop μ-loop) → let q : ℕ = length ((start-from-in-loop c) .args .targets .now) in let l = (c .before) .loop in length (take (l .t * q + q - l .t * q) (drop (l .t * q) (l .out))) ≡ q
+long : (c : tie.In-loop Inv-loop μ-loop) → let q : ℕ = length ((start-from-in-loop c) .args .targets .now) in let l = (c .before) .loop in length
+    (take (l .t * q + q - l .t * q) (drop (l .t * q) (l .out))) ≡ q
 long c = simp (length-take, length-drop) (omega (arith, end-out c))
 
 sub-all : tie.Need-sub-all Inv-loop μ-loop
@@ -121,8 +124,17 @@ board-values-requires : tie.Need-board-values-requires Inv-loop μ-loop
 board-values-requires c κs =
     let g = (start-from-after-board-values-arg3 c) in
     let a = g .args in
-    let e = end-factors (in-loop-from-after-board-values-arg3 c) in
-    (g .pre .0, g .pre .1, g .pre .2, known (in-loop-from-after-board-values-arg3 c), g .pre .6, simp (length-take, length-drop) (omega arith), simp (length-take, length-drop) (omega arith), long (in-loop-from-after-board-values-arg3 c))
+    let e = end-factors (in-loop-from-after-board-values-arg3 c) in (
+      g .pre .0,
+      g .pre .1,
+      g .pre .2,
+      known (in-loop-from-after-board-values-arg3 c),
+      g .pre .6,
+      simp (length-take, length-drop) (omega arith),
+      simp (length-take, length-drop) (omega arith),
+      long
+          (in-loop-from-after-board-values-arg3 c),
+    )
 
 add-t : tie.Need-add-t Inv-loop μ-loop
 add-t c = search needs
@@ -135,7 +147,8 @@ loop-again c =
     let g = (start-from-after-slice-known2 c) in
     let a = g .args in
     let l = (at-loop-from-after-slice-known2 c) .loop in (
-      join-loop (λ t. tabulate (length (a .targets .now)) (λ i. valueBy (a .c) (offset (a .n) (getD (a .boards .now) t 0) (getD (a .targets .now) i 0)) (a .m) (drop (t * ((a .n - a .c) * 32)) (a .factors .now)) (piece 32 t (a .rows .now)))) (length (a .targets .now)) (l .t) (a .out .now) (l .out) _
+      join-loop (λ t. tabulate (length (a .targets .now)) (λ i. valueBy (a .c) (offset (a .n) (getD (a .boards .now) t 0) (getD (a .targets .now) i 0)) (a .m)
+          (drop (t * ((a .n - a .c) * 32)) (a .factors .now)) (piece 32 t (a .rows .now)))) (length (a .targets .now)) (l .t) (a .out .now) (l .out) _
           (λ t h. length-tabulate (length (a .targets .now)) _)
           ((c .before .before) .board-values .ensures
           ∙ ap₂ (λ (f r : List ℕ). tabulate (length (a .targets .now)) (λ i. valueBy (a .c) (offset (a .n) (getD (a .boards .now) (l .t) 0) (getD (a .targets .now) i 0)) (a .m) f r))
@@ -154,7 +167,9 @@ returns c =
     let g = (start-from-after-loop c) in
     let a = g .args in
     let l = (c .before) .loop in
-    join-end (λ t. tabulate (length (a .targets .now)) (λ i. valueBy (a .c) (offset (a .n) (getD (a .boards .now) t 0) (getD (a .targets .now) i 0)) (a .m) (drop (t * ((a .n - a .c) * 32)) (a .factors .now)) (piece 32 t (a .rows .now)))) (length (a .targets .now)) (l .t) (length (a .boards .now)) (a .out .now) (l .out) (omega arith) (g .pre .9) (l .inv .0)
+    join-end (λ t. tabulate (length (a .targets .now)) (λ i. valueBy (a .c) (offset (a .n) (getD (a .boards .now) t 0) (getD (a .targets .now) i 0)) (a .m)
+    (drop (t * ((a .n - a .c) * 32)) (a .factors .now)) (piece 32 t (a .rows .now)))) (length (a .targets .now)) (l .t) (length (a .boards .now)) (a .out .now) (l .out) (omega arith)
+    (g .pre .9) (l .inv .0)
 
 pub values-spec : {M : Type 1} → statement M
 values-spec =
