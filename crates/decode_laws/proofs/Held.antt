@@ -7,21 +7,22 @@ use Prim.Native.Nat.{ℕ, zero, suc, _+_, _*_, _-_, _<_, _≤_}
 use native.Mathlib.Nat.{suc-mul, mul-le-mul-right}
 use native.Mathlib.Numerals.{add-one}
 use native.Mathlib.Omega.{arith}
-use lib.ListN.{length, getD, take, drop, length-drop}
+use lib.ListN.{length, getD, take, drop, length-drop, List·getD-append}
 use lib.Seq.{length-take-le}
 use Rattle.lists.specs.Tests.{below}
 use Rattle.lists.specs.Lists.{All, Bytes, tabulate, join, fit}
 use Rattle.lists.proofs.Alls.{all-imp, all-at, take-alls, drop-alls}
 use Rattle.lists.proofs.Boards.{below-all}
-use Rattle.lists.proofs.Pieces.{join-ext, length-join, length-fit, length-tabulate}
+use Rattle.lists.proofs.Pieces.{join-ext, length-join, length-fit, length-tabulate, tabulate-at}
 use Rattle.sizes.specs.declared.Sizes.{Sizes}
 use Rattle.sizes.specs.Sizing.{α}
-use Rattle.sizes.proofs.Legal.{Legal, α-parts, α-most}
+use Rattle.sizes.proofs.Legal.{Legal, α-parts, α-most, row-fits}
 use Rattle.polynomial.specs.Polynomial.{eval}
 use Rattle.mbcr.specs.Share.{DifferentPoints, point, points}
 use Rattle.mbcr.specs.Rebuild.{ownF, ownG}
 use Rattle.mbcr.proofs.Points.{Boards}
 use Rattle.decode_laws.specs.Steps.{fRow, gRow, valuesOf, factorsOf, factorRows, unitRows, byRows, topRows, topsOf, meets, pairsMeet, heldAt, Placed}
+use Rattle.decode_laws.proofs.Rows.{join-at}
 use Rattle.decode_laws.proofs.Stripe.{length-f, length-g, f-bytes, g-bytes}
 use Rattle.decode_laws.proofs.Coefs.{length-factors, values-are, coefs-are, tops-are}
 
@@ -139,6 +140,28 @@ module _ (z : Sizes) (xs : List ℕ) (legal : Legal z) (pts : DifferentPoints z 
         ∙ values-are z xs pts bs known d (omega (arith, legal .enough)) d-few (λ t. take 1 (w t) ++ drop (d + r) (w t)) (λ t h. length-g z xs legal (getD bs t 0) (w t) (lw t h))
         (λ t h. g-bytes z xs legal (getD bs t 0) (w t) (lw t h) (bw t))
         m lm hm targets kt
+
+    -- the coefficients of X^k and on, whatever stands behind the values
+    pub g-tops : (C : List ℕ) → Boards z C → length C ≡ d → (vals rest : List ℕ) → vals ≡ valuesOf n d m bs C gf gs
+        → (i t : ℕ) → i < d - k → t < k → getD (topsOf (d - k) k d m (topRows k (points xs C)) (vals ++ rest)) (i * k + t) 0 ≡ getD (ownG z xs (getD bs t 0) (w t)) (k + i) 0
+    unfolding ownG
+    g-tops C boards lC vals rest ev i t hi ht =
+        ap (λ (q : ℕ). getD (topsOf (d - k) q d m (topRows k (points xs C)) (vals ++ rest)) (i * q + t) 0) (sym lb)
+        ∙ tops-are z xs pts bs known d (omega (arith, legal .enough)) d-few (λ t. take 1 (w t) ++ drop (d + r) (w t)) (λ t h. length-g z xs legal (getD bs t 0) (w t) (lw t h)) (λ t h. g-bytes z xs legal (getD bs t 0) (w t) (lw t h) (bw t))
+        C boards lC k m lm hm (vals ++ rest) value i t hi (omega arith)
+      where
+        v : ℕ → ℕ → ℕ
+        v t i = eval (ownG z xs (getD bs t 0) (w t)) (point xs (getD C i 0))
+
+        all : vals ≡ join (length bs) (λ t. tabulate d (v t))
+        all = ev ∙ g-values C (boards .known) ∙ ap (λ (q : ℕ). join (length bs) (λ t. tabulate q (v t))) lC
+
+        value : (t i : ℕ) → t < length bs → i < d → getD (vals ++ rest) (t * d + i) 0 ≡ v t i
+        value t i ht hi =
+            let l : length vals ≡ length bs * d = ap length all ∙ length-join (length bs) d (λ t. tabulate d (v t)) (λ t h. length-tabulate d (v t)) in
+            List·getD-append vals rest 0 (t * d + i) (omega (arith, row-fits t (length bs) d ht))
+            ∙ ap (λ (q : List ℕ). getD q (t * d + i) 0) all
+            ∙ join-at (length bs) d (λ t. tabulate d (v t)) (λ t h. length-tabulate d (v t)) t i ht hi ∙ tabulate-at d (v t) 0 i hi
 
   -- the pairs, from the values
   pub meets-made : (fv gv : List ℕ) → fv ≡ join (length bs) (λ t. tabulate (length bs) (λ i. eval (ownF z xs (getD bs t 0) (w t)) (point xs (getD bs i 0))))
