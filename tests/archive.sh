@@ -61,6 +61,7 @@ step "the demo compiles" cargo build --offline --quiet --release -j1 --manifest-
 # demo: it prints what stands in tests/demo.stdout
 demo() { target/cargo/release/examples/demo | diff tests/demo.stdout -; }
 step "the demo prints what it must" demo
+step "the bench's two coders in plain Rust are alike" cargo test --offline --quiet --release -j1 --manifest-path tests/plain_kernels/Cargo.toml
 step "the bench compiles" cargo build --offline --quiet --release -j1 --manifest-path tests/bench/Cargo.toml
 step "the unrelated coder compiles" cargo build --offline --quiet --release -j1 --manifest-path tests/coder/Cargo.toml
 

@@ -7,9 +7,9 @@ use mathlib.Core.List.{List, [], _∷_, _++_}
 use borrow.Author.Tests.{ltb-false, eqb-true}
 use lib.Dec.{eqb}
 use lib.ListN.{length, drop}
-use Rattle.lists.specs.Tests.{below}
+use Rattle.lists.specs.Tests.{below, different}
 use Rattle.lists.proofs.Tests.{not-no, alls-hold}
-use Rattle.lists.proofs.Boards.{below-all, all-below}
+use Rattle.lists.proofs.Boards.{below-all, all-below, different-cons}
 use Rattle.sizes.specs.declared.Sizes.{Sizes}
 use Rattle.sizes.specs.declared.Refusal.{Refusal}
 use Rattle.sizes.specs.declared.Check.{Check}
@@ -29,6 +29,7 @@ pub record Exchanges (z : Sizes) (L : ℕ) (helpers packets : List ℕ) (receive
   pub stated : Stated z L
   pub enough : length helpers ≡ z .d
   pub known : below (z .n) helpers ≡ true
+  pub once : different helpers ≡ true
   pub receiver-known : receiver < z .n
   pub packets-are : length packets ≡ z .d * (2 * stripes z L)
   pub room : stripes z L ≤ length output
@@ -47,6 +48,7 @@ module _ (z : Sizes) (xs : List ℕ) (L board : ℕ) (helpers packets : List ℕ
         stated = record { is-legal = not-no _ (e .0); not-long = ltb-false _ _ (e .1 .0) };
         enough = eqb-true _ _ (alls-hold (eqb (length helpers) (z .d) ∷ []) (not-no _ (k .0)) .0);
         known = all-below (z .n) helpers (known .1 .1);
+        once = different-cons receiver helpers (different-cons board (receiver ∷ helpers) (not-no _ (k .1 .1 .0)) .1) .1;
         receiver-known = known .1 .0;
         packets-are = eqb-true _ _ (alls-hold (eqb (length packets) (z .d * (2 * stripes z L)) ∷ []) (not-no _ (k .1 .1 .1 .0)) .0);
         room = ltb-false _ _ (k .1 .1 .1 .1 .0);

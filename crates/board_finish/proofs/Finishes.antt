@@ -1,16 +1,14 @@
 -- A finished share: what it says of the call that its check passes, and what the call answers where it refuses and where it passes.
 -- Assumes nothing.
-use Prim.Native.Nat.{ℕ, _-_, _*_, _≤_, _<_}
+use Prim.Native.Nat.{ℕ, _-_, _*_, _≤_}
 use mathlib.Core.Path.{_≡_, ap, ap₂, _∙_}
 use mathlib.Core.Bool.{true}
 use mathlib.Core.List.{List, [], _∷_, _++_}
 use borrow.Author.Tests.{ltb-false, eqb-true}
 use lib.Dec.{eqb}
 use lib.ListN.{length, drop}
-use Rattle.lists.specs.Tests.{below}
+use Rattle.lists.specs.Tests.{below, different}
 use Rattle.lists.proofs.Tests.{not-no, alls-hold}
-use Rattle.lists.proofs.Alls.{all-left, all-right}
-use Rattle.lists.proofs.Boards.{below-all, all-below}
 use Rattle.sizes.specs.declared.Sizes.{Sizes}
 use Rattle.sizes.specs.declared.Refusal.{Refusal}
 use Rattle.sizes.specs.declared.Check.{Check}
@@ -31,9 +29,8 @@ pub record Finishes (z : Sizes) (L board : ℕ) (helpers packets partners exchan
   pub stated : Stated z L
   pub helpers-enough : length helpers ≡ z .d
   pub partners-enough : length partners ≡ z .r - 1
-  pub helpers-known : below (z .n) helpers ≡ true
-  pub partners-known : below (z .n) partners ≡ true
-  pub board-known : board < z .n
+  pub known : below (z .n) (helpers ++ partners ++ (board ∷ [])) ≡ true
+  pub once : different (helpers ++ partners ++ (board ∷ [])) ≡ true
   pub packets-are : length packets ≡ z .d * (2 * stripes z L)
   pub exchanges-are : length exchanges ≡ (z .r - 1) * stripes z L
   pub room : stripes z L * α z ≤ length output
@@ -48,17 +45,14 @@ module _ (z : Sizes) (xs : List ℕ) (L board : ℕ) (helpers packets partners e
       let e = first-clear (finishedLines z xs L board helpers packets partners exchanges output) boardOrder h in
       let k = e .1 .1 in
       let counts = alls-hold (eqb (length helpers) (z .d) ∷ eqb (length partners) (z .r - 1) ∷ []) (not-no _ (k .0)) in
-      let known = below-all (z .n) (helpers ++ partners ++ (board ∷ [])) (not-no _ (k .1 .0)) in
-      let others = all-left (λ i. i < z .n) (helpers ++ partners) (board ∷ []) known in
       let lents = eqb (length packets) (z .d * (2 * stripes z L)) ∷ eqb (length exchanges) ((z .r - 1) * stripes z L) ∷ [] in
       let lengths = alls-hold lents (not-no _ (k .1 .1 .1 .0)) in
       record {
         stated = record { is-legal = not-no _ (e .0); not-long = ltb-false _ _ (e .1 .0) };
         helpers-enough = eqb-true _ _ (counts .0);
         partners-enough = eqb-true _ _ (counts .1 .0);
-        helpers-known = all-below (z .n) helpers (all-left (λ i. i < z .n) helpers partners others);
-        partners-known = all-below (z .n) partners (all-right (λ i. i < z .n) helpers partners others);
-        board-known = all-right (λ i. i < z .n) (helpers ++ partners) (board ∷ []) known .0;
+        known = not-no _ (k .1 .0);
+        once = not-no _ (k .1 .1 .0);
         packets-are = eqb-true _ _ (lengths .0);
         exchanges-are = eqb-true _ _ (lengths .1 .0);
         room = ltb-false _ _ (k .1 .1 .1 .1 .0);

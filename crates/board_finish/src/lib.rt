@@ -83,7 +83,7 @@ pub fn finished_share(
     let stripes = checks::stripe_count(sizes, len);
     let points = checks::standard_points();
     let mut inverses = [0u8; 256];
-    interpolation::fill_inverses(&mut inverses);
+    inverses::fill_inverses(&mut inverses);
     finish::finished_share(
         sizes,
         &points,

@@ -1,51 +1,52 @@
-// The share of a file: each stripe's coefficients laid into a working grid, and the values that a board keeps of them.
+// The share of a file: of each stripe the values of its rows at all points, and out of them what the board keeps.
 // Assumes nothing.
 ghost use mathlib.Core.Path.{_≡_};
 ghost use mathlib.Core.Bool.{true};
-ghost use mathlib.Core.List.{_++_};
-ghost use Prim.Native.Nat.{_+_, _-_, _*_, _<_, _≤_};
+ghost use mathlib.Core.List.{List, _++_};
+ghost use Prim.Native.Nat.{ℕ, _+_, _*_, _<_, _≤_};
 ghost use lib.ListN.{length, drop};
 ghost use Rattle.lists.specs.Lists.{join};
-ghost use Rattle.sizes.specs.Sizing.{legal, α, stripes};
-ghost use Rattle.mbcr.specs.Share.{stripe, grid, points, kept, share};
-ghost use Rattle.grid.specs.Steps.{laid, worked};
+ghost use Rattle.sizes.specs.Sizing.{legal, α, B, stripes};
+ghost use Rattle.mbcr.specs.Share.{stripe, point, kept, share};
+ghost use Rattle.row_sums.specs.Steps.{Tabled};
+ghost use Rattle.powers.specs.Steps.{powerRows};
+ghost use Rattle.encode_values.specs.Steps.{rowValues};
 use sizes::Sizes;
 
-// What the board with the first of the points xs keeps of the polynomial of d rows in work.
-fn share_stripe(d: usize, xs: &[u8], work: &[u8], out: &mut [u8])
-    requires { ⌜ (length (now work) ≡ 992) × (1 ≤ d) × (d ≤ 31) × (d ≤ length (now xs)) × (length (now xs) ≤ 32) × (length (now out) ≡ length (now xs) + (d - 1)) ⌝ }
-    ensures { λ _. ⌜ now (out .exit) ≡ worked d (now (work .entry)) (now (xs .entry)) ⌝ }
-{
-    let m = xs.len();
-    let end = out.len();
-    let mut col = [0u8; 32];
-    let mut g = [0u8; 32];
-    evaluate::f_values(d, xs, work, &mut out[0..m]);
-    evaluate::g_values(xs, work, &mut col[0..d], &mut g[0..d], &mut out[m..end]);
-}
-
-// What the board with the first of the points xs keeps of stripe s of a file.
-fn stripe_values(sizes: Sizes, file: &[u8], s: usize, xs: &[u8], out: &mut [u8])
-    requires { ⌜ (legal sizes ≡ true) × (s < 4096) × (length (now xs) ≡ sizes .d + sizes .r) × (length (now out) ≡ α sizes) ⌝ }
-    ensures { λ _. ⌜ now (out .exit) ≡ worked (sizes .d) (laid (grid sizes (stripe sizes (now (file .entry)) s))) (now (xs .entry)) ⌝ }
+// What board i keeps of a stripe, out of the rows of its values; x is the board's point.
+fn share_rows(sizes: Sizes, tables: &[u8], x: u8, i: usize, rows: &[u8], out: &mut [u8])
+    requires { ⌜ (legal sizes ≡ true) × (i < sizes .n) × (length (now tables) ≡ 16384) × (length (now rows) ≡ 992) × (length (now out) ≡ α sizes) ⌝ }
+    ensures { λ _. ⌜ ((points u rest : List ℕ) → length points ≡ 32 → length u ≡ B sizes → Tabled (powerRows points (sizes .d + sizes .r)) (now (tables .entry)) → x ≡ point points i → now (rows .entry) ≡ rowValues sizes points u ++ rest → now (out .exit) ≡ kept sizes points u i) ⌝ }
 {
     let d = sizes.d;
-    let mut work = [0u8; 992];
-    grid::fill_grid(sizes, file, s, &mut work);
-    share_stripe(d, xs, &work, out);
+    let mut f = [0u8; 32];
+    let mut g = [0u8; 32];
+    horner::rows_at(rows, x, d, &mut f);
+    row_sums::put_row(row_sums::column_sum(tables, rows, i, d), &mut g);
+    kept_bytes::keep_rows(sizes, i, &f, &g, out);
 }
 
-// The same of the first stripes of a file, one after another.
-fn stripes_values(sizes: Sizes, file: &[u8], count: usize, xs: &[u8], out: &mut [u8])
-    requires { ⌜ (legal sizes ≡ true) × (count ≤ 4096) × (length (now xs) ≡ sizes .d + sizes .r) × (count * α sizes ≤ length (now out)) ⌝ }
-    ensures { λ _. ⌜ now (out .exit) ≡ join count (λ s. worked (sizes .d) (laid (grid sizes (stripe sizes (now (file .entry)) s))) (now (xs .entry))) ++ drop (count * α sizes) (now (out .entry)) ⌝ }
+// What board i keeps of the first stripes of a file, one after another; rows is for work.
+fn share_stripes(
+    sizes: Sizes,
+    tables: &[u8],
+    x: u8,
+    i: usize,
+    file: &[u8],
+    count: usize,
+    rows: &mut [u8],
+    out: &mut [u8],
+)
+    requires { ⌜ (legal sizes ≡ true) × (i < sizes .n) × (length (now tables) ≡ 16384) × (count ≤ 4096) × (length (now rows) ≡ 992) × (count * α sizes ≤ length (now out)) ⌝ }
+    ensures { λ _. ⌜ ((points : List ℕ) → length points ≡ 32 → Tabled (powerRows points (sizes .d + sizes .r)) (now (tables .entry)) → x ≡ point points i → now (out .exit) ≡ join count (λ s. kept sizes points (stripe sizes (now (file .entry)) s) i) ++ drop (count * α sizes) (now (out .entry))) ⌝ }
 {
     let w = 2 * sizes.d + sizes.r - 1;
     let mut s: usize = 0;
     while s < count {
         let at = s * w;
         let end = at + w;
-        stripe_values(sizes, file, s, xs, &mut out[at..end]);
+        stripe_rows::stripe_rows(sizes, tables, file, s, rows);
+        share_rows(sizes, tables, x, i, rows, &mut out[at..end]);
         s += 1;
     }
 }
@@ -56,18 +57,25 @@ pub fn share_stripe_of(sizes: Sizes, points: &[u8], i: usize, file: &[u8], s: us
     ensures { λ _. ⌜ now (out .exit) ≡ kept sizes (now (points .entry)) (stripe sizes (now (file .entry)) s) i ⌝ }
 {
     let m = sizes.d + sizes.r;
-    let mut xs = [0u8; 32];
-    neighbours::neighbour_points(sizes, points, i, m, &mut xs);
-    stripe_values(sizes, file, s, &xs[0..m], out);
+    let mut own = [0u8; 32];
+    let mut tables = [0u8; 16384];
+    let mut rows = [0u8; 992];
+    padded::pad(points, 0, &mut own);
+    let x = own[i];
+    powers::fill_powers(&own, m, &mut tables);
+    stripe_rows::stripe_rows(sizes, &tables, file, s, &mut rows);
+    share_rows(sizes, &tables, x, i, &rows, out);
 }
 
 // The share of board i of a file of so many stripes, to the beginning of out.
 pub fn share(sizes: Sizes, points: &[u8], i: usize, file: &[u8], count: usize, out: &mut [u8])
-    requires { ⌜ (legal sizes ≡ true) × (i < sizes .n) × (sizes .n ≤ length (now points)) × (count ≡ stripes sizes (length (now file))) × (count ≤ 4096) × (count * α sizes ≤ length (now out)) ⌝ }
+    requires { ⌜ (legal sizes ≡ true) × (i < sizes .n) × (length (now points) ≡ 32) × (count ≡ stripes sizes (length (now file))) × (count ≤ 4096) × (count * α sizes ≤ length (now out)) ⌝ }
     ensures { λ _. ⌜ now (out .exit) ≡ share sizes (now (points .entry)) (now (file .entry)) i ++ drop (count * α sizes) (now (out .entry)) ⌝ }
 {
     let m = sizes.d + sizes.r;
-    let mut xs = [0u8; 32];
-    neighbours::neighbour_points(sizes, points, i, m, &mut xs);
-    stripes_values(sizes, file, count, &xs[0..m], out);
+    let x = points[i];
+    let mut tables = [0u8; 16384];
+    let mut rows = [0u8; 992];
+    powers::fill_powers(points, m, &mut tables);
+    share_stripes(sizes, &tables, x, i, file, count, &mut rows, out);
 }

@@ -1,6 +1,6 @@
 // Rebuilding, the second step of document 01: what fresh boards send each other.
-// The definitions are those of the crate mbcr, over any bytes and any points. Where the points of boards are the same for each stripe, an
-// inner function takes them as a list, and the crate own's specs/Steps.antt says what it works out.
+// A byte is the sum of the first bytes of the helpers, times factors that depend on the boards alone: these are made once. The definitions are
+// those of the crate mbcr, over any bytes; the points of the boards differ.
 // Assumes nothing.
 use sizes::Sizes;
 ghost use mathlib.Core.Path.{_≡_};
@@ -8,13 +8,13 @@ ghost use mathlib.Core.Bool.{true};
 ghost use mathlib.Core.List.{_++_};
 ghost use Prim.Native.Nat.{_+_, _-_, _*_, _<_, _≤_};
 ghost use lib.ListN.{length, drop};
-ghost use Rattle.lists.specs.Tests.{below};
+ghost use Rattle.lists.specs.Tests.{below, different};
 ghost use Rattle.lists.specs.Lists.{tabulate};
 ghost use Rattle.gf256.specs.Field.{inverse};
 ghost use Rattle.sizes.specs.Sizing.{legal};
-ghost use Rattle.polynomial.specs.Polynomial.{eval, interpolate};
+ghost use Rattle.mbcr.specs.Share.{DifferentPoints};
 ghost use Rattle.mbcr.specs.Rebuild.{received, exchanged, exchangePacket};
-ghost use Rattle.own.specs.Steps.{exchangeOf};
+ghost use Rattle.factors.specs.Steps.{dotOf};
 
 // Byte b of the pair for stripe s in each of d helper packets.
 pub fn received(sizes: Sizes, stripes: usize, b: usize, s: usize, packets: &[u8], out: &mut [u8])
@@ -45,36 +45,54 @@ pub fn exchanged(sizes: Sizes, stripes: usize, s: usize, exchanges: &[u8], out: 
     }
 }
 
-// The byte of a stripe that a fresh board sends the one with the point x: from the points xs of its helpers and their first bytes vs, in
-// whose place is then its g.
-pub fn exchange_byte(xs: &[u8], inverses: &[u8], x: u8, vs: &mut [u8]) -> u8
-    requires { ⌜ (now inverses ≡ tabulate 256 inverse) × (length (now xs) ≡ length (now vs)) ⌝ }
-    ensures { λ v. ⌜ v ≡ eval (interpolate (now (xs .entry)) (now (vs .entry))) x ⌝ }
+// The byte of stripe s that a fresh board with these packets sends, by the factors of its helpers. vs is for work.
+fn byte_in(sizes: Sizes, ff: &[u8], stripes: usize, s: usize, packets: &[u8], vs: &mut [u8]) -> u8
+    requires { ⌜ (sizes .d ≤ 32) × (length (now ff) ≤ 32) × (s < stripes) × (stripes ≤ 4096) × (length (now packets) ≡ sizes .d * (2 * stripes)) × (now vs ≡ tabulate 32 (λ j. 0)) ⌝ }
+    ensures { λ v. ⌜ v ≡ dotOf (now (ff .entry)) (received sizes stripes 0 s (now (packets .entry))) ⌝ }
 {
-    interpolation::interpolate(inverses, xs, vs);
-    interpolation::eval(vs, x)
+    let d = sizes.d;
+    received(sizes, stripes, 0, s, packets, &mut vs[0..d]);
+    row_dots::dot(ff, vs)
 }
 
-// The exchange packet for the board with the point x, to the beginning of out. vs is for work.
-fn exchange_in(
-    sizes: Sizes,
-    xs: &[u8],
-    inverses: &[u8],
-    x: u8,
-    stripes: usize,
-    packets: &[u8],
-    vs: &mut [u8],
-    out: &mut [u8],
-)
-    requires { ⌜ (now inverses ≡ tabulate 256 inverse) × (stripes ≤ 4096) × (length (now packets) ≡ sizes .d * (2 * stripes)) × (length (now xs) ≡ sizes .d) × (length (now vs) ≡ sizes .d) × (stripes ≤ length (now out)) ⌝ }
-    ensures { λ _. ⌜ now (out .exit) ≡ exchangeOf sizes (now (xs .entry)) x stripes (now (packets .entry)) ++ drop stripes (now (out .entry)) ⌝ }
+// The same, with space of its own.
+fn exchange_byte(sizes: Sizes, ff: &[u8], stripes: usize, s: usize, packets: &[u8]) -> u8
+    requires { ⌜ (sizes .d ≤ 32) × (length (now ff) ≤ 32) × (s < stripes) × (stripes ≤ 4096) × (length (now packets) ≡ sizes .d * (2 * stripes)) ⌝ }
+    ensures { λ v. ⌜ v ≡ dotOf (now (ff .entry)) (received sizes stripes 0 s (now (packets .entry))) ⌝ }
+{
+    let mut vs = [0u8; 32];
+    byte_in(sizes, ff, stripes, s, packets, &mut vs)
+}
+
+// Those bytes of all stripes, to the beginning of out.
+fn exchange_bytes(sizes: Sizes, ff: &[u8], stripes: usize, packets: &[u8], out: &mut [u8])
+    requires { ⌜ (sizes .d ≤ 32) × (length (now ff) ≤ 32) × (stripes ≤ 4096) × (length (now packets) ≡ sizes .d * (2 * stripes)) × (stripes ≤ length (now out)) ⌝ }
+    ensures { λ _. ⌜ now (out .exit) ≡ tabulate stripes (λ s. dotOf (now (ff .entry)) (received sizes stripes 0 s (now (packets .entry)))) ++ drop stripes (now (out .entry)) ⌝ }
 {
     let mut s: usize = 0;
     while s < stripes {
-        received(sizes, stripes, 0, s, packets, vs);
-        out[s] = exchange_byte(xs, inverses, x, vs);
+        out[s] = exchange_byte(sizes, ff, stripes, s, packets);
         s += 1;
     }
+}
+
+// The exchange packet of a fresh board with these helpers and their packets for board m, to the beginning of out. ff is for work.
+fn packet_in(
+    sizes: Sizes,
+    points: &[u8],
+    inverses: &[u8],
+    stripes: usize,
+    helpers: &[usize],
+    packets: &[u8],
+    m: usize,
+    ff: &mut [u8],
+    out: &mut [u8],
+)
+    requires { ⌜ (legal sizes ≡ true) × (length (now points) ≡ 32) × DifferentPoints sizes (now points) × (now inverses ≡ tabulate 256 inverse) × (stripes ≤ 4096) × (length (now helpers) ≡ sizes .d) × (below (sizes .n) (now helpers) ≡ true) × (different (now helpers) ≡ true) × (length (now packets) ≡ sizes .d * (2 * stripes)) × (m < sizes .n) × (stripes ≤ length (now out)) × (sizes .d ≤ length (now ff)) × (length (now ff) ≤ 32) ⌝ }
+    ensures { λ _. ⌜ now (out .exit) ≡ exchangePacket sizes (now (points .entry)) stripes (now (helpers .entry)) (now (packets .entry)) m ++ drop stripes (now (out .entry)) ⌝ }
+{
+    factors::factors(points, helpers, inverses, m, ff);
+    exchange_bytes(sizes, ff, stripes, packets, out);
 }
 
 // The exchange packet of a fresh board with these helpers and their packets for board m, to the beginning of out.
@@ -88,21 +106,20 @@ pub fn exchange_packet(
     m: usize,
     out: &mut [u8],
 )
-    requires { ⌜ (legal sizes ≡ true) × (sizes .n ≤ length (now points)) × (now inverses ≡ tabulate 256 inverse) × (stripes ≤ 4096) × (length (now helpers) ≡ sizes .d) × (below (sizes .n) (now helpers) ≡ true) × (length (now packets) ≡ sizes .d * (2 * stripes)) × (m < sizes .n) × (stripes ≤ length (now out)) ⌝ }
+    requires { ⌜ (legal sizes ≡ true) × (length (now points) ≡ 32) × DifferentPoints sizes (now points) × (now inverses ≡ tabulate 256 inverse) × (stripes ≤ 4096) × (length (now helpers) ≡ sizes .d) × (below (sizes .n) (now helpers) ≡ true) × (different (now helpers) ≡ true) × (length (now packets) ≡ sizes .d * (2 * stripes)) × (m < sizes .n) × (stripes ≤ length (now out)) ⌝ }
     ensures { λ _. ⌜ now (out .exit) ≡ exchangePacket sizes (now (points .entry)) stripes (now (helpers .entry)) (now (packets .entry)) m ++ drop stripes (now (out .entry)) ⌝ }
 {
-    let d = sizes.d;
-    let mut xs = [0u8; 32];
-    let mut vs = [0u8; 32];
-    own::board_points(points, helpers, &mut xs[0..d]);
-    exchange_in(
+    let gl = row_values::whole_vectors(sizes.d);
+    let mut ff = [0u8; 32];
+    packet_in(
         sizes,
-        &xs[0..d],
+        points,
         inverses,
-        points[m],
         stripes,
+        helpers,
         packets,
-        &mut vs[0..d],
+        m,
+        &mut ff[0..gl],
         out,
     );
 }

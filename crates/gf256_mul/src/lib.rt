@@ -22,7 +22,7 @@ pub struct Multiples {
 }
 
 // a times z.
-fn double(a: u8) -> u8
+pub fn double(a: u8) -> u8
     ensures { λ r. ⌜ r ≡ mul 2 a ⌝ }
 {
     (a << 1) ^ ((a >> 7) * 0x1D)

@@ -34,7 +34,7 @@ pub fn hear(
         let j = helpers[t];
         let from = j * part + s * w;
         let to = from + w;
-        let q = helper::helper_pair(sizes, points, inverses, j, i, &area[from..to]);
+        let q = repair_pair::helper_pair(sizes, points, inverses, j, i, &area[from..to]);
         firsts[t] = q.first;
         seconds[t] = q.second;
         t += 1;

@@ -1,53 +1,90 @@
--- A share put at its board's place, as the end of a list of them.
+-- Stripe after stripe of all boards: what is put, and that it is the shares in their places.
 -- Assumes nothing.
-use mathlib.Core.Path.{_≡_, refl, sym, ap, ap₂, _∙_}
-use mathlib.Core.List.{List, [], _∷_, _++_, append-assoc}
-use Prim.Native.Nat.{ℕ, suc, _+_, _*_, _-_, _≤_, _<_}
-use native.Mathlib.Numerals.{add-one}
+use mathlib.Core.Path.{_≡_, refl, sym, ap, _∙_}
+use mathlib.Core.List.{List, [], _∷_, _++_}
+use mathlib.Core.Logic.{inr}
+use Prim.Native.Nat.{ℕ, zero, suc, _+_, _*_, _≤_, _<_}
+use native.Mathlib.Nat.{mul-le-mul-right}
 use native.Mathlib.Omega.{arith}
-use lib.ListN.{length, take, drop, length-drop, take-append-drop}
-use lib.Seq.{drop-drop, drop-append-le, length-take-le}
-use borrow.Rule.Slice.PartMut.{putMid}
-use Rattle.lists.specs.Lists.{tabulate, put}
+use lib.ListN.{length, getD}
+use Rattle.lists.specs.Lists.{tabulate, join, put}
 use Rattle.lists.proofs.Pieces.{tabulate-suc}
+use Rattle.sizes.specs.declared.Sizes.{Sizes}
+use Rattle.sizes.specs.Sizing.{B, α, stripes}
+use Rattle.sizes.proofs.Legal.{Legal, row-fits}
+use Rattle.polynomial.specs.Polynomial.{evals}
+use Rattle.mbcr.specs.Share.{stripe, kept, share}
+use Rattle.mbcr.proofs.Repair.{length-kept}
+use Rattle.mbcr.proofs.Shape.{length-stripe}
 use Rattle.store_spec.specs.Record.{Record, partLen, putShares}
+use Rattle.puts.specs.Steps.{puts}
+use Rattle.puts.proofs.Puts.{puts-same, puts-stripe, puts-none}
+use Rattle.encode_values.specs.Steps.{rowValues}
+use Rattle.encode_values.proofs.Values.{columns-at}
+use Rattle.kept_bytes.specs.Steps.{keptOf}
+use Rattle.kept_bytes.proofs.Kept.{kept-of}
 
--- bytes put at the beginning of a part are put at the part's place
-pub put-part : (at w m : ℕ) (area bytes : List ℕ) → length bytes ≡ m → m ≤ w → at + w ≤ length area
-    → putMid at (at + w - at) area (bytes ++ drop m (take (at + w - at) (drop at area))) ≡ put area at bytes
-unfolding put
-put-part at w m area bytes e h fits =
-    let k : at + w - at ≡ w = omega arith in
-    let t : length (take w (drop at area)) ≡ w = length-take-le w (drop at area) (omega (arith, length-drop at area)) in
-    ap (λ (v : ℕ). putMid at v area (bytes ++ drop m (take v (drop at area)))) k
-    ∙ ap (λ (l : List ℕ). take at area ++ l)
-    (append-assoc bytes (drop m (take w (drop at area))) (drop w (drop at area))
-    ∙ ap (λ (l : List ℕ). bytes ++ l)
-    (sym (drop-append-le m (take w (drop at area)) (drop w (drop at area)) (omega arith))
-    ∙ ap (drop m) (take-append-drop w (drop at area))
-    ∙ drop-drop m at area
-    ∙ ap (λ (v : ℕ). drop (at + v) area) (sym e)))
-    ∙ sym (append-assoc (take at area) bytes (drop (at + length bytes) area))
+-- the area is at most 32 parts
+pub area-few : (n part i : ℕ) → n ≤ 32 → part ≤ 253952 → i < n → (i * part + part ≤ n * part) × (n * part ≤ 8126464)
+area-few n part i hn hp hi =
+    let p : n * part ≤ 32 * part = mul-le-mul-right part hn in
+    (row-fits i n part hi, omega arith)
 
--- and there is room for them
-pub part-holds : (at w m : ℕ) (area : List ℕ) → m ≤ w → at + w ≤ length area → m ≤ length (take (at + w - at) (drop at area))
-part-holds at w m area h fits =
-    let t : length (take (at + w - at) (drop at area)) ≡ at + w - at = length-take-le (at + w - at) (drop at area) (omega (arith, length-drop at area)) in
-    omega arith
-
--- one board more
-pub puts-last : (s : Record) (f : ℕ → List ℕ) (boards : List ℕ) (i : ℕ) (area : List ℕ)
+-- board by board is the list of boards
+puts-last : (s : Record) (f : ℕ → List ℕ) (boards : List ℕ) (i : ℕ) (area : List ℕ)
     → putShares s f (boards ++ (i ∷ [])) area ≡ put (putShares s f boards area) (i * partLen s) (f i)
 puts-last s f [] i area = refl
 puts-last s f (b ∷ boards) i area = puts-last s f boards i (put area (b * partLen s) (f b))
 
-pub puts-turn : (s : Record) (f : ℕ → List ℕ) (i m : ℕ) (area₀ area ys : List ℕ) → length (f i) ≡ m → m ≤ partLen s
-    → i * partLen s + partLen s ≤ length area → area ≡ putShares s f (tabulate i (λ j. j)) area₀
-    → ys ≡ f i ++ drop m (take (i * partLen s + partLen s - i * partLen s) (drop (i * partLen s) area))
-    → putMid (i * partLen s) (i * partLen s + partLen s - i * partLen s) area ys ≡ putShares s f (tabulate (i + 1) (λ j. j)) area₀
-puts-turn s f i m area₀ area ys e h fits ea ey =
-    ap (λ (l : List ℕ). putMid (i * partLen s) (i * partLen s + partLen s - i * partLen s) area l) ey
-    ∙ put-part (i * partLen s) (partLen s) m area (f i) e h fits
-    ∙ ap (λ (l : List ℕ). put l (i * partLen s) (f i)) ea
-    ∙ sym (puts-last s f (tabulate i (λ j. j)) i area₀)
-    ∙ ap (λ (l : List ℕ). putShares s f l area₀) (sym (ap (λ (v : ℕ). tabulate v (λ j. j)) (add-one i) ∙ tabulate-suc i (λ j. j)))
+puts-shares : (s : Record) (f : ℕ → List ℕ) (n : ℕ) (area : List ℕ) → puts (λ i. i * partLen s) f n area ≡ putShares s f (tabulate n (λ i. i)) area
+puts-shares s f zero area = refl
+puts-shares s f (suc n) area =
+    ap (λ (l : List ℕ). put l (n * partLen s) (f n)) (puts-shares s f n area)
+    ∙ sym (puts-last s f (tabulate n (λ i. i)) n area)
+    ∙ ap (λ (l : List ℕ). putShares s f l area) (sym (tabulate-suc n (λ i. i)))
+
+module _ (z : Sizes) (legal : Legal z) (xs file area₀ : List ℕ) (part : ℕ) (la : length area₀ ≡ z .n * part) where
+  -- stripe s of board i
+  abbrev keptAt : ℕ → ℕ → List ℕ
+  keptAt i s = kept z xs (stripe z file s) i
+
+  -- the area with the first s stripes of all boards
+  abbrev pub upTo : ℕ → List ℕ
+  upTo s = puts (λ i. i * part) (λ i. join s (keptAt i)) (z .n) area₀
+
+  -- none
+  pub first : area₀ ≡ upTo 0
+  first = puts-none (λ i. i * part) (z .n) area₀
+
+  -- one stripe more
+  pub turn : (s : ℕ) (area new : List ℕ) → s * α z + α z ≤ part → area ≡ upTo s
+      → new ≡ puts (λ i. i * part + s * α z) (λ i. keptAt i s) (z .n) area → new ≡ upTo (s + 1)
+  turn s area new room ea en =
+      en ∙ ap (puts (λ i. i * part + s * α z) (λ i. keptAt i s) (z .n)) ea
+      ∙ puts-stripe (λ i. i * part) part (α z) s keptAt (λ i t. length-kept z xs legal (stripe z file t) i) room (z .n) area₀
+      (λ i h. omega (arith, row-fits i (z .n) part h)) (λ a b h k. inr (row-fits a b part h))
+
+-- all stripes are the shares
+pub shares-put : (s : Record) (z : Sizes) (xs file area₀ area : List ℕ) (count : ℕ) → count ≡ stripes z (length file)
+    → area ≡ puts (λ i. i * partLen s) (λ i. join count (λ t. kept z xs (stripe z file t) i)) (z .n) area₀
+    → area ≡ putShares s (share z xs file) (tabulate (z .n) (λ i. i)) area₀
+unfolding share
+shares-put s z xs file area₀ area count e h =
+    h ∙ ap (λ (m : ℕ). puts (λ i. i * partLen s) (λ i. join m (λ t. kept z xs (stripe z file t) i)) (z .n) area₀) e
+    ∙ puts-shares s (λ i. join (stripes z (length file)) (λ t. kept z xs (stripe z file t) i)) (z .n) area₀
+
+-- what is taken out of the rows by board is what the boards keep
+pub boards-kept : (z : Sizes) → Legal z → (xs file rows rest values more area : List ℕ) (s part at : ℕ) → length xs ≡ 32
+    → rows ≡ rowValues z xs (stripe z file s) ++ rest
+    → values ≡ join (z .n) (λ l. evals (tabulate (z .d) (λ i. getD rows (i * 32 + l) 0)) xs) ++ more
+    → puts (λ i. i * part + at) (λ i. keptOf z (λ b. getD values (b * 32 + i) 0) (λ b. getD values (i * 32 + b) 0) i) (z .n) area
+    ≡ puts (λ i. i * part + at) (λ i. kept z xs (stripe z file s) i) (z .n) area
+boards-kept z legal xs file rows rest values more area s part at lx er ev =
+    let u : List ℕ = stripe z file s in
+    let lu : length u ≡ B z = length-stripe z file s in
+    let few = legal .few in
+    puts-same (λ i. i * part + at) (λ i. i * part + at) _ (λ i. kept z xs u i) (z .n) area (λ i h. refl)
+    (λ i h.
+    kept-of z legal xs u i (λ b. getD values (b * 32 + i) 0) (λ b. getD values (i * 32 + b) 0)
+    (λ b k. columns-at z legal u lu xs lx rows rest values more b i er ev k (omega arith))
+    (λ b k. columns-at z legal u lu xs lx rows rest values more i b er ev h (omega arith)))

@@ -3,7 +3,7 @@
 //! the bytes it has; the factors of each sum are the solution of a linear system too. Nothing is interpolated.
 
 use crate::field::FIELD;
-use crate::matrix::{Matrix, Solutions};
+use crate::matrix::Matrix;
 
 pub const MAX_BOARDS: usize = 32;
 pub const MAX_STRIPES: usize = 4096;
@@ -120,21 +120,31 @@ pub fn equations(sizes: Sizes, boards: &[usize]) -> Matrix {
 
 /// The file of `length` bytes that has these shares, one after another in the order of the boards; none where no file has them.
 pub fn file(sizes: Sizes, length: usize, boards: &[usize], shares: &[u8]) -> Option<Vec<u8>> {
-    if sizes.stripes(length) == 0 {
-        return Some(Vec::new());
+    files(sizes, length, boards, &[shares]).pop().expect("an answer for each list of shares")
+}
+
+/// The same for several lists of shares of the same boards.
+pub fn files(sizes: Sizes, length: usize, boards: &[usize], lists: &[&[u8]]) -> Vec<Option<Vec<u8>>> {
+    let stripes = sizes.stripes(length);
+    if stripes == 0 {
+        return vec![Some(Vec::new()); lists.len()];
     }
     let width = sizes.share_len();
-    let held: Vec<Matrix> = shares.chunks(shares.len() / boards.len()).map(|share| columns_of(share, width)).collect();
-    let values = Matrix::new(boards.len() * width, sizes.stripes(length), |e, s| held[e / width].at(e % width, s));
-    match equations(sizes, boards).solve(&values) {
-        Solutions::None => None,
-        Solutions::Unsettled => panic!("{sizes:?}: the shares of boards {boards:?} do not settle a stripe"),
-        Solutions::One(stripes) => {
-            let mut bytes = joined(&stripes);
-            let padding = bytes.split_off(length);
-            padding.iter().all(|&byte| byte == 0).then_some(bytes)
-        }
-    }
+    // a column for each stripe of each list, the boards' bytes one below another
+    let values = Matrix::new(boards.len() * width, lists.len() * stripes, |e, column| {
+        let (list, s) = (lists[column / stripes], column % stripes);
+        list[(e / width * stripes + s) * width + e % width]
+    });
+    let Some(solved) = equations(sizes, boards).solve_each(&values) else {
+        panic!("{sizes:?}: the shares of boards {boards:?} do not settle a stripe")
+    };
+    let whole = |stripes: &[Option<Vec<u8>>]| {
+        let stripes: Option<Vec<Vec<u8>>> = stripes.iter().cloned().collect();
+        let mut bytes = stripes?.concat();
+        let padding = bytes.split_off(length);
+        padding.iter().all(|&byte| byte == 0).then_some(bytes)
+    };
+    solved.chunks(stripes).map(whole).collect()
 }
 
 /// For each target, the factors by which a polynomial of degree below the number of points has its value there as a sum of its values at the
@@ -142,8 +152,8 @@ pub fn file(sizes: Sizes, length: usize, boards: &[usize], shares: &[u8]) -> Opt
 fn factors(points: &[u8], targets: &[u8]) -> Matrix {
     let powers = |at: &[u8]| Matrix::new(points.len(), at.len(), |e, t| FIELD.power(at[t], e));
     match powers(points).solve(&powers(targets)) {
-        Solutions::One(found) => found.transposed(),
-        _ => panic!("the points {points:?} are not all different"),
+        Some(found) => found.transposed(),
+        None => panic!("the points {points:?} are not all different"),
     }
 }
 

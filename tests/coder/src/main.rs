@@ -4,14 +4,17 @@
 //!     coder --products
 //!
 //! First the figures of document 01 are run and products of bytes tried, then random cases until so many calls are made: single calls at board
-//! level, single calls of the store over made-up records and areas, long histories against a ledger, and second files that k − 1 boards do not
-//! tell from the first (request A.13 of document 02). Each case draws from its own seed, made of the run's seed and the case's number: `--only` repeats one case.
+//! level, single calls of the store over made-up records and areas, long histories against a ledger, second files that k − 1 boards do not tell
+//! from the first (request A.13 of document 02), and shares with one byte altered where least shows it (request A.7). Each case draws from its
+//! own seed, made of the run's seed and the case's number: `--only` repeats one case.
 //! `--wrong` alters what the archive answers to one call, to show that this is reported. `--trace` prints each call before it is made,
-//! `--verbose` how often each call gave each refusal. `--products` makes no call: it writes all products and inverses of the coder's own field.
+//! `--verbose` how often each call gave each refusal, and how often an altered byte was accepted and refused. `--products` makes no call: it writes
+//! all products and inverses of the coder's own field.
 //!
 //! The last line counts calls and mismatches. The exit code is 1 where there is a mismatch, or where in a run of 20,000 calls or more some
-//! refusal that a call can give was never met.
+//! refusal that a call can give was never met, or DISAGREE for a kind of altered byte.
 
+mod altered;
 mod archive;
 mod board;
 mod board_cases;
@@ -109,13 +112,18 @@ fn run_case(trial: &mut Trial, case: u64) {
         store_cases::run(trial, &mut random, sizes);
         histories::run(trial, &mut random, sizes);
         tight::run(trial, &mut random, sizes);
+        altered::run(trial, &mut random, sizes);
         return;
     }
     let sizes = draw::sizes(&mut random);
-    match random.below(10) {
-        0 => histories::run(trial, &mut random, sizes),
-        1..=4 => store_cases::run(trial, &mut random, sizes),
-        5 => tight::run(trial, &mut random, sizes),
+    match random.below(20) {
+        0..=1 => histories::run(trial, &mut random, sizes),
+        2..=9 => store_cases::run(trial, &mut random, sizes),
+        10..=11 => tight::run(trial, &mut random, sizes),
+        12 => {
+            let sizes = altered::sizes(&mut random, sizes);
+            altered::run(trial, &mut random, sizes);
+        }
         _ => board_cases::run(trial, &mut random, sizes),
     }
 }

@@ -9,13 +9,6 @@ pub struct Matrix {
     cells: Vec<u8>,
 }
 
-/// What a system of linear equations has: no solution, one, or equations too few to settle every unknown.
-pub enum Solutions {
-    None,
-    One(Matrix),
-    Unsettled,
-}
-
 impl Matrix {
     pub fn new(rows: usize, columns: usize, cell: impl Fn(usize, usize) -> u8) -> Matrix {
         let cells = (0..rows).flat_map(|i| (0..columns).map(move |j| (i, j))).map(|(i, j)| cell(i, j)).collect();
@@ -94,23 +87,30 @@ impl Matrix {
         true
     }
 
-    /// The Z with `self` × Z = `right`, all columns of `right` at once.
-    pub fn solve(&self, right: &Matrix) -> Solutions {
+    /// For each column of `right` the one z with `self` × z = it, or none where there is none, all columns by one elimination. None at all where
+    /// the equations are too few to settle every unknown.
+    pub fn solve_each(&self, right: &Matrix) -> Option<Vec<Option<Vec<u8>>>> {
         let unknowns = self.columns;
         let mut system = self.beside(right);
         for column in 0..unknowns {
             if !system.settle(column, column) {
-                return Solutions::Unsettled;
+                return None;
             }
         }
-        // the rows below are 00 on the left by now
-        if (unknowns..system.rows).any(|i| system.row(i)[unknowns..].iter().any(|&cell| cell != 0)) {
-            return Solutions::None;
-        }
+        // the rows below are 00 on the left by now, and must be so on the right
+        let solvable = |column: usize| (unknowns..system.rows).all(|i| system.at(i, column) == 0);
+        let solvable: Vec<bool> = (unknowns..system.columns).map(solvable).collect();
         for column in (0..unknowns).rev() {
             system.clear(column, column, unknowns, 0..column);
         }
-        Solutions::One(Matrix::new(unknowns, right.columns, |i, j| system.at(i, unknowns + j)))
+        let solution = |j: usize| (0..unknowns).map(|i| system.at(i, unknowns + j)).collect();
+        Some(solvable.iter().enumerate().map(|(j, &solvable)| solvable.then(|| solution(j))).collect())
+    }
+
+    /// The Z with `self` × Z = `right`, where all of its columns have one solution.
+    pub fn solve(&self, right: &Matrix) -> Option<Matrix> {
+        let columns: Option<Vec<Vec<u8>>> = self.solve_each(right)?.into_iter().collect();
+        columns.map(|columns| Matrix::new(self.columns, right.columns, |i, j| columns[j][i]))
     }
 
     /// The lists z with `self` × z = 00: as many as span them all, each with 01 at an unknown that the equations leave free and 00 at the other

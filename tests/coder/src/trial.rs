@@ -1,5 +1,6 @@
 //! Holds the archive to what is expected, call by call; counts, reports mismatches with what repeats them, and shows progress.
 
+use crate::altered;
 use crate::archive::{self, Performed};
 use crate::call::{refusal, Call, Lent, Outcome, CALLS};
 use std::fmt;
@@ -79,6 +80,8 @@ pub struct Trial {
     /// how many second files were found for k − 1 boards, and the calls made with them
     pub second_files: u64,
     pub second_calls: u64,
+    /// what calls with an altered byte gave, by its kind
+    pub altered: [altered::Met; altered::KINDS.len()],
     pub place: Place,
     /// whether each call is printed before it is made, to find one that does not come back
     pub trace: bool,
@@ -99,6 +102,7 @@ impl Trial {
             met: [[0; refusal::COUNTED]; CALLS.len()],
             second_files: 0,
             second_calls: 0,
+            altered: Default::default(),
             place: Place::Figure(String::new()),
             trace: false,
             wrong,
@@ -131,6 +135,16 @@ impl Trial {
                 self.report(&format!("{call} over {}: {what}", Short(lent)));
                 false
             }
+        }
+    }
+
+    /// Counts a call with an altered byte of some kind.
+    pub fn count_altered(&mut self, kind: usize, accepted: bool) {
+        let met = &mut self.altered[kind];
+        if accepted {
+            met.accepted += 1;
+        } else {
+            met.disagree += 1;
         }
     }
 
@@ -184,6 +198,11 @@ impl Trial {
         if self.second_files == 0 {
             missing.push("a second file for k − 1 boards".to_string());
         }
+        for (kind, met) in altered::KINDS.iter().zip(&self.altered) {
+            if met.disagree == 0 {
+                missing.push(format!("DISAGREE for a byte altered, {kind}"));
+            }
+        }
         missing
     }
 
@@ -197,6 +216,10 @@ impl Trial {
             "second files for k − 1 boards: {}, in {} of the calls of zbk_share",
             self.second_files, self.second_calls
         );
+        println!("{:24} accepted DISAGREE, of the calls of zbk_file and zbk_read", "one byte altered");
+        for (kind, met) in altered::KINDS.iter().zip(&self.altered) {
+            println!("{kind:24} {:>8} {:>8}", met.accepted, met.disagree);
+        }
     }
 }
 

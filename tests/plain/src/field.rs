@@ -42,3 +42,17 @@ pub fn divide(a: u8, b: u8) -> u8 {
     }
     TABLES.power[(TABLES.log[a as usize] + 255 - TABLES.log[b as usize]) as usize]
 }
+
+/// Adds a multiple of a row to another row, byte by byte.
+#[inline]
+pub fn add_multiple(sum: &mut [u8], factor: u8, row: &[u8]) {
+    if factor == 0 {
+        return;
+    }
+    let log = TABLES.log[factor as usize];
+    for (sum, &byte) in sum.iter_mut().zip(row) {
+        if byte != 0 {
+            *sum ^= TABLES.power[(log + TABLES.log[byte as usize]) as usize];
+        }
+    }
+}

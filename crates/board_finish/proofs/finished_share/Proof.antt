@@ -1,12 +1,13 @@
 -- `board_finish::finished_share` meets its contract: it answers what its check refuses, and past it the share is written.
 -- Assumes nothing.
-use mathlib.Core.Path.{_≡_, sym, _∙_}
+use mathlib.Core.Path.{_≡_, refl, sym, _∙_}
 use native.Mathlib.Omega.{arith}
 use borrow.Author.Needs.{needs}
 use Rattle.sizes.specs.declared.Check.{Check}
 use Rattle.sizes.specs.declared.Check.the-variants.{Pass, Refuse}
 use Rattle.sizes.proofs.Legal.{legal-facts, α-most}
 use Rattle.mbcr.specs.Share.{standard}
+use Rattle.mbcr.proofs.Points.{standard-points}
 use Rattle.checks.proofs.Given.{as-many, few-bytes}
 use Rattle.board_finish.proofs.Finishes.{Finishes, checked, finishes, finish-refuses, finish-works}
 use Rattle.board_finish.proofs.finished_share.Statement.{statement}
@@ -62,16 +63,16 @@ share-asks c κs =
     let f = facts (n .before) in
     let e = n .stripe-count .ensures in (
       f .stated .is-legal,
-      rw (at-points c .standard-points .ensures) (legal-facts _ (f .stated .is-legal) .few),
+      rw (at-points c .standard-points .ensures) refl,
+      rw (at-points c .standard-points .ensures) (standard-points _ (legal-facts _ (f .stated .is-legal) .few)),
       at-inverses c .fill-inverses .ensures,
       e .1,
       rw (e .0) (f .packets-are),
       rw (e .0) (f .exchanges-are),
-      f .board-known,
       f .helpers-enough,
-      f .helpers-known,
       f .partners-enough,
-      f .partners-known,
+      f .known,
+      f .once,
       rw (e .0) (f .room),
     )
 

@@ -1,133 +1,47 @@
--- `finish::finished_share` meets its contract: the callees' contracts, put together.
+-- `finish::finished_share` meets its contract: space is lent.
 -- Assumes nothing.
-use mathlib.Core.Path.{ap, _∙_}
-use mathlib.Core.List.{List, _++_}
-use Prim.Native.Nat.{ℕ, _*_}
-use lib.ListN.{drop, length-append}
-use Rattle.sizes.specs.Sizing.{α}
-use Rattle.sizes.proofs.Legal.{legal-facts}
-use Rattle.own.proofs.Made.{below-more, share-own}
+use lib.ListN.{length}
+use Rattle.sizes.proofs.Legal.{Legal, legal-facts}
 use borrow.Author.Needs.{needs}
+use native.Mathlib.Omega.{arith}
 use Rattle.finish.proofs.finished_share.Statement.{statement}
 use Rattle.finish.proofs.finished_share.Tie as tie
 
-add-m : tie.Need-add-m
-add-m c = search needs
+-- the places
+abbrev st-at-struct-known : tie.After-struct-known → tie.Start
+st-at-struct-known c = c .before .before .before .before .before .before .before .before
 
-sub-all-points : tie.Need-sub-all-points
-sub-all-points c = search needs
+abbrev st-at-struct-known2 : tie.After-struct-known2 → tie.Start
+st-at-struct-known2 c = c .before .before .before .before .before .before .before .before .before
 
-part-all-start : tie.Need-part-all-start
-part-all-start c = search needs
+abbrev st-at-all : tie.After-all → tie.Start
+st-at-all c = c .before .before .before .before .before .before .before .before .before .before
 
-part-all-end : tie.Need-part-all-end
-part-all-end c =
-    let f = legal-facts _ (c .before .before .before .before .before .before .before .before .pre .0) in
-    search needs
+abbrev st-at-share-in-arg : tie.After-share-in-arg → tie.Start
+st-at-share-in-arg c = c .before .before .before .before .before .before .before .before .before .before .before .before
 
-all-points-requires : tie.Need-all-points-requires
-all-points-requires c κs =
-    let g = c .before .before .before .before .before .before .before .before .before in
-    let f = legal-facts _ (g .pre .0) in
-    (below-more _ _ (g .args .helpers .now) (g .pre .1) (g .pre .8), below-more _ _ (g .args .partners .now) (g .pre .1) (g .pre .10), search needs, search needs)
-
-slice-aggregate-neighbour-points : tie.Need-slice-aggregate-neighbour-points
-slice-aggregate-neighbour-points c = search needs
-
-neighbour-points-requires : tie.Need-neighbour-points-requires
-neighbour-points-requires c κs =
-    let f = legal-facts _ (c .before .before .before .before .before .before .before .before .before .before .before .before .pre .0) in
-    search needs
-
-sub-share-in : tie.Need-sub-share-in
-sub-share-in c = search needs
-
-part-share-in-start : tie.Need-part-share-in-start
-part-share-in-start c = search needs
-
-part-share-in-end : tie.Need-part-share-in-end
-part-share-in-end c =
-    let f = legal-facts _ (c .before .before .before .before .before .before .before .before .before .before .before .before .before .before .before .pre .0) in
-    simp length-append (search needs)
-
-sub-share-in-2 : tie.Need-sub-share-in-2
-sub-share-in-2 c = search needs
-
-part-share-in-start-2 : tie.Need-part-share-in-start-2
-part-share-in-start-2 c = search needs
-
-part-share-in-end-2 : tie.Need-part-share-in-end-2
-part-share-in-end-2 c =
-    let f = legal-facts _ (c .before .before .before .before .before .before .before .before .before .before .before .before .before .before .before .before .before .pre .0) in
-    search needs
-
-shared-slice-read-share-in : tie.Need-shared-slice-read-share-in
-shared-slice-read-share-in c = search needs
-
-sub-share-in-3 : tie.Need-sub-share-in-3
-sub-share-in-3 c = search needs
-
-part-g-start : tie.Need-part-g-start
-part-g-start c = search needs
-
-part-g-end : tie.Need-part-g-end
-part-g-end c =
-    let f = legal-facts _ (c .before .before .before .before .before .before .before .before .before .before .before .before .before .before .before .before .before .before .before .pre .0) in
-    search needs
-
-sub-share-in-4 : tie.Need-sub-share-in-4
-sub-share-in-4 c = search needs
-
-part-f-start : tie.Need-part-f-start
-part-f-start c = search needs
-
-part-f-end : tie.Need-part-f-end
-part-f-end c =
-    let f = legal-facts _ (c .before .before .before .before .before .before .before .before .before .before .before .before .before .before .before .before .before .before .before .before .pre .0) in
-    search needs
+facts : (c : tie.Start) → Legal (c .args .sizes)
+facts c = legal-facts _ (c .pre .0)
 
 share-in-requires : tie.Need-share-in-requires
 share-in-requires c κs =
-    let g = c .before .before .before .before .before .before .before .before .before .before .before .before .before .before .before .before .before .before .before .before .before .before in
-    let f = legal-facts _ (g .pre .0) in
-    (g .pre .2, search needs, search needs, search needs, g .pre .4, g .pre .5, search needs, search needs, search needs, search needs, g .pre .11)
-
-same-length : tie.Need-same-length
-same-length c = search needs
-
-returns : tie.Need-returns
-returns c =
-    let g = c .before .before .before .before .before .before .before .before .before .before .before .before .before .before .before .before .before .before .before .before .before .before .before .before .before .before .before in
-    let a = g .args in
-    c .before .before .before .before .share-in .ensures
-    ∙ ap (λ (l : List ℕ). l ++ drop (a .stripes * α (a .sizes)) (a .out .now))
-    (share-own (a .sizes) (a .points .now) (legal-facts _ (g .pre .0)) (a .i) (a .helpers .now) (a .partners .now) (g .pre .7)
-    (a .stripes) (a .packets .now) (a .exchanges .now) _ _ _ _ (g .pre .9) (c .before .before .before .before .before .before .before .before .before .before .before .before .before .before .before .before .before .all-points .ensures) (c .before .before .before .before .before .before .before .before .before .before .before .before .before .before .neighbour-points .ensures))
+    let p = st-at-share-in-arg c .pre in
+    let f = facts (st-at-share-in-arg c) in
+    (p .0, p .1, p .2, p .3, p .4, p .5, p .6, p .7, p .8, p .9, p .10, p .11, search needs, search needs)
 
 pub finished-share-spec : {M : Type 1} → statement M
 finished-share-spec =
     tie.close
     (tie.spec
-    add-m
-    sub-all-points
-    part-all-start
-    part-all-end
-    all-points-requires
-    slice-aggregate-neighbour-points
-    neighbour-points-requires
-    sub-share-in
-    part-share-in-start
-    part-share-in-end
-    sub-share-in-2
-    part-share-in-start-2
-    part-share-in-end-2
-    shared-slice-read-share-in
-    sub-share-in-3
-    part-g-start
-    part-g-end
-    sub-share-in-4
-    part-f-start
-    part-f-end
+    (λ c. let f = facts (st-at-struct-known c) in search needs)
+    (λ c. let f = facts (st-at-struct-known2 c) in search needs)
+    (λ c. let f = facts (st-at-struct-known2 c) in search needs)
+    (λ c. search needs)
+    (λ c. search needs)
+    (λ c. let f = facts (st-at-struct-known2 c) in search needs)
+    (λ c. search needs)
+    (λ c. search needs)
+    (λ c. let f = facts (st-at-all c) in search needs)
     share-in-requires
-    same-length
-    returns)
+    (λ c. search needs)
+    (λ c. search needs))

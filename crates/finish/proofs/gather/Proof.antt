@@ -1,6 +1,6 @@
 -- `finish::gather` meets its contract: the callees' contracts, put together.
 -- Assumes nothing.
-use Rattle.own.proofs.Made.{gather-made}
+use Rattle.finish.proofs.Shares.{gather-made}
 use borrow.Author.Needs.{needs}
 use Rattle.finish.proofs.gather.Statement.{statement}
 use Rattle.finish.proofs.gather.Tie as tie
@@ -39,7 +39,8 @@ returns : tie.Need-returns
 returns c =
     let g = c .before .before .before .before .before .before .before .before .before .before .before in
     let a = g .args in
-    gather-made (a .sizes) (a .stripes) (a .s) (a .packets .now) (a .exchanges .now) (a .f .now) _ _ (g .pre .0) (g .pre .5) (c .before .before .before .before .before .before .received .ensures) (c .before .before .exchanged .ensures)
+    gather-made (a .sizes) (a .stripes) (a .s) (a .packets .now) (a .exchanges .now) (a .f .now) _ _ (g .pre .0) (g .pre .5) (c .before .before .before .before .before .before .received .ensures)
+    (c .before .before .exchanged .ensures)
 
 pub gather-spec : {M : Type 1} → statement M
 gather-spec =

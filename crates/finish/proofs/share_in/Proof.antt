@@ -1,125 +1,107 @@
--- `finish::share_in` meets its contract: the stripes so far, before what was there.
+-- `finish::share_in` meets its contract: the rows, and the share by them.
 -- Assumes nothing.
 use mathlib.Core.Path.{_≡_, sym, ap, _∙_}
-use mathlib.Core.List.{_++_}
-use Prim.Native.Nat.{ℕ, _≤_, _-_, _+_, _*_}
-use native.Mathlib.Nat.{zero-mul}
-use native.Mathlib.Omega.{arith}
-use borrow.Author.Needs.{needs}
+use mathlib.Core.Bool.{true}
+use mathlib.Core.List.{List, _++_}
+use Prim.Native.Nat.{ℕ, _+_, _*_, _<_}
 use lib.ListN.{length, drop}
-use Rattle.lists.specs.Lists.{join}
+use Rattle.lists.specs.Tests.{below}
+use Rattle.lists.proofs.Alls.{all-of}
 use Rattle.sizes.specs.Sizing.{α}
-use Rattle.sizes.proofs.Legal.{row-fits}
-use Rattle.mbcr.specs.Rebuild.{received, exchanged}
-use Rattle.own.specs.Steps.{stripeOf}
-use Rattle.own.proofs.Made.{length-stripeOf, share-turn, share-made}
+use Rattle.sizes.proofs.Legal.{Legal, legal-facts}
+use Rattle.factors.proofs.Values.{below-more}
+use Rattle.finish.proofs.Shares.{share-is, last-known}
+use borrow.Author.Needs.{needs}
+use native.Mathlib.Omega.{arith}
 use Rattle.finish.proofs.share_in.Statement.{statement}
 use Rattle.finish.proofs.share_in.Tie as tie
 
-abbrev Inv-loop : tie.InvT-loop
-Inv-loop sizes all xs inverses x stripes packets exchanges g₀ f₀ out₀ a s₀ g f out s =
-    (out ≡ join s (λ s. stripeOf (sizes .d) x all xs (received sizes stripes 0 s packets) (received sizes stripes 1 s packets ++ exchanged sizes stripes s exchanges)) ++ drop (s * a) out₀)
-    × (s ≤ stripes) × (length out ≡ length out₀) × (length g ≡ sizes .d) × (length f ≡ sizes .d + sizes .r)
+-- the places
+abbrev st-at-slice-known3 : tie.After-slice-known3 → tie.Start
+st-at-slice-known3 c = c .before .before .before .before .before .before .before .before .before
 
-abbrev μ-loop : tie.MeasureT-loop
-μ-loop sizes all xs inverses x stripes packets exchanges g₀ f₀ out₀ a s₀ g f out s = stripes - s
+abbrev st-at-board-rows-arg2 : tie.After-board-rows-arg2 → tie.Start
+st-at-board-rows-arg2 c = c .before .before .before .before .before .before .before .before .before .before .before .before
 
-mul-a : tie.Need-mul-a Inv-loop μ-loop
-mul-a c = search needs
+abbrev st-at-share-work-arg2 : tie.After-share-work-arg2 → tie.Start
+st-at-share-work-arg2 c = c .before .before .before .before .before .before .before .before .before .before .before .before .before .before .before .before .before .before .before
 
-add-a : tie.Need-add-a Inv-loop μ-loop
-add-a c = search needs
+abbrev whole-vectors-at-share-work-arg2 : tie.After-share-work-arg2 → tie.After-whole-vectors
+whole-vectors-at-share-work-arg2 c = c .before .before .before .before .before .before .before .before .before
 
-sub-a : tie.Need-sub-a Inv-loop μ-loop
-sub-a c = search needs
+abbrev st-at-slice-known6 : tie.After-slice-known6 → tie.Start
+st-at-slice-known6 c = c .before .before .before .before .before .before .before .before .before .before .before .before .before .before .before .before .before .before .before .before .before .before
 
-loop-holds : tie.Need-loop-holds Inv-loop μ-loop
-loop-holds c =
-    let a = c .before .before .before .before .before .before .before .before .before .before .args in
-    (ap (λ (k : ℕ). drop k (a .out .now)) (sym (zero-mul (α (a .sizes)))), search needs, search needs, search needs, search needs)
+abbrev whole-vectors-at-slice-known6 : tie.After-slice-known6 → tie.After-whole-vectors
+whole-vectors-at-slice-known6 c = c .before .before .before .before .before .before .before .before .before .before .before .before
 
-mul-from : tie.Need-mul-from Inv-loop μ-loop
-mul-from c =
-    let a = c .before .before .before .before .before .before .before .before .before .before .before .before .args in
-    omega (arith, row-fits (c .before .loop .s) (a .stripes) (α (a .sizes)) (omega arith))
+abbrev shared-slice-known4-at-slice-known6 : tie.After-slice-known6 → tie.After-shared-slice-known4
+shared-slice-known4-at-slice-known6 c = c .before .before .before .before .before .before .before .before .before .before .before .before .before .before .before .before .before .before
 
-add-to : tie.Need-add-to Inv-loop μ-loop
-add-to c =
-    let a = c .before .before .before .before .before .before .before .before .before .before .before .before .args in
-    omega (arith, row-fits (c .before .loop .s) (a .stripes) (α (a .sizes)) (omega arith))
+abbrev shared-slice-known6-at-slice-known6 : tie.After-slice-known6 → tie.After-shared-slice-known6
+shared-slice-known6-at-slice-known6 c = c .before .before .before .before .before .before .before .before .before .before .before .before .before .before .before .before
 
-sub-stripe-in : tie.Need-sub-stripe-in Inv-loop μ-loop
-sub-stripe-in c = search needs
+abbrev board-rows-at-slice-known6 : tie.After-slice-known6 → tie.After-board-rows
+board-rows-at-slice-known6 c = c .before .before .before .before .before .before .before .before .before
 
-part-stripe-in-start : tie.Need-part-stripe-in-start Inv-loop μ-loop
-part-stripe-in-start c = search needs
+facts : (c : tie.Start) → Legal (c .args .sizes)
+facts c = legal-facts _ (c .pre .0)
 
-part-stripe-in-end : tie.Need-part-stripe-in-end Inv-loop μ-loop
-part-stripe-in-end c =
-    let a = c .before .before .before .before .before .before .before .before .before .before .before .before .before .before .args in
-    omega (arith, row-fits (c .before .before .before .loop .s) (a .stripes) (α (a .sizes)) (omega arith))
+known : (c : tie.Start) → let a = c .args in (below (a .sizes .n) (a .helpers .now) ≡ true) × (below (a .sizes .n) (a .partners .now) ≡ true) × (a .i < a .sizes .n)
+known c = last-known (c .args .sizes .n) (c .args .i) (c .args .helpers .now) (c .args .partners .now) (c .pre .9)
 
-stripe-in-requires : tie.Need-stripe-in-requires Inv-loop μ-loop
-stripe-in-requires c κs =
-    let g = c .before .before .before .before .before .before .before .before .before .before .before .before .before .before .before in
-    let e = row-fits (c .before .before .before .before .loop .s) (g .args .stripes) (α (g .args .sizes)) (omega arith) in
-    (g .pre .0, search needs, search needs, search needs, g .pre .4, g .pre .5, search needs, search needs, search needs, search needs, search needs, search needs)
-
-add-s : tie.Need-add-s Inv-loop μ-loop
-add-s c = search needs
-
-loop-less : tie.Need-loop-less Inv-loop μ-loop
-loop-less c = search needs
-
-loop-again : tie.Need-loop-again Inv-loop μ-loop
-loop-again c =
-    let l = c .before .before .before .before .before .before .before .before .before .before .before .loop in
-    let g = c .before .before .before .before .before .before .before .before .before .before .before .before .before .before .before .before .before .before .before .before .before .before in
-    let a = g .args in (
-      share-turn (α (a .sizes)) _ (a .out .now) (l .out) _ (l .s)
-          (λ i. length-stripeOf (a .sizes .d) (a .x) (a .all .now) (a .xs .now) _ _ (g .pre .1) (omega arith) ∙ omega arith)
-          (c .before .before .before .before .before .before .stripe-in .ensures) (l .inv .0),
+board-rows-requires : tie.Need-board-rows-requires
+board-rows-requires c κs =
+    let p = st-at-board-rows-arg2 c .pre in
+    let a = st-at-board-rows-arg2 c .args in
+    let f = facts (st-at-board-rows-arg2 c) in
+    let k = known (st-at-board-rows-arg2 c) in (
+      p .3,
+      p .1,
+      below-more (a .sizes .n) 32 (a .helpers .now) (f .few) (k .0),
+      below-more (a .sizes .n) 32 (a .partners .now) (f .few) (k .1),
       omega arith,
       omega arith,
       omega arith,
       omega arith,
     )
 
-same-length : tie.Need-same-length Inv-loop μ-loop
-same-length c = search needs
+share-work-requires : tie.Need-share-work-requires
+share-work-requires c κs =
+    let p = st-at-share-work-arg2 c .pre in
+    let k = known (st-at-share-work-arg2 c) in (
+      p .0,
+      k .2,
+      p .4,
+      omega (arith, c .before .before .before .rows .given),
+      p .5,
+      p .6,
+      whole-vectors-at-share-work-arg2 c .whole-vectors .ensures .0,
+      whole-vectors-at-share-work-arg2
+          c .whole-vectors .ensures .1,
+      p .11,
+    )
 
-same-length-2 : tie.Need-same-length-2 Inv-loop μ-loop
-same-length-2 c = search needs
-
-same-length-3 : tie.Need-same-length-3 Inv-loop μ-loop
-same-length-3 c = search needs
-
-returns : tie.Need-returns Inv-loop μ-loop
+returns : tie.Need-returns
 returns c =
-    let l = c .before .loop in
-    let a = c .before .before .before .before .before .before .before .before .before .before .before .before .args in
-    share-made (α (a .sizes)) _ (a .out .now) (l .out) (l .s) (a .stripes) (omega arith) (l .inv .0)
+    let a = st-at-slice-known6 c .args in
+    let p = st-at-slice-known6 c .pre in
+    let v = whole-vectors-at-slice-known6 c .whole-vectors .ensures in
+    let bp = all-of (λ x. x < 256) 0 (a .packets .now) (λ i l. omega (arith, shared-slice-known4-at-slice-known6 c .shared-slice-known4 .given i)) in
+    let be = all-of (λ x. x < 256) 0 (a .exchanges .now) (λ i l. omega (arith, shared-slice-known6-at-slice-known6 c .shared-slice-known6 .given i)) in
+    c .before .before .share-work .ensures
+    ∙ ap (λ (l : List ℕ). l ++ drop (a .stripes * α (a .sizes)) (a .out .now))
+    (share-is (a .sizes) (a .points .now) (facts (st-at-slice-known6 c)) (p .2) (a .i) (a .stripes) _ (a .helpers .now) (a .packets .now) (a .partners .now) (a .exchanges .now) _
+    ((known (st-at-slice-known6 c)) .2) (p .7) (p .8) (p .9) (p .10) bp be (v .0) (v .1) (board-rows-at-slice-known6 c .board-rows .ensures))
 
 pub share-in-spec : {M : Type 1} → statement M
 share-in-spec =
     tie.close
     (tie.spec
-    Inv-loop
-    μ-loop
-    mul-a
-    add-a
-    sub-a
-    loop-holds
-    mul-from
-    add-to
-    sub-stripe-in
-    part-stripe-in-start
-    part-stripe-in-end
-    stripe-in-requires
-    add-s
-    loop-less
-    loop-again
-    same-length
-    same-length-2
-    same-length-3
+    (λ c κs. let f = facts (st-at-slice-known3 c) in search needs)
+    board-rows-requires
+    share-work-requires
+    (λ c. search needs)
+    (λ c. search needs)
+    (λ c. search needs)
     returns)

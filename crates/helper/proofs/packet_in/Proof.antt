@@ -1,119 +1,97 @@
--- `helper::packet_in` meets its contract: the pairs so far, before what was there.
+-- `helper::packet_in` meets its contract: the factors, and the pairs by them.
 -- Assumes nothing.
-use mathlib.Core.Path.{_≡_, refl, ap, _∙_}
-use mathlib.Core.List.{_++_}
-use Prim.Native.Nat.{_≤_, _-_, _+_, _*_}
-use native.Mathlib.Omega.{arith}
+use mathlib.Core.Path.{_≡_, sym, ap, _∙_}
+use mathlib.Core.List.{List, _++_}
+use Prim.Native.Nat.{ℕ, _+_, _-_, _*_, _<_}
+use lib.ListN.{length, drop}
+use Rattle.lists.proofs.Alls.{all-of}
+use Rattle.sizes.specs.Sizing.{α}
+use Rattle.sizes.proofs.Legal.{Legal, legal-facts}
+use Rattle.helper.proofs.Packets.{packet-is}
 use borrow.Author.Needs.{needs}
-use lib.ListN.{length, drop, set, length-set}
-use Rattle.lists.specs.Lists.{join, piece}
-use Rattle.lists.proofs.Pieces.{two-turn, part-piece}
-use Rattle.sizes.proofs.Legal.{row-fits}
-use Rattle.own.specs.Steps.{pairOf}
-use Rattle.own.proofs.Made.{packet-made}
+use native.Mathlib.Omega.{arith}
 use Rattle.helper.proofs.packet_in.Statement.{statement}
 use Rattle.helper.proofs.packet_in.Tie as tie
 
-abbrev Inv-loop : tie.InvT-loop
-Inv-loop xs ys inverses x stripes held out₀ a s₀ out s =
-    (out ≡ join s (λ s. pairOf xs ys x (piece a s held)) ++ drop (s * 2) out₀) × (s ≤ stripes) × (length out ≡ length out₀)
+-- the places
+abbrev st-at-struct-known : tie.After-struct-known → tie.Start
+st-at-struct-known c = c .before .before .before .before .before .before .before
 
-abbrev μ-loop : tie.MeasureT-loop
-μ-loop xs ys inverses x stripes held out₀ a s₀ out s = stripes - s
+abbrev st-at-factors-from-arg : tie.After-factors-from-arg → tie.Start
+st-at-factors-from-arg c = c .before .before .before .before .before .before .before .before
 
-sub-a : tie.Need-sub-a Inv-loop μ-loop
-sub-a c = search needs
+abbrev st-at-factors-from-arg2 : tie.After-factors-from-arg2 → tie.Start
+st-at-factors-from-arg2 c = c .before .before .before .before .before .before .before .before .before .before .before .before
 
-add-a : tie.Need-add-a Inv-loop μ-loop
-add-a c = search needs
+abbrev st-at-pairs-arg3 : tie.After-pairs-arg3 → tie.Start
+st-at-pairs-arg3 c = c .before .before .before .before .before .before .before .before .before .before .before .before .before .before .before .before .before .before
 
-loop-holds : tie.Need-loop-holds Inv-loop μ-loop
-loop-holds c = search needs
+abbrev ff-at-pairs-arg3 : tie.After-pairs-arg3 → tie.After-ff
+ff-at-pairs-arg3 c = c .before .before .before .before .before .before .before .before
 
-mul-from : tie.Need-mul-from Inv-loop μ-loop
-mul-from c =
-    let a = c .before .before .before .before .before .before .before .args in
-    omega (arith, row-fits (c .before .loop .s) (a .stripes) (length (a .xs .now) + (length (a .ys .now) - 1)) (omega arith))
+abbrev st-at-slice-known6 : tie.After-slice-known6 → tie.Start
+st-at-slice-known6 c = c .before .before .before .before .before .before .before .before .before .before .before .before .before .before .before .before .before .before .before .before .before
 
-add-to : tie.Need-add-to Inv-loop μ-loop
-add-to c =
-    let a = c .before .before .before .before .before .before .before .args in
-    omega (arith, row-fits (c .before .loop .s) (a .stripes) (length (a .xs .now) + (length (a .ys .now) - 1)) (omega arith))
+abbrev shared-slice-known3-at-slice-known6 : tie.After-slice-known6 → tie.After-shared-slice-known3
+shared-slice-known3-at-slice-known6 c = c .before .before .before .before .before .before .before .before .before .before .before .before .before .before .before .before .before .before
 
-sub-helper-pair-in : tie.Need-sub-helper-pair-in Inv-loop μ-loop
-sub-helper-pair-in c = search needs
+abbrev factors-from-at-slice-known6 : tie.After-slice-known6 → tie.After-factors-from
+factors-from-at-slice-known6 c = c .before .before .before .before .before .before .before .before .before .before .before .before
 
-part-helper-pair-in-start : tie.Need-part-helper-pair-in-start Inv-loop μ-loop
-part-helper-pair-in-start c = search needs
+abbrev factors-from2-at-slice-known6 : tie.After-slice-known6 → tie.After-factors-from2
+factors-from2-at-slice-known6 c = c .before .before .before .before .before .before .before .before
 
-part-helper-pair-in-end : tie.Need-part-helper-pair-in-end Inv-loop μ-loop
-part-helper-pair-in-end c =
-    let a = c .before .before .before .before .before .before .before .args in
-    omega (arith, row-fits (c .before .loop .s) (a .stripes) (length (a .xs .now) + (length (a .ys .now) - 1)) (omega arith))
+facts : (c : tie.Start) → Legal (c .args .sizes)
+facts c = legal-facts _ (c .pre .0)
 
-helper-pair-in-requires : tie.Need-helper-pair-in-requires Inv-loop μ-loop
-helper-pair-in-requires c κs =
-    let g = c .before .before .before .before .before .before .before .before in
-    let e = row-fits (c .before .before .loop .s) (g .args .stripes) (length (g .args .xs .now) + (length (g .args .ys .now) - 1)) (omega arith) in
-    (g .pre .0, search needs, search needs, search needs, search needs, search needs)
+factors-from-requires : tie.Need-factors-from-requires
+factors-from-requires c κs =
+    let p = st-at-factors-from-arg c .pre in
+    let f = facts (st-at-factors-from-arg c) in
+    (p .3, p .1, p .5, f .few, p .9, p .10, omega arith)
 
-mul-at : tie.Need-mul-at Inv-loop μ-loop
-mul-at c = search needs
+factors-from-requires-2 : tie.Need-factors-from-requires-2
+factors-from-requires-2 c κs =
+    let p = st-at-factors-from-arg2 c .pre in
+    let f = facts (st-at-factors-from-arg2 c) in
+    (p .3, p .1, p .5, f .few, p .11, p .12, omega arith)
 
-add-next : tie.Need-add-next Inv-loop μ-loop
-add-next c = search needs
-
-slice-write-out : tie.Need-slice-write-out Inv-loop μ-loop
-slice-write-out c = search needs
-
-slice-write-out-2 : tie.Need-slice-write-out-2 Inv-loop μ-loop
-slice-write-out-2 c = omega (arith, length-set (c .before .before .before .loop .out) (c .before .before .before .loop .s * 2) (c .helper-pair-in .result .first))
-
-add-s : tie.Need-add-s Inv-loop μ-loop
-add-s c = search needs
-
-loop-less : tie.Need-loop-less Inv-loop μ-loop
-loop-less c = search needs
-
-loop-again : tie.Need-loop-again Inv-loop μ-loop
-loop-again c =
-    let l = c .before .before .before .loop in
-    let a = c .before .before .before .before .before .before .before .before .before .args in (
-      two-turn _ (a .out .now) (l .out) (l .s) _ _ (λ i. refl) (omega arith) (l .inv .2) (c .helper-pair-in .ensures ∙ ap (pairOf (a .xs .now) (a .ys .now) (a .x)) (part-piece (length (a .xs .now) + (length (a .ys .now) - 1)) (l .s) (a .held .now))) (l .inv .0),
+pairs-requires : tie.Need-pairs-requires
+pairs-requires c κs =
+    let a = st-at-pairs-arg3 c .args in
+    let p = st-at-pairs-arg3 c .pre in
+    let f = facts (st-at-pairs-arg3 c) in
+    let z = a .sizes in
+    let α′ : z .d + z .r + z .d - 1 ≡ α z = omega arith in (
       omega arith,
-      length-set (set (l .out) (l .s * 2) _) _ _ ∙ length-set (l .out) (l .s * 2) _ ∙ l .inv .2,
+      omega arith,
+      p .7 ∙ ap (λ (m : ℕ). a .stripes * m) (sym α′),
+      omega (arith, ff-at-pairs-arg3 c .ff .given),
+      omega (arith, c .before .before .before .before .gf .given),
+      omega arith,
+      omega arith,
+      p .8,
     )
 
-same-length : tie.Need-same-length Inv-loop μ-loop
-same-length c = search needs
-
-returns : tie.Need-returns Inv-loop μ-loop
+returns : tie.Need-returns
 returns c =
-    let l = c .before .loop in
-    let a = c .before .before .before .before .before .before .before .args in
-    packet-made (a .xs .now) (a .ys .now) (a .x) (a .stripes) (a .held .now) (a .out .now) (l .out) (l .s) (omega arith) (l .inv .0)
+    let a = st-at-slice-known6 c .args in
+    let p = st-at-slice-known6 c .pre in
+    let b = all-of (λ x. x < 256) 0 (a .held .now) (λ i l. omega (arith, shared-slice-known3-at-slice-known6 c .shared-slice-known3 .given i)) in
+    c .before .before .pairs .ensures
+    ∙ ap (λ (l : List ℕ). l ++ drop (2 * a .stripes) (a .out .now))
+    (packet-is (a .sizes) (a .points .now) (facts (st-at-slice-known6 c)) (p .2) (a .j) (a .i) (p .5) (a .stripes) (length (a .ff .now)) (length (a .gf .now)) _ _ (a .held .now)
+    (p .9) (p .11) (factors-from-at-slice-known6 c .factors-from .ensures) (factors-from2-at-slice-known6 c .factors-from2 .ensures) (p .7) b)
 
 pub packet-in-spec : {M : Type 1} → statement M
 packet-in-spec =
     tie.close
     (tie.spec
-    Inv-loop
-    μ-loop
-    sub-a
-    add-a
-    loop-holds
-    mul-from
-    add-to
-    sub-helper-pair-in
-    part-helper-pair-in-start
-    part-helper-pair-in-end
-    helper-pair-in-requires
-    mul-at
-    add-next
-    slice-write-out
-    slice-write-out-2
-    add-s
-    loop-less
-    loop-again
-    same-length
+    (λ c. let f = facts (st-at-struct-known c) in search needs)
+    factors-from-requires
+    factors-from-requires-2
+    pairs-requires
+    (λ c. search needs)
+    (λ c. search needs)
+    (λ c. search needs)
     returns)

@@ -1,31 +1,38 @@
--- `store_write::write_shares` meets its contract. The loop's invariant: the shares of the boards so far are in their places.
+-- `store_write::write_shares` meets its contract. The callees' contracts, put together.
 -- Assumes nothing.
-use mathlib.Core.Path.{_≡_, refl, sym, ap, _∙_}
-use mathlib.Core.Bool.{true}
-use mathlib.Core.List.{List, []}
-use Prim.Native.Nat.{ℕ, _+_, _*_, _-_, _≤_}
-use native.Mathlib.Nat.{mul-le-mul-right}
+use mathlib.Core.Path.{refl}
+use Prim.Native.Nat.{ℕ, _+_, _*_, _≤_}
 use native.Mathlib.Omega.{arith}
-use lib.ListN.{length, length-drop}
-use lib.Seq.{length-take-le}
 use borrow.Author.Needs.{needs}
-use Rattle.lists.specs.Lists.{tabulate}
+use mathlib.Core.Bool.{true}
+use mathlib.Core.List.{[]}
+use native.Mathlib.Nat.{mul-le-mul-right}
+use Rattle.sizes.proofs.Legal.{legal-facts, α-most}
 use Rattle.sizes.specs.Sizing.{α}
-use Rattle.sizes.proofs.Legal.{legal-facts, α-most, row-fits}
-use Rattle.mbcr.specs.Share.{share}
-use Rattle.mbcr.proofs.Repair.{length-share}
-use Rattle.store_spec.specs.Record.{putShares}
+use Rattle.powers.proofs.Turns.{powers-tabled}
 use Rattle.store_checks.specs.Steps.{recordOf}
-use Rattle.store_write.proofs.Places.{part-holds, puts-turn}
+use Rattle.store_write.proofs.Places.{shares-put}
 use Rattle.store_write.proofs.write_shares.Statement.{statement}
 use Rattle.store_write.proofs.write_shares.Tie as tie
 
-abbrev Inv-loop : tie.InvT-loop
-Inv-loop sizes capacity points file count area₀ w n i₀ area i =
-    (area ≡ putShares (recordOf sizes capacity true 0 []) (share sizes points file) (tabulate i (λ j. j)) area₀) × (i ≤ n) × (length area ≡ length area₀)
+-- places in the code
+abbrev st : tie.After-struct-known2 → tie.Start
+st c = c .before .before .before .before .before
 
-abbrev μ-loop : tie.MeasureT-loop
-μ-loop sizes capacity points file count area₀ w n i₀ area i = n - i
+abbrev st-2 : tie.After-struct-known3 → tie.Start
+st-2 c = c .before .before .before .before .before .before
+
+abbrev st-3 : tie.After-tables → tie.Start
+st-3 c = c .before .before .before .before .before .before .before
+
+abbrev st-4 : tie.After-write-stripes-arg → tie.Start
+st-4 c = c .before .before .before .before .before .before .before .before .before .before .before .before .before
+
+abbrev fill-powers : tie.After-slice-known2 → tie.After-fill-powers
+fill-powers c = c .before .before .before .before .before .before .before .before .before .before
+
+abbrev st-5 : tie.After-slice-known2 → tie.Start
+st-5 c = (fill-powers c) .before .before .before .before .before .before .before .before
 
 -- a board's part is at most 4,096 stripes of 62 bytes
 part-most : (a c : ℕ) → c ≤ 4096 → a ≤ 62 → c * a ≤ 253952
@@ -33,81 +40,59 @@ part-most a c h k =
     let p : c * a ≤ 4096 * a = mul-le-mul-right a h in
     omega arith
 
-mul-w : tie.Need-mul-w Inv-loop μ-loop
-mul-w c = omega (arith, legal-facts _ (c .before .before .before .before .pre .0))
+mul-part : tie.Need-mul-part
+mul-part c = omega (arith, legal-facts _ (c .before .before .before .before .pre .0))
 
-add-w : tie.Need-add-w Inv-loop μ-loop
-add-w c = omega (arith, legal-facts _ (c .before .before .before .before .before .pre .0))
+add-part : tie.Need-add-part
+add-part c = omega (arith, legal-facts _ ((st c) .pre .0))
 
-sub-w : tie.Need-sub-w Inv-loop μ-loop
-sub-w c = omega (arith, legal-facts _ (c .before .before .before .before .before .pre .0))
+sub-part : tie.Need-sub-part
+sub-part c = omega (arith, legal-facts _ ((st c) .pre .0))
 
-mul-w-2 : tie.Need-mul-w-2 Inv-loop μ-loop
-mul-w-2 c = omega (arith, part-most (α (c .before .before .before .before .before .args .sizes)) (c .before .before .before .before .before .args .capacity) (c .before .before .before .before .before .pre .1) (α-most _ (legal-facts _ (c .before .before .before .before .before .pre .0))))
+mul-part-2 : tie.Need-mul-part-2
+mul-part-2 c =
+    let s = st c in omega (arith, part-most (α (s .args .sizes)) (s .args .capacity) (s .pre .1) (α-most _ (legal-facts _ (s .pre .0))))
 
-loop-holds : tie.Need-loop-holds Inv-loop μ-loop
-loop-holds c = (refl, omega arith, refl)
+add-m : tie.Need-add-m
+add-m c = omega (arith, legal-facts _ ((st-2 c) .pre .0))
 
--- where the part of a turn ends
-end : (c : tie.In-loop Inv-loop μ-loop)
-    → let a = c .before .before .before .before .before .before .before .args in
-    let w = a .capacity * α (a .sizes) in c .before .loop .i * w + w ≤ a .sizes .n * w
-end c = row-fits _ _ _ (c .loop-test .taken)
+slice-aggregate-fill-powers : tie.Need-slice-aggregate-fill-powers
+slice-aggregate-fill-powers c = search needs
 
-mul-at : tie.Need-mul-at Inv-loop μ-loop
-mul-at c = omega (arith, end c)
+fill-powers-requires : tie.Need-fill-powers-requires
+fill-powers-requires c κs =
+    let s = st-3 c in let f = legal-facts _ (s .pre .0) in (s .pre .2, omega (arith, f .enough, f .few), omega (arith, f .enough, f .few))
 
-add-end : tie.Need-add-end Inv-loop μ-loop
-add-end c = omega (arith, end c)
+slice-aggregate-write-stripes : tie.Need-slice-aggregate-write-stripes
+slice-aggregate-write-stripes c = search needs
 
-sub-share : tie.Need-sub-share Inv-loop μ-loop
-sub-share c = search needs
+slice-aggregate-write-stripes-2 : tie.Need-slice-aggregate-write-stripes-2
+slice-aggregate-write-stripes-2 c = search needs
 
-part-share-start : tie.Need-part-share-start Inv-loop μ-loop
-part-share-start c = search needs
+slice-aggregate-write-stripes-3 : tie.Need-slice-aggregate-write-stripes-3
+slice-aggregate-write-stripes-3 c = search needs
 
-part-share-end : tie.Need-part-share-end Inv-loop μ-loop
-part-share-end c = omega (arith, end c)
-
-share-requires : tie.Need-share-requires Inv-loop μ-loop
-share-requires c κs =
-    let s = c .before .before .before .before .before .before .before .before in
+write-stripes-requires : tie.Need-write-stripes-requires
+write-stripes-requires c κs =
+    let s = st-4 c in
     let a = s .args in
     let f = legal-facts _ (s .pre .0) in
-    let m = α-most _ f in
-    (s .pre .0, c .before .loop-test .taken, s .pre .2, s .pre .3, omega arith, part-holds _ _ _ (c .before .before .loop .area) (mul-le-mul-right (α (a .sizes)) (s .pre .4)) (omega (arith, end (c .before), c .before .before .loop .inv .2, s .pre .5)))
+    (s .pre .0, search needs, part-most (α (a .sizes)) (a .capacity) (s .pre .1) (α-most _ f), omega (arith, s .pre .1, s .pre .4), mul-le-mul-right (α (a .sizes)) (s .pre .4), refl, refl, s .pre .5)
 
-add-i : tie.Need-add-i Inv-loop μ-loop
-add-i c = search needs
-
-loop-less : tie.Need-loop-less Inv-loop μ-loop
-loop-less c = search needs
-
-loop-again : tie.Need-loop-again Inv-loop μ-loop
-loop-again c =
-    let v = c .before .before in
-    let b = v .before .before .before in
-    let l = b .loop in
-    let s = b .before .before .before .before .before .before in
-    let a = s .args in (
-      puts-turn (recordOf (a .sizes) (a .capacity) true 0 []) (share (a .sizes) (a .points .now) (a .file .now)) (l .i) (a .count * α (a .sizes)) (a .area .now) (l .area) _
-          (length-share (a .sizes) (a .points .now) (legal-facts _ (s .pre .0)) (a .file .now) (l .i) ∙ ap (λ (m : ℕ). m * α (a .sizes)) (sym (s .pre .3)))
-          (mul-le-mul-right (α (a .sizes)) (s .pre .4)) (omega (arith, end (v .before .before), l .inv .2, s .pre .5)) (l .inv .0) (v .share .ensures),
-      omega arith,
-      search needs,
-    )
-
-same-length : tie.Need-same-length Inv-loop μ-loop
+same-length : tie.Need-same-length
 same-length c = search needs
 
-returns : tie.Need-returns Inv-loop μ-loop
+returns : tie.Need-returns
 returns c =
-    let l = c .before .loop in
-    let a = c .before .before .before .before .before .before .before .args in
-    let e : l .i ≡ a .sizes .n = omega arith in
-    l .inv .0 ∙ ap (λ (m : ℕ). putShares (recordOf (a .sizes) (a .capacity) true 0 []) (share (a .sizes) (a .points .now) (a .file .now)) (tabulate m (λ j. j)) (a .area .now)) e
+    let s = st-5 c in
+    let a = s .args in
+    let z = a .sizes in
+    let xs = a .points .now in
+    let t = powers-tabled xs _ _ (z .d + z .r) (s .pre .2) ((fill-powers c) .fill-powers .ensures) in
+    shares-put (recordOf z (a .capacity) true 0 []) z xs (a .file .now) (a .area .now) _ (a .count) (s .pre .3) (c .before .before .before .before .write-stripes .ensures xs (s .pre .2) t)
 
 pub write-shares-spec : {M : Type 1} → statement M
 write-shares-spec =
     tie.close
-    (tie.spec Inv-loop μ-loop mul-w add-w sub-w mul-w-2 loop-holds mul-at add-end sub-share part-share-start part-share-end share-requires add-i loop-less loop-again same-length returns)
+    (tie.spec mul-part add-part sub-part mul-part-2 add-m slice-aggregate-fill-powers fill-powers-requires slice-aggregate-write-stripes
+    slice-aggregate-write-stripes-2 slice-aggregate-write-stripes-3 write-stripes-requires same-length returns)

@@ -1,7 +1,7 @@
 -- `store::Store::write` meets its contract: it hands on what its check refuses, and past it the shares are written.
 -- Assumes nothing.
 use Prim.Native.Nat.{ℕ, _*_, _≤_}
-use mathlib.Core.Path.{_≡_, refl, sym, _∙_}
+use mathlib.Core.Path.{_≡_, refl, sym, ap, _∙_}
 use native.Mathlib.Nat.{mul-le-mul-right}
 use native.Mathlib.Omega.{arith}
 use mathlib.Core.List.{[]}
@@ -14,7 +14,6 @@ use Rattle.mbcr.specs.Share.{standard}
 use Rattle.store_spec.specs.Record.{Record}
 use Rattle.store_spec.specs.Calls.{refused, writeCall}
 use Rattle.store_spec.proofs.Records.{Sound, sound-facts, Writes, write-facts}
-use Rattle.shared_checks.proofs.Facts.{standard-enough}
 use Rattle.store.specs.Handing.{recordIn}
 use Rattle.store.proofs.Settled.{checked, write-refuses, write-works}
 use Rattle.store.proofs.Store.write.Statement.{statement}
@@ -53,8 +52,8 @@ shares-ask c κs =
     let f = sound-on t in
     let g = legal-facts _ (f .is-legal) in
     let e = n .stripe-count .ensures .0 in
-    let l = standard-enough _ (n .before .standard-points .ensures) in
-    (f .is-legal, f .cap-high, omega (arith, l, g .few), e, rw e (stripes-least (s .sizes) g _ (s .capacity) (facts t .file-fits)), facts t .area-is)
+    let l : length (n .before .standard-points .result) ≡ 32 = ap length (n .before .standard-points .ensures) in
+    (f .is-legal, f .cap-high, l, e, rw e (stripes-least (s .sizes) g _ (s .capacity) (facts t .file-fits)), facts t .area-is)
 
 write-done : tie.Need-returns-2
 write-done c =

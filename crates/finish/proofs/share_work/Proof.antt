@@ -1,0 +1,54 @@
+-- `finish::share_work` meets its contract: space is lent.
+-- Assumes nothing.
+use lib.ListN.{length}
+use Rattle.sizes.proofs.Legal.{Legal, legal-facts}
+use borrow.Author.Needs.{needs}
+use native.Mathlib.Omega.{arith}
+use Rattle.finish.proofs.share_work.Statement.{statement}
+use Rattle.finish.proofs.share_work.Tie as tie
+
+-- the places
+abbrev st-at-struct-known : tie.After-struct-known → tie.Start
+st-at-struct-known c = c .before .before .before .before .before
+
+abbrev st-at-firsts : tie.After-firsts → tie.Start
+st-at-firsts c = c .before .before .before .before .before .before
+
+abbrev st-at-got : tie.After-got → tie.Start
+st-at-got c = c .before .before .before .before .before .before .before
+
+abbrev st-at-g : tie.After-g → tie.Start
+st-at-g c = c .before .before .before .before .before .before .before .before
+
+abbrev st-at-share-by-arg : tie.After-share-by-arg → tie.Start
+st-at-share-by-arg c = c .before .before .before .before .before .before .before .before .before .before
+
+facts : (c : tie.Start) → Legal (c .args .sizes)
+facts c = legal-facts _ (c .pre .0)
+
+share-by-requires : tie.Need-share-by-requires
+share-by-requires c κs =
+    let p = st-at-share-by-arg c .pre in
+    let f = facts (st-at-share-by-arg c) in
+    (p .0, p .1, p .2, p .3, p .4, p .5, search needs, search needs, p .6, p .7, search needs, search needs, p .8)
+
+pub share-work-spec : {M : Type 1} → statement M
+share-work-spec =
+    tie.close
+    (tie.spec
+    (λ c. let f = facts (st-at-struct-known c) in search needs)
+    (λ c. search needs)
+    (λ c. search needs)
+    (λ c. let f = facts (st-at-struct-known c) in search needs)
+    (λ c. search needs)
+    (λ c. search needs)
+    (λ c. let f = facts (st-at-firsts c) in search needs)
+    (λ c. search needs)
+    (λ c. search needs)
+    (λ c. let f = facts (st-at-got c) in search needs)
+    (λ c. search needs)
+    (λ c. search needs)
+    (λ c. let f = facts (st-at-g c) in search needs)
+    share-by-requires
+    (λ c. search needs)
+    (λ c. search needs))

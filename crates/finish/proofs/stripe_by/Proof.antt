@@ -1,0 +1,115 @@
+-- `finish::stripe_by` meets its contract: the callees' contracts, put together.
+-- Assumes nothing.
+use mathlib.Core.Path.{_≡_, ap, _∙_}
+use mathlib.Core.List.{List}
+use Prim.Native.Nat.{ℕ, _+_, _*_, _-_, _≤_}
+use native.Mathlib.Nat.{sub-zero}
+use lib.ListN.{length, take, drop, length-take, length-drop}
+use lib.Seq.{take-all}
+use Rattle.sizes.specs.Sizing.{α}
+use Rattle.sizes.proofs.Legal.{Legal, legal-facts}
+use Rattle.finish.proofs.Shares.{stripe-step}
+use borrow.Author.Needs.{needs}
+use native.Mathlib.Omega.{arith}
+use Rattle.finish.proofs.stripe_by.Statement.{statement}
+use Rattle.finish.proofs.stripe_by.Tie as tie
+
+-- the places
+abbrev st-at-gather-arg : tie.After-gather-arg → tie.Start
+st-at-gather-arg c = c .before .before .before .before .before .before .before .before .before .before .before .before .before .before
+
+abbrev st-at-row-sums-arg : tie.After-row-sums-arg → tie.Start
+st-at-row-sums-arg c = c .before .before .before .before .before .before .before .before .before .before .before .before .before .before .before .before .before .before
+
+abbrev st-at-row-sums-arg3 : tie.After-row-sums-arg3 → tie.Start
+st-at-row-sums-arg3 c = c .before .before .before .before .before .before .before .before .before .before .before .before .before .before .before .before .before .before .before .before
+
+abbrev firsts-at-row-sums-arg3 : tie.After-row-sums-arg3 → tie.After-firsts
+firsts-at-row-sums-arg3 c = c .before .before .before .before .before .before .before .before
+
+abbrev st-at-finish-arg5 : tie.After-finish-arg5 → tie.Start
+st-at-finish-arg5 c = c .before .before .before .before .before .before .before .before .before .before .before .before .before .before .before .before .before .before .before .before .before .before .before .before .before .before .before .before
+
+abbrev got-at-finish-arg5 : tie.After-finish-arg5 → tie.After-got
+got-at-finish-arg5 c = c .before .before .before .before .before .before .before .before .before .before .before .before
+
+abbrev g-at-finish-arg5 : tie.After-finish-arg5 → tie.After-g
+g-at-finish-arg5 c = c .before .before .before .before .before .before
+
+abbrev st-at-slice-known11 : tie.After-slice-known11 → tie.Start
+st-at-slice-known11 c = c .before .before .before .before .before .before .before .before .before .before .before .before .before .before .before .before .before .before .before .before .before .before .before .before .before .before .before .before .before .before .before .before .before .before .before
+
+abbrev finish-at-slice-known11 : tie.After-slice-known11 → tie.After-finish
+finish-at-slice-known11 c = c .before .before .before .before .before .before
+
+abbrev row-sums-at-slice-known11 : tie.After-slice-known11 → tie.After-row-sums
+row-sums-at-slice-known11 c = c .before .before .before .before .before .before .before .before .before .before .before .before .before .before
+
+abbrev received-at-slice-known11 : tie.After-slice-known11 → tie.After-received
+received-at-slice-known11 c = c .before .before .before .before .before .before .before .before .before .before .before .before .before .before .before .before .before .before .before .before .before .before .before .before
+
+abbrev gather-at-slice-known11 : tie.After-slice-known11 → tie.After-gather
+gather-at-slice-known11 c = c .before .before .before .before .before .before .before .before .before .before .before .before .before .before .before .before .before .before .before .before
+
+abbrev got-at-slice-known11 : tie.After-slice-known11 → tie.After-got
+got-at-slice-known11 c = c .before .before .before .before .before .before .before .before .before .before .before .before .before .before .before .before .before .before .before
+
+facts : (c : tie.Start) → Legal (c .args .sizes)
+facts c = legal-facts _ (c .pre .0)
+
+gather-requires : tie.Need-gather-requires
+gather-requires c κs = let p = st-at-gather-arg c .pre in ((facts (st-at-gather-arg c)) .some-fresh, p .2, p .3, p .5, p .6, p .8)
+
+row-sums-requires : tie.Need-row-sums-requires
+row-sums-requires c κs =
+    let f = facts (st-at-row-sums-arg3 c) in
+    let p = st-at-row-sums-arg3 c .pre in
+    let a = st-at-row-sums-arg3 c .args in
+    let l = firsts-at-row-sums-arg3 c .firsts .given in
+    let r : length (take (a .sizes .d * 32 - 0) (drop 0 (a .rows .now))) ≡ a .sizes .d * 32 = simp length-take (omega arith) in
+    (omega arith, omega arith, omega arith)
+
+finish-requires : tie.Need-finish-requires
+finish-requires c κs =
+    let f = facts (st-at-finish-arg5 c) in
+    let p = st-at-finish-arg5 c .pre in
+    let a = st-at-finish-arg5 c .args in
+    let l = got-at-finish-arg5 c .got .given in
+    let g = g-at-finish-arg5 c .g .given in
+    let r : length (take (length (a .rows .now) - a .sizes .d * 32) (drop (a .sizes .d * 32) (a .rows .now))) ≡ (a .sizes .d + a .sizes .r) * 32 =
+    simp (length-take, length-drop) (omega arith) in
+    (p .1, f .few, omega arith, omega arith, omega arith, omega arith, p .9, p .10, omega arith)
+
+returns : tie.Need-returns
+returns c =
+    let f = facts (st-at-slice-known11 c) in
+    let p = st-at-slice-known11 c .pre in
+    let a = st-at-slice-known11 c .args in
+    let z = a .sizes in
+    let m : ℕ = z .d * 32 in
+    stripe-step z (a .i) (length (a .f .now)) (length (a .g .now)) (a .stripes) (a .s) _ _ (length (a .got .now)) (a .rows .now) (a .packets .now) (a .exchanges .now) _ _ _ _ _ _
+    (finish-at-slice-known11 c .finish .ensures) (row-sums-at-slice-known11 c .row-sums .ensures) (p .11) (received-at-slice-known11 c .received .ensures) (gather-at-slice-known11 c .gather .ensures)
+    (ap (λ (k : ℕ). take k (a .rows .now)) (sub-zero m)) (take-all (length (a .rows .now) - m) (drop m (a .rows .now)) (simp length-drop (omega arith)))
+    (omega (arith, got-at-slice-known11 c .got .given)) (got-at-slice-known11 c .got .given)
+
+pub stripe-by-spec : {M : Type 1} → statement M
+stripe-by-spec =
+    tie.close
+    (tie.spec
+    (λ c. search needs)
+    (λ c κs. search needs)
+    gather-requires
+    (λ c. search needs)
+    (λ c. search needs)
+    (λ c. let p = st-at-row-sums-arg c .pre in omega arith)
+    row-sums-requires
+    (λ c. search needs)
+    (λ c. search needs)
+    (λ c. search needs)
+    finish-requires
+    (λ c. search needs)
+    (λ c. search needs)
+    (λ c. search needs)
+    (λ c. search needs)
+    (λ c. search needs)
+    returns)

@@ -1,0 +1,2 @@
+// Bytes put at many places: definitions and laws only.
+// Assumes nothing.

@@ -1,0 +1,43 @@
+-- `row_sums::row_at` meets its contract.
+-- Assumes nothing.
+use Rattle.row_sums.proofs.Words.{row-run}
+use borrow.Author.Needs.{needs}
+use Rattle.row_sums.proofs.row_at.Statement.{statement}
+use Rattle.row_sums.proofs.row_at.Tie as tie
+
+-- places in the code
+abbrev st : tie.After-word-at4 → tie.Start
+st c = c .before .before .before .before .before
+
+word-at-requires : tie.Need-word-at-requires
+word-at-requires c κs = search needs
+
+add-word-at : tie.Need-add-word-at
+add-word-at c = search needs
+
+word-at-requires-2 : tie.Need-word-at-requires-2
+word-at-requires-2 c κs = search needs
+
+add-word-at-2 : tie.Need-add-word-at-2
+add-word-at-2 c = search needs
+
+word-at-requires-3 : tie.Need-word-at-requires-3
+word-at-requires-3 c κs = search needs
+
+add-word-at-3 : tie.Need-add-word-at-3
+add-word-at-3 c = search needs
+
+word-at-requires-4 : tie.Need-word-at-requires-4
+word-at-requires-4 c κs = search needs
+
+returns : tie.Need-returns
+returns c =
+    let s = st c in
+    row-run (s .args .t .now) (s .args .i)
+    (record { a = c .before .before .before .word-at .result; b = c .before .before .word-at2 .result; c = c .before .word-at3 .result; d = c .word-at4 .result })
+    (c .before .before .before .word-at .ensures) (c .before .before .word-at2 .ensures) (c .before .word-at3 .ensures) (c .word-at4 .ensures)
+
+pub row-at-spec : {M : Type 1} → statement M
+row-at-spec =
+    tie.close
+    (tie.spec word-at-requires add-word-at word-at-requires-2 add-word-at-2 word-at-requires-3 add-word-at-3 word-at-requires-4 returns)

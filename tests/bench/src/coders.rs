@@ -1,0 +1,99 @@
+//! The three coders that are measured, behind the same calls.
+
+use zebrankai::{board, Record, Sizes};
+
+/// A coder at work on one store. Each call is one that is accepted.
+pub trait Coder {
+    /// A file to all boards.
+    fn write(&mut self, file: &[u8], area: &mut [u8]);
+    /// The file from k boards.
+    fn read(&mut self, boards: &[usize], area: &[u8], out: &mut [u8]);
+    /// r fresh boards; the bytes moved.
+    fn repair(&mut self, fresh: &[usize], helpers: &[usize], area: &mut [u8]) -> usize;
+    /// One board's share of a file.
+    fn share(&mut self, node: usize, file: &[u8], out: &mut [u8]);
+}
+
+/// The coders in the order of their turns, over a store of these sizes with room for so many stripes.
+pub fn all(sizes: Sizes, stripes: usize) -> [Box<dyn Coder>; 3] {
+    let record = Record::set_up(sizes, stripes).expect("the sizes are legal");
+    let Sizes { n, k, d, r } = sizes;
+    let plain_sizes = plain::Sizes { n, k, d, r };
+    let words = record.words();
+    [
+        Box::new(Archive { record }),
+        Box::new(Plain { sizes: plain_sizes, words }),
+        Box::new(Kernels { sizes: plain_sizes, stripes }),
+    ]
+}
+
+/// The archive.
+struct Archive {
+    record: Record,
+}
+
+impl Coder for Archive {
+    fn write(&mut self, file: &[u8], area: &mut [u8]) {
+        self.record.write(area, file).expect("a write is accepted");
+    }
+
+    fn read(&mut self, boards: &[usize], area: &[u8], out: &mut [u8]) {
+        self.record.read(area, boards, out).expect("a read is accepted");
+    }
+
+    fn repair(&mut self, fresh: &[usize], helpers: &[usize], area: &mut [u8]) -> usize {
+        self.record.repair(area, fresh, helpers).expect("a repair is accepted")
+    }
+
+    fn share(&mut self, node: usize, file: &[u8], out: &mut [u8]) {
+        board::share(self.record.sizes(), node, file, out).expect("a share is given");
+    }
+}
+
+/// The plain coder.
+struct Plain {
+    sizes: plain::Sizes,
+    words: [u64; 8],
+}
+
+impl Coder for Plain {
+    fn write(&mut self, file: &[u8], area: &mut [u8]) {
+        plain::store::write(&mut self.words, area, file).expect("a write is accepted");
+    }
+
+    fn read(&mut self, boards: &[usize], area: &[u8], out: &mut [u8]) {
+        plain::store::read(&self.words, area, boards, out).expect("a read is accepted");
+    }
+
+    fn repair(&mut self, fresh: &[usize], helpers: &[usize], area: &mut [u8]) -> usize {
+        plain::store::repair(&mut self.words, area, fresh, helpers).expect("a repair is accepted")
+    }
+
+    fn share(&mut self, node: usize, file: &[u8], out: &mut [u8]) {
+        plain::board::share(self.sizes, node, file, out).expect("a share is given");
+    }
+}
+
+/// The kernels' algorithm in plain Rust, with products by table.
+struct Kernels {
+    sizes: plain::Sizes,
+    stripes: usize,
+}
+
+impl Coder for Kernels {
+    fn write(&mut self, file: &[u8], area: &mut [u8]) {
+        plain_kernels::write(self.sizes, file, area);
+    }
+
+    fn read(&mut self, boards: &[usize], area: &[u8], out: &mut [u8]) {
+        assert!(plain_kernels::read(self.sizes, boards, area, out), "a read is accepted");
+    }
+
+    fn repair(&mut self, fresh: &[usize], helpers: &[usize], area: &mut [u8]) -> usize {
+        plain_kernels::repair(self.sizes, self.stripes, fresh, helpers, area)
+    }
+
+    fn share(&mut self, node: usize, file: &[u8], out: &mut [u8]) {
+        plain_kernels::share(self.sizes, node, file, out);
+    }
+}

@@ -1,0 +1,105 @@
+//! r fresh boards together, by factors of what their helpers keep.
+
+use crate::encode::keep;
+use crate::interpolate::lagrange;
+use crate::rows::{add_multiples, dot, Rows};
+use crate::{from_board, Sizes};
+
+/// A fresh board.
+struct Fresh<'a> {
+    board: usize,
+    helpers: &'a [usize],
+    /// for each helper, the factors by which the values of f, and of g, that it keeps give the one at this board
+    of_f: Rows,
+    of_g: Rows,
+    /// g at all boards from values at the helpers, and f from values at the helpers, the partners and this board
+    by_g: Rows,
+    by_f: Rows,
+    /// what the helpers send of a stripe, and g at all boards
+    firsts: Vec<u8>,
+    seconds: Vec<u8>,
+    g: Vec<u8>,
+}
+
+impl<'a> Fresh<'a> {
+    /// The factors are still to be set.
+    fn new(sizes: Sizes, board: usize, fresh: &[usize], helpers: &'a [usize]) -> Fresh<'a> {
+        let Sizes { n, d, r, .. } = sizes;
+        let partners = fresh.iter().copied().filter(|&partner| partner != board);
+        let heard: Vec<usize> = helpers.iter().copied().chain(partners).chain([board]).collect();
+        Fresh {
+            board,
+            helpers,
+            of_f: Rows::new(d, d + r),
+            of_g: Rows::new(d, d),
+            by_g: lagrange(sizes, helpers),
+            by_f: lagrange(sizes, &heard),
+            firsts: vec![0; d],
+            seconds: vec![0; d],
+            g: vec![0; n],
+        }
+    }
+
+    /// Sets the factors of a helper, where it is one of this board's, by Lagrange's polynomials for the boards that it keeps values at.
+    fn set_factors(&mut self, helper: usize, for_f: &Rows, for_g: &Rows) {
+        if let Some(h) = self.helpers.iter().position(|&other| other == helper) {
+            self.of_f.set_row(h, for_f.column(self.board));
+            self.of_g.set_row(h, for_g.column(self.board));
+        }
+    }
+
+    /// Hears the helpers of stripe s, and makes g of their first bytes.
+    fn hear(&mut self, sizes: Sizes, area: &[u8], s: usize) {
+        let board_len = area.len() / sizes.n;
+        for (h, &helper) in self.helpers.iter().enumerate() {
+            let held = &area[helper * board_len + s * sizes.share_len()..][..sizes.share_len()];
+            let (f, rest) = held.split_at(sizes.d + sizes.r);
+            self.firsts[h] = dot(self.of_f.row(h), f);
+            // g's values: the first byte, then the last d − 1
+            let (first, others) = self.of_g.row(h).split_at(1);
+            self.seconds[h] = dot(first, f) ^ dot(others, rest);
+        }
+        self.g.fill(0);
+        add_multiples(&mut self.g, self.firsts.iter().copied(), self.by_g.iter());
+    }
+}
+
+/// The shares of the fresh boards, each from its own d helpers and the other fresh boards, over so many stripes; the bytes that boards send each
+/// other for it.
+pub fn repair(sizes: Sizes, stripes: usize, fresh: &[usize], helpers: &[usize], area: &mut [u8]) -> usize {
+    let board_len = area.len() / sizes.n;
+    let mut all = prepared(sizes, fresh, helpers);
+    let mut f = vec![0; sizes.n];
+    for s in 0..stripes {
+        for one in &mut all {
+            one.hear(sizes, area, s);
+        }
+        for one in &all {
+            let board = one.board;
+            let sent = all.iter().filter(|other| other.board != board).map(|other| other.g[board]);
+            let heard = one.seconds.iter().copied().chain(sent).chain([one.g[board]]);
+            f.fill(0);
+            add_multiples(&mut f, heard, one.by_f.iter());
+            let held = &mut area[board * board_len + s * sizes.share_len()..][..sizes.share_len()];
+            keep(sizes, board, |y| f[y], |x| one.g[x], held);
+        }
+    }
+    stripes * sizes.r * (2 * sizes.d + sizes.r - 1)
+}
+
+/// The fresh boards with all that depends on sizes and lists alone.
+fn prepared<'a>(sizes: Sizes, fresh: &[usize], helpers: &'a [usize]) -> Vec<Fresh<'a>> {
+    let Sizes { n, d, r, .. } = sizes;
+    let lists = helpers.chunks(d);
+    let mut all: Vec<Fresh> =
+        fresh.iter().zip(lists).map(|(&board, helpers)| Fresh::new(sizes, board, fresh, helpers)).collect();
+    for helper in (0..n).filter(|board| helpers.contains(board)) {
+        let near: Vec<usize> = from_board(sizes, helper).collect();
+        let for_f = lagrange(sizes, &near[..d + r]);
+        let for_g = lagrange(sizes, &near[..d]);
+        for one in &mut all {
+            one.set_factors(helper, &for_f, &for_g);
+        }
+    }
+    all
+}

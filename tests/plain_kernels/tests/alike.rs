@@ -1,0 +1,102 @@
+//! The plain coder and the kernels' algorithm give the same bytes, over all sizes of few boards and some of many, with true and damaged areas.
+
+use plain::{store, Sizes};
+
+/// Numbers that differ from call to call.
+struct Numbers(u64);
+
+impl Numbers {
+    fn below(&mut self, bound: usize) -> usize {
+        self.0 = self.0.wrapping_mul(6_364_136_223_846_793_005).wrapping_add(1_442_695_040_888_963_407);
+        (self.0 >> 33) as usize % bound
+    }
+
+    fn bytes(&mut self, count: usize) -> Vec<u8> {
+        (0..count).map(|_| self.below(256) as u8).collect()
+    }
+
+    /// Some of the numbers below a bound, each once.
+    fn choose(&mut self, numbers: &[usize], count: usize) -> Vec<usize> {
+        let mut numbers = numbers.to_vec();
+        for i in 0..count {
+            let other = i + self.below(numbers.len() - i);
+            numbers.swap(i, other);
+        }
+        numbers.truncate(count);
+        numbers
+    }
+}
+
+/// All legal sizes of up to 7 boards, and drawn ones.
+fn all_sizes(numbers: &mut Numbers) -> Vec<Sizes> {
+    let mut list = Vec::new();
+    for n in 2..=7 {
+        for d in 1..n {
+            for r in 1..=n - d {
+                list.extend((1..=d).map(|k| Sizes { n, k, d, r }));
+            }
+        }
+    }
+    for _ in 0..300 {
+        let n = 8 + numbers.below(25);
+        let d = 1 + numbers.below(n - 1);
+        let r = 1 + numbers.below(n - d);
+        let k = 1 + numbers.below(d);
+        list.push(Sizes { n, k, d, r });
+    }
+    list
+}
+
+#[test]
+fn alike() {
+    let mut numbers = Numbers(1);
+    let mut refused = 0;
+    for sizes in all_sizes(&mut numbers) {
+        let stripes = 1 + numbers.below(3);
+        let length = (stripes - 1) * sizes.stripe_len() + 1 + numbers.below(sizes.stripe_len());
+        for damaged in [false, true, true] {
+            refused += usize::from(!one(sizes, stripes, length, damaged, &mut numbers));
+        }
+    }
+    assert!(refused > 100, "DISAGREE is met {refused} times");
+}
+
+/// One store of each; whether its file could be read.
+fn one(sizes: Sizes, stripes: usize, length: usize, damaged: bool, numbers: &mut Numbers) -> bool {
+    let Sizes { n, k, d, r } = sizes;
+    let file = numbers.bytes(length);
+    let mut words = [0; 8];
+    store::set_up(&mut words, sizes, stripes).expect("the sizes are legal");
+    let mut area = vec![0xEE; n * stripes * sizes.share_len()];
+    let mut other = area.clone();
+    store::write(&mut words, &mut area, &file).expect("a write is accepted");
+    plain_kernels::write(sizes, &file, &mut other);
+    assert!(area == other, "a write at n={n} k={k} d={d} r={r}, {length} bytes");
+
+    let share_len = stripes * sizes.share_len();
+    let node = numbers.below(n);
+    let mut share = vec![0xEE; share_len];
+    plain_kernels::share(sizes, node, &file, &mut share);
+    assert!(share == area[node * share_len..][..share_len], "a share at n={n} k={k} d={d} r={r}, {length} bytes");
+
+    if damaged {
+        let place = numbers.below(area.len());
+        area[place] ^= 1 + numbers.below(255) as u8;
+        other = area.clone();
+    }
+    let boards: Vec<usize> = (0..n).collect();
+    let readers = numbers.choose(&boards, k);
+    let mut out = vec![0xEE; length];
+    let mut other_out = out.clone();
+    let given = store::read(&words, &area, &readers, &mut out).is_ok();
+    assert_eq!(given, plain_kernels::read(sizes, &readers, &other, &mut other_out));
+    assert!(out == other_out, "a read at n={n} k={k} d={d} r={r}, {length} bytes, boards {readers:?}");
+
+    let fresh = numbers.choose(&boards, r);
+    let left: Vec<usize> = boards.into_iter().filter(|board| !fresh.contains(board)).collect();
+    let helpers: Vec<usize> = (0..r).flat_map(|_| numbers.choose(&left, d)).collect();
+    let moved = store::repair(&mut words, &mut area, &fresh, &helpers).expect("a repair is accepted");
+    assert_eq!(moved, plain_kernels::repair(sizes, stripes, &fresh, &helpers, &mut other));
+    assert!(area == other, "a repair at n={n} k={k} d={d} r={r}, {length} bytes, boards {fresh:?} by {helpers:?}");
+    given
+}
