@@ -27,20 +27,20 @@ combinations N =
     each 1 (n - d) (λ r.
     record { n = n; k = k; d = d; r = r } ∷ []))))
 
--- a name, = and a number
+-- a name with its =, and a number
 abbrev pub named : List ℕ → ℕ → List ℕ
-named name v = name ++ 0x3D ∷ decimal v
+named name v = name ++ decimal v
 
 -- "one line each, n= k= d= r= share= stripe=, separated by single spaces": "share is α and stripe is B"
 unfoldable pub row : Sizes → List ℕ
 row z =
-    named (0x6E ∷ []) (z .n)
-    ++ named (0x20 ∷ 0x6B ∷ []) (z .k)
-    ++ named (0x20 ∷ 0x64 ∷ []) (z .d)
-    ++ named (0x20 ∷ 0x72 ∷ []) (z .r)
-    ++ named (0x20 ∷ 0x73 ∷ 0x68 ∷ 0x61 ∷ 0x72 ∷ 0x65 ∷ []) (α z)
-    ++ named (0x20 ∷ 0x73 ∷ 0x74 ∷ 0x72 ∷ 0x69 ∷ 0x70 ∷ 0x65 ∷ []) (B z)
-    ++ 0x0A ∷ []
+    named (0x6E ∷ 0x3D ∷ []) (z .n)
+    ++ named (0x20 ∷ 0x6B ∷ 0x3D ∷ []) (z .k)
+    ++ named (0x20 ∷ 0x64 ∷ 0x3D ∷ []) (z .d)
+    ++ named (0x20 ∷ 0x72 ∷ 0x3D ∷ []) (z .r)
+    ++ named (0x20 ∷ 0x73 ∷ 0x68 ∷ 0x61 ∷ 0x72 ∷ 0x65 ∷ 0x3D ∷ []) (α z)
+    ++ named (0x20 ∷ 0x73 ∷ 0x74 ∷ 0x72 ∷ 0x69 ∷ 0x70 ∷ 0x65 ∷ 0x3D ∷ []) (B z)
+    ++ (0x0A ∷ [])
 
 abbrev pub rows : List Sizes → List ℕ
 rows l = concat (map row l)
