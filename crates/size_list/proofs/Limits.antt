@@ -1,6 +1,6 @@
 -- An input of more than three bytes gives no limit: a number of three digits and more is above 32.
 -- Assumes nothing.
-use mathlib.Core.Path.{_≡_, refl, sym, ap, _∙_}
+use mathlib.Core.Path.{_≡_, refl, sym, ap, subst, _∙_}
 use mathlib.Core.Bool.{Bool, true, false}
 use mathlib.Core.Logic.{_⊎_, inl, inr, ⊎-elim}
 use mathlib.Core.List.{List, [], _∷_, _++_}
@@ -8,7 +8,7 @@ use Prim.Native.Nat.{ℕ, zero, suc, _+_, _*_, _-_, _<_, _≤_}
 use native.Mathlib.Omega.{arith}
 use lib.Dec.{leb}
 use lib.ListN.{length, length-append}
-use borrow.Author.Tests.{lt-leb}
+use borrow.Author.Tests.{leb-true, lt-leb}
 use Rattle.lists.specs.Tests.{pick, alls}
 use Rattle.lists.specs.Lists.{All}
 use Rattle.number_lines.specs.Lines.{line}
@@ -61,3 +61,24 @@ short input h = ⊎-elim whole (λ f. f _) (line-else 0 [] input)
         ap (λ (l : List ℕ). line 0 [] l go) (s .whole)
         ∙ line-taken 0 [] (s .figures) (s .is-number) (s .behind) go
         ∙ taken-none (s .figures) (s .behind) (s .is-number) (omega (arith, ap length (s .whole), length-append (s .figures) (0x0A ∷ s .behind)))
+
+-- a limit is 2 to 32
+within : (a b c : Bool) (v : ℕ) → leb 2 v ≡ a → leb v 32 ≡ b
+    → let x = pick (alls (a ∷ b ∷ c ∷ [])) v 0 in (x ≡ 0) ⊎ ((2 ≤ x) × (x ≤ 32))
+within true true true v p q = inr (leb-true 2 v p, leb-true v 32 q)
+within true true false v p q = inl refl
+within true false c v p q = inl refl
+within false b c v p q = inl refl
+
+pub limit-range : (input : List ℕ) → (limit input ≡ 0) ⊎ ((2 ≤ limit input) × (limit input ≤ 32))
+unfolding limit
+limit-range input = ⊎-elim whole (λ f. inl (f _)) (line-else 0 [] input)
+  where
+    go : ℕ → List ℕ → ℕ
+    go v behind = pick (alls (leb 2 v ∷ leb v 32 ∷ none behind ∷ [])) v 0
+
+    whole : Starts [] input → (line 0 [] input go ≡ 0) ⊎ ((2 ≤ line 0 [] input go) × (line 0 [] input go ≤ 32))
+    whole s =
+        subst (λ (x : ℕ). (x ≡ 0) ⊎ ((2 ≤ x) × (x ≤ 32)))
+        (sym (ap (λ (l : List ℕ). line 0 [] l go) (s .whole) ∙ line-taken 0 [] (s .figures) (s .is-number) (s .behind) go))
+        (within (leb 2 (spelled (s .figures) 0)) (leb (spelled (s .figures) 0) 32) (none (s .behind)) (spelled (s .figures) 0) refl refl)

@@ -96,6 +96,14 @@ pub line-most : (N : ℕ) (p : Place) → LegalPlace p → length (rows (met N 1
 line-most N (At z) h = omega (arith, ap length (one-line N z), row-most z (legal-facts z h))
 line-most N End h = omega arith
 
+-- a run of lines has at most 40 bytes for each step
+pub rows-most : (N : ℕ) → N ≤ 32 → (m : ℕ) (p : Place) → LegalPlace p → length (rows (met N m p)) ≤ m * 40
+rows-most N h zero p g = omega arith
+rows-most N h (suc m) (At z) g =
+    let k = rows-most N h m (nextOf N z) (legal-next N h z (legal-facts z g)) in
+    omega (arith, length-append (row z) (rows (met N m (nextOf N z))), row-most z (legal-facts z g), k, suc-mul m 40)
+rows-most N h (suc m) End g = omega arith
+
 pub rows-next : (N i : ℕ) (p : Place) → rows (met N (i + 1) p) ≡ rows (met N i p) ++ rows (met N 1 (after N i p))
 rows-next N i p = ap rows (met-add N i 1 p) ∙ rows-append (met N i p) (met N 1 (after N i p))
 
