@@ -32,7 +32,11 @@ four-more m =
     let a : ℕ = suc m in
     let q : ℕ = a * (a + 1) * (a + 2) in
     let e : q * (a + 3) ≡ q * m + q * 4 = ap (λ (x : ℕ). q * x) (omega arith) ∙ mul-add q m 4 in
-    let f : m * (m + 1) * (m + 2) * (m + 3) ≡ q * m = ap (λ (x : ℕ). x * (m + 3)) (mul-assoc m (m + 1) (m + 2)) ∙ mul-assoc m ((m + 1) * (m + 2)) (m + 3) ∙ mul-comm m ((m + 1) * (m + 2) * (m + 3)) ∙ ap (λ (x : ℕ). x * m) (ap₂ _*_ (ap₂ _*_ (omega arith) (omega arith)) (omega arith)) in
+    let f : m * (m + 1) * (m + 2) * (m + 3) ≡ q * m =
+    ap (λ (x : ℕ). x * (m + 3)) (mul-assoc m (m + 1) (m + 2))
+    ∙ mul-assoc m ((m + 1) * (m + 2)) (m + 3)
+    ∙ mul-comm m ((m + 1) * (m + 2) * (m + 3))
+    ∙ ap (λ (x : ℕ). x * m) (ap₂ _*_ (ap₂ _*_ (omega arith) (omega arith)) (omega arith)) in
     omega (arith, e, f, mul-comm q 4)
 
 -- ---- lengths

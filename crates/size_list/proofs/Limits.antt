@@ -32,7 +32,6 @@ three-digits (a ∷ b ∷ c ∷ l) (inr n) h =
     let f : 1 ≤ a - 0x30 = omega (arith, n .1) in
     omega arith
 
-
 too-much : (a b : Bool) (v : ℕ) → pick (alls (a ∷ false ∷ b ∷ [])) v 0 ≡ 0
 too-much true b v = refl
 too-much false b v = refl

@@ -76,9 +76,10 @@ unfolding combinations
 no-other N h =
     all-each (λ z. (legal z ≡ true) × (z .n ≤ N)) 2 (N - 1) ofN
     (λ n l u. all-imp (FitsN n) (λ z. (legal z ≡ true) × (z .n ≤ N))
-    (λ z f.
-    (legal-yes z (record { some-read = f .some-read; read-helpers = f .enough; some-fresh = f .some; enough = omega (arith, f .boards, f .room); few = omega (arith, f .boards) }),
-    omega (arith, f .boards)))
+    (λ z f. (
+      legal-yes z (record { some-read = f .some-read; read-helpers = f .enough; some-fresh = f .some; enough = omega (arith, f .boards, f .room); few = omega (arith, f .boards) }),
+      omega (arith, f .boards),
+    ))
     (ofN n) (fits-n n))
 
 -- ---- each legal combination
@@ -106,9 +107,13 @@ all-stand N z e h = stands-in z (combinations N) (in-all N z (legal-facts z e) h
 rising-d : (n k d : ℕ) → Rising Before (ofD n k d)
 rising-d n k d =
     rising-each Before (λ r z. z ≡ record { n = n; k = k; d = d; r = r })
-    (λ x y u v h e g. inr (ap (λ (z : Sizes). z .n) e ∙ sym (ap (λ (z : Sizes). z .n) g),
-    inr (ap (λ (z : Sizes). z .k) e ∙ sym (ap (λ (z : Sizes). z .k) g),
-    inr (ap (λ (z : Sizes). z .d) e ∙ sym (ap (λ (z : Sizes). z .d) g), omega (arith, ap (λ (z : Sizes). z .r) e, ap (λ (z : Sizes). z .r) g)))))
+    (λ x y u v h e g. inr (
+      ap (λ (z : Sizes). z .n) e ∙ sym (ap (λ (z : Sizes). z .n) g),
+      inr (
+        ap (λ (z : Sizes). z .k) e ∙ sym (ap (λ (z : Sizes). z .k) g),
+        inr (ap (λ (z : Sizes). z .d) e ∙ sym (ap (λ (z : Sizes). z .d) g), omega (arith, ap (λ (z : Sizes). z .r) e, ap (λ (z : Sizes). z .r) g)),
+      ),
+    ))
     1 (n - d) (one n k d) (λ r l u. (refl, tt)) (λ r l u. (tt, tt))
 
 rising-k : (n k : ℕ) → k < n → Rising Before (ofK n k)

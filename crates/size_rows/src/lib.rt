@@ -42,7 +42,12 @@ fn from_helpers(n: usize, k: usize, d: usize, most: usize) -> Place
     ensures { λ p. ⌜ p ≡ fromD most n k d ⌝ }
 {
     if d < n {
-        return Place::At(Sizes { n: n, k: k, d: d, r: 1 });
+        return Place::At(Sizes {
+            n: n,
+            k: k,
+            d: d,
+            r: 1,
+        });
     }
     if k + 1 < n {
         return Place::At(Sizes {

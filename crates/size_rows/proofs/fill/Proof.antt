@@ -58,7 +58,7 @@ room-more c =
 -- what is written after a turn
 wrote-more : (c : tie.After-slice-known2 Inv-loop μ-loop)
     → let k = turn c in let a = st k .args in let w = c .before .before .step in
-      Wrote (a .out .now) 0 (rows (met (a .most) (k .loop .i + 1) (a .place))) (w .last .1 .1 .1 .0) (w .result .count)
+    Wrote (a .out .now) 0 (rows (met (a .most) (k .loop .i + 1) (a .place))) (w .last .1 .1 .1 .0) (w .result .count)
 wrote-more c =
     let k = turn c in
     let a = st k .args in
@@ -75,20 +75,22 @@ loop-again c =
     let a = st k .args in
     let i = k .loop .i in
     let w = c .before .before .step in
-    let m = line-most (a .most) (k .loop .run .place) (legal-here k) in
-    (wrote-more c,
-    w .ensures .1 ∙ ap (after (a .most) 1) (k .loop .inv .1) ∙ sym (after-add (a .most) i 1 (a .place)),
-    omega arith,
-    omega (arith, w .ensures .0 .ends, k .loop .inv .3, m),
-    same-room (wrote-more c) (room-more c))
+    let m = line-most (a .most) (k .loop .run .place) (legal-here k) in (
+      wrote-more c,
+      w .ensures .1 ∙ ap (after (a .most) 1) (k .loop .inv .1) ∙ sym (after-add (a .most) i 1 (a .place)),
+      omega arith,
+      omega (arith, w .ensures .0 .ends, k .loop .inv .3, m),
+      same-room (wrote-more c) (room-more c),
+    )
 
 returns : tie.Need-returns Inv-loop μ-loop
 returns c =
     let k = c .before .loop in
     let s = c .before .before .before in
-    let e : k .i ≡ s .args .steps = omega (arith, k .inv .2) in
-    (subst (λ i. Wrote (s .args .out .now) 0 (rows (met (s .args .most) i (s .args .place))) (k .out) (k .run .count)) e (k .inv .0),
-    subst (λ i. k .run .place ≡ after (s .args .most) i (s .args .place)) e (k .inv .1))
+    let e : k .i ≡ s .args .steps = omega (arith, k .inv .2) in (
+      subst (λ i. Wrote (s .args .out .now) 0 (rows (met (s .args .most) i (s .args .place))) (k .out) (k .run .count)) e (k .inv .0),
+      subst (λ i. k .run .place ≡ after (s .args .most) i (s .args .place)) e (k .inv .1),
+    )
 
 pub fill-spec : {M : Type 1} → statement M
 fill-spec =

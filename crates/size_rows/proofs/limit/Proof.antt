@@ -32,7 +32,7 @@ st c = c .before .before .before
 -- what the bytes that are left give, with the byte that was read
 fed-on : (c : tie.After-feed Inv-loop μ-loop)
     → let k = turn c in let l = st k .args .input .now in
-      told 0 (λ r. reads 0 [] 33 r (drop (k .loop .t + 1) l) go) (λ v. go v (drop (k .loop .t + 1) l)) (c .feed .result) ≡ limit l
+    told 0 (λ r. reads 0 [] 33 r (drop (k .loop .t + 1) l) go) (λ v. go v (drop (k .loop .t + 1) l)) (c .feed .result) ≡ limit l
 fed-on c =
     let k = turn c in
     let l = st k .args .input .now in

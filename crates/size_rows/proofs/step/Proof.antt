@@ -27,17 +27,19 @@ returns : tie.Need-returns
 returns c =
     let k = lent (c .before) in
     let a = st k .args in
-    let e = k .before .before .place .given .1 in
-    (subst (λ l. Wrote (a .out .now) (a .at) l (c .before .before .before .put-row .last .1 .1 .0) (c .before .before .before .put-row .result))
-    (sym (ap (λ p. rows (met (a .most) 1 p)) e ∙ one-line (a .most) _)) (c .before .before .before .put-row .ensures),
-    c .next .ensures ∙ sym (ap (after (a .most) 1) e))
+    let e = k .before .before .place .given .1 in (
+      subst (λ l. Wrote (a .out .now) (a .at) l (c .before .before .before .put-row .last .1 .1 .0) (c .before .before .before .put-row .result))
+          (sym (ap (λ p. rows (met (a .most) 1 p)) e ∙ one-line (a .most) _)) (c .before .before .before .put-row .ensures),
+      c .next .ensures ∙ sym (ap (after (a .most) 1) e),
+    )
 
 returns-2 : tie.Need-returns-2
 returns-2 c =
     let a = c .before .before .before .args in
-    let e = c .enum-told .given .1 in
-    (subst (λ l. Wrote (a .out .now) (a .at) l (a .out .now) (a .at)) (sym (ap (λ p. rows (met (a .most) 1 p)) e)) (none (a .out .now) (a .at)),
-    sym (ap (after (a .most) 1) e))
+    let e = c .enum-told .given .1 in (
+      subst (λ l. Wrote (a .out .now) (a .at) l (a .out .now) (a .at)) (sym (ap (λ p. rows (met (a .most) 1 p)) e)) (none (a .out .now) (a .at)),
+      sym (ap (after (a .most) 1) e),
+    )
 
 pub step-spec : {M : Type 1} → statement M
 step-spec =
