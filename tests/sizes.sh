@@ -47,7 +47,7 @@ echo refused=1 >"$work/refused"
 refused() {
     status=0
     # shellcheck disable=SC2059 # the format is the input
-    printf "$1" | "$program" >"$work/out" || status=$?
+    printf -- "$1" | "$program" >"$work/out" || status=$?
     held "refused: $1" "$status" "$work/refused"
 }
 for input in '' '\n' '0\n' '1\n' '33\n' '34\n' '99\n' '100\n' '320\n' '02\n' '00\n' '032\n' '2' '32' '2\r\n' '2\n\n' '2\n2\n' '2\n\000' '32\n ' '32 \n' ' 2\n' \
