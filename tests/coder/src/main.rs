@@ -2,6 +2,7 @@
 //!
 //!     coder [--seed N] [--calls N] [--only CASE] [--wrong answer|eleven|byte|word] [--trace] [--verbose]
 //!     coder --products
+//!     coder --sizes N
 //!
 //! First the figures of document 01 are run and products of bytes tried, then random cases until so many calls are made: single calls at board
 //! level, single calls of the store over made-up records and areas, long histories against a ledger, second files that k − 1 boards do not tell
@@ -9,7 +10,8 @@
 //! own seed, made of the run's seed and the case's number: `--only` repeats one case.
 //! `--wrong` alters what the archive answers to one call, to show that this is reported. `--trace` prints each call before it is made,
 //! `--verbose` how often each call gave each refusal, and how often an altered byte was accepted and refused. `--products` makes no call: it writes
-//! all products and inverses of the coder's own field.
+//! all products and inverses of the coder's own field. `--sizes` makes none either: it writes a line for each legal combination of sizes with at most N
+//! boards (request A.12).
 //!
 //! The last line counts calls and mismatches. The exit code is 1 where there is a mismatch, or where in a run of 20,000 calls or more some
 //! refusal that a call can give was never met, or DISAGREE for a kind of altered byte.
@@ -28,6 +30,7 @@ mod ledger;
 mod matrix;
 mod products;
 mod random;
+mod size_list;
 mod spoil;
 mod store;
 mod store_cases;
@@ -52,11 +55,12 @@ struct Options {
     trace: bool,
     verbose: bool,
     products: bool,
+    sizes: Option<u64>,
 }
 
 fn options() -> Result<Options, String> {
     let mut options =
-        Options { seed: 1, calls: 300_000, only: None, wrong: None, trace: false, verbose: false, products: false };
+        Options { seed: 1, calls: 300_000, only: None, wrong: None, trace: false, verbose: false, products: false, sizes: None };
     let mut words = std::env::args().skip(1);
     while let Some(word) = words.next() {
         let mut number = || {
@@ -70,6 +74,7 @@ fn options() -> Result<Options, String> {
             "--trace" => options.trace = true,
             "--verbose" => options.verbose = true,
             "--products" => options.products = true,
+            "--sizes" => options.sizes = Some(number()?),
             "--wrong" => options.wrong = Some(wrong_kind(words.next())?),
             _ => return Err(format!("{word}: not an option")),
         }
@@ -128,6 +133,14 @@ fn run_case(trial: &mut Trial, case: u64) {
     }
 }
 
+/// Writes bytes to standard output.
+fn write(bytes: &[u8]) -> ExitCode {
+    match std::io::stdout().write_all(bytes) {
+        Ok(()) => ExitCode::SUCCESS,
+        Err(_) => ExitCode::FAILURE,
+    }
+}
+
 fn main() -> ExitCode {
     let options = match options() {
         Ok(options) => options,
@@ -137,10 +150,10 @@ fn main() -> ExitCode {
         }
     };
     if options.products {
-        return match std::io::stdout().write_all(&products::rows()) {
-            Ok(()) => ExitCode::SUCCESS,
-            Err(_) => ExitCode::FAILURE,
-        };
+        return write(&products::rows());
+    }
+    if let Some(most) = options.sizes {
+        return write(size_list::lines(most as usize).as_bytes());
     }
     tell_where(options.seed);
     // a fault in the first three quarters, so that a call that fits it follows
