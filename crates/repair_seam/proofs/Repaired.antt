@@ -17,9 +17,9 @@ use Rattle.store_spec.specs.Calls.{repairCall}
 use Rattle.store_spec.proofs.Packets.{heard-run}
 use Rattle.store_spec.proofs.Records.{Repairs}
 use Rattle.store_spec.proofs.Stripes.{repair-by-stripes}
-use Rattle.repair_hear.specs.Steps.{puts}
+use Rattle.puts.specs.Steps.{puts}
+use Rattle.puts.proofs.Puts.{puts-same}
 use Rattle.store_repair.specs.Steps.{rebuilt}
-use Rattle.store_repair.proofs.Puts.{puts-same}
 use Rattle.store_repair.proofs.Rebuilt.{rebuilt-same}
 use Rattle.repair_seam.proofs.Places.{stripe-same}
 

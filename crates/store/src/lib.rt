@@ -146,7 +146,7 @@ impl Store {
         }
         let points = checks::standard_points();
         let mut inverses = [0u8; 256];
-        interpolation::fill_inverses(&mut inverses);
+        inverses::fill_inverses(&mut inverses);
         let stripes = checks::stripe_count(sizes, length);
         let moved = bytes_moved(sizes, stripes);
         store_repair::repair_shares(

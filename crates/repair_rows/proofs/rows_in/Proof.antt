@@ -9,7 +9,7 @@ use Rattle.lists.specs.Lists.{join}
 use Rattle.lists.proofs.Put.{part-end}
 use Rattle.sizes.proofs.Legal.{Legal, legal-facts}
 use Rattle.row_dots.proofs.Rows.{join-loop, join-end}
-use Rattle.repair_heard.proofs.Heard.{cut-long}
+use Rattle.repair_hear.proofs.Heard.{cut-long}
 use Rattle.repair_rows.specs.Steps.{freshRows}
 use Rattle.repair_rows.proofs.Others.{length-fresh-rows, few-rows}
 use borrow.Author.Needs.{needs}
