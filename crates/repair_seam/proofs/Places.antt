@@ -59,7 +59,10 @@ module _ (z : Sizes) (xs : List ℕ) (own : ℕ → List ℕ) (fresh helpers : L
   pub stripe-same : (a : ℕ) → a < r → freshStripe z xs own fresh H (getD fresh a 0) ≡ rebuilt z xs own fresh helpers a
   unfolding freshStripe rebuilt stripeAt
   stripe-same a h =
-      let w : without (getD fresh a 0) fresh ≡ partnersAt z fresh a = without-place fresh a (r - 1) once (omega (arith, h, lf)) (omega (arith, h, lf)) in
-      ap (λ (l : List ℕ). finishedStripe z xs (getD fresh a 0) (H (getD fresh a 0)) (firsts z xs own fresh H (getD fresh a 0)) (seconds z xs own fresh H (getD fresh a 0)) l (map (λ m. exchangedByte z xs own fresh H m (getD fresh a 0)) l)) w
-      ∙ ap₂ {C = List ℕ} (λ (hs t : List ℕ). finishedStripe z xs (getD fresh a 0) hs (firsts z xs own fresh H (getD fresh a 0)) (seconds z xs own fresh H (getD fresh a 0)) (partnersAt z fresh a) t) (runs a h) (sym (sent-at a h))
-      ∙ ap₂ {C = List ℕ} (λ (f s : List ℕ). finishedStripe z xs (getD fresh a 0) (piece d a helpers) f s (partnersAt z fresh a) (sentAt z G (point xs (getD fresh a 0)) a)) (sym (firsts-at a h)) (sym (seconds-at a h))
+      let i : ℕ = getD fresh a 0 in
+      let first : List ℕ = firsts z xs own fresh H i in
+      let second : List ℕ = seconds z xs own fresh H i in
+      let w : without i fresh ≡ partnersAt z fresh a = without-place fresh a (r - 1) once (omega (arith, h, lf)) (omega (arith, h, lf)) in
+      ap (λ (l : List ℕ). finishedStripe z xs i (H i) first second l (map (λ m. exchangedByte z xs own fresh H m i) l)) w
+      ∙ ap₂ {C = List ℕ} (λ (hs t : List ℕ). finishedStripe z xs i hs first second (partnersAt z fresh a) t) (runs a h) (sym (sent-at a h))
+      ∙ ap₂ {C = List ℕ} (λ (f s : List ℕ). finishedStripe z xs i (piece d a helpers) f s (partnersAt z fresh a) (sentAt z G (point xs i) a)) (sym (firsts-at a h)) (sym (seconds-at a h))

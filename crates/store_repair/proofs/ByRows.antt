@@ -1,7 +1,7 @@
 -- A stripe rebuilt by rows is that rebuilt by places.
 -- Assumes nothing.
 use Prim.Native.Nat.{ℕ, _+_, _*_, _-_, _<_, _≤_}
-use mathlib.Core.Path.{_≡_, refl, sym, ap, ap₂, _∙_}
+use mathlib.Core.Path.{_≡_, refl, sym, ap, ap₂, subst, _∙_}
 use mathlib.Core.Bool.{true}
 use mathlib.Core.List.{List, [], _∷_, _++_}
 use native.Mathlib.Omega.{arith}
@@ -120,9 +120,8 @@ module _ (z : Sizes) (pts : List ℕ) (legal : Legal z) (points-differ : Differe
   sent-bytes : (a : ℕ) → a < r → Bytes (sentAt z (polysOf z pts helpers firsts) (point pts (getD fresh a 0)) a)
   sent-bytes a h =
       tabulate-all (λ x. x < 256) (r - 1) (λ u. eval (piece d (past a u) (polysOf z pts helpers firsts)) (point pts (getD fresh a 0)))
-      (λ u k. let e : eval (piece d (past a u) (polysOf z pts helpers firsts)) (point pts (getD fresh a 0)) ≡ eval (gFrom z pts (hs (past a u)) (fs (past a u))) (point pts (getD fresh a 0)) =
-      ap (λ (p : List ℕ). eval p (point pts (getD fresh a 0))) (poly-at (past a u) (past-below a u r k)) in
-      omega (arith, eval-byte (gFrom z pts (hs (past a u)) (fs (past a u))) (point pts (getD fresh a 0)) (g-bytes (past a u))))
+      (λ u k. subst (λ (p : List ℕ). eval p (point pts (getD fresh a 0)) < 256) (sym (poly-at (past a u) (past-below a u r k)))
+      (eval-byte (gFrom z pts (hs (past a u)) (fs (past a u))) (point pts (getD fresh a 0)) (g-bytes (past a u))))
 
   pub stripe-is : (seconds : List ℕ) → length seconds ≡ r * d → Bytes seconds → (a : ℕ) → a < r
       → stripeBy z L rows fresh seconds gs a ≡ stripeAt z pts fresh helpers firsts seconds (polysOf z pts helpers firsts) a
@@ -138,8 +137,9 @@ module _ (z : Sizes) (pts : List ℕ) (legal : Legal z) (points-differ : Differe
 -- ---- from what the boards hold
 
 -- put to their places, from what was worked out
-pub stripes-put : (z : Sizes) (fl gl L : ℕ) (ff gf rows fresh helpers : List ℕ) (own : ℕ → List ℕ) (at : ℕ → ℕ) (m : ℕ) (area firsts seconds gs new : List ℕ) → firsts ≡ firstsBy z fl gl L ff gf rows own fresh helpers
-    → seconds ≡ secondsBy z fl gl L ff gf rows own fresh helpers → gs ≡ gRows z L rows firsts → new ≡ puts at (stripeBy z L rows fresh seconds gs) m area
+pub stripes-put : (z : Sizes) (fl gl L : ℕ) (ff gf rows fresh helpers : List ℕ) (own : ℕ → List ℕ) (at : ℕ → ℕ) (m : ℕ) (area firsts seconds gs new : List ℕ)
+    → firsts ≡ firstsBy z fl gl L ff gf rows own fresh helpers → seconds ≡ secondsBy z fl gl L ff gf rows own fresh helpers
+    → gs ≡ gRows z L rows firsts → new ≡ puts at (stripeBy z L rows fresh seconds gs) m area
     → new ≡ puts at (rebuiltBy z fl gl L ff gf rows own fresh helpers) m area
 unfolding rebuiltBy
 stripes-put z fl gl L ff gf rows fresh helpers own at m area firsts seconds gs new ef es eg en =
@@ -186,14 +186,15 @@ module _ (z : Sizes) (legal : Legal z) (fl gl L : ℕ) (ff gf rows fresh helpers
         (allSeconds z pts own fresh helpers) (length-seconds z pts fresh helpers own lh) (seconds-bytes z pts fresh helpers own bytes) a h
 
     -- all stripes, from an area of bytes
-    pub shares-are : (area : List ℕ) (part stripes : ℕ) → Bytes area → length area ≡ n * part → stripes * α z ≤ part
+    pub shares-are : (area new : List ℕ) (part stripes : ℕ) → Bytes area → length area ≡ n * part → stripes * α z ≤ part
         → let own : ℕ → ℕ → List ℕ = λ s j. piece (α z) s (drop (j * part) area) in let at : ℕ → ℕ = λ a. getD fresh a 0 * part in
-        puts at (λ a. join stripes (λ s. rebuiltBy z fl gl L ff gf rows (own s) fresh helpers a)) r area
-        ≡ puts at (λ a. join stripes (λ s. rebuilt z pts (own s) fresh helpers a)) r area
-    shares-are area part stripes ba la room =
+        new ≡ puts at (λ a. join stripes (λ s. rebuiltBy z fl gl L ff gf rows (own s) fresh helpers a)) r area
+        → new ≡ puts at (λ a. join stripes (λ s. rebuilt z pts (own s) fresh helpers a)) r area
+    shares-are area new part stripes ba la room en =
         let own : ℕ → ℕ → List ℕ = λ s j. piece (α z) s (drop (j * part) area) in
         let at : ℕ → ℕ = λ a. getD fresh a 0 * part in
-        puts-same at at _ _ r area (λ a h. refl) (λ a h.
+        en
+        ∙ puts-same at at _ _ r area (λ a h. refl) (λ a h.
         join-ext stripes _ _ (λ s k.
         by-is (own s)
         (λ j l. piece-long (α z) s (j * part) area (omega (arith, part-end j part n l, part-end s (α z) stripes k)))

@@ -69,7 +69,8 @@ few c =
 -- where those of a turn end: of the rows, of the run, of the row that is made
 ends : (c : tie.In-loop Inv-loop μ-loop)
     → let a = st-at-turn c .args in let t = c .before .loop .a in
-    (t * one (st-at-turn c) + one (st-at-turn c) ≤ a .sizes .r * one (st-at-turn c)) × (t * a .sizes .d + a .sizes .d ≤ a .sizes .r * a .sizes .d) × (t * a .lanes + a .lanes ≤ a .sizes .r * a .lanes)
+    (t * one (st-at-turn c) + one (st-at-turn c) ≤ a .sizes .r * one (st-at-turn c)) × (t * a .sizes .d + a .sizes .d ≤ a .sizes .r * a .sizes .d)
+    × (t * a .lanes + a .lanes ≤ a .sizes .r * a .lanes)
 ends c =
     let a = st-at-turn c .args in
     let t = c .before .loop .a in

@@ -21,37 +21,37 @@ abbrev st-at-struct-known : tie.After-struct-known → tie.Start
 st-at-struct-known c = c .before .before .before .before .before .before .before .before
 
 abbrev st-at-struct-known2 : tie.After-struct-known2 → tie.Start
-st-at-struct-known2 c = c .before .before .before .before .before .before .before .before .before
+st-at-struct-known2 c = st-at-struct-known (c .before)
 
 abbrev st-at-struct-known3 : tie.After-struct-known3 → tie.Start
-st-at-struct-known3 c = c .before .before .before .before .before .before .before .before .before .before
+st-at-struct-known3 c = st-at-struct-known2 (c .before)
 
 abbrev st-at-board : tie.After-shared-slice-known5 → tie.Start
-st-at-board c = c .before .before .before .before .before .before .before .before .before .before .before
+st-at-board c = st-at-struct-known3 (c .before)
 
 abbrev st-at-gather : tie.After-gather-arg → tie.Start
-st-at-gather c = c .before .before .before .before .before .before .before .before .before .before .before .before
+st-at-gather c = st-at-board (c .before)
 
 abbrev st-at-got : tie.After-slice-known4 → tie.Start
-st-at-got c = c .before .before .before .before .before .before .before .before .before .before .before .before .before .before .before
+st-at-got c = st-at-gather (c .before .before .before)
 
 abbrev st-at-rows : tie.After-finish-arg → tie.Start
-st-at-rows c = c .before .before .before .before .before .before .before .before .before .before .before .before .before .before .before .before
+st-at-rows c = st-at-got (c .before)
 
 abbrev st-at-finish : tie.After-finish-arg5 → tie.Start
-st-at-finish c = c .before .before .before .before .before .before .before .before .before .before .before .before .before .before .before .before .before .before .before .before
+st-at-finish c = st-at-rows (c .before .before .before .before)
 
 abbrev got-at-finish : tie.After-finish-arg5 → tie.After-got
 got-at-finish c = c .before .before .before .before .before .before
 
 abbrev st-at-end : tie.After-slice-known7 → tie.Start
-st-at-end c = c .before .before .before .before .before .before .before .before .before .before .before .before .before .before .before .before .before .before .before .before .before .before .before .before .before .before .before
+st-at-end c = st-at-finish (c .before .before .before .before .before .before .before)
 
 abbrev gather-at-end : tie.After-slice-known7 → tie.After-gather
 gather-at-end c = c .before .before .before .before .before .before .before .before .before .before .before .before .before .before
 
 abbrev got-at-end : tie.After-slice-known7 → tie.After-got
-got-at-end c = c .before .before .before .before .before .before .before .before .before .before .before .before .before
+got-at-end c = got-at-finish (c .before .before .before .before .before .before .before)
 
 abbrev finish-at-end : tie.After-slice-known7 → tie.After-finish
 finish-at-end c = c .before .before .before .before .before .before
@@ -65,7 +65,8 @@ one c = (c .args .sizes .d + (c .args .sizes .d + c .args .sizes .r)) * 32
 
 -- where its own rows end, and its row of g
 ends : (c : tie.Start)
-    → let a = c .args in (a .a * one c + one c ≤ a .sizes .r * one c) × (a .sizes .r * one c ≤ 32768) × (a .a * a .lanes + a .lanes ≤ a .sizes .r * a .lanes) × (a .sizes .r * a .lanes ≤ 1024)
+    → let a = c .args in let r = a .sizes .r in
+    (a .a * one c + one c ≤ r * one c) × (r * one c ≤ 32768) × (a .a * a .lanes + a .lanes ≤ r * a .lanes) × (r * a .lanes ≤ 1024)
 ends c =
     let a = c .args in
     let z = a .sizes in

@@ -28,13 +28,13 @@ abbrev st-at-got : tie.After-slice-known2 → tie.Start
 st-at-got c = c .before .before .before .before .before .before .before .before
 
 abbrev st-at-sent : tie.After-sent-arg → tie.Start
-st-at-sent c = c .before .before .before .before .before .before .before .before .before
+st-at-sent c = st-at-got (c .before)
 
 abbrev copy-at-sent : tie.After-sent-arg → tie.After-copy
 copy-at-sent c = c .before .before .before
 
 abbrev st-at-end : tie.After-slice-known3 → tie.Start
-st-at-end c = c .before .before .before .before .before .before .before .before .before .before .before .before
+st-at-end c = st-at-sent (c .before .before .before)
 
 abbrev copy-at-end : tie.After-slice-known3 → tie.After-copy
 copy-at-end c = c .before .before .before .before .before .before

@@ -31,7 +31,7 @@ abbrev st-at-entry : tie.After-struct-known Inv-loop μ-loop → tie.Start Inv-l
 st-at-entry c = c .before .before .before .before .before .before .before .before
 
 abbrev st-at-turn : tie.In-loop Inv-loop μ-loop → tie.Start Inv-loop μ-loop
-st-at-turn c = c .before .before .before .before .before .before .before .before .before .before
+st-at-turn c = st-at-entry (c .before .before)
 
 abbrev turn-at-part : tie.After-finish-arg2 Inv-loop μ-loop → tie.In-loop Inv-loop μ-loop
 turn-at-part c = c .before .before .before
@@ -40,7 +40,7 @@ abbrev turn-at-call : tie.After-finish-arg3 Inv-loop μ-loop → tie.In-loop Inv
 turn-at-call c = c .before .before .before .before
 
 abbrev turn-at-end : tie.After-slice-known6 Inv-loop μ-loop → tie.In-loop Inv-loop μ-loop
-turn-at-end c = c .before .before .before .before .before .before .before .before .before .before .before
+turn-at-end c = turn-at-call (c .before .before .before .before .before .before .before)
 
 abbrev finish-at-end : tie.After-slice-known6 Inv-loop μ-loop → tie.After-finish Inv-loop μ-loop
 finish-at-end c = c .before .before .before .before .before .before
@@ -52,7 +52,7 @@ abbrev f-at-end : tie.After-slice-known6 Inv-loop μ-loop → tie.After-f Inv-lo
 f-at-end c = c .before .before .before
 
 abbrev st-at-loop : tie.After-loop Inv-loop μ-loop → tie.Start Inv-loop μ-loop
-st-at-loop c = c .before .before .before .before .before .before .before .before .before .before
+st-at-loop c = st-at-entry (c .before .before)
 
 facts : (c : tie.Start Inv-loop μ-loop) → Legal (c .args .sizes)
 facts c = legal-facts _ (c .pre .0)
@@ -111,7 +111,9 @@ returns c =
     let l = c .before .loop in
     let a = st-at-loop c .args in
     let e : l .a ≡ a .sizes .r = omega arith in
-    l .inv .0 ∙ ap (λ (m : ℕ). puts (λ b. getD (a .fresh .now) b 0 * a .part + a .s * α (a .sizes)) (stripeBy (a .sizes) (a .lanes) (a .rows .now) (a .fresh .now) (a .seconds .now) (a .gs .now)) m (a .area .now)) e
+    l .inv .0
+    ∙ ap (λ (m : ℕ). puts (λ b. getD (a .fresh .now) b 0 * a .part + a .s * α (a .sizes))
+    (stripeBy (a .sizes) (a .lanes) (a .rows .now) (a .fresh .now) (a .seconds .now) (a .gs .now)) m (a .area .now)) e
 
 pub put-stripes-spec : {M : Type 1} → statement M
 put-stripes-spec =

@@ -17,22 +17,25 @@ abbrev st-at-sizes : tie.After-struct-known → tie.Start
 st-at-sizes c = c .before .before .before .before .before .before .before .before .before
 
 abbrev st-at-f : tie.After-whole-vectors → tie.Start
-st-at-f c = c .before .before .before .before .before .before .before .before .before .before
+st-at-f c = st-at-sizes (c .before)
 
 abbrev st-at-g : tie.After-whole-vectors2 → tie.Start
-st-at-g c = c .before .before .before .before .before .before .before .before .before .before .before
+st-at-g c = st-at-f (c .before)
+
+abbrev st-at-widths : tie.After-whole-vectors3 → tie.Start
+st-at-widths c = st-at-g (c .before)
 
 abbrev st-at-ff : tie.After-all-pair-rows-arg → tie.Start
-st-at-ff c = c .before .before .before .before .before .before .before .before .before .before .before .before .before
+st-at-ff c = st-at-widths (c .before)
 
 abbrev st-at-gf : tie.After-all-pair-rows-arg2 → tie.Start
-st-at-gf c = c .before .before .before .before .before .before .before .before .before .before .before .before .before .before .before .before .before
+st-at-gf c = st-at-ff (c .before .before .before .before)
 
 abbrev st-at-rows : tie.After-all-rows-arg → tie.Start
-st-at-rows c = c .before .before .before .before .before .before .before .before .before .before .before .before .before .before .before .before .before .before .before .before .before
+st-at-rows c = st-at-gf (c .before .before .before .before)
 
 abbrev st-at-work : tie.After-repair-work-arg4 → tie.Start
-st-at-work c = c .before .before .before .before .before .before .before .before .before .before .before .before .before .before .before .before .before .before .before .before .before .before .before .before .before .before .before .before
+st-at-work c = st-at-rows (c .before .before .before .before .before .before .before)
 
 abbrev ff-at-work : tie.After-repair-work-arg4 → tie.After-ff
 ff-at-work c = c .before .before .before .before .before .before .before .before .before .before .before .before .before
@@ -47,13 +50,16 @@ abbrev widths-at-work : tie.After-repair-work-arg4 → tie.After-whole-vectors3
 widths-at-work c = c .before .before .before .before .before .before .before .before .before .before .before .before .before .before .before .before
 
 abbrev st-at-end : tie.After-slice-known8 → tie.Start
-st-at-end c = c .before .before .before .before .before .before .before .before .before .before .before .before .before .before .before .before .before .before .before .before .before .before .before .before .before .before .before .before .before .before .before
+st-at-end c = st-at-work (c .before .before .before)
+
+abbrev area-at-rows : tie.After-all-rows-arg → tie.After-slice-known4
+area-at-rows c = c .before .before .before .before .before .before .before .before .before .before .before .before .before
 
 abbrev area-at-end : tie.After-slice-known8 → tie.After-slice-known4
-area-at-end c = c .before .before .before .before .before .before .before .before .before .before .before .before .before .before .before .before .before .before .before .before .before .before .before
+area-at-end c = area-at-rows (c .before .before .before .before .before .before .before .before .before .before)
 
 abbrev widths-at-end : tie.After-slice-known8 → tie.After-whole-vectors3
-widths-at-end c = c .before .before .before .before .before .before .before .before .before .before .before .before .before .before .before .before .before .before .before
+widths-at-end c = widths-at-work (c .before .before .before)
 
 abbrev ff-at-end : tie.After-slice-known8 → tie.After-all-pair-rows
 ff-at-end c = c .before .before .before .before .before .before .before .before .before .before .before .before .before .before .before .before .before
@@ -72,30 +78,38 @@ facts c = legal-facts _ (c .pre .0)
 
 -- so many bytes of a row count: of f, of g and at all points
 widths : (c : tie.After-whole-vectors3)
-    → let z = c .before .before .before .before .before .before .before .before .before .before .before .before .args .sizes in
-    (z .d + z .r ≤ c .before .before .whole-vectors .result) × (c .before .before .whole-vectors .result ≤ 32) × (z .d ≤ c .before .whole-vectors2 .result)
-    × (c .before .whole-vectors2 .result ≤ 32) × (z .n ≤ c .whole-vectors3 .result) × (c .whole-vectors3 .result ≤ 32)
+    → let z = st-at-widths c .args .sizes in
+    (z .d + z .r ≤ c .before .before .whole-vectors .result) × (c .before .before .whole-vectors .result ≤ 32)
+    × (z .d ≤ c .before .whole-vectors2 .result) × (c .before .whole-vectors2 .result ≤ 32)
+    × (z .n ≤ c .whole-vectors3 .result) × (c .whole-vectors3 .result ≤ 32)
 widths c =
     let f = c .before .before .whole-vectors .ensures in
     let g = c .before .whole-vectors2 .ensures in
     let a = c .whole-vectors3 .ensures in
     (f .0, f .1, g .0, g .1, a .0, a .1)
 
+-- the helpers are r runs of d, and few; a row of factors for each
+helpers-are : (c : tie.Start) → let a = c .args in (length (a .helpers .now) ≡ length (a .fresh .now) * a .sizes .d) × (length (a .helpers .now) ≤ 256)
+helpers-are c =
+    let z = c .args .sizes in
+    (c .pre .9 ∙ ap (λ (m : ℕ). m * z .d) (sym (c .pre .7)), omega (arith, c .pre .9, few-runs z (facts c)))
+
+rows-long : (c : tie.Start) (m : ℕ) → m ≡ c .args .sizes .r * c .args .sizes .d * 32 → m ≡ length (c .args .helpers .now) * 32
+rows-long c m e = e ∙ ap (λ (k : ℕ). k * 32) (sym (c .pre .9))
+
 all-pair-rows-requires : tie.Need-all-pair-rows-requires
 all-pair-rows-requires c κs =
     let p = st-at-ff c .pre in
-    let z = st-at-ff c .args .sizes in
     let f = facts (st-at-ff c) in
-    let few = few-runs z f in
-    (p .3, p .1, f .few, omega arith, omega arith, p .8, p .10, p .9 ∙ ap (λ (m : ℕ). m * z .d) (sym (p .7)), omega arith, p .14 ∙ ap (λ (m : ℕ). m * 32) (sym (p .9)))
+    let h = helpers-are (st-at-ff c) in
+    (p .3, p .1, f .few, omega arith, omega arith, p .8, p .10, h .0, h .1, rows-long (st-at-ff c) _ (p .14))
 
 all-pair-rows-requires-2 : tie.Need-all-pair-rows-requires-2
 all-pair-rows-requires-2 c κs =
     let p = st-at-gf c .pre in
-    let z = st-at-gf c .args .sizes in
     let f = facts (st-at-gf c) in
-    let few = few-runs z f in
-    (p .3, p .1, f .few, omega arith, omega arith, p .8, p .10, p .9 ∙ ap (λ (m : ℕ). m * z .d) (sym (p .7)), omega arith, p .15 ∙ ap (λ (m : ℕ). m * 32) (sym (p .9)))
+    let h = helpers-are (st-at-gf c) in
+    (p .3, p .1, f .few, omega arith, omega arith, p .8, p .10, h .0, h .1, rows-long (st-at-gf c) _ (p .15))
 
 all-rows-requires : tie.Need-all-rows-requires
 all-rows-requires c κs =
@@ -132,10 +146,9 @@ returns c =
     let p = st-at-end c .pre in
     let w = widths (widths-at-end c) in
     let bytes = all-of (λ x. x < 256) 0 (a .area .now) (λ i l. omega (arith, area-at-end c .slice-known4 .given i)) in
-    work-at-end c .repair-work .ensures
-    ∙ shares-are (a .sizes) (facts (st-at-end c)) _ _ _ _ _ _ (a .fresh .now) (a .helpers .now) (p .9) (a .points .now) (p .2) (p .7) (p .8) (p .10) (p .11) (p .12) (p .13)
+    shares-are (a .sizes) (facts (st-at-end c)) _ _ _ _ _ _ (a .fresh .now) (a .helpers .now) (p .9) (a .points .now) (p .2) (p .7) (p .8) (p .10) (p .11) (p .12) (p .13)
     (w .0) (w .1) (w .2) (w .3) (w .4) (w .5) (ff-at-end c .all-pair-rows .ensures) (gf-at-end c .all-pair-rows2 .ensures) (rows-at-end c .all-rows .ensures)
-    (a .area .now) (a .part) (a .stripes) bytes (p .17) (p .5)
+    (a .area .now) _ (a .part) (a .stripes) bytes (p .17) (p .5) (work-at-end c .repair-work .ensures)
 
 pub repair-in-spec : {M : Type 1} → statement M
 repair-in-spec =

@@ -24,22 +24,22 @@ abbrev st-3 : tie.After-struct-known3 → tie.Start
 st-3 c = c .before .before .before .before .before .before .before .before
 
 abbrev st-4 : tie.After-struct-known4 → tie.Start
-st-4 c = c .before .before .before .before .before .before .before .before .before
+st-4 c = st-3 (c .before)
 
 abbrev st-5 : tie.After-struct-known5 → tie.Start
-st-5 c = c .before .before .before .before .before .before .before .before .before .before
+st-5 c = st-4 (c .before)
 
 abbrev st-6 : tie.After-struct-known6 → tie.Start
-st-6 c = c .before .before .before .before .before .before .before .before .before .before .before
+st-6 c = st-5 (c .before)
 
 abbrev st-at-ff : tie.After-ff → tie.Start
-st-at-ff c = c .before .before .before .before .before .before .before .before .before .before .before .before
+st-at-ff c = st-6 (c .before)
 
 abbrev st-at-gf : tie.After-gf → tie.Start
-st-at-gf c = c .before .before .before .before .before .before .before .before .before .before .before .before .before
+st-at-gf c = st-at-ff (c .before)
 
 abbrev st-at-call : tie.After-repair-in-arg → tie.Start
-st-at-call c = c .before .before .before .before .before .before .before .before .before .before .before .before .before .before .before
+st-at-call c = st-at-gf (c .before .before)
 
 facts : (c : tie.Start) → Legal (c .args .sizes)
 facts c = legal-facts _ (c .pre .0)

@@ -18,13 +18,13 @@ abbrev st-at-hear : tie.After-hear-arg3 → tie.Start
 st-at-hear c = c .before .before .before .before .before .before .before .before .before .before .before .before .before .before
 
 abbrev st-at-g : tie.After-all-g-arg2 → tie.Start
-st-at-g c = c .before .before .before .before .before .before .before .before .before .before .before .before .before .before .before .before .before .before .before .before .before
+st-at-g c = st-at-hear (c .before .before .before .before .before .before .before)
 
 abbrev firsts-at-g : tie.After-all-g-arg2 → tie.After-firsts
 firsts-at-g c = c .before .before .before .before .before
 
 abbrev st-at-put : tie.After-put-stripes-arg5 → tie.Start
-st-at-put c = c .before .before .before .before .before .before .before .before .before .before .before .before .before .before .before .before .before .before .before .before .before .before .before .before .before .before .before .before .before
+st-at-put c = st-at-g (c .before .before .before .before .before .before .before .before)
 
 abbrev seconds-at-put : tie.After-put-stripes-arg5 → tie.After-seconds
 seconds-at-put c = c .before .before .before .before .before .before .before .before .before .before .before
@@ -33,7 +33,7 @@ abbrev gs-at-put : tie.After-put-stripes-arg5 → tie.After-gs
 gs-at-put c = c .before .before .before .before .before .before
 
 abbrev st-at-end : tie.After-slice-known12 → tie.Start
-st-at-end c = c .before .before .before .before .before .before .before .before .before .before .before .before .before .before .before .before .before .before .before .before .before .before .before .before .before .before .before .before .before .before .before .before .before .before .before .before
+st-at-end c = st-at-put (c .before .before .before .before .before .before .before)
 
 abbrev hear-at-end : tie.After-slice-known12 → tie.After-hear
 hear-at-end c = c .before .before .before .before .before .before .before .before .before .before .before .before .before .before .before .before .before .before .before .before .before

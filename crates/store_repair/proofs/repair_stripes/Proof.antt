@@ -20,7 +20,8 @@ use Rattle.store_repair.proofs.repair_stripes.Tie as tie
 
 abbrev Inv-loop : tie.InvT-loop
 Inv-loop sizes fl gl lanes ff gf rows part stripes fresh helpers firsts₀ seconds₀ gs₀ got₀ f₀ area₀ s₀ firsts seconds gs got f area s =
-    (area ≡ puts (λ a. getD fresh a 0 * part) (λ a. join s (λ t. rebuiltBy sizes fl gl lanes ff gf rows (λ j. piece (α sizes) t (drop (j * part) area₀)) fresh helpers a)) (sizes .r) area₀)
+    (area ≡ puts (λ a. getD fresh a 0 * part)
+    (λ a. join s (λ t. rebuiltBy sizes fl gl lanes ff gf rows (λ j. piece (α sizes) t (drop (j * part) area₀)) fresh helpers a)) (sizes .r) area₀)
     × (s ≤ stripes) × (length area ≡ length area₀) × (length firsts ≡ length firsts₀) × (length seconds ≡ length seconds₀) × (length gs ≡ length gs₀)
     × (length got ≡ length got₀) × (length f ≡ length f₀)
 
@@ -32,13 +33,13 @@ abbrev st-at-entry : tie.After-slice-known6 Inv-loop μ-loop → tie.Start Inv-l
 st-at-entry c = c .before .before .before .before .before .before .before .before .before .before .before
 
 abbrev st-at-turn : tie.In-loop Inv-loop μ-loop → tie.Start Inv-loop μ-loop
-st-at-turn c = c .before .before .before .before .before .before .before .before .before .before .before .before .before
+st-at-turn c = st-at-entry (c .before .before)
 
 abbrev turn-at-call : tie.After-repair-stripe-arg6 Inv-loop μ-loop → tie.In-loop Inv-loop μ-loop
 turn-at-call c = c .before .before .before .before .before .before
 
 abbrev turn-at-end : tie.After-slice-known12 Inv-loop μ-loop → tie.In-loop Inv-loop μ-loop
-turn-at-end c = c .before .before .before .before .before .before .before .before .before .before .before .before .before .before .before .before .before .before .before
+turn-at-end c = turn-at-call (c .before .before .before .before .before .before .before .before .before .before .before .before .before)
 
 abbrev stripe-at-end : tie.After-slice-known12 Inv-loop μ-loop → tie.After-repair-stripe Inv-loop μ-loop
 stripe-at-end c = c .before .before .before .before .before .before .before .before .before .before .before .before
@@ -56,7 +57,7 @@ abbrev got-at-end : tie.After-slice-known12 Inv-loop μ-loop → tie.After-got I
 got-at-end c = c .before .before .before .before .before
 
 abbrev st-at-loop : tie.After-loop Inv-loop μ-loop → tie.Start Inv-loop μ-loop
-st-at-loop c = c .before .before .before .before .before .before .before .before .before .before .before .before .before
+st-at-loop c = st-at-entry (c .before .before)
 
 facts : (c : tie.Start Inv-loop μ-loop) → Legal (c .args .sizes)
 facts c = legal-facts _ (c .pre .0)
@@ -129,8 +130,8 @@ returns c =
     let e : l .s ≡ a .stripes = omega arith in
     l .inv .0
     ∙ ap (λ (s : ℕ). puts (λ b. getD (a .fresh .now) b 0 * a .part)
-    (λ b. join s (λ t. rebuiltBy z (a .fl) (a .gl) (a .lanes) (a .ff .now) (a .gf .now) (a .rows .now) (λ j. piece (α z) t (drop (j * a .part) (a .area .now))) (a .fresh .now) (a .helpers .now) b))
-    (z .r) (a .area .now)) e
+    (λ b. join s (λ t. rebuiltBy z (a .fl) (a .gl) (a .lanes) (a .ff .now) (a .gf .now) (a .rows .now)
+    (λ j. piece (α z) t (drop (j * a .part) (a .area .now))) (a .fresh .now) (a .helpers .now) b)) (z .r) (a .area .now)) e
 
 pub repair-stripes-spec : {M : Type 1} → statement M
 repair-stripes-spec =

@@ -19,22 +19,22 @@ abbrev st-at-rows : tie.After-struct-known2 → tie.Start
 st-at-rows c = c .before .before .before .before .before .before .before .before
 
 abbrev st-at-sum : tie.After-struct-known3 → tie.Start
-st-at-sum c = c .before .before .before .before .before .before .before .before .before
+st-at-sum c = st-at-rows (c .before)
 
 abbrev st-at-firsts : tie.After-firsts → tie.Start
-st-at-firsts c = c .before .before .before .before .before .before .before .before .before .before
+st-at-firsts c = st-at-sum (c .before)
 
 abbrev st-at-seconds : tie.After-seconds → tie.Start
-st-at-seconds c = c .before .before .before .before .before .before .before .before .before .before .before
+st-at-seconds c = st-at-firsts (c .before)
 
 abbrev st-at-gs : tie.After-gs → tie.Start
-st-at-gs c = c .before .before .before .before .before .before .before .before .before .before .before .before
+st-at-gs c = st-at-seconds (c .before)
 
 abbrev st-at-got : tie.After-got → tie.Start
-st-at-got c = c .before .before .before .before .before .before .before .before .before .before .before .before .before
+st-at-got c = st-at-gs (c .before)
 
 abbrev st-at-call : tie.After-repair-stripes-arg → tie.Start
-st-at-call c = c .before .before .before .before .before .before .before .before .before .before .before .before .before .before .before
+st-at-call c = st-at-got (c .before .before)
 
 facts : (c : tie.Start) → Legal (c .args .sizes)
 facts c = legal-facts _ (c .pre .0)
