@@ -29,7 +29,7 @@ use Rattle.checks.specs.Steps.{asked, Stated}
 use Rattle.checks.specs.Outcomes.{outcome}
 use Rattle.checks.proofs.Answers.{passed}
 use Rattle.checks.proofs.Facts.{refused-by, done-by}
-use Rattle.read_stripe.specs.Steps.{Asked}
+use Rattle.decode_stripe.specs.Steps.{Asked}
 
 -- a refusal is no pass
 pub not-passed : {x : Refusal} {P : Type 0} → Refuse x ≡ Pass → P

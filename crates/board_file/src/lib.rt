@@ -7,7 +7,7 @@ ghost use Rattle.sizes.specs.Refusals.{first, boardOrder};
 ghost use Rattle.mbcr.specs.Share.{standard};
 ghost use Rattle.board_spec.specs.Calls.{fileLines, fileCall};
 ghost use Rattle.checks.specs.Outcomes.{outcome};
-ghost use Rattle.read_setup.specs.Steps.{Made};
+ghost use Rattle.decode_setup.specs.Steps.{Made};
 ghost use Rattle.board_file.specs.Steps.{Tables};
 use sizes::Answer;
 use sizes::Check;

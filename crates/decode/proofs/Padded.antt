@@ -15,7 +15,7 @@ use borrow.Rule.Slice.PartMut.{putMid}
 use Rattle.lists.specs.Tests.{pick}
 use Rattle.lists.specs.Lists.{join}
 use Rattle.decode_laws.specs.Steps.{zeros}
-use Rattle.read_stripe.proofs.Made.{part-long}
+use Rattle.decode_stripe.proofs.Made.{part-long}
 
 module _ (a : List ℕ) (i : ℕ) (h : i < length a) where
   head : zeros (drop i a) ≡ pick (eqb (getD a i 0) 0) (zeros (drop (suc i) a)) false

@@ -10,9 +10,9 @@ ghost use Rattle.lists.specs.Lists.{tabulate};
 ghost use Rattle.sizes.specs.Sizing.{B, stripes as stripesOf};
 ghost use Rattle.mbcr.specs.Read.{decodedFile, readFile};
 ghost use Rattle.decode_laws.specs.Steps.{pairsMeet, zeros, heldAt, Placed};
-ghost use Rattle.read_stripe.specs.Steps.{Asked};
-ghost use Rattle.read_setup.specs.Steps.{Made};
-ghost use Rattle.read_stripes.specs.Steps.{stripeAt};
+ghost use Rattle.decode_stripe.specs.Steps.{Asked};
+ghost use Rattle.decode_setup.specs.Steps.{Made};
+ghost use Rattle.decode_stripes.specs.Steps.{stripeAt};
 ghost use Rattle.decode.specs.Steps.{sharesAt};
 use sizes::Sizes;
 
@@ -56,7 +56,7 @@ fn pairs_meet(
     let mut gs = [0u8; 992];
     let mut fv = [0u8; 992];
     let mut gv = [0u8; 992];
-    read_pairs::stripes_meet(
+    decode_pairs::stripes_meet(
         sizes,
         points,
         boards,
@@ -88,7 +88,7 @@ fn padding(
 {
     let b = sizes.stripe_len();
     let mut u = [0u8; 992];
-    read_stripes::stripes(
+    decode_stripes::stripes(
         sizes,
         points,
         boards,
@@ -143,7 +143,7 @@ pub fn file(
     requires { ⌜ Asked sizes (now points) (now boards) × (length (now starts) ≡ sizes .k) × Placed sizes (now starts) (now bytes) stripes × (stripes ≤ 4096) × (stripes ≡ stripesOf sizes len) × Made sizes (now points) (now boards) (now tables) × (len ≤ length (now out)) ⌝ }
     ensures { λ _. ⌜ now (out .exit) ≡ decodedFile sizes (now (points .entry)) len (now (boards .entry)) (sharesAt sizes stripes (now (starts .entry)) (now (bytes .entry))) ++ drop len (now (out .entry)) ⌝ }
 {
-    read_stripes::stripes(
+    decode_stripes::stripes(
         sizes,
         points,
         boards,

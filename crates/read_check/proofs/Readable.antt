@@ -14,7 +14,7 @@ use Rattle.mbcr.specs.Share.{standard}
 use Rattle.mbcr.proofs.Points.{standard-points}
 use Rattle.store_spec.specs.Record.{Record, sound, areaLen}
 use Rattle.shared_checks.proofs.Facts.{Ready, ready, standard-enough}
-use Rattle.read_stripe.specs.Steps.{Asked}
+use Rattle.decode_stripe.specs.Steps.{Asked}
 
 pub record Readable (s : Record) (points : List ℕ) (m : ℕ) (boards : List ℕ) : Type 0 where
   pub is-ready : Ready s points

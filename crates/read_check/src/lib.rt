@@ -5,7 +5,7 @@ ghost use Rattle.sizes.specs.Refusals.{first, storeOrder};
 ghost use Rattle.mbcr.specs.Share.{standard};
 ghost use Rattle.store_spec.specs.Calls.{readLines};
 ghost use Rattle.store_checks.specs.Steps.{recordOf};
-ghost use Rattle.read_setup.specs.Steps.{Made};
+ghost use Rattle.decode_setup.specs.Steps.{Made};
 ghost use Rattle.read_check.specs.Steps.{Tables};
 use sizes::Check;
 use sizes::Sizes;

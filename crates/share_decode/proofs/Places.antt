@@ -16,7 +16,7 @@ use Rattle.sizes.specs.Sizing.{α}
 use Rattle.sizes.proofs.Legal.{Legal, row-fits, α-most}
 use Rattle.decode_laws.specs.Steps.{Placed}
 use Rattle.decode_laws.proofs.Loops.{back-part}
-use Rattle.read_stripe.proofs.Made.{part-long}
+use Rattle.decode_stripe.proofs.Made.{part-long}
 use Rattle.decode.specs.Steps.{sharesAt}
 
 as-piece : (b s : ℕ) (l : List ℕ) → take b (drop (s * b) l) ≡ piece b s l

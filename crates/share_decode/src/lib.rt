@@ -11,8 +11,8 @@ ghost use Rattle.sizes.specs.Sizing.{α, stripes as stripesOf};
 ghost use Rattle.sizes.specs.Refusals.{_when_};
 ghost use Rattle.mbcr.specs.Read.{decodedFile, readFile};
 ghost use Rattle.checks.specs.Steps.{asked};
-ghost use Rattle.read_stripe.specs.Steps.{Asked};
-ghost use Rattle.read_setup.specs.Steps.{Made};
+ghost use Rattle.decode_stripe.specs.Steps.{Asked};
+ghost use Rattle.decode_setup.specs.Steps.{Made};
 use sizes::Check;
 use sizes::Refusal;
 use sizes::Sizes;
@@ -48,7 +48,7 @@ pub fn check_agrees(
     let share = stripes * sizes.share_len();
     let mut places = [0usize; 32];
     starts(share, &mut places[0..k]);
-    read_setup::fill(sizes, points, inverses, boards, tables);
+    decode_setup::fill(sizes, points, inverses, boards, tables);
     if decode::agrees(
         sizes,
         points,

@@ -13,8 +13,8 @@ ghost use Rattle.mbcr.specs.Read.{decodedFile, readFile};
 ghost use Rattle.checks.specs.Steps.{asked};
 ghost use Rattle.store_spec.specs.Record.{held};
 ghost use Rattle.store_checks.specs.Steps.{recordOf};
-ghost use Rattle.read_stripe.specs.Steps.{Asked};
-ghost use Rattle.read_setup.specs.Steps.{Made};
+ghost use Rattle.decode_stripe.specs.Steps.{Asked};
+ghost use Rattle.decode_setup.specs.Steps.{Made};
 use sizes::Check;
 use sizes::Refusal;
 use sizes::Sizes;
@@ -51,7 +51,7 @@ pub fn check_agrees(
     let part = capacity * sizes.share_len();
     let mut starts = [0usize; 32];
     places(boards, part, &mut starts[0..k]);
-    read_setup::fill(sizes, points, inverses, boards, tables);
+    decode_setup::fill(sizes, points, inverses, boards, tables);
     if decode::agrees(
         sizes,
         points,

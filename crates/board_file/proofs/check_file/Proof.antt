@@ -23,7 +23,7 @@ use Rattle.checks.specs.Steps.{asked, statedLines, Stated}
 use Rattle.checks.proofs.Chain.{thens, grouped, goes-on, refuses, ends}
 use Rattle.checks.proofs.Facts.{stated-facts}
 use Rattle.checks.proofs.Given.{as-many, few-bytes}
-use Rattle.read_stripe.specs.Steps.{Asked}
+use Rattle.decode_stripe.specs.Steps.{Asked}
 use Rattle.board_file.proofs.FileCall.{Readable, readable, asked-of, not-passed}
 use Rattle.board_file.proofs.check_file.Statement.{statement}
 use Rattle.board_file.proofs.check_file.Tie as tie

@@ -7,7 +7,7 @@ use borrow.Author.Needs.{needs}
 use Rattle.sizes.specs.declared.Check.the-variants.{Pass}
 use Rattle.sizes.proofs.Legal.{legal-facts}
 use Rattle.mbcr.specs.Share.{standard}
-use Rattle.read_setup.specs.Steps.{Made}
+use Rattle.decode_setup.specs.Steps.{Made}
 use Rattle.board_file.proofs.FileCall.{Readable, asked-of, checked, file-readable, file-room, file-refuses, file-works}
 use Rattle.board_file.proofs.file.Statement.{statement}
 use Rattle.board_file.proofs.file.Tie as tie

@@ -2,7 +2,7 @@
 -- Assumes nothing.
 use Rattle.sizes.proofs.Legal.{Legal, legal-facts}
 use Rattle.mbcr.proofs.Points.{boards-of}
-use Rattle.read_stripe.proofs.Made.{part-long}
+use Rattle.decode_stripe.proofs.Made.{part-long}
 use Rattle.decode.proofs.Agree.{file-made, few-stripes, enough-stripes, placed-all}
 use mathlib.Core.Path.{_≡_, refl, sym, ap, ap₂, _∙_}
 use mathlib.Core.List.{List, _++_}

@@ -12,7 +12,7 @@ use Rattle.mbcr.specs.Read.{readFile, decodedFile}
 use Rattle.checks.proofs.Answers.{passes, refuses}
 use Rattle.store_spec.specs.Record.{held}
 use Rattle.store_checks.specs.Steps.{recordOf}
-use Rattle.read_stripe.proofs.Made.{part-long}
+use Rattle.decode_stripe.proofs.Made.{part-long}
 use Rattle.store_decode.proofs.Parts.{part-few, below-32, lent-long, lent-placed, lent-shares}
 use mathlib.Core.Path.{_≡_, refl, sym, ap, ap₂, _∙_}
 use mathlib.Core.List.{List, _++_}

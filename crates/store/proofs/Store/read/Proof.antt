@@ -8,7 +8,7 @@ use Rattle.mbcr.specs.Share.{standard}
 use Rattle.store_spec.specs.Record.{Record}
 use Rattle.store_spec.specs.Calls.{refused, readCall}
 use Rattle.store_spec.proofs.Records.{Reads, read-facts}
-use Rattle.read_setup.specs.Steps.{Made}
+use Rattle.decode_setup.specs.Steps.{Made}
 use Rattle.read_check.proofs.Readable.{Readable, readable}
 use Rattle.store.specs.Handing.{recordIn}
 use Rattle.store.proofs.ReadCall.{checked, read-refuses, read-works}
