@@ -39,9 +39,6 @@ st-loop c = st-struct-known2 (c .before)
 abbrev st-turn : tie.In-loop Inv-loop μ-loop → tie.Start Inv-loop μ-loop
 st-turn c = st-loop (c .before)
 
-abbrev st-loop : tie.After-loop Inv-loop μ-loop → tie.Start Inv-loop μ-loop
-st-loop c = st-loop (c .before)
-
 abbrev st-stripe-by-arg4 : tie.After-stripe-by-arg4 Inv-loop μ-loop → tie.Start Inv-loop μ-loop
 st-stripe-by-arg4 c = st-turn (c .before .before .before .before)
 
@@ -121,7 +118,7 @@ loop-again c =
 returns : tie.Need-returns Inv-loop μ-loop
 returns c =
     let l = c .before .loop in
-    let a = st-loop c .args in
+    let a = st-loop (c .before) .args in
     share-end _ (α (a .sizes)) (a .out .now) (l .out) (l .s) (a .stripes) (omega arith) (l .inv .0)
 
 pub share-by-spec : {M : Type 1} → statement M
