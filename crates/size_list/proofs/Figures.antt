@@ -8,4 +8,4 @@ use Rattle.size_list.specs.Figures.{ListFigures}
 
 pub list-figures : ListFigures
 unfolding combinations row limit listed decimal B
-list-figures = record { one-row = refl; up-to-three = refl; whole = refl; limits = refl; refused = refl; refusal = refl }
+list-figures = record { one-row = refl; up-to-three = refl; whole = refl; told = refl; limits = refl; refused = refl; refusal = refl }

@@ -4,7 +4,7 @@ use mathlib.Core.Path.{_≡_}
 use mathlib.Core.List.{List, [], _∷_}
 use Rattle.sizes.specs.declared.Sizes.{Sizes}
 use Rattle.printer.specs.Printer.{refusedLine}
-use Rattle.size_list.specs.Combinations.{combinations, limit, listed, row}
+use Rattle.size_list.specs.Combinations.{combinations, limit, listed, row, rows}
 
 abbrev pub seven : Sizes
 seven = record { n = 17; k = 3; d = 8; r = 5 }
@@ -27,6 +27,7 @@ pub record ListFigures : Type 0 where
       0x6E ∷ 0x3D ∷ 0x32 ∷ 0x20 ∷ 0x6B ∷ 0x3D ∷ 0x31 ∷ 0x20 ∷ 0x64 ∷ 0x3D ∷ 0x31 ∷ 0x20 ∷ 0x72 ∷ 0x3D ∷ 0x31 ∷ 0x20
       ∷ 0x73 ∷ 0x68 ∷ 0x61 ∷ 0x72 ∷ 0x65 ∷ 0x3D ∷ 0x32 ∷ 0x20
       ∷ 0x73 ∷ 0x74 ∷ 0x72 ∷ 0x69 ∷ 0x70 ∷ 0x65 ∷ 0x3D ∷ 0x32 ∷ 0x0A ∷ []
+  pub told : listed (0x33 ∷ 0x0A ∷ []) ≡ rows (combinations 3)
   pub limits : limit (0x33 ∷ 0x32 ∷ 0x0A ∷ []) ∷ limit (0x31 ∷ 0x37 ∷ 0x0A ∷ []) ∷ [] ≡ 32 ∷ 17 ∷ []
   -- 1, 33, 02, no byte 0A, a byte behind, a name, nothing
   pub refused :

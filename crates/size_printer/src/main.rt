@@ -3,7 +3,9 @@
 ghost use mathlib.Core.Path.{_≡_};
 ghost use Prim.Native.Nat.{_≤_};
 ghost use lib.ListN.{length};
+ghost use Rattle.size_list.specs.Combinations.{combinations, rows};
 use size_rows::Place;
+use size_rows::Run;
 
 // What a read of one byte gave.
 enum Got {
@@ -48,22 +50,29 @@ fn read_input(input: &mut [u8]) -> usize
     done
 }
 
-// Writes the lines up to a limit, in 46 blocks of 1,024 lines, of which the last ones may be empty. Answers the place where the walk ended: none is left.
-fn print(most: usize) -> Place
+// Writes the lines up to a limit, in 46 blocks of 1,024 lines, of which the last ones may be empty. Answers how many bytes were written, those of the
+// whole list, and the place where the walk ended: none is left.
+fn print(most: usize) -> Run
     requires { ⌜ (2 ≤ most) × (most ≤ 32) ⌝ }
-    ensures { λ p. ⌜ p ≡ Place.End ⌝ }
+    ensures { λ r. ⌜ r .count ≡ length (rows (combinations most)) ⌝ }
+    ensures { λ r. ⌜ r .place ≡ Place.End ⌝ }
 {
     let mut out = [0u8; 40960];
     let mut place = size_rows::first();
+    let mut total: usize = 0;
     let mut t: usize = 0;
     while t < 46 {
         let run = size_rows::fill(most, place, 1024, &mut out);
         let count = run.count;
         io::write_all(1, &out[..count]);
         place = run.place;
+        total += count;
         t += 1;
     }
-    place
+    Run {
+        count: total,
+        place: place,
+    }
 }
 
 fn main() {
