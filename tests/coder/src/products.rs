@@ -1,8 +1,8 @@
 //! Products of two bytes (request A.4 of document 02): as many as the calls can be brought to make, through the archive, against the field of the
 //! coder alone; and all of them as bytes, for `tests/products.sh`.
 //!
-//! With document 01's points a call multiplies by a point, 00 to 1F, or by the inverse of a sum of two points, which is 01 to 1F, and by nothing
-//! else but in making its inverses: these 15,136 of the 65,536 pairs are all tried here.
+//! With document 01's points a share or packet is made of products by a point, 00 to 1F, or by the inverse of a sum of two points, which is 01 to
+//! 1F: the shares and packets of these 15,136 of the 65,536 pairs are all tried here.
 
 use crate::call::{Call, Lent, Outcome};
 use crate::code::Sizes;
