@@ -10,7 +10,7 @@ use lib.Dec.{eqb}
 use lib.ListN.{length, getD, set}
 use Rattle.lists.specs.Tests.{pick}
 use Rattle.store_spec.specs.Record.{Record}
-use Rattle.words.specs.Words.{bits, fromBits, recordFrom, wordsOf}
+use Rattle.record_words.specs.Words.{bits, fromBits, recordFrom, wordsOf}
 
 pub all-set : (ws : List ℕ) (a b c d e f g h : ℕ) → length ws ≡ 8
     → set (set (set (set (set (set (set (set ws 0 a) 1 b) 2 c) 3 d) 4 e) 5 f) 6 g) 7 h ≡ a ∷ b ∷ c ∷ d ∷ e ∷ f ∷ g ∷ h ∷ []

@@ -1,4 +1,4 @@
--- Bits of a number and numbers of bits: the turns of the loops, and that one is the other's way back.
+-- What makes words a record; bits of a number and numbers of bits: the turns of the loops.
 -- Assumes nothing.
 use Prim.Native.Nat.{ℕ, zero, suc, _+_, _*_, _-_, _/_, _%_, _≤_, _<_}
 use mathlib.Core.Path.{_≡_, refl, sym, ap, ap₂, _∙_}
@@ -10,38 +10,52 @@ use lib.Dec.{eqb, ltb}
 use lib.ListN.{length, getD, drop, set, length-drop}
 use lib.Seq.{drop-cons}
 use borrow.Author.Tests.{eq-eqb, ne-eqb, eqb-true, lt-ltb, le-ltb, ltb-true}
-use Rattle.lists.specs.Tests.{pick}
-use Rattle.lists.proofs.Tests.{alls-hold}
-use Rattle.words.specs.Words.{bits, fromBits, isRecord}
+use Rattle.lists.specs.Tests.{pick, every}
+use Rattle.lists.specs.Lists.{All}
+use Rattle.lists.proofs.Alls.{all-imp}
+use Rattle.lists.proofs.Tests.{alls-hold, every-all, all-every}
+use Rattle.record_words.specs.Words.{bits, fromBits, word, isRecord}
 
--- ---- what makes eight words a record
+-- ---- what makes twelve words a record
 
-pub not-eight : (ws : List ℕ) → (length ws ≡ 8 → ⊥) → false ≡ isRecord ws
+pub not-twelve : (ws : List ℕ) → (length ws ≡ 12 → ⊥) → false ≡ isRecord ws
 unfolding isRecord
-not-eight ws h = rw (ne-eqb (length ws) 8 h) refl
+not-twelve ws h = rw (ne-eqb (length ws) 12 h) refl
 
-pub not-written : (ws : List ℕ) → length ws ≡ 8 → 1 < getD ws 5 0 → false ≡ isRecord ws
+pub not-written : (ws : List ℕ) → length ws ≡ 12 → 1 < getD ws 5 0 → false ≡ isRecord ws
 unfolding isRecord
-not-written ws e h = rw (eq-eqb (length ws) 8 e, le-ltb (getD ws 5 0) 2 (omega arith)) refl
+not-written ws e h = rw (eq-eqb (length ws) 12 e, le-ltb (getD ws 5 0) 2 (omega arith)) refl
 
 last-test : (b : Bool) → b ≡ pick b true false
 last-test true = refl
 last-test false = refl
 
-pub by-marks : (ws : List ℕ) → length ws ≡ 8 → getD ws 5 0 ≤ 1 → ltb (getD ws 7 0) 4294967296 ≡ isRecord ws
+-- words of the machine
+pub all-words : (l : List ℕ) → All (λ w. w < 18446744073709551616) l → every word l ≡ true
+all-words l h = all-every word l (all-imp (λ w. w < 18446744073709551616) (λ w. word w ≡ true) (λ w k. lt-ltb w 18446744073709551616 k) l h)
+
+pub by-marks : (ws : List ℕ) → length ws ≡ 12 → getD ws 5 0 ≤ 1 → every word (drop 8 ws) ≡ true → ltb (getD ws 7 0) 4294967296 ≡ isRecord ws
 unfolding isRecord
-by-marks ws e h = rw (eq-eqb (length ws) 8 e, lt-ltb (getD ws 5 0) 2 (omega arith)) (last-test (ltb (getD ws 7 0) 4294967296))
+by-marks ws e h w = rw (eq-eqb (length ws) 12 e, lt-ltb (getD ws 5 0) 2 (omega arith), w) (last-test (ltb (getD ws 7 0) 4294967296))
 
 pub record Words (ws : List ℕ) : Type 0 where
-  pub eight : length ws ≡ 8
+  pub twelve : length ws ≡ 12
   pub flag : getD ws 5 0 < 2
   pub marks-few : getD ws 7 0 < 4294967296
+  pub point-words : All (λ w. w < 18446744073709551616) (drop 8 ws)
 
 pub words-facts : (ws : List ℕ) → isRecord ws ≡ true → Words ws
 unfolding isRecord
 words-facts ws h =
-    let e = alls-hold (eqb (length ws) 8 ∷ ltb (getD ws 5 0) 2 ∷ ltb (getD ws 7 0) 4294967296 ∷ []) h in
-    record { eight = eqb-true _ _ (e .0); flag = ltb-true _ _ (e .1 .0); marks-few = ltb-true _ _ (e .1 .1 .0) }
+    let e = alls-hold (eqb (length ws) 12 ∷ ltb (getD ws 5 0) 2 ∷ ltb (getD ws 7 0) 4294967296 ∷ every word (drop 8 ws) ∷ []) h in
+    record {
+      twelve = eqb-true _ _ (e .0);
+      flag = ltb-true _ _ (e .1 .0);
+      marks-few = ltb-true _ _ (e .1 .1 .0);
+      point-words =
+          all-imp (λ w. word w ≡ true) (λ w. w < 18446744073709551616) (λ w k. ltb-true w 18446744073709551616 k) (drop 8 ws)
+          (every-all word (drop 8 ws) (e .1 .1 .1 .0));
+    }
 
 -- ---- the loop that fills in marks
 
