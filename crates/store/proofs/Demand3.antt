@@ -5,7 +5,6 @@ use mathlib.Core.List.{List, [], _∷_, map}
 use Prim.Native.Nat.{ℕ}
 use lib.ListN.{length}
 use Rattle.sizes.specs.declared.Sizes.{Sizes}
-use Rattle.mbcr.specs.Share.{standard}
 use Rattle.store_spec.specs.Record.{Record}
 use Rattle.store_spec.specs.Calls.{StoreOutcome}
 use Rattle.store_spec.specs.Ledger.{Step, State, Reply, replyOf, left, act, replies, final, openBook, bookFinal}
@@ -37,9 +36,9 @@ pub code-demand-3 : CodeDemand3
 unfolding act
 code-demand-3 old z c new made accepted area steps run ok r =
     let d = demand-3-standard (recordIn old) z c area steps (ap (λ (o : StoreOutcome). o .answer .refusal) (sym made) ∙ accepted) ok in
-    let e : recordIn (new .store) ≡ begun (recordIn old) z c area .kept = ap (λ (o : StoreOutcome). o .handed) made in (
+    let e : recordIn (new .store) ≡ begun (recordIn old) z xs c area .kept = ap (λ (o : StoreOutcome). o .handed) made in (
       answers (new .store) area steps run r ∙ ap (λ (k : Record). replies standard (record { kept = k; area = area }) steps) e ∙ d .alike,
-      subst (λ (w : State). Intact standard w (bookFinal (openBook z c (length area)) (calls steps)))
+      subst (λ (w : State). Intact w (bookFinal (openBook z xs c (length area)) (calls steps)))
           (ap (λ (k : Record). final standard (record { kept = k; area = area }) steps) (sym e) ∙ ends (new .store) area steps run r) (d .after),
       λ s any fresh helpers h m ok. d .repaired (recordIn s) any fresh helpers (ap (λ (o : StoreOutcome). o .answer .refusal) (sym m) ∙ ok),
     )
