@@ -18,7 +18,7 @@
  * What the caller owes: a pointer is followed by the number of its elements, and points to that many, aligned as their type asks; it is not
  * NULL, also where that number is 0; and what a call may change (record, area, out) does not overlap anything else that the call is lent, and
  * no other thread uses it meanwhile. The record must be writable in every call that takes it, a read and a refusal included: such a call may
- * write words again as they are. A call takes less than 32 kB of stack, as measured. size_t
+ * write words again as they are. A call takes less than 64 kB of stack, as measured. size_t
  * has 64 bits.
  *
  * Lists of shares and packets are one buffer each, the pieces one after another in the order of their list of boards.

@@ -12,7 +12,7 @@ use lib.Seq.{drop-drop, length-take-le}
 use borrow.Rule.Slice.PartMut.{putMid}
 use Rattle.lists.specs.Lists.{join, put}
 use Rattle.lists.proofs.Pieces.{length-join, join-suc}
-use Rattle.lists.proofs.Put.{length-put, put-append, put-comm}
+use Rattle.lists.proofs.Put.{length-put, put-append, put-comm, put-before, put-after}
 use Rattle.puts.specs.Steps.{puts}
 
 pub puts-same : (p q : ℕ → ℕ) (f g : ℕ → List ℕ) (m : ℕ) (l : List ℕ) → ((a : ℕ) → a < m → p a ≡ q a) → ((a : ℕ) → a < m → f a ≡ g a) → puts p f m l ≡ puts q g m l
@@ -64,36 +64,55 @@ puts-comm p f (suc m) l q b h hq d =
     ap (λ (x : List ℕ). put x (p m) (f m)) (puts-comm p f m l q b (λ a k. h a (omega arith)) hq (λ a k. d a (omega arith)))
     ∙ either (puts p f m l) q b (p m) (f m) (d m (omega arith)) (omega (arith, e, hq)) (omega (arith, e, h m (omega arith)))
 
--- stripe s behind the stripes before it, in parts of W bytes that are apart
-module _ (p : ℕ → ℕ) (W w s : ℕ) (g : ℕ → ℕ → List ℕ) (long : (a t : ℕ) → length (g a t) ≡ w) (room : s * w + w ≤ W) where
-  before : (a : ℕ) → length (join s (g a)) ≡ s * w
-  before a = length-join s w (g a) (λ t h. long a t)
+-- stripe s behind the stripes before it, in M parts of W bytes that are apart
+module _ (p : ℕ → ℕ) (W w s M : ℕ) (g : ℕ → ℕ → List ℕ) (long : (a t : ℕ) → a < M → length (g a t) ≡ w) (room : s * w + w ≤ W) where
+  before : (a : ℕ) → a < M → length (join s (g a)) ≡ s * w
+  before a k = length-join s w (g a) (λ t h. long a t k)
 
-  pub puts-stripe : (m : ℕ) (l : List ℕ) → ((a : ℕ) → a < m → p a + W ≤ length l) → ((a b : ℕ) → a < b → b < m → (p b + W ≤ p a) ⊎ (p a + W ≤ p b))
+  after : (a : ℕ) → a < M → length (join (s + 1) (g a)) ≡ s * w + w
+  after a k = length-join (s + 1) w (g a) (λ t h. long a t k) ∙ ap (λ (m : ℕ). m * w) (add-one s) ∙ suc-mul s w
+
+  -- those of the first m parts
+  stripes-of : (m : ℕ) (l : List ℕ) → m ≤ M → ((a : ℕ) → a < m → p a + W ≤ length l) → ((a b : ℕ) → a < b → b < m → (p b + W ≤ p a) ⊎ (p a + W ≤ p b))
       → puts (λ a. p a + s * w) (λ a. g a s) m (puts p (λ a. join s (g a)) m l) ≡ puts p (λ a. join (s + 1) (g a)) m l
-  puts-stripe zero l h d = refl
-  puts-stripe (suc m) l h d =
+  stripes-of zero l few h d = refl
+  stripes-of (suc m) l few h d =
       let base : List ℕ = puts p (λ a. join s (g a)) m l in
-      let e : length base ≡ length l = length-puts p (λ a. join s (g a)) m l (λ a k. let x = h a (omega arith) in omega (arith, x, before a, room)) in
+      let e : length base ≡ length l =
+      length-puts p (λ a. join s (g a)) m l (λ a k. let x = h a (omega arith) in omega (arith, x, before a (omega arith), room)) in
       let hm = h m (omega arith) in
+      let bm = before m (omega arith) in
       ap (λ (x : List ℕ). put x (p m + s * w) (g m s))
       (puts-comm (λ a. p a + s * w) (λ a. g a s) m base (p m) (join s (g m))
-      (λ a k. let x = h a (omega arith) in omega (arith, x, e, long a s, room))
-      (omega (arith, e, hm, before m, room))
+      (λ a k. let x = h a (omega arith) in omega (arith, x, e, long a s (omega arith), room))
+      (omega (arith, e, hm, bm, room))
       (λ a k.
-      ⊎-elim (λ x. inl (omega (arith, x, before m, room))) (λ x. inr (omega (arith, x, long a s, room))) (d a m k (omega arith))))
-      ∙ ap (λ (x : List ℕ). put (put x (p m) (join s (g m))) (p m + s * w) (g m s)) (puts-stripe m l (λ a k. h a (omega arith)) (λ a b k j. d a b k (omega arith)))
-      ∙ behind (puts p (λ a. join (s + 1) (g a)) m l) (length-puts p (λ a. join (s + 1) (g a)) m l (λ a k. let x = h a (omega arith) in omega (arith, x, after a, room)))
+      ⊎-elim (λ x. inl (omega (arith, x, bm, room))) (λ x. inr (omega (arith, x, long a s (omega arith), room))) (d a m k (omega arith))))
+      ∙ ap (λ (x : List ℕ). put (put x (p m) (join s (g m))) (p m + s * w) (g m s)) (stripes-of m l (omega arith) (λ a k. h a (omega arith)) (λ a b k j. d a b k (omega arith)))
+      ∙ behind (puts p (λ a. join (s + 1) (g a)) m l)
+      (length-puts p (λ a. join (s + 1) (g a)) m l (λ a k. let x = h a (omega arith) in omega (arith, x, after a (omega arith), room)))
     where
-      after : (a : ℕ) → length (join (s + 1) (g a)) ≡ s * w + w
-      after a = length-join (s + 1) w (g a) (λ t h. long a t) ∙ ap (λ (m : ℕ). m * w) (add-one s) ∙ suc-mul s w
-
       behind : (x : List ℕ) → length x ≡ length l → put (put x (p m) (join s (g m))) (p m + s * w) (g m s) ≡ put x (p m) (join (s + 1) (g m))
       behind x e =
           let hm = h m (omega arith) in
-          ap (λ (v : ℕ). put (put x (p m) (join s (g m))) (p m + v) (g m s)) (sym (before m))
-          ∙ sym (put-append x (p m) (join s (g m)) (g m s) (omega (arith, e, hm, before m, long m s, room)))
+          let bm = before m (omega arith) in
+          ap (λ (v : ℕ). put (put x (p m) (join s (g m))) (p m + v) (g m s)) (sym bm)
+          ∙ sym (put-append x (p m) (join s (g m)) (g m s) (omega (arith, e, hm, bm, long m s (omega arith), room)))
           ∙ ap (put x (p m)) (sym (ap (λ (n : ℕ). join n (g m)) (add-one s) ∙ join-suc s (g m)))
+
+  pub puts-stripe : (l : List ℕ) → ((a : ℕ) → a < M → p a + W ≤ length l) → ((a b : ℕ) → a < b → b < M → (p b + W ≤ p a) ⊎ (p a + W ≤ p b))
+      → puts (λ a. p a + s * w) (λ a. g a s) M (puts p (λ a. join s (g a)) M l) ≡ puts p (λ a. join (s + 1) (g a)) M l
+  puts-stripe l h d = stripes-of M l (omega arith) h d
+
+-- what stands apart from all of them stays
+pub puts-other : (p : ℕ → ℕ) (f : ℕ → List ℕ) (m : ℕ) (l : List ℕ) (q v : ℕ) → ((a : ℕ) → a < m → p a + length (f a) ≤ length l)
+    → ((a : ℕ) → a < m → (q + v ≤ p a) ⊎ (p a + length (f a) ≤ q)) → take v (drop q (puts p f m l)) ≡ take v (drop q l)
+puts-other p f zero l q v h d = refl
+puts-other p f (suc m) l q v h d =
+    let e : length (puts p f m l) ≡ length l = length-puts p f m l (λ a k. h a (omega arith)) in
+    let fits : p m + length (f m) ≤ length (puts p f m l) = omega (arith, e, h m (omega arith)) in
+    ⊎-elim (λ k. put-before (puts p f m l) (p m) (f m) fits q v k) (λ k. ap (take v) (put-after (puts p f m l) (p m) (f m) fits q k)) (d m (omega arith))
+    ∙ puts-other p f m l q v (λ a k. h a (omega arith)) (λ a k. d a (omega arith))
 
 -- ---- before the first stripe
 

@@ -1,24 +1,27 @@
 -- What the kernel of a repair asks, from what its check told. And what its single checks told.
 -- Assumes nothing.
-use Prim.Native.Nat.{ℕ, _*_, _≤_, _<_}
-use mathlib.Core.Path.{_≡_}
+use Prim.Native.Nat.{ℕ, zero, suc, _*_, _≤_, _<_}
+use mathlib.Core.Path.{_≡_, ap, _∙_}
 use mathlib.Core.Bool.{true}
 use mathlib.Core.List.{List, [], _∷_, _++_}
 use native.Mathlib.Nat.{mul-le-mul}
 use native.Mathlib.Omega.{arith}
 use lib.Dec.{eqb}
-use lib.ListN.{length}
+use lib.ListN.{length, take, drop}
 use borrow.Author.Tests.{eqb-true}
-use Rattle.lists.specs.Tests.{below, different, apart}
+use Rattle.lists.specs.Tests.{every, below, different, apart}
+use Rattle.lists.specs.Lists.{piece}
 use Rattle.lists.proofs.Alls.{all-left, all-right}
 use Rattle.lists.proofs.Boards.{below-all, all-below}
-use Rattle.lists.proofs.Tests.{not-no, alls-hold}
+use Rattle.lists.proofs.Pieces.{piece-zero, piece-suc}
+use Rattle.lists.proofs.Tests.{both, not-no, alls-hold}
 use Rattle.sizes.specs.declared.Sizes.{Sizes}
 use Rattle.sizes.specs.declared.Check.the-variants.{Pass}
 use Rattle.sizes.specs.Sizing.{legal}
 use Rattle.sizes.proofs.Legal.{legal-facts}
 use Rattle.board_spec.specs.Calls.{countLine}
 use Rattle.store_spec.specs.Record.{Record, areaLen}
+use Rattle.store_spec.specs.Packets.{hearHelpers}
 use Rattle.store_spec.proofs.Records.{Repairs}
 use Rattle.checks.specs.Steps.{asked}
 use Rattle.checks.proofs.Answers.{passed, passes}
@@ -32,7 +35,18 @@ pub record Repairable (s : Record) (m : ℕ) (fresh helpers : List ℕ) : Type 0
   pub helpers-known : below (s .sizes .n) helpers ≡ true
   pub fresh-different : different fresh ≡ true
   pub none-fresh : apart fresh helpers ≡ true
+  pub runs-different : (a : ℕ) → a < s .sizes .r → different (piece (s .sizes .d) a helpers) ≡ true
   pub area-is : m ≡ areaLen s
+
+-- no fresh board names a helper twice
+run-different : (d : ℕ) (fresh helpers : List ℕ) → every (λ h. different (h .senders)) (hearHelpers d fresh helpers) ≡ true
+    → (a : ℕ) → a < length fresh → different (piece d a helpers) ≡ true
+run-different d [] helpers h a k = absurd (omega arith)
+run-different d (i ∷ fresh) helpers h zero k =
+    ap different (piece-zero d helpers) ∙ both (different (take d helpers)) (every (λ h. different (h .senders)) (hearHelpers d fresh (drop d helpers))) h .0
+run-different d (i ∷ fresh) helpers h (suc a) k =
+    ap different (piece-suc d a helpers)
+    ∙ run-different d fresh (drop d helpers) (both (different (take d helpers)) (every (λ h. different (h .senders)) (hearHelpers d fresh (drop d helpers))) h .1) a (omega arith)
 
 pub repairable : (s : Record) (m : ℕ) (fresh helpers : List ℕ) → Repairs s m fresh helpers → Repairable s m fresh helpers
 repairable s m fresh helpers k =
@@ -46,6 +60,7 @@ repairable s m fresh helpers k =
       helpers-known = all-below n helpers (all-right (λ x. x < n) fresh helpers all);
       fresh-different = k .fresh-different;
       none-fresh = k .none-fresh;
+      runs-different = λ a h. run-different (s .sizes .d) fresh helpers (k .hear-different) a (omega (arith, h, k .fresh-count));
       area-is = k .area-is;
     }
 

@@ -21,8 +21,7 @@ use Rattle.sizes.proofs.Legal.{Legal}
 use Rattle.factors.proofs.Values.{board-below}
 use Rattle.finish_rows.specs.Steps.{boardRows}
 use Rattle.finish_rows.proofs.Finished.{length-board-rows}
-use Rattle.repair_hear.specs.Steps.{past, partnersAt}
-use Rattle.repair_rows.specs.Steps.{freshRows}
+use Rattle.repair_rows.specs.Steps.{past, partnersAt, freshRows}
 
 pub past-under : (a u : ℕ) → u < a → u ≡ past a u
 past-under a u h = go (ltb u a) refl

@@ -9,8 +9,7 @@ ghost use Rattle.lists.specs.Tests.{below};
 ghost use Rattle.lists.specs.Lists.{tabulate, join};
 ghost use Rattle.gf256.specs.Field.{inverse};
 ghost use Rattle.sizes.specs.Sizing.{legal};
-ghost use Rattle.repair_hear.specs.Steps.{past, partnersAt};
-ghost use Rattle.repair_rows.specs.Steps.{freshRows};
+ghost use Rattle.repair_rows.specs.Steps.{past, partnersAt, freshRows};
 
 // The place of the u-th board other than the a-th.
 pub fn past(a: usize, u: usize) -> usize

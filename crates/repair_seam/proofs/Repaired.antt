@@ -17,9 +17,9 @@ use Rattle.store_spec.specs.Calls.{repairCall}
 use Rattle.store_spec.proofs.Packets.{heard-run}
 use Rattle.store_spec.proofs.Records.{Repairs}
 use Rattle.store_spec.proofs.Stripes.{repair-by-stripes}
-use Rattle.repair_hear.specs.Steps.{puts}
+use Rattle.puts.specs.Steps.{puts}
+use Rattle.puts.proofs.Puts.{puts-same}
 use Rattle.store_repair.specs.Steps.{rebuilt}
-use Rattle.store_repair.proofs.Puts.{puts-same}
 use Rattle.store_repair.proofs.Rebuilt.{rebuilt-same}
 use Rattle.repair_seam.proofs.Places.{stripe-same}
 
@@ -62,11 +62,13 @@ module _ (xs : List ℕ) (s : Record) (area fresh helpers : List ℕ) (f : Repai
   share-at a h =
       join-ext (stripeCount s) _ _
       (λ t k.
-      rebuilt-same (s .sizes) xs fresh helpers (λ j. piece (α (s .sizes)) t (drop (j * partLen s) area)) (λ j. piece (α (s .sizes)) t (held s area j)) (among-all _ helpers (λ j e. sym (held-piece s area t j k))) a
+      rebuilt-same (s .sizes) xs fresh helpers (λ j. piece (α (s .sizes)) t (drop (j * partLen s) area)) (λ j. piece (α (s .sizes)) t (held s area j))
+      (among-all _ helpers (λ j e. sym (held-piece s area t j k))) a
       ∙ sym (stripe-same (s .sizes) xs (λ j. piece (α (s .sizes)) t (held s area j)) fresh helpers H (f .fresh-count) (f .helper-count) (f .fresh-different) runs a h))
       ∙ sym (repair-by-stripes xs s area fresh helpers done (getD fresh a 0) (getD-among fresh a (omega (arith, h, f .fresh-count))))
 
-  pub repaired : puts (λ a. getD fresh a 0 * partLen s) (λ a. join (stripeCount s) (λ t. rebuilt (s .sizes) xs (λ j. piece (α (s .sizes)) t (drop (j * partLen s) area)) fresh helpers a)) (s .sizes .r) area
+  pub repaired : puts (λ a. getD fresh a 0 * partLen s)
+      (λ a. join (stripeCount s) (λ t. rebuilt (s .sizes) xs (λ j. piece (α (s .sizes)) t (drop (j * partLen s) area)) fresh helpers a)) (s .sizes .r) area
       ≡ putShares s (freshShare xs s area fresh helpers) fresh area
   repaired =
       puts-same (λ a. getD fresh a 0 * partLen s) (λ a. getD fresh a 0 * partLen s) _ (λ a. freshShare xs s area fresh helpers (getD fresh a 0)) (s .sizes .r) area (λ a h. refl) share-at

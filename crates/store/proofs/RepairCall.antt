@@ -17,7 +17,7 @@ use Rattle.store_spec.specs.Calls.{StoreOutcome, accepted, refused, repairLines
 use Rattle.store_spec.proofs.Records.{repair-facts, sound-facts}
 use Rattle.store_spec.proofs.Real.{code-lengths}
 use Rattle.store_spec.proofs.Repair.{moved-is}
-use Rattle.repair_hear.specs.Steps.{puts}
+use Rattle.puts.specs.Steps.{puts}
 use Rattle.store_repair.specs.Steps.{rebuilt}
 use Rattle.repair_seam.proofs.Repaired.{repaired}
 use Rattle.store.proofs.Settled.{refused-by, done-by}

@@ -151,7 +151,7 @@ impl Store {
             return refuse(self, x);
         }
         let mut inverses = [0u8; 256];
-        interpolation::fill_inverses(&mut inverses);
+        inverses::fill_inverses(&mut inverses);
         let stripes = checks::stripe_count(sizes, length);
         let moved = bytes_moved(sizes, stripes);
         store_repair::repair_shares(

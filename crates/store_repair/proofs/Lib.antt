@@ -1,3 +1,4 @@
-pub mod Puts
+pub mod Partners
 pub mod Rebuilt
+pub mod ByRows
 pub mod Turn

@@ -61,7 +61,7 @@ module _ (z : Sizes) (legal : Legal z) (xs file area₀ : List ℕ) (part : ℕ)
       → new ≡ puts (λ i. i * part + s * α z) (λ i. keptAt i s) (z .n) area → new ≡ upTo (s + 1)
   turn s area new room ea en =
       en ∙ ap (puts (λ i. i * part + s * α z) (λ i. keptAt i s) (z .n)) ea
-      ∙ puts-stripe (λ i. i * part) part (α z) s keptAt (λ i t. length-kept z xs legal (stripe z file t) i) room (z .n) area₀
+      ∙ puts-stripe (λ i. i * part) part (α z) s (z .n) keptAt (λ i t h. length-kept z xs legal (stripe z file t) i) room area₀
       (λ i h. omega (arith, row-fits i (z .n) part h)) (λ a b h k. inr (row-fits a b part h))
 
 -- all stripes are the shares

@@ -1,179 +1,135 @@
 -- `repair_finish::finish` meets its contract: the callees' contracts, put together.
 -- Assumes nothing.
-use Prim.Native.Nat.{_+_, _*_, _-_, _≤_}
-use mathlib.Core.Path.{ap, _∙_}
-use lib.Seq.{length-take-le}
-use native.Mathlib.Nat.{sub-zero}
-use native.Mathlib.Omega.{arith}
+use mathlib.Core.Path.{_≡_, refl, sym, ap, _∙_}
+use Prim.Native.Nat.{ℕ, _+_, _*_, _-_, _<_, _≤_}
+use lib.ListN.{length, getD, take, drop, length-take, length-drop}
+use Rattle.lists.proofs.Put.{part-end}
+use Rattle.lists.proofs.Pieces.{part-piece}
+use Rattle.sizes.specs.Sizing.{α}
+use Rattle.sizes.proofs.Legal.{Legal, legal-facts}
+use Rattle.factors.proofs.Values.{board-below}
+use Rattle.repair_hear.proofs.Heard.{cut-long}
+use Rattle.repair_rows.proofs.Others.{few-rows}
+use Rattle.repair_finish.proofs.Finished.{mul-few, row-rest, stripe-made}
 use borrow.Author.Needs.{needs}
-use lib.ListN.{length, length-append}
-use Rattle.lists.specs.Tests.{below}
-use Rattle.lists.proofs.Pieces.{part-piece, length-tabulate}
-use Rattle.sizes.proofs.Legal.{legal-facts, row-fits}
-use Rattle.own.proofs.Made.{board-below}
-use Rattle.repair_hear.proofs.Heard.{few-runs, below-part, cut-long}
-use Rattle.repair_finish.proofs.Made.{front-is, partners-below, stripe-is}
+use native.Mathlib.Omega.{arith}
 use Rattle.repair_finish.proofs.finish.Statement.{statement}
 use Rattle.repair_finish.proofs.finish.Tie as tie
 
-sub-m : tie.Need-sub-m
-sub-m c = legal-facts _ (c .before .before .before .before .before .before .before .before .before .pre .0) .some-fresh
+-- the places
+abbrev st-at-struct-known : tie.After-struct-known → tie.Start
+st-at-struct-known c = c .before .before .before .before .before .before .before .before
 
-mul-i : tie.Need-mul-i
-mul-i c = let f = legal-facts _ (c .before .before .before .before .before .before .before .before .before .pre .0) in omega (arith, f .enough, f .few, c .before .before .before .before .before .before .before .before .before .pre .10)
+abbrev st-at-struct-known2 : tie.After-struct-known2 → tie.Start
+st-at-struct-known2 c = st-at-struct-known (c .before)
 
-shared-slice-read-i : tie.Need-shared-slice-read-i
-shared-slice-read-i c = omega (arith, c .before .before .before .before .before .before .before .before .before .before .pre .10, c .before .before .before .before .before .before .before .before .before .before .pre .3)
+abbrev st-at-struct-known3 : tie.After-struct-known3 → tie.Start
+st-at-struct-known3 c = st-at-struct-known2 (c .before)
 
-mul-from : tie.Need-mul-from
-mul-from c = omega (arith, row-fits (c .before .before .before .before .before .before .before .before .before .before .args .a) (c .before .before .before .before .before .before .before .before .before .before .args .sizes .r) (c .before .before .before .before .before .before .before .before .before .before .args .sizes .d) (c .before .before .before .before .before .before .before .before .before .before .pre .10), few-runs (c .before .before .before .before .before .before .before .before .before .before .args .sizes) (legal-facts _ (c .before .before .before .before .before .before .before .before .before .before .pre .0)))
+abbrev st-at-board : tie.After-shared-slice-known5 → tie.Start
+st-at-board c = st-at-struct-known3 (c .before)
 
-add-to : tie.Need-add-to
-add-to c = omega (arith, row-fits (c .before .before .before .before .before .before .before .before .before .before .args .a) (c .before .before .before .before .before .before .before .before .before .before .args .sizes .r) (c .before .before .before .before .before .before .before .before .before .before .args .sizes .d) (c .before .before .before .before .before .before .before .before .before .before .pre .10), few-runs (c .before .before .before .before .before .before .before .before .before .before .args .sizes) (legal-facts _ (c .before .before .before .before .before .before .before .before .before .before .pre .0)))
+abbrev st-at-gather : tie.After-gather-arg → tie.Start
+st-at-gather c = st-at-board (c .before)
 
-shared-slice-read-partners : tie.Need-shared-slice-read-partners
-shared-slice-read-partners c = omega (arith, board-below (c .before .before .before .before .before .before .before .before .before .before .before .args .sizes .n) (c .before .before .before .before .before .before .before .before .before .before .before .args .fresh .now) (c .before .before .before .before .before .before .before .before .before .before .before .args .a) (c .before .before .before .before .before .before .before .before .before .before .before .pre .4) (omega (arith, c .before .before .before .before .before .before .before .before .before .before .before .pre .10, c .before .before .before .before .before .before .before .before .before .before .before .pre .3)), c .before .before .before .before .before .before .before .before .before .before .before .pre .1)
+abbrev st-at-got : tie.After-slice-known4 → tie.Start
+st-at-got c = st-at-gather (c .before .before .before)
 
-sub-partners : tie.Need-sub-partners
-sub-partners c = search needs
+abbrev st-at-rows : tie.After-finish-arg → tie.Start
+st-at-rows c = st-at-got (c .before)
 
-part-boards-start : tie.Need-part-boards-start
-part-boards-start c = search needs
+abbrev st-at-finish : tie.After-finish-arg5 → tie.Start
+st-at-finish c = st-at-rows (c .before .before .before .before)
 
-part-boards-end : tie.Need-part-boards-end
-part-boards-end c = let f = legal-facts _ (c .before .before .before .before .before .before .before .before .before .before .before .pre .0) in omega (arith, f .enough, f .few)
+abbrev got-at-finish : tie.After-finish-arg5 → tie.After-got
+got-at-finish c = c .before .before .before .before .before .before
 
-sub-partners-2 : tie.Need-sub-partners-2
-sub-partners-2 c = search needs
+abbrev st-at-end : tie.After-slice-known7 → tie.Start
+st-at-end c = st-at-finish (c .before .before .before .before .before .before .before)
 
-part-sent-start : tie.Need-part-sent-start
-part-sent-start c = search needs
+abbrev gather-at-end : tie.After-slice-known7 → tie.After-gather
+gather-at-end c = c .before .before .before .before .before .before .before .before .before .before .before .before .before .before
 
-part-sent-end : tie.Need-part-sent-end
-part-sent-end c = let f = legal-facts _ (c .before .before .before .before .before .before .before .before .before .before .before .before .pre .0) in omega (arith, f .enough, f .few)
+abbrev got-at-end : tie.After-slice-known7 → tie.After-got
+got-at-end c = got-at-finish (c .before .before .before .before .before .before .before)
 
-partners-requires : tie.Need-partners-requires
-partners-requires c κs =
-    let p = c .before .before .before .before .before .before .before .before .before .before .before .before .before .pre in
-    let f = legal-facts _ (p .0) in
-    let k : c .before .before .before .before .before .before .before .before .before .before .before .before .before .args .sizes .r - 1 - 0 ≤ 32 = omega (arith, f .enough, f .few) in
-    (p .0, p .3, p .9, p .10, length-take-le (c .before .before .before .before .before .before .before .before .before .before .before .before .before .args .sizes .r - 1 - 0) _ k ∙ sub-zero (c .before .before .before .before .before .before .before .before .before .before .before .before .before .args .sizes .r - 1), length-take-le (c .before .before .before .before .before .before .before .before .before .before .before .before .before .args .sizes .r - 1 - 0) _ k ∙ sub-zero (c .before .before .before .before .before .before .before .before .before .before .before .before .before .args .sizes .r - 1))
+abbrev finish-at-end : tie.After-slice-known7 → tie.After-finish
+finish-at-end c = c .before .before .before .before .before .before
 
-mul-finished-stripe : tie.Need-mul-finished-stripe
-mul-finished-stripe c = omega (arith, row-fits (c .before .before .before .before .before .before .before .before .before .before .before .before .before .before .before .before .args .a) (c .before .before .before .before .before .before .before .before .before .before .before .before .before .before .before .before .args .sizes .r) (c .before .before .before .before .before .before .before .before .before .before .before .before .before .before .before .before .args .sizes .d) (c .before .before .before .before .before .before .before .before .before .before .before .before .before .before .before .before .pre .10), few-runs (c .before .before .before .before .before .before .before .before .before .before .before .before .before .before .before .before .args .sizes) (legal-facts _ (c .before .before .before .before .before .before .before .before .before .before .before .before .before .before .before .before .pre .0)))
+facts : (c : tie.Start) → Legal (c .args .sizes)
+facts c = legal-facts _ (c .pre .0)
 
-sub-finished-stripe : tie.Need-sub-finished-stripe
-sub-finished-stripe c = search needs
+-- the bytes of the rows of one fresh board
+abbrev one : tie.Start → ℕ
+one c = (c .args .sizes .d + (c .args .sizes .d + c .args .sizes .r)) * 32
 
-part-finished-stripe-start : tie.Need-part-finished-stripe-start
-part-finished-stripe-start c = search needs
+-- where its own rows end, and its row of g
+ends : (c : tie.Start)
+    → let a = c .args in let r = a .sizes .r in
+    (a .a * one c + one c ≤ r * one c) × (r * one c ≤ 32768) × (a .a * a .lanes + a .lanes ≤ r * a .lanes) × (r * a .lanes ≤ 1024)
+ends c =
+    let a = c .args in
+    let z = a .sizes in
+    let f = facts c in
+    (part-end (a .a) (one c) (z .r) (c .pre .8), few-rows z f, part-end (a .a) (a .lanes) (z .r) (c .pre .8), mul-few (z .r) (a .lanes) (omega arith) (c .pre .2) refl)
 
-part-finished-stripe-end : tie.Need-part-finished-stripe-end
-part-finished-stripe-end c = omega (arith, row-fits (c .before .before .before .before .before .before .before .before .before .before .before .before .before .before .before .before .args .a) (c .before .before .before .before .before .before .before .before .before .before .before .before .before .before .before .before .args .sizes .r) (c .before .before .before .before .before .before .before .before .before .before .before .before .before .before .before .before .args .sizes .d) (c .before .before .before .before .before .before .before .before .before .before .before .before .before .before .before .before .pre .10), few-runs (c .before .before .before .before .before .before .before .before .before .before .before .before .before .before .before .before .args .sizes) (legal-facts _ (c .before .before .before .before .before .before .before .before .before .before .before .before .before .before .before .before .pre .0)), c .before .before .before .before .before .before .before .before .before .before .before .before .before .before .before .before .pre .5)
+-- it is one of the boards
+known : (c : tie.Start) → getD (c .args .fresh .now) (c .args .a) 0 < c .args .sizes .n
+known c = board-below (c .args .sizes .n) (c .args .fresh .now) (c .args .a) (c .pre .5) (omega (arith, c .pre .4, c .pre .8))
 
-sub-finished-stripe-2 : tie.Need-sub-finished-stripe-2
-sub-finished-stripe-2 c = search needs
+gather-requires : tie.Need-gather-requires
+gather-requires c κs =
+    let p = st-at-gather c .pre in
+    (p .0, p .2, omega (arith, known (st-at-gather c), p .1), p .8, p .6, p .7, p .9)
 
-part-finished-stripe-start-2 : tie.Need-part-finished-stripe-start-2
-part-finished-stripe-start-2 c = search needs
-
-part-finished-stripe-end-2 : tie.Need-part-finished-stripe-end-2
-part-finished-stripe-end-2 c = omega (arith, row-fits (c .before .before .before .before .before .before .before .before .before .before .before .before .before .before .before .before .before .args .a) (c .before .before .before .before .before .before .before .before .before .before .before .before .before .before .before .before .before .args .sizes .r) (c .before .before .before .before .before .before .before .before .before .before .before .before .before .before .before .before .before .args .sizes .d) (c .before .before .before .before .before .before .before .before .before .before .before .before .before .before .before .before .before .pre .10), few-runs (c .before .before .before .before .before .before .before .before .before .before .before .before .before .before .before .before .before .args .sizes) (legal-facts _ (c .before .before .before .before .before .before .before .before .before .before .before .before .before .before .before .before .before .pre .0)), c .before .before .before .before .before .before .before .before .before .before .before .before .before .before .before .before .before .pre .7)
-
-sub-finished-stripe-3 : tie.Need-sub-finished-stripe-3
-sub-finished-stripe-3 c = search needs
-
-part-finished-stripe-start-3 : tie.Need-part-finished-stripe-start-3
-part-finished-stripe-start-3 c = search needs
-
-part-finished-stripe-end-3 : tie.Need-part-finished-stripe-end-3
-part-finished-stripe-end-3 c = omega (arith, row-fits (c .before .before .before .before .before .before .before .before .before .before .before .before .before .before .before .before .before .before .args .a) (c .before .before .before .before .before .before .before .before .before .before .before .before .before .before .before .before .before .before .args .sizes .r) (c .before .before .before .before .before .before .before .before .before .before .before .before .before .before .before .before .before .before .args .sizes .d) (c .before .before .before .before .before .before .before .before .before .before .before .before .before .before .before .before .before .before .pre .10), few-runs (c .before .before .before .before .before .before .before .before .before .before .before .before .before .before .before .before .before .before .args .sizes) (legal-facts _ (c .before .before .before .before .before .before .before .before .before .before .before .before .before .before .before .before .before .before .pre .0)), c .before .before .before .before .before .before .before .before .before .before .before .before .before .before .before .before .before .before .pre .8)
-
-sub-finished-stripe-4 : tie.Need-sub-finished-stripe-4
-sub-finished-stripe-4 c = search needs
-
-part-finished-stripe-start-4 : tie.Need-part-finished-stripe-start-4
-part-finished-stripe-start-4 c = search needs
-
-part-finished-stripe-end-4 : tie.Need-part-finished-stripe-end-4
-part-finished-stripe-end-4 c = let e = ap length (c .before .before .before .before .before .before .partners .ensures .0) ∙ length-tabulate (c .before .before .before .before .before .before .before .before .before .before .before .before .before .before .before .before .before .before .before .before .args .sizes .r - 1) _ in simp length-append (omega (arith, e))
-
-sub-finished-stripe-5 : tie.Need-sub-finished-stripe-5
-sub-finished-stripe-5 c = search needs
-
-part-finished-stripe-start-5 : tie.Need-part-finished-stripe-start-5
-part-finished-stripe-start-5 c = search needs
-
-part-finished-stripe-end-5 : tie.Need-part-finished-stripe-end-5
-part-finished-stripe-end-5 c = let e = ap length (c .before .before .before .before .before .before .before .before .partners .ensures .1) ∙ length-tabulate (c .before .before .before .before .before .before .before .before .before .before .before .before .before .before .before .before .before .before .before .before .before .before .args .sizes .r - 1) _ in simp length-append (omega (arith, e))
-
-finished-stripe-requires : tie.Need-finished-stripe-requires
-finished-stripe-requires c κs =
-    let p = c .before .before .before .before .before .before .before .before .before .before .before .before .before .before .before .before .before .before .before .before .before .before .before .before .pre in
-    let a = c .before .before .before .before .before .before .before .before .before .before .before .before .before .before .before .before .before .before .before .before .before .before .before .before .args in
-    let e = c .before .before .before .before .before .before .before .before .before .before .partners .ensures in
-    let b = front-is (a .sizes .r - 1) _ _ (ap length (e .0) ∙ length-tabulate (a .sizes .r - 1) _) ∙ e .0 in
-    let t = front-is (a .sizes .r - 1) _ _ (ap length (e .1) ∙ length-tabulate (a .sizes .r - 1) _) ∙ e .1 in (
-      p .0,
-      p .1,
-      p .2,
-      board-below (a .sizes .n) (a .fresh .now) (a .a) (p .4) (omega (arith, p .10, p .3)),
-      cut-long (a .sizes .d) (a .a) (a .sizes .r) (a .helpers .now) (p .10) (p .5),
-      below-part (a .sizes .n) (a .a * a .sizes .d + a .sizes .d - a .a * a .sizes .d) (a .a * a .sizes .d) (a .helpers .now) (p .6),
-      ap length b ∙ length-tabulate (a .sizes .r - 1) _,
-      ap (below (a .sizes .n)) b ∙ partners-below (a .sizes .n) (a .sizes .r) (a .a) (a .fresh .now) (p .3) (p .4),
-      cut-long (a .sizes .d) (a .a) (a .sizes .r) (a .firsts .now) (p .10) (p .7),
-      cut-long (a .sizes .d) (a .a) (a .sizes .r) (a .seconds .now) (p .10) (p .8),
-      ap length t ∙ length-tabulate (a .sizes .r - 1) _,
-      p .11,
-    )
-
-same-length : tie.Need-same-length
-same-length c = search needs
+finish-requires : tie.Need-finish-requires
+finish-requires c κs =
+    let a = st-at-finish c .args in
+    let p = st-at-finish c .pre in
+    let z = a .sizes in
+    let f = facts (st-at-finish c) in
+    let e = ends (st-at-finish c) in
+    let at : ℕ = a .a * one (st-at-finish c) in
+    let l = got-at-finish c .got .given in
+    let lg = cut-long (a .lanes) (a .a) (z .r) (a .gs .now) (p .8) (p .7) in
+    let lr : length (take (at + one (st-at-finish c) - (at + z .d * 32)) (drop (at + z .d * 32) (a .rows .now))) ≡ (z .d + z .r) * 32 =
+    simp (length-take, length-drop) (omega arith) in
+    (known (st-at-finish c), f .few, omega arith, omega arith, omega arith, omega arith, omega arith, omega arith, omega arith)
 
 returns : tie.Need-returns
 returns c =
-    let a = c .before .before .before .before .before .before .before .before .before .before .before .before .before .before .before .before .before .before .before .before .before .before .before .before .before .before .before .args in
-    let e = c .before .before .before .before .before .before .before .before .before .before .before .before .before .partners .ensures in
-    c .before .before .finished-stripe .ensures
-    ∙ stripe-is (a .sizes) (a .points .now) (a .fresh .now) (a .helpers .now) (a .firsts .now) (a .seconds .now) (a .gs .now) _ _ _ _ _ (a .a)
-    (part-piece (a .sizes .d) (a .a) (a .helpers .now)) (part-piece (a .sizes .d) (a .a) (a .firsts .now)) (part-piece (a .sizes .d) (a .a) (a .seconds .now))
-    (front-is (a .sizes .r - 1) _ _ (ap length (e .0) ∙ length-tabulate (a .sizes .r - 1) _) ∙ e .0)
-    (front-is (a .sizes .r - 1) _ _ (ap length (e .1) ∙ length-tabulate (a .sizes .r - 1) _) ∙ e .1)
+    let a = st-at-end c .args in
+    let p = st-at-end c .pre in
+    let z = a .sizes in
+    let f = facts (st-at-end c) in
+    stripe-made z (a .lanes) _ (a .a) _ _ (length (a .got .now)) _ (a .rows .now) (a .fresh .now) (a .seconds .now) (a .gs .now) _ _ _ _ refl
+    (finish-at-end c .finish .ensures) (row-rest (one (st-at-end c)) (a .a) (z .d * 32) (a .rows .now) (omega arith)) (part-piece (a .lanes) (a .a) (a .gs .now))
+    (gather-at-end c .gather .ensures) (p .10) (omega (arith, got-at-end c .got .given)) (got-at-end c .got .given)
 
 pub finish-spec : {M : Type 1} → statement M
 finish-spec =
     tie.close
     (tie.spec
-    sub-m
-    mul-i
-    shared-slice-read-i
-    mul-from
-    add-to
-    shared-slice-read-partners
-    sub-partners
-    part-boards-start
-    part-boards-end
-    sub-partners-2
-    part-sent-start
-    part-sent-end
-    partners-requires
-    mul-finished-stripe
-    sub-finished-stripe
-    part-finished-stripe-start
-    part-finished-stripe-end
-    sub-finished-stripe-2
-    part-finished-stripe-start-2
-    part-finished-stripe-end-2
-    sub-finished-stripe-3
-    part-finished-stripe-start-3
-    part-finished-stripe-end-3
-    sub-finished-stripe-4
-    part-finished-stripe-start-4
-    part-finished-stripe-end-4
-    sub-finished-stripe-5
-    part-finished-stripe-start-5
-    part-finished-stripe-end-5
-    finished-stripe-requires
-    same-length
+    (λ c. let f = facts (st-at-struct-known c) in search needs)
+    (λ c. let f = facts (st-at-struct-known2 c) in search needs)
+    (λ c. let f = facts (st-at-struct-known2 c) in search needs)
+    (λ c. omega (arith, ends (st-at-struct-known2 c)))
+    (λ c. let f = facts (st-at-struct-known3 c) in search needs)
+    (λ c. omega (arith, ends (st-at-struct-known3 c)))
+    (λ c. omega (arith, ends (st-at-struct-known3 c)))
+    (λ c. omega (arith, ends (st-at-struct-known3 c)))
+    (λ c. omega (arith, ends (st-at-struct-known3 c)))
+    (λ c. let f = facts (st-at-struct-known3 c) in search needs)
+    (λ c. let p = st-at-board c .pre in search needs)
+    gather-requires
+    (λ c. omega (arith, ends (st-at-got c)))
+    (λ c. omega (arith, ends (st-at-got c)))
+    (λ c. omega (arith, ends (st-at-got c), st-at-got c .pre .3))
+    (λ c. search needs)
+    (λ c. search needs)
+    (λ c. omega (arith, ends (st-at-rows c), st-at-rows c .pre .7))
+    finish-requires
+    (λ c. search needs)
+    (λ c. search needs)
+    (λ c. search needs)
     returns)

@@ -1,125 +1,157 @@
--- `repair_hear::hear` meets its contract. The loop's invariant: the bytes of the helpers so far, before what was there.
+-- `repair_hear::hear` meets its contract: the bytes of the helpers so far, before what was there.
 -- Assumes nothing.
-use Prim.Native.Nat.{_+_, _*_, _-_, _≤_}
-use mathlib.Core.Path.{_≡_, ap, _∙_}
-use mathlib.Core.List.{_++_}
+use mathlib.Core.Path.{_≡_, refl, sym, ap, _∙_}
+use mathlib.Core.List.{List, _++_}
+use Prim.Native.Nat.{ℕ, _+_, _*_, _-_, _<_, _≤_}
 use native.Mathlib.Nat.{mul-le-mul-right}
-use native.Mathlib.Omega.{arith}
-use borrow.Author.Needs.{needs}
-use lib.ListN.{length, getD, drop, length-set}
+use lib.ListN.{length, getD, take, drop, length-set, length-take, length-drop}
 use Rattle.lists.specs.Lists.{tabulate, piece}
-use Rattle.lists.proofs.Pieces.{fill-loop}
+use Rattle.lists.proofs.Put.{part-end}
+use Rattle.lists.proofs.Pieces.{fill-loop, fill-end, fill-all}
 use Rattle.sizes.specs.Sizing.{α}
-use Rattle.sizes.proofs.Legal.{legal-facts, row-fits}
-use Rattle.own.proofs.Made.{board-below}
-use Rattle.repair_hear.proofs.Heard.{firstAt, secondAt, cut-piece, piece-long, pair-first, pair-second, heard-all}
+use Rattle.sizes.proofs.Legal.{Legal, legal-facts, α-parts, α-most}
+use Rattle.factors.proofs.Values.{board-below, row-fits}
+use Rattle.repair_hear.specs.Steps.{heardFirst, heardSecond}
+use Rattle.repair_hear.proofs.Heard.{cut-piece, piece-long}
+use Rattle.repair_hear.proofs.Sent.{first-heard, second-heard, row-part}
+use borrow.Author.Needs.{needs}
+use native.Mathlib.Omega.{arith}
 use Rattle.repair_hear.proofs.hear.Statement.{statement}
 use Rattle.repair_hear.proofs.hear.Tie as tie
 
 abbrev Inv-loop : tie.InvT-loop
-Inv-loop sizes points inverses area part s i helpers firsts₀ seconds₀ w m t₀ firsts seconds t = (firsts ≡ tabulate t (firstAt sizes points (λ j. piece (α sizes) s (drop (j * part) area)) i helpers) ++ drop t firsts₀) × (seconds ≡ tabulate t (secondAt sizes points (λ j. piece (α sizes) s (drop (j * part) area)) i helpers) ++ drop t seconds₀) × (t ≤ length helpers) × (length firsts ≡ length firsts₀) × (length seconds ≡ length seconds₀)
+Inv-loop fl gl ff gf area part s helpers firsts₀ seconds₀ d w a m p₀ firsts seconds p =
+    (firsts ≡ tabulate p (heardFirst w fl gl ff gf (λ j. piece a s (drop (j * part) area)) helpers) ++ drop p firsts₀)
+    × (seconds ≡ tabulate p (heardSecond w fl gl ff gf (λ j. piece a s (drop (j * part) area)) helpers) ++ drop p seconds₀)
+    × (p ≤ m) × (length firsts ≡ length firsts₀) × (length seconds ≡ length seconds₀)
 
 abbrev μ-loop : tie.MeasureT-loop
-μ-loop sizes points inverses area part s i helpers firsts₀ seconds₀ w m t₀ firsts seconds t = m - t
+μ-loop fl gl ff gf area part s helpers firsts₀ seconds₀ d w a m p₀ firsts seconds p = m - p
 
--- where the part of a turn's helper ends
-part-end : (c : tie.In-loop Inv-loop μ-loop) → getD (c .before .before .before .before .before .before .before .before .before .before .args .helpers .now) (c .before .loop .t) 0 * c .before .before .before .before .before .before .before .before .before .before .args .part + c .before .before .before .before .before .before .before .before .before .before .args .part ≤ c .before .before .before .before .before .before .before .before .before .before .args .sizes .n * c .before .before .before .before .before .before .before .before .before .before .args .part
-part-end c = row-fits (getD (c .before .before .before .before .before .before .before .before .before .before .args .helpers .now) (c .before .loop .t) 0) (c .before .before .before .before .before .before .before .before .before .before .args .sizes .n) (c .before .before .before .before .before .before .before .before .before .before .args .part) (board-below (c .before .before .before .before .before .before .before .before .before .before .args .sizes .n) (c .before .before .before .before .before .before .before .before .before .before .args .helpers .now) (c .before .loop .t) (c .before .before .before .before .before .before .before .before .before .before .pre .7) (c .loop-test .taken))
+-- the places
+abbrev st-at-struct-known : tie.After-struct-known Inv-loop μ-loop → tie.Start Inv-loop μ-loop
+st-at-struct-known c = c .before .before .before .before .before .before .before
 
-all-few : (c : tie.In-loop Inv-loop μ-loop) → c .before .before .before .before .before .before .before .before .before .before .args .sizes .n * c .before .before .before .before .before .before .before .before .before .before .args .part ≤ 8126464
-all-few c = let p : c .before .before .before .before .before .before .before .before .before .before .args .sizes .n * c .before .before .before .before .before .before .before .before .before .before .args .part ≤ 32 * c .before .before .before .before .before .before .before .before .before .before .args .part = mul-le-mul-right (c .before .before .before .before .before .before .before .before .before .before .args .part) (legal-facts _ (c .before .before .before .before .before .before .before .before .before .before .pre .0) .few) in omega (arith, p, c .before .before .before .before .before .before .before .before .before .before .pre .3)
+abbrev st-at-struct-known2 : tie.After-struct-known2 Inv-loop μ-loop → tie.Start Inv-loop μ-loop
+st-at-struct-known2 c = c .before .before .before .before .before .before .before .before
 
-mul-w : tie.Need-mul-w Inv-loop μ-loop
-mul-w c = search needs
+abbrev st-at-shared-slice-known5 : tie.After-shared-slice-known5 Inv-loop μ-loop → tie.Start Inv-loop μ-loop
+st-at-shared-slice-known5 c = c .before .before .before .before .before .before .before .before .before .before .before
 
-add-w : tie.Need-add-w Inv-loop μ-loop
-add-w c = search needs
+abbrev st-at-helper-pair-arg2 : tie.After-helper-pair-arg2 Inv-loop μ-loop → tie.Start Inv-loop μ-loop
+st-at-helper-pair-arg2 c = c .before .before .before .before .before .before .before .before .before .before .before .before .before
 
-sub-w : tie.Need-sub-w Inv-loop μ-loop
-sub-w c = omega (arith, legal-facts _ (c .before .before .before .before .before .before .before .before .pre .0) .some-fresh)
+abbrev st-at-helper-pair-arg3 : tie.After-helper-pair-arg3 Inv-loop μ-loop → tie.Start Inv-loop μ-loop
+st-at-helper-pair-arg3 c = c .before .before .before .before .before .before .before .before .before .before .before .before .before .before
 
-loop-holds : tie.Need-loop-holds Inv-loop μ-loop
-loop-holds c = search needs
+abbrev loop-at-helper-pair-arg3 : tie.After-helper-pair-arg3 Inv-loop μ-loop → tie.At-loop Inv-loop μ-loop
+loop-at-helper-pair-arg3 c = c .before .before .before .before .before
 
-mul-j : tie.Need-mul-j Inv-loop μ-loop
-mul-j c = search needs
+abbrev st-at-helper-pair : tie.After-helper-pair Inv-loop μ-loop → tie.Start Inv-loop μ-loop
+st-at-helper-pair c = c .before .before .before .before .before .before .before .before .before .before .before .before .before .before .before
 
-shared-slice-read-j : tie.Need-shared-slice-read-j Inv-loop μ-loop
-shared-slice-read-j c = search needs
+abbrev loop-at-helper-pair : tie.After-helper-pair Inv-loop μ-loop → tie.At-loop Inv-loop μ-loop
+loop-at-helper-pair c = c .before .before .before .before .before .before
+
+abbrev st-at-loop : tie.After-loop Inv-loop μ-loop → tie.Start Inv-loop μ-loop
+st-at-loop c = c .before .before .before .before .before .before .before .before .before .before
+
+abbrev st-at-turn : tie.In-loop Inv-loop μ-loop → tie.Start Inv-loop μ-loop
+st-at-turn c = c .before .before .before .before .before .before .before .before .before .before
+
+facts : (c : tie.Start Inv-loop μ-loop) → Legal (c .args .sizes)
+facts c = legal-facts _ (c .pre .0)
+
+-- the helper of a turn
+known : (c : tie.In-loop Inv-loop μ-loop) → getD (st-at-turn c .args .helpers .now) (c .before .loop .p) 0 < st-at-turn c .args .sizes .n
+known c =
+    board-below (st-at-turn c .args .sizes .n) (st-at-turn c .args .helpers .now) (c .before .loop .p) (st-at-turn c .pre .9) (c .loop-test .taken)
+
+-- where its part ends
+its-end : (c : tie.In-loop Inv-loop μ-loop)
+    → let a = st-at-turn c .args in getD (a .helpers .now) (c .before .loop .p) 0 * a .part + a .part ≤ length (a .area .now)
+its-end c =
+    let a = st-at-turn c .args in
+    omega (arith, part-end (getD (a .helpers .now) (c .before .loop .p) 0) (a .part) (a .sizes .n) (known c))
+
+-- all parts together are few bytes
+few : (c : tie.Start Inv-loop μ-loop) → c .args .sizes .n * c .args .part ≤ 8126464
+few c =
+    let f = facts c in
+    let h : c .args .sizes .n * c .args .part ≤ 32 * c .args .part = mul-le-mul-right (c .args .part) (f .few) in
+    omega arith
+
+-- the row of a turn
+its-row : (c : tie.In-loop Inv-loop μ-loop) → let a = st-at-turn c .args in c .before .loop .p * 32 + 32 ≤ length (a .helpers .now) * 32
+its-row c = row-fits (c .before .loop .p) (length (st-at-turn c .args .helpers .now)) (c .loop-test .taken)
+
+-- the stripe of a turn, and its length
+its-stripe : (c : tie.In-loop Inv-loop μ-loop)
+    → let a = st-at-turn c .args in let at = getD (a .helpers .now) (c .before .loop .p) 0 * a .part in
+    length (take (at + a .s * α (a .sizes) + α (a .sizes) - (at + a .s * α (a .sizes))) (drop (at + a .s * α (a .sizes)) (a .area .now))) ≡ α (a .sizes)
+its-stripe c =
+    let a = st-at-turn c .args in
+    let at : ℕ = getD (a .helpers .now) (c .before .loop .p) 0 * a .part in
+    ap length (cut-piece (α (a .sizes)) (a .s) at (a .area .now)) ∙ piece-long (α (a .sizes)) (a .s) at (a .area .now) (omega (arith, its-end c, st-at-turn c .pre .7))
 
 mul-from : tie.Need-mul-from Inv-loop μ-loop
-mul-from c = omega (arith, part-end (c .before), all-few (c .before))
+mul-from c = let f = facts (st-at-shared-slice-known5 c) in omega (arith, its-end (c .before), few (st-at-shared-slice-known5 c), st-at-shared-slice-known5 c .pre .7)
 
 mul-from-2 : tie.Need-mul-from-2 Inv-loop μ-loop
-mul-from-2 c = search needs
+mul-from-2 c = let f = facts (st-at-shared-slice-known5 c) in omega (arith, its-end (c .before), few (st-at-shared-slice-known5 c), st-at-shared-slice-known5 c .pre .7)
 
 add-from : tie.Need-add-from Inv-loop μ-loop
-add-from c = omega (arith, part-end (c .before), all-few (c .before), c .before .before .before .before .before .before .before .before .before .before .before .pre .4)
+add-from c = let f = facts (st-at-shared-slice-known5 c) in omega (arith, its-end (c .before), few (st-at-shared-slice-known5 c), st-at-shared-slice-known5 c .pre .7)
 
 add-to : tie.Need-add-to Inv-loop μ-loop
-add-to c = omega (arith, part-end (c .before), all-few (c .before), c .before .before .before .before .before .before .before .before .before .before .before .pre .4)
+add-to c = let f = facts (st-at-shared-slice-known5 c) in omega (arith, its-end (c .before), few (st-at-shared-slice-known5 c), st-at-shared-slice-known5 c .pre .7)
 
-sub-helper-pair : tie.Need-sub-helper-pair Inv-loop μ-loop
-sub-helper-pair c = search needs
-
-part-helper-pair-start : tie.Need-part-helper-pair-start Inv-loop μ-loop
-part-helper-pair-start c = search needs
-
-part-helper-pair-end : tie.Need-part-helper-pair-end Inv-loop μ-loop
-part-helper-pair-end c = omega (arith, part-end (c .before), c .before .before .before .before .before .before .before .before .before .before .before .pre .4, c .before .before .before .before .before .before .before .before .before .before .before .pre .5)
+part-helper-pair-end-3 : tie.Need-part-helper-pair-end-3 Inv-loop μ-loop
+part-helper-pair-end-3 c = omega (arith, its-end (c .before .before .before), st-at-helper-pair-arg2 c .pre .7)
 
 helper-pair-requires : tie.Need-helper-pair-requires Inv-loop μ-loop
 helper-pair-requires c κs =
-    let a = c .before .before .before .before .before .before .before .before .before .before .before .before .args in
-    let p = c .before .before .before .before .before .before .before .before .before .before .before .before .pre in
-    let j = getD (a .helpers .now) (c .before .before .before .loop .t) 0 in (
-      p .0,
-      p .1,
-      p .2,
-      board-below (a .sizes .n) (a .helpers .now) (c .before .before .before .loop .t) (p .7) (c .before .before .loop-test .taken),
-      p .6,
-      ap length (cut-piece (α (a .sizes)) (a .s) (j * a .part) (a .area .now))
-          ∙ piece-long (α (a .sizes)) (a .s) (j * a .part) (a .area .now) (omega (arith, part-end (c .before .before), p .4, p .5)),
+    let a = st-at-helper-pair-arg3 c .args in
+    let p = st-at-helper-pair-arg3 c .pre in
+    let f = facts (st-at-helper-pair-arg3 c) in
+    let l = loop-at-helper-pair-arg3 c .loop in
+    let z = a .sizes in
+    let n : α z ≡ z .d + z .r + z .d - 1 = omega arith in (
+      omega arith,
+      omega arith,
+      its-stripe (c .before .before .before .before) ∙ n,
+      simp (length-take, length-drop) (omega arith),
+      simp (length-take, length-drop) (omega arith),
+      omega arith,
+      omega arith,
     )
-
-slice-write-firsts : tie.Need-slice-write-firsts Inv-loop μ-loop
-slice-write-firsts c = search needs
-
-slice-write-seconds : tie.Need-slice-write-seconds Inv-loop μ-loop
-slice-write-seconds c = search needs
-
-add-t : tie.Need-add-t Inv-loop μ-loop
-add-t c = search needs
-
-loop-less : tie.Need-loop-less Inv-loop μ-loop
-loop-less c = search needs
 
 loop-again : tie.Need-loop-again Inv-loop μ-loop
 loop-again c =
-    let l = c .before .before .before .before .loop in
-    let a = c .before .before .before .before .before .before .before .before .before .before .before .before .before .args in
-    let j = getD (a .helpers .now) (l .t) 0 in
-    let cut = cut-piece (α (a .sizes)) (a .s) (j * a .part) (a .area .now) in (
-      fill-loop _ (a .firsts .now) (l .firsts) (l .t) _ (omega arith) (pair-first (a .sizes) (a .points .now) j (a .i) _ _ _ _ (c .helper-pair .ensures) cut) (l .inv .0),
-      fill-loop _ (a .seconds .now) (l .seconds) (l .t) _ (omega arith) (pair-second (a .sizes) (a .points .now) j (a .i) _ _ _ _ (c .helper-pair .ensures) cut) (l .inv .1),
+    let a = st-at-helper-pair c .args in
+    let p = st-at-helper-pair c .pre in
+    let l = loop-at-helper-pair c .loop in
+    let z = a .sizes in
+    let own : ℕ → List ℕ = λ j. piece (α z) (a .s) (drop (j * a .part) (a .area .now)) in
+    let rf = row-part 32 (l .p) (a .fl) (a .ff .now) (p .1) in
+    let rg = row-part 32 (l .p) (a .gl) (a .gf .now) (p .2) in
+    let st = cut-piece (α z) (a .s) (getD (a .helpers .now) (l .p) 0 * a .part) (a .area .now) in (
+      fill-loop _ (a .firsts .now) (l .firsts) (l .p) _ (omega arith)
+          (first-heard (z .d + z .r) (a .fl) (a .gl) (l .p) _ _ (a .ff .now) (a .gf .now) _ _ _ own (a .helpers .now) rf rg st (c .helper-pair .ensures)) (l .inv .0),
+      fill-loop _ (a .seconds .now) (l .seconds) (l .p) _ (omega arith)
+          (second-heard (z .d + z .r) (a .fl) (a .gl) (l .p) _ _ (a .ff .now) (a .gf .now) _ _ _ own (a .helpers .now) rf rg st (c .helper-pair .ensures)) (l .inv .1),
       omega arith,
-      length-set (l .firsts) (l .t) _ ∙ l .inv .3,
-      length-set (l .seconds) (l .t) _ ∙ l .inv .4,
+      length-set (l .firsts) (l .p) _ ∙ l .inv .3,
+      length-set (l .seconds) (l .p) _ ∙ l .inv .4,
     )
-
-same-length : tie.Need-same-length Inv-loop μ-loop
-same-length c = search needs
-
-same-length-2 : tie.Need-same-length-2 Inv-loop μ-loop
-same-length-2 c = search needs
 
 returns : tie.Need-returns Inv-loop μ-loop
 returns c =
-    let l = c .before .loop in
-    let a = c .before .before .before .before .before .before .before .before .before .before .args in
-    let p = c .before .before .before .before .before .before .before .before .before .before .pre in (
-      heard-all _ (a .helpers .now) (a .firsts .now) (l .firsts) (l .t) (omega arith) (p .8) (l .inv .0),
-      heard-all _ (a .helpers .now) (a .seconds .now) (l .seconds) (l .t) (omega arith) (p .9) (l .inv .1),
+    let a = st-at-loop c .args in
+    let p = st-at-loop c .pre in
+    let l = c .before .loop in (
+      fill-end _ (a .firsts .now) (l .firsts) (l .p) (length (a .helpers .now)) (omega arith) (l .inv .0) ∙ fill-all _ (a .firsts .now) (length (a .helpers .now)) (omega arith),
+      fill-end _ (a .seconds .now) (l .seconds) (l .p) (length (a .helpers .now)) (omega arith) (l .inv .1) ∙ fill-all _ (a .seconds .now) (length (a .helpers .now)) (omega arith),
     )
 
 pub hear-spec : {M : Type 1} → statement M
@@ -128,25 +160,35 @@ hear-spec =
     (tie.spec
     Inv-loop
     μ-loop
-    mul-w
-    add-w
-    sub-w
-    loop-holds
-    mul-j
-    shared-slice-read-j
+    (λ c. let f = facts (st-at-struct-known c) in search needs)
+    (λ c. let f = facts (st-at-struct-known c) in search needs)
+    (λ c. let f = facts (st-at-struct-known2 c) in search needs)
+    (λ c. let f = facts (st-at-struct-known2 c) in search needs)
+    (λ c. (refl, refl, omega arith, refl, refl))
+    (λ c. search needs)
+    (λ c. search needs)
     mul-from
     mul-from-2
     add-from
     add-to
-    sub-helper-pair
-    part-helper-pair-start
-    part-helper-pair-end
+    (λ c. omega (arith, its-row (c .before)))
+    (λ c. omega (arith, its-row (c .before)))
+    (λ c. omega (arith, its-row (c .before)))
+    (λ c. search needs)
+    (λ c. search needs)
+    (λ c. omega (arith, its-row (c .before)))
+    (λ c. search needs)
+    (λ c. search needs)
+    (λ c. omega (arith, its-row (c .before .before)))
+    (λ c. search needs)
+    (λ c. search needs)
+    part-helper-pair-end-3
     helper-pair-requires
-    slice-write-firsts
-    slice-write-seconds
-    add-t
-    loop-less
+    (λ c. search needs)
+    (λ c. search needs)
+    (λ c. search needs)
+    (λ c. search needs)
     loop-again
-    same-length
-    same-length-2
+    (λ c. search needs)
+    (λ c. search needs)
     returns)

@@ -9,8 +9,8 @@ use Rattle.lists.proofs.Put.{part-end}
 use Rattle.lists.proofs.Pieces.{part-piece}
 use Rattle.sizes.proofs.Legal.{Legal, legal-facts}
 use Rattle.factors.proofs.Values.{board-below, below-more}
-use Rattle.repair_hear.specs.Steps.{partnersAt}
-use Rattle.repair_heard.proofs.Heard.{below-part, cut-long, few-runs}
+use Rattle.repair_rows.specs.Steps.{partnersAt}
+use Rattle.repair_hear.proofs.Heard.{below-part, cut-long, few-runs}
 use Rattle.repair_rows.proofs.Others.{partners-below, length-partners, rows-are}
 use borrow.Author.Needs.{needs}
 use native.Mathlib.Omega.{arith}

@@ -7,7 +7,7 @@ use lib.ListN.{length, getD, drop, length-set}
 use Rattle.lists.specs.Lists.{tabulate}
 use Rattle.lists.proofs.Pieces.{fill-loop, fill-end, fill-all}
 use Rattle.sizes.proofs.Legal.{legal-facts}
-use Rattle.repair_hear.specs.Steps.{past}
+use Rattle.repair_rows.specs.Steps.{past}
 use Rattle.repair_rows.proofs.Others.{past-below}
 use borrow.Author.Needs.{needs}
 use native.Mathlib.Omega.{arith}

@@ -9,7 +9,7 @@ use Rattle.lists.specs.Lists.{join}
 use Rattle.lists.proofs.Put.{part-end}
 use Rattle.sizes.proofs.Legal.{Legal, legal-facts}
 use Rattle.row_dots.proofs.Rows.{join-loop, join-end}
-use Rattle.repair_heard.proofs.Heard.{cut-long}
+use Rattle.repair_hear.proofs.Heard.{cut-long}
 use Rattle.repair_rows.specs.Steps.{freshRows}
 use Rattle.repair_rows.proofs.Others.{length-fresh-rows, few-rows}
 use borrow.Author.Needs.{needs}
@@ -80,7 +80,9 @@ fresh-rows-requires : tie.Need-fresh-rows-requires Inv-loop μ-loop
 fresh-rows-requires c κs =
     let p = st-at-fresh-rows-arg3 c .pre in
     let l = c .before .before .before .before .loop in
-    (p .0, p .1, p .2, p .3, p .4, p .5, p .6, c .before .before .before .loop-test .taken, l .inv .3 ∙ p .7, l .inv .4 ∙ p .8, cut-long (one (st-at-fresh-rows-arg3 c)) (l .a) (st-at-fresh-rows-arg3 c .args .sizes .r) (l .rows) (c .before .before .before .loop-test .taken) (l .inv .2 ∙ p .9))
+    let h = c .before .before .before .loop-test .taken in
+    let lr = cut-long (one (st-at-fresh-rows-arg3 c)) (l .a) (st-at-fresh-rows-arg3 c .args .sizes .r) (l .rows) h (l .inv .2 ∙ p .9) in
+    (p .0, p .1, p .2, p .3, p .4, p .5, p .6, h, l .inv .3 ∙ p .7, l .inv .4 ∙ p .8, lr)
 
 loop-again : tie.Need-loop-again Inv-loop μ-loop
 loop-again c =

@@ -1,109 +1,119 @@
 -- `store_repair::put_stripes` meets its contract. The loop's invariant: the stripes of the fresh boards so far are put.
 -- Assumes nothing.
-use Prim.Native.Nat.{ℕ, _+_, _*_, _-_, _≤_}
 use mathlib.Core.Path.{_≡_, refl, ap, _∙_}
+use Prim.Native.Nat.{ℕ, _+_, _*_, _-_, _<_, _≤_}
 use native.Mathlib.Nat.{mul-le-mul-right}
 use native.Mathlib.Omega.{arith}
-use borrow.Author.Needs.{needs}
 use lib.ListN.{length, getD}
+use borrow.Author.Needs.{needs}
+use Rattle.lists.proofs.Put.{part-end}
+use Rattle.lists.proofs.Pieces.{length-piece}
 use Rattle.sizes.specs.Sizing.{α}
-use Rattle.sizes.proofs.Legal.{legal-facts, row-fits}
-use Rattle.own.proofs.Made.{board-below}
-use Rattle.repair_hear.specs.Steps.{stripeAt, puts}
-use Rattle.store_repair.proofs.Puts.{part-long, puts-turn}
-use Rattle.store_repair.proofs.Rebuilt.{length-stripe-at}
+use Rattle.sizes.proofs.Legal.{Legal, legal-facts}
+use Rattle.factors.proofs.Values.{board-below}
+use Rattle.puts.specs.Steps.{puts}
+use Rattle.puts.proofs.Puts.{part-long, puts-turn}
+use Rattle.repair_finish.specs.Steps.{stripeBy}
+use Rattle.repair_finish.proofs.Finished.{length-stripe}
 use Rattle.store_repair.proofs.put_stripes.Statement.{statement}
 use Rattle.store_repair.proofs.put_stripes.Tie as tie
 
 abbrev Inv-loop : tie.InvT-loop
-Inv-loop sizes points inverses part s fresh helpers firsts seconds gs area₀ r w a₀ area a =
-    (area ≡ puts (λ b. getD fresh b 0 * part + s * α sizes) (stripeAt sizes points fresh helpers firsts seconds gs) a area₀) × (a ≤ sizes .r) × (length area ≡ length area₀)
+Inv-loop sizes lanes rows part s fresh seconds gs got₀ f₀ area₀ r w a₀ got f area a =
+    (area ≡ puts (λ b. getD fresh b 0 * part + s * α sizes) (stripeBy sizes lanes rows fresh seconds gs) a area₀) × (a ≤ r)
+    × (length area ≡ length area₀) × (length got ≡ length got₀) × (length f ≡ length f₀)
 
 abbrev μ-loop : tie.MeasureT-loop
-μ-loop sizes points inverses part s fresh helpers firsts seconds gs area₀ r w a₀ area a = r - a
+μ-loop sizes lanes rows part s fresh seconds gs got₀ f₀ area₀ r w a₀ got f area a = r - a
+
+-- the places
+abbrev st-at-entry : tie.After-struct-known Inv-loop μ-loop → tie.Start Inv-loop μ-loop
+st-at-entry c = c .before .before .before .before .before .before .before .before
+
+abbrev st-at-turn : tie.In-loop Inv-loop μ-loop → tie.Start Inv-loop μ-loop
+st-at-turn c = st-at-entry (c .before .before)
+
+abbrev turn-at-part : tie.After-finish-arg2 Inv-loop μ-loop → tie.In-loop Inv-loop μ-loop
+turn-at-part c = c .before .before .before
+
+abbrev turn-at-call : tie.After-finish-arg3 Inv-loop μ-loop → tie.In-loop Inv-loop μ-loop
+turn-at-call c = c .before .before .before .before
+
+abbrev turn-at-end : tie.After-slice-known6 Inv-loop μ-loop → tie.In-loop Inv-loop μ-loop
+turn-at-end c = turn-at-call (c .before .before .before .before .before .before .before)
+
+abbrev finish-at-end : tie.After-slice-known6 Inv-loop μ-loop → tie.After-finish Inv-loop μ-loop
+finish-at-end c = c .before .before .before .before .before .before
+
+abbrev got-at-end : tie.After-slice-known6 Inv-loop μ-loop → tie.After-got Inv-loop μ-loop
+got-at-end c = c .before .before .before .before .before
+
+abbrev f-at-end : tie.After-slice-known6 Inv-loop μ-loop → tie.After-f Inv-loop μ-loop
+f-at-end c = c .before .before .before
+
+abbrev st-at-loop : tie.After-loop Inv-loop μ-loop → tie.Start Inv-loop μ-loop
+st-at-loop c = st-at-entry (c .before .before)
+
+facts : (c : tie.Start Inv-loop μ-loop) → Legal (c .args .sizes)
+facts c = legal-facts _ (c .pre .0)
 
 -- where the part of a turn's board ends
-part-end : (c : tie.In-loop Inv-loop μ-loop) → getD (c .before .before .before .before .before .before .before .before .before .before .before .args .fresh .now) (c .before .loop .a) 0 * c .before .before .before .before .before .before .before .before .before .before .before .args .part + c .before .before .before .before .before .before .before .before .before .before .before .args .part ≤ c .before .before .before .before .before .before .before .before .before .before .before .args .sizes .n * c .before .before .before .before .before .before .before .before .before .before .before .args .part
-part-end c = row-fits (getD (c .before .before .before .before .before .before .before .before .before .before .before .args .fresh .now) (c .before .loop .a) 0) (c .before .before .before .before .before .before .before .before .before .before .before .args .sizes .n) (c .before .before .before .before .before .before .before .before .before .before .before .args .part) (board-below (c .before .before .before .before .before .before .before .before .before .before .before .args .sizes .n) (c .before .before .before .before .before .before .before .before .before .before .before .args .fresh .now) (c .before .loop .a) (c .before .before .before .before .before .before .before .before .before .before .before .pre .4) (omega (arith, c .loop-test .taken, c .before .before .before .before .before .before .before .before .before .before .before .pre .3)))
-
-all-few : (c : tie.In-loop Inv-loop μ-loop) → c .before .before .before .before .before .before .before .before .before .before .before .args .sizes .n * c .before .before .before .before .before .before .before .before .before .before .before .args .part ≤ 8126464
-all-few c = let p : c .before .before .before .before .before .before .before .before .before .before .before .args .sizes .n * c .before .before .before .before .before .before .before .before .before .before .before .args .part ≤ 32 * c .before .before .before .before .before .before .before .before .before .before .before .args .part = mul-le-mul-right (c .before .before .before .before .before .before .before .before .before .before .before .args .part) (legal-facts _ (c .before .before .before .before .before .before .before .before .before .before .before .pre .0) .few) in omega (arith, p, c .before .before .before .before .before .before .before .before .before .before .before .pre .10)
-
-mul-w : tie.Need-mul-w Inv-loop μ-loop
-mul-w c = let f = legal-facts _ (c .before .before .before .before .before .before .before .before .before .pre .0) in omega (arith, f .some-fresh, f .enough, f .few)
-
-add-w : tie.Need-add-w Inv-loop μ-loop
-add-w c = let f = legal-facts _ (c .before .before .before .before .before .before .before .before .before .pre .0) in omega (arith, f .some-fresh, f .enough, f .few)
-
-sub-w : tie.Need-sub-w Inv-loop μ-loop
-sub-w c = let f = legal-facts _ (c .before .before .before .before .before .before .before .before .before .pre .0) in omega (arith, f .some-fresh, f .enough, f .few)
-
-loop-holds : tie.Need-loop-holds Inv-loop μ-loop
-loop-holds c = search needs
-
-mul-from : tie.Need-mul-from Inv-loop μ-loop
-mul-from c = let f = legal-facts _ (c .before .before .before .before .before .before .before .before .before .before .before .pre .0) in omega (arith, c .loop-test .taken, f .enough, f .few)
-
-shared-slice-read-from : tie.Need-shared-slice-read-from Inv-loop μ-loop
-shared-slice-read-from c = omega (arith, c .before .loop-test .taken, c .before .before .before .before .before .before .before .before .before .before .before .before .pre .3)
-
-mul-from-2 : tie.Need-mul-from-2 Inv-loop μ-loop
-mul-from-2 c = omega (arith, part-end (c .before), all-few (c .before))
-
-mul-from-3 : tie.Need-mul-from-3 Inv-loop μ-loop
-mul-from-3 c = omega (arith, c .before .before .before .before .before .before .before .before .before .before .before .before .pre .10, c .before .before .before .before .before .before .before .before .before .before .before .before .pre .11)
-
-add-from : tie.Need-add-from Inv-loop μ-loop
-add-from c = omega (arith, part-end (c .before), all-few (c .before), c .before .before .before .before .before .before .before .before .before .before .before .before .pre .11)
-
-add-to : tie.Need-add-to Inv-loop μ-loop
-add-to c = omega (arith, part-end (c .before), all-few (c .before), c .before .before .before .before .before .before .before .before .before .before .before .before .pre .11)
-
-sub-finish : tie.Need-sub-finish Inv-loop μ-loop
-sub-finish c = search needs
-
-part-finish-start : tie.Need-part-finish-start Inv-loop μ-loop
-part-finish-start c = search needs
-
-part-finish-end : tie.Need-part-finish-end Inv-loop μ-loop
-part-finish-end c = omega (arith, part-end (c .before), c .before .before .before .before .before .before .before .before .before .before .before .before .pre .11, c .before .before .before .before .before .before .before .before .before .before .before .before .pre .12, c .before .before .loop .inv .2)
+ends : (c : tie.In-loop Inv-loop μ-loop)
+    → let a = st-at-turn c .args in (getD (a .fresh .now) (c .before .loop .a) 0 * a .part + a .part ≤ a .sizes .n * a .part) × (a .sizes .n * a .part ≤ 8126464)
+ends c =
+    let a = st-at-turn c .args in
+    let p = st-at-turn c .pre in
+    let b = board-below (a .sizes .n) (a .fresh .now) (c .before .loop .a) (p .7) (omega (arith, c .loop-test .taken, p .6)) in
+    let m : a .sizes .n * a .part ≤ 32 * a .part = mul-le-mul-right (a .part) (facts (st-at-turn c) .few) in
+    (part-end (getD (a .fresh .now) (c .before .loop .a) 0) (a .part) (a .sizes .n) b, omega (arith, p .4))
 
 finish-requires : tie.Need-finish-requires Inv-loop μ-loop
 finish-requires c κs =
-    let p = c .before .before .before .before .before .before .before .before .before .before .before .before .before .pre in
-    let a = c .before .before .before .before .before .before .before .before .before .before .before .before .before .args in
-    let l = c .before .before .before .loop in
-    (p .0, p .1, p .2, p .3, p .4, p .5, p .6, p .7, p .8, p .9, c .before .before .loop-test .taken, part-long (getD (a .fresh .now) (l .a) 0 * a .part + a .s * α (a .sizes)) (α (a .sizes)) (l .area) (omega (arith, part-end (c .before .before), p .11, p .12, l .inv .2)))
-
-add-a : tie.Need-add-a Inv-loop μ-loop
-add-a c = search needs
-
-loop-less : tie.Need-loop-less Inv-loop μ-loop
-loop-less c = search needs
+    let t = turn-at-call c in
+    let a = st-at-turn t .args in
+    let p = st-at-turn t .pre in
+    let l = t .before .loop in
+    let e = ends t in (
+      p .0,
+      p .1,
+      p .2,
+      p .3,
+      p .6,
+      p .7,
+      p .8,
+      p .9,
+      t .loop-test .taken,
+      l .inv .3 ∙ p .10,
+      l .inv .4 ∙ p .11,
+      part-long (getD (a .fresh .now) (l .a) 0 * a .part + a .s * α (a .sizes)) (α (a .sizes)) (l .area) (omega arith),
+    )
 
 loop-again : tie.Need-loop-again Inv-loop μ-loop
 loop-again c =
-    let l = c .before .before .before .before .before .before .loop in
-    let a = c .before .before .before .before .before .before .before .before .before .before .before .before .before .before .before .before .args in
-    let p = c .before .before .before .before .before .before .before .before .before .before .before .before .before .before .before .before .pre in
-    let e = c .before .before .finish .ensures in (
-      puts-turn (λ b. getD (a .fresh .now) b 0 * a .part + a .s * α (a .sizes)) (stripeAt (a .sizes) (a .points .now) (a .fresh .now) (a .helpers .now) (a .firsts .now) (a .seconds .now) (a .gs .now)) (α (a .sizes)) (l .a) (getD (a .fresh .now) (l .a) 0 * a .part + a .s * α (a .sizes)) (a .area .now) (l .area) _ refl
-          (ap length e ∙ length-stripe-at (a .sizes) (a .points .now) (legal-facts _ (p .0)) (a .fresh .now) (a .helpers .now) (a .firsts .now) (a .seconds .now) (a .gs .now) (l .a))
-          e
-          (l .inv .0),
+    let t = turn-at-end c in
+    let a = st-at-turn t .args in
+    let p = st-at-turn t .pre in
+    let l = t .before .loop in
+    let z = a .sizes in
+    let k = finish-at-end c .finish .ensures in
+    let run = length-piece (z .d) (l .a) (a .seconds .now) (omega (arith, part-end (l .a) (z .d) (z .r) (t .loop-test .taken), p .8)) in (
+      puts-turn (λ b. getD (a .fresh .now) b 0 * a .part + a .s * α z) (stripeBy z (a .lanes) (a .rows .now) (a .fresh .now) (a .seconds .now) (a .gs .now))
+          (α z) (l .a) (getD (a .fresh .now) (l .a) 0 * a .part + a .s * α z) (a .area .now) (l .area) _ refl
+          (ap length k ∙ length-stripe z (facts (st-at-turn t)) (a .lanes) (a .rows .now) (a .fresh .now) (a .seconds .now) (a .gs .now) (l .a) run) k (l .inv .0),
       omega arith,
-      search needs,
+      c .before .area .given .1 ∙ l .inv .2,
+      got-at-end c .got .given ∙ l .inv .3,
+      f-at-end c .f .given ∙ l .inv .4,
     )
-
-same-length : tie.Need-same-length Inv-loop μ-loop
-same-length c = search needs
 
 returns : tie.Need-returns Inv-loop μ-loop
 returns c =
     let l = c .before .loop in
-    let a = c .before .before .before .before .before .before .before .before .before .before .before .args in
+    let a = st-at-loop c .args in
     let e : l .a ≡ a .sizes .r = omega arith in
-    l .inv .0 ∙ ap (λ (m : ℕ). puts (λ b. getD (a .fresh .now) b 0 * a .part + a .s * α (a .sizes)) (stripeAt (a .sizes) (a .points .now) (a .fresh .now) (a .helpers .now) (a .firsts .now) (a .seconds .now) (a .gs .now)) m (a .area .now)) e
+    l .inv .0
+    ∙ ap (λ (m : ℕ). puts (λ b. getD (a .fresh .now) b 0 * a .part + a .s * α (a .sizes))
+    (stripeBy (a .sizes) (a .lanes) (a .rows .now) (a .fresh .now) (a .seconds .now) (a .gs .now)) m (a .area .now)) e
 
 pub put-stripes-spec : {M : Type 1} → statement M
 put-stripes-spec =
@@ -111,22 +121,24 @@ put-stripes-spec =
     (tie.spec
     Inv-loop
     μ-loop
-    mul-w
-    add-w
-    sub-w
-    loop-holds
-    mul-from
-    shared-slice-read-from
-    mul-from-2
-    mul-from-3
-    add-from
-    add-to
-    sub-finish
-    part-finish-start
-    part-finish-end
+    (λ c. let f = facts (st-at-entry c) in search needs)
+    (λ c. let f = facts (st-at-entry c) in search needs)
+    (λ c. let f = facts (st-at-entry c) in search needs)
+    (λ c. (refl, omega arith, refl, refl, refl))
+    (λ c. search needs)
+    (λ c. omega (arith, c .before .loop-test .taken, st-at-turn (c .before) .pre .6))
+    (λ c. omega (arith, ends (c .before), st-at-turn (c .before) .pre .5))
+    (λ c. omega (arith, ends (c .before), st-at-turn (c .before) .pre .4, st-at-turn (c .before) .pre .5))
+    (λ c. omega (arith, ends (c .before), st-at-turn (c .before) .pre .5))
+    (λ c. omega (arith, ends (c .before), st-at-turn (c .before) .pre .5))
+    (λ c. search needs)
+    (λ c. search needs)
+    (λ c. omega (arith, ends (turn-at-part c), st-at-turn (turn-at-part c) .pre .5, st-at-turn (turn-at-part c) .pre .12, turn-at-part c .before .loop .inv .2))
     finish-requires
-    add-a
-    loop-less
+    (λ c. search needs)
+    (λ c. search needs)
     loop-again
-    same-length
+    (λ c. search needs)
+    (λ c. search needs)
+    (λ c. search needs)
     returns)

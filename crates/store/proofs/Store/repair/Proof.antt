@@ -1,14 +1,15 @@
 -- `store::Store::repair` meets its contract: it hands on what its check refuses, and past it the fresh boards are rebuilt.
 -- Assumes nothing.
-use mathlib.Core.Path.{_≡_, sym, _∙_}
+use mathlib.Core.Path.{_≡_, sym, ap, subst, _∙_}
 use mathlib.Core.List.{[]}
 use native.Mathlib.Omega.{arith}
 use lib.ListN.{length}
 use borrow.Author.Needs.{needs}
 use Rattle.sizes.specs.declared.Check.the-variants.{Pass}
 use Rattle.sizes.proofs.Legal.{legal-facts}
-use Rattle.mbcr.specs.Share.{standard}
-use Rattle.own.proofs.Made.{below-more}
+use Rattle.mbcr.specs.Share.{DifferentPoints, standard}
+use Rattle.mbcr.proofs.Points.{standard-points}
+use Rattle.factors.proofs.Values.{below-more}
 use Rattle.store_spec.specs.Record.{Record}
 use Rattle.store_spec.specs.Calls.{refused, repairCall}
 use Rattle.store_spec.proofs.Records.{repair-facts}
@@ -56,10 +57,13 @@ shares-ask : tie.Need-repair-shares-requires
 shares-ask c κs =
     let n = at-count c in
     let f = asks (at-points n) in
+    let k = at-told n .before .before in
     let r = f .is-ready in
+    let e-points = at-points n .standard-points .ensures in
     let e = n .stripe-count .ensures .0 in (
       r .stated .is-legal,
-      r .few-points,
+      ap length e-points,
+      subst (DifferentPoints (R k .sizes)) (sym e-points) (standard-points (R k .sizes) (legal-facts _ (r .stated .is-legal) .few)),
       n .before .before .fill-inverses .ensures,
       f .fresh-count,
       f .fresh-known,
@@ -67,6 +71,7 @@ shares-ask c κs =
       f .helpers-known,
       f .fresh-different,
       f .none-fresh,
+      record { each = f .runs-different },
       r .cap-high,
       rw e (r .few-stripes),
       f .area-is,

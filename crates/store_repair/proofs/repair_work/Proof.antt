@@ -1,0 +1,79 @@
+-- `store_repair::repair_work` meets its contract: space is lent.
+-- Assumes nothing.
+use mathlib.Core.Path.{_≡_, refl, _∙_}
+use Prim.Native.Nat.{ℕ, _+_, _*_, _-_, _≤_}
+use native.Mathlib.Omega.{arith}
+use lib.ListN.{length}
+use borrow.Author.Needs.{needs}
+use Rattle.sizes.proofs.Legal.{Legal, legal-facts}
+use Rattle.repair_hear.proofs.Heard.{few-runs}
+use Rattle.repair_finish.proofs.Finished.{mul-few}
+use Rattle.store_repair.proofs.repair_work.Statement.{statement}
+use Rattle.store_repair.proofs.repair_work.Tie as tie
+
+-- the places
+abbrev st-at-runs : tie.After-struct-known → tie.Start
+st-at-runs c = c .before .before .before .before .before .before .before
+
+abbrev st-at-rows : tie.After-struct-known2 → tie.Start
+st-at-rows c = c .before .before .before .before .before .before .before .before
+
+abbrev st-at-sum : tie.After-struct-known3 → tie.Start
+st-at-sum c = st-at-rows (c .before)
+
+abbrev st-at-firsts : tie.After-firsts → tie.Start
+st-at-firsts c = st-at-sum (c .before)
+
+abbrev st-at-seconds : tie.After-seconds → tie.Start
+st-at-seconds c = st-at-firsts (c .before)
+
+abbrev st-at-gs : tie.After-gs → tie.Start
+st-at-gs c = st-at-seconds (c .before)
+
+abbrev st-at-got : tie.After-got → tie.Start
+st-at-got c = st-at-gs (c .before)
+
+abbrev st-at-call : tie.After-repair-stripes-arg → tie.Start
+st-at-call c = st-at-got (c .before .before)
+
+facts : (c : tie.Start) → Legal (c .args .sizes)
+facts c = legal-facts _ (c .pre .0)
+
+-- what is lent fits
+few : (c : tie.Start) → let z = c .args .sizes in (z .r * z .d ≤ 256) × (z .r * c .args .lanes ≤ 1024) × (z .d + z .r ≤ 32)
+few c =
+    let z = c .args .sizes in
+    let f = facts c in
+    (few-runs z f, mul-few (z .r) (c .args .lanes) (omega arith) (c .pre .4) refl, omega arith)
+
+repair-stripes-requires : tie.Need-repair-stripes-requires
+repair-stripes-requires c κs =
+    let p = st-at-call c .pre in
+    let m = few (st-at-call c) in
+    (p .0, p .1, p .2, p .3, p .4, p .5, p .6, p .7, p .8, p .9, p .10, p .11, p .12, p .13, p .14, p .15, p .16, search needs, search needs, search needs, search needs, search needs, p .17)
+
+pub repair-work-spec : {M : Type 1} → statement M
+repair-work-spec =
+    tie.close
+    (tie.spec
+    (λ c. let m = few (st-at-runs c) in search needs)
+    (λ c. omega (arith, few (st-at-rows c)))
+    (λ c. let m = few (st-at-sum c) in search needs)
+    (λ c. search needs)
+    (λ c. search needs)
+    (λ c. omega (arith, few (st-at-sum c)))
+    (λ c. search needs)
+    (λ c. search needs)
+    (λ c. omega (arith, few (st-at-firsts c)))
+    (λ c. search needs)
+    (λ c. search needs)
+    (λ c. omega (arith, few (st-at-seconds c)))
+    (λ c. search needs)
+    (λ c. search needs)
+    (λ c. omega (arith, few (st-at-gs c)))
+    (λ c. search needs)
+    (λ c. search needs)
+    (λ c. let p = st-at-got c .pre in search needs)
+    repair-stripes-requires
+    (λ c. search needs)
+    (λ c. search needs))
