@@ -140,6 +140,7 @@ impl Store {
         let mut marks = self.marks;
         if let Check::Refuse(x) = repair_check::check_repair(
             sizes,
+            &points,
             capacity,
             written,
             length,
