@@ -1,18 +1,18 @@
 -- What makes words a record; bits of a number and numbers of bits: the turns of the loops.
 -- Assumes nothing.
 use Prim.Native.Nat.{ℕ, zero, suc, _+_, _*_, _-_, _/_, _%_, _≤_, _<_}
-use mathlib.Core.Path.{_≡_, refl, sym, ap, ap₂, _∙_}
+use mathlib.Core.Path.{_≡_, refl, sym, ap, ap₂, subst, _∙_}
 use mathlib.Core.Bool.{Bool, true, false}
 use mathlib.Core.List.{List, [], _∷_, _++_}
 use native.Mathlib.Numerals.{add-one}
 use native.Mathlib.Omega.{arith}
 use lib.Dec.{eqb, ltb}
 use lib.ListN.{length, getD, drop, set, length-drop}
-use lib.Seq.{drop-cons}
+use lib.Seq.{drop-cons, getD-drop}
 use borrow.Author.Tests.{eq-eqb, ne-eqb, eqb-true, lt-ltb, le-ltb, ltb-true}
 use Rattle.lists.specs.Tests.{pick, every}
 use Rattle.lists.specs.Lists.{All}
-use Rattle.lists.proofs.Alls.{all-imp}
+use Rattle.lists.proofs.Alls.{all-imp, all-of}
 use Rattle.lists.proofs.Tests.{alls-hold, every-all, all-every}
 use Rattle.record_words.specs.Words.{bits, fromBits, word, isRecord}
 
@@ -33,6 +33,10 @@ last-test false = refl
 -- words of the machine
 pub all-words : (l : List ℕ) → All (λ w. w < 18446744073709551616) l → every word l ≡ true
 all-words l h = all-every word l (all-imp (λ w. w < 18446744073709551616) (λ w. word w ≡ true) (λ w k. lt-ltb w 18446744073709551616 k) l h)
+
+pub last-words : (ws : List ℕ) → ((i : ℕ) → getD ws i 0 < 18446744073709551616) → every word (drop 8 ws) ≡ true
+last-words ws h =
+    all-words (drop 8 ws) (all-of (λ w. w < 18446744073709551616) 0 (drop 8 ws) (λ i k. subst (λ (w : ℕ). w < 18446744073709551616) (sym (getD-drop 8 ws i 0)) (h (8 + i))))
 
 pub by-marks : (ws : List ℕ) → length ws ≡ 12 → getD ws 5 0 ≤ 1 → every word (drop 8 ws) ≡ true → ltb (getD ws 7 0) 4294967296 ≡ isRecord ws
 unfolding isRecord

@@ -5,7 +5,7 @@ use mathlib.Core.Path.{_≡_}
 use native.Mathlib.Omega.{arith}
 use borrow.Author.Needs.{needs}
 use lib.ListN.{length}
-use Rattle.words.proofs.Bits.{words-facts}
+use Rattle.record_words.proofs.Bits.{words-facts}
 use Rattle.words.proofs.Eight.{told}
 use Rattle.words.proofs.store_of.Statement.{statement}
 use Rattle.words.proofs.store_of.Tie as tie
