@@ -189,7 +189,8 @@ impl Store {
         let length = self.length;
         let marks = self.marks;
         let mut inverses = [0u8; 256];
-        interpolation::fill_inverses(&mut inverses);
+        inverses::fill_inverses(&mut inverses);
+        let mut tables = [0u8; 49152];
         if let Check::Refuse(x) = read_check::check_read(
             sizes,
             capacity,
@@ -201,6 +202,7 @@ impl Store {
             area,
             boards,
             out,
+            &mut tables,
         ) {
             return refuse(self, x);
         }
@@ -209,11 +211,11 @@ impl Store {
             sizes,
             capacity,
             &points,
-            &inverses,
             length,
             count,
             boards,
             area,
+            &tables,
             out,
         );
         Handed {
