@@ -1,6 +1,8 @@
 -- `text_writer::write_text` meets its contract: the lines, one behind the other.
 -- Assumes nothing.
 use mathlib.Core.Path.{_≡_, sym}
+use mathlib.Core.List.{List}
+use Prim.Native.Nat.{ℕ}
 use lib.ListN.{length, take}
 use lib.Seq.{length-take-le}
 use Rattle.board_spec.specs.Text.{pointsLine, shareText}
@@ -77,12 +79,13 @@ st-points c = st-length (at-length c)
 line : (c : tie.Start) → let a = c .args in pointsSaid (take (a .sizes .n) (a .points .now)) ≡ pointsLine (a .sizes) (a .points .now)
 line c = sym (points-line (c .args .sizes) (c .args .points .now) (c .pre .has-points))
 
+said-line : (g : tie.Start) {l l1 : List ℕ} {at e : ℕ} → Wrote l at (pointsSaid (take (g .args .sizes .n) (g .args .points .now))) l1 e
+    → Wrote l at (pointsLine (g .args .sizes) (g .args .points .now)) l1 e
+said-line g w = rw (line g) at w
+
 by-points : (c : tie.After-put-points)
     → let a = st-points c .args in Wrote (a .out .now) 0 (toPoints (a .sizes) (a .points .now) (a .total) (a .node)) (c .put-points .last .1 .1 .0) (c .put-points .result)
-by-points c =
-    let g = st-points c in
-    let w = rw (line g) at (c .put-points .ensures) in
-    then (by-length (at-length c)) w (fits g .points-too)
+by-points c = let g = st-points c in then (by-length (at-length c)) (said-line g (c .put-points .ensures)) (fits g .points-too)
 
 abbrev at-points : tie.After-put-pairs-line → tie.After-put-points
 at-points c = c .before .before .before .before .before
