@@ -27,20 +27,20 @@ st c = known (at-long c) .before
 bytes : (c : tie.After-shared-slice-known) → Bytes (c .before .args .points .now)
 bytes c = all-of (λ x. x < 256) 0 (c .before .args .points .now) (λ i l. omega (arith, c .shared-slice-known .given i))
 
-returns : tie.Need-returns
-returns c = not-32 _ _ (c .if1 .taken)
+wrong-length : tie.Need-returns
+wrong-length c = not-32 _ _ (c .if1 .taken)
 
 part-end : tie.Need-part-points-differ-end
 part-end c = omega (arith, legal-facts _ (known c .before .pre) .few, c .if1 .left)
 
-returns-2 : tie.Need-returns-2
-returns-2 c =
+decided-by-rest : tie.Need-returns-2
+decided-by-rest c =
     let k = c .before .before in
     c .zero-from .ensures
     ∙ by-rest (st k .args .sizes) (st k .args .points .now) (at-long k .if1 .left) (bytes (known (at-long k))) (sym (k .points-differ .ensures) ∙ c .before .if2 .taken)
 
-returns-3 : tie.Need-returns-3
-returns-3 c =
+point-repeated : tie.Need-returns-3
+point-repeated c =
     let k = c .before in
     repeated (st k .args .sizes) (st k .args .points .now) (at-long k .if1 .left) (bytes (known (at-long k))) (sym (k .points-differ .ensures) ∙ c .if2 .left)
 
@@ -48,11 +48,11 @@ pub points-taken-spec : {M : Type 1} → statement M
 points-taken-spec =
     tie.close
     (tie.spec
-    returns
+    wrong-length
     (λ c. search needs)
     (λ c. search needs)
     part-end
     (λ c κs. search needs)
     (λ c κs. search needs)
-    returns-2
-    returns-3)
+    decided-by-rest
+    point-repeated)
