@@ -4,7 +4,6 @@ use mathlib.Core.Path.{_≡_, refl, sym, ap, _∙_}
 use lib.ListN.{length}
 use borrow.Author.Needs.{needs}
 use Rattle.sizes.specs.declared.Check.the-variants.{Pass}
-use Rattle.mbcr.specs.Share.{standard}
 use Rattle.store_spec.specs.Record.{Record}
 use Rattle.store_spec.specs.Calls.{refused, readCall}
 use Rattle.store_spec.proofs.Records.{Reads, read-facts}
@@ -32,11 +31,11 @@ abbrev R : tie.After-check-read → Record
 R c = recordIn (st c .args .self)
 
 -- what the check told
-passed : (c : tie.After-enum-told) → let k = at-check c in checked standard (R k) (st k .args .area .now) (st k .args .boards .now) (st k .args .out .now) ≡ Pass
+passed : (c : tie.After-enum-told) → let k = at-check c in checked (R k) (st k .args .area .now) (st k .args .boards .now) (st k .args .out .now) ≡ Pass
 passed c = sym (at-check c .check-read .ensures .0) ∙ c .enum-told .given .1
 
 facts : (c : tie.After-enum-told) → let k = at-check c in Reads (R k) (length (st k .args .area .now)) (st k .args .boards .now) (st k .args .out .now)
-facts c = let k = at-check c in read-facts standard (R k) (st k .args .area .now) (st k .args .boards .now) (st k .args .out .now) (passed c) .0
+facts c = let k = at-check c in read-facts (R k) (st k .args .area .now) (st k .args .boards .now) (st k .args .out .now) (passed c) .0
 
 asks : (c : tie.After-enum-told)
     → let k = at-check c in Readable (R k) (at-points k .standard-points .result) (length (st k .args .area .now)) (st k .args .boards .now)
@@ -65,15 +64,15 @@ read-done c =
     let w = c .before .before in
     let t = w .before .before .before .before .before in
     let k = at-check t in
-    read-works standard (R k) (st k .args .area .now) (st k .args .boards .now) (st k .args .out .now) _ _ (at-points k .standard-points .ensures) (passed t) (w .file .ensures)
+    read-works (R k) (st k .args .area .now) (st k .args .boards .now) (st k .args .out .now) _ _ (at-points k .standard-points .ensures) (passed t) (w .file .ensures)
 
 read-refused : (c : tie.After-x)
     → let k = c .before .before .before in let a = st k .args in
-    refused (R k) (a .area .now) (a .out .now) (c .x .given .0 .0) ≡ readCall standard (R k) (a .area .now) (a .boards .now) (a .out .now)
+    refused (R k) (a .area .now) (a .out .now) (c .x .given .0 .0) ≡ readCall (R k) (a .area .now) (a .boards .now) (a .out .now)
 read-refused c =
     let k = c .before .before .before in
     let a = st k .args in
-    read-refuses standard (R k) (a .area .now) (a .boards .now) (a .out .now) (k .check-read .ensures .0) (c .x .given .1)
+    read-refuses (R k) (a .area .now) (a .boards .now) (a .out .now) (k .check-read .ensures .0) (c .x .given .1)
 
 pub read-spec : {M : Type 1} → statement M
 read-spec =
