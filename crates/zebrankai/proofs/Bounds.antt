@@ -11,6 +11,7 @@ use lib.Dec.{ltb, eqb}
 use lib.ListN.{length, take, length-take}
 use borrow.Author.Tests.{ltb-false, eqb-true}
 use Rattle.lists.specs.Tests.{pick, alls, same}
+use Rattle.lists.specs.Lists.{tabulate, joined}
 use Rattle.lists.proofs.Tests.{not-no, alls-hold}
 use Rattle.lists.proofs.Boards.{below-all}
 use Rattle.sizes.specs.declared.Sizes.{Sizes}
@@ -24,11 +25,12 @@ use Rattle.mbcr.specs.Share.{pointed, share, shares}
 use Rattle.mbcr.specs.Rebuild.{helperPacket, exchangePacket, finishedShare}
 use Rattle.mbcr.specs.Read.{decodedFile, readFile}
 use Rattle.mbcr.proofs.Repair.{length-share, length-packet, length-exchange, length-finished}
-use Rattle.board_spec.specs.Text.{shareText}
+use Rattle.board_spec.specs.Text.{hexPair, textLine, pointsLine, shareText}
 use Rattle.board_spec.specs.Calls.{settled, fileOf, shareLines, shareCall, fileLines, fileCall, helperLines, helperCall}
 use Rattle.board_spec.specs.Calls.{exchangeLines, exchangeCall, finishedLines, finishedCall, textLines, textCall}
 use Rattle.text_lines.proofs.Decimals.{decimal-most}
-use Rattle.text_lines.proofs.Lines.{length-text}
+use Rattle.text_lines.proofs.Lines.{length-line, length-text}
+use Rattle.text_lines.proofs.Writes.{length-pairs}
 
 -- what a word has room for above a refusal's number: 2^56
 abbrev pub Fits : ℕ → Type 0
@@ -72,6 +74,18 @@ length-file : (z : Sizes) (xs : List ℕ) (L : ℕ) (boards held : List ℕ) →
 unfolding readFile decodedFile
 length-file z xs L boards held = length-found (same (shares z xs (decodedFile z xs L boards held) boards) held) L _
 
+-- the line of points is few bytes
+said-few : (t : Bool) (l : List ℕ) → length (pick t [] l) ≤ length l
+said-few true l = omega arith
+said-few false l = omega arith
+
+line-few : (z : Sizes) (xs : List ℕ) → z .n ≤ 32 → length (pointsLine z xs) ≤ 72
+unfolding pointsLine
+line-few z xs h =
+    let l : List ℕ = textLine (0x70 ∷ 0x6F ∷ 0x69 ∷ 0x6E ∷ 0x74 ∷ 0x73 ∷ []) (joined hexPair (take (z .n) xs)) in
+    let a = said-few (same (take (z .n) xs) (tabulate (z .n) (λ i. i))) l in
+    omega (arith, a, length-line (0x70 ∷ 0x6F ∷ 0x69 ∷ 0x6E ∷ 0x74 ∷ 0x73 ∷ []) (joined hexPair (take (z .n) xs)), length-pairs (take (z .n) xs), length-take (z .n) xs)
+
 -- the text is few bytes
 text-few : (z : Sizes) (xs : List ℕ) (L node : ℕ) (held : List ℕ) → Few z L → node < z .n → length held ≡ stripes z L * α z → Fits (length (shareText z xs L node held))
 text-few z xs L node held f h e =
@@ -80,6 +94,7 @@ text-few z xs L node held f h e =
     omega (
       arith,
       length-text z xs L node held,
+      line-few z xs (g .few),
       decimal-most (z .n),
       decimal-most (z .k),
       decimal-most (z .d),
