@@ -11,18 +11,23 @@ const LENGTH: usize = 6;
 const MARKS: usize = 7;
 const POINTS: usize = 8;
 
+/// In which of the words of points a board's point stands, and from which bit on.
+fn place(board: usize) -> (usize, usize) {
+    (board / 8, 8 * (board % 8))
+}
+
 fn points_from(words: &[u64]) -> Points {
-    let mut points = [0; MAX_BOARDS];
-    for (board, point) in points.iter_mut().enumerate() {
-        *point = (words[board / 8] >> (8 * (board % 8))) as u8;
-    }
-    points
+    std::array::from_fn(|board| {
+        let (word, bit) = place(board);
+        (words[word] >> bit) as u8
+    })
 }
 
 fn put_points(words: &mut [u64], points: &Points) {
     words.fill(0);
     for (board, &point) in points.iter().enumerate() {
-        words[board / 8] |= u64::from(point) << (8 * (board % 8));
+        let (word, bit) = place(board);
+        words[word] |= u64::from(point) << bit;
     }
 }
 
