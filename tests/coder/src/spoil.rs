@@ -1,6 +1,5 @@
 //! Spoils the arguments of a call: illegal sizes, wrong points, lengths out of range, wrong lists and numbers, slices of another length, made-up
-//! records.
-//! What must be answered then is the model's to say.
+//! records. What must be answered then is the model's to say.
 
 use crate::call::{Call, Lent, Parts};
 use crate::code::{Sizes, MAX_BOARDS};
@@ -222,6 +221,10 @@ fn spoil_words(random: &mut Random, sizes: Sizes, words: &mut [u64]) {
             let numbers = [made_up.n, made_up.k, made_up.d, made_up.r];
             for (word, number) in words.iter_mut().zip(numbers) {
                 *word = number as u64;
+            }
+            if made_up.legal() && random.once_in(2) {
+                let points = points::draw(random, made_up.n);
+                words[word::POINTS..].copy_from_slice(&store::words_of(&points));
             }
         }
     }
