@@ -36,7 +36,7 @@ module _ (s : Record) (area boards output : List ℕ) where
   -- the bytes that these boards' shares decode to, before the rest of the output
   abbrev pub decoded : List ℕ
   decoded =
-      decodedFile (s .sizes) (s .points) (s .length) boards (joined (held (recordOf (s .sizes) (s .points) (s .capacity) true (s .length) []) area) boards)
+      decodedFile (s .sizes) (s .points) (s .length) boards (joined (held (recordOf (s .sizes) [] (s .capacity) true (s .length) []) area) boards)
       ++ drop (s .length) output
 
   pub read-works : (written : List ℕ) → checked ≡ Pass → written ≡ decoded → filled written ≡ readCall s area boards output

@@ -82,12 +82,12 @@ module _ (s : Record) (area file : List ℕ) where
 
   -- the area with the shares in it
   abbrev pub shared : List ℕ
-  shared = putShares (recordOf (s .sizes) (s .points) (s .capacity) true 0 []) (share (s .sizes) (s .points) file) (tabulate (s .sizes .n) (λ i. i)) area
+  shared = putShares (recordOf (s .sizes) [] (s .capacity) true 0 []) (share (s .sizes) (s .points) file) (tabulate (s .sizes .n) (λ i. i)) area
 
   pub write-works : (marks : List Bool) (after : List ℕ) → checked ≡ Pass → marks ≡ tabulate 32 (λ i. ltb i (s .sizes .n)) → after ≡ shared
       → made marks after ≡ writeCall s area file
   unfolding writeCall
   write-works marks after p em ea =
       let w = writtenRecord s (length file) in
-      let same = puts-same (recordOf (s .sizes) (s .points) (s .capacity) true 0 []) w (share (s .sizes) (s .points) file) (tabulate (s .sizes .n) (λ i. i)) area refl in
+      let same = puts-same (recordOf (s .sizes) [] (s .capacity) true 0 []) w (share (s .sizes) (s .points) file) (tabulate (s .sizes .n) (λ i. i)) area refl in
       ap₂ made em (ea ∙ same) ∙ done-by (refused s area []) (writeDone s area file) p

@@ -193,11 +193,11 @@ impl Store {
         let mut tables = [0u8; 49152];
         if let Check::Refuse(x) = read_check::check_read(
             sizes,
+            &points,
             capacity,
             self.written,
             length,
             &marks,
-            &points,
             &inverses,
             area,
             boards,
