@@ -18,7 +18,7 @@ use Rattle.store.specs.Gives.{CodeGives}
 module _ (s : Store) (area fresh helpers : List ℕ) (h : Given) (m : Meets s area (repair fresh helpers) h) (ok : said (h .handed .answer) .refusal ≡ 0) where
   is-repaired : Repaired (recordIn s) area fresh helpers
   unfolding act
-  is-repaired = accepted-repair standard (recordIn s) area fresh helpers (ap (λ (o : StoreOutcome). o .answer .refusal) (sym m) ∙ ok)
+  is-repaired = accepted-repair (recordIn s) area fresh helpers (ap (λ (o : StoreOutcome). o .answer .refusal) (sym m) ∙ ok)
 
 pub code-gives : CodeGives
 unfolding act

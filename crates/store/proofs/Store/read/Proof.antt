@@ -18,11 +18,8 @@ use Rattle.store.proofs.Store.read.Tie as tie
 abbrev at-inverses : tie.After-check-read → tie.After-fill-inverses
 at-inverses c = c .before .before .before .before .before .before .before
 
-abbrev at-points : tie.After-check-read → tie.After-standard-points
-at-points c = at-inverses c .before .before
-
 abbrev st : tie.After-check-read → tie.Start
-st c = at-points c .before .before .before .before .before .before
+st c = at-inverses c .before .before .before .before .before .before .before .before
 
 abbrev at-check : tie.After-enum-told → tie.After-check-read
 at-check c = c .before .before .before
@@ -37,16 +34,15 @@ passed c = sym (at-check c .check-read .ensures .0) ∙ c .enum-told .given .1
 facts : (c : tie.After-enum-told) → let k = at-check c in Reads (R k) (length (st k .args .area .now)) (st k .args .boards .now) (st k .args .out .now)
 facts c = let k = at-check c in read-facts (R k) (st k .args .area .now) (st k .args .boards .now) (st k .args .out .now) (passed c) .0
 
-asks : (c : tie.After-enum-told)
-    → let k = at-check c in Readable (R k) (at-points k .standard-points .result) (length (st k .args .area .now)) (st k .args .boards .now)
+asks : (c : tie.After-enum-told) → let k = at-check c in Readable (R k) (length (st k .args .area .now)) (st k .args .boards .now)
 asks c =
     let k = at-check c in
     let f = facts c in
-    readable (R k) _ _ (st k .args .boards .now) (at-points k .standard-points .ensures) (f .is-sound) (f .area-is) (f .count) (f .named-below) (f .all-different)
+    readable (R k) _ (st k .args .boards .now) (f .is-sound) (f .area-is) (f .count) (f .named-below) (f .all-different)
 
 -- the tables are made
 made : (c : tie.After-enum-told)
-    → let k = at-check c in Made (R k .sizes) (at-points k .standard-points .result) (st k .args .boards .now) (k .check-read .last .1 .1 .1 .1 .1 .1 .1 .1 .1 .1 .0)
+    → let k = at-check c in Made (R k .sizes) (R k .points) (st k .args .boards .now) (k .check-read .last .1 .1 .1 .1 .1 .1 .1 .1 .1 .1 .0)
 made c = at-check c .check-read .ensures .1 (c .enum-told .given .1)
 
 -- the work
@@ -64,7 +60,7 @@ read-done c =
     let w = c .before .before in
     let t = w .before .before .before .before .before in
     let k = at-check t in
-    read-works (R k) (st k .args .area .now) (st k .args .boards .now) (st k .args .out .now) _ _ (at-points k .standard-points .ensures) (passed t) (w .file .ensures)
+    read-works (R k) (st k .args .area .now) (st k .args .boards .now) (st k .args .out .now) _ (passed t) (w .file .ensures)
 
 read-refused : (c : tie.After-x)
     → let k = c .before .before .before in let a = st k .args in
