@@ -66,6 +66,9 @@ both z xs e = let h = alls-hold (legal z ∷ pointed z xs ∷ []) e in (h .0, h 
 pub not-legal : (z : Sizes) (xs : List ℕ) → legal z ≡ false → accepted z xs ≡ false
 not-legal z xs e = rw e
 
+pub not-pointed : (z : Sizes) (xs : List ℕ) → legal z ≡ true → pointed z xs ≡ false → accepted z xs ≡ false
+not-pointed z xs l e = rw (l, e)
+
 node-held : (z : Sizes) (xs : List ℕ) (node : ℕ) (file : List ℕ) → answered z xs (held node) file ≡ answered z xs node file
 node-held z xs node file = go (accepted z xs) refl (capped-like maxNumber node)
   where
