@@ -4,6 +4,7 @@ use Prim.Native.Nat.{ℕ, _*_, _≤_}
 use mathlib.Core.Path.{_≡_, sym, ap, _∙_}
 use mathlib.Core.Bool.{true, false, not}
 use mathlib.Core.List.{List, [], _∷_, _++_}
+use native.Mathlib.Omega.{arith}
 use borrow.Author.Tests.{ltb-false, eqb-true}
 use lib.Dec.{eqb}
 use lib.ListN.{length, drop}
@@ -18,7 +19,9 @@ use Rattle.sizes.specs.Refusals.{first, boardOrder}
 use Rattle.sizes.specs.Sizing.{α, stripes}
 use Rattle.sizes.proofs.Legal.{legal-facts}
 use Rattle.sizes.proofs.Lines.{first-clear}
+use Rattle.mbcr.specs.Share.{standard}
 use Rattle.mbcr.specs.Read.{decodedFile, readFile}
+use Rattle.mbcr.proofs.Points.{standard-points}
 use Rattle.mbcr.proofs.Read.{length-decoded-file}
 use Rattle.board_spec.specs.Calls.{fileOf, countLine, nodeLine, repeatLine, areaLine, fileLines, fileCall}
 use Rattle.board_spec.proofs.Files.{file-is}
@@ -26,6 +29,11 @@ use Rattle.checks.specs.Steps.{asked, Stated}
 use Rattle.checks.specs.Outcomes.{outcome}
 use Rattle.checks.proofs.Answers.{passed}
 use Rattle.checks.proofs.Facts.{refused-by, done-by}
+use Rattle.decode_stripe.specs.Steps.{Asked}
+
+-- a refusal is no pass
+pub not-passed : {x : Refusal} {P : Type 0} → Refuse x ≡ Pass → P
+not-passed e = let z : _≡_ {A = ℕ} 0 1 = cc in absurd (omega arith)
 
 -- ---- what the kernels ask
 
@@ -50,6 +58,17 @@ readable z L boards m s count node repeat area =
       known = not-no _ (passed (nodeLine z boards) node);
       all-different = not-no _ (passed (repeatLine boards) repeat);
       held-is = one _ _ (passed (areaLine (eqb m (z .k * (stripes z L * α z)) ∷ [])) area);
+    }
+
+-- at document 01's points
+pub asked-of : (z : Sizes) (L : ℕ) (boards : List ℕ) (m : ℕ) (xs : List ℕ) → xs ≡ standard → Readable z L boards m → Asked z xs boards
+asked-of z L boards m xs e f =
+    record {
+      sized = f .stated .is-legal;
+      distinct = rw e (standard-points z (legal-facts z (f .stated .is-legal) .few));
+      counted = f .enough;
+      known = f .known;
+      unlike = f .all-different;
     }
 
 -- ---- the call, at any points

@@ -2,16 +2,19 @@
 //! The call meets its definition in the crate `board_spec` at document 01's points: the answer, and every byte of the output that it
 //! was lent. A refusal leaves the output as it came.
 ghost use mathlib.Core.Path.{_≡_};
+ghost use lib.ListN.{length};
 ghost use Rattle.sizes.specs.Refusals.{first, boardOrder};
 ghost use Rattle.mbcr.specs.Share.{standard};
 ghost use Rattle.board_spec.specs.Calls.{fileLines, fileCall};
 ghost use Rattle.checks.specs.Outcomes.{outcome};
+ghost use Rattle.decode_setup.specs.Steps.{Made};
 ghost use Rattle.board_file.specs.Steps.{Tables};
 use sizes::Answer;
 use sizes::Check;
 use sizes::Sizes;
 
-// The first refusal of a file of so many bytes from these shares. Each check's answer is taken apart, and a refusal returned early.
+// The first refusal of a file of so many bytes from these shares. Each check's answer is taken apart, and a refusal returned early. Where there
+// is none the tables of the read are made.
 fn check_file(
     sizes: Sizes,
     points: &[u8],
@@ -20,9 +23,10 @@ fn check_file(
     boards: &[usize],
     held: &[u8],
     out: &[u8],
+    tables: &mut [u8],
 ) -> Check
-    requires { ⌜ Tables (now points) (now inverses) ⌝ }
-    ensures { λ r. ⌜ r ≡ first boardOrder (fileLines sizes standard len (now (boards .entry)) (now (held .entry)) (now (out .entry))) ⌝ }
+    requires { ⌜ Tables (now points) (now inverses) × (length (now tables) ≡ 49152) ⌝ }
+    ensures { λ r. ⌜ (r ≡ first boardOrder (fileLines sizes standard len (now (boards .entry)) (now (held .entry)) (now (out .entry)))) × (r ≡ Check.Pass → Made sizes (now (points .entry)) (now (boards .entry)) (now (tables .exit))) ⌝ }
 {
     if let Check::Refuse(stated) = checks::check_stated(sizes, len) {
         return Check::Refuse(stated);
@@ -44,7 +48,7 @@ fn check_file(
     if let Check::Refuse(short) = checks::check_room(out, len) {
         return Check::Refuse(short);
     }
-    agreement::check_agrees(sizes, points, inverses, len, stripes, boards, held)
+    share_decode::check_agrees(sizes, points, inverses, len, stripes, boards, held, tables)
 }
 
 // The file of so many bytes that k shares give, or DISAGREE where no such file has them. Answers the number of bytes written.
@@ -53,11 +57,21 @@ pub fn file(sizes: Sizes, len: usize, boards: &[usize], held: &[u8], out: &mut [
 {
     let points = checks::standard_points();
     let mut inverses = [0u8; 256];
-    interpolation::fill_inverses(&mut inverses);
-    if let Check::Refuse(x) = check_file(sizes, &points, &inverses, len, boards, held, out) {
+    inverses::fill_inverses(&mut inverses);
+    let mut tables = [0u8; 49152];
+    if let Check::Refuse(x) = check_file(
+        sizes,
+        &points,
+        &inverses,
+        len,
+        boards,
+        held,
+        out,
+        &mut tables,
+    ) {
         return Answer::Refused(x);
     }
     let stripes = checks::stripe_count(sizes, len);
-    decode::file(sizes, &points, &inverses, len, stripes, boards, held, out);
+    share_decode::file(sizes, &points, len, stripes, boards, held, &tables, out);
     Answer::Done(len)
 }

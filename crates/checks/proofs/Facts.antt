@@ -42,6 +42,9 @@ module _ (z : Sizes) (xs : List ℕ) where
   pub taken-of : sizeLine z xs .applies ≡ false → Taken z xs
   taken-of e = let f = size-facts z xs e in taken (f .0) (f .1)
 
+  pub taken-facts : (L : ℕ) → first boardOrder (statedLines z xs L) ≡ Pass → Taken z xs
+  taken-facts L h = taken-of (first-clear (statedLines z xs L) boardOrder h .0)
+
 -- a call whose check refuses answers so and leaves its output
 pub refused-by : {c : Check} {x : Refusal} (bytes output : List ℕ) → c ≡ Refuse x → outcome (Refused x) output ≡ settled c bytes output
 refused-by bytes output e = sym (ap (λ (k : Check). settled k bytes output) e)

@@ -1,126 +1,37 @@
--- Reading a file, stripe by stripe: what the loops keep, and what they come to.
+-- Reading a file, stripe by stripe: shares are those of a file where the pairs of boards meet in each stripe and the padding is 00.
 -- Assumes nothing.
 use mathlib.Core.Path.{_≡_, refl, sym, ap, ap₂, _∙_}
 use mathlib.Core.Bool.{Bool, true, false}
 use mathlib.Core.Option.{Option, none, some}
 use mathlib.Core.List.{List, [], _∷_, _++_}
-use Prim.Native.Nat.{ℕ, zero, suc, _+_, _*_, _-_, _<_, _≤_}
-use native.Mathlib.Nat.{sub-zero, zero-mul}
-use native.Mathlib.Numerals.{add-one}
+use Prim.Native.Nat.{ℕ, zero, suc, _+_, _*_, _-_, _/_, _<_, _≤_}
+use native.Mathlib.Nat.{sub-zero, zero-add, suc-mul}
 use native.Mathlib.Decide.{decLt}
 use native.Mathlib.Omega.{arith}
-use lib.Dec.{eqb}
-use lib.ListN.{length, getD, take, drop, length-append, length-drop, drop-of-length-le}
-use lib.Seq.{take-all, take-nil, take-append-le, drop-cons, drop-drop, length-take-le}
-use borrow.Author.Tests.{eq-eqb, ne-eqb}
-use borrow.Rule.Slice.PartMut.{putMid}
+use lib.Dec.{eqb, ltb}
+use borrow.Author.Tests.{lt-ltb, le-ltb}
+use lib.ListN.{length, getD, take, drop, drop-of-length-le}
+use lib.Seq.{take-all, take-nil}
 use Rattle.lists.specs.Tests.{pick, alls, same, given}
-use Rattle.lists.specs.Lists.{tabulate, join, piece, fit, over}
-use Rattle.lists.proofs.Alls.{all-at}
-use Rattle.lists.proofs.Tests.{every-all, all-every, same-eq, same-refl}
-use Rattle.lists.proofs.Pieces.{length-tabulate, tabulate-at, tabulate-all, join-ext, length-join, join-suc, join-piece, piece-join, length-piece, join-joined}
+use Rattle.lists.specs.Lists.{Bytes, tabulate, join, piece, fit}
+use Rattle.lists.proofs.Tests.{same-eq, same-refl}
+use Rattle.lists.proofs.Pieces.{tabulate-ext, join-ext, length-join, join-piece, piece-join, length-piece, join-joined}
 use Rattle.sizes.specs.declared.Sizes.{Sizes}
 use Rattle.sizes.specs.Sizing.{α, B, stripes}
-use Rattle.sizes.proofs.Legal.{Legal, row-fits, stripes-least}
-use Rattle.mbcr.specs.Share.{stripe, kept, share, shares}
+use Rattle.sizes.proofs.Legal.{Legal, row-fits, stripes-enough, stripes-least}
+use Rattle.mbcr.specs.Share.{DifferentPoints, stripe, kept, share, shares}
 use Rattle.mbcr.specs.Read.{decodedStripe, decodedFile, readFile}
+use Rattle.mbcr.proofs.Points.{Boards}
 use Rattle.mbcr.proofs.Repair.{length-kept}
 use Rattle.mbcr.proofs.Decode.{length-decoded}
 use Rattle.mbcr.proofs.Read.{length-decoded-file}
-use Rattle.columns.proofs.Parts.{put-next}
-use Rattle.decode.specs.Steps.{stripeRead}
-
--- ---- a loop over tests
-
-module _ (q : ℕ → Bool) (n t : ℕ) where
-  abbrev T : List Bool
-  T = tabulate n q
-
-  first : t < n → alls (drop t T) ≡ pick (q t) (alls (drop (suc t) T)) false
-  first h =
-      ap alls (drop-cons T t true (rw (length-tabulate n q) h)) ∙ ap (λ (b : Bool). pick b (alls (drop (suc t) T)) false) (tabulate-at n q true t h)
-
-  pub alls-next : t < n → q t ≡ true → alls (drop (t + 1) T) ≡ alls (drop t T)
-  alls-next h e =
-      ap (λ (m : ℕ). alls (drop m T)) (add-one t) ∙ sym (first h ∙ ap (λ (b : Bool). pick b (alls (drop (suc t) T)) false) e)
-
-  pub alls-no : t < n → q t ≡ false → alls (drop t T) ≡ false
-  alls-no h e = first h ∙ ap (λ (b : Bool). pick b (alls (drop (suc t) T)) false) e
-
-  pub alls-end : n ≤ t → alls (drop t T) ≡ true
-  alls-end h = ap alls (drop-of-length-le T {i = t} (rw (length-tabulate n q) h))
-
--- ---- a loop that compares
-
-module _ (a b : List ℕ) (i : ℕ) (h : i < length a) (l : i < length b) where
-  head : same (drop i a) (drop i b) ≡ pick (eqb (getD a i 0) (getD b i 0)) (same (drop (suc i) a) (drop (suc i) b)) false
-  head = ap₂ same (drop-cons a i 0 h) (drop-cons b i 0 l)
-
-  pub same-next : getD a i 0 ≡ getD b i 0 → same (drop (i + 1) a) (drop (i + 1) b) ≡ same (drop i a) (drop i b)
-  same-next e =
-      ap (λ (m : ℕ). same (drop m a) (drop m b)) (add-one i)
-      ∙ sym (head ∙ ap (λ (t : Bool). pick t (same (drop (suc i) a) (drop (suc i) b)) false) (eq-eqb _ _ e))
-
-  pub same-no : (getD a i 0 ≡ getD b i 0 → ⊥) → same (drop i a) (drop i b) ≡ false
-  same-no e = head ∙ ap (λ (t : Bool). pick t (same (drop (suc i) a) (drop (suc i) b)) false) (ne-eqb _ _ e)
-
-pub same-end : (a b : List ℕ) (i : ℕ) → length a ≡ length b → length a ≤ i → same (drop i a) (drop i b) ≡ true
-same-end a b i e h = ap₂ same (drop-of-length-le a {i = i} h) (drop-of-length-le b {i = i} (omega arith))
-
--- ---- a stripe that is cut
-
-take-past : (a x : List ℕ) (n : ℕ) → length a ≤ n → take n (a ++ x) ≡ a ++ take (n - length a) x
-take-past [] x n h = ap (λ (m : ℕ). take m x) (sym (sub-zero n))
-take-past (c ∷ a) x zero h = absurd (omega arith)
-take-past (c ∷ a) x (suc n) h =
-    let e : suc n - suc (length a) ≡ n - length a = omega arith in
-    ap {B = List ℕ} (λ l. c ∷ l) (take-past a x n (omega arith)) ∙ ap (λ (m : ℕ). (c ∷ a) ++ take m x) (sym e)
-
--- no more than there is
-take-least : (b n : ℕ) (l : List ℕ) → length l ≡ b → take (b - (b - n)) l ≡ take n l
-take-least b n l h = go (decLt n b)
-  where
-    go : Dec (n < b) → take (b - (b - n)) l ≡ take n l
-    go (yes k) = let e : b - (b - n) ≡ n = omega arith in ap (λ (m : ℕ). take m l) e
-    go (no k) = take-all (b - (b - n)) l (omega arith) ∙ sym (take-all n l (omega arith))
-
--- a part of what was lent
-pub cut-part : (b n m : ℕ) (zs y : List ℕ) → length y ≡ b → m ≡ b - (b - n) → take (m - 0) (drop 0 (putMid 0 (b - 0) zs y)) ≡ take n y
-cut-part b n m zs y e em =
-    ap (λ (k : ℕ). take k (putMid 0 (b - 0) zs y)) (sub-zero m) ∙ take-append-le m y _ (omega arith) ∙ ap (λ (k : ℕ). take k y) em ∙ take-least b n y e
-
-pub stripe-first : (z : Sizes) (part : List ℕ) → stripe z part 0 ≡ fit (B z) part
-unfolding stripe
-stripe-first z part = ap (λ (m : ℕ). fit (B z) (drop m part)) (zero-mul (B z))
-
--- a turn of the loop over the stripes
-pub file-turn : (f : ℕ → List ℕ) (b L s m : ℕ) → ((i : ℕ) → length (f i) ≡ b) → (out₀ out y : List ℕ) → s * b ≤ L → L ≤ length out₀ → length out ≡ length out₀
-    → m ≡ b - (b - (L - s * b)) → out ≡ over (take L (join s f)) out₀ → y ≡ take (length (take (s * b + m - s * b) (drop (s * b) out))) (f s)
-    → putMid (s * b) (s * b + m - s * b) out y ≡ over (take L (join (s + 1) f)) out₀
-file-turn f b L s m lf out₀ out y h hl lo em eo ey =
-    let lj : length (join s f) ≡ s * b = length-join s b f (λ i k. lf i) in
-    let e1 : take L (join s f) ≡ join s f = take-all L (join s f) (omega arith) in
-    let eo′ : out ≡ join s f ++ drop (s * b) out₀ = eo ∙ ap (λ (l : List ℕ). over l out₀) e1 ∙ ap (λ (n : ℕ). join s f ++ drop n out₀) lj in
-    let e0 : s * b + m - s * b ≡ m = omega arith in
-    let lp : length (take (s * b + m - s * b) (drop (s * b) out)) ≡ m = length-take-le _ (drop (s * b) out) (rw length-drop (omega arith)) ∙ e0 in
-    let ey′ : y ≡ take m (f s) = ey ∙ ap (λ (n : ℕ). take n (f s)) lp in
-    let ly : length y ≡ m = ap length ey′ ∙ length-take-le m (f s) (omega (arith, lf s)) in
-    let e2 : take L (join (s + 1) f) ≡ join s f ++ y =
-    ap (λ (n : ℕ). take L (join n f)) (add-one s) ∙ ap (take L) (join-suc s f) ∙ take-past (join s f) (f s) L (omega arith)
-    ∙ ap (λ (l : List ℕ). join s f ++ l)
-    (ap (λ (n : ℕ). take (L - n) (f s)) lj ∙ sym (take-least b (L - s * b) (f s) (lf s)) ∙ ap (λ (n : ℕ). take n (f s)) (sym em) ∙ sym ey′) in
-    let e3 : length (join s f ++ y) ≡ s * b + m = length-append (join s f) y ∙ ap₂ _+_ lj ly in
-    put-next (join s f) (drop (s * b) out₀) y out (s * b) (s * b + m - s * b) lj eo′
-    ∙ ap (λ (l : List ℕ). (join s f ++ y) ++ l) (ap (λ (n : ℕ). drop n (drop (s * b) out₀)) e0 ∙ drop-drop m (s * b) out₀ ∙ ap (λ (n : ℕ). drop n out₀) (sym e3))
-    ∙ ap (λ (l : List ℕ). over l out₀) (sym e2)
-
--- each stripe starts in the file
-pub starts : (z : Sizes) → Legal z → (L S s : ℕ) → S ≡ stripes z L → s < S → s * B z < L
-starts z legal L S s e h = go (decLt (s * B z) L)
-  where
-    go : Dec (s * B z < L) → s * B z < L
-    go (yes k) = k
-    go (no k) = absurd (omega (arith, stripes-least z legal L s (omega arith)))
+use Rattle.decode_laws.specs.Steps.{pairsMeet, zeros, stripeReads, heldAt, Placed}
+use Rattle.decode_laws.proofs.Agree.{alls-true, true-alls, same-truth, decoded-ext, agrees-ext, stripe-agrees, all-stripes}
+use Rattle.decode_laws.proofs.Held.{length-held, held-bytes, placed-before}
+use Rattle.decode_stripe.proofs.Made.{part-long}
+use Rattle.decode_stripes.specs.Steps.{stripeAt}
+use Rattle.decode.specs.Steps.{sharesAt}
+use Rattle.decode.proofs.Shares.{shares-long, held-there}
 
 as-piece : (b s : ℕ) (l : List ℕ) → take b (drop (s * b) l) ≡ piece b s l
 unfolding piece
@@ -139,41 +50,18 @@ fit-cut (suc b) zero l = refl
 fit-cut (suc b) (suc n) [] = refl
 fit-cut (suc b) (suc n) (x ∷ l) = ap {B = List ℕ} (λ l. x ∷ l) (fit-cut b n l)
 
--- ---- the whole file
-
-alls-true : (n : ℕ) (q : ℕ → Bool) → alls (tabulate n q) ≡ true → (i : ℕ) → i < n → q i ≡ true
-alls-true n q h i l =
-    sym (tabulate-at n q true i l) ∙ all-at (λ b. b ≡ true) true (tabulate n q) (every-all (λ b. b) (tabulate n q) h) i (rw (length-tabulate n q) l)
-
-true-alls : (n : ℕ) (q : ℕ → Bool) → ((i : ℕ) → i < n → q i ≡ true) → alls (tabulate n q) ≡ true
-true-alls n q h = all-every (λ b. b) (tabulate n q) (tabulate-all (λ b. b ≡ true) n q h)
-
-same-truth : (a b : Bool) → (a ≡ true → b ≡ true) → (b ≡ true → a ≡ true) → a ≡ b
-same-truth true b f g = sym (f refl)
-same-truth false true f g = g refl
-same-truth false false f g = refl
+-- ---- shares, one after another
 
 given-pick : (b : Bool) (l : List ℕ) → given (pick {A = Option (List ℕ)} b (some l) none) ≡ b
 given-pick true l = refl
 given-pick false l = refl
 
--- stripe s, where there are S
-abbrev pub decoded : Sizes → List ℕ → List ℕ → List ℕ → ℕ → ℕ → List ℕ
-decoded z pts boards held S s = decodedStripe z pts boards (λ t. piece (α z) s (piece (S * α z) t held))
-
 module _ (z : Sizes) (pts : List ℕ) (legal : Legal z) (boards : List ℕ) (lb : length boards ≡ z .k) (L : ℕ) (held : List ℕ) where
   open Sizes z using (k)
 
+  -- stripe s, where there are S
   abbrev D : ℕ → ℕ → List ℕ
-  D S s = decoded z pts boards held S s
-
-  pub file-made : (S s : ℕ) (out₀ out : List ℕ) → S ≡ stripes z L → s ≡ S → out ≡ over (take L (join s (D S))) out₀
-      → out ≡ decodedFile z pts L boards held ++ drop L out₀
-  unfolding decodedFile
-  file-made S s out₀ out eS es e =
-      let f : take L (join s (D S)) ≡ decodedFile z pts L boards held =
-      ap (λ (n : ℕ). take L (join n (D S))) (es ∙ eS) ∙ ap (λ (S : ℕ). take L (join (stripes z L) (D S))) eS in
-      e ∙ ap (λ (l : List ℕ). over l out₀) f ∙ ap (λ (n : ℕ). decodedFile z pts L boards held ++ drop n out₀) (length-decoded-file z pts legal boards lb L held)
+  D S s = decodedStripe z pts boards (λ t. piece (α z) s (piece (S * α z) t held))
 
   abbrev N : ℕ
   N = stripes z L
@@ -231,16 +119,110 @@ module _ (z : Sizes) (pts : List ℕ) (legal : Legal z) (boards : List ℕ) (lb 
       ∙ take-all (N * α z) (piece (N * α z) t held) (omega (arith, length-piece (N * α z) t held (omega (arith, row-fits t k (N * α z) ht)))))
       ∙ join-piece k (N * α z) held ∙ take-all (k * (N * α z)) held (omega arith)
 
-  stripes-agree : length held ≡ k * (N * α z) → same (shares z pts file boards) held ≡ alls (tabulate N (stripeRead z pts L N boards held))
-  unfolding stripeRead keeps
+  stripes-agree : length held ≡ k * (N * α z) → same (shares z pts file boards) held ≡ alls (tabulate N (stripeReads z pts L boards w))
+  unfolding stripeReads keeps
   stripes-agree lh =
       same-truth _ _
       (λ e. true-alls N _ (λ s hs. true-alls k _ (λ t ht. ap (λ (l : List ℕ). same l (w s t)) (there (same-eq _ _ e) s t hs ht) ∙ same-refl (w s t))))
       (λ e. ap (λ (l : List ℕ). same l held) (back lh (λ s t hs ht. same-eq _ _ (alls-true k _ (alls-true N _ e s hs) t ht))) ∙ same-refl held)
 
-  pub agrees-made : (S : ℕ) → S ≡ stripes z L → length held ≡ k * (S * α z)
-      → alls (tabulate S (stripeRead z pts L S boards held)) ≡ given (readFile z pts L boards held)
+  pub agrees-made : length held ≡ k * (N * α z) → alls (tabulate N (stripeReads z pts L boards w)) ≡ given (readFile z pts L boards held)
   unfolding readFile
-  agrees-made S e lh =
-      ap (λ (S : ℕ). alls (tabulate S (stripeRead z pts L S boards held))) e
-      ∙ sym (given-pick (same (shares z pts file boards) held) file ∙ stripes-agree (lh ∙ ap (λ (S : ℕ). k * (S * α z)) e))
+  agrees-made lh = sym (given-pick (same (shares z pts file boards) held) file ∙ stripes-agree lh)
+
+-- ---- numbers of stripes
+
+-- the stripes are long enough, and only the last is cut
+pub enough-stripes : (z : Sizes) → Legal z → (L S : ℕ) → S ≡ stripes z L → L ≤ S * B z
+enough-stripes z legal L S e = rw e (stripes-enough z legal L)
+
+pub few-stripes : (z : Sizes) → Legal z → (L S : ℕ) → S ≡ stripes z L → S * B z ≤ L + B z
+few-stripes z legal L zero e = omega arith
+few-stripes z legal L (suc s) e =
+    let q : suc s * B z ≡ s * B z + B z = suc-mul s (B z) in
+    go (decLt (s * B z) L)
+  where
+    go : Dec (s * B z < L) → suc s * B z ≤ L + B z
+    go (yes k) = let q : suc s * B z ≡ s * B z + B z = suc-mul s (B z) in omega arith
+    go (no k) = absurd (omega (arith, stripes-least z legal L s (omega arith)))
+
+pub placed-all : (z : Sizes) (starts bytes : List ℕ) (S : ℕ) → Placed z starts bytes S → Placed z starts bytes (0 + S)
+placed-all z starts bytes S h = rw (zero-add S) h
+
+-- ---- shares at given places
+
+module _ (z : Sizes) (xs : List ℕ) (legal : Legal z) (pts : DifferentPoints z xs) (bs : List ℕ) (boards : Boards z bs) (lb : length bs ≡ z .k)
+    (L S : ℕ) (eS : S ≡ stripes z L) (starts bytes : List ℕ) (ls : length starts ≡ z .k) (placed : Placed z starts bytes S) where
+  open Sizes z using (k)
+
+  abbrev all : List ℕ
+  all = sharesAt z S starts bytes
+
+  -- what boards[t] holds of stripe s, from either
+  abbrev told : ℕ → ℕ → List ℕ
+  told s t = piece (α z) s (piece (S * α z) t all)
+
+  abbrev here : ℕ → ℕ → List ℕ
+  here s t = heldAt z starts bytes s t
+
+  same-held : (s : ℕ) → s < S → (t : ℕ) → t < k → told s t ≡ here s t
+  same-held s hs t ht = held-there z S starts bytes placed s t hs (omega arith)
+
+  -- the file
+  stripes-are : join S (λ s. stripeAt z xs bs starts bytes (0 + s)) ≡ join (stripes z L) (λ s. decodedStripe z xs bs (λ t. piece (α z) s (piece (stripes z L * α z) t all)))
+  stripes-are =
+      join-ext S _ _ (λ s hs. ap (stripeAt z xs bs starts bytes) (zero-add s) ∙ sym (decoded-ext z xs bs (told s) (here s) (same-held s hs)))
+      ∙ ap (λ (N : ℕ). join N (λ s. decodedStripe z xs bs (λ t. piece (α z) s (piece (N * α z) t all)))) eS
+
+  pub file-made : (out₀ y : List ℕ) → L ≤ length out₀ → y ≡ take (length (take (L - 0) (drop 0 out₀))) (join S (λ s. stripeAt z xs bs starts bytes (0 + s)))
+      → y ++ drop (L - 0) out₀ ≡ decodedFile z xs L bs all ++ drop L out₀
+  unfolding decodedFile
+  file-made out₀ y h ey =
+      ap₂ {C = List ℕ} (λ (l : List ℕ) (m : ℕ). l ++ drop m out₀) (ey ∙ ap₂ (λ (m : ℕ) (l : List ℕ). take m l) (part-long L out₀ h) stripes-are) (sub-zero L)
+
+  -- whether they agree
+  module _ (bb : Bytes bytes) where
+    abbrev meet : ℕ → Bool
+    meet s = pairsMeet z xs bs (here s)
+
+    abbrev whole : ℕ
+    whole = L / B z
+
+    one : (s : ℕ) → s < S → stripeReads z xs L bs here s ≡ pick (meet s) (zeros (drop (L - s * B z) (decodedStripe z xs bs (here s)))) false
+    unfolding stripeReads
+    one s hs =
+        stripe-agrees z xs legal pts bs boards lb (here s) (λ t ht. length-held z legal starts bytes s (placed-before z starts bytes (s + 1) S (omega arith) placed) t (omega arith))
+        (λ t ht. held-bytes z starts bytes s t bb) (L - s * B z)
+
+    by-pairs : alls (tabulate S (stripeReads z xs L bs here)) ≡ pick (alls (tabulate S meet)) (pick (ltb whole S) (zeros (drop (L - whole * B z) (decodedStripe z xs bs (here whole)))) true) false
+    by-pairs = all-stripes z xs legal bs lb here L S eS meet one
+
+    by-shares : given (readFile z xs L bs all) ≡ alls (tabulate S (stripeReads z xs L bs here))
+    unfolding stripeReads
+    by-shares =
+        sym (ap (λ (N : ℕ). alls (tabulate N (stripeReads z xs L bs (λ s t. piece (α z) s (piece (N * α z) t all))))) eS
+        ∙ agrees-made z xs legal bs lb L all (shares-long z S starts bytes placed ∙ ap₂ (λ (a b : ℕ). a * (b * α z)) ls eS))
+        ∙ ap alls (tabulate-ext S _ _ (λ s hs. agrees-ext z xs bs (told s) (here s) (same-held s hs) (L - s * B z)))
+
+    pub agreed : given (readFile z xs L bs all) ≡ pick (alls (tabulate S meet)) (pick (ltb whole S) (zeros (drop (L - whole * B z) (decodedStripe z xs bs (here whole)))) true) false
+    agreed = by-shares ∙ by-pairs
+
+    -- what is answered, by what was found
+    abbrev answer : Bool
+    answer = given (readFile z xs L bs all)
+
+    pub no-pairs : alls (tabulate S meet) ≡ false → false ≡ answer
+    no-pairs e = sym (agreed ∙ ap (λ (b : Bool). pick b (pick (ltb whole S) (zeros (drop (L - whole * B z) (decodedStripe z xs bs (here whole)))) true) false) e)
+
+    found : (b : Bool) → alls (tabulate S meet) ≡ true → ltb whole S ≡ b → pick b (zeros (drop (L - whole * B z) (decodedStripe z xs bs (here whole)))) true ≡ answer
+    found b e w =
+        sym (agreed ∙ ap (λ (m : Bool). pick m (pick (ltb whole S) (zeros (drop (L - whole * B z) (decodedStripe z xs bs (here whole)))) true) false) e
+        ∙ ap (λ (m : Bool). pick m (zeros (drop (L - whole * B z) (decodedStripe z xs bs (here whole)))) true) w)
+
+    pub last-cut : alls (tabulate S meet) ≡ true → (b : ℕ) → b ≡ B z → L / b < S → zeros (drop (L - L / b * b) (stripeAt z xs bs starts bytes (L / b))) ≡ answer
+    last-cut e b eb h =
+        ap (λ (b : ℕ). zeros (drop (L - L / b * b) (stripeAt z xs bs starts bytes (L / b)))) eb
+        ∙ found true e (lt-ltb whole S (rw eb at h))
+
+    pub none-cut : alls (tabulate S meet) ≡ true → (b : ℕ) → b ≡ B z → S ≤ L / b → true ≡ answer
+    none-cut e b eb h = found false e (le-ltb whole S (rw eb at h))

@@ -1,1 +1,3 @@
+pub mod Shares
 pub mod Agree
+pub mod Padded

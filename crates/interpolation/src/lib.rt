@@ -3,8 +3,15 @@
 ghost use mathlib.Core.Path.{_≡_};
 ghost use lib.ListN.{length};
 ghost use Rattle.lists.specs.Lists.{tabulate};
-ghost use Rattle.gf256.specs.Field.{inverse};
+ghost use Rattle.gf256.specs.Field.{mul, inverse};
 ghost use Rattle.polynomial.specs.Polynomial.{eval, stepped, slopes, interpolate};
+
+// The product of a and b, with no table: the multiples of a at the bits of b.
+pub fn product(a: u8, b: u8) -> u8
+    ensures { λ r. ⌜ r ≡ mul a b ⌝ }
+{
+    gf256_mul::times(gf256_mul::multiples_of(a), b)
+}
 
 // The value of the polynomial p at x, from the highest coefficient down.
 pub fn eval(p: &[u8], x: u8) -> u8
@@ -14,7 +21,7 @@ pub fn eval(p: &[u8], x: u8) -> u8
     let mut i = p.len();
     while i > 0 {
         i -= 1;
-        let t = gf256_mul::mul(x, acc);
+        let t = product(x, acc);
         acc = gf256_mul::add(p[i], t);
     }
     acc
@@ -27,7 +34,7 @@ pub fn step(a: u8, q: &mut [u8])
     let mut j: usize = 0;
     while j + 1 < q.len() {
         let c = q[j + 1];
-        let t = gf256_mul::mul(a, c);
+        let t = product(a, c);
         let v = q[j];
         q[j] = gf256_mul::add(v, t);
         j += 1;
@@ -58,7 +65,7 @@ pub fn slopes(inverses: &[u8], a: u8, v: u8, ys: &[u8], ws: &mut [u8])
         let d = gf256_mul::add(y, a);
         let n = inverses[d as usize];
         let u = gf256_mul::add(w, v);
-        ws[j] = gf256_mul::mul(u, n);
+        ws[j] = product(u, n);
         j += 1;
     }
 }

@@ -182,7 +182,8 @@ impl Store {
         let marks = self.marks;
         let points = checks::standard_points();
         let mut inverses = [0u8; 256];
-        interpolation::fill_inverses(&mut inverses);
+        inverses::fill_inverses(&mut inverses);
+        let mut tables = [0u8; 49152];
         if let Check::Refuse(x) = read_check::check_read(
             sizes,
             capacity,
@@ -194,6 +195,7 @@ impl Store {
             area,
             boards,
             out,
+            &mut tables,
         ) {
             return refuse(self, x);
         }
@@ -202,11 +204,11 @@ impl Store {
             sizes,
             capacity,
             &points,
-            &inverses,
             length,
             count,
             boards,
             area,
+            &tables,
             out,
         );
         Handed {

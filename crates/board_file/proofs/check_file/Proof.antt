@@ -23,7 +23,8 @@ use Rattle.checks.specs.Steps.{asked, statedLines, Stated}
 use Rattle.checks.proofs.Chain.{thens, grouped, goes-on, refuses, ends}
 use Rattle.checks.proofs.Facts.{stated-facts}
 use Rattle.checks.proofs.Given.{as-many, few-bytes}
-use Rattle.board_file.proofs.FileCall.{Readable, readable}
+use Rattle.decode_stripe.specs.Steps.{Asked}
+use Rattle.board_file.proofs.FileCall.{Readable, readable, asked-of, not-passed}
 use Rattle.board_file.proofs.check_file.Statement.{statement}
 use Rattle.board_file.proofs.check_file.Tie as tie
 
@@ -68,7 +69,7 @@ whole g = grouped (all g)
 
 -- 1 SIZE, 3 LONG
 abbrev st-stated : tie.After-check-stated → tie.Start
-st-stated c = c .before .before .before .before .before .before
+st-stated c = c .before .before .before .before .before .before .before
 
 no-stated : (c : tie.After-stated) → Refuse (c .stated .given .0 .0) ≡ answer (st-stated (c .before .before))
 no-stated c = let k = c .before .before in refuses _ (whole (st-stated k)) (k .check-stated .ensures) (c .stated .given .1)
@@ -175,31 +176,30 @@ readable-on c =
     readable _ _ _ _ (stated-on r) (sym (k .check-count .ensures) ∙ n .before .enum-told2 .given .1) (sym (n .check-nodes .ensures) ∙ r .before .enum-told3 .given .1)
     (sym (r .check-repeat .ensures) ∙ l .before .before .enum-told4 .given .1) (sym (is-area (at-area c)) ∙ c .before .enum-told5 .given .1)
 
-few-points : (c : tie.After-check-room) → st-short c .args .sizes .n ≤ length (st-short c .args .points .now)
-few-points c =
-    let l : length (st-short c .args .points .now) ≡ 32 = ap length (st-short c .pre .points-are) in
-    omega (arith, l, legal-facts _ (readable-on c .stated .is-legal) .few)
-
 -- 10 DISAGREE
 abbrev at-room : tie.After-check-agrees → tie.After-check-room
-at-room c = c .before .before .before
+at-room c = c .before .before .before .before
 
 abbrev st-agrees : tie.After-check-agrees → tie.Start
 st-agrees c = st-short (at-room c)
 
 on-agrees : (c : tie.After-check-agrees) → thens (agrees (st-agrees c)) ≡ answer (st-agrees c)
-on-agrees c = let k = at-room c in goes-on (on-short k) (k .check-room .ensures) (c .before .enum-told6 .given .1)
+on-agrees c = let k = at-room c in goes-on (on-short k) (k .check-room .ensures) (c .before .before .enum-told6 .given .1)
 
 is-agrees : (c : tie.After-check-agrees) → c .check-agrees .result ≡ asked (agree-line (st-agrees c) standard)
-is-agrees c = let g = st-agrees c in c .check-agrees .ensures ∙ ap (λ (xs : List ℕ). asked (agree-line g xs)) (g .pre .points-are)
+is-agrees c = let g = st-agrees c in c .check-agrees .ensures .0 ∙ ap (λ (xs : List ℕ). asked (agree-line g xs)) (g .pre .0 .points-are)
+
+-- what was asked of the kernels
+asked-on : (c : tie.After-check-room) → let a = st-short c .args in Asked (a .sizes) (a .points .now) (a .boards .now)
+asked-on c = asked-of _ _ _ _ _ (st-short c .pre .0 .points-are) (readable-on c)
 
 agrees-ask : tie.Need-check-agrees-requires
 agrees-ask c κs =
-    let k = c .before .before in
+    let k = c .before .before .before in
     let n = at-len (at-area k) .before in
     let f = readable-on k in
     let e = n .stripe-count .ensures .0 in
-    (f .stated .is-legal, few-points k, st-short k .pre .inverses-are, f .enough, f .known, n .stripe-count .ensures .1, e, rw e (f .held-is))
+    (asked-on k, st-short k .pre .0 .inverses-are, ap length (st-short k .pre .0 .points-are), n .stripe-count .ensures .1, e, rw e (f .held-is), st-short k .pre .1)
 
 pub check-file-spec : {M : Type 1} → statement M
 check-file-spec =
@@ -207,19 +207,19 @@ check-file-spec =
     (tie.spec
     (λ c κs. search needs)
     (λ c. search needs)
-    (λ c. no-stated (c .before))
+    (λ c. (no-stated (c .before), not-passed))
     (λ c. search needs)
     (λ c κs. search needs)
     (λ c. search needs)
-    (λ c. no-count (c .before))
+    (λ c. (no-count (c .before), not-passed))
     (λ c. search needs)
     (λ c κs. search needs)
     (λ c. search needs)
-    (λ c. no-nodes (c .before))
+    (λ c. (no-nodes (c .before), not-passed))
     (λ c. search needs)
     (λ c κs. search needs)
     (λ c. search needs)
-    (λ c. no-repeat (c .before))
+    (λ c. (no-repeat (c .before), not-passed))
     (λ c. search needs)
     (λ c κs. stated-on (c .before .before))
     (λ c κs. search needs)
@@ -227,11 +227,12 @@ check-file-spec =
     (λ c. omega (arith, all-few (c .before)))
     (λ c κs. search needs)
     (λ c. search needs)
-    (λ c. no-area (c .before))
+    (λ c. (no-area (c .before), not-passed))
     (λ c. search needs)
     (λ c κs. search needs)
     (λ c. search needs)
-    (λ c. no-short (c .before))
+    (λ c. (no-short (c .before), not-passed))
     (λ c. search needs)
     agrees-ask
-    (λ c. ends (on-agrees c) (is-agrees c)))
+    (λ c. search needs)
+    (λ c. let k = c .before .before in (ends (on-agrees k) (is-agrees k), λ _. k .check-agrees .ensures .1)))

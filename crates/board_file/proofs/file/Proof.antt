@@ -7,13 +7,14 @@ use borrow.Author.Needs.{needs}
 use Rattle.sizes.specs.declared.Check.the-variants.{Pass}
 use Rattle.sizes.proofs.Legal.{legal-facts}
 use Rattle.mbcr.specs.Share.{standard}
-use Rattle.board_file.proofs.FileCall.{Readable, checked, file-readable, file-room, file-refuses, file-works}
+use Rattle.decode_setup.specs.Steps.{Made}
+use Rattle.board_file.proofs.FileCall.{Readable, asked-of, checked, file-readable, file-room, file-refuses, file-works}
 use Rattle.board_file.proofs.file.Statement.{statement}
 use Rattle.board_file.proofs.file.Tie as tie
 
 -- the places
 abbrev at-inverses : tie.After-check-file → tie.After-fill-inverses
-at-inverses c = c .before .before .before .before .before
+at-inverses c = c .before .before .before .before .before .before
 
 abbrev at-points : tie.After-check-file → tie.After-standard-points
 at-points c = at-inverses c .before .before
@@ -22,14 +23,18 @@ abbrev st : tie.After-check-file → tie.Start
 st c = at-points c .before .before .before .before
 
 abbrev at-check : tie.After-enum-told → tie.After-check-file
-at-check c = c .before .before
+at-check c = c .before .before .before
 
 -- what the check told
 passed : (c : tie.After-enum-told) → let a = st (at-check c) .args in checked (a .sizes) standard (a .len) (a .boards .now) (a .held .now) (a .out .now) ≡ Pass
-passed c = sym (at-check c .check-file .ensures) ∙ c .enum-told .given .1
+passed c = sym (at-check c .check-file .ensures .0) ∙ c .enum-told .given .1
 
 facts : (c : tie.After-enum-told) → let a = st (at-check c) .args in Readable (a .sizes) (a .len) (a .boards .now) (length (a .held .now))
 facts c = let a = st (at-check c) .args in file-readable (a .sizes) standard (a .len) (a .boards .now) (a .held .now) (a .out .now) (passed c)
+
+-- the tables are made
+made : (c : tie.After-enum-told) → let k = at-check c in let a = st k .args in Made (a .sizes) (at-points k .standard-points .result) (a .boards .now) (k .check-file .last .1 .1 .1 .1 .1 .1 .1 .0)
+made c = at-check c .check-file .ensures .1 (c .enum-told .given .1)
 
 -- the work
 file-asks : tie.Need-file-requires
@@ -39,16 +44,12 @@ file-asks c κs =
     let k = at-check t in
     let a = st k .args in
     let f = facts t in
-    let e = n .stripe-count .ensures .0 in
-    let l : length (at-points k .standard-points .result) ≡ 32 = ap length (at-points k .standard-points .ensures) in (
-      f .stated .is-legal,
-      omega (arith, l, legal-facts _ (f .stated .is-legal) .few),
-      at-inverses k .fill-inverses .ensures,
-      f .enough,
-      f .known,
+    let e = n .stripe-count .ensures .0 in (
+      asked-of _ _ _ _ _ (at-points k .standard-points .ensures) f,
       n .stripe-count .ensures .1,
       e,
       rw e (f .held-is),
+      made t,
       file-room (a .sizes) standard (a .len) (a .boards .now) (a .held .now) (a .out .now) (passed t),
     )
 
@@ -62,9 +63,9 @@ file-done c =
 
 file-refused : tie.Need-returns
 file-refused c =
-    let k = c .before .before .before in
+    let k = c .before .before .before .before in
     let a = st k .args in
-    file-refuses (a .sizes) standard (a .len) (a .boards .now) (a .held .now) (a .out .now) (sym (k .check-file .ensures) ∙ c .before .x .given .1)
+    file-refuses (a .sizes) standard (a .len) (a .boards .now) (a .held .now) (a .out .now) (sym (k .check-file .ensures .0) ∙ c .before .x .given .1)
 
 pub file-spec : {M : Type 1} → statement M
 file-spec =
@@ -73,6 +74,7 @@ file-spec =
     (λ c κs. search needs)
     (λ c. search needs)
     (λ c κs. search needs)
+    (λ c. search needs)
     (λ c. search needs)
     (λ c. search needs)
     (λ c κs. search needs)

@@ -1,78 +1,156 @@
--- `decode::agrees` meets its contract: the tests that are left are the tests of the whole.
+-- `decode::agrees` meets its contract: the pairs of boards, then the padding.
 -- Assumes nothing.
-use mathlib.Core.Path.{_≡_, refl, sym, _∙_}
-use mathlib.Core.Bool.{Bool}
-use Prim.Native.Nat.{ℕ, _-_}
-use native.Mathlib.Omega.{arith}
-use lib.ListN.{drop}
-use borrow.Author.Needs.{needs}
+use mathlib.Core.Bool.{Bool, true, false}
+use Prim.Native.Nat.{_/_}
+use native.Mathlib.Nat.{div-add-mod', mod-lt}
 use borrow.Author.Tests.{not-true, not-false}
-use Rattle.lists.specs.Lists.{tabulate}
-use Rattle.sizes.proofs.Legal.{legal-facts}
-use Rattle.lists.specs.Tests.{alls, given}
-use Rattle.mbcr.specs.Read.{readFile}
-use Rattle.decode.specs.Steps.{stripeRead}
-use Rattle.decode.proofs.Agree.{alls-no, alls-next, alls-end, starts, agrees-made}
+use Rattle.lists.specs.Tests.{pick, alls}
+use Rattle.lists.specs.Lists.{Bytes, tabulate}
+use Rattle.lists.proofs.Alls.{all-of}
+use Rattle.sizes.specs.Sizing.{B}
+use Rattle.sizes.proofs.Legal.{Legal, legal-facts, B-pos}
+use Rattle.mbcr.proofs.Points.{Boards, boards-of}
+use Rattle.decode_laws.specs.Steps.{pairsMeet, heldAt}
+use Rattle.decode_laws.proofs.Held.{placed-before}
+use Rattle.decode.proofs.Agree.{no-pairs, last-cut, none-cut}
+use mathlib.Core.Path.{_≡_, refl, sym, ap, ap₂, _∙_}
+use mathlib.Core.List.{List, _++_}
+use Prim.Native.Nat.{ℕ, _≤_, _<_, _-_, _+_, _*_}
+use native.Mathlib.Omega.{arith}
+use lib.ListN.{length, getD, take, drop, length-take, length-drop, length-append}
+use borrow.Author.Needs.{needs}
 use Rattle.decode.proofs.agrees.Statement.{statement}
 use Rattle.decode.proofs.agrees.Tie as tie
 
-abbrev Inv-loop : tie.InvT-loop
-Inv-loop sizes points inverses len stripes boards held s₀ s =
-    let q = stripeRead sizes points len stripes boards held in alls (drop s (tabulate stripes q)) ≡ alls (tabulate stripes q)
+-- places in the code
+abbrev start-from-else1 : tie.Else1 → tie.Start
+start-from-else1 c = c .before .before .before .before .before .before .before
 
-abbrev μ-loop : tie.MeasureT-loop
-μ-loop sizes points inverses len stripes boards held s₀ s = stripes - s
+abbrev start-from-after-stripe-len : tie.After-stripe-len → tie.Start
+start-from-after-stripe-len c = c .before .before .before .before .before .before .before .before
 
--- the tests, and what all of them are
-abbrev tests : tie.Start Inv-loop μ-loop → ℕ → Bool
-tests g =
-    let a = g .args in
-    stripeRead (a .sizes) (a .points .now) (a .len) (a .stripes) (a .boards .now) (a .held .now)
+abbrev start-from-after-shared-slice-known5 : tie.After-shared-slice-known5 → tie.Start
+start-from-after-shared-slice-known5 c = c .before .before .before .before .before
 
-all : (g : tie.Start Inv-loop μ-loop) → let a = g .args in alls (tabulate (a .stripes) (tests g)) ≡ given (readFile (a .sizes) (a .points .now) (a .len) (a .boards .now) (a .held .now))
-all g =
-    let a = g .args in
-    agrees-made (a .sizes) (a .points .now) (legal-facts _ (g .pre .0)) (a .boards .now) (g .pre .3) (a .len) (a .held .now) (a .stripes) (g .pre .6) (g .pre .7)
+abbrev start-from-then1 : tie.Then1 → tie.Start
+start-from-then1 c = c .before .before .before .before .before .before .before
 
-loop-holds : tie.Need-loop-holds Inv-loop μ-loop
-loop-holds c = refl
+abbrev start-from-then2 : tie.Then2 → tie.Start
+start-from-then2 c = c .before .before .before .before .before .before .before .before .before
 
-stripe-read-requires : tie.Need-stripe-read-requires Inv-loop μ-loop
-stripe-read-requires c κs =
-    let g = c .before .before .before .before .before .before in
-    (g .pre .0, g .pre .1, g .pre .2, g .pre .3, g .pre .4, g .pre .5, c .loop-test .taken, g .pre .7, omega (arith, starts (g .args .sizes) (legal-facts _ (g .pre .0)) (g .args .len) (g .args .stripes) (c .before .loop .s) (g .pre .6) (c .loop-test .taken)))
+abbrev start-from-after-padding : tie.After-padding → tie.Start
+start-from-after-padding c = c .before .before .before .before .before .before .before .before .before .before
 
-returns : tie.Need-returns Inv-loop μ-loop
+abbrev after-shared-slice-known4-from-after-padding : tie.After-padding → tie.After-shared-slice-known4
+after-shared-slice-known4-from-after-padding c = c .before .before .before .before .before .before
+
+abbrev start-from-else2 : tie.Else2 → tie.Start
+start-from-else2 c = c .before .before .before .before .before .before .before .before .before
+
+abbrev after-shared-slice-known4-from-else2 : tie.Else2 → tie.After-shared-slice-known4
+after-shared-slice-known4-from-else2 c = c .before .before .before .before .before
+
+-- the sizes are legal
+facts : (c : tie.Start) → Legal (c .args .sizes)
+facts c = legal-facts _ (c .pre .0 .sized)
+
+-- the boards are known, and the bytes are bytes
+known : (c : tie.Start) → Boards (c .args .sizes) (c .args .boards .now)
+known c = boards-of (c .args .sizes) (c .args .boards .now) (c .pre .0 .known) (c .pre .0 .unlike)
+
+bytes : (c : tie.After-shared-slice-known4) → Bytes ((c .before .before .before .before) .args .bytes .now)
+bytes c = all-of (λ b. b < 256) 0 ((c .before .before .before .before) .args .bytes .now) (λ i h. omega (arith, c .shared-slice-known4 .given i))
+
+-- whether the pairs meet
+abbrev meeting : tie.Start → Bool
+meeting c =
+    let a = c .args in
+    alls (tabulate (a .stripes) (λ s. pairsMeet (a .sizes) (a .points .now) (a .boards .now) (heldAt (a .sizes) (a .starts .now) (a .bytes .now) s)))
+
+met : (c : tie.Else1) → meeting (start-from-else1 c) ≡ true
+met c = sym ((c .before) .pairs-meet .ensures) ∙ not-false ((c .before) .pairs-meet .result) (c .if1 .left)
+
+-- the length of a stripe
+whole : (c : tie.After-stripe-len) → c .stripe-len .result ≡ B ((start-from-after-stripe-len c) .args .sizes)
+whole c = c .stripe-len .ensures ∙ ap (λ b. pick b (B ((start-from-after-stripe-len c) .args .sizes)) 0) ((start-from-after-stripe-len c) .pre .0 .sized)
+
+some : (c : tie.After-stripe-len) → 0 < c .stripe-len .result
+some c = omega (arith, whole c, B-pos _ (facts (start-from-after-stripe-len c)))
+
+-- the bytes of the stripes that are not cut
+before : (c : tie.After-stripe-len) → let b = c .stripe-len .result in let L = (start-from-after-stripe-len c) .args .len in (L / b * b ≤ L) × (L - L / b * b < b)
+before c =
+    let b = c .stripe-len .result in
+    let L = (start-from-after-stripe-len c) .args .len in
+    (omega (arith, div-add-mod' L b), omega (arith, div-add-mod' L b, mod-lt L (some c)))
+
+pairs-meet-requires : tie.Need-pairs-meet-requires
+pairs-meet-requires c κs = let p = (start-from-after-shared-slice-known5 c) .pre in (p .0, p .1, p .2, p .3, p .5)
+
+returns : tie.Need-returns
 returns c =
-    let l = c .before .before .before .loop in
-    sym (sym (all (c .before .before .before .before .before .before .before .before)) ∙ sym (l .inv) ∙ alls-no (tests (c .before .before .before .before .before .before .before .before)) (c .before .before .before .before .before .before .before .before .args .stripes) (l .s) (c .before .before .loop-test .taken) (sym (c .before .stripe-read .ensures) ∙ not-true (c .before .stripe-read .result) (c .if1 .taken)))
+    let g = (start-from-then1 c) in
+    let a = g .args in
+    let p = g .pre in
+    let k = (c .before) in
+    no-pairs (a .sizes) (a .points .now) (facts g) (p .0 .distinct) (a .boards .now) (known g) (p .0 .counted) (a .len) (a .stripes) (p .4) (a .starts .now) (a .bytes .now) (p .1) (p .2)
+    (bytes (c .before .before .before)) (sym (k .pairs-meet .ensures) ∙ not-true (k .pairs-meet .result) (c .if1 .taken))
 
-add-s : tie.Need-add-s Inv-loop μ-loop
-add-s c = search needs
+stripe-len-requires : tie.Need-stripe-len-requires
+stripe-len-requires c κs = search needs
 
-loop-less : tie.Need-loop-less Inv-loop μ-loop
-loop-less c = search needs
+div-whole : tie.Need-div-whole
+div-whole c = some c
 
-loop-again : tie.Need-loop-again Inv-loop μ-loop
-loop-again c =
-    let l = c .before .before .before .loop in
-    alls-next (tests (c .before .before .before .before .before .before .before .before)) (c .before .before .before .before .before .before .before .before .args .stripes) (l .s) (c .before .before .loop-test .taken) (sym (c .before .stripe-read .ensures) ∙ not-false (c .before .stripe-read .result) (c .if1 .left)) ∙ l .inv
+mul-rest : tie.Need-mul-rest
+mul-rest c = omega (arith, before (c .before) .0)
 
-returns-2 : tie.Need-returns-2 Inv-loop μ-loop
+sub-rest : tie.Need-sub-rest
+sub-rest c = before (c .before) .0
+
+padding-requires : tie.Need-padding-requires
+padding-requires c κs =
+    let g = (start-from-then2 c) in
+    let a = g .args in
+    let p = g .pre in
+    let k = (c .before) in (
+      p .0,
+      p .1,
+      placed-before (a .sizes) (a .starts .now) (a .bytes .now) (a .len / k .stripe-len .result + 1) (a .stripes) (omega (arith, c .if2 .taken)) (p .2),
+      omega (arith, c .if2 .taken, p .3),
+      omega (arith, before k .1, whole k),
+      p .5,
+    )
+
+returns-2 : tie.Need-returns-2
 returns-2 c =
-    let l = c .before .loop in
-    sym (sym (all (c .before .before .before .before .before .before)) ∙ sym (l .inv) ∙ alls-end (tests (c .before .before .before .before .before .before)) (c .before .before .before .before .before .before .args .stripes) (l .s) (c .loop-test .left))
+    let g = (start-from-after-padding c) in
+    let a = g .args in
+    let p = g .pre in
+    let k = (c .before .before) in
+    c .padding .ensures
+    ∙ last-cut (a .sizes) (a .points .now) (facts g) (p .0 .distinct) (a .boards .now) (known g) (p .0 .counted) (a .len) (a .stripes) (p .4) (a .starts .now) (a .bytes .now) (p .1) (p .2)
+    (bytes (after-shared-slice-known4-from-after-padding c)) (met (c .before .before .before)) (k .stripe-len .result) (whole k) ((c .before) .if2 .taken)
+
+returns-3 : tie.Need-returns-3
+returns-3 c =
+    let g = (start-from-else2 c) in
+    let a = g .args in
+    let p = g .pre in
+    let k = (c .before) in
+    none-cut (a .sizes) (a .points .now) (facts g) (p .0 .distinct) (a .boards .now) (known g) (p .0 .counted) (a .len) (a .stripes) (p .4) (a .starts .now) (a .bytes .now) (p .1) (p .2)
+    (bytes (after-shared-slice-known4-from-else2 c)) (met (c .before .before)) (k .stripe-len .result) (whole k) (c .if2 .left)
 
 pub agrees-spec : {M : Type 1} → statement M
 agrees-spec =
     tie.close
     (tie.spec
-    Inv-loop
-    μ-loop
-    loop-holds
-    stripe-read-requires
+    pairs-meet-requires
     returns
-    add-s
-    loop-less
-    loop-again
-    returns-2)
+    stripe-len-requires
+    div-whole
+    mul-rest
+    sub-rest
+    padding-requires
+    returns-2
+    returns-3)

@@ -1,119 +1,65 @@
--- `decode::file` meets its contract: the stripes so far, the last of them cut to the length, over what was there.
+-- `decode::file` meets its contract: the stripes of what boards hold are those of the shares.
 -- Assumes nothing.
-use mathlib.Core.Path.{_≡_, refl, sym, ap, _∙_}
-use mathlib.Core.List.{List}
-use Prim.Native.Nat.{ℕ, _*_, _-_, _<_, _≤_}
+use Rattle.sizes.proofs.Legal.{Legal, legal-facts}
+use Rattle.mbcr.proofs.Points.{boards-of}
+use Rattle.decode_stripe.proofs.Made.{part-long}
+use Rattle.decode.proofs.Agree.{file-made, few-stripes, enough-stripes, placed-all}
+use mathlib.Core.Path.{_≡_, refl, sym, ap, ap₂, _∙_}
+use mathlib.Core.List.{List, _++_}
+use Prim.Native.Nat.{ℕ, _≤_, _<_, _-_, _+_, _*_}
 use native.Mathlib.Omega.{arith}
-use lib.ListN.{length, take, length-take, length-drop}
-use lib.Seq.{take-nil}
+use lib.ListN.{length, getD, take, drop, length-take, length-drop, length-append}
 use borrow.Author.Needs.{needs}
-use Rattle.lists.specs.Lists.{join, over}
-use Rattle.sizes.specs.Sizing.{B}
-use Rattle.sizes.proofs.Legal.{legal-facts}
-use Rattle.lists.specs.Tests.{pick}
-use Rattle.mbcr.proofs.Decode.{length-decoded}
-use Rattle.decode.proofs.Agree.{file-turn, file-made, starts, decoded}
 use Rattle.decode.proofs.file.Statement.{statement}
 use Rattle.decode.proofs.file.Tie as tie
 
-abbrev Inv-loop : tie.InvT-loop
-Inv-loop sizes points inverses len stripes boards held out₀ b s₀ out s =
-    (out ≡ over (take len (join s (decoded sizes points boards held stripes))) out₀) × (s ≤ stripes) × (length out ≡ length out₀)
+-- places in the code
+abbrev start-from-after-stripes-arg : tie.After-stripes-arg → tie.Start
+start-from-after-stripes-arg c = c .before .before .before .before .before .before .before
 
-abbrev μ-loop : tie.MeasureT-loop
-μ-loop sizes points inverses len stripes boards held out₀ b s₀ out s = stripes - s
+abbrev start-from-after-slice-known2 : tie.After-slice-known2 → tie.Start
+start-from-after-slice-known2 c = c .before .before .before .before .before .before .before .before .before .before
 
--- the length of a stripe
-whole : (c : tie.After-stripe-len Inv-loop μ-loop) → c .stripe-len .result ≡ B (c .before .before .before .before .before .before .args .sizes)
-whole c = c .stripe-len .ensures ∙ ap (λ b. pick b (B (c .before .before .before .before .before .before .args .sizes)) 0) (c .before .before .before .before .before .before .pre .0)
+-- the sizes are legal
+facts : (c : tie.Start) → Legal (c .args .sizes)
+facts c = legal-facts _ (c .pre .0 .sized)
 
--- where the stripe of a turn starts
-start : (c : tie.In-loop Inv-loop μ-loop) → c .before .loop .s * c .before .before .stripe-len .result < c .before .before .before .before .before .before .before .before .args .len
-start c =
-    let g = c .before .before .before .before .before .before .before .before in
-    rw (whole (c .before .before)) (starts (g .args .sizes) (legal-facts _ (g .pre .0)) (g .args .len) (g .args .stripes) (c .before .loop .s) (g .pre .6) (c .loop-test .taken))
+sub-stripes : tie.Need-sub-stripes
+sub-stripes c = search needs
 
-stripe-len-requires : tie.Need-stripe-len-requires Inv-loop μ-loop
-stripe-len-requires c κs = search needs
+part-stripes-start : tie.Need-part-stripes-start
+part-stripes-start c = search needs
 
-loop-holds : tie.Need-loop-holds Inv-loop μ-loop
-loop-holds c =
-    (ap (λ (l : List ℕ). over l (c .before .before .before .before .before .before .args .out .now)) (sym (take-nil (c .before .before .before .before .before .before .args .len))), omega arith, refl)
+part-stripes-end : tie.Need-part-stripes-end
+part-stripes-end c = search needs
 
-mul-at : tie.Need-mul-at Inv-loop μ-loop
-mul-at c = omega (arith, start c)
-
-sub-least : tie.Need-sub-least Inv-loop μ-loop
-sub-least c = omega (arith, start c)
-
-least-requires : tie.Need-least-requires Inv-loop μ-loop
-least-requires c κs = search needs
-
-add-end : tie.Need-add-end Inv-loop μ-loop
-add-end c = omega (arith, start (c .before), c .least .ensures)
-
-sub-stripe-part : tie.Need-sub-stripe-part Inv-loop μ-loop
-sub-stripe-part c = omega arith
-
-part-stripe-part-start : tie.Need-part-stripe-part-start Inv-loop μ-loop
-part-stripe-part-start c = search needs
-
-part-stripe-part-end : tie.Need-part-stripe-part-end Inv-loop μ-loop
-part-stripe-part-end c = omega (arith, start (c .before), c .least .ensures)
-
-stripe-part-requires : tie.Need-stripe-part-requires Inv-loop μ-loop
-stripe-part-requires c κs =
-    let g = c .before .before .before .before .before .before .before .before .before .before in
-    let e = whole (c .before .before .before .before) in
-    (g .pre .0, g .pre .1, g .pre .2, g .pre .3, g .pre .4, g .pre .5, omega arith, g .pre .7, simp (length-take, length-drop) (omega (arith, c .before .least .ensures)))
-
-add-s : tie.Need-add-s Inv-loop μ-loop
-add-s c = search needs
-
-loop-less : tie.Need-loop-less Inv-loop μ-loop
-loop-less c = search needs
-
-loop-again : tie.Need-loop-again Inv-loop μ-loop
-loop-again c =
-    let g = c .before .before .before .before .before .before .before .before .before .before .before .before .before in
+stripes-requires : tie.Need-stripes-requires
+stripes-requires c κs =
+    let g = (start-from-after-stripes-arg c) in
     let a = g .args in
-    let l = c .before .before .before .before .before .before .loop in
-    let h = start (c .before .before .before .before .before) in (
-      file-turn (decoded (a .sizes) (a .points .now) (a .boards .now) (a .held .now) (a .stripes)) (c .before .before .before .before .before .before .before .stripe-len .result) (a .len) (l .s) (c .before .before .before .before .least .result)
-          (λ i. length-decoded (a .sizes) (a .points .now) (legal-facts _ (g .pre .0)) (a .boards .now) (g .pre .3) _ ∙ sym (whole (c .before .before .before .before .before .before .before)))
-          (a .out .now) (l .out) _ (omega arith) (g .pre .8) (l .inv .2) (c .before .before .before .before .least .ensures) (l .inv .0) (c .before .before .stripe-part .ensures),
-      omega arith,
-      search needs,
+    let p = g .pre in
+    let l = part-long (a .len) (a .out .now) (p .6) in (
+      p .0,
+      p .1,
+      placed-all (a .sizes) (a .starts .now) (a .bytes .now) (a .stripes) (p .2),
+      omega (arith, p .3),
+      p .5,
+      omega (arith, l, enough-stripes (a .sizes) (facts g) (a .len) (a .stripes) (p .4)),
+      omega (arith, l, few-stripes (a .sizes) (facts g) (a .len) (a .stripes) (p .4)),
     )
 
-same-length : tie.Need-same-length Inv-loop μ-loop
+same-length : tie.Need-same-length
 same-length c = search needs
 
-returns : tie.Need-returns Inv-loop μ-loop
+returns : tie.Need-returns
 returns c =
-    let g = c .before .before .before .before .before .before .before .before in
+    let g = (start-from-after-slice-known2 c) in
     let a = g .args in
-    let l = c .before .loop in
-    file-made (a .sizes) (a .points .now) (legal-facts _ (g .pre .0)) (a .boards .now) (g .pre .3) (a .len) (a .held .now) (a .stripes) (l .s) (a .out .now) (l .out) (g .pre .6) (omega arith) (l .inv .0)
+    let p = g .pre in
+    file-made (a .sizes) (a .points .now) (facts g) (p .0 .distinct) (a .boards .now) (boards-of (a .sizes) (a .boards .now) (p .0 .known) (p .0 .unlike)) (p .0 .counted) (a .len) (a .stripes) (p .4)
+    (a .starts .now) (a .bytes .now) (p .1) (p .2) (a .out .now) _ (p .6) ((c .before .before) .stripes .ensures)
 
 pub file-spec : {M : Type 1} → statement M
 file-spec =
     tie.close
-    (tie.spec
-    Inv-loop
-    μ-loop
-    stripe-len-requires
-    loop-holds
-    mul-at
-    sub-least
-    least-requires
-    add-end
-    sub-stripe-part
-    part-stripe-part-start
-    part-stripe-part-end
-    stripe-part-requires
-    add-s
-    loop-less
-    loop-again
-    same-length
-    returns)
+    (tie.spec sub-stripes part-stripes-start part-stripes-end stripes-requires same-length returns)

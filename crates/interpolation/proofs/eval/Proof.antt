@@ -23,8 +23,8 @@ loop-holds c = (omega arith, ap (λ (l : List ℕ). eval l (c .before .args .x))
 sub-i : tie.Need-sub-i Inv-loop μ-loop
 sub-i c = search needs
 
-mul-requires : tie.Need-mul-requires Inv-loop μ-loop
-mul-requires c κs = search needs
+product-requires : tie.Need-product-requires Inv-loop μ-loop
+product-requires c κs = search needs
 
 shared-slice-read-add : tie.Need-shared-slice-read-add Inv-loop μ-loop
 shared-slice-read-add c = search needs
@@ -38,7 +38,7 @@ loop-less c = search needs
 loop-again : tie.Need-loop-again Inv-loop μ-loop
 loop-again c =
     let b = c .before .before in
-    (omega arith, horner-turn _ _ _ _ _ _ (b .before .loop-test .taken) (b .before .before .loop .inv .1) (b .mul .ensures) (c .add .ensures))
+    (omega arith, horner-turn _ _ _ _ _ _ (b .before .loop-test .taken) (b .before .before .loop .inv .1) (b .product .ensures) (c .add .ensures))
 
 returns : tie.Need-returns Inv-loop μ-loop
 returns c =
@@ -53,7 +53,7 @@ eval-spec =
     μ-loop
     loop-holds
     sub-i
-    mul-requires
+    product-requires
     shared-slice-read-add
     add-requires
     loop-less

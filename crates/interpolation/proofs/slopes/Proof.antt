@@ -41,8 +41,8 @@ shared-slice-read-n c =
 add-requires-2 : tie.Need-add-requires-2 Inv-loop μ-loop
 add-requires-2 c κs = search needs
 
-mul-requires : tie.Need-mul-requires Inv-loop μ-loop
-mul-requires c κs = search needs
+product-requires : tie.Need-product-requires Inv-loop μ-loop
+product-requires c κs = search needs
 
 slice-write-ws : tie.Need-slice-write-ws Inv-loop μ-loop
 slice-write-ws c = search needs
@@ -57,8 +57,8 @@ loop-again : tie.Need-loop-again Inv-loop μ-loop
 loop-again c =
     let w = c .before .before .before .before .before .before .before .loop in
     let g = c .before .before .before .before .before .before .before .before .before .before .before in
-    let k : length (set (w .ws) (w .j) (c .mul .result)) ≡ length (w .ws) = length-set (w .ws) (w .j) (c .mul .result) in
-    (slopes-loop _ _ (g .args .ys .now) (w .ws) _ (w .j) _ _ _ _ (omega arith) (omega arith) (c .before .before .before .add .ensures) (table-at inverse 256 _ _ (g .pre .0) (omega arith)) (c .before .add2 .ensures) (c .mul .ensures) (w .inv .0), omega arith)
+    let k : length (set (w .ws) (w .j) (c .product .result)) ≡ length (w .ws) = length-set (w .ws) (w .j) (c .product .result) in
+    (slopes-loop _ _ (g .args .ys .now) (w .ws) _ (w .j) _ _ _ _ (omega arith) (omega arith) (c .before .before .before .add .ensures) (table-at inverse 256 _ _ (g .pre .0) (omega arith)) (c .before .add2 .ensures) (c .product .ensures) (w .inv .0), omega arith)
 
 same-length : tie.Need-same-length Inv-loop μ-loop
 same-length c = search needs
@@ -79,7 +79,7 @@ slopes-spec =
     cast-n
     shared-slice-read-n
     add-requires-2
-    mul-requires
+    product-requires
     slice-write-ws
     add-j
     loop-less

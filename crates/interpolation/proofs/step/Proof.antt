@@ -30,8 +30,8 @@ add-c c = search needs
 slice-read-c : tie.Need-slice-read-c Inv-loop μ-loop
 slice-read-c c = search needs
 
-mul-requires : tie.Need-mul-requires Inv-loop μ-loop
-mul-requires c κs = search needs
+product-requires : tie.Need-product-requires Inv-loop μ-loop
+product-requires c κs = search needs
 
 slice-read-v : tie.Need-slice-read-v Inv-loop μ-loop
 slice-read-v c = search needs
@@ -53,7 +53,7 @@ loop-again c =
     let l = c .before .before .before .before in
     let w = l .before .loop in
     let k : length (set (w .q) (w .j) (c .add .result)) ≡ length (w .q) = length-set (w .q) (w .j) (c .add .result) in
-    (step-loop _ (w .q) _ (w .j) _ _ (omega arith) (c .before .before .mul .ensures) (c .add .ensures) (w .inv .0), omega arith, omega arith)
+    (step-loop _ (w .q) _ (w .j) _ _ (omega arith) (c .before .before .product .ensures) (c .add .ensures) (w .inv .0), omega arith, omega arith)
 
 same-length : tie.Need-same-length Inv-loop μ-loop
 same-length c = search needs
@@ -71,7 +71,7 @@ step-spec =
     add-loop
     add-c
     slice-read-c
-    mul-requires
+    product-requires
     slice-read-v
     add-requires
     slice-write-q

@@ -19,8 +19,8 @@ use Rattle.checks.specs.Steps.{asked}
 use Rattle.store_checks.specs.Steps.{recordOf}
 use Rattle.shared_checks.specs.Steps.{areaLines, boardLines}
 use Rattle.checks.proofs.Chain.{thens, grouped, goes-on, refuses, ends}
-use Rattle.shared_checks.proofs.Facts.{Lent, area-facts, Named, board-facts, standard-enough}
-use Rattle.read_check.proofs.Readable.{Readable, readable}
+use Rattle.shared_checks.proofs.Facts.{Lent, area-facts, Named, board-facts}
+use Rattle.read_check.proofs.Readable.{Readable, readable, not-passed}
 use Rattle.read_check.proofs.check_read.Statement.{statement}
 use Rattle.read_check.proofs.check_read.Tie as tie
 
@@ -52,7 +52,7 @@ whole g = grouped (areas g)
 
 -- 1 SIZE, 2 AREA
 abbrev st-area : tie.After-check-area → tie.Start
-st-area c = c .before .before .before .before .before .before .before
+st-area c = c .before .before .before .before .before .before .before .before
 
 no-area : (c : tie.After-lent) → Refuse (c .lent .given .0 .0) ≡ answer (st-area (c .before .before))
 no-area c = let k = c .before .before in refuses _ (whole (st-area k)) (k .check-area .ensures) (c .lent .given .1)
@@ -110,35 +110,37 @@ readable-on c =
     let g = st-short c in
     let l = lent-on (at-empty (at-boards c) .before) in
     let n = named-on c in
-    readable (R g) (g .args .points .now) _ (g .args .boards .now) (standard-enough _ (g .pre .points-are)) (l .is-sound) (l .area-is) (n .enough) (n .known)
+    readable (R g) (g .args .points .now) _ (g .args .boards .now) (g .pre .0 .points-are) (l .is-sound) (l .area-is) (n .enough) (n .known) (n .all-different)
 
 -- 10 DISAGREE
 abbrev at-room : tie.After-stripe-count → tie.After-check-room
 at-room c = c .before .before .before
 
 abbrev at-count : tie.After-check-agrees → tie.After-stripe-count
-at-count c = c .before
+at-count c = c .before .before
 
 abbrev st-agrees : tie.After-check-agrees → tie.Start
 st-agrees c = st-short (at-room (at-count c))
 
 on-agrees : (c : tie.After-check-agrees) → thens (disagrees (st-agrees c)) ≡ answer (st-agrees c)
-on-agrees c = let k = at-room (at-count c) in goes-on (on-short k) (k .check-room .ensures) (cc)
+on-agrees c = let k = at-room (at-count c) in goes-on (on-short k) (k .check-room .ensures) (at-count c .before .enum-told4 .given .1)
 
 is-agrees : (c : tie.After-check-agrees)
     → let g = st-agrees c in c .check-agrees .result ≡ asked (Disagree when not (given (fileHeld standard (R g) (g .args .area .now) (g .args .boards .now))))
 is-agrees c =
     let g = st-agrees c in
-    c .check-agrees .ensures
-    ∙ ap (λ (xs : List ℕ). asked (Disagree when not (given (fileHeld xs (R g) (g .args .area .now) (g .args .boards .now))))) (g .pre .points-are)
+    c .check-agrees .ensures .0
+    ∙ ap (λ (xs : List ℕ). asked (Disagree when not (given (fileHeld xs (R g) (g .args .area .now) (g .args .boards .now))))) (g .pre .0 .points-are)
 
 agrees-asks : tie.Need-check-agrees-requires
 agrees-asks c κs =
-    let k = at-room c in
+    let n = c .before in
+    let k = at-room n in
+    let p = st-short k .pre in
     let f = readable-on k in
     let r = f .is-ready in
-    let e = c .stripe-count .ensures .0 in
-    (r .stated .is-legal, r .few-points, st-short k .pre .inverses-are, f .enough, f .known, e, r .cap-high, rw e (r .few-stripes), f .area-is)
+    let e = n .stripe-count .ensures .0 in
+    (f .is-asked, p .0 .inverses-are, ap length (p .0 .points-are), e, r .cap-high, rw e (r .few-stripes), f .area-is, p .1)
 
 pub check-read-spec : {M : Type 1} → statement M
 check-read-spec =
@@ -146,20 +148,21 @@ check-read-spec =
     (tie.spec
     (λ c κs. search needs)
     (λ c. search needs)
-    (λ c. no-area (c .before))
+    (λ c. (no-area (c .before), not-passed))
     (λ c. search needs)
     (λ c κs. search needs)
     (λ c. search needs)
-    (λ c. no-empty (c .before))
+    (λ c. (no-empty (c .before), not-passed))
     (λ c. search needs)
     (λ c κs. search needs)
     (λ c. search needs)
-    (λ c. no-boards (c .before))
+    (λ c. (no-boards (c .before), not-passed))
     (λ c. search needs)
     (λ c κs. search needs)
     (λ c. search needs)
-    (λ c. no-short (c .before))
+    (λ c. (no-short (c .before), not-passed))
     (λ c. search needs)
     (λ c κs. readable-on (c .before .before) .is-ready .stated)
     agrees-asks
-    (λ c. ends (on-agrees c) (is-agrees c)))
+    (λ c. search needs)
+    (λ c. let k = c .before .before in (ends (on-agrees k) (is-agrees k), λ _. k .check-agrees .ensures .1)))

@@ -1,34 +1,196 @@
--- `store_decode::check_agrees` meets its contract.
+-- `store_decode::check_agrees` meets its contract: the parts of boards are their shares.
 -- Assumes nothing.
-use mathlib.Core.Path.{_≡_, refl, sym, ap, _∙_}
-use mathlib.Core.Bool.{true, not}
+use mathlib.Core.Bool.{Bool, true, not}
 use mathlib.Core.List.{[]}
-use borrow.Author.Needs.{needs}
 use Rattle.lists.specs.Lists.{joined}
-use Rattle.lists.specs.Tests.{given}
+use Rattle.lists.specs.Tests.{pick, given}
 use Rattle.sizes.specs.declared.Refusal.the-variants.{Disagree}
-use Rattle.sizes.specs.Refusals.{Line, _when_}
-use Rattle.mbcr.specs.Read.{readFile}
+use Rattle.sizes.specs.Sizing.{α}
+use Rattle.sizes.specs.Refusals.{_when_}
+use Rattle.sizes.proofs.Legal.{Legal, legal-facts}
+use Rattle.mbcr.specs.Read.{readFile, decodedFile}
 use Rattle.checks.proofs.Answers.{passes, refuses}
 use Rattle.store_spec.specs.Record.{held}
 use Rattle.store_checks.specs.Steps.{recordOf}
+use Rattle.decode_stripe.proofs.Made.{part-long}
+use Rattle.store_decode.proofs.Parts.{part-few, below-32, lent-long, lent-placed, lent-shares}
+use mathlib.Core.Path.{_≡_, refl, sym, ap, ap₂, _∙_}
+use mathlib.Core.List.{List, _++_}
+use Prim.Native.Nat.{ℕ, _≤_, _<_, _-_, _+_, _*_}
+use native.Mathlib.Omega.{arith}
+use lib.ListN.{length, getD, take, drop, length-take, length-drop, length-append}
+use borrow.Author.Needs.{needs}
 use Rattle.store_decode.proofs.check_agrees.Statement.{statement}
 use Rattle.store_decode.proofs.check_agrees.Tie as tie
 
--- the line
-abbrev line : tie.Start → Line
-line g =
+-- places in the code
+abbrev start-from-after-share-len : tie.After-share-len → tie.Start
+start-from-after-share-len c = c .before .before .before .before .before .before
+
+abbrev start-from-after-places : tie.After-places → tie.Start
+start-from-after-places c = c .before .before .before .before .before .before .before .before
+
+abbrev start-from-after-agrees : tie.After-agrees → tie.Start
+start-from-after-agrees c = c .before .before .before .before .before .before .before .before .before .before .before .before .before .before .before .before .before
+
+abbrev after-share-len-from-after-agrees : tie.After-agrees → tie.After-share-len
+after-share-len-from-after-agrees c = c .before .before .before .before .before .before .before .before .before .before .before
+
+abbrev after-places-from-after-agrees : tie.After-agrees → tie.After-places
+after-places-from-after-agrees c = c .before .before .before .before .before .before .before .before .before
+
+abbrev start-from-after-starts : tie.After-starts → tie.Start
+start-from-after-starts c = c .before .before .before .before .before .before .before
+
+abbrev start-from-after-fill-arg : tie.After-fill-arg → tie.Start
+start-from-after-fill-arg c = c .before .before .before .before .before .before .before .before .before .before
+
+abbrev start-from-after-starts3 : tie.After-starts3 → tie.Start
+start-from-after-starts3 c = c .before .before .before .before .before .before .before .before .before .before .before .before .before .before
+
+abbrev after-places-from-after-starts3 : tie.After-starts3 → tie.After-places
+after-places-from-after-starts3 c = c .before .before .before .before .before .before
+
+abbrev start-from-after-agrees-arg2 : tie.After-agrees-arg2 → tie.Start
+start-from-after-agrees-arg2 c = c .before .before .before .before .before .before .before .before .before .before .before .before .before .before .before .before
+
+abbrev after-share-len-from-after-agrees-arg2 : tie.After-agrees-arg2 → tie.After-share-len
+after-share-len-from-after-agrees-arg2 c = c .before .before .before .before .before .before .before .before .before .before
+
+abbrev after-places-from-after-agrees-arg2 : tie.After-agrees-arg2 → tie.After-places
+after-places-from-after-agrees-arg2 c = c .before .before .before .before .before .before .before .before
+
+abbrev after-fill-from-after-agrees-arg2 : tie.After-agrees-arg2 → tie.After-fill
+after-fill-from-after-agrees-arg2 c = c .before .before .before .before .before
+
+abbrev start-from-then1 : tie.Then1 → tie.Start
+start-from-then1 c = c .before .before .before .before .before .before .before .before .before .before .before .before .before .before .before .before .before .before
+
+abbrev after-fill-from-then1 : tie.Then1 → tie.After-fill
+after-fill-from-then1 c = c .before .before .before .before .before .before .before
+
+abbrev start-from-else1 : tie.Else1 → tie.Start
+start-from-else1 c = c .before .before .before .before .before .before .before .before .before .before .before .before .before .before .before .before .before .before
+
+abbrev after-fill-from-else1 : tie.Else1 → tie.After-fill
+after-fill-from-else1 c = c .before .before .before .before .before .before .before
+
+-- the sizes are legal
+facts : (c : tie.Start) → Legal (c .args .sizes)
+facts c = legal-facts _ (c .pre .0 .sized)
+
+-- so the length of a stripe's share is that of the definitions
+row : (c : tie.After-share-len) → c .share-len .result ≡ α ((start-from-after-share-len c) .args .sizes)
+row c = c .share-len .ensures ∙ ap (λ b. pick b (α ((start-from-after-share-len c) .args .sizes)) 0) ((start-from-after-share-len c) .pre .0 .sized)
+
+few : (c : tie.After-share-len) → (start-from-after-share-len c) .args .capacity * c .share-len .result ≤ 253952
+few c = part-few ((start-from-after-share-len c) .args .sizes) ((start-from-after-share-len c) .args .capacity) (c .share-len .result) (facts (start-from-after-share-len c)) ((start-from-after-share-len c) .pre .4) (row c)
+
+as-long : (c : tie.After-share-len) → (start-from-after-share-len c) .args .capacity * c .share-len .result ≡ (start-from-after-share-len c) .args .capacity * α ((start-from-after-share-len c) .args .sizes)
+as-long c = ap (λ (m : ℕ). (start-from-after-share-len c) .args .capacity * m) (row c)
+
+starts-long : (c : tie.After-places) → length (c .places .last .1 .1 .0) ≡ (start-from-after-places c) .args .sizes .k
+starts-long c = c .places .kept .1 .1 .0 ∙ part-long _ _ (omega (arith, facts (start-from-after-places c)))
+
+-- what the boards hold, and whether there is such a file
+abbrev holds : tie.Start → List ℕ
+holds g = let a = g .args in joined (held (recordOf (a .sizes) (a .capacity) true (a .len) []) (a .area .now)) (a .boards .now)
+
+abbrev there : tie.Start → Bool
+there g = given (readFile (g .args .sizes) (g .args .points .now) (g .args .len) (g .args .boards .now) (holds g))
+
+found : (c : tie.After-agrees) → c .agrees .result ≡ there (start-from-after-agrees c)
+found c =
+    let g = (start-from-after-agrees c) in
     let a = g .args in
-    Disagree when not (given (readFile (a .sizes) (a .points .now) (a .len) (a .boards .now) (joined (held (recordOf (a .sizes) (a .capacity) true (a .len) []) (a .area .now)) (a .boards .now))))
+    let p = g .pre in
+    c .agrees .ensures
+    ∙ ap (λ (l : List ℕ). given (readFile (a .sizes) (a .points .now) (a .len) (a .boards .now) l))
+    (lent-shares (a .sizes) (a .capacity) (a .len) (a .stripes) _ (a .boards .now) (a .area .now) _ _ (p .0 .known) (p .0 .counted) (p .6) (p .3) (p .5) (as-long (after-share-len-from-after-agrees c))
+    ((after-places-from-after-agrees c) .places .ensures))
+
+share-len-requires : tie.Need-share-len-requires
+share-len-requires c κs = search needs
+
+mul-part : tie.Need-mul-part
+mul-part c = omega (arith, few c)
+
+sub-places : tie.Need-sub-places
+sub-places c = search needs
+
+part-starts-start : tie.Need-part-starts-start
+part-starts-start c = search needs
+
+part-starts-end : tie.Need-part-starts-end
+part-starts-end c = omega (arith, facts (start-from-after-share-len c))
+
+places-requires : tie.Need-places-requires
+places-requires c κs =
+    let g = (start-from-after-starts c) in
+    let f = facts g in (
+      below-32 (g .args .sizes) (g .args .boards .now) (f .few) (g .pre .0 .known),
+      few (c .before),
+      omega (arith, f, g .pre .0 .counted),
+      part-long _ _ (omega (arith, f)) ∙ sym (g .pre .0 .counted),
+    )
+
+fill-requires : tie.Need-fill-requires
+fill-requires c κs = let p = (start-from-after-fill-arg c) .pre in (p .0, p .1, p .2, p .7)
+
+sub-agrees : tie.Need-sub-agrees
+sub-agrees c = search needs
+
+part-agrees-start : tie.Need-part-agrees-start
+part-agrees-start c = search needs
+
+part-agrees-end : tie.Need-part-agrees-end
+part-agrees-end c = simp length-append (omega (arith, facts (start-from-after-starts3 c), starts-long (after-places-from-after-starts3 c)))
 
 agrees-requires : tie.Need-agrees-requires
-agrees-requires c κs = c .before .before .before .before .pre
+agrees-requires c κs =
+    let g = (start-from-after-agrees-arg2 c) in
+    let a = g .args in
+    let p = g .pre in
+    let k = (after-share-len-from-after-agrees-arg2 c) in
+    let e = (after-places-from-after-agrees-arg2 c) .places .ensures in (
+      p .0,
+      lent-long (a .sizes) (a .capacity) (a .len) (a .stripes) _ (a .boards .now) (a .area .now) _ _ (p .0 .known) (p .0 .counted) (p .6) (p .3) (p .5) (as-long k) e,
+      lent-placed (a .sizes) (a .capacity) (a .len) (a .stripes) _ (a .boards .now) (a .area .now) _ _ (p .0 .known) (p .0 .counted) (p .6) (p .3) (p .5) (as-long k) e,
+      omega (arith, p .4, p .5),
+      p .3,
+      (after-fill-from-after-agrees-arg2 c) .fill .ensures,
+    )
+
+same-length : tie.Need-same-length
+same-length c = search needs
 
 returns : tie.Need-returns
-returns c = passes (line (c .before .before .before .before .before .before)) (ap not (sym (c .before .agrees .ensures) ∙ c .if1 .taken))
+returns c =
+    (passes (Disagree when not (there (start-from-then1 c))) (ap not (sym (found (c .before)) ∙ c .if1 .taken)), (after-fill-from-then1 c) .fill .ensures)
+
+same-length-2 : tie.Need-same-length-2
+same-length-2 c = search needs
 
 returns-2 : tie.Need-returns-2
-returns-2 c = refuses (line (c .before .before .before .before .before .before)) (ap not (sym (c .before .agrees .ensures) ∙ c .if1 .left))
+returns-2 c =
+    (refuses (Disagree when not (there (start-from-else1 c))) (ap not (sym (found (c .before)) ∙ c .if1 .left)), (after-fill-from-else1 c) .fill .ensures)
 
 pub check-agrees-spec : {M : Type 1} → statement M
-check-agrees-spec = tie.close (tie.spec agrees-requires returns returns-2)
+check-agrees-spec =
+    tie.close
+    (tie.spec
+    share-len-requires
+    mul-part
+    sub-places
+    part-starts-start
+    part-starts-end
+    places-requires
+    fill-requires
+    sub-agrees
+    part-agrees-start
+    part-agrees-end
+    agrees-requires
+    same-length
+    returns
+    same-length-2
+    returns-2)

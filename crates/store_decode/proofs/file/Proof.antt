@@ -1,128 +1,149 @@
--- `store_decode::file` meets its contract: the stripes so far, the last of them cut to the length, over what was there.
+-- `store_decode::file` meets its contract: the parts of boards are their shares.
 -- Assumes nothing.
-use mathlib.Core.Path.{_≡_, refl, sym, ap, _∙_}
-use mathlib.Core.Bool.{true}
-use mathlib.Core.List.{List, []}
-use Prim.Native.Nat.{ℕ, _*_, _-_, _<_, _≤_}
-use native.Mathlib.Omega.{arith}
-use lib.ListN.{length, take, length-take, length-drop}
-use lib.Seq.{take-nil}
-use borrow.Author.Needs.{needs}
-use Rattle.lists.specs.Lists.{join, joined, over}
-use Rattle.sizes.specs.Sizing.{B}
-use Rattle.sizes.proofs.Legal.{legal-facts}
-use Rattle.lists.specs.Tests.{pick}
-use Rattle.mbcr.proofs.Decode.{length-decoded}
-use Rattle.decode.proofs.Agree.{file-turn, file-made, starts, decoded}
+use mathlib.Core.Bool.{Bool, true, not}
+use mathlib.Core.List.{[]}
+use Rattle.lists.specs.Lists.{joined}
+use Rattle.lists.specs.Tests.{pick, given}
+use Rattle.sizes.specs.declared.Refusal.the-variants.{Disagree}
+use Rattle.sizes.specs.Sizing.{α}
+use Rattle.sizes.specs.Refusals.{_when_}
+use Rattle.sizes.proofs.Legal.{Legal, legal-facts}
+use Rattle.mbcr.specs.Read.{readFile, decodedFile}
+use Rattle.checks.proofs.Answers.{passes, refuses}
 use Rattle.store_spec.specs.Record.{held}
 use Rattle.store_checks.specs.Steps.{recordOf}
+use Rattle.decode_stripe.proofs.Made.{part-long}
+use Rattle.store_decode.proofs.Parts.{part-few, below-32, lent-long, lent-placed, lent-shares}
+use mathlib.Core.Path.{_≡_, refl, sym, ap, ap₂, _∙_}
+use mathlib.Core.List.{List, _++_}
+use Prim.Native.Nat.{ℕ, _≤_, _<_, _-_, _+_, _*_}
+use native.Mathlib.Omega.{arith}
+use lib.ListN.{length, getD, take, drop, length-take, length-drop, length-append}
+use borrow.Author.Needs.{needs}
 use Rattle.store_decode.proofs.file.Statement.{statement}
 use Rattle.store_decode.proofs.file.Tie as tie
 
-abbrev Inv-loop : tie.InvT-loop
-Inv-loop sizes capacity points inverses len stripes boards area out₀ b s₀ out s =
-    (out ≡ over (take len (join s (decoded sizes points boards (joined (held (recordOf sizes capacity true len []) area) boards) stripes))) out₀) × (s ≤ stripes) × (length out ≡ length out₀)
+-- places in the code
+abbrev start-from-after-share-len : tie.After-share-len → tie.Start
+start-from-after-share-len c = c .before .before .before .before .before .before
 
-abbrev μ-loop : tie.MeasureT-loop
-μ-loop sizes capacity points inverses len stripes boards area out₀ b s₀ out s = stripes - s
+abbrev start-from-after-places : tie.After-places → tie.Start
+start-from-after-places c = c .before .before .before .before .before .before .before .before
 
--- what the boards hold
-abbrev holds : tie.Start Inv-loop μ-loop → List ℕ
-holds g =
-    let a = g .args in
-    joined (held (recordOf (a .sizes) (a .capacity) true (a .len) []) (a .area .now)) (a .boards .now)
+abbrev start-from-after-starts : tie.After-starts → tie.Start
+start-from-after-starts c = c .before .before .before .before .before .before .before
 
--- the length of a stripe
-whole : (c : tie.After-stripe-len Inv-loop μ-loop) → c .stripe-len .result ≡ B (c .before .before .before .before .before .before .args .sizes)
-whole c = c .stripe-len .ensures ∙ ap (λ b. pick b (B (c .before .before .before .before .before .before .args .sizes)) 0) (c .before .before .before .before .before .before .pre .0)
+abbrev start-from-after-starts3 : tie.After-starts3 → tie.Start
+start-from-after-starts3 c = c .before .before .before .before .before .before .before .before .before .before
 
--- where the stripe of a turn starts
-start : (c : tie.In-loop Inv-loop μ-loop) → c .before .loop .s * c .before .before .stripe-len .result < c .before .before .before .before .before .before .before .before .args .len
-start c =
-    let g = c .before .before .before .before .before .before .before .before in
-    rw (whole (c .before .before)) (starts (g .args .sizes) (legal-facts _ (g .pre .0)) (g .args .len) (g .args .stripes) (c .before .loop .s) (g .pre .5) (c .loop-test .taken))
+abbrev start-from-after-file-arg2 : tie.After-file-arg2 → tie.Start
+start-from-after-file-arg2 c = c .before .before .before .before .before .before .before .before .before .before .before .before
 
-stripe-len-requires : tie.Need-stripe-len-requires Inv-loop μ-loop
-stripe-len-requires c κs = search needs
+abbrev after-share-len-from-after-file-arg2 : tie.After-file-arg2 → tie.After-share-len
+after-share-len-from-after-file-arg2 c = c .before .before .before .before .before .before
 
-loop-holds : tie.Need-loop-holds Inv-loop μ-loop
-loop-holds c =
-    (ap (λ (l : List ℕ). over l (c .before .before .before .before .before .before .args .out .now)) (sym (take-nil (c .before .before .before .before .before .before .args .len))), omega arith, refl)
+abbrev start-from-after-slice-known2 : tie.After-slice-known2 → tie.Start
+start-from-after-slice-known2 c = c .before .before .before .before .before .before .before .before .before .before .before .before .before .before .before
 
-mul-at : tie.Need-mul-at Inv-loop μ-loop
-mul-at c = omega (arith, start c)
+abbrev after-share-len-from-after-slice-known2 : tie.After-slice-known2 → tie.After-share-len
+after-share-len-from-after-slice-known2 c = c .before .before .before .before .before .before .before .before .before
 
-sub-least : tie.Need-sub-least Inv-loop μ-loop
-sub-least c = omega (arith, start c)
+abbrev after-places-from-after-slice-known2 : tie.After-slice-known2 → tie.After-places
+after-places-from-after-slice-known2 c = c .before .before .before .before .before .before .before
 
-least-requires : tie.Need-least-requires Inv-loop μ-loop
-least-requires c κs = search needs
+-- the sizes are legal
+facts : (c : tie.Start) → Legal (c .args .sizes)
+facts c = legal-facts _ (c .pre .0 .sized)
 
-add-end : tie.Need-add-end Inv-loop μ-loop
-add-end c = omega (arith, start (c .before), c .least .ensures)
+-- so the length of a stripe's share is that of the definitions
+row : (c : tie.After-share-len) → c .share-len .result ≡ α ((start-from-after-share-len c) .args .sizes)
+row c = c .share-len .ensures ∙ ap (λ b. pick b (α ((start-from-after-share-len c) .args .sizes)) 0) ((start-from-after-share-len c) .pre .0 .sized)
 
-sub-stripe-part : tie.Need-sub-stripe-part Inv-loop μ-loop
-sub-stripe-part c = omega arith
+few : (c : tie.After-share-len) → (start-from-after-share-len c) .args .capacity * c .share-len .result ≤ 253952
+few c = part-few ((start-from-after-share-len c) .args .sizes) ((start-from-after-share-len c) .args .capacity) (c .share-len .result) (facts (start-from-after-share-len c)) ((start-from-after-share-len c) .pre .2) (row c)
 
-part-stripe-part-start : tie.Need-part-stripe-part-start Inv-loop μ-loop
-part-stripe-part-start c = search needs
+as-long : (c : tie.After-share-len) → (start-from-after-share-len c) .args .capacity * c .share-len .result ≡ (start-from-after-share-len c) .args .capacity * α ((start-from-after-share-len c) .args .sizes)
+as-long c = ap (λ (m : ℕ). (start-from-after-share-len c) .args .capacity * m) (row c)
 
-part-stripe-part-end : tie.Need-part-stripe-part-end Inv-loop μ-loop
-part-stripe-part-end c = omega (arith, start (c .before), c .least .ensures)
+starts-long : (c : tie.After-places) → length (c .places .last .1 .1 .0) ≡ (start-from-after-places c) .args .sizes .k
+starts-long c = c .places .kept .1 .1 .0 ∙ part-long _ _ (omega (arith, facts (start-from-after-places c)))
 
-stripe-part-requires : tie.Need-stripe-part-requires Inv-loop μ-loop
-stripe-part-requires c κs =
-    let g = c .before .before .before .before .before .before .before .before .before .before in
-    let e = whole (c .before .before .before .before) in
-    (g .pre .0, g .pre .1, g .pre .2, g .pre .3, g .pre .4, g .pre .5, g .pre .6, g .pre .7, g .pre .8, omega arith, simp (length-take, length-drop) (omega (arith, c .before .least .ensures)))
+share-len-requires : tie.Need-share-len-requires
+share-len-requires c κs = search needs
 
-add-s : tie.Need-add-s Inv-loop μ-loop
-add-s c = search needs
+mul-part : tie.Need-mul-part
+mul-part c = omega (arith, few c)
 
-loop-less : tie.Need-loop-less Inv-loop μ-loop
-loop-less c = search needs
+sub-places : tie.Need-sub-places
+sub-places c = search needs
 
-loop-again : tie.Need-loop-again Inv-loop μ-loop
-loop-again c =
-    let g = c .before .before .before .before .before .before .before .before .before .before .before .before .before in
-    let a = g .args in
-    let l = c .before .before .before .before .before .before .loop in
-    let h = start (c .before .before .before .before .before) in (
-      file-turn (decoded (a .sizes) (a .points .now) (a .boards .now) (holds g) (a .stripes)) (c .before .before .before .before .before .before .before .stripe-len .result) (a .len) (l .s) (c .before .before .before .before .least .result)
-          (λ i. length-decoded (a .sizes) (a .points .now) (legal-facts _ (g .pre .0)) (a .boards .now) (g .pre .3) _ ∙ sym (whole (c .before .before .before .before .before .before .before)))
-          (a .out .now) (l .out) _ (omega arith) (g .pre .9) (l .inv .2) (c .before .before .before .before .least .ensures) (l .inv .0) (c .before .before .stripe-part .ensures),
-      omega arith,
-      search needs,
+part-starts-start : tie.Need-part-starts-start
+part-starts-start c = search needs
+
+part-starts-end : tie.Need-part-starts-end
+part-starts-end c = omega (arith, facts (start-from-after-share-len c))
+
+places-requires : tie.Need-places-requires
+places-requires c κs =
+    let g = (start-from-after-starts c) in
+    let f = facts g in (
+      below-32 (g .args .sizes) (g .args .boards .now) (f .few) (g .pre .0 .known),
+      few (c .before),
+      omega (arith, f, g .pre .0 .counted),
+      part-long _ _ (omega (arith, f)) ∙ sym (g .pre .0 .counted),
     )
 
-same-length : tie.Need-same-length Inv-loop μ-loop
+sub-file : tie.Need-sub-file
+sub-file c = search needs
+
+part-file-start : tie.Need-part-file-start
+part-file-start c = search needs
+
+part-file-end : tie.Need-part-file-end
+part-file-end c = simp length-append (omega (arith, facts (start-from-after-starts3 c), starts-long (c .before .before)))
+
+file-requires : tie.Need-file-requires
+file-requires c κs =
+    let g = (start-from-after-file-arg2 c) in
+    let a = g .args in
+    let p = g .pre in
+    let k = (after-share-len-from-after-file-arg2 c) in
+    let e = (c .before .before .before .before) .places .ensures in (
+      p .0,
+      lent-long (a .sizes) (a .capacity) (a .len) (a .stripes) _ (a .boards .now) (a .area .now) _ _ (p .0 .known) (p .0 .counted) (p .4) (p .1) (p .3) (as-long k) e,
+      lent-placed (a .sizes) (a .capacity) (a .len) (a .stripes) _ (a .boards .now) (a .area .now) _ _ (p .0 .known) (p .0 .counted) (p .4) (p .1) (p .3) (as-long k) e,
+      omega (arith, p .2, p .3),
+      p .1,
+      p .5,
+      p .6,
+    )
+
+same-length : tie.Need-same-length
 same-length c = search needs
 
-returns : tie.Need-returns Inv-loop μ-loop
+returns : tie.Need-returns
 returns c =
-    let g = c .before .before .before .before .before .before .before .before in
+    let g = (start-from-after-slice-known2 c) in
     let a = g .args in
-    let l = c .before .loop in
-    file-made (a .sizes) (a .points .now) (legal-facts _ (g .pre .0)) (a .boards .now) (g .pre .3) (a .len) (holds g) (a .stripes) (l .s) (a .out .now) (l .out) (g .pre .5) (omega arith) (l .inv .0)
+    let p = g .pre in
+    (c .before .before) .file .ensures
+    ∙ ap (λ (l : List ℕ). decodedFile (a .sizes) (a .points .now) (a .len) (a .boards .now) l ++ drop (a .len) (a .out .now))
+    (lent-shares (a .sizes) (a .capacity) (a .len) (a .stripes) _ (a .boards .now) (a .area .now) _ _ (p .0 .known) (p .0 .counted) (p .4) (p .1) (p .3) (as-long (after-share-len-from-after-slice-known2 c))
+    ((after-places-from-after-slice-known2 c) .places .ensures))
 
 pub file-spec : {M : Type 1} → statement M
 file-spec =
     tie.close
     (tie.spec
-    Inv-loop
-    μ-loop
-    stripe-len-requires
-    loop-holds
-    mul-at
-    sub-least
-    least-requires
-    add-end
-    sub-stripe-part
-    part-stripe-part-start
-    part-stripe-part-end
-    stripe-part-requires
-    add-s
-    loop-less
-    loop-again
+    share-len-requires
+    mul-part
+    sub-places
+    part-starts-start
+    part-starts-end
+    places-requires
+    sub-file
+    part-file-start
+    part-file-end
+    file-requires
     same-length
     returns)

@@ -8,7 +8,7 @@ use Rattle.mbcr.specs.Share.{standard}
 use Rattle.store_spec.specs.Record.{Record}
 use Rattle.store_spec.specs.Calls.{refused, readCall}
 use Rattle.store_spec.proofs.Records.{Reads, read-facts}
-use Rattle.shared_checks.proofs.Facts.{standard-enough}
+use Rattle.decode_setup.specs.Steps.{Made}
 use Rattle.read_check.proofs.Readable.{Readable, readable}
 use Rattle.store.specs.Handing.{recordIn}
 use Rattle.store.proofs.ReadCall.{checked, read-refuses, read-works}
@@ -17,7 +17,7 @@ use Rattle.store.proofs.Store.read.Tie as tie
 
 -- the places
 abbrev at-inverses : tie.After-check-read → tie.After-fill-inverses
-at-inverses c = c .before .before .before .before .before .before
+at-inverses c = c .before .before .before .before .before .before .before
 
 abbrev at-points : tie.After-check-read → tie.After-standard-points
 at-points c = at-inverses c .before .before
@@ -25,50 +25,55 @@ at-points c = at-inverses c .before .before
 abbrev st : tie.After-check-read → tie.Start
 st c = at-points c .before .before .before .before .before .before
 
-abbrev at-check : tie.After-stripe-count → tie.After-check-read
+abbrev at-check : tie.After-enum-told → tie.After-check-read
 at-check c = c .before .before .before
 
 abbrev R : tie.After-check-read → Record
 R c = recordIn (st c .args .self)
 
 -- what the check told
-passed : (c : tie.After-enum-told) → let k = c .before .before in checked standard (R k) (st k .args .area .now) (st k .args .boards .now) (st k .args .out .now) ≡ Pass
-passed c = sym (c .before .before .check-read .ensures) ∙ c .enum-told .given .1
+passed : (c : tie.After-enum-told) → let k = at-check c in checked standard (R k) (st k .args .area .now) (st k .args .boards .now) (st k .args .out .now) ≡ Pass
+passed c = sym (at-check c .check-read .ensures .0) ∙ c .enum-told .given .1
 
-facts : (c : tie.After-enum-told) → let k = c .before .before in Reads (R k) (length (st k .args .area .now)) (st k .args .boards .now) (st k .args .out .now)
-facts c = let k = c .before .before in read-facts standard (R k) (st k .args .area .now) (st k .args .boards .now) (st k .args .out .now) (passed c) .0
+facts : (c : tie.After-enum-told) → let k = at-check c in Reads (R k) (length (st k .args .area .now)) (st k .args .boards .now) (st k .args .out .now)
+facts c = let k = at-check c in read-facts standard (R k) (st k .args .area .now) (st k .args .boards .now) (st k .args .out .now) (passed c) .0
 
 asks : (c : tie.After-enum-told)
-    → let k = c .before .before in Readable (R k) (at-points k .standard-points .result) (length (st k .args .area .now)) (st k .args .boards .now)
+    → let k = at-check c in Readable (R k) (at-points k .standard-points .result) (length (st k .args .area .now)) (st k .args .boards .now)
 asks c =
-    let k = c .before .before in
+    let k = at-check c in
     let f = facts c in
-    readable (R k) _ _ (st k .args .boards .now) (standard-enough _ (at-points k .standard-points .ensures)) (f .is-sound) (f .area-is) (f .count) (f .named-below)
+    readable (R k) _ _ (st k .args .boards .now) (at-points k .standard-points .ensures) (f .is-sound) (f .area-is) (f .count) (f .named-below) (f .all-different)
+
+-- the tables are made
+made : (c : tie.After-enum-told)
+    → let k = at-check c in Made (R k .sizes) (at-points k .standard-points .result) (st k .args .boards .now) (k .check-read .last .1 .1 .1 .1 .1 .1 .1 .1 .1 .1 .0)
+made c = at-check c .check-read .ensures .1 (c .enum-told .given .1)
 
 -- the work
 file-asks : tie.Need-file-requires
 file-asks c κs =
     let n = c .before .before .before in
-    let k = at-check n in
-    let f = asks (n .before) in
+    let t = n .before in
+    let f = asks t in
     let r = f .is-ready in
     let e = n .stripe-count .ensures .0 in
-    (r .stated .is-legal, r .few-points, at-inverses k .fill-inverses .ensures, f .enough, f .known, e, r .cap-high, rw e (r .few-stripes), f .area-is, facts (n .before) .room)
+    (f .is-asked, e, r .cap-high, rw e (r .few-stripes), f .area-is, made t, facts t .room)
 
 read-done : tie.Need-returns-2
 read-done c =
     let w = c .before .before in
-    let n = w .before .before .before .before in
-    let k = at-check n in
-    read-works standard (R k) (st k .args .area .now) (st k .args .boards .now) (st k .args .out .now) _ _ (at-points k .standard-points .ensures) (passed (n .before)) (w .file .ensures)
+    let t = w .before .before .before .before .before in
+    let k = at-check t in
+    read-works standard (R k) (st k .args .area .now) (st k .args .boards .now) (st k .args .out .now) _ _ (at-points k .standard-points .ensures) (passed t) (w .file .ensures)
 
 read-refused : (c : tie.After-x)
-    → let k = c .before .before in let a = st k .args in
+    → let k = c .before .before .before in let a = st k .args in
     refused (R k) (a .area .now) (a .out .now) (c .x .given .0 .0) ≡ readCall standard (R k) (a .area .now) (a .boards .now) (a .out .now)
 read-refused c =
-    let k = c .before .before in
+    let k = c .before .before .before in
     let a = st k .args in
-    read-refuses standard (R k) (a .area .now) (a .boards .now) (a .out .now) (k .check-read .ensures) (c .x .given .1)
+    read-refuses standard (R k) (a .area .now) (a .boards .now) (a .out .now) (k .check-read .ensures .0) (c .x .given .1)
 
 pub read-spec : {M : Type 1} → statement M
 read-spec =
@@ -77,6 +82,7 @@ read-spec =
     (λ c κs. search needs)
     (λ c. search needs)
     (λ c κs. search needs)
+    (λ c. search needs)
     (λ c. search needs)
     (λ c. search needs)
     (λ c. search needs)

@@ -1,0 +1,115 @@
+-- `decode::padding` meets its contract: the end of the stripe in the working array.
+-- Assumes nothing.
+use native.Mathlib.Nat.{one-mul}
+use Rattle.lists.specs.Tests.{pick}
+use Rattle.sizes.specs.Sizing.{B}
+use Rattle.sizes.proofs.Legal.{Legal, legal-facts, B-most}
+use Rattle.mbcr.proofs.Decode.{length-decoded}
+use Rattle.decode_laws.specs.Steps.{zeros}
+use Rattle.decode_stripe.proofs.Made.{part-long}
+use Rattle.decode_stripes.specs.Steps.{stripeAt}
+use Rattle.decode.proofs.Padded.{end-is, one-long, one-short}
+use mathlib.Core.Path.{_≡_, refl, sym, ap, ap₂, _∙_}
+use mathlib.Core.List.{List, _++_}
+use Prim.Native.Nat.{ℕ, _≤_, _<_, _-_, _+_, _*_}
+use native.Mathlib.Omega.{arith}
+use lib.ListN.{length, getD, take, drop, length-take, length-drop, length-append}
+use borrow.Author.Needs.{needs}
+use Rattle.decode.proofs.padding.Statement.{statement}
+use Rattle.decode.proofs.padding.Tie as tie
+
+-- places in the code
+abbrev start-from-after-u3 : tie.After-u3 → tie.Start
+start-from-after-u3 c = c .before .before .before .before .before .before .before .before .before .before
+
+abbrev start-from-after-stripe-len : tie.After-stripe-len → tie.Start
+start-from-after-stripe-len c = c .before .before .before .before .before .before
+
+abbrev start-from-after-u : tie.After-u → tie.Start
+start-from-after-u c = c .before .before .before .before .before .before .before
+
+abbrev start-from-after-u2 : tie.After-u2 → tie.Start
+start-from-after-u2 c = c .before .before .before .before .before .before .before .before .before
+
+abbrev start-from-after-zeros : tie.After-zeros → tie.Start
+start-from-after-zeros c = c .before .before .before .before .before .before .before .before .before .before .before .before
+
+abbrev after-stripe-len-from-after-zeros : tie.After-zeros → tie.After-stripe-len
+after-stripe-len-from-after-zeros c = c .before .before .before .before .before .before
+
+-- the sizes are legal
+facts : (c : tie.Start) → Legal (c .args .sizes)
+facts c = legal-facts _ (c .pre .0 .sized)
+
+-- the length of a stripe
+whole : (c : tie.After-stripe-len) → c .stripe-len .result ≡ B ((start-from-after-stripe-len c) .args .sizes)
+whole c = c .stripe-len .ensures ∙ ap (λ b. pick b (B ((start-from-after-stripe-len c) .args .sizes)) 0) ((start-from-after-stripe-len c) .pre .0 .sized)
+
+most : (c : tie.After-stripe-len) → c .stripe-len .result ≤ 992
+most c = omega (arith, whole c, B-most _ (facts (start-from-after-stripe-len c)))
+
+-- the stripe
+abbrev each : tie.Start → ℕ → List ℕ
+each c s = let a = c .args in stripeAt (a .sizes) (a .points .now) (a .boards .now) (a .starts .now) (a .bytes .now) s
+
+each-long : (c : tie.After-stripe-len) → length (each (start-from-after-stripe-len c) ((start-from-after-stripe-len c) .args .s)) ≡ c .stripe-len .result
+each-long c =
+    let g = (start-from-after-stripe-len c) in
+    let a = g .args in
+    length-decoded (a .sizes) (a .points .now) (facts g) (a .boards .now) (g .pre .0 .counted) _ ∙ sym (whole c)
+
+y-long : (c : tie.After-stripes) → length (c .stripes .last .1 .1 .1 .1 .1 .1 .1 .1 .0) ≡ (c .before .before) .stripe-len .result
+y-long c = c .stripes .kept .1 .1 .1 .1 .1 .1 .1 .1 .0 ∙ part-long _ _ (most (c .before .before))
+
+stripe-len-requires : tie.Need-stripe-len-requires
+stripe-len-requires c κs = search needs
+
+sub-stripes : tie.Need-sub-stripes
+sub-stripes c = search needs
+
+part-u-start : tie.Need-part-u-start
+part-u-start c = search needs
+
+part-u-end : tie.Need-part-u-end
+part-u-end c = most c
+
+stripes-requires : tie.Need-stripes-requires
+stripes-requires c κs =
+    let g = (start-from-after-u c) in
+    let p = g .pre in
+    let k = (c .before) in
+    (p .0, p .1, p .2, p .3, p .5, one-long _ _ _ (whole k) (most k), one-short _ _ _ (whole k) (most k))
+
+sub-zeros : tie.Need-sub-zeros
+sub-zeros c = omega (arith, whole (c .before .before .before), (start-from-after-u2 c) .pre .4)
+
+part-zeros-start : tie.Need-part-zeros-start
+part-zeros-start c = omega (arith, whole (c .before .before .before .before), (start-from-after-u3 c) .pre .4)
+
+part-zeros-end : tie.Need-part-zeros-end
+part-zeros-end c = simp length-append (omega (arith, y-long (c .before .before), most (c .before .before .before .before)))
+
+zeros-requires : tie.Need-zeros-requires
+zeros-requires c κs = search needs
+
+returns : tie.Need-returns
+returns c =
+    let g = (start-from-after-zeros c) in
+    let k = (after-stripe-len-from-after-zeros c) in
+    c .zeros .ensures
+    ∙ ap zeros (end-is (k .stripe-len .result) (g .args .s) (each g) _ _ (each-long k) (most k) ((c .before .before .before .before) .stripes .ensures) (g .args .rest) (omega (arith, whole k, g .pre .4)))
+
+pub padding-spec : {M : Type 1} → statement M
+padding-spec =
+    tie.close
+    (tie.spec
+    stripe-len-requires
+    sub-stripes
+    part-u-start
+    part-u-end
+    stripes-requires
+    sub-zeros
+    part-zeros-start
+    part-zeros-end
+    zeros-requires
+    returns)

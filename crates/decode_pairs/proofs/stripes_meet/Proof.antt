@@ -1,0 +1,163 @@
+-- `decode_pairs::stripes_meet` meets its contract: the tests that are left are the tests of the whole.
+-- Assumes nothing.
+use mathlib.Core.Path.{_≡_, refl, sym, ap, _∙_}
+use mathlib.Core.Bool.{Bool}
+use mathlib.Core.List.{List}
+use Prim.Native.Nat.{ℕ, suc, _≤_, _<_, _-_, _+_, _*_}
+use native.Mathlib.Omega.{arith}
+use borrow.Author.Needs.{needs}
+use borrow.Author.Tests.{not-true, not-false}
+use lib.ListN.{length, drop}
+use Rattle.lists.specs.Tests.{alls}
+use Rattle.lists.specs.Lists.{tabulate}
+use Rattle.decode_laws.specs.Steps.{pairsMeet, heldAt, Placed}
+use Rattle.decode_laws.proofs.Loops.{alls-no, alls-next, alls-end}
+use Rattle.decode_laws.proofs.Held.{placed-before}
+use Rattle.decode_pairs.proofs.stripes_meet.Statement.{statement}
+use Rattle.decode_pairs.proofs.stripes_meet.Tie as tie
+
+abbrev Inv-loop : tie.InvT-loop
+Inv-loop sizes points boards starts bytes stripes ff gf fs₀ gs₀ fv₀ gv₀ s₀ fs gs fv gv s =
+    let q : ℕ → Bool = λ s. pairsMeet sizes points boards (heldAt sizes starts bytes s) in
+    (alls (drop s (tabulate stripes q)) ≡ alls (tabulate stripes q)) × (s ≤ stripes)
+    × (length fs ≡ length fs₀) × (length gs ≡ length gs₀) × (length fv ≡ length fv₀) × (length gv ≡ length gv₀)
+
+abbrev μ-loop : tie.MeasureT-loop
+μ-loop sizes points boards starts bytes stripes ff gf fs₀ gs₀ fv₀ gv₀ s₀ fs gs fv gv s = stripes - s
+
+-- places in the code
+abbrev start-from-after-stripe-meets-arg4 : tie.After-stripe-meets-arg4 Inv-loop μ-loop → tie.Start Inv-loop μ-loop
+start-from-after-stripe-meets-arg4 c = c .before .before .before .before .before .before .before .before .before .before .before .before .before .before .before .before
+
+abbrev at-loop-from-after-stripe-meets-arg4 : tie.After-stripe-meets-arg4 Inv-loop μ-loop → tie.At-loop Inv-loop μ-loop
+at-loop-from-after-stripe-meets-arg4 c = c .before .before .before .before .before
+
+abbrev at-loop-from-then1 : tie.Then1 Inv-loop μ-loop → tie.At-loop Inv-loop μ-loop
+at-loop-from-then1 c = c .before .before .before .before .before .before .before .before .before .before .before .before .before .before .before
+
+abbrev start-from-then1 : tie.Then1 Inv-loop μ-loop → tie.Start Inv-loop μ-loop
+start-from-then1 c = c .before .before .before .before .before .before .before .before .before .before .before .before .before .before .before .before .before .before .before .before .before .before .before .before .before .before
+
+abbrev in-loop-from-then1 : tie.Then1 Inv-loop μ-loop → tie.In-loop Inv-loop μ-loop
+in-loop-from-then1 c = c .before .before .before .before .before .before .before .before .before .before .before .before .before .before
+
+abbrev after-stripe-meets-from-then1 : tie.Then1 Inv-loop μ-loop → tie.After-stripe-meets Inv-loop μ-loop
+after-stripe-meets-from-then1 c = c .before .before .before .before .before .before .before .before .before
+
+abbrev at-loop-from-else1 : tie.Else1 Inv-loop μ-loop → tie.At-loop Inv-loop μ-loop
+at-loop-from-else1 c = c .before .before .before .before .before .before .before .before .before .before .before .before .before .before .before
+
+abbrev start-from-else1 : tie.Else1 Inv-loop μ-loop → tie.Start Inv-loop μ-loop
+start-from-else1 c = c .before .before .before .before .before .before .before .before .before .before .before .before .before .before .before .before .before .before .before .before .before .before .before .before .before .before
+
+abbrev in-loop-from-else1 : tie.Else1 Inv-loop μ-loop → tie.In-loop Inv-loop μ-loop
+in-loop-from-else1 c = c .before .before .before .before .before .before .before .before .before .before .before .before .before .before
+
+abbrev after-stripe-meets-from-else1 : tie.Else1 Inv-loop μ-loop → tie.After-stripe-meets Inv-loop μ-loop
+after-stripe-meets-from-else1 c = c .before .before .before .before .before .before .before .before .before
+
+abbrev start-from-after-loop : tie.After-loop Inv-loop μ-loop → tie.Start Inv-loop μ-loop
+start-from-after-loop c = c .before .before .before .before .before .before .before .before .before .before .before .before
+
+-- the tests
+abbrev tests : tie.Start Inv-loop μ-loop → ℕ → Bool
+tests g = let a = g .args in λ s. pairsMeet (a .sizes) (a .points .now) (a .boards .now) (heldAt (a .sizes) (a .starts .now) (a .bytes .now) s)
+
+loop-holds : tie.Need-loop-holds Inv-loop μ-loop
+loop-holds c = (refl, omega arith, refl, refl, refl, refl)
+
+stripe-meets-requires : tie.Need-stripe-meets-requires Inv-loop μ-loop
+stripe-meets-requires c κs =
+    let g = (start-from-after-stripe-meets-arg4 c) in
+    let a = g .args in
+    let l = (at-loop-from-after-stripe-meets-arg4 c) .loop in (
+      g .pre .0,
+      g .pre .1,
+      g .pre .2,
+      g .pre .3,
+      g .pre .4,
+      placed-before (a .sizes) (a .starts .now) (a .bytes .now) (l .s + 1) (a .stripes) (omega arith) (g .pre .5),
+      omega (arith, g .pre .6),
+      g .pre .7,
+      g .pre .8,
+      l .inv .2 ∙ g .pre .9,
+      l .inv .3 ∙ g .pre .10,
+      l .inv .4 ∙ g .pre .11,
+      l .inv .5 ∙ g .pre .12,
+    )
+
+same-length : tie.Need-same-length Inv-loop μ-loop
+same-length c = search needs
+
+same-length-2 : tie.Need-same-length-2 Inv-loop μ-loop
+same-length-2 c = search needs
+
+same-length-3 : tie.Need-same-length-3 Inv-loop μ-loop
+same-length-3 c = search needs
+
+same-length-4 : tie.Need-same-length-4 Inv-loop μ-loop
+same-length-4 c = search needs
+
+returns : tie.Need-returns Inv-loop μ-loop
+returns c =
+    let l = (at-loop-from-then1 c) .loop in
+    sym (sym (l .inv .0) ∙ alls-no (tests (start-from-then1 c)) ((start-from-then1 c) .args .stripes) (l .s) ((in-loop-from-then1 c) .loop-test .taken)
+    (sym ((after-stripe-meets-from-then1 c) .stripe-meets .ensures) ∙ not-true ((after-stripe-meets-from-then1 c) .stripe-meets .result) (c .if1 .taken)))
+
+add-s : tie.Need-add-s Inv-loop μ-loop
+add-s c = search needs
+
+loop-less : tie.Need-loop-less Inv-loop μ-loop
+loop-less c = search needs
+
+loop-again : tie.Need-loop-again Inv-loop μ-loop
+loop-again c =
+    let l = (at-loop-from-else1 c) .loop in (
+      alls-next (tests (start-from-else1 c)) ((start-from-else1 c) .args .stripes) (l .s) ((in-loop-from-else1 c) .loop-test .taken)
+          (sym ((after-stripe-meets-from-else1 c) .stripe-meets .ensures) ∙ not-false ((after-stripe-meets-from-else1 c) .stripe-meets .result) (c .if1 .left)) ∙ l .inv .0,
+      omega arith,
+      search
+          needs,
+      search needs,
+      search needs,
+      search needs,
+    )
+
+same-length-5 : tie.Need-same-length-5 Inv-loop μ-loop
+same-length-5 c = search needs
+
+same-length-6 : tie.Need-same-length-6 Inv-loop μ-loop
+same-length-6 c = search needs
+
+same-length-7 : tie.Need-same-length-7 Inv-loop μ-loop
+same-length-7 c = search needs
+
+same-length-8 : tie.Need-same-length-8 Inv-loop μ-loop
+same-length-8 c = search needs
+
+returns-2 : tie.Need-returns-2 Inv-loop μ-loop
+returns-2 c =
+    let l = (c .before) .loop in
+    sym (sym (l .inv .0) ∙ alls-end (tests (start-from-after-loop c)) ((start-from-after-loop c) .args .stripes) (l .s) (c .loop-test .left))
+
+pub stripes-meet-spec : {M : Type 1} → statement M
+stripes-meet-spec =
+    tie.close
+    (tie.spec
+    Inv-loop
+    μ-loop
+    loop-holds
+    stripe-meets-requires
+    same-length
+    same-length-2
+    same-length-3
+    same-length-4
+    returns
+    add-s
+    loop-less
+    loop-again
+    same-length-5
+    same-length-6
+    same-length-7
+    same-length-8
+    returns-2)

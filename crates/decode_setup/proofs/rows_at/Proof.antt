@@ -1,0 +1,94 @@
+-- `decode_setup::rows_at` meets its contract: the callees' contracts, put together.
+-- Assumes nothing.
+use Rattle.lists.specs.Tests.{below}
+use Rattle.mbcr.specs.Share.{points}
+use Rattle.mbcr.proofs.Points.{length-points}
+use Rattle.decode_laws.specs.Steps.{seedRows}
+use Rattle.decode_laws.proofs.Loops.{back-part}
+use Rattle.decode_stripe.proofs.Made.{part-long}
+use mathlib.Core.Path.{_≡_, refl, sym, ap, ap₂, _∙_}
+use mathlib.Core.List.{List, _++_}
+use Prim.Native.Nat.{ℕ, _≤_, _<_, _-_, _+_, _*_}
+use native.Mathlib.Omega.{arith}
+use lib.ListN.{length, getD, take, drop, length-take, length-drop, length-append}
+use borrow.Author.Needs.{needs}
+use Rattle.decode_setup.proofs.rows_at.Statement.{statement}
+use Rattle.decode_setup.proofs.rows_at.Tie as tie
+
+-- places in the code
+abbrev start-from-after-points-of : tie.After-points-of → tie.Start
+start-from-after-points-of c = c .before .before .before .before .before .before
+
+abbrev start-from-after-xs : tie.After-xs → tie.Start
+start-from-after-xs c = c .before .before .before .before .before
+
+abbrev start-from-after-xs3 : tie.After-xs3 → tie.Start
+start-from-after-xs3 c = c .before .before .before .before .before .before .before .before
+
+abbrev start-from-after-seed-rows-arg2 : tie.After-seed-rows-arg2 → tie.Start
+start-from-after-seed-rows-arg2 c = c .before .before .before .before .before .before .before .before .before .before
+
+abbrev start-from-after-slice-known2 : tie.After-slice-known2 → tie.Start
+start-from-after-slice-known2 c = c .before .before .before .before .before .before .before .before .before .before .before .before .before
+
+abbrev after-points-of-from-after-slice-known2 : tie.After-slice-known2 → tie.After-points-of
+after-points-of-from-after-slice-known2 c = c .before .before .before .before .before .before .before
+
+-- the points
+made : (c : tie.After-points-of) → c .points-of .last .1 .1 .0 ≡ points ((start-from-after-points-of c) .args .points .now) ((start-from-after-points-of c) .args .boards .now)
+made c = c .points-of .ensures
+
+made-long : (c : tie.After-points-of) → length (c .points-of .last .1 .1 .0) ≡ length ((start-from-after-points-of c) .args .boards .now)
+made-long c = ap length (made c) ∙ length-points ((start-from-after-points-of c) .args .points .now) ((start-from-after-points-of c) .args .boards .now)
+
+sub-points-of : tie.Need-sub-points-of
+sub-points-of c = search needs
+
+part-xs-start : tie.Need-part-xs-start
+part-xs-start c = search needs
+
+part-xs-end : tie.Need-part-xs-end
+part-xs-end c = search needs
+
+points-of-requires : tie.Need-points-of-requires
+points-of-requires c κs =
+    let g = (start-from-after-xs c) in
+    (ap (λ (m : ℕ). below m (g .args .boards .now)) (g .pre .1) ∙ g .pre .2, part-long _ _ (omega (arith, g .pre .3)))
+
+sub-seed-rows : tie.Need-sub-seed-rows
+sub-seed-rows c = search needs
+
+part-seed-rows-start : tie.Need-part-seed-rows-start
+part-seed-rows-start c = search needs
+
+part-seed-rows-end : tie.Need-part-seed-rows-end
+part-seed-rows-end c = simp length-append (omega (arith, made-long (c .before .before), (start-from-after-xs3 c) .pre .3))
+
+seed-rows-requires : tie.Need-seed-rows-requires
+seed-rows-requires c κs =
+    let g = (start-from-after-seed-rows-arg2 c) in
+    (g .pre .0, simp length-take (omega (arith, g .pre .3)), g .pre .4, g .pre .5)
+
+same-length : tie.Need-same-length
+same-length c = search needs
+
+returns : tie.Need-returns
+returns c =
+    let g = (start-from-after-slice-known2 c) in
+    (c .before .before) .seed-rows .ensures
+    ∙ ap (seedRows (g .args .d)) (back-part (length (g .args .boards .now)) _ _ (made-long (after-points-of-from-after-slice-known2 c)) ∙ made (after-points-of-from-after-slice-known2 c))
+
+pub rows-at-spec : {M : Type 1} → statement M
+rows-at-spec =
+    tie.close
+    (tie.spec
+    sub-points-of
+    part-xs-start
+    part-xs-end
+    points-of-requires
+    sub-seed-rows
+    part-seed-rows-start
+    part-seed-rows-end
+    seed-rows-requires
+    same-length
+    returns)
