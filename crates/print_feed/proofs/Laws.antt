@@ -6,7 +6,7 @@ use Prim.Native.Nat.{ℕ}
 use lib.ListN.{length, take}
 use Rattle.lists.specs.Lists.{concat}
 use Rattle.printer.specs.Steps.{fed, runs}
-use Rattle.printer.proofs.Laws.{printer-laws}
+use Rattle.points_print.proofs.Laws.{points-laws}
 use Rattle.print_feed.specs.Steps.{Feed, keptIn, feedAll, feedParts}
 use Rattle.print_feed.specs.Laws.{FeedLaws}
 use Rattle.print_feed.proofs.Kept.{in-length, kept-step}
@@ -40,5 +40,5 @@ pub feed-laws : FeedLaws
 feed-laws = record {
   parts-are-whole = λ s parts. parts-are-whole parts s;
   same-length = λ s input. same-length input s;
-  decides = λ file input n. runs-on input _ n ∙ printer-laws .byte-by-byte input;
+  decides = λ asked file input n. runs-on input _ n ∙ points-laws .either asked input;
 }
