@@ -14,7 +14,7 @@ use Rattle.lists.specs.Lists.{Bytes, joined}
 use Rattle.number_lines.proofs.Picks.{yes, no, if-lt, if-le, if-ne}
 use Rattle.board_spec.specs.Text.{hexDigit, hexPair, textLine}
 use Rattle.board_spec.proofs.Text.{text-laws}
-use Rattle.point_lines.specs.Lines.{hexadecimal, digitValue, readDigit, readPair, readPairs, readPoints}
+use Rattle.point_lines.specs.Lines.{hexadecimal, digitValue, readDigit, readPairs, readPoints}
 use Rattle.points_print.specs.Laws.{pointsText}
 
 -- ---- digits
@@ -41,7 +41,11 @@ not-end c h e = let z : _≡_ {A = ℕ} 0 1 = absurd (ends (sym h ∙ ap hexadec
 -- ---- pairs
 
 module _ {A : Type 0} (bad : A) where
-  pair-taken : (b : ℕ) → b < 256 → (input : List ℕ) (go : ℕ → List ℕ → A) → readPair bad (hexPair b ++ input) go ≡ go b input
+  -- one byte, in two digits
+  abbrev readPair : List ℕ → (ℕ → List ℕ → A) → A
+  readPair input go = readDigit bad input (λ high input. readDigit bad input (λ low input. go (16 * high + low) input))
+
+  pair-taken : (b : ℕ) → b < 256 → (input : List ℕ) (go : ℕ → List ℕ → A) → readPair (hexPair b ++ input) go ≡ go b input
   pair-taken b h input go =
       let s = spelled b h in
       yes (hexadecimal (hexDigit (b / 16))) _ _ (s .high) ∙ yes (hexadecimal (hexDigit (b % 16))) _ _ (s .low)

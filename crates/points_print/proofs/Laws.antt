@@ -23,13 +23,13 @@ use Rattle.point_lines.specs.Lines.{readPoints}
 use Rattle.point_lines.specs.Steps as points
 use Rattle.point_lines.proofs.Laws.{point-laws}
 use Rattle.printer.specs.Laws.{asks}
-use Rattle.printer.specs.Printer.{refusedLine, accepted, answered, printed}
-use Rattle.printer.specs.Steps.{maxNumber, begin, runs}
+use Rattle.printer.specs.Printer.{refusedLine, answered, printed}
+use Rattle.printer.specs.Steps.{accepted, maxNumber, begin, runs}
 use Rattle.printer.proofs.Near.{held, heldSizes, answered-held, refused-sizes, not-legal, not-pointed}
 use Rattle.printer.proofs.Rest.{behindLines}
-use Rattle.printer.proofs.Laws.{whole, reached, lines-said, runs-rest, printer-laws}
+use Rattle.printer.proofs.Laws.{whole, reached, lines-said, runs-rest}
 use Rattle.printer.proofs.Whole.{five-taken, answered-over, answered-called, shared-text, answered-long, answered-far}
-use Rattle.points_print.specs.PointsPrinter.{pointsPrinted, printedBy}
+use Rattle.points_print.specs.PointsPrinter.{pointsPrinted}
 use Rattle.points_print.specs.Laws.{pointsText, asksPoints, PointsFor, PointsLaws}
 use Rattle.points_print.proofs.Forms.{line-taken, line-other}
 
@@ -117,9 +117,5 @@ by-bytes : (input : List ℕ) → runs (begin true) [] input ≡ pointsPrinted i
 unfolding pointsPrinted
 by-bytes input = runs-rest input (begin true) [] ∙ lines-said true _ points-said input
 
-either : (asked : Bool) (input : List ℕ) → runs (begin asked) [] input ≡ printedBy asked input
-either true = by-bytes
-either false = printer-laws .byte-by-byte
-
 pub points-laws : PointsLaws
-points-laws = record { printed-for = printed-for; other-count = other-count; in-order = in-order; byte-by-byte = by-bytes; either = either }
+points-laws = record { printed-for = printed-for; other-count = other-count; in-order = in-order; byte-by-byte = by-bytes }

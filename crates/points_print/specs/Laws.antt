@@ -3,7 +3,7 @@
 -- as the definition says.
 -- Assumes nothing.
 use mathlib.Core.Path.{_≡_}
-use mathlib.Core.Bool.{Bool, true, false}
+use mathlib.Core.Bool.{true, false}
 use mathlib.Core.Logic.{_≢_}
 use mathlib.Core.List.{List, [], _∷_, _++_}
 use Prim.Native.Nat.{ℕ, _*_, _≤_, _<_}
@@ -14,9 +14,9 @@ use Rattle.sizes.specs.Sizing.{legal, B}
 use Rattle.mbcr.specs.Share.{pointed, share}
 use Rattle.board_spec.specs.Text.{decimal, hexPair, textLine, shareText}
 use Rattle.printer.specs.Laws.{asks}
-use Rattle.printer.specs.Printer.{refusedLine, accepted, printed}
-use Rattle.printer.specs.Steps.{begin, runs}
-use Rattle.points_print.specs.PointsPrinter.{pointsPrinted, printedBy}
+use Rattle.printer.specs.Printer.{refusedLine, printed}
+use Rattle.printer.specs.Steps.{accepted, begin, runs}
+use Rattle.points_print.specs.PointsPrinter.{pointsPrinted}
 
 -- points=, pairs, byte 0A
 abbrev pub pointsText : List ℕ → List ℕ
@@ -47,4 +47,3 @@ pub record PointsLaws : Type 0 where
       → pointsPrinted (asksPoints z (tabulate (z .n) (λ i. i)) node file)
       ≡ printed (asks (decimal (z .n)) (decimal (z .k)) (decimal (z .d)) (decimal (z .r)) (decimal node) file)
   pub byte-by-byte : (input : List ℕ) → runs (begin true) [] input ≡ pointsPrinted input
-  pub either : (asked : Bool) (input : List ℕ) → runs (begin asked) [] input ≡ printedBy asked input

@@ -8,8 +8,7 @@ use Prim.Native.Nat.{ℕ}
 use lib.ListN.{length, take}
 use Rattle.lists.specs.Lists.{concat}
 use Rattle.printer.specs.Steps.{begin, decided}
-use Rattle.points_print.specs.PointsPrinter.{printedBy}
-use Rattle.print_feed.specs.Steps.{Feed, feedAll, feedParts}
+use Rattle.print_feed.specs.Steps.{Feed, feedAll, feedParts, printedBy}
 
 pub record FeedLaws : Type 0 where
   pub parts-are-whole : (s : Feed) (parts : List (List ℕ)) → feedParts s parts ≡ feedAll s (concat parts)

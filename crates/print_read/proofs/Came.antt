@@ -16,8 +16,7 @@ use Rattle.io.specs.Counts.{clamped}
 use Rattle.printer.specs.declared.Parser.{Parser}
 use Rattle.printer.specs.Printer.{refusedLine}
 use Rattle.printer.specs.Steps.{begin, wrong}
-use Rattle.points_print.specs.PointsPrinter.{printedBy}
-use Rattle.print_feed.specs.Steps.{Feed, feedAll}
+use Rattle.print_feed.specs.Steps.{Feed, feedAll, printedBy}
 use Rattle.print_feed.proofs.Laws.{behind, feed-laws}
 use Rattle.print_share.specs.Steps.{Written, placed, toWrite}
 use Rattle.print_share.specs.Laws.{shown}

@@ -12,8 +12,7 @@ use Rattle.lists.specs.Tests.{pick}
 use Rattle.io.specs.Counts.{clamped}
 use Rattle.printer.specs.Printer.{refusedLine}
 use Rattle.printer.specs.Steps.{wrong}
-use Rattle.points_print.specs.PointsPrinter.{printedBy}
-use Rattle.print_feed.specs.Steps.{Feed, feedAll}
+use Rattle.print_feed.specs.Steps.{Feed, feedAll, printedBy}
 
 -- the input is refused where a read failed
 abbrev pub unless : Bool → Feed → Feed

@@ -19,14 +19,13 @@ use Rattle.mbcr.proofs.PointLaws.{pointed-facts}
 use Rattle.mbcr.proofs.Repair.{length-share}
 use Rattle.text_lines.proofs.Decimals.{decimal-most}
 use Rattle.printer.specs.declared.Parser.{Parser}
-use Rattle.printer.specs.Printer.{refusedLine, shared, accepted}
-use Rattle.printer.specs.Steps.{begin, wrong, inFile, sizesRead, pointsRead, refusalOf, decided}
+use Rattle.printer.specs.Printer.{refusedLine, shared}
+use Rattle.printer.specs.Steps.{accepted, begin, wrong, inFile, sizesRead, pointsRead, refusalOf, decided}
 use Rattle.printer.proofs.Near.{shared-far}
 use Rattle.printer.proofs.Whole.{shared-long, shared-text}
 use Rattle.number_lines.proofs.Picks.{if-eq, if-ne, if-le}
 use Rattle.printer.proofs.Laws.{printer-laws}
-use Rattle.points_print.specs.PointsPrinter.{printedBy}
-use Rattle.print_feed.specs.Steps.{Feed, feedAll, feedParts}
+use Rattle.print_feed.specs.Steps.{Feed, feedAll, feedParts, printedBy}
 use Rattle.print_feed.proofs.Laws.{feed-laws}
 use Rattle.print_share.specs.Steps.{Written, placed, toWrite}
 use Rattle.print_share.specs.Laws.{shown, ShareLaws}

@@ -34,8 +34,8 @@ use Rattle.text_lines.specs.Steps.{Wrote}
 use Rattle.text_lines.proofs.Lines.{length-line, from-start}
 use Rattle.checks.specs.Outcomes.{outcome}
 use Rattle.printer.specs.declared.Parser.{Parser}
-use Rattle.printer.specs.Printer.{refusedLine, maxFile, told, shared, accepted}
-use Rattle.printer.specs.Steps.{inFile, sizesRead, pointsRead, refusalOf, decided}
+use Rattle.printer.specs.Printer.{refusedLine, maxFile, told, shared}
+use Rattle.printer.specs.Steps.{accepted, inFile, sizesRead, pointsRead, refusalOf, decided}
 use Rattle.number_lines.proofs.Picks.{if-eq, if-ne, if-lt, if-le}
 use Rattle.printer.proofs.Near.{both}
 use Rattle.printer.proofs.Room.{any-room}

@@ -10,8 +10,7 @@ use Rattle.lists.specs.Lists.{concat}
 use Rattle.printer.specs.declared.Parser.{Parser}
 use Rattle.printer.specs.Printer.{refusedLine}
 use Rattle.printer.specs.Steps.{begin, wrong, decided}
-use Rattle.points_print.specs.PointsPrinter.{printedBy}
-use Rattle.print_feed.specs.Steps.{feedParts}
+use Rattle.print_feed.specs.Steps.{feedParts, printedBy}
 use Rattle.print_share.specs.Steps.{Written, placed, toWrite}
 
 -- the bytes that stand there

@@ -19,8 +19,8 @@ use Rattle.sizes.specs.Sizing.{legal, B}
 use Rattle.sizes.proofs.Legal.{legal-no, legal-facts}
 use Rattle.mbcr.specs.Share.{pointed}
 use Rattle.board_spec.specs.Calls.{shareCall, shareLines}
-use Rattle.printer.specs.Printer.{refusedLine, maxFile, shared, accepted, answered}
-use Rattle.printer.specs.Steps.{maxNumber}
+use Rattle.printer.specs.Printer.{refusedLine, maxFile, shared, answered}
+use Rattle.printer.specs.Steps.{accepted, maxNumber}
 
 -- a number as it is held
 abbrev pub held : ℕ → ℕ

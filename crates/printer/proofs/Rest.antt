@@ -19,8 +19,8 @@ use Rattle.sizes.specs.declared.Sizes.{Sizes}
 use Rattle.mbcr.specs.Share.{standard}
 use Rattle.point_lines.specs.Steps as points
 use Rattle.printer.specs.declared.Parser.{Parser}
-use Rattle.printer.specs.Printer.{refusedLine, maxFile, shared, accepted}
-use Rattle.printer.specs.Steps.{nameOf, maxNumber, wrong, stored, counted, lineFed, taken, pointsMoved, fed, inFile, keep, sizesRead, pointsRead, refusalOf, decided}
+use Rattle.printer.specs.Printer.{refusedLine, maxFile, shared}
+use Rattle.printer.specs.Steps.{accepted, nameOf, maxNumber, wrong, stored, counted, lineFed, taken, pointsMoved, fed, inFile, keep, sizesRead, pointsRead, refusalOf, decided}
 use Rattle.printer.proofs.Fed.{behind-all, in-lines, in-points, fed-bad, fed-file, fed-points, fed-line}
 
 -- the file's bytes: those kept, then the input

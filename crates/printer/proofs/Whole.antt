@@ -20,7 +20,8 @@ use Rattle.mbcr.proofs.PointLaws.{standard-pointed}
 use Rattle.board_spec.proofs.Text.{standard-unsaid}
 use Rattle.board_spec.specs.Text.{decimal, hexPair, textLine, shareText}
 use Rattle.board_spec.specs.Calls.{shareCall, shareLines}
-use Rattle.printer.specs.Printer.{refusedLine, maxFile, shared, accepted, answered, fiveLines, printed}
+use Rattle.printer.specs.Printer.{refusedLine, maxFile, shared, answered, fiveLines, printed}
+use Rattle.printer.specs.Steps.{accepted}
 use Rattle.printer.specs.Laws.{asks, sevenLines, PrintedFor}
 use Rattle.number_lines.proofs.Picks.{yes, if-lt, if-le}
 use Rattle.printer.proofs.Forms.{decimal-taken}

@@ -1,7 +1,6 @@
 -- Document 01, 'Share text', the share printer: from the whole input to the whole output. What it writes of sizes, a board and a file is said for
 -- any points (request A.9); the share printer's are document 01's.
 -- Assumes nothing.
-use mathlib.Core.Bool.{Bool}
 use mathlib.Core.List.{List, [], _∷_}
 use Prim.Native.Nat.{ℕ, _*_}
 use lib.Dec.{ltb, eqb}
@@ -31,13 +30,9 @@ told z xs L node o = pick (eqb (o .answer .refusal) 0) (shareText z xs L node (t
 unfoldable pub shared : Sizes → List ℕ → ℕ → List ℕ → List ℕ
 shared z xs node file = told z xs (length file) node (shareCall z xs node file (fit (stripes z (length file) * α z) []))
 
--- legal sizes, and points that are taken with them
-abbrev pub accepted : Sizes → List ℕ → Bool
-accepted z xs = alls (legal z ∷ pointed z xs ∷ [])
-
 -- sizes or points that are not taken, then a file too long, then the call
 abbrev pub answered : Sizes → List ℕ → ℕ → List ℕ → List ℕ
-answered z xs node file = pick (accepted z xs) (pick (ltb maxFile (length file)) (refusedLine 3) (shared z xs node file)) (refusedLine 1)
+answered z xs node file = pick (alls (legal z ∷ pointed z xs ∷ [])) (pick (ltb maxFile (length file)) (refusedLine 3) (shared z xs node file)) (refusedLine 1)
 
 -- "the lines n=, k=, d=, r=, node= in that form"; the first argument is what a malformed line gives
 abbrev pub fiveLines : {A : Type 0} → A → List ℕ → (Sizes → ℕ → List ℕ → A) → A

@@ -4,7 +4,7 @@ use mathlib.Core.Bool.{Bool, true, false}
 use mathlib.Core.List.{List, [], _∷_, _++_}
 use Prim.Native.Nat.{ℕ, _+_, _-_}
 use lib.Dec.{ltb, eqb}
-use Rattle.lists.specs.Tests.{pick}
+use Rattle.lists.specs.Tests.{pick, alls}
 use Rattle.number_lines.specs.declared.Reader.{Reader}
 use Rattle.number_lines.specs.declared.Read.{Read}
 use Rattle.number_lines.specs.declared.Read.the-variants.{More, Whole, Malformed}
@@ -12,9 +12,10 @@ use Rattle.number_lines.specs.Steps as steps
 use Rattle.point_lines.specs.declared.PointReader.{PointReader}
 use Rattle.point_lines.specs.Steps as points
 use Rattle.sizes.specs.declared.Sizes.{Sizes}
-use Rattle.mbcr.specs.Share.{standard}
+use Rattle.sizes.specs.Sizing.{legal}
+use Rattle.mbcr.specs.Share.{standard, pointed}
 use Rattle.printer.specs.declared.Parser.{Parser}
-use Rattle.printer.specs.Printer.{refusedLine, maxFile, shared, accepted}
+use Rattle.printer.specs.Printer.{refusedLine, maxFile, shared}
 
 -- the bytes before the number, by how many lines are left
 abbrev pub nameOf : ℕ → List ℕ
@@ -133,6 +134,10 @@ sizesRead p = record { n = p .n; k = p .k; d = p .d; r = p .r }
 -- those that were read, or document 01's
 abbrev pub pointsRead : Parser → List ℕ
 pointsRead p = pick (p .asked) (p .points .points) (standard (sizesRead p))
+
+-- legal sizes, and points that are taken with them
+abbrev pub accepted : Sizes → List ℕ → Bool
+accepted z xs = alls (legal z ∷ pointed z xs ∷ [])
 
 -- "a malformed line gives 1", then sizes or points that are not taken, then "more than 16,384 file bytes give 3"; else 0
 abbrev pub refusalOf : Parser → ℕ

@@ -3,8 +3,7 @@
 ghost use mathlib.Core.Path.{_≡_};
 ghost use Prim.Native.Nat.{_≤_};
 ghost use Rattle.lists.specs.Tests.{pick};
-ghost use Rattle.printer.specs.Printer.{accepted};
-ghost use Rattle.printer.specs.Steps.{begin, wrong, stored, counted, lineFed, behindFed, fed, inFile, sizesRead, pointsRead, refusalOf};
+ghost use Rattle.printer.specs.Steps.{accepted, begin, wrong, stored, counted, lineFed, behindFed, fed, inFile, sizesRead, pointsRead, refusalOf};
 use number_lines::Read;
 use number_lines::Reader;
 use point_lines::PointReader;

@@ -4,8 +4,8 @@ use mathlib.Core.Path.{_≡_, sym, _∙_}
 use borrow.Author.Tests.{not-true, not-false}
 use lib.Dec.{ltb}
 use Rattle.lists.specs.Tests.{pick}
-use Rattle.printer.specs.Printer.{maxFile, accepted}
-use Rattle.printer.specs.Steps.{sizesRead, pointsRead, refusalOf}
+use Rattle.printer.specs.Printer.{maxFile}
+use Rattle.printer.specs.Steps.{accepted, sizesRead, pointsRead, refusalOf}
 use Rattle.number_lines.proofs.Picks.{yes, no, if-lt, if-le}
 use borrow.Author.Needs.{needs}
 use Rattle.printer.proofs.refusal.Statement.{statement}
