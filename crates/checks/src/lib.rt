@@ -2,13 +2,13 @@
 ghost use mathlib.Core.Path.{_≡_};
 ghost use mathlib.Core.List.{[], _∷_, _++_};
 ghost use Prim.Native.Nat.{_+_, _*_, _≤_};
-ghost use lib.ListN.{length, take};
+ghost use lib.ListN.{length};
 ghost use mathlib.Core.Bool.{true, not};
 ghost use lib.Dec.{ltb, eqb};
 ghost use Rattle.lists.specs.Tests.{pick, different};
 ghost use Rattle.lists.specs.Lists.{tabulate};
 ghost use Rattle.sizes.specs.Sizing.{legal, stripes};
-ghost use Rattle.sizes.specs.Refusals.{_when_, first, boardOrder};
+ghost use Rattle.sizes.specs.Refusals.{first, boardOrder};
 ghost use Rattle.mbcr.specs.Share.{standard, pointed};
 ghost use Rattle.board_spec.specs.Calls.{sizeLine, longLine, countLine, nodeLine, repeatLine, areaLine, shortLine};
 ghost use Rattle.checks.specs.Steps.{asked, statedLines, Stated};

@@ -1,10 +1,8 @@
 -- `checks::points_taken` meets its contract: the tests in their order; that each point is a byte holds of all.
 -- Assumes nothing.
-use Prim.Native.Nat.{ℕ, _<_}
-use mathlib.Core.Path.{_≡_, sym, _∙_}
-use mathlib.Core.List.{List}
+use Prim.Native.Nat.{_<_}
+use mathlib.Core.Path.{sym, _∙_}
 use native.Mathlib.Omega.{arith}
-use lib.ListN.{length}
 use borrow.Author.Needs.{needs}
 use Rattle.lists.specs.Lists.{Bytes}
 use Rattle.lists.proofs.Alls.{all-of}
