@@ -15,8 +15,8 @@ use Rattle.lists.specs.Tests.{pick}
 use Rattle.lists.specs.Lists.{fit}
 use Rattle.number_lines.proofs.Picks.{yes, no, if-eq, if-ne, if-lt, if-le}
 use Rattle.point_lines.specs.declared.PointReader.{PointReader}
-use Rattle.point_lines.specs.Lines.{hexadecimal, digitValue, readDigit, readPair, readName, readPairs, pointsName, readPoints}
-use Rattle.point_lines.specs.Steps.{turned, begun, paired, fedName, fedEnd, fedHigh, fedLow, fed, reads}
+use Rattle.point_lines.specs.Lines.{hexadecimal, digitValue, readDigit, readName, readPairs, readPoints}
+use Rattle.point_lines.specs.Steps.{pointsName, turned, begun, paired, fedName, fedEnd, fedHigh, fedLow, fed, reads}
 use Rattle.point_lines.proofs.Digits.{digit-low}
 
 -- ---- the reader after a byte, by its part

@@ -1,7 +1,8 @@
--- What holds of the line of points, for any kind of answer: it is taken in just its form, as its points; and read byte by byte it is the same line.
+-- What holds of the line of points, for any kind of answer: read byte by byte it is the same line. (That it is taken in its form, and with no other
+-- number of pairs: points_print/specs/Laws.antt.)
 -- Assumes nothing.
 use mathlib.Core.Path.{_≡_}
-use mathlib.Core.List.{List, [], _∷_, _++_}
+use mathlib.Core.List.{List}
 use Prim.Native.Nat.{ℕ, _≤_}
 use Rattle.lists.specs.Lists.{fit}
 use Rattle.point_lines.specs.declared.PointReader.{PointReader}

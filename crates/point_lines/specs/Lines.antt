@@ -19,25 +19,17 @@ abbrev pub readDigit : {A : Type 0} → A → List ℕ → (ℕ → List ℕ →
 readDigit bad [] go = bad
 readDigit bad (b ∷ input) go = pick (hexadecimal b) (go (digitValue b) input) bad
 
--- one byte, in two digits
-abbrev pub readPair : {A : Type 0} → A → List ℕ → (ℕ → List ℕ → A) → A
-readPair bad input go = readDigit bad input (λ high input. readDigit bad input (λ low input. go (16 * high + low) input))
-
 -- these bytes
 abbrev pub readName : {A : Type 0} → A → List ℕ → List ℕ → (List ℕ → A) → A
 readName bad [] input go = go input
 readName bad (c ∷ name) [] go = bad
 readName bad (c ∷ name) (b ∷ input) go = pick (eqb b c) (readName bad name input go) bad
 
--- so many pairs and byte 0A
+-- so many bytes, each in two digits, and byte 0A
 abbrev pub readPairs : {A : Type 0} → A → ℕ → List ℕ → (List ℕ → List ℕ → A) → A
 readPairs bad zero input go = readName bad (0x0A ∷ []) input (go [])
-readPairs bad (suc n) input go = readPair bad input (λ x input. readPairs bad n input (λ xs rest. go (x ∷ xs) rest))
+readPairs bad (suc n) input go = readDigit bad input (λ high input. readDigit bad input (λ low input. readPairs bad n input (λ xs rest. go ((16 * high + low) ∷ xs) rest)))
 
--- points=
-abbrev pub pointsName : List ℕ
-pointsName = 0x70 ∷ 0x6F ∷ 0x69 ∷ 0x6E ∷ 0x74 ∷ 0x73 ∷ 0x3D ∷ []
-
--- the line of n points
+-- the line of n points: points=, the pairs, byte 0A
 abbrev pub readPoints : {A : Type 0} → A → ℕ → List ℕ → (List ℕ → List ℕ → A) → A
-readPoints bad n input go = readName bad pointsName input (λ input. readPairs bad n input go)
+readPoints bad n input go = readName bad (0x70 ∷ 0x6F ∷ 0x69 ∷ 0x6E ∷ 0x74 ∷ 0x73 ∷ 0x3D ∷ []) input (λ input. readPairs bad n input go)

@@ -7,11 +7,15 @@ use lib.ListN.{length, getD, set}
 use Rattle.lists.specs.Tests.{pick}
 use Rattle.lists.specs.Lists.{fit}
 use Rattle.point_lines.specs.declared.PointReader.{PointReader}
-use Rattle.point_lines.specs.Lines.{hexadecimal, digitValue, pointsName}
+use Rattle.point_lines.specs.Lines.{hexadecimal, digitValue}
 
 -- so many points, 00 from there up
 abbrev pub maxPoints : ℕ
 maxPoints = 32
+
+-- points=
+abbrev pub pointsName : List ℕ
+pointsName = 0x70 ∷ 0x6F ∷ 0x69 ∷ 0x6E ∷ 0x74 ∷ 0x73 ∷ 0x3D ∷ []
 
 abbrev pub begin : PointReader
 begin = record { part = 0; at = 0; pairs = 0; high = 0; points = fit maxPoints [] }

@@ -4,8 +4,7 @@ use mathlib.Core.Path.{_≡_, sym, _∙_}
 use Rattle.number_lines.proofs.Picks.{if-eq, if-ne, if-lt, if-le}
 use lib.Dec.{ltb}
 use Rattle.lists.specs.Tests.{pick}
-use Rattle.point_lines.specs.Lines.{pointsName}
-use Rattle.point_lines.specs.Steps.{fedName, fedHigh, fed}
+use Rattle.point_lines.specs.Steps.{pointsName, fedName, fedHigh, fed}
 use borrow.Author.Needs.{needs}
 use Rattle.point_lines.proofs.feed.Statement.{statement}
 use Rattle.point_lines.proofs.feed.Tie as tie

@@ -1,4 +1,4 @@
--- `share_printer::take_in` meets its contract, by the sign of what a read answered.
+-- `print_read::take_in` meets its contract, by the sign of what a read answered.
 -- Assumes nothing.
 use mathlib.Core.Path.{sym, ap, _∙_}
 use Prim.Native.Nat.{ℕ}
@@ -11,10 +11,10 @@ use mir.ValLaws.{toZ-ofZ}
 use Rattle.io.specs.Counts.{clamped}
 use Rattle.printer.specs.declared.Parser.{Parser}
 use Rattle.print_feed.specs.Steps.{Feed, feedAll}
-use Rattle.share_printer.proofs.Came.{none-more, failed, came}
+use Rattle.print_read.proofs.Came.{none-more, failed, came}
 use borrow.Author.Needs.{needs}
-use Rattle.share_printer.proofs.take_in.Statement.{statement}
-use Rattle.share_printer.proofs.take_in.Tie as tie
+use Rattle.print_read.proofs.take_in.Statement.{statement}
+use Rattle.print_read.proofs.take_in.Tie as tie
 
 returns : tie.Need-returns
 returns c =

@@ -1,11 +1,11 @@
--- `share_printer::read_some` meets its contract: the bytes are those of the read.
+-- `print_read::read_some` meets its contract: the bytes are those of the read.
 -- Assumes nothing.
 use mir.Syntax.{w64}
 use mir.Val.{toZ, ofZ}
-use Rattle.share_printer.proofs.Came.{once}
+use Rattle.print_read.proofs.Came.{once}
 use borrow.Author.Needs.{needs}
-use Rattle.share_printer.proofs.read_some.Statement.{statement}
-use Rattle.share_printer.proofs.read_some.Tie as tie
+use Rattle.print_read.proofs.read_some.Statement.{statement}
+use Rattle.print_read.proofs.read_some.Tie as tie
 
 returns : tie.Need-returns
 returns c =

@@ -1,5 +1,5 @@
--- What the program's reads leave, and what it writes. `afterRead` says it outright of what a read answered. No contract says which bytes a
--- read gives or when it fails, so the records say no more than that there were such bytes: the tests run the program on files and failures.
+-- What a program's reads leave, and what it writes. `afterRead` says it outright of what a read answered. No contract says which bytes a
+-- read gives or when it fails, so the records say no more than that there were such bytes: the tests run the programs on files and failures.
 -- Assumes nothing.
 use mathlib.Core.Path.{_≡_}
 use mathlib.Core.Bool.{Bool, true, false}
@@ -10,9 +10,9 @@ use lib.IntN.{ℤ, pos}
 use lib.Signed.{ltZ}
 use Rattle.lists.specs.Tests.{pick}
 use Rattle.io.specs.Counts.{clamped}
-use Rattle.printer.specs.Printer.{refusedLine, printed}
+use Rattle.printer.specs.Printer.{refusedLine}
 use Rattle.printer.specs.Steps.{wrong}
-use Rattle.print_feed.specs.Steps.{Feed, feedAll}
+use Rattle.print_feed.specs.Steps.{Feed, feedAll, printedBy}
 
 -- the input is refused where a read failed
 abbrev pub unless : Bool → Feed → Feed
@@ -29,13 +29,14 @@ pub record Reading (s : Feed) (more : Bool) (t : Feed) : Type 0 where
   pub fed-all : t ≡ unless cut (feedAll s input)
   pub not-cut : more ≡ true → cut ≡ false
 
--- what is written is what document 01 says of the bytes that were fed, or the line of refusal 1 where a read failed
-pub record Printing (text : List ℕ) : Type 0 where
+-- what is written is what the printer's definition says of the bytes that were fed, `pointsPrinted` where a line of points is asked for and else
+-- `printed`; or the line of refusal 1 where a read failed
+pub record Printing (asked : Bool) (text : List ℕ) : Type 0 where
   pub input : List ℕ
   pub cut : Bool
-  pub said : text ≡ pick cut (refusedLine 1) (printed input)
+  pub said : text ≡ pick cut (refusedLine 1) (printedBy asked input)
 
--- the lengths of the program's own arrays
+-- the lengths of the programs' own arrays
 pub record Lent (file out : List ℕ) : Type 0 where
   pub file-room : length file ≡ 16384
   pub out-room : length out ≡ 34900

@@ -1,4 +1,4 @@
--- What comes of the program's reads, one after another.
+-- What comes of a program's reads, one after another.
 -- Assumes nothing.
 use mathlib.Core.Path.{_≡_, refl, sym, ap, ap₂, _∙_}
 use mathlib.Core.Bool.{Bool, true, false}
@@ -14,14 +14,14 @@ use Rattle.lists.specs.Tests.{pick}
 use Rattle.lists.proofs.Tests.{true-false, is-false}
 use Rattle.io.specs.Counts.{clamped}
 use Rattle.printer.specs.declared.Parser.{Parser}
-use Rattle.printer.specs.Printer.{refusedLine, printed}
+use Rattle.printer.specs.Printer.{refusedLine}
 use Rattle.printer.specs.Steps.{begin, wrong}
-use Rattle.print_feed.specs.Steps.{Feed, feedAll}
+use Rattle.print_feed.specs.Steps.{Feed, feedAll, printedBy}
 use Rattle.print_feed.proofs.Laws.{behind, feed-laws}
 use Rattle.print_share.specs.Steps.{Written, placed, toWrite}
 use Rattle.print_share.specs.Laws.{shown}
 use Rattle.print_share.proofs.Laws.{share-laws}
-use Rattle.share_printer.specs.Steps.{unless, afterRead, Reading, Printing, Lent}
+use Rattle.print_read.specs.Steps.{unless, afterRead, Reading, Printing, Lent}
 
 -- ---- one read
 
@@ -79,12 +79,12 @@ left {t = t} a m e = record {
 
 -- ---- what is written
 
-module _ (file out : List ℕ) (l : Lent file out) where
+module _ (asked : Bool) (file out : List ℕ) (l : Lent file out) where
   start : Feed
-  start = record { parser = begin; file = file }
+  start = record { parser = begin asked; file = file }
 
-  pub printing : {t : Feed} (w : Written) → Reading (record { parser = begin; file = file }) false t → w ≡ placed (toWrite (t .parser) (t .file)) out
-      → (w .count ≤ length (w .out)) × Printing (shown w)
+  pub printing : {t : Feed} (w : Written) → Reading (record { parser = begin asked; file = file }) false t → w ≡ placed (toWrite (t .parser) (t .file)) out
+      → (w .count ≤ length (w .out)) × Printing asked (shown w)
   unfolding start
   printing {t} w a e = (
     omega (arith, ap (λ (w : Written). w .count) e, ap (λ (w : Written). length (w .out)) e, share-laws .within (toWrite (t .parser) (t .file)) out),
@@ -98,6 +98,6 @@ module _ (file out : List ℕ) (l : Lent file out) where
       s : Feed
       s = feedAll start (a .input)
 
-      go : (cut : Bool) → shown (placed (toWrite (unless cut s .parser) (unless cut s .file)) out) ≡ pick cut (refusedLine 1) (printed (a .input))
+      go : (cut : Bool) → shown (placed (toWrite (unless cut s .parser) (unless cut s .file)) out) ≡ pick cut (refusedLine 1) (printedBy asked (a .input))
       go true = share-laws .failed-read (s .parser) (s .file) out (feed-laws .same-length start (a .input) ∙ l .file-room) (l .out-room)
-      go false = share-laws .decides (s .parser) (s .file) out (feed-laws .same-length start (a .input) ∙ l .file-room) (l .out-room) ∙ feed-laws .decides file (a .input) (l .file-room)
+      go false = share-laws .decides (s .parser) (s .file) out (feed-laws .same-length start (a .input) ∙ l .file-room) (l .out-room) ∙ feed-laws .decides asked file (a .input) (l .file-room)

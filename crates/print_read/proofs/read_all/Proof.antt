@@ -1,21 +1,21 @@
--- `share_printer::read_all` meets its contract, and ends. The measure is the number of turns that are left.
+-- `print_read::read_all` meets its contract, and ends. The measure is the number of turns that are left.
 -- Assumes nothing.
 use mathlib.Core.Path.{_≡_, refl, ap, _∙_}
 use lib.ListN.{length}
 use Rattle.printer.specs.declared.Parser.{Parser}
 use Rattle.printer.specs.Steps.{begin}
-use Rattle.share_printer.specs.Steps.{Reading}
-use Rattle.share_printer.proofs.Came.{none, next, ended, left}
+use Rattle.print_read.specs.Steps.{Reading}
+use Rattle.print_read.proofs.Came.{none, next, ended, left}
 use borrow.Author.Needs.{needs}
-use Rattle.share_printer.proofs.read_all.Statement.{statement}
-use Rattle.share_printer.proofs.read_all.Tie as tie
+use Rattle.print_read.proofs.read_all.Statement.{statement}
+use Rattle.print_read.proofs.read_all.Tie as tie
 
 abbrev Inv-loop : tie.InvT-loop
-Inv-loop file₀ p₀ more₀ turns₀ file p more turns =
-    (length file ≡ length file₀) × Reading (record { parser = begin; file = file₀ }) more (record { parser = p; file = file })
+Inv-loop asked file₀ p₀ more₀ turns₀ file p more turns =
+    (length file ≡ length file₀) × Reading (record { parser = begin asked; file = file₀ }) more (record { parser = p; file = file })
 
 abbrev μ-loop : tie.MeasureT-loop
-μ-loop file₀ p₀ more₀ turns₀ file p more turns = turns
+μ-loop asked file₀ p₀ more₀ turns₀ file p more turns = turns
 
 loop-holds : tie.Need-loop-holds Inv-loop μ-loop
 loop-holds c = (refl, none (ap (λ (q : Parser). record { parser = q; file = c .before .before .args .file .now }) (c .start .ensures)))
