@@ -39,7 +39,10 @@ definitions=$(ls crates/*/specs/*.antt | grep -v -e '/Lib.antt$')
 inner=$(ls crates/*/specs/Steps.antt crates/gf256_mul/specs/Tables.antt)
 # the archive's words, beside the calls that they are for
 archive='crates/answer_word/specs/Answers.antt crates/record_words/specs/Words.antt crates/zebrankai/specs/Archive.antt crates/zebrankai/specs/Lent.antt'
-for f in $tables $claims $inner $archive; do definitions=$(printf '%s\n' $definitions | grep -vxF "$f"); done
+# what a later request defines in files of its own, each with its most lines; the base's 700 are without them
+requests='crates/size_list/specs/Combinations.antt:45'
+later=$(for f in $requests; do echo "${f%:*}"; done)
+for f in $tables $claims $inner $archive $later; do definitions=$(printf '%s\n' $definitions | grep -vxF "$f"); done
 for f in $inner; do
     crate=${f#crates/} name=$(basename "$f" .antt)
     ! grep -l "·${crate%%/*}.*specs\.$name\." crates/board_*/specs/*.antt crates/store_spec/specs/*.antt crates/mbcr/specs/*.antt >/dev/null 2>&1 \
@@ -47,6 +50,11 @@ for f in $inner; do
 done
 d=$(lines $definitions) c=$(lines $claims) t=$(lines $tables) i=$(lines $inner) a=$(lines $archive)
 echo "definitions: $d lines, theorem statements: $c lines, tables of figures: $t lines, inner definitions: $i lines, the archive: $a lines"
+for f in $requests; do
+    [ "$(lines "${f%:*}")" -le "${f#*:}" ] || complain "${f%:*} has more than ${f#*:} lines"
+done
+r=$(lines $later)
+grep -qF "Definitions of requests in files of their own: $r lines" "$page" || complain "it does not say that requests' own definitions have $r lines"
 [ "$d" -le 700 ] || complain "the definitions have $d lines, more than 700"
 grep -qF "$d lines without imports" "$page" || complain "it does not say that the definitions have $d lines"
 grep -qF "Theorem statements: $c lines" "$page" || complain "it does not say that the theorem statements have $c lines"

@@ -147,7 +147,8 @@ module _ (z : Sizes) (xs : List ℕ) (legal : Legal z) (pts : DifferentPoints z 
     unfolding ownG
     g-tops C boards lC vals rest ev i t hi ht =
         ap (λ (q : ℕ). getD (topsOf (d - k) q d m (topRows k (points xs C)) (vals ++ rest)) (i * q + t) 0) (sym lb)
-        ∙ tops-are z xs pts bs known d (omega (arith, legal .enough)) d-few (λ t. take 1 (w t) ++ drop (d + r) (w t)) (λ t h. length-g z xs legal (getD bs t 0) (w t) (lw t h)) (λ t h. g-bytes z xs legal (getD bs t 0) (w t) (lw t h) (bw t))
+        ∙ tops-are z xs pts bs known d (omega (arith, legal .enough)) d-few (λ t. take 1 (w t) ++ drop (d + r) (w t)) (λ t h. length-g z xs legal (getD bs t 0) (w t) (lw t h))
+        (λ t h. g-bytes z xs legal (getD bs t 0) (w t) (lw t h) (bw t))
         C boards lC k m lm hm (vals ++ rest) value i t hi (omega arith)
       where
         v : ℕ → ℕ → ℕ

@@ -184,7 +184,8 @@ tabled d xs zs rows out few er eo s h =
     let e : out ≡ join d (λ s. multiples (piece 32 s (seedRows d xs))) =
     eo ∙ ap (λ (l : List ℕ). join d (λ s. multiples (piece 32 s l))) (back-part (d * 32) zs rows lr ∙ er) in
     ap (piece 512 s) e
-    ∙ piece-join d 512 (λ s. multiples (piece 32 s (seedRows d xs))) (λ s l. length-multiples (piece 32 s (seedRows d xs)) (length-piece 32 s (seedRows d xs) (omega (arith, length-seed-rows d xs, row-fits s d 32 l)))) s h
+    ∙ piece-join d 512 (λ s. multiples (piece 32 s (seedRows d xs)))
+    (λ s l. length-multiples (piece 32 s (seedRows d xs)) (length-piece 32 s (seedRows d xs) (omega (arith, length-seed-rows d xs, row-fits s d 32 l)))) s h
 
 -- the coefficients of the highest powers
 pub tops-are : (k : ℕ) (xs bs zs rows out : List ℕ) → length bs ≤ 32 → rows ≡ seedRows (length bs) (points xs bs)

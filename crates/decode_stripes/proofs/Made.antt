@@ -92,7 +92,8 @@ pub record Kept (fs₀ gs₀ vf₀ vg₀ tp₀ rows₀ columns₀ fs gs vf vg tp
   pub all-rows : length rows ≡ length rows₀
   pub all-columns : length columns ≡ length columns₀
 
-pub work-kept : (z : Sizes) {fs₀ gs₀ vf₀ vg₀ tp₀ rows₀ columns₀ fs gs vf vg tp rows columns : List ℕ} → Work z fs₀ gs₀ vf₀ vg₀ tp₀ rows₀ columns₀ → Kept fs₀ gs₀ vf₀ vg₀ tp₀ rows₀ columns₀ fs gs vf vg tp rows columns → Work z fs gs vf vg tp rows columns
+pub work-kept : (z : Sizes) {fs₀ gs₀ vf₀ vg₀ tp₀ rows₀ columns₀ fs gs vf vg tp rows columns : List ℕ} → Work z fs₀ gs₀ vf₀ vg₀ tp₀ rows₀ columns₀
+    → Kept fs₀ gs₀ vf₀ vg₀ tp₀ rows₀ columns₀ fs gs vf vg tp rows columns → Work z fs gs vf vg tp rows columns
 work-kept z w k =
     record {
       f-rows = k .f-rows ∙ w .f-rows;

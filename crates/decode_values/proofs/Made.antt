@@ -20,34 +20,28 @@ use Rattle.decode_laws.specs.Steps.{fRow, gRow, valueBy}
 use Rattle.decode_laws.proofs.Sums.{sum-below}
 use Rattle.decode_laws.proofs.Loops.{put-next}
 
-fit-pad : (m : ℕ) (a : List ℕ) → length a ≤ m → a ++ tabulate (m - length a) (λ _. 0) ≡ fit m a
-fit-pad m [] h = ap (λ (k : ℕ). tabulate k (λ _. 0)) (sub-zero m) ∙ none m
+fit-over : (m : ℕ) (a : List ℕ) → length a ≤ m → a ++ drop (length a) (tabulate m (λ _. 0)) ≡ fit m a
+fit-over m [] h = none m
   where
     none : (m : ℕ) → tabulate m (λ _. 0) ≡ fit m []
     none zero = refl
     none (suc m) = ap {B = List ℕ} (λ l. 0 ∷ l) (none m)
-fit-pad zero (x ∷ a) h = absurd (omega arith)
-fit-pad (suc m) (x ∷ a) h =
-    let e : suc m - suc (length a) ≡ m - length a = omega arith in
-    ap (λ (k : ℕ). x ∷ (a ++ tabulate k (λ _. 0))) e ∙ ap {B = List ℕ} (λ l. x ∷ l) (fit-pad m a (omega arith))
+fit-over zero (x ∷ a) h = absurd (omega arith)
+fit-over (suc m) (x ∷ a) h = ap {B = List ℕ} (λ l. x ∷ l) (fit-over m a (omega arith))
 
--- bytes copied to the beginning, and 00 behind
-pub padded-made : (a out ys zs : List ℕ) → length a ≤ length out → ys ≡ take (length (take (length a - 0) (drop 0 out))) a
-    → zs ≡ tabulate (length (take (length out - length a) (drop (length a) (putMid 0 (length a - 0) out ys)))) (λ _. 0)
-    → putMid (length a) (length out - length a) (putMid 0 (length a - 0) out ys) zs ≡ fit (length out) a
-padded-made a out ys zs h ey ez =
+-- all cleared, and bytes copied to the beginning
+pub padded-made : (a out zs ys : List ℕ) → length a ≤ length out → zs ≡ tabulate (length out) (λ _. 0)
+    → ys ≡ take (length (take (length a - 0) (drop 0 zs))) a
+    → putMid 0 (length a - 0) zs ys ≡ fit (length out) a
+padded-made a out zs ys h ez ey =
     let m : ℕ = length a in
-    let r : List ℕ = drop (m - 0) out in
-    let e : length (take (m - 0) (drop 0 out)) ≡ m = length-take-le (m - 0) out (omega arith) ∙ sub-zero m in
+    let long : length zs ≡ length out = ap length ez ∙ length-tabulate (length out) _ in
+    let e : length (take (m - 0) (drop 0 zs)) ≡ m = length-take-le (m - 0) zs (omega arith) ∙ sub-zero m in
     let y : ys ≡ a = ey ∙ ap (λ (k : ℕ). take k a) e ∙ take-all m a (omega arith) in
-    let l : length (putMid 0 (m - 0) out ys) ≡ length out = ap (λ (q : List ℕ). length (putMid 0 (m - 0) out q)) y ∙ length-append a r ∙ simp length-drop (omega arith) in
-    let q : length (take (length out - m) (drop m (putMid 0 (m - 0) out ys))) ≡ length out - m =
-    length-take-le (length out - m) (drop m (putMid 0 (m - 0) out ys)) (omega (arith, length-drop m (putMid 0 (m - 0) out ys))) in
-    put-next a r zs (putMid 0 (m - 0) out ys) m (length out - m) refl (ap (λ (q : List ℕ). q ++ r) y)
-    ∙ ap (λ (q : List ℕ). (a ++ zs) ++ q) (drop-of-length-le r {i = length out - m} (simp length-drop (omega arith)))
-    ∙ append-nil (a ++ zs)
-    ∙ ap (λ (q : List ℕ). a ++ q) (ez ∙ ap (λ (k : ℕ). tabulate k (λ _. 0)) q)
-    ∙ fit-pad (length out) a h
+    ap (λ (q : List ℕ). q ++ drop (m - 0) zs) y
+    ∙ ap (λ (i : ℕ). a ++ drop i zs) (sub-zero m)
+    ∙ ap (λ (q : List ℕ). a ++ drop m q) ez
+    ∙ fit-over (length out) a h
 
 -- the row of f
 pub f-made : (w : ℕ) (held f new : List ℕ) → length f ≡ 32 → new ≡ fit (length f) (take (w - 0) (drop 0 held)) → new ≡ fRow w held

@@ -11,15 +11,14 @@ ghost use Rattle.gf256.specs.Field.{mul};
 ghost use Rattle.polynomial.specs.Polynomial.{sum};
 ghost use Rattle.decode_laws.specs.Steps.{offset, valueBy, valuesOf, topsOf, fRow, gRow};
 
-// Bytes to the beginning of a row, and 00 behind.
+// Bytes to the beginning of a row, and 00 behind: the whole row is cleared first, since its length is known where it is lent.
 fn padded(a: &[u8], out: &mut [u8])
     requires { ⌜ length (now a) ≤ length (now out) ⌝ }
     ensures { λ _. ⌜ now (out .exit) ≡ fit (length (now (out .entry))) (now (a .entry)) ⌝ }
 {
     let m = a.len();
-    let n = out.len();
+    row_dots::clear(out);
     row_dots::copy(a, &mut out[0..m]);
-    row_dots::clear(&mut out[m..n]);
 }
 
 // The bytes of f and those of g, of the bytes that a board keeps, of which w are of f.

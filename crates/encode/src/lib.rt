@@ -51,22 +51,6 @@ fn share_stripes(
     }
 }
 
-// What board i keeps of stripe s of a file.
-pub fn share_stripe_of(sizes: Sizes, points: &[u8], i: usize, file: &[u8], s: usize, out: &mut [u8])
-    requires { ⌜ (legal sizes ≡ true) × (i < sizes .n) × (sizes .n ≤ length (now points)) × (s < 4096) × (length (now out) ≡ α sizes) ⌝ }
-    ensures { λ _. ⌜ now (out .exit) ≡ kept sizes (now (points .entry)) (stripe sizes (now (file .entry)) s) i ⌝ }
-{
-    let m = sizes.d + sizes.r;
-    let mut own = [0u8; 32];
-    let mut tables = [0u8; 16384];
-    let mut rows = [0u8; 992];
-    padded::pad(points, 0, &mut own);
-    let x = own[i];
-    powers::fill_powers(&own, m, &mut tables);
-    stripe_rows::stripe_rows(sizes, &tables, file, s, &mut rows);
-    share_rows(sizes, &tables, x, i, &rows, out);
-}
-
 // The share of board i of a file of so many stripes, to the beginning of out.
 pub fn share(sizes: Sizes, points: &[u8], i: usize, file: &[u8], count: usize, out: &mut [u8])
     requires { ⌜ (legal sizes ≡ true) × (i < sizes .n) × (length (now points) ≡ 32) × (count ≡ stripes sizes (length (now file))) × (count ≤ 4096) × (count * α sizes ≤ length (now out)) ⌝ }

@@ -4,6 +4,7 @@
 //!     coder --multiply
 //!     coder --products
 //!     coder --printer share|points
+//!     coder --sizes N
 //!
 //! First the figures of document 01 are run, in a run of 20,000 calls or more all products of two bytes are tried, and then random cases until so
 //! many calls are made: single calls at board level, single calls of the store over made-up records and areas, long histories against a ledger,
@@ -12,8 +13,9 @@
 //! the case's number: `--only` repeats one case.
 //! `--wrong` alters what the archive answers to one call, to show that this is reported. `--trace` prints each call before it is made,
 //! `--verbose` how often each call gave each refusal, with which points, and how often an altered byte was accepted and refused. `--multiply` tries
-//! all products and quotients through the archive and nothing else. `--products` and `--printer` make no call: the one writes all products and
-//! inverses of the coder's own field, the other reads standard input and writes what the share printer or the points printer must write for it.
+//! all products and quotients through the archive and nothing else. `--products`, `--printer` and `--sizes` make no call: the first writes all products
+//! and inverses of the coder's own field, the second reads standard input and writes what the share printer or the points printer must write for it,
+//! the third writes a line for each legal combination of sizes with at most N boards (request A.12).
 //!
 //! The last line counts calls and mismatches. The exit code is 1 where there is a mismatch, or where in a run of 20,000 calls or more some
 //! refusal that a call can give was never met, a kind of points, or DISAGREE for a kind of altered byte.
@@ -34,6 +36,7 @@ mod points;
 mod printer;
 mod products;
 mod random;
+mod size_list;
 mod spoil;
 mod store;
 mod store_cases;
@@ -61,6 +64,7 @@ struct Options {
     multiply: bool,
     products: bool,
     printer: Option<Printer>,
+    sizes: Option<u64>,
 }
 
 fn options() -> Result<Options, String> {
@@ -74,6 +78,7 @@ fn options() -> Result<Options, String> {
         multiply: false,
         products: false,
         printer: None,
+        sizes: None,
     };
     let mut words = std::env::args().skip(1);
     while let Some(word) = words.next() {
@@ -90,6 +95,7 @@ fn options() -> Result<Options, String> {
             "--multiply" => options.multiply = true,
             "--products" => options.products = true,
             "--printer" => options.printer = Some(printer_named(words.next())?),
+            "--sizes" => options.sizes = Some(number()?),
             "--wrong" => options.wrong = Some(wrong_kind(words.next())?),
             _ => return Err(format!("{word}: not an option")),
         }
@@ -173,6 +179,14 @@ fn run_case(trial: &mut Trial, case: u64) {
     }
 }
 
+/// Writes bytes to standard output.
+fn write(bytes: &[u8]) -> ExitCode {
+    match std::io::stdout().write_all(bytes) {
+        Ok(()) => ExitCode::SUCCESS,
+        Err(_) => ExitCode::FAILURE,
+    }
+}
+
 fn main() -> ExitCode {
     let options = match options() {
         Ok(options) => options,
@@ -186,6 +200,9 @@ fn main() -> ExitCode {
     }
     if let Some(printer) = options.printer {
         return write(&print(printer));
+    }
+    if let Some(most) = options.sizes {
+        return write(size_list::lines(most as usize).as_bytes());
     }
     tell_where(options.seed);
     // a fault in the first three quarters, so that a call that fits it follows

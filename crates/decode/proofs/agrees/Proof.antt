@@ -23,32 +23,20 @@ use Rattle.decode.proofs.agrees.Statement.{statement}
 use Rattle.decode.proofs.agrees.Tie as tie
 
 -- places in the code
-abbrev start-from-else1 : tie.Else1 → tie.Start
-start-from-else1 c = c .before .before .before .before .before .before .before
+abbrev st-lent-bytes : tie.After-shared-slice-known4 → tie.Start
+st-lent-bytes c = c .before .before .before .before
 
-abbrev start-from-after-stripe-len : tie.After-stripe-len → tie.Start
-start-from-after-stripe-len c = c .before .before .before .before .before .before .before .before
+abbrev st-stripe-len : tie.After-stripe-len → tie.Start
+st-stripe-len c = st-lent-bytes (c .before .before .before .before)
 
-abbrev start-from-after-shared-slice-known5 : tie.After-shared-slice-known5 → tie.Start
-start-from-after-shared-slice-known5 c = c .before .before .before .before .before
+abbrev lent-bytes-at-else2 : tie.Else2 → tie.After-shared-slice-known4
+lent-bytes-at-else2 c = c .before .before .before .before .before
 
-abbrev start-from-then1 : tie.Then1 → tie.Start
-start-from-then1 c = c .before .before .before .before .before .before .before
+abbrev lent-bytes-at-padding : tie.After-padding → tie.After-shared-slice-known4
+lent-bytes-at-padding c = c .before .before .before .before .before .before
 
-abbrev start-from-then2 : tie.Then2 → tie.Start
-start-from-then2 c = c .before .before .before .before .before .before .before .before .before
-
-abbrev start-from-after-padding : tie.After-padding → tie.Start
-start-from-after-padding c = c .before .before .before .before .before .before .before .before .before .before
-
-abbrev after-shared-slice-known4-from-after-padding : tie.After-padding → tie.After-shared-slice-known4
-after-shared-slice-known4-from-after-padding c = c .before .before .before .before .before .before
-
-abbrev start-from-else2 : tie.Else2 → tie.Start
-start-from-else2 c = c .before .before .before .before .before .before .before .before .before
-
-abbrev after-shared-slice-known4-from-else2 : tie.Else2 → tie.After-shared-slice-known4
-after-shared-slice-known4-from-else2 c = c .before .before .before .before .before
+abbrev st-padding : tie.After-padding → tie.Start
+st-padding c = st-lent-bytes (lent-bytes-at-padding c)
 
 -- the sizes are legal
 facts : (c : tie.Start) → Legal (c .args .sizes)
@@ -58,8 +46,8 @@ facts c = legal-facts _ (c .pre .0 .sized)
 known : (c : tie.Start) → Boards (c .args .sizes) (c .args .boards .now)
 known c = boards-of (c .args .sizes) (c .args .boards .now) (c .pre .0 .known) (c .pre .0 .unlike)
 
-bytes : (c : tie.After-shared-slice-known4) → Bytes ((c .before .before .before .before) .args .bytes .now)
-bytes c = all-of (λ b. b < 256) 0 ((c .before .before .before .before) .args .bytes .now) (λ i h. omega (arith, c .shared-slice-known4 .given i))
+bytes : (c : tie.After-shared-slice-known4) → Bytes (st-lent-bytes c .args .bytes .now)
+bytes c = all-of (λ b. b < 256) 0 (st-lent-bytes c .args .bytes .now) (λ i h. omega (arith, c .shared-slice-known4 .given i))
 
 -- whether the pairs meet
 abbrev meeting : tie.Start → Bool
@@ -67,32 +55,32 @@ meeting c =
     let a = c .args in
     alls (tabulate (a .stripes) (λ s. pairsMeet (a .sizes) (a .points .now) (a .boards .now) (heldAt (a .sizes) (a .starts .now) (a .bytes .now) s)))
 
-met : (c : tie.Else1) → meeting (start-from-else1 c) ≡ true
-met c = sym ((c .before) .pairs-meet .ensures) ∙ not-false ((c .before) .pairs-meet .result) (c .if1 .left)
+met : (c : tie.Else1) → meeting (st-lent-bytes (c .before .before .before)) ≡ true
+met c = sym (c .before .pairs-meet .ensures) ∙ not-false (c .before .pairs-meet .result) (c .if1 .left)
 
 -- the length of a stripe
-whole : (c : tie.After-stripe-len) → c .stripe-len .result ≡ B ((start-from-after-stripe-len c) .args .sizes)
-whole c = c .stripe-len .ensures ∙ ap (λ b. pick b (B ((start-from-after-stripe-len c) .args .sizes)) 0) ((start-from-after-stripe-len c) .pre .0 .sized)
+whole : (c : tie.After-stripe-len) → c .stripe-len .result ≡ B (st-stripe-len c .args .sizes)
+whole c = c .stripe-len .ensures ∙ ap (λ b. pick b (B (st-stripe-len c .args .sizes)) 0) (st-stripe-len c .pre .0 .sized)
 
 some : (c : tie.After-stripe-len) → 0 < c .stripe-len .result
-some c = omega (arith, whole c, B-pos _ (facts (start-from-after-stripe-len c)))
+some c = omega (arith, whole c, B-pos _ (facts (st-stripe-len c)))
 
 -- the bytes of the stripes that are not cut
-before : (c : tie.After-stripe-len) → let b = c .stripe-len .result in let L = (start-from-after-stripe-len c) .args .len in (L / b * b ≤ L) × (L - L / b * b < b)
+before : (c : tie.After-stripe-len) → let b = c .stripe-len .result in let L = st-stripe-len c .args .len in (L / b * b ≤ L) × (L - L / b * b < b)
 before c =
     let b = c .stripe-len .result in
-    let L = (start-from-after-stripe-len c) .args .len in
+    let L = st-stripe-len c .args .len in
     (omega (arith, div-add-mod' L b), omega (arith, div-add-mod' L b, mod-lt L (some c)))
 
 pairs-meet-requires : tie.Need-pairs-meet-requires
-pairs-meet-requires c κs = let p = (start-from-after-shared-slice-known5 c) .pre in (p .0, p .1, p .2, p .3, p .5)
+pairs-meet-requires c κs = let p = st-lent-bytes (c .before) .pre in (p .0, p .1, p .2, p .3, p .5)
 
 returns : tie.Need-returns
 returns c =
-    let g = (start-from-then1 c) in
+    let g = st-lent-bytes (c .before .before .before) in
     let a = g .args in
     let p = g .pre in
-    let k = (c .before) in
+    let k = c .before in
     no-pairs (a .sizes) (a .points .now) (facts g) (p .0 .distinct) (a .boards .now) (known g) (p .0 .counted) (a .len) (a .stripes) (p .4) (a .starts .now) (a .bytes .now) (p .1) (p .2)
     (bytes (c .before .before .before)) (sym (k .pairs-meet .ensures) ∙ not-true (k .pairs-meet .result) (c .if1 .taken))
 
@@ -110,10 +98,10 @@ sub-rest c = before (c .before) .0
 
 padding-requires : tie.Need-padding-requires
 padding-requires c κs =
-    let g = (start-from-then2 c) in
+    let g = st-stripe-len (c .before) in
     let a = g .args in
     let p = g .pre in
-    let k = (c .before) in (
+    let k = c .before in (
       p .0,
       p .1,
       placed-before (a .sizes) (a .starts .now) (a .bytes .now) (a .len / k .stripe-len .result + 1) (a .stripes) (omega (arith, c .if2 .taken)) (p .2),
@@ -124,22 +112,22 @@ padding-requires c κs =
 
 returns-2 : tie.Need-returns-2
 returns-2 c =
-    let g = (start-from-after-padding c) in
+    let g = st-padding c in
     let a = g .args in
     let p = g .pre in
-    let k = (c .before .before) in
+    let k = c .before .before in
     c .padding .ensures
     ∙ last-cut (a .sizes) (a .points .now) (facts g) (p .0 .distinct) (a .boards .now) (known g) (p .0 .counted) (a .len) (a .stripes) (p .4) (a .starts .now) (a .bytes .now) (p .1) (p .2)
-    (bytes (after-shared-slice-known4-from-after-padding c)) (met (c .before .before .before)) (k .stripe-len .result) (whole k) ((c .before) .if2 .taken)
+    (bytes (lent-bytes-at-padding c)) (met (c .before .before .before)) (k .stripe-len .result) (whole k) (c .before .if2 .taken)
 
 returns-3 : tie.Need-returns-3
 returns-3 c =
-    let g = (start-from-else2 c) in
+    let g = st-stripe-len (c .before) in
     let a = g .args in
     let p = g .pre in
-    let k = (c .before) in
+    let k = c .before in
     none-cut (a .sizes) (a .points .now) (facts g) (p .0 .distinct) (a .boards .now) (known g) (p .0 .counted) (a .len) (a .stripes) (p .4) (a .starts .now) (a .bytes .now) (p .1) (p .2)
-    (bytes (after-shared-slice-known4-from-else2 c)) (met (c .before .before)) (k .stripe-len .result) (whole k) (c .if2 .left)
+    (bytes (lent-bytes-at-else2 c)) (met (c .before .before)) (k .stripe-len .result) (whole k) (c .if2 .left)
 
 pub agrees-spec : {M : Type 1} → statement M
 agrees-spec =

@@ -14,11 +14,8 @@ use Rattle.decode.proofs.file.Statement.{statement}
 use Rattle.decode.proofs.file.Tie as tie
 
 -- places in the code
-abbrev start-from-after-stripes-arg : tie.After-stripes-arg → tie.Start
-start-from-after-stripes-arg c = c .before .before .before .before .before .before .before
-
-abbrev start-from-after-slice-known2 : tie.After-slice-known2 → tie.Start
-start-from-after-slice-known2 c = c .before .before .before .before .before .before .before .before .before .before
+abbrev st-stripes-arg : tie.After-stripes-arg → tie.Start
+st-stripes-arg c = c .before .before .before .before .before .before .before
 
 -- the sizes are legal
 facts : (c : tie.Start) → Legal (c .args .sizes)
@@ -35,7 +32,7 @@ part-stripes-end c = search needs
 
 stripes-requires : tie.Need-stripes-requires
 stripes-requires c κs =
-    let g = (start-from-after-stripes-arg c) in
+    let g = st-stripes-arg c in
     let a = g .args in
     let p = g .pre in
     let l = part-long (a .len) (a .out .now) (p .6) in (
@@ -53,11 +50,11 @@ same-length c = search needs
 
 returns : tie.Need-returns
 returns c =
-    let g = (start-from-after-slice-known2 c) in
+    let g = st-stripes-arg (c .before .before .before) in
     let a = g .args in
     let p = g .pre in
     file-made (a .sizes) (a .points .now) (facts g) (p .0 .distinct) (a .boards .now) (boards-of (a .sizes) (a .boards .now) (p .0 .known) (p .0 .unlike)) (p .0 .counted) (a .len) (a .stripes) (p .4)
-    (a .starts .now) (a .bytes .now) (p .1) (p .2) (a .out .now) _ (p .6) ((c .before .before) .stripes .ensures)
+    (a .starts .now) (a .bytes .now) (p .1) (p .2) (a .out .now) _ (p .6) (c .before .before .stripes .ensures)
 
 pub file-spec : {M : Type 1} → statement M
 file-spec =

@@ -19,46 +19,40 @@ use Rattle.decode.proofs.padding.Statement.{statement}
 use Rattle.decode.proofs.padding.Tie as tie
 
 -- places in the code
-abbrev start-from-after-u3 : tie.After-u3 → tie.Start
-start-from-after-u3 c = c .before .before .before .before .before .before .before .before .before .before
+abbrev st-stripe-len : tie.After-stripe-len → tie.Start
+st-stripe-len c = c .before .before .before .before .before .before
 
-abbrev start-from-after-stripe-len : tie.After-stripe-len → tie.Start
-start-from-after-stripe-len c = c .before .before .before .before .before .before
+abbrev st-u3 : tie.After-u3 → tie.Start
+st-u3 c = st-stripe-len (c .before .before .before .before)
 
-abbrev start-from-after-u : tie.After-u → tie.Start
-start-from-after-u c = c .before .before .before .before .before .before .before
+abbrev stripe-len-at-zeros : tie.After-zeros → tie.After-stripe-len
+stripe-len-at-zeros c = c .before .before .before .before .before .before
 
-abbrev start-from-after-u2 : tie.After-u2 → tie.Start
-start-from-after-u2 c = c .before .before .before .before .before .before .before .before .before
-
-abbrev start-from-after-zeros : tie.After-zeros → tie.Start
-start-from-after-zeros c = c .before .before .before .before .before .before .before .before .before .before .before .before
-
-abbrev after-stripe-len-from-after-zeros : tie.After-zeros → tie.After-stripe-len
-after-stripe-len-from-after-zeros c = c .before .before .before .before .before .before
+abbrev st-zeros : tie.After-zeros → tie.Start
+st-zeros c = st-stripe-len (stripe-len-at-zeros c)
 
 -- the sizes are legal
 facts : (c : tie.Start) → Legal (c .args .sizes)
 facts c = legal-facts _ (c .pre .0 .sized)
 
 -- the length of a stripe
-whole : (c : tie.After-stripe-len) → c .stripe-len .result ≡ B ((start-from-after-stripe-len c) .args .sizes)
-whole c = c .stripe-len .ensures ∙ ap (λ b. pick b (B ((start-from-after-stripe-len c) .args .sizes)) 0) ((start-from-after-stripe-len c) .pre .0 .sized)
+whole : (c : tie.After-stripe-len) → c .stripe-len .result ≡ B (st-stripe-len c .args .sizes)
+whole c = c .stripe-len .ensures ∙ ap (λ b. pick b (B (st-stripe-len c .args .sizes)) 0) (st-stripe-len c .pre .0 .sized)
 
 most : (c : tie.After-stripe-len) → c .stripe-len .result ≤ 992
-most c = omega (arith, whole c, B-most _ (facts (start-from-after-stripe-len c)))
+most c = omega (arith, whole c, B-most _ (facts (st-stripe-len c)))
 
 -- the stripe
 abbrev each : tie.Start → ℕ → List ℕ
 each c s = let a = c .args in stripeAt (a .sizes) (a .points .now) (a .boards .now) (a .starts .now) (a .bytes .now) s
 
-each-long : (c : tie.After-stripe-len) → length (each (start-from-after-stripe-len c) ((start-from-after-stripe-len c) .args .s)) ≡ c .stripe-len .result
+each-long : (c : tie.After-stripe-len) → length (each (st-stripe-len c) (st-stripe-len c .args .s)) ≡ c .stripe-len .result
 each-long c =
-    let g = (start-from-after-stripe-len c) in
+    let g = st-stripe-len c in
     let a = g .args in
     length-decoded (a .sizes) (a .points .now) (facts g) (a .boards .now) (g .pre .0 .counted) _ ∙ sym (whole c)
 
-y-long : (c : tie.After-stripes) → length (c .stripes .last .1 .1 .1 .1 .1 .1 .1 .1 .0) ≡ (c .before .before) .stripe-len .result
+y-long : (c : tie.After-stripes) → length (c .stripes .last .1 .1 .1 .1 .1 .1 .1 .1 .0) ≡ c .before .before .stripe-len .result
 y-long c = c .stripes .kept .1 .1 .1 .1 .1 .1 .1 .1 .0 ∙ part-long _ _ (most (c .before .before))
 
 stripe-len-requires : tie.Need-stripe-len-requires
@@ -75,16 +69,16 @@ part-u-end c = most c
 
 stripes-requires : tie.Need-stripes-requires
 stripes-requires c κs =
-    let g = (start-from-after-u c) in
+    let g = st-stripe-len (c .before) in
     let p = g .pre in
-    let k = (c .before) in
+    let k = c .before in
     (p .0, p .1, p .2, p .3, p .5, one-long _ _ _ (whole k) (most k), one-short _ _ _ (whole k) (most k))
 
 sub-zeros : tie.Need-sub-zeros
-sub-zeros c = omega (arith, whole (c .before .before .before), (start-from-after-u2 c) .pre .4)
+sub-zeros c = omega (arith, whole (c .before .before .before), st-stripe-len (c .before .before .before) .pre .4)
 
 part-zeros-start : tie.Need-part-zeros-start
-part-zeros-start c = omega (arith, whole (c .before .before .before .before), (start-from-after-u3 c) .pre .4)
+part-zeros-start c = omega (arith, whole (c .before .before .before .before), st-u3 c .pre .4)
 
 part-zeros-end : tie.Need-part-zeros-end
 part-zeros-end c = simp length-append (omega (arith, y-long (c .before .before), most (c .before .before .before .before)))
@@ -94,10 +88,11 @@ zeros-requires c κs = search needs
 
 returns : tie.Need-returns
 returns c =
-    let g = (start-from-after-zeros c) in
-    let k = (after-stripe-len-from-after-zeros c) in
+    let g = st-zeros c in
+    let k = stripe-len-at-zeros c in
+    let e = c .before .before .before .before .stripes .ensures in
     c .zeros .ensures
-    ∙ ap zeros (end-is (k .stripe-len .result) (g .args .s) (each g) _ _ (each-long k) (most k) ((c .before .before .before .before) .stripes .ensures) (g .args .rest) (omega (arith, whole k, g .pre .4)))
+    ∙ ap zeros (end-is (k .stripe-len .result) (g .args .s) (each g) _ _ (each-long k) (most k) e (g .args .rest) (omega (arith, whole k, g .pre .4)))
 
 pub padding-spec : {M : Type 1} → statement M
 padding-spec =

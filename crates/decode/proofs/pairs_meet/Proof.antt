@@ -15,32 +15,17 @@ use Rattle.decode.proofs.pairs_meet.Statement.{statement}
 use Rattle.decode.proofs.pairs_meet.Tie as tie
 
 -- places in the code
-abbrev start-from-after-struct-known : tie.After-struct-known → tie.Start
-start-from-after-struct-known c = c .before .before .before .before .before .before
+abbrev st-struct-known : tie.After-struct-known → tie.Start
+st-struct-known c = c .before .before .before .before .before .before
 
-abbrev start-from-after-struct-known2 : tie.After-struct-known2 → tie.Start
-start-from-after-struct-known2 c = c .before .before .before .before .before .before .before
+abbrev st-struct-known2 : tie.After-struct-known2 → tie.Start
+st-struct-known2 c = st-struct-known (c .before)
 
-abbrev start-from-after-struct-known3 : tie.After-struct-known3 → tie.Start
-start-from-after-struct-known3 c = c .before .before .before .before .before .before .before .before
+abbrev st-struct-known3 : tie.After-struct-known3 → tie.Start
+st-struct-known3 c = st-struct-known2 (c .before)
 
-abbrev start-from-after-stripes-meet-arg : tie.After-stripes-meet-arg → tie.Start
-start-from-after-stripes-meet-arg c = c .before .before .before .before .before .before .before .before .before
-
-abbrev start-from-after-stripes-meet-arg2 : tie.After-stripes-meet-arg2 → tie.Start
-start-from-after-stripes-meet-arg2 c = c .before .before .before .before .before .before .before .before .before .before
-
-abbrev start-from-after-fs : tie.After-fs → tie.Start
-start-from-after-fs c = c .before .before .before .before .before .before .before .before .before .before .before
-
-abbrev start-from-after-gs : tie.After-gs → tie.Start
-start-from-after-gs c = c .before .before .before .before .before .before .before .before .before .before .before .before
-
-abbrev start-from-after-fv : tie.After-fv → tie.Start
-start-from-after-fv c = c .before .before .before .before .before .before .before .before .before .before .before .before .before
-
-abbrev start-from-after-gv : tie.After-gv → tie.Start
-start-from-after-gv c = c .before .before .before .before .before .before .before .before .before .before .before .before .before .before
+abbrev st-gs : tie.After-gs → tie.Start
+st-gs c = st-struct-known3 (c .before .before .before .before)
 
 -- the sizes are legal
 facts : (c : tie.Start) → Legal (c .args .sizes)
@@ -54,34 +39,34 @@ squares c =
     omega arith
 
 add-w : tie.Need-add-w
-add-w c = omega (arith, facts (start-from-after-struct-known c))
+add-w c = omega (arith, facts (st-struct-known c))
 
 sub-f-end : tie.Need-sub-f-end
-sub-f-end c = omega (arith, facts (start-from-after-struct-known2 c))
+sub-f-end c = omega (arith, facts (st-struct-known2 c))
 
 mul-f-end : tie.Need-mul-f-end
-mul-f-end c = omega (arith, facts (start-from-after-struct-known2 c))
+mul-f-end c = omega (arith, facts (st-struct-known2 c))
 
 mul-f-end-2 : tie.Need-mul-f-end-2
-mul-f-end-2 c = omega (arith, f-few _ (facts (start-from-after-struct-known2 c)))
+mul-f-end-2 c = omega (arith, f-few _ (facts (st-struct-known2 c)))
 
 sub-g-end : tie.Need-sub-g-end
-sub-g-end c = omega (arith, facts (start-from-after-struct-known3 c))
+sub-g-end c = omega (arith, facts (st-struct-known3 c))
 
 mul-g-end : tie.Need-mul-g-end
-mul-g-end c = omega (arith, facts (start-from-after-struct-known3 c))
+mul-g-end c = omega (arith, facts (st-struct-known3 c))
 
 mul-g-end-2 : tie.Need-mul-g-end-2
-mul-g-end-2 c = omega (arith, g-few _ (facts (start-from-after-struct-known3 c)))
+mul-g-end-2 c = omega (arith, g-few _ (facts (st-struct-known3 c)))
 
 add-g-end : tie.Need-add-g-end
-add-g-end c = omega (arith, g-few _ (facts (start-from-after-struct-known3 c)))
+add-g-end c = omega (arith, g-few _ (facts (st-struct-known3 c)))
 
 mul-kept : tie.Need-mul-kept
-mul-kept c = omega (arith, facts (start-from-after-struct-known3 c))
+mul-kept c = omega (arith, facts (st-struct-known3 c))
 
 mul-square : tie.Need-mul-square
-mul-square c = omega (arith, squares (start-from-after-struct-known3 c))
+mul-square c = omega (arith, squares (st-struct-known3 c))
 
 sub-stripes-meet : tie.Need-sub-stripes-meet
 sub-stripes-meet c = search needs
@@ -90,7 +75,7 @@ part-stripes-meet-start : tie.Need-part-stripes-meet-start
 part-stripes-meet-start c = search needs
 
 part-stripes-meet-end : tie.Need-part-stripes-meet-end
-part-stripes-meet-end c = omega (arith, f-few _ (facts (start-from-after-struct-known3 c)), (start-from-after-struct-known3 c) .pre .4 .long)
+part-stripes-meet-end c = omega (arith, f-few _ (facts (st-struct-known3 c)), st-struct-known3 c .pre .4 .long)
 
 sub-stripes-meet-2 : tie.Need-sub-stripes-meet-2
 sub-stripes-meet-2 c = search needs
@@ -99,7 +84,7 @@ part-stripes-meet-start-2 : tie.Need-part-stripes-meet-start-2
 part-stripes-meet-start-2 c = search needs
 
 part-stripes-meet-end-2 : tie.Need-part-stripes-meet-end-2
-part-stripes-meet-end-2 c = omega (arith, g-few _ (facts (start-from-after-stripes-meet-arg c)), (start-from-after-stripes-meet-arg c) .pre .4 .long)
+part-stripes-meet-end-2 c = omega (arith, g-few _ (facts (st-struct-known3 (c .before))), st-struct-known3 (c .before) .pre .4 .long)
 
 sub-stripes-meet-3 : tie.Need-sub-stripes-meet-3
 sub-stripes-meet-3 c = search needs
@@ -108,7 +93,7 @@ part-fs-start : tie.Need-part-fs-start
 part-fs-start c = search needs
 
 part-fs-end : tie.Need-part-fs-end
-part-fs-end c = omega (arith, facts (start-from-after-stripes-meet-arg2 c))
+part-fs-end c = omega (arith, facts (st-struct-known3 (c .before .before)))
 
 sub-stripes-meet-4 : tie.Need-sub-stripes-meet-4
 sub-stripes-meet-4 c = search needs
@@ -117,7 +102,7 @@ part-gs-start : tie.Need-part-gs-start
 part-gs-start c = search needs
 
 part-gs-end : tie.Need-part-gs-end
-part-gs-end c = omega (arith, facts (start-from-after-fs c))
+part-gs-end c = omega (arith, facts (st-struct-known3 (c .before .before .before)))
 
 sub-stripes-meet-5 : tie.Need-sub-stripes-meet-5
 sub-stripes-meet-5 c = search needs
@@ -126,7 +111,7 @@ part-fv-start : tie.Need-part-fv-start
 part-fv-start c = search needs
 
 part-fv-end : tie.Need-part-fv-end
-part-fv-end c = squares (start-from-after-gs c)
+part-fv-end c = squares (st-gs c)
 
 sub-stripes-meet-6 : tie.Need-sub-stripes-meet-6
 sub-stripes-meet-6 c = search needs
@@ -135,11 +120,11 @@ part-gv-start : tie.Need-part-gv-start
 part-gv-start c = search needs
 
 part-gv-end : tie.Need-part-gv-end
-part-gv-end c = squares (start-from-after-fv c)
+part-gv-end c = squares (st-gs (c .before))
 
 stripes-meet-requires : tie.Need-stripes-meet-requires
 stripes-meet-requires c κs =
-    let g = (start-from-after-gv c) in
+    let g = st-gs (c .before .before) in
     let a = g .args in
     let p = g .pre in
     let f = facts g in

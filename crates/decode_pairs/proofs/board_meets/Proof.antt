@@ -24,27 +24,21 @@ abbrev μ-loop : tie.MeasureT-loop
 μ-loop k i fv gv j₀ j = k - j
 
 -- places in the code
-abbrev at-loop-from-then1 : tie.Then1 Inv-loop μ-loop → tie.At-loop Inv-loop μ-loop
-at-loop-from-then1 c = c .before .before .before .before
+abbrev loop-at-then1 : tie.Then1 Inv-loop μ-loop → tie.At-loop Inv-loop μ-loop
+loop-at-then1 c = c .before .before .before .before
 
-abbrev start-from-then1 : tie.Then1 Inv-loop μ-loop → tie.Start Inv-loop μ-loop
-start-from-then1 c = c .before .before .before .before .before
-
-abbrev at-loop-from-else1 : tie.Else1 Inv-loop μ-loop → tie.At-loop Inv-loop μ-loop
-at-loop-from-else1 c = c .before .before .before .before
-
-abbrev start-from-else1 : tie.Else1 Inv-loop μ-loop → tie.Start Inv-loop μ-loop
-start-from-else1 c = c .before .before .before .before .before
+abbrev loop-at-else1 : tie.Else1 Inv-loop μ-loop → tie.At-loop Inv-loop μ-loop
+loop-at-else1 c = c .before .before .before .before
 
 -- the tests
 abbrev tests : tie.Start Inv-loop μ-loop → ℕ → Bool
 tests g = let a = g .args in λ j. eqb (getD (a .fv .now) (a .i * a .k + j) 0) (getD (a .gv .now) (j * a .k + a .i) 0)
 
 -- where the rows of a turn end
-end-f : (c : tie.In-loop Inv-loop μ-loop) → let a = (c .before .before) .args in a .i * a .k + a .k ≤ a .k * a .k
-end-f c = row-fits _ _ _ ((c .before .before) .pre .1)
+end-f : (c : tie.In-loop Inv-loop μ-loop) → let a = c .before .before .args in a .i * a .k + a .k ≤ a .k * a .k
+end-f c = row-fits _ _ _ (c .before .before .pre .1)
 
-end-g : (c : tie.In-loop Inv-loop μ-loop) → let a = (c .before .before) .args in (c .before) .loop .j * a .k + a .k ≤ a .k * a .k
+end-g : (c : tie.In-loop Inv-loop μ-loop) → let a = c .before .before .args in c .before .loop .j * a .k + a .k ≤ a .k * a .k
 end-g c = row-fits _ _ _ (c .loop-test .taken)
 
 loop-holds : tie.Need-loop-holds Inv-loop μ-loop
@@ -70,8 +64,8 @@ shared-slice-read-if1-2 c = omega (arith, end-g (c .before .before))
 
 returns : tie.Need-returns Inv-loop μ-loop
 returns c =
-    let l = (at-loop-from-then1 c) .loop in
-    sym (sym (l .inv .0) ∙ alls-no (tests (start-from-then1 c)) ((start-from-then1 c) .args .k) (l .j) ((c .before .before .before) .loop-test .taken) (ne-eqb _ _ (c .if1 .taken)))
+    let l = loop-at-then1 c .loop in
+    sym (sym (l .inv .0) ∙ alls-no (tests (loop-at-then1 c .before)) ((loop-at-then1 c .before) .args .k) (l .j) (c .before .before .before .loop-test .taken) (ne-eqb _ _ (c .if1 .taken)))
 
 add-j : tie.Need-add-j Inv-loop μ-loop
 add-j c = search needs
@@ -81,13 +75,13 @@ loop-less c = search needs
 
 loop-again : tie.Need-loop-again Inv-loop μ-loop
 loop-again c =
-    let l = (at-loop-from-else1 c) .loop in
-    (alls-next (tests (start-from-else1 c)) ((start-from-else1 c) .args .k) (l .j) ((c .before .before .before) .loop-test .taken) (eq-eqb _ _ (c .if1 .left)) ∙ l .inv .0, omega arith)
+    let l = loop-at-else1 c .loop in
+    (alls-next (tests (loop-at-else1 c .before)) ((loop-at-else1 c .before) .args .k) (l .j) (c .before .before .before .loop-test .taken) (eq-eqb _ _ (c .if1 .left)) ∙ l .inv .0, omega arith)
 
 returns-2 : tie.Need-returns-2 Inv-loop μ-loop
 returns-2 c =
-    let l = (c .before) .loop in
-    sym (sym (l .inv .0) ∙ alls-end (tests (c .before .before)) ((c .before .before) .args .k) (l .j) (c .loop-test .left))
+    let l = c .before .loop in
+    sym (sym (l .inv .0) ∙ alls-end (tests (c .before .before)) (c .before .before .args .k) (l .j) (c .loop-test .left))
 
 pub board-meets-spec : {M : Type 1} → statement M
 board-meets-spec =

@@ -26,38 +26,35 @@ abbrev μ-loop : tie.MeasureT-loop
 μ-loop sizes points boards starts bytes stripes ff gf fs₀ gs₀ fv₀ gv₀ s₀ fs gs fv gv s = stripes - s
 
 -- places in the code
-abbrev start-from-after-stripe-meets-arg4 : tie.After-stripe-meets-arg4 Inv-loop μ-loop → tie.Start Inv-loop μ-loop
-start-from-after-stripe-meets-arg4 c = c .before .before .before .before .before .before .before .before .before .before .before .before .before .before .before .before
+abbrev st-loop : tie.At-loop Inv-loop μ-loop → tie.Start Inv-loop μ-loop
+st-loop c = c .before .before .before .before .before .before .before .before .before .before .before
 
-abbrev at-loop-from-after-stripe-meets-arg4 : tie.After-stripe-meets-arg4 Inv-loop μ-loop → tie.At-loop Inv-loop μ-loop
-at-loop-from-after-stripe-meets-arg4 c = c .before .before .before .before .before
+abbrev loop-at-stripe-meets-arg4 : tie.After-stripe-meets-arg4 Inv-loop μ-loop → tie.At-loop Inv-loop μ-loop
+loop-at-stripe-meets-arg4 c = c .before .before .before .before .before
 
-abbrev at-loop-from-then1 : tie.Then1 Inv-loop μ-loop → tie.At-loop Inv-loop μ-loop
-at-loop-from-then1 c = c .before .before .before .before .before .before .before .before .before .before .before .before .before .before .before
+abbrev st-stripe-meets-arg4 : tie.After-stripe-meets-arg4 Inv-loop μ-loop → tie.Start Inv-loop μ-loop
+st-stripe-meets-arg4 c = st-loop (loop-at-stripe-meets-arg4 c)
 
-abbrev start-from-then1 : tie.Then1 Inv-loop μ-loop → tie.Start Inv-loop μ-loop
-start-from-then1 c = c .before .before .before .before .before .before .before .before .before .before .before .before .before .before .before .before .before .before .before .before .before .before .before .before .before .before
+abbrev turn-at-stripe-meets : tie.After-stripe-meets Inv-loop μ-loop → tie.In-loop Inv-loop μ-loop
+turn-at-stripe-meets c = c .before .before .before .before .before
 
-abbrev in-loop-from-then1 : tie.Then1 Inv-loop μ-loop → tie.In-loop Inv-loop μ-loop
-in-loop-from-then1 c = c .before .before .before .before .before .before .before .before .before .before .before .before .before .before
+abbrev stripe-meets-at-then1 : tie.Then1 Inv-loop μ-loop → tie.After-stripe-meets Inv-loop μ-loop
+stripe-meets-at-then1 c = c .before .before .before .before .before .before .before .before .before
 
-abbrev after-stripe-meets-from-then1 : tie.Then1 Inv-loop μ-loop → tie.After-stripe-meets Inv-loop μ-loop
-after-stripe-meets-from-then1 c = c .before .before .before .before .before .before .before .before .before
+abbrev stripe-meets-at-else1 : tie.Else1 Inv-loop μ-loop → tie.After-stripe-meets Inv-loop μ-loop
+stripe-meets-at-else1 c = c .before .before .before .before .before .before .before .before .before
 
-abbrev at-loop-from-else1 : tie.Else1 Inv-loop μ-loop → tie.At-loop Inv-loop μ-loop
-at-loop-from-else1 c = c .before .before .before .before .before .before .before .before .before .before .before .before .before .before .before
+abbrev turn-at-then1 : tie.Then1 Inv-loop μ-loop → tie.In-loop Inv-loop μ-loop
+turn-at-then1 c = turn-at-stripe-meets (stripe-meets-at-then1 c)
 
-abbrev start-from-else1 : tie.Else1 Inv-loop μ-loop → tie.Start Inv-loop μ-loop
-start-from-else1 c = c .before .before .before .before .before .before .before .before .before .before .before .before .before .before .before .before .before .before .before .before .before .before .before .before .before .before
+abbrev turn-at-else1 : tie.Else1 Inv-loop μ-loop → tie.In-loop Inv-loop μ-loop
+turn-at-else1 c = turn-at-stripe-meets (stripe-meets-at-else1 c)
 
-abbrev in-loop-from-else1 : tie.Else1 Inv-loop μ-loop → tie.In-loop Inv-loop μ-loop
-in-loop-from-else1 c = c .before .before .before .before .before .before .before .before .before .before .before .before .before .before
+abbrev st-then1 : tie.Then1 Inv-loop μ-loop → tie.Start Inv-loop μ-loop
+st-then1 c = st-stripe-meets-arg4 (stripe-meets-at-then1 c .before)
 
-abbrev after-stripe-meets-from-else1 : tie.Else1 Inv-loop μ-loop → tie.After-stripe-meets Inv-loop μ-loop
-after-stripe-meets-from-else1 c = c .before .before .before .before .before .before .before .before .before
-
-abbrev start-from-after-loop : tie.After-loop Inv-loop μ-loop → tie.Start Inv-loop μ-loop
-start-from-after-loop c = c .before .before .before .before .before .before .before .before .before .before .before .before
+abbrev st-else1 : tie.Else1 Inv-loop μ-loop → tie.Start Inv-loop μ-loop
+st-else1 c = st-stripe-meets-arg4 (stripe-meets-at-else1 c .before)
 
 -- the tests
 abbrev tests : tie.Start Inv-loop μ-loop → ℕ → Bool
@@ -68,9 +65,9 @@ loop-holds c = (refl, omega arith, refl, refl, refl, refl)
 
 stripe-meets-requires : tie.Need-stripe-meets-requires Inv-loop μ-loop
 stripe-meets-requires c κs =
-    let g = (start-from-after-stripe-meets-arg4 c) in
+    let g = st-stripe-meets-arg4 c in
     let a = g .args in
-    let l = (at-loop-from-after-stripe-meets-arg4 c) .loop in (
+    let l = loop-at-stripe-meets-arg4 c .loop in (
       g .pre .0,
       g .pre .1,
       g .pre .2,
@@ -100,9 +97,9 @@ same-length-4 c = search needs
 
 returns : tie.Need-returns Inv-loop μ-loop
 returns c =
-    let l = (at-loop-from-then1 c) .loop in
-    sym (sym (l .inv .0) ∙ alls-no (tests (start-from-then1 c)) ((start-from-then1 c) .args .stripes) (l .s) ((in-loop-from-then1 c) .loop-test .taken)
-    (sym ((after-stripe-meets-from-then1 c) .stripe-meets .ensures) ∙ not-true ((after-stripe-meets-from-then1 c) .stripe-meets .result) (c .if1 .taken)))
+    let l = (turn-at-then1 c .before) .loop in
+    sym (sym (l .inv .0) ∙ alls-no (tests (st-then1 c)) (st-then1 c .args .stripes) (l .s) (turn-at-then1 c .loop-test .taken)
+    (sym (stripe-meets-at-then1 c .stripe-meets .ensures) ∙ not-true (stripe-meets-at-then1 c .stripe-meets .result) (c .if1 .taken)))
 
 add-s : tie.Need-add-s Inv-loop μ-loop
 add-s c = search needs
@@ -112,9 +109,9 @@ loop-less c = search needs
 
 loop-again : tie.Need-loop-again Inv-loop μ-loop
 loop-again c =
-    let l = (at-loop-from-else1 c) .loop in (
-      alls-next (tests (start-from-else1 c)) ((start-from-else1 c) .args .stripes) (l .s) ((in-loop-from-else1 c) .loop-test .taken)
-          (sym ((after-stripe-meets-from-else1 c) .stripe-meets .ensures) ∙ not-false ((after-stripe-meets-from-else1 c) .stripe-meets .result) (c .if1 .left)) ∙ l .inv .0,
+    let l = (turn-at-else1 c .before) .loop in (
+      alls-next (tests (st-else1 c)) (st-else1 c .args .stripes) (l .s) (turn-at-else1 c .loop-test .taken)
+          (sym (stripe-meets-at-else1 c .stripe-meets .ensures) ∙ not-false (stripe-meets-at-else1 c .stripe-meets .result) (c .if1 .left)) ∙ l .inv .0,
       omega arith,
       search
           needs,
@@ -137,8 +134,8 @@ same-length-8 c = search needs
 
 returns-2 : tie.Need-returns-2 Inv-loop μ-loop
 returns-2 c =
-    let l = (c .before) .loop in
-    sym (sym (l .inv .0) ∙ alls-end (tests (start-from-after-loop c)) ((start-from-after-loop c) .args .stripes) (l .s) (c .loop-test .left))
+    let l = c .before .loop in
+    sym (sym (l .inv .0) ∙ alls-end (tests (st-loop (c .before))) (st-loop (c .before) .args .stripes) (l .s) (c .loop-test .left))
 
 pub stripes-meet-spec : {M : Type 1} → statement M
 stripes-meet-spec =

@@ -24,14 +24,14 @@ abbrev μ-loop : tie.MeasureT-loop
 μ-loop k fv gv i₀ i = k - i
 
 -- places in the code
-abbrev start-from-then1 : tie.Then1 Inv-loop μ-loop → tie.Start Inv-loop μ-loop
-start-from-then1 c = c .before .before .before .before .before .before
+abbrev st-loop : tie.After-loop Inv-loop μ-loop → tie.Start Inv-loop μ-loop
+st-loop c = c .before .before .before .before
 
-abbrev start-from-else1 : tie.Else1 Inv-loop μ-loop → tie.Start Inv-loop μ-loop
-start-from-else1 c = c .before .before .before .before .before .before
+abbrev st-then1 : tie.Then1 Inv-loop μ-loop → tie.Start Inv-loop μ-loop
+st-then1 c = c .before .before .before .before .before .before
 
-abbrev start-from-after-loop : tie.After-loop Inv-loop μ-loop → tie.Start Inv-loop μ-loop
-start-from-after-loop c = c .before .before .before .before
+abbrev st-else1 : tie.Else1 Inv-loop μ-loop → tie.Start Inv-loop μ-loop
+st-else1 c = c .before .before .before .before .before .before
 
 -- the tests
 abbrev tests : tie.Start Inv-loop μ-loop → ℕ → Bool
@@ -46,9 +46,9 @@ board-meets-requires c κs = search needs
 returns : tie.Need-returns Inv-loop μ-loop
 unfolding meets
 returns c =
-    let l = (c .before .before .before) .loop in
-    sym (sym (l .inv .0) ∙ alls-no (tests (start-from-then1 c)) ((start-from-then1 c) .args .k) (l .i) ((c .before .before) .loop-test .taken)
-    (sym ((c .before) .board-meets .ensures) ∙ not-true ((c .before) .board-meets .result) (c .if1 .taken)))
+    let l = c .before .before .before .loop in
+    sym (sym (l .inv .0) ∙ alls-no (tests (st-then1 c)) (st-then1 c .args .k) (l .i) (c .before .before .loop-test .taken)
+    (sym (c .before .board-meets .ensures) ∙ not-true (c .before .board-meets .result) (c .if1 .taken)))
 
 add-i : tie.Need-add-i Inv-loop μ-loop
 add-i c = search needs
@@ -58,17 +58,17 @@ loop-less c = search needs
 
 loop-again : tie.Need-loop-again Inv-loop μ-loop
 loop-again c =
-    let l = (c .before .before .before) .loop in (
-      alls-next (tests (start-from-else1 c)) ((start-from-else1 c) .args .k) (l .i) ((c .before .before) .loop-test .taken)
-          (sym ((c .before) .board-meets .ensures) ∙ not-false ((c .before) .board-meets .result) (c .if1 .left)) ∙ l .inv .0,
+    let l = c .before .before .before .loop in (
+      alls-next (tests (st-else1 c)) (st-else1 c .args .k) (l .i) (c .before .before .loop-test .taken)
+          (sym (c .before .board-meets .ensures) ∙ not-false (c .before .board-meets .result) (c .if1 .left)) ∙ l .inv .0,
       omega arith,
     )
 
 returns-2 : tie.Need-returns-2 Inv-loop μ-loop
 unfolding meets
 returns-2 c =
-    let l = (c .before) .loop in
-    sym (sym (l .inv .0) ∙ alls-end (tests (start-from-after-loop c)) ((start-from-after-loop c) .args .k) (l .i) (c .loop-test .left))
+    let l = c .before .loop in
+    sym (sym (l .inv .0) ∙ alls-end (tests (st-loop c)) (st-loop c .args .k) (l .i) (c .loop-test .left))
 
 pub values-meet-spec : {M : Type 1} → statement M
 values-meet-spec =

@@ -21,110 +21,92 @@ use Rattle.decode_setup.proofs.fill.Statement.{statement}
 use Rattle.decode_setup.proofs.fill.Tie as tie
 
 -- places in the code
-abbrev after-row-tables2-from-after-top-table-arg2 : tie.After-top-table-arg2 → tie.After-row-tables2
-after-row-tables2-from-after-top-table-arg2 c = c .before .before .before .before .before
+abbrev st-struct-known : tie.After-struct-known → tie.Start
+st-struct-known c = c .before .before .before .before .before
 
-abbrev start-from-after-boards-from : tie.After-boards-from → tie.Start
-start-from-after-boards-from c = c .before .before .before .before .before .before .before .before .before .before
+abbrev st-struct-known2 : tie.After-struct-known2 → tie.Start
+st-struct-known2 c = st-struct-known (c .before)
 
-abbrev start-from-after-struct-known : tie.After-struct-known → tie.Start
-start-from-after-struct-known c = c .before .before .before .before .before
+abbrev st-struct-known3 : tie.After-struct-known3 → tie.Start
+st-struct-known3 c = st-struct-known2 (c .before)
 
-abbrev start-from-after-targets3 : tie.After-targets3 → tie.Start
-start-from-after-targets3 c = c .before .before .before .before .before .before .before .before .before .before .before .before .before .before .before .before .before .before .before .before
+abbrev st-targets : tie.After-targets → tie.Start
+st-targets c = st-struct-known3 (c .before .before)
 
-abbrev after-boards-from-from-after-targets3 : tie.After-targets3 → tie.After-boards-from
-after-boards-from-from-after-targets3 c = c .before .before .before .before .before .before .before .before .before .before
+abbrev st-boards-from : tie.After-boards-from → tie.Start
+st-boards-from c = st-targets (c .before)
 
-abbrev start-from-after-row-tables-arg2 : tie.After-row-tables-arg2 → tie.Start
-start-from-after-row-tables-arg2 c = c .before .before .before .before .before .before .before .before .before .before .before .before .before .before .before .before .before .before .before .before .before .before
+abbrev boards-from-at-factor-rows : tie.After-factor-rows → tie.After-boards-from
+boards-from-at-factor-rows c = c .before .before .before
 
-abbrev after-boards-from-from-after-row-tables-arg2 : tie.After-row-tables-arg2 → tie.After-boards-from
-after-boards-from-from-after-row-tables-arg2 c = c .before .before .before .before .before .before .before .before .before .before .before .before
+abbrev st-factor-rows : tie.After-factor-rows → tie.Start
+st-factor-rows c = st-boards-from (boards-from-at-factor-rows c)
 
-abbrev after-factor-rows2-from-after-row-tables-arg2 : tie.After-row-tables-arg2 → tie.After-factor-rows2
-after-factor-rows2-from-after-row-tables-arg2 c = c .before .before .before .before .before
+abbrev factor-rows-at-factor-rows2 : tie.After-factor-rows2 → tie.After-factor-rows
+factor-rows-at-factor-rows2 c = c .before .before .before .before
 
-abbrev start-from-after-row-tables-arg3 : tie.After-row-tables-arg3 → tie.Start
-start-from-after-row-tables-arg3 c = c .before .before .before .before .before .before .before .before .before .before .before .before .before .before .before .before .before .before .before .before .before .before .before .before .before .before
+abbrev st-factor-rows2 : tie.After-factor-rows2 → tie.Start
+st-factor-rows2 c = st-factor-rows (factor-rows-at-factor-rows2 c)
 
-abbrev start-from-after-targets4 : tie.After-targets4 → tie.Start
-start-from-after-targets4 c = c .before .before .before .before .before .before .before .before .before .before .before .before .before .before .before .before .before .before .before .before .before .before .before .before .before .before .before .before .before .before
+abbrev boards-from-at-targets3 : tie.After-targets3 → tie.After-boards-from
+boards-from-at-targets3 c = boards-from-at-factor-rows (factor-rows-at-factor-rows2 (c .before .before .before))
 
-abbrev after-boards-from-from-after-targets4 : tie.After-targets4 → tie.After-boards-from
-after-boards-from-from-after-targets4 c = c .before .before .before .before .before .before .before .before .before .before .before .before .before .before .before .before .before .before .before .before
+abbrev st-targets3 : tie.After-targets3 → tie.Start
+st-targets3 c = st-boards-from (boards-from-at-targets3 c)
 
-abbrev start-from-after-top-table-arg2 : tie.After-top-table-arg2 → tie.Start
-start-from-after-top-table-arg2 c = c .before .before .before .before .before .before .before .before .before .before .before .before .before .before .before .before .before .before .before .before .before .before .before .before .before .before .before .before .before .before .before .before
+abbrev factor-rows2-at-row-tables-arg2 : tie.After-row-tables-arg2 → tie.After-factor-rows2
+factor-rows2-at-row-tables-arg2 c = c .before .before .before .before .before
 
-abbrev after-boards-from-from-after-top-table-arg2 : tie.After-top-table-arg2 → tie.After-boards-from
-after-boards-from-from-after-top-table-arg2 c = c .before .before .before .before .before .before .before .before .before .before .before .before .before .before .before .before .before .before .before .before .before .before
+abbrev boards-from-at-row-tables-arg2 : tie.After-row-tables-arg2 → tie.After-boards-from
+boards-from-at-row-tables-arg2 c = boards-from-at-targets3 (c .before .before)
 
-abbrev start-from-after-slice-known6 : tie.After-slice-known6 → tie.Start
-start-from-after-slice-known6 c = c .before .before .before .before .before .before .before .before .before .before .before .before .before .before .before .before .before .before .before .before .before .before .before .before .before .before .before .before .before .before .before .before .before .before .before
+abbrev st-row-tables-arg2 : tie.After-row-tables-arg2 → tie.Start
+st-row-tables-arg2 c = st-factor-rows2 (factor-rows2-at-row-tables-arg2 c)
 
-abbrev after-row-tables2-from-after-slice-known6 : tie.After-slice-known6 → tie.After-row-tables2
-after-row-tables2-from-after-slice-known6 c = c .before .before .before .before .before .before .before .before
+abbrev factor-rows2-at-row-tables : tie.After-row-tables → tie.After-factor-rows2
+factor-rows2-at-row-tables c = factor-rows2-at-row-tables-arg2 (c .before)
 
-abbrev after-boards-from-from-after-slice-known6 : tie.After-slice-known6 → tie.After-boards-from
-after-boards-from-from-after-slice-known6 c = c .before .before .before .before .before .before .before .before .before .before .before .before .before .before .before .before .before .before .before .before .before .before .before .before .before
+abbrev st-row-tables : tie.After-row-tables → tie.Start
+st-row-tables c = st-row-tables-arg2 (c .before)
 
-abbrev after-factor-rows-from-after-slice-known6 : tie.After-slice-known6 → tie.After-factor-rows
-after-factor-rows-from-after-slice-known6 c = c .before .before .before .before .before .before .before .before .before .before .before .before .before .before .before .before .before .before .before .before .before .before
+abbrev row-tables-at-row-tables2 : tie.After-row-tables2 → tie.After-row-tables
+row-tables-at-row-tables2 c = c .before .before .before .before
 
-abbrev after-factor-rows2-from-after-slice-known6 : tie.After-slice-known6 → tie.After-factor-rows2
-after-factor-rows2-from-after-slice-known6 c = c .before .before .before .before .before .before .before .before .before .before .before .before .before .before .before .before .before .before
+abbrev st-row-tables2 : tie.After-row-tables2 → tie.Start
+st-row-tables2 c = st-row-tables (row-tables-at-row-tables2 c)
 
-abbrev after-row-tables-from-after-slice-known6 : tie.After-slice-known6 → tie.After-row-tables
-after-row-tables-from-after-slice-known6 c = c .before .before .before .before .before .before .before .before .before .before .before .before
+abbrev boards-from-at-targets4 : tie.After-targets4 → tie.After-boards-from
+boards-from-at-targets4 c = boards-from-at-row-tables-arg2 (row-tables-at-row-tables2 (c .before .before .before) .before)
 
-abbrev start-from-after-factor-rows : tie.After-factor-rows → tie.Start
-start-from-after-factor-rows c = c .before .before .before .before .before .before .before .before .before .before .before .before .before
+abbrev st-targets4 : tie.After-targets4 → tie.Start
+st-targets4 c = st-boards-from (boards-from-at-targets4 c)
 
-abbrev start-from-after-factor-rows2 : tie.After-factor-rows2 → tie.Start
-start-from-after-factor-rows2 c = c .before .before .before .before .before .before .before .before .before .before .before .before .before .before .before .before .before
+abbrev row-tables2-at-top-table-arg2 : tie.After-top-table-arg2 → tie.After-row-tables2
+row-tables2-at-top-table-arg2 c = c .before .before .before .before .before
 
-abbrev start-from-after-row-tables : tie.After-row-tables → tie.Start
-start-from-after-row-tables c = c .before .before .before .before .before .before .before .before .before .before .before .before .before .before .before .before .before .before .before .before .before .before .before
+abbrev boards-from-at-top-table-arg2 : tie.After-top-table-arg2 → tie.After-boards-from
+boards-from-at-top-table-arg2 c = boards-from-at-targets4 (c .before .before)
 
-abbrev after-factor-rows2-from-after-row-tables : tie.After-row-tables → tie.After-factor-rows2
-after-factor-rows2-from-after-row-tables c = c .before .before .before .before .before .before
+abbrev st-top-table-arg2 : tie.After-top-table-arg2 → tie.Start
+st-top-table-arg2 c = st-row-tables2 (row-tables2-at-top-table-arg2 c)
 
-abbrev start-from-after-row-tables2 : tie.After-row-tables2 → tie.Start
-start-from-after-row-tables2 c = c .before .before .before .before .before .before .before .before .before .before .before .before .before .before .before .before .before .before .before .before .before .before .before .before .before .before .before
+abbrev row-tables2-at-end : tie.After-slice-known6 → tie.After-row-tables2
+row-tables2-at-end c = row-tables2-at-top-table-arg2 (c .before .before .before)
 
-abbrev start-from-after-struct-known2 : tie.After-struct-known2 → tie.Start
-start-from-after-struct-known2 c = c .before .before .before .before .before .before
+abbrev row-tables-at-end : tie.After-slice-known6 → tie.After-row-tables
+row-tables-at-end c = row-tables-at-row-tables2 (row-tables2-at-end c)
 
-abbrev start-from-after-struct-known3 : tie.After-struct-known3 → tie.Start
-start-from-after-struct-known3 c = c .before .before .before .before .before .before .before
+abbrev factor-rows2-at-end : tie.After-slice-known6 → tie.After-factor-rows2
+factor-rows2-at-end c = factor-rows2-at-row-tables (row-tables-at-end c)
 
-abbrev start-from-after-shared-slice-known4 : tie.After-shared-slice-known4 → tie.Start
-start-from-after-shared-slice-known4 c = c .before .before .before .before .before .before .before .before
+abbrev factor-rows-at-end : tie.After-slice-known6 → tie.After-factor-rows
+factor-rows-at-end c = factor-rows-at-factor-rows2 (factor-rows2-at-end c)
 
-abbrev start-from-after-targets : tie.After-targets → tie.Start
-start-from-after-targets c = c .before .before .before .before .before .before .before .before .before
+abbrev boards-from-at-end : tie.After-slice-known6 → tie.After-boards-from
+boards-from-at-end c = boards-from-at-factor-rows (factor-rows-at-end c)
 
-abbrev start-from-after-targets2 : tie.After-targets2 → tie.Start
-start-from-after-targets2 c = c .before .before .before .before .before .before .before .before .before .before .before
-
-abbrev start-from-after-factor-rows-arg : tie.After-factor-rows-arg → tie.Start
-start-from-after-factor-rows-arg c = c .before .before .before .before .before .before .before .before .before .before .before .before
-
-abbrev start-from-after-slice-known2 : tie.After-slice-known2 → tie.Start
-start-from-after-slice-known2 c = c .before .before .before .before .before .before .before .before .before .before .before .before .before .before .before
-
-abbrev start-from-after-factor-rows-arg2 : tie.After-factor-rows-arg2 → tie.Start
-start-from-after-factor-rows-arg2 c = c .before .before .before .before .before .before .before .before .before .before .before .before .before .before .before .before
-
-abbrev start-from-after-row-tables-arg : tie.After-row-tables-arg → tie.Start
-start-from-after-row-tables-arg c = c .before .before .before .before .before .before .before .before .before .before .before .before .before .before .before .before .before .before .before .before .before
-
-abbrev start-from-after-slice-known4 : tie.After-slice-known4 → tie.Start
-start-from-after-slice-known4 c = c .before .before .before .before .before .before .before .before .before .before .before .before .before .before .before .before .before .before .before .before .before .before .before .before .before
-
-abbrev start-from-after-top-table-arg : tie.After-top-table-arg → tie.Start
-start-from-after-top-table-arg c = c .before .before .before .before .before .before .before .before .before .before .before .before .before .before .before .before .before .before .before .before .before .before .before .before .before .before .before .before .before .before .before
+abbrev st-end : tie.After-slice-known6 → tie.Start
+st-end c = st-row-tables2 (row-tables2-at-end c)
 
 -- the sizes are legal
 facts : (c : tie.Start) → Legal (c .args .sizes)
@@ -164,97 +146,99 @@ g-long z = z .k * ((z .n - z .d) * 32)
 
 -- the tables after each step
 abbrev t₀ : tie.After-factor-rows → List ℕ
-t₀ c = putMid 0 (f-long ((start-from-after-factor-rows c) .args .sizes) - 0) ((start-from-after-factor-rows c) .args .tables .now) (y₀ c)
+t₀ c = putMid 0 (f-long (st-factor-rows c .args .sizes) - 0) (st-factor-rows c .args .tables .now) (y₀ c)
 
 abbrev t₁ : tie.After-factor-rows2 → List ℕ
-t₁ c = putMid 7680 (7680 + g-long ((start-from-after-factor-rows2 c) .args .sizes) - 7680) (t₀ (c .before .before .before .before)) (y₁ c)
+t₁ c = putMid 7680 (7680 + g-long (st-factor-rows2 c .args .sizes) - 7680) (t₀ (c .before .before .before .before)) (y₁ c)
 
 abbrev t₂ : tie.After-row-tables → List ℕ
-t₂ c = putMid 15872 (15872 + ((start-from-after-row-tables c) .args .sizes .d + (start-from-after-row-tables c) .args .sizes .r) * 512 - 15872) (t₁ (after-factor-rows2-from-after-row-tables c)) (y₂ c)
+t₂ c = putMid 15872 (15872 + (st-row-tables c .args .sizes .d + st-row-tables c .args .sizes .r) * 512 - 15872) (t₁ (factor-rows2-at-row-tables c)) (y₂ c)
 
 abbrev t₃ : tie.After-row-tables2 → List ℕ
-t₃ c = putMid 32256 (32256 + (start-from-after-row-tables2 c) .args .sizes .d * 512 - 32256) (t₂ (c .before .before .before .before)) (y₃ c)
+t₃ c = putMid 32256 (32256 + st-row-tables2 c .args .sizes .d * 512 - 32256) (t₂ (c .before .before .before .before)) (y₃ c)
 
-near-made : (c : tie.After-boards-from) → length (near c) ≡ (start-from-after-boards-from c) .args .sizes .d + (start-from-after-boards-from c) .args .sizes .r
-near-made c = c .boards-from .kept .1 .1 .0 ∙ part-long _ _ (omega (arith, facts (start-from-after-boards-from c)))
+near-made : (c : tie.After-boards-from) → length (near c) ≡ st-boards-from c .args .sizes .d + st-boards-from c .args .sizes .r
+near-made c = c .boards-from .kept .1 .1 .0 ∙ part-long _ _ (omega (arith, facts (st-boards-from c)))
 
 long₀ : (c : tie.After-factor-rows) → length (t₀ c) ≡ 49152
 long₀ c =
-    same-len-mid {X = ℕ} 0 (f-long ((start-from-after-factor-rows c) .args .sizes) - 0) ((start-from-after-factor-rows c) .args .tables .now) (y₀ c) (c .factor-rows .kept .1 .1 .1 .1 .1 .0)
-    ∙ (start-from-after-factor-rows c) .pre .3
+    same-len-mid {X = ℕ} 0 (f-long (st-factor-rows c .args .sizes) - 0) (st-factor-rows c .args .tables .now) (y₀ c) (c .factor-rows .kept .1 .1 .1 .1 .1 .0)
+    ∙ st-factor-rows c .pre .3
 
 long₁ : (c : tie.After-factor-rows2) → length (t₁ c) ≡ 49152
 long₁ c =
-    same-len-mid {X = ℕ} 7680 (7680 + g-long ((start-from-after-factor-rows2 c) .args .sizes) - 7680) (t₀ (c .before .before .before .before)) (y₁ c) (c .factor-rows2 .kept .1 .1 .1 .1 .1 .0)
+    same-len-mid {X = ℕ} 7680 (7680 + g-long (st-factor-rows2 c .args .sizes) - 7680) (t₀ (c .before .before .before .before)) (y₁ c) (c .factor-rows2 .kept .1 .1 .1 .1 .1 .0)
     ∙ long₀ (c .before .before .before .before)
 
 long₂ : (c : tie.After-row-tables) → length (t₂ c) ≡ 49152
 long₂ c =
-    same-len-mid {X = ℕ} 15872 (15872 + ((start-from-after-row-tables c) .args .sizes .d + (start-from-after-row-tables c) .args .sizes .r) * 512 - 15872) (t₁ (after-factor-rows2-from-after-row-tables c)) (y₂ c) (c .row-tables .kept .1 .1 .1 .1 .0)
-    ∙ long₁ (after-factor-rows2-from-after-row-tables c)
+    let z = st-row-tables c .args .sizes in
+    same-len-mid {X = ℕ} 15872 (15872 + (z .d + z .r) * 512 - 15872) (t₁ (factor-rows2-at-row-tables c)) (y₂ c) (c .row-tables .kept .1 .1 .1 .1 .0)
+    ∙ long₁ (factor-rows2-at-row-tables c)
 
 long₃ : (c : tie.After-row-tables2) → length (t₃ c) ≡ 49152
 long₃ c =
-    same-len-mid {X = ℕ} 32256 (32256 + (start-from-after-row-tables2 c) .args .sizes .d * 512 - 32256) (t₂ (c .before .before .before .before)) (y₃ c) (c .row-tables2 .kept .1 .1 .1 .1 .0)
+    same-len-mid {X = ℕ} 32256 (32256 + st-row-tables2 c .args .sizes .d * 512 - 32256) (t₂ (c .before .before .before .before)) (y₃ c) (c .row-tables2 .kept .1 .1 .1 .1 .0)
     ∙ long₂ (c .before .before .before .before)
 
-long-units : (c : tie.After-row-tables) → length (y₂ c) ≡ ((start-from-after-row-tables c) .args .sizes .d + (start-from-after-row-tables c) .args .sizes .r) * 512
+long-units : (c : tie.After-row-tables) → length (y₂ c) ≡ (st-row-tables c .args .sizes .d + st-row-tables c .args .sizes .r) * 512
 long-units c =
-    c .row-tables .kept .1 .1 .1 .1 .0
-    ∙ part-there 15872 (((start-from-after-row-tables c) .args .sizes .d + (start-from-after-row-tables c) .args .sizes .r) * 512) (t₁ (after-factor-rows2-from-after-row-tables c)) (omega (arith, facts (start-from-after-row-tables c), long₁ (after-factor-rows2-from-after-row-tables c)))
+    let z = st-row-tables c .args .sizes in
+    let m = factor-rows2-at-row-tables c in
+    c .row-tables .kept .1 .1 .1 .1 .0 ∙ part-there 15872 ((z .d + z .r) * 512) (t₁ m) (omega (arith, facts (st-row-tables c), long₁ m))
 
-long-seeds : (c : tie.After-row-tables2) → length (y₃ c) ≡ (start-from-after-row-tables2 c) .args .sizes .d * 512
+long-seeds : (c : tie.After-row-tables2) → length (y₃ c) ≡ st-row-tables2 c .args .sizes .d * 512
 long-seeds c =
     c .row-tables2 .kept .1 .1 .1 .1 .0
-    ∙ part-there 32256 ((start-from-after-row-tables2 c) .args .sizes .d * 512) (t₂ (c .before .before .before .before)) (omega (arith, facts (start-from-after-row-tables2 c), long₂ (c .before .before .before .before)))
+    ∙ part-there 32256 (st-row-tables2 c .args .sizes .d * 512) (t₂ (c .before .before .before .before)) (omega (arith, facts (st-row-tables2 c), long₂ (c .before .before .before .before)))
 
 add-w : tie.Need-add-w
-add-w c = omega (arith, facts (start-from-after-struct-known c))
+add-w c = omega (arith, facts (st-struct-known c))
 
 sub-f-end : tie.Need-sub-f-end
-sub-f-end c = omega (arith, facts (start-from-after-struct-known2 c))
+sub-f-end c = omega (arith, facts (st-struct-known2 c))
 
 mul-f-end : tie.Need-mul-f-end
-mul-f-end c = omega (arith, facts (start-from-after-struct-known2 c))
+mul-f-end c = omega (arith, facts (st-struct-known2 c))
 
 mul-f-end-2 : tie.Need-mul-f-end-2
-mul-f-end-2 c = omega (arith, f-few _ (facts (start-from-after-struct-known2 c)))
+mul-f-end-2 c = omega (arith, f-few _ (facts (st-struct-known2 c)))
 
 sub-g-end : tie.Need-sub-g-end
-sub-g-end c = omega (arith, facts (start-from-after-struct-known3 c))
+sub-g-end c = omega (arith, facts (st-struct-known3 c))
 
 mul-g-end : tie.Need-mul-g-end
-mul-g-end c = omega (arith, facts (start-from-after-struct-known3 c))
+mul-g-end c = omega (arith, facts (st-struct-known3 c))
 
 mul-g-end-2 : tie.Need-mul-g-end-2
-mul-g-end-2 c = omega (arith, g-few _ (facts (start-from-after-struct-known3 c)))
+mul-g-end-2 c = omega (arith, g-few _ (facts (st-struct-known3 c)))
 
 add-g-end : tie.Need-add-g-end
-add-g-end c = omega (arith, g-few _ (facts (start-from-after-struct-known3 c)))
+add-g-end c = omega (arith, g-few _ (facts (st-struct-known3 c)))
 
 mul-unit-end : tie.Need-mul-unit-end
-mul-unit-end c = omega (arith, facts (start-from-after-struct-known3 c))
+mul-unit-end c = omega (arith, facts (st-struct-known3 c))
 
 add-unit-end : tie.Need-add-unit-end
-add-unit-end c = omega (arith, facts (start-from-after-struct-known3 c))
+add-unit-end c = omega (arith, facts (st-struct-known3 c))
 
 mul-seed-end : tie.Need-mul-seed-end
-mul-seed-end c = omega (arith, facts (start-from-after-struct-known3 c))
+mul-seed-end c = omega (arith, facts (st-struct-known3 c))
 
 add-seed-end : tie.Need-add-seed-end
-add-seed-end c = omega (arith, facts (start-from-after-struct-known3 c))
+add-seed-end c = omega (arith, facts (st-struct-known3 c))
 
 sub-top-end : tie.Need-sub-top-end
-sub-top-end c = omega (arith, facts (start-from-after-struct-known3 c))
+sub-top-end c = omega (arith, facts (st-struct-known3 c))
 
 mul-top-end : tie.Need-mul-top-end
-mul-top-end c = omega (arith, facts (start-from-after-struct-known3 c))
+mul-top-end c = omega (arith, facts (st-struct-known3 c))
 
 add-top-end : tie.Need-add-top-end
-add-top-end c = omega (arith, facts (start-from-after-struct-known3 c))
+add-top-end c = omega (arith, facts (st-struct-known3 c))
 
 shared-slice-read-boards-from : tie.Need-shared-slice-read-boards-from
-shared-slice-read-boards-from c = some-board (start-from-after-shared-slice-known4 c)
+shared-slice-read-boards-from c = some-board (st-struct-known3 (c .before))
 
 sub-boards-from : tie.Need-sub-boards-from
 sub-boards-from c = search needs
@@ -263,10 +247,10 @@ part-targets-start : tie.Need-part-targets-start
 part-targets-start c = search needs
 
 part-targets-end : tie.Need-part-targets-end
-part-targets-end c = omega (arith, facts (start-from-after-shared-slice-known4 c))
+part-targets-end c = omega (arith, facts (st-struct-known3 (c .before)))
 
 boards-from-requires : tie.Need-boards-from-requires
-boards-from-requires c κs = (first-known (start-from-after-targets c), facts (start-from-after-targets c) .few)
+boards-from-requires c κs = (first-known (st-targets c), facts (st-targets c) .few)
 
 sub-factor-rows : tie.Need-sub-factor-rows
 sub-factor-rows c = search needs
@@ -275,11 +259,11 @@ part-factor-rows-start : tie.Need-part-factor-rows-start
 part-factor-rows-start c = search needs
 
 part-factor-rows-end : tie.Need-part-factor-rows-end
-part-factor-rows-end c = omega (arith, f-few _ (facts (start-from-after-targets2 c)), (start-from-after-targets2 c) .pre .3)
+part-factor-rows-end c = omega (arith, f-few _ (facts (st-boards-from (c .before))), st-boards-from (c .before) .pre .3)
 
 factor-rows-requires : tie.Need-factor-rows-requires
 factor-rows-requires c κs =
-    let g = (start-from-after-factor-rows-arg c) in
+    let g = st-boards-from (c .before .before) in
     let f = facts g in
     let z = g .args .sizes in (
       g .pre .1,
@@ -298,11 +282,11 @@ part-factor-rows-start-2 : tie.Need-part-factor-rows-start-2
 part-factor-rows-start-2 c = search needs
 
 part-factor-rows-end-2 : tie.Need-part-factor-rows-end-2
-part-factor-rows-end-2 c = omega (arith, g-few _ (facts (start-from-after-slice-known2 c)), long₀ (c .before .before))
+part-factor-rows-end-2 c = omega (arith, g-few _ (facts (st-factor-rows (c .before .before))), long₀ (c .before .before))
 
 factor-rows-requires-2 : tie.Need-factor-rows-requires-2
 factor-rows-requires-2 c κs =
-    let g = (start-from-after-factor-rows-arg2 c) in
+    let g = st-factor-rows (c .before .before .before) in
     let f = facts g in
     let z = g .args .sizes in (
       g .pre .1,
@@ -321,7 +305,7 @@ part-row-tables-start : tie.Need-part-row-tables-start
 part-row-tables-start c = search needs
 
 part-row-tables-end : tie.Need-part-row-tables-end
-part-row-tables-end c = simp length-append (omega (arith, facts (start-from-after-targets3 c), near-made (after-boards-from-from-after-targets3 c)))
+part-row-tables-end c = simp length-append (omega (arith, facts (st-targets3 c), near-made (boards-from-at-targets3 c)))
 
 sub-row-tables-2 : tie.Need-sub-row-tables-2
 sub-row-tables-2 c = search needs
@@ -330,21 +314,21 @@ part-row-tables-start-2 : tie.Need-part-row-tables-start-2
 part-row-tables-start-2 c = search needs
 
 part-row-tables-end-2 : tie.Need-part-row-tables-end-2
-part-row-tables-end-2 c = omega (arith, facts (start-from-after-row-tables-arg c), long₁ (c .before .before .before .before))
+part-row-tables-end-2 c = omega (arith, facts (st-targets3 (c .before)), long₁ (c .before .before .before .before))
 
 row-tables-requires : tie.Need-row-tables-requires
 row-tables-requires c κs =
-    let g = (start-from-after-row-tables-arg2 c) in
+    let g = st-row-tables-arg2 c in
     let f = facts g in
     let z = g .args .sizes in
-    let e = near-again z f (getD (g .args .boards .now) 0 0) _ (near (after-boards-from-from-after-row-tables-arg2 c)) refl ((after-boards-from-from-after-row-tables-arg2 c) .boards-from .ensures) in
+    let e = near-again z f (getD (g .args .boards .now) 0 0) _ (near (boards-from-at-row-tables-arg2 c)) refl (boards-from-at-row-tables-arg2 c .boards-from .ensures) in
     let b = neighbours-boards z (getD (g .args .boards .now) 0 0) (z .d + z .r) (first-known g) (f .enough) in (
       g .pre .1,
       g .pre .2,
       ap (below 32) e ∙ below-32 z (neighbours z (getD (g .args .boards .now) 0 0) (z .d + z .r)) (f .few) (b .known),
       simp length-take (omega (arith, f)),
       omega (arith, f),
-      part-there 15872 ((z .d + z .r) * 512) (t₁ (after-factor-rows2-from-after-row-tables-arg2 c)) (omega (arith, f, long₁ (after-factor-rows2-from-after-row-tables-arg2 c))),
+      part-there 15872 ((z .d + z .r) * 512) (t₁ (factor-rows2-at-row-tables-arg2 c)) (omega (arith, f, long₁ (factor-rows2-at-row-tables-arg2 c))),
     )
 
 sub-row-tables-3 : tie.Need-sub-row-tables-3
@@ -354,11 +338,11 @@ part-row-tables-start-3 : tie.Need-part-row-tables-start-3
 part-row-tables-start-3 c = search needs
 
 part-row-tables-end-3 : tie.Need-part-row-tables-end-3
-part-row-tables-end-3 c = omega (arith, facts (start-from-after-slice-known4 c), long₂ (c .before .before))
+part-row-tables-end-3 c = omega (arith, facts (st-row-tables (c .before .before)), long₂ (c .before .before))
 
 row-tables-requires-2 : tie.Need-row-tables-requires-2
 row-tables-requires-2 c κs =
-    let g = (start-from-after-row-tables-arg3 c) in
+    let g = st-row-tables (c .before .before .before) in
     let f = facts g in
     let z = g .args .sizes in (
       g .pre .1,
@@ -376,7 +360,7 @@ part-top-table-start : tie.Need-part-top-table-start
 part-top-table-start c = search needs
 
 part-top-table-end : tie.Need-part-top-table-end
-part-top-table-end c = simp length-append (omega (arith, facts (start-from-after-targets4 c), near-made (after-boards-from-from-after-targets4 c)))
+part-top-table-end c = simp length-append (omega (arith, facts (st-targets4 c), near-made (boards-from-at-targets4 c)))
 
 sub-top-table-2 : tie.Need-sub-top-table-2
 sub-top-table-2 c = search needs
@@ -385,15 +369,15 @@ part-top-table-start-2 : tie.Need-part-top-table-start-2
 part-top-table-start-2 c = search needs
 
 part-top-table-end-2 : tie.Need-part-top-table-end-2
-part-top-table-end-2 c = omega (arith, facts (start-from-after-top-table-arg c), long₃ (c .before .before .before .before))
+part-top-table-end-2 c = omega (arith, facts (st-targets4 (c .before)), long₃ (c .before .before .before .before))
 
 top-table-requires : tie.Need-top-table-requires
 top-table-requires c κs =
-    let g = (start-from-after-top-table-arg2 c) in
+    let g = st-top-table-arg2 c in
     let f = facts g in
     let z = g .args .sizes in
     let a = getD (g .args .boards .now) 0 0 in
-    let e = few-again z f a _ (near (after-boards-from-from-after-top-table-arg2 c)) refl ((after-boards-from-from-after-top-table-arg2 c) .boards-from .ensures) in
+    let e = few-again z f a _ (near (boards-from-at-top-table-arg2 c)) refl (boards-from-at-top-table-arg2 c .boards-from .ensures) in
     let long = ap length e ∙ length-take-le (z .d) (neighbours z a (z .d + z .r)) (omega (arith, length-neighbours z a (z .d + z .r))) in
     let b = first-boards z (z .d) (neighbours z a (z .d + z .r)) (neighbours-boards z a (z .d + z .r) (first-known g) (f .enough)) in (
       g .pre .1,
@@ -401,24 +385,25 @@ top-table-requires c κs =
       ap (below 32) e ∙ below-32 z (take (z .d) (neighbours z a (z .d + z .r))) (f .few) (b .known),
       omega (arith, f, long),
       omega (arith, f, long),
-      part-there 48128 ((z .d - z .k) * 32) (t₃ (after-row-tables2-from-after-top-table-arg2 c)) (omega (arith, f, long₃ (after-row-tables2-from-after-top-table-arg2 c))) ∙ ap (λ (m : ℕ). (m - z .k) * 32) (sym long),
+      part-there 48128 ((z .d - z .k) * 32) (t₃ (row-tables2-at-top-table-arg2 c)) (omega (arith, f, long₃ (row-tables2-at-top-table-arg2 c))) ∙ ap (λ (m : ℕ). (m - z .k) * 32) (sym long),
     )
 
 same-length : tie.Need-same-length
 same-length c =
-    let z = (start-from-after-slice-known6 c) .args .sizes in
-    same-len-mid {X = ℕ} 48128 (48128 + (z .d - z .k) * 32 - 48128) (t₃ (after-row-tables2-from-after-slice-known6 c)) (y₄ (c .before .before)) ((c .before .before) .top-table .kept .1 .1 .1 .1 .0)
-    ∙ long₃ (after-row-tables2-from-after-slice-known6 c) ∙ sym ((start-from-after-slice-known6 c) .pre .3)
+    let z = st-end c .args .sizes in
+    same-len-mid {X = ℕ} 48128 (48128 + (z .d - z .k) * 32 - 48128) (t₃ (row-tables2-at-end c)) (y₄ (c .before .before)) (c .before .before .top-table .kept .1 .1 .1 .1 .0)
+    ∙ long₃ (row-tables2-at-end c) ∙ sym (st-end c .pre .3)
 
 returns : tie.Need-returns
 returns c =
-    let g = (start-from-after-slice-known6 c) in
+    let g = st-end c in
     let f = facts g in
     let z = g .args .sizes in
-    tables-made z f (g .args .points .now) (g .args .boards .now) (g .args .tables .now) _ (near (after-boards-from-from-after-slice-known6 c))
-    (y₀ (after-factor-rows-from-after-slice-known6 c)) (y₁ (after-factor-rows2-from-after-slice-known6 c)) (y₂ (after-row-tables-from-after-slice-known6 c)) (y₃ (after-row-tables2-from-after-slice-known6 c)) (y₄ (c .before .before))
-    (g .pre .3) (g .pre .0 .counted) refl ((after-boards-from-from-after-slice-known6 c) .boards-from .ensures) ((after-factor-rows-from-after-slice-known6 c) .factor-rows .ensures) ((after-factor-rows2-from-after-slice-known6 c) .factor-rows2 .ensures)
-    (long-units (after-row-tables-from-after-slice-known6 c)) ((after-row-tables-from-after-slice-known6 c) .row-tables .ensures) (long-seeds (after-row-tables2-from-after-slice-known6 c)) ((after-row-tables2-from-after-slice-known6 c) .row-tables2 .ensures) ((c .before .before) .top-table .ensures)
+    tables-made z f (g .args .points .now) (g .args .boards .now) (g .args .tables .now) _ (near (boards-from-at-end c))
+    (y₀ (factor-rows-at-end c)) (y₁ (factor-rows2-at-end c)) (y₂ (row-tables-at-end c)) (y₃ (row-tables2-at-end c)) (y₄ (c .before .before))
+    (g .pre .3) (g .pre .0 .counted) refl (boards-from-at-end c .boards-from .ensures) (factor-rows-at-end c .factor-rows .ensures) (factor-rows2-at-end c .factor-rows2 .ensures)
+    (long-units (row-tables-at-end c)) (row-tables-at-end c .row-tables .ensures) (long-seeds (row-tables2-at-end c)) (row-tables2-at-end c .row-tables2 .ensures)
+    (c .before .before .top-table .ensures)
 
 pub fill-spec : {M : Type 1} → statement M
 fill-spec =

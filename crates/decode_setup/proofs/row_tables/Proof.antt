@@ -19,27 +19,24 @@ use Rattle.decode_setup.proofs.row_tables.Statement.{statement}
 use Rattle.decode_setup.proofs.row_tables.Tie as tie
 
 -- places in the code
-abbrev start-from-after-rows-at : tie.After-rows-at → tie.Start
-start-from-after-rows-at c = c .before .before .before .before .before .before
+abbrev st-rows : tie.After-rows → tie.Start
+st-rows c = c .before .before .before .before .before
 
-abbrev start-from-after-rows : tie.After-rows → tie.Start
-start-from-after-rows c = c .before .before .before .before .before
+abbrev st-rows-at : tie.After-rows-at → tie.Start
+st-rows-at c = st-rows (c .before)
 
-abbrev start-from-after-rows3 : tie.After-rows3 → tie.Start
-start-from-after-rows3 c = c .before .before .before .before .before .before .before .before
+abbrev st-fill-tables-arg2 : tie.After-fill-tables-arg2 → tie.Start
+st-fill-tables-arg2 c = st-rows-at (c .before .before .before .before)
 
-abbrev start-from-after-fill-tables-arg2 : tie.After-fill-tables-arg2 → tie.Start
-start-from-after-fill-tables-arg2 c = c .before .before .before .before .before .before .before .before .before .before
+abbrev rows-at-at-end : tie.After-slice-known2 → tie.After-rows-at
+rows-at-at-end c = c .before .before .before .before .before .before .before
 
-abbrev start-from-after-slice-known2 : tie.After-slice-known2 → tie.Start
-start-from-after-slice-known2 c = c .before .before .before .before .before .before .before .before .before .before .before .before .before
-
-abbrev after-rows-at-from-after-slice-known2 : tie.After-slice-known2 → tie.After-rows-at
-after-rows-at-from-after-slice-known2 c = c .before .before .before .before .before .before .before
+abbrev st-end : tie.After-slice-known2 → tie.Start
+st-end c = st-rows-at (rows-at-at-end c)
 
 -- the rows
-made-long : (c : tie.After-rows-at) → length (c .rows-at .last .1 .1 .1 .1 .0) ≡ (start-from-after-rows-at c) .args .d * 32
-made-long c = ap length (c .rows-at .ensures) ∙ length-seed-rows ((start-from-after-rows-at c) .args .d) (points ((start-from-after-rows-at c) .args .points .now) ((start-from-after-rows-at c) .args .boards .now))
+made-long : (c : tie.After-rows-at) → length (c .rows-at .last .1 .1 .1 .1 .0) ≡ st-rows-at c .args .d * 32
+made-long c = ap length (c .rows-at .ensures) ∙ length-seed-rows (st-rows-at c .args .d) (points (st-rows-at c .args .points .now) (st-rows-at c .args .boards .now))
 
 mul-q : tie.Need-mul-q
 mul-q c = search needs
@@ -55,7 +52,7 @@ part-rows-end c = search needs
 
 rows-at-requires : tie.Need-rows-at-requires
 rows-at-requires c κs =
-    let g = (start-from-after-rows c) in
+    let g = st-rows c in
     (g .pre .0, g .pre .1, g .pre .2, g .pre .3, g .pre .4, part-long _ _ (omega (arith, g .pre .4)))
 
 sub-fill-tables : tie.Need-sub-fill-tables
@@ -65,11 +62,11 @@ part-fill-tables-start : tie.Need-part-fill-tables-start
 part-fill-tables-start c = search needs
 
 part-fill-tables-end : tie.Need-part-fill-tables-end
-part-fill-tables-end c = simp length-append (omega (arith, made-long (c .before .before), (start-from-after-rows3 c) .pre .4))
+part-fill-tables-end c = simp length-append (omega (arith, made-long (c .before .before), st-rows-at (c .before .before) .pre .4))
 
 fill-tables-requires : tie.Need-fill-tables-requires
 fill-tables-requires c κs =
-    let g = (start-from-after-fill-tables-arg2 c) in
+    let g = st-fill-tables-arg2 c in
     (g .pre .4, simp (length-take, length-append) (omega (arith, made-long (c .before .before .before .before))), g .pre .5)
 
 same-length : tie.Need-same-length
@@ -77,8 +74,8 @@ same-length c = search needs
 
 returns : tie.Need-returns
 returns c =
-    let g = (start-from-after-slice-known2 c) in
-    tabled (g .args .d) (points (g .args .points .now) (g .args .boards .now)) _ _ _ (g .pre .4) ((after-rows-at-from-after-slice-known2 c) .rows-at .ensures) ((c .before .before) .fill-tables .ensures)
+    let g = st-end c in
+    tabled (g .args .d) (points (g .args .points .now) (g .args .boards .now)) _ _ _ (g .pre .4) (rows-at-at-end c .rows-at .ensures) (c .before .before .fill-tables .ensures)
 
 pub row-tables-spec : {M : Type 1} → statement M
 row-tables-spec =

@@ -16,30 +16,27 @@ use Rattle.decode_setup.proofs.rows_at.Statement.{statement}
 use Rattle.decode_setup.proofs.rows_at.Tie as tie
 
 -- places in the code
-abbrev start-from-after-points-of : tie.After-points-of → tie.Start
-start-from-after-points-of c = c .before .before .before .before .before .before
+abbrev st-xs : tie.After-xs → tie.Start
+st-xs c = c .before .before .before .before .before
 
-abbrev start-from-after-xs : tie.After-xs → tie.Start
-start-from-after-xs c = c .before .before .before .before .before
+abbrev st-points-of : tie.After-points-of → tie.Start
+st-points-of c = st-xs (c .before)
 
-abbrev start-from-after-xs3 : tie.After-xs3 → tie.Start
-start-from-after-xs3 c = c .before .before .before .before .before .before .before .before
+abbrev st-seed-rows-arg2 : tie.After-seed-rows-arg2 → tie.Start
+st-seed-rows-arg2 c = st-points-of (c .before .before .before .before)
 
-abbrev start-from-after-seed-rows-arg2 : tie.After-seed-rows-arg2 → tie.Start
-start-from-after-seed-rows-arg2 c = c .before .before .before .before .before .before .before .before .before .before
+abbrev points-of-at-end : tie.After-slice-known2 → tie.After-points-of
+points-of-at-end c = c .before .before .before .before .before .before .before
 
-abbrev start-from-after-slice-known2 : tie.After-slice-known2 → tie.Start
-start-from-after-slice-known2 c = c .before .before .before .before .before .before .before .before .before .before .before .before .before
-
-abbrev after-points-of-from-after-slice-known2 : tie.After-slice-known2 → tie.After-points-of
-after-points-of-from-after-slice-known2 c = c .before .before .before .before .before .before .before
+abbrev st-end : tie.After-slice-known2 → tie.Start
+st-end c = st-points-of (points-of-at-end c)
 
 -- the points
-made : (c : tie.After-points-of) → c .points-of .last .1 .1 .0 ≡ points ((start-from-after-points-of c) .args .points .now) ((start-from-after-points-of c) .args .boards .now)
+made : (c : tie.After-points-of) → c .points-of .last .1 .1 .0 ≡ points (st-points-of c .args .points .now) (st-points-of c .args .boards .now)
 made c = c .points-of .ensures
 
-made-long : (c : tie.After-points-of) → length (c .points-of .last .1 .1 .0) ≡ length ((start-from-after-points-of c) .args .boards .now)
-made-long c = ap length (made c) ∙ length-points ((start-from-after-points-of c) .args .points .now) ((start-from-after-points-of c) .args .boards .now)
+made-long : (c : tie.After-points-of) → length (c .points-of .last .1 .1 .0) ≡ length (st-points-of c .args .boards .now)
+made-long c = ap length (made c) ∙ length-points (st-points-of c .args .points .now) (st-points-of c .args .boards .now)
 
 sub-points-of : tie.Need-sub-points-of
 sub-points-of c = search needs
@@ -52,7 +49,7 @@ part-xs-end c = search needs
 
 points-of-requires : tie.Need-points-of-requires
 points-of-requires c κs =
-    let g = (start-from-after-xs c) in
+    let g = st-xs c in
     (ap (λ (m : ℕ). below m (g .args .boards .now)) (g .pre .1) ∙ g .pre .2, part-long _ _ (omega (arith, g .pre .3)))
 
 sub-seed-rows : tie.Need-sub-seed-rows
@@ -62,11 +59,11 @@ part-seed-rows-start : tie.Need-part-seed-rows-start
 part-seed-rows-start c = search needs
 
 part-seed-rows-end : tie.Need-part-seed-rows-end
-part-seed-rows-end c = simp length-append (omega (arith, made-long (c .before .before), (start-from-after-xs3 c) .pre .3))
+part-seed-rows-end c = simp length-append (omega (arith, made-long (c .before .before), st-points-of (c .before .before) .pre .3))
 
 seed-rows-requires : tie.Need-seed-rows-requires
 seed-rows-requires c κs =
-    let g = (start-from-after-seed-rows-arg2 c) in
+    let g = st-seed-rows-arg2 c in
     (g .pre .0, simp length-take (omega (arith, g .pre .3)), g .pre .4, g .pre .5)
 
 same-length : tie.Need-same-length
@@ -74,9 +71,9 @@ same-length c = search needs
 
 returns : tie.Need-returns
 returns c =
-    let g = (start-from-after-slice-known2 c) in
+    let g = st-end c in
     (c .before .before) .seed-rows .ensures
-    ∙ ap (seedRows (g .args .d)) (back-part (length (g .args .boards .now)) _ _ (made-long (after-points-of-from-after-slice-known2 c)) ∙ made (after-points-of-from-after-slice-known2 c))
+    ∙ ap (seedRows (g .args .d)) (back-part (length (g .args .boards .now)) _ _ (made-long (points-of-at-end c)) ∙ made (points-of-at-end c))
 
 pub rows-at-spec : {M : Type 1} → statement M
 rows-at-spec =

@@ -23,83 +23,77 @@ use Rattle.decode_stripe.proofs.coefficients.Statement.{statement}
 use Rattle.decode_stripe.proofs.coefficients.Tie as tie
 
 -- places in the code
-abbrev start-from-after-shared-slice-known5 : tie.After-shared-slice-known5 → tie.Start
-start-from-after-shared-slice-known5 c = c .before .before .before .before .before
+abbrev st-lent-bytes : tie.After-shared-slice-known5 → tie.Start
+st-lent-bytes c = c .before .before .before .before .before
 
-abbrev start-from-after-struct-known : tie.After-struct-known → tie.Start
-start-from-after-struct-known c = c .before .before .before .before .before .before .before .before .before .before .before .before .before .before .before .before
+abbrev st-struct-known : tie.After-struct-known → tie.Start
+st-struct-known c = st-lent-bytes (c .before .before .before .before .before .before .before .before .before .before .before)
 
-abbrev start-from-after-whole-vectors : tie.After-whole-vectors → tie.Start
-start-from-after-whole-vectors c = c .before .before .before .before .before .before .before .before .before .before .before .before .before .before .before .before .before
+abbrev st-whole-vectors : tie.After-whole-vectors → tie.Start
+st-whole-vectors c = st-struct-known (c .before)
 
-abbrev start-from-after-rows-of-arg2 : tie.After-rows-of-arg2 → tie.Start
-start-from-after-rows-of-arg2 c = c .before .before .before .before .before .before .before .before .before .before .before .before .before .before .before .before .before .before .before .before
+abbrev whole-vectors2-at-rows-of : tie.After-rows-of → tie.After-whole-vectors2
+whole-vectors2-at-rows-of c = c .before .before .before
 
-abbrev start-from-after-values-arg2 : tie.After-values-arg2 → tie.Start
-start-from-after-values-arg2 c = c .before .before .before .before .before .before .before .before .before .before .before .before .before .before .before .before .before .before .before .before .before .before .before .before .before .before .before
+abbrev rows-of-at-values-arg2 : tie.After-values-arg2 → tie.After-rows-of
+rows-of-at-values-arg2 c = c .before .before .before .before .before .before
 
-abbrev after-whole-vectors-from-after-values-arg2 : tie.After-values-arg2 → tie.After-whole-vectors
-after-whole-vectors-from-after-values-arg2 c = c .before .before .before .before .before .before .before .before .before .before
+abbrev whole-vectors-at-values-arg2 : tie.After-values-arg2 → tie.After-whole-vectors
+whole-vectors-at-values-arg2 c = whole-vectors2-at-rows-of (rows-of-at-values-arg2 c) .before
 
-abbrev after-rows-of-from-after-values-arg2 : tie.After-values-arg2 → tie.After-rows-of
-after-rows-of-from-after-values-arg2 c = c .before .before .before .before .before .before
+abbrev st-values-arg2 : tie.After-values-arg2 → tie.Start
+st-values-arg2 c = st-whole-vectors (whole-vectors-at-values-arg2 c)
 
-abbrev start-from-after-by-rows-arg2 : tie.After-by-rows-arg2 → tie.Start
-start-from-after-by-rows-arg2 c = c .before .before .before .before .before .before .before .before .before .before .before .before .before .before .before .before .before .before .before .before .before .before .before .before .before .before .before .before .before .before .before .before
+abbrev rows-of-at-values : tie.After-values → tie.After-rows-of
+rows-of-at-values c = rows-of-at-values-arg2 (c .before)
 
-abbrev after-values-from-after-by-rows-arg2 : tie.After-by-rows-arg2 → tie.After-values
-after-values-from-after-by-rows-arg2 c = c .before .before .before .before
+abbrev values-at-by-rows-arg2 : tie.After-by-rows-arg2 → tie.After-values
+values-at-by-rows-arg2 c = c .before .before .before .before
 
-abbrev start-from-after-slice-known10 : tie.After-slice-known10 → tie.Start
-start-from-after-slice-known10 c = c .before .before .before .before .before .before .before .before .before .before .before .before .before .before .before .before .before .before .before .before .before .before .before .before .before .before .before .before .before .before .before .before .before .before .before
+abbrev st-by-rows-arg2 : tie.After-by-rows-arg2 → tie.Start
+st-by-rows-arg2 c = st-values-arg2 (values-at-by-rows-arg2 c .before)
 
-abbrev start-from-after-values-arg4 : tie.After-values-arg4 → tie.Start
-start-from-after-values-arg4 c = c .before .before .before .before .before .before .before .before .before .before .before .before .before .before .before .before .before .before .before .before .before .before .before .before .before .before .before .before .before .before .before .before .before .before .before .before .before
+abbrev values-at-by-rows : tie.After-by-rows → tie.After-values
+values-at-by-rows c = values-at-by-rows-arg2 (c .before)
 
-abbrev start-from-after-values-arg5 : tie.After-values-arg5 → tie.Start
-start-from-after-values-arg5 c = c .before .before .before .before .before .before .before .before .before .before .before .before .before .before .before .before .before .before .before .before .before .before .before .before .before .before .before .before .before .before .before .before .before .before .before .before .before .before
+abbrev st-values-arg4 : tie.After-values-arg4 → tie.Start
+st-values-arg4 c = st-by-rows-arg2 (c .before .before .before .before .before)
 
-abbrev after-whole-vectors2-from-after-values-arg5 : tie.After-values-arg5 → tie.After-whole-vectors2
-after-whole-vectors2-from-after-values-arg5 c = c .before .before .before .before .before .before .before .before .before .before .before .before .before .before .before .before .before .before .before .before
+abbrev rows-of-at-values-arg5 : tie.After-values-arg5 → tie.After-rows-of
+rows-of-at-values-arg5 c = rows-of-at-values (values-at-by-rows (c .before .before .before .before .before))
 
-abbrev after-rows-of-from-after-values-arg5 : tie.After-values-arg5 → tie.After-rows-of
-after-rows-of-from-after-values-arg5 c = c .before .before .before .before .before .before .before .before .before .before .before .before .before .before .before .before .before
+abbrev whole-vectors2-at-values-arg5 : tie.After-values-arg5 → tie.After-whole-vectors2
+whole-vectors2-at-values-arg5 c = whole-vectors2-at-rows-of (rows-of-at-values-arg5 c)
 
-abbrev start-from-after-slice-known11 : tie.After-slice-known11 → tie.Start
-start-from-after-slice-known11 c = c .before .before .before .before .before .before .before .before .before .before .before .before .before .before .before .before .before .before .before .before .before .before .before .before .before .before .before .before .before .before .before .before .before .before .before .before .before .before .before .before .before
+abbrev st-slice-known11 : tie.After-slice-known11 → tie.Start
+st-slice-known11 c = st-values-arg4 (c .before .before .before .before)
 
-abbrev start-from-after-tops-arg2 : tie.After-tops-arg2 → tie.Start
-start-from-after-tops-arg2 c = c .before .before .before .before .before .before .before .before .before .before .before .before .before .before .before .before .before .before .before .before .before .before .before .before .before .before .before .before .before .before .before .before .before .before .before .before .before .before .before .before .before .before .before
+abbrev values2-at-tops-arg2 : tie.After-tops-arg2 → tie.After-values2
+values2-at-tops-arg2 c = c .before .before .before .before
 
-abbrev after-values2-from-after-tops-arg2 : tie.After-tops-arg2 → tie.After-values2
-after-values2-from-after-tops-arg2 c = c .before .before .before .before
+abbrev whole-vectors2-at-tops-arg2 : tie.After-tops-arg2 → tie.After-whole-vectors2
+whole-vectors2-at-tops-arg2 c = whole-vectors2-at-values-arg5 (values2-at-tops-arg2 c .before)
 
-abbrev after-whole-vectors2-from-after-tops-arg2 : tie.After-tops-arg2 → tie.After-whole-vectors2
-after-whole-vectors2-from-after-tops-arg2 c = c .before .before .before .before .before .before .before .before .before .before .before .before .before .before .before .before .before .before .before .before .before .before .before .before .before
+abbrev by-rows-at-end : tie.After-slice-known12 → tie.After-by-rows
+by-rows-at-end c = values2-at-tops-arg2 (c .before .before .before) .before .before .before .before .before .before
 
-abbrev start-from-after-slice-known12 : tie.After-slice-known12 → tie.Start
-start-from-after-slice-known12 c = c .before .before .before .before .before .before .before .before .before .before .before .before .before .before .before .before .before .before .before .before .before .before .before .before .before .before .before .before .before .before .before .before .before .before .before .before .before .before .before .before .before .before .before .before .before .before
+abbrev values-at-end : tie.After-slice-known12 → tie.After-values
+values-at-end c = values-at-by-rows (by-rows-at-end c)
 
-abbrev after-shared-slice-known5-from-after-slice-known12 : tie.After-slice-known12 → tie.After-shared-slice-known5
-after-shared-slice-known5-from-after-slice-known12 c = c .before .before .before .before .before .before .before .before .before .before .before .before .before .before .before .before .before .before .before .before .before .before .before .before .before .before .before .before .before .before .before .before .before .before .before .before .before .before .before .before .before
+abbrev rows-of-at-end : tie.After-slice-known12 → tie.After-rows-of
+rows-of-at-end c = rows-of-at-values (values-at-end c)
 
-abbrev after-by-rows-from-after-slice-known12 : tie.After-slice-known12 → tie.After-by-rows
-after-by-rows-from-after-slice-known12 c = c .before .before .before .before .before .before .before .before .before .before .before .before .before
+abbrev whole-vectors2-at-end : tie.After-slice-known12 → tie.After-whole-vectors2
+whole-vectors2-at-end c = whole-vectors2-at-rows-of (rows-of-at-end c)
 
-abbrev after-values-from-after-slice-known12 : tie.After-slice-known12 → tie.After-values
-after-values-from-after-slice-known12 c = c .before .before .before .before .before .before .before .before .before .before .before .before .before .before .before .before .before .before
+abbrev whole-vectors-at-end : tie.After-slice-known12 → tie.After-whole-vectors
+whole-vectors-at-end c = whole-vectors2-at-end c .before
 
-abbrev after-rows-of-from-after-slice-known12 : tie.After-slice-known12 → tie.After-rows-of
-after-rows-of-from-after-slice-known12 c = c .before .before .before .before .before .before .before .before .before .before .before .before .before .before .before .before .before .before .before .before .before .before .before .before .before
+abbrev lent-bytes-at-end : tie.After-slice-known12 → tie.After-shared-slice-known5
+lent-bytes-at-end c = whole-vectors-at-end c .before .before .before .before .before .before .before .before .before .before .before .before
 
-abbrev after-whole-vectors-from-after-slice-known12 : tie.After-slice-known12 → tie.After-whole-vectors
-after-whole-vectors-from-after-slice-known12 c = c .before .before .before .before .before .before .before .before .before .before .before .before .before .before .before .before .before .before .before .before .before .before .before .before .before .before .before .before .before
-
-abbrev after-whole-vectors2-from-after-slice-known12 : tie.After-slice-known12 → tie.After-whole-vectors2
-after-whole-vectors2-from-after-slice-known12 c = c .before .before .before .before .before .before .before .before .before .before .before .before .before .before .before .before .before .before .before .before .before .before .before .before .before .before .before .before
-
-abbrev after-values2-from-after-slice-known12 : tie.After-slice-known12 → tie.After-values2
-after-values2-from-after-slice-known12 c = c .before .before .before .before .before .before .before
+abbrev st-end : tie.After-slice-known12 → tie.Start
+st-end c = st-whole-vectors (whole-vectors-at-end c)
 
 -- the sizes are legal
 facts : (c : tie.Start) → Legal (c .args .sizes)
@@ -120,8 +114,8 @@ length-few : (c : tie.Start) → length (take (c .args .sizes .d) (c .args .targ
 length-few c = simp length-take (omega (arith, c .pre .4))
 
 -- the bytes are bytes
-bytes : (c : tie.After-shared-slice-known5) → Bytes ((start-from-after-shared-slice-known5 c) .args .bytes .now)
-bytes c = all-of (λ b. b < 256) 0 ((start-from-after-shared-slice-known5 c) .args .bytes .now) (λ i h. omega (arith, c .shared-slice-known5 .given i))
+bytes : (c : tie.After-shared-slice-known5) → Bytes (st-lent-bytes c .args .bytes .now)
+bytes c = all-of (λ b. b < 256) 0 (st-lent-bytes c .args .bytes .now) (λ i h. omega (arith, c .shared-slice-known5 .given i))
 
 -- stripe s starts not too far behind, and the values of g are few
 few : (c : tie.Start) → let z = c .args .sizes in c .args .s * (z .d + z .r + (z .d - 1)) ≤ 253952
@@ -134,26 +128,26 @@ add-w : tie.Need-add-w
 add-w c = search needs
 
 sub-at : tie.Need-sub-at
-sub-at c = omega (arith, facts (start-from-after-struct-known c))
+sub-at c = omega (arith, facts (st-struct-known c))
 
 add-at : tie.Need-add-at
 add-at c = search needs
 
 mul-at : tie.Need-mul-at
-mul-at c = omega (arith, few (start-from-after-struct-known c))
+mul-at c = omega (arith, few (st-struct-known c))
 
 mul-q : tie.Need-mul-q
-mul-q c = omega (arith, square (start-from-after-struct-known c))
+mul-q c = omega (arith, square (st-struct-known c))
 
 whole-vectors-requires : tie.Need-whole-vectors-requires
-whole-vectors-requires c κs = omega (arith, facts (start-from-after-struct-known c))
+whole-vectors-requires c κs = omega (arith, facts (st-struct-known c))
 
 whole-vectors-requires-2 : tie.Need-whole-vectors-requires-2
-whole-vectors-requires-2 c κs = omega (arith, facts (start-from-after-whole-vectors c))
+whole-vectors-requires-2 c κs = omega (arith, facts (st-whole-vectors c))
 
 rows-of-requires : tie.Need-rows-of-requires
 rows-of-requires c κs =
-    let g = (start-from-after-rows-of-arg2 c) in
+    let g = st-whole-vectors (c .before .before .before) in
     let f = facts g in (
       omega (arith, f),
       omega (arith, f),
@@ -167,28 +161,28 @@ rows-of-requires c κs =
 
 values-requires : tie.Need-values-requires
 values-requires c κs =
-    let g = (start-from-after-values-arg2 c) in
+    let g = st-values-arg2 c in
     let z = g .args .sizes in
     let f = facts g in
     let lb = g .pre .2 in (
       omega (arith, f),
       omega (arith, f),
-      (after-whole-vectors-from-after-values-arg2 c) .whole-vectors .ensures .1,
+      whole-vectors-at-values-arg2 c .whole-vectors .ensures .1,
       omega (arith, f, lb),
       g .pre .3,
       omega (arith, f, g .pre .4),
       g .pre .5,
       omega (arith, ap length (g .pre .10), length-factor-rows z (g .args .points .now) (z .d + z .r) (g .args .boards .now)),
-      f-long (g .args .starts .now) (g .args .bytes .now) (z .d + z .r) (z .d + z .r + (z .d - 1)) (g .args .s * (z .d + z .r + (z .d - 1))) _ ((after-rows-of-from-after-values-arg2 c) .rows-of .ensures .0)
+      f-long (g .args .starts .now) (g .args .bytes .now) (z .d + z .r) (z .d + z .r + (z .d - 1)) (g .args .s * (z .d + z .r + (z .d - 1))) _ (rows-of-at-values-arg2 c .rows-of .ensures .0)
           ∙ ap (λ (m : ℕ). m * 32) (g .pre .7 ∙ sym lb),
       g .pre .17 ∙ ap₂ _*_ (sym lb) (sym (g .pre .4)),
     )
 
 by-rows-requires : tie.Need-by-rows-requires
 by-rows-requires c κs =
-    let g = (start-from-after-by-rows-arg2 c) in
+    let g = st-by-rows-arg2 c in
     let f = facts g in
-    let l = ap length ((after-values-from-after-by-rows-arg2 c) .values .ensures) ∙ length-values _ _ _ _ _ _ _ ∙ ap₂ _*_ (g .pre .2) (g .pre .4) in
+    let l = ap length (values-at-by-rows-arg2 c .values .ensures) ∙ length-values _ _ _ _ _ _ _ ∙ ap₂ _*_ (g .pre .2) (g .pre .4) in
     (omega (arith, f), omega (arith, f), omega (arith, l), omega (arith, g .pre .12), g .pre .19)
 
 sub-values : tie.Need-sub-values
@@ -198,7 +192,7 @@ part-values-start : tie.Need-part-values-start
 part-values-start c = search needs
 
 part-values-end : tie.Need-part-values-end
-part-values-end c = omega (arith, (start-from-after-slice-known10 c) .pre .4)
+part-values-end c = omega (arith, st-by-rows-arg2 (c .before .before .before) .pre .4)
 
 sub-values-2 : tie.Need-sub-values-2
 sub-values-2 c = search needs
@@ -207,41 +201,42 @@ part-values-start-2 : tie.Need-part-values-start-2
 part-values-start-2 c = search needs
 
 part-values-end-2 : tie.Need-part-values-end-2
-part-values-end-2 c = omega (arith, square (start-from-after-values-arg4 c), (start-from-after-values-arg4 c) .pre .18)
+part-values-end-2 c = omega (arith, square (st-values-arg4 c), st-values-arg4 c .pre .18)
 
 values-requires-2 : tie.Need-values-requires-2
 values-requires-2 c κs =
-    let g = (start-from-after-values-arg5 c) in
+    let g = st-values-arg4 (c .before) in
     let z = g .args .sizes in
     let f = facts g in
     let lb = g .pre .2 in
     let ld : length (take (z .d - 0) (g .args .targets .now)) ≡ z .d = ap (λ (m : ℕ). length (take m (g .args .targets .now))) (sub-zero (z .d)) ∙ length-few g in (
       omega (arith, f),
       omega (arith, f),
-      (after-whole-vectors2-from-after-values-arg5 c) .whole-vectors2 .ensures .1,
+      whole-vectors2-at-values-arg5 c .whole-vectors2 .ensures .1,
       omega (arith, f, lb),
       g .pre .3,
       omega (arith, f, ld),
       ap (λ (m : ℕ). below (z .n) (take m (g .args .targets .now))) (sub-zero (z .d)) ∙ all-below (z .n) (take (z .d) (g .args .targets .now)) (few-targets g .known),
       omega (arith, ap length (g .pre .11), length-factor-rows z (g .args .points .now) (z .d) (g .args .boards .now)),
-      g-long (g .args .starts .now) (g .args .bytes .now) (z .d + z .r) (z .d + z .r + (z .d - 1)) (g .args .s * (z .d + z .r + (z .d - 1))) _ ((after-rows-of-from-after-values-arg5 c) .rows-of .ensures .1)
+      g-long (g .args .starts .now) (g .args .bytes .now) (z .d + z .r) (z .d + z .r + (z .d - 1)) (g .args .s * (z .d + z .r + (z .d - 1))) _ (rows-of-at-values-arg5 c .rows-of .ensures .1)
           ∙ ap (λ (m : ℕ). m * 32) (g .pre .7 ∙ sym lb),
       part-long (z .k * z .d) (g .args .vg .now) (omega (arith, square g, g .pre .18)) ∙ ap₂ _*_ (sym lb) (sym ld),
     )
 
 sub-tops : tie.Need-sub-tops
-sub-tops c = omega (arith, facts (start-from-after-slice-known11 c))
+sub-tops c = omega (arith, facts (st-slice-known11 c))
 
 tops-requires : tie.Need-tops-requires
 tops-requires c κs =
-    let g = (start-from-after-tops-arg2 c) in
+    let g = st-slice-known11 (c .before .before) in
     let z = g .args .sizes in
     let f = facts g in
     let ld : length (take (z .d - 0) (g .args .targets .now)) ≡ z .d = ap (λ (m : ℕ). length (take m (g .args .targets .now))) (sub-zero (z .d)) ∙ length-few g in
     let lp : length (points (g .args .points .now) (take (z .d) (g .args .targets .now))) ≡ z .d = length-points (g .args .points .now) (take (z .d) (g .args .targets .now)) ∙ length-few g in
     let lt = ap length (g .pre .14) ∙ length-tops (z .k) (points (g .args .points .now) (take (z .d) (g .args .targets .now))) ∙ ap (λ (m : ℕ). (m - z .k) * 32) lp in
-    let lg = values-long (z .k * z .d) (g .args .vg .now) _ _ (g .pre .18) (omega (arith, square g)) ((after-values2-from-after-tops-arg2 c) .values2 .ensures) (length-values _ _ _ _ _ _ _ ∙ ap₂ _*_ (g .pre .2) ld) in
-    (omega (arith, f), omega (arith, f), omega (arith, f), (after-whole-vectors2-from-after-tops-arg2 c) .whole-vectors2 .ensures .1, omega (arith, lt), omega (arith, square g, lg), g .pre .20)
+    let v = values2-at-tops-arg2 c .values2 .ensures in
+    let lg = values-long (z .k * z .d) (g .args .vg .now) _ _ (g .pre .18) (omega (arith, square g)) v (length-values _ _ _ _ _ _ _ ∙ ap₂ _*_ (g .pre .2) ld) in
+    (omega (arith, f), omega (arith, f), omega (arith, f), whole-vectors2-at-tops-arg2 c .whole-vectors2 .ensures .1, omega (arith, lt), omega (arith, square g, lg), g .pre .20)
 
 same-length : tie.Need-same-length
 same-length c = search needs
@@ -263,21 +258,24 @@ same-length-6 c = search needs
 
 returns : tie.Need-returns
 returns c =
-    let g = (start-from-after-slice-known12 c) in
+    let g = st-end c in
     let a = g .args in
     let z = a .sizes in
     let xs = a .points .now in
     let lb = g .pre .2 in
-    let b = bytes (after-shared-slice-known5-from-after-slice-known12 c) in
+    let b = bytes (lent-bytes-at-end c) in
+    let w = whole-vectors-at-end c .whole-vectors in
+    let w2 = whole-vectors2-at-end c .whole-vectors2 in
+    let rows = rows-of-at-end c .rows-of .ensures in
     let C : List ℕ = a .targets .now in (
-      (after-by-rows-from-after-slice-known12 c) .by-rows .ensures (unitRows (points xs C)) (omega (arith, length-units (points xs C), length-points xs C, g .pre .4)) (g .pre .13)
-          ∙ ap₂ (λ (q : ℕ) (l : List ℕ). byRows q (z .d + z .r) l (unitRows (points xs C))) (sym lb) ((after-values-from-after-slice-known12 c) .values .ensures)
-          ∙ f-coefs z xs (facts g) (g .pre .1) (a .boards .now) (known g) lb (a .starts .now) (a .bytes .now) (g .pre .7) (a .s) (g .pre .8) b (a .ff .now) _ (g .pre .10) ((after-rows-of-from-after-slice-known12 c) .rows-of .ensures .0)
-          ((after-whole-vectors-from-after-slice-known12 c) .whole-vectors .result) ((after-whole-vectors-from-after-slice-known12 c) .whole-vectors .ensures .0) ((after-whole-vectors-from-after-slice-known12 c) .whole-vectors .ensures .1) C (all-targets g) (g .pre .4)
+      by-rows-at-end c .by-rows .ensures (unitRows (points xs C)) (omega (arith, length-units (points xs C), length-points xs C, g .pre .4)) (g .pre .13)
+          ∙ ap₂ (λ (q : ℕ) (l : List ℕ). byRows q (z .d + z .r) l (unitRows (points xs C))) (sym lb) (values-at-end c .values .ensures)
+          ∙ f-coefs z xs (facts g) (g .pre .1) (a .boards .now) (known g) lb (a .starts .now) (a .bytes .now) (g .pre .7) (a .s) (g .pre .8) b (a .ff .now) _ (g .pre .10) (rows .0)
+          (w .result) (w .ensures .0) (w .ensures .1) C (all-targets g) (g .pre .4)
           ∙ ap (λ (q : ℕ). join q (λ t. fit 32 (ownF z xs (getD (a .boards .now) t 0) (heldAt z (a .starts .now) (a .bytes .now) (a .s) t)))) lb,
-      tops-part z xs (facts g) (g .pre .1) (a .boards .now) (known g) lb (a .starts .now) (a .bytes .now) (g .pre .7) (a .s) (g .pre .8) b (a .gf .now) _ (g .pre .11) ((after-rows-of-from-after-slice-known12 c) .rows-of .ensures .1)
-          ((after-whole-vectors2-from-after-slice-known12 c) .whole-vectors2 .result) ((after-whole-vectors2-from-after-slice-known12 c) .whole-vectors2 .ensures .0) ((after-whole-vectors2-from-after-slice-known12 c) .whole-vectors2 .ensures .1) (a .targets .now) (few-targets g) (length-few g)
-          (z .k * z .d) (a .tr .now) (a .vg .now) _ _ (g .pre .14) ((after-values2-from-after-slice-known12 c) .values2 .ensures) ((c .before .before) .tops .ensures),
+      tops-part z xs (facts g) (g .pre .1) (a .boards .now) (known g) lb (a .starts .now) (a .bytes .now) (g .pre .7) (a .s) (g .pre .8) b (a .gf .now) _ (g .pre .11) (rows .1)
+          (w2 .result) (w2 .ensures .0) (w2 .ensures .1) C (few-targets g) (length-few g)
+          (z .k * z .d) (a .tr .now) (a .vg .now) _ _ (g .pre .14) (values2-at-tops-arg2 (c .before .before .before) .values2 .ensures) (c .before .before .tops .ensures),
     )
 
 pub coefficients-spec : {M : Type 1} → statement M

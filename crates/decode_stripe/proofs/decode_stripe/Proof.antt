@@ -22,46 +22,49 @@ use Rattle.decode_stripe.proofs.decode_stripe.Statement.{statement}
 use Rattle.decode_stripe.proofs.decode_stripe.Tie as tie
 
 -- places in the code
-abbrev start-from-after-coefficients : tie.After-coefficients → tie.Start
-start-from-after-coefficients c = c .before .before .before .before .before .before .before .before .before .before .before .before .before .before .before .before .before .before .before .before .before .before .before .before .before .before
+abbrev st-lent-bytes : tie.After-shared-slice-known5 → tie.Start
+st-lent-bytes c = c .before .before .before .before .before
 
-abbrev start-from-after-stripe-of-arg4 : tie.After-stripe-of-arg4 → tie.Start
-start-from-after-stripe-of-arg4 c = c .before .before .before .before .before .before .before .before .before .before .before .before .before .before .before .before .before .before .before .before .before .before .before .before .before .before .before .before .before .before .before .before .before .before .before .before .before .before .before .before .before .before
+abbrev lent-bytes-at-struct-known : tie.After-struct-known → tie.After-shared-slice-known5
+lent-bytes-at-struct-known c = c .before .before .before .before .before .before .before .before .before .before .before .before .before .before
 
-abbrev after-coefficients-from-after-stripe-of-arg4 : tie.After-stripe-of-arg4 → tie.After-coefficients
-after-coefficients-from-after-stripe-of-arg4 c = c .before .before .before .before .before .before .before .before .before .before .before .before .before .before .before .before
+abbrev st-struct-known : tie.After-struct-known → tie.Start
+st-struct-known c = st-lent-bytes (lent-bytes-at-struct-known c)
 
-abbrev start-from-after-shared-slice-known5 : tie.After-shared-slice-known5 → tie.Start
-start-from-after-shared-slice-known5 c = c .before .before .before .before .before
+abbrev st-coefficients-arg4 : tie.After-coefficients-arg4 → tie.Start
+st-coefficients-arg4 c = st-struct-known (c .before .before .before .before)
 
-abbrev start-from-after-struct-known : tie.After-struct-known → tie.Start
-start-from-after-struct-known c = c .before .before .before .before .before .before .before .before .before .before .before .before .before .before .before .before .before .before .before
+abbrev lent-bytes-at-coefficients : tie.After-coefficients → tie.After-shared-slice-known5
+lent-bytes-at-coefficients c = lent-bytes-at-struct-known (c .before .before .before .before .before .before .before)
 
-abbrev start-from-after-coefficients-arg4 : tie.After-coefficients-arg4 → tie.Start
-start-from-after-coefficients-arg4 c = c .before .before .before .before .before .before .before .before .before .before .before .before .before .before .before .before .before .before .before .before .before .before .before
+abbrev st-coefficients : tie.After-coefficients → tie.Start
+st-coefficients c = st-lent-bytes (lent-bytes-at-coefficients c)
 
-abbrev start-from-after-coefficients-arg6 : tie.After-coefficients-arg6 → tie.Start
-start-from-after-coefficients-arg6 c = c .before .before .before .before .before .before .before .before .before .before .before .before .before .before .before .before .before .before .before .before .before .before .before .before .before
+abbrev coefficients-at-stripe-of-arg4 : tie.After-stripe-of-arg4 → tie.After-coefficients
+coefficients-at-stripe-of-arg4 c = c .before .before .before .before .before .before .before .before .before .before .before .before .before .before .before .before
 
-abbrev start-from-after-slice-known17 : tie.After-slice-known17 → tie.Start
-start-from-after-slice-known17 c = c .before .before .before .before .before .before .before .before .before .before .before .before .before .before .before .before .before .before .before .before .before .before .before .before .before .before .before .before .before .before .before .before .before .before .before .before .before .before .before .before .before .before .before .before .before .before .before .before .before
+abbrev st-stripe-of-arg4 : tie.After-stripe-of-arg4 → tie.Start
+st-stripe-of-arg4 c = st-coefficients (coefficients-at-stripe-of-arg4 c)
 
-abbrev after-shared-slice-known5-from-after-slice-known17 : tie.After-slice-known17 → tie.After-shared-slice-known5
-after-shared-slice-known5-from-after-slice-known17 c = c .before .before .before .before .before .before .before .before .before .before .before .before .before .before .before .before .before .before .before .before .before .before .before .before .before .before .before .before .before .before .before .before .before .before .before .before .before .before .before .before .before .before .before .before
+abbrev stripe-of-at-end : tie.After-slice-known17 → tie.After-stripe-of
+stripe-of-at-end c = c .before .before .before .before .before .before
 
-abbrev after-coefficients-from-after-slice-known17 : tie.After-slice-known17 → tie.After-coefficients
-after-coefficients-from-after-slice-known17 c = c .before .before .before .before .before .before .before .before .before .before .before .before .before .before .before .before .before .before .before .before .before .before .before
+abbrev coefficients-at-end : tie.After-slice-known17 → tie.After-coefficients
+coefficients-at-end c = coefficients-at-stripe-of-arg4 (stripe-of-at-end c .before)
 
-abbrev after-stripe-of-from-after-slice-known17 : tie.After-slice-known17 → tie.After-stripe-of
-after-stripe-of-from-after-slice-known17 c = c .before .before .before .before .before .before
+abbrev lent-bytes-at-end : tie.After-slice-known17 → tie.After-shared-slice-known5
+lent-bytes-at-end c = lent-bytes-at-coefficients (coefficients-at-end c)
+
+abbrev st-end : tie.After-slice-known17 → tie.Start
+st-end c = st-coefficients (coefficients-at-end c)
 
 -- the sizes are legal
 facts : (c : tie.Start) → Legal (c .args .sizes)
 facts c = legal-facts _ (c .pre .0 .sized)
 
 -- the bytes are bytes
-bytes : (c : tie.After-shared-slice-known5) → Bytes ((start-from-after-shared-slice-known5 c) .args .bytes .now)
-bytes c = all-of (λ b. b < 256) 0 ((start-from-after-shared-slice-known5 c) .args .bytes .now) (λ i h. omega (arith, c .shared-slice-known5 .given i))
+bytes : (c : tie.After-shared-slice-known5) → Bytes (st-lent-bytes c .args .bytes .now)
+bytes c = all-of (λ b. b < 256) 0 (st-lent-bytes c .args .bytes .now) (λ i h. omega (arith, c .shared-slice-known5 .given i))
 
 -- the coefficients of f and g
 abbrev f-made : tie.After-coefficients → List ℕ
@@ -73,16 +76,16 @@ g-made c = c .coefficients .last .1 .1 .1 .1 .1 .1 .1 .1 .1 .1 .1 .1 .1 .1 .1 .1
 few-rows : (c : tie.Start) → c .args .sizes .k * 32 ≤ length (c .args .rows .now)
 few-rows c = omega (arith, facts c, c .pre .6 .all-rows)
 
-f-long : (c : tie.After-coefficients) → length (f-made c) ≡ (start-from-after-coefficients c) .args .sizes .k * 32
+f-long : (c : tie.After-coefficients) → length (f-made c) ≡ st-coefficients c .args .sizes .k * 32
 f-long c =
     c .coefficients .kept .1 .1 .1 .1 .1 .1 .1 .1 .1 .1 .1 .1 .1 .1 .1 .0
-    ∙ part-long ((start-from-after-coefficients c) .args .sizes .k * 32) ((start-from-after-coefficients c) .args .rows .now) (few-rows (start-from-after-coefficients c))
+    ∙ part-long (st-coefficients c .args .sizes .k * 32) (st-coefficients c .args .rows .now) (few-rows (st-coefficients c))
 
-g-long : (c : tie.After-coefficients) → length (g-made c) ≡ ((start-from-after-coefficients c) .args .sizes .d - (start-from-after-coefficients c) .args .sizes .k) * (start-from-after-coefficients c) .args .sizes .k
-g-long c = c .coefficients .kept .1 .1 .1 .1 .1 .1 .1 .1 .1 .1 .1 .1 .1 .1 .1 .1 .0 ∙ (start-from-after-coefficients c) .pre .6 .g-tops
+g-long : (c : tie.After-coefficients) → length (g-made c) ≡ (st-coefficients c .args .sizes .d - st-coefficients c .args .sizes .k) * st-coefficients c .args .sizes .k
+g-long c = c .coefficients .kept .1 .1 .1 .1 .1 .1 .1 .1 .1 .1 .1 .1 .1 .1 .1 .1 .0 ∙ st-coefficients c .pre .6 .g-tops
 
 mul-q : tie.Need-mul-q
-mul-q c = omega (arith, facts (start-from-after-struct-known c))
+mul-q c = omega (arith, facts (st-struct-known c))
 
 sub-coefficients : tie.Need-sub-coefficients
 sub-coefficients c = search needs
@@ -91,11 +94,11 @@ part-coefficients-start : tie.Need-part-coefficients-start
 part-coefficients-start c = search needs
 
 part-coefficients-end : tie.Need-part-coefficients-end
-part-coefficients-end c = few-rows (start-from-after-coefficients-arg4 c)
+part-coefficients-end c = few-rows (st-coefficients-arg4 c)
 
 coefficients-requires : tie.Need-coefficients-requires
 coefficients-requires c κs =
-    let g = (start-from-after-coefficients-arg6 c) in
+    let g = st-coefficients-arg4 (c .before .before) in
     let p = g .pre in
     let t = p .5 in
     let w = p .6 in
@@ -125,9 +128,9 @@ coefficients-requires c κs =
 
 stripe-of-requires : tie.Need-stripe-of-requires
 stripe-of-requires c κs =
-    let g = (start-from-after-stripe-of-arg4 c) in
+    let g = st-stripe-of-arg4 c in
     let z = g .args .sizes in
-    let m = (after-coefficients-from-after-stripe-of-arg4 c) in
+    let m = coefficients-at-stripe-of-arg4 c in
     let long = rows-still (z .k) (z .d) (g .args .rows .now) (f-made m) (facts g .read-helpers) (g .pre .6 .all-rows) (f-long m) in
     (g .pre .0 .sized, g .pre .5 .seeds-long, g-long m, long, g .pre .6 .all-columns, g .pre .7)
 
@@ -157,16 +160,16 @@ same-length-8 c = search needs
 
 returns : tie.Need-returns
 returns c =
-    let g = (start-from-after-slice-known17 c) in
+    let g = st-end c in
     let a = g .args in
     let z = a .sizes in
     let f = facts g in
     let xs = a .points .now in
     let bs = a .boards .now in
     let e = seedRows (z .d) (points xs bs) in
-    let b = bytes (after-shared-slice-known5-from-after-slice-known17 c) in
-    let m = (after-coefficients-from-after-slice-known17 c) in
-    (after-stripe-of-from-after-slice-known17 c) .stripe-of .ensures e (omega (arith, length-seed-rows (z .d) (points xs bs))) (g .pre .5 .seeds)
+    let b = bytes (lent-bytes-at-end c) in
+    let m = coefficients-at-end c in
+    (stripe-of-at-end c) .stripe-of .ensures e (omega (arith, length-seed-rows (z .d) (points xs bs))) (g .pre .5 .seeds)
     ∙ ap (λ (l : List ℕ). stripeBy (z .k) (z .d) (z .d + z .r) e l (g-made m)) (first-rows (z .k) (a .rows .now) (f-made m) (f-long m) ∙ m .coefficients .ensures .0)
     ∙ stripe-by z xs f (g .pre .0 .distinct) bs (boards-of z bs (g .pre .0 .known) (g .pre .0 .unlike)) (g .pre .0 .counted) (heldAt z (a .starts .now) (a .bytes .now) (a .s))
     (λ t h. length-held z f (a .starts .now) (a .bytes .now) (a .s) (g .pre .3) t (omega (arith, g .pre .2)))

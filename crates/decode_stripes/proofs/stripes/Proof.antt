@@ -16,47 +16,35 @@ use Rattle.decode_stripes.proofs.stripes.Statement.{statement}
 use Rattle.decode_stripes.proofs.stripes.Tie as tie
 
 -- places in the code
-abbrev start-from-after-boards-from : tie.After-boards-from → tie.Start
-start-from-after-boards-from c = c .before .before .before .before .before .before .before .before .before .before .before .before
+abbrev st-struct-known : tie.After-struct-known → tie.Start
+st-struct-known c = c .before .before .before .before .before .before .before
 
-abbrev start-from-after-struct-known : tie.After-struct-known → tie.Start
-start-from-after-struct-known c = c .before .before .before .before .before .before .before
+abbrev st-struct-known2 : tie.After-struct-known2 → tie.Start
+st-struct-known2 c = st-struct-known (c .before)
 
-abbrev start-from-after-struct-known2 : tie.After-struct-known2 → tie.Start
-start-from-after-struct-known2 c = c .before .before .before .before .before .before .before .before
+abbrev st-struct-known3 : tie.After-struct-known3 → tie.Start
+st-struct-known3 c = st-struct-known2 (c .before)
 
-abbrev start-from-after-struct-known3 : tie.After-struct-known3 → tie.Start
-start-from-after-struct-known3 c = c .before .before .before .before .before .before .before .before .before
+abbrev st-targets : tie.After-targets → tie.Start
+st-targets c = st-struct-known3 (c .before .before)
 
-abbrev start-from-after-shared-slice-known6 : tie.After-shared-slice-known6 → tie.Start
-start-from-after-shared-slice-known6 c = c .before .before .before .before .before .before .before .before .before .before
+abbrev st-boards-from : tie.After-boards-from → tie.Start
+st-boards-from c = st-targets (c .before)
 
-abbrev start-from-after-targets : tie.After-targets → tie.Start
-start-from-after-targets c = c .before .before .before .before .before .before .before .before .before .before .before
+abbrev st-stripes-by-arg : tie.After-stripes-by-arg → tie.Start
+st-stripes-by-arg c = st-boards-from (c .before .before .before)
 
-abbrev start-from-after-targets3 : tie.After-targets3 → tie.Start
-start-from-after-targets3 c = c .before .before .before .before .before .before .before .before .before .before .before .before .before .before
+abbrev st-stripes-by-arg3 : tie.After-stripes-by-arg3 → tie.Start
+st-stripes-by-arg3 c = st-stripes-by-arg (c .before .before)
 
-abbrev start-from-after-stripes-by-arg : tie.After-stripes-by-arg → tie.Start
-start-from-after-stripes-by-arg c = c .before .before .before .before .before .before .before .before .before .before .before .before .before .before .before
+abbrev st-stripes-by-arg5 : tie.After-stripes-by-arg5 → tie.Start
+st-stripes-by-arg5 c = st-stripes-by-arg3 (c .before .before)
 
-abbrev start-from-after-stripes-by-arg2 : tie.After-stripes-by-arg2 → tie.Start
-start-from-after-stripes-by-arg2 c = c .before .before .before .before .before .before .before .before .before .before .before .before .before .before .before .before
+abbrev boards-from-at-stripes-by-arg7 : tie.After-stripes-by-arg7 → tie.After-boards-from
+boards-from-at-stripes-by-arg7 c = c .before .before .before .before .before .before .before .before .before
 
-abbrev start-from-after-stripes-by-arg3 : tie.After-stripes-by-arg3 → tie.Start
-start-from-after-stripes-by-arg3 c = c .before .before .before .before .before .before .before .before .before .before .before .before .before .before .before .before .before
-
-abbrev start-from-after-stripes-by-arg4 : tie.After-stripes-by-arg4 → tie.Start
-start-from-after-stripes-by-arg4 c = c .before .before .before .before .before .before .before .before .before .before .before .before .before .before .before .before .before .before
-
-abbrev start-from-after-stripes-by-arg5 : tie.After-stripes-by-arg5 → tie.Start
-start-from-after-stripes-by-arg5 c = c .before .before .before .before .before .before .before .before .before .before .before .before .before .before .before .before .before .before .before
-
-abbrev start-from-after-stripes-by-arg7 : tie.After-stripes-by-arg7 → tie.Start
-start-from-after-stripes-by-arg7 c = c .before .before .before .before .before .before .before .before .before .before .before .before .before .before .before .before .before .before .before .before .before
-
-abbrev after-boards-from-from-after-stripes-by-arg7 : tie.After-stripes-by-arg7 → tie.After-boards-from
-after-boards-from-from-after-stripes-by-arg7 c = c .before .before .before .before .before .before .before .before .before
+abbrev st-stripes-by-arg7 : tie.After-stripes-by-arg7 → tie.Start
+st-stripes-by-arg7 c = st-boards-from (boards-from-at-stripes-by-arg7 c)
 
 -- the sizes are legal
 facts : (c : tie.Start) → Legal (c .args .sizes)
@@ -69,56 +57,56 @@ first-known : (c : tie.Start) → getD (c .args .boards .now) 0 0 < c .args .siz
 first-known c = all-at (λ i. i < c .args .sizes .n) 0 (c .args .boards .now) (below-all (c .args .sizes .n) (c .args .boards .now) (c .pre .0 .known)) 0 (some-board c)
 
 -- the boards at which values are taken
-near-made : (c : tie.After-boards-from) → length (c .boards-from .last .1 .1 .0) ≡ (start-from-after-boards-from c) .args .sizes .d + (start-from-after-boards-from c) .args .sizes .r
-near-made c = c .boards-from .kept .1 .1 .0 ∙ part-long _ _ (omega (arith, facts (start-from-after-boards-from c)))
+near-made : (c : tie.After-boards-from) → length (c .boards-from .last .1 .1 .0) ≡ st-boards-from c .args .sizes .d + st-boards-from c .args .sizes .r
+near-made c = c .boards-from .kept .1 .1 .0 ∙ part-long _ _ (omega (arith, facts (st-boards-from c)))
 
 add-w : tie.Need-add-w
-add-w c = omega (arith, facts (start-from-after-struct-known c))
+add-w c = omega (arith, facts (st-struct-known c))
 
 sub-f-end : tie.Need-sub-f-end
-sub-f-end c = omega (arith, facts (start-from-after-struct-known2 c))
+sub-f-end c = omega (arith, facts (st-struct-known2 c))
 
 mul-f-end : tie.Need-mul-f-end
-mul-f-end c = omega (arith, facts (start-from-after-struct-known2 c))
+mul-f-end c = omega (arith, facts (st-struct-known2 c))
 
 mul-f-end-2 : tie.Need-mul-f-end-2
-mul-f-end-2 c = omega (arith, f-few _ (facts (start-from-after-struct-known2 c)))
+mul-f-end-2 c = omega (arith, f-few _ (facts (st-struct-known2 c)))
 
 sub-g-end : tie.Need-sub-g-end
-sub-g-end c = omega (arith, facts (start-from-after-struct-known3 c))
+sub-g-end c = omega (arith, facts (st-struct-known3 c))
 
 mul-g-end : tie.Need-mul-g-end
-mul-g-end c = omega (arith, facts (start-from-after-struct-known3 c))
+mul-g-end c = omega (arith, facts (st-struct-known3 c))
 
 mul-g-end-2 : tie.Need-mul-g-end-2
-mul-g-end-2 c = omega (arith, g-few _ (facts (start-from-after-struct-known3 c)))
+mul-g-end-2 c = omega (arith, g-few _ (facts (st-struct-known3 c)))
 
 add-g-end : tie.Need-add-g-end
-add-g-end c = omega (arith, g-few _ (facts (start-from-after-struct-known3 c)))
+add-g-end c = omega (arith, g-few _ (facts (st-struct-known3 c)))
 
 mul-unit-end : tie.Need-mul-unit-end
-mul-unit-end c = omega (arith, facts (start-from-after-struct-known3 c))
+mul-unit-end c = omega (arith, facts (st-struct-known3 c))
 
 add-unit-end : tie.Need-add-unit-end
-add-unit-end c = omega (arith, facts (start-from-after-struct-known3 c))
+add-unit-end c = omega (arith, facts (st-struct-known3 c))
 
 mul-seed-end : tie.Need-mul-seed-end
-mul-seed-end c = omega (arith, facts (start-from-after-struct-known3 c))
+mul-seed-end c = omega (arith, facts (st-struct-known3 c))
 
 add-seed-end : tie.Need-add-seed-end
-add-seed-end c = omega (arith, facts (start-from-after-struct-known3 c))
+add-seed-end c = omega (arith, facts (st-struct-known3 c))
 
 sub-top-end : tie.Need-sub-top-end
-sub-top-end c = omega (arith, facts (start-from-after-struct-known3 c))
+sub-top-end c = omega (arith, facts (st-struct-known3 c))
 
 mul-top-end : tie.Need-mul-top-end
-mul-top-end c = omega (arith, facts (start-from-after-struct-known3 c))
+mul-top-end c = omega (arith, facts (st-struct-known3 c))
 
 add-top-end : tie.Need-add-top-end
-add-top-end c = omega (arith, facts (start-from-after-struct-known3 c))
+add-top-end c = omega (arith, facts (st-struct-known3 c))
 
 shared-slice-read-boards-from : tie.Need-shared-slice-read-boards-from
-shared-slice-read-boards-from c = some-board (start-from-after-shared-slice-known6 c)
+shared-slice-read-boards-from c = some-board (st-struct-known3 (c .before))
 
 sub-boards-from : tie.Need-sub-boards-from
 sub-boards-from c = search needs
@@ -127,10 +115,10 @@ part-targets-start : tie.Need-part-targets-start
 part-targets-start c = search needs
 
 part-targets-end : tie.Need-part-targets-end
-part-targets-end c = omega (arith, facts (start-from-after-shared-slice-known6 c))
+part-targets-end c = omega (arith, facts (st-struct-known3 (c .before)))
 
 boards-from-requires : tie.Need-boards-from-requires
-boards-from-requires c κs = (first-known (start-from-after-targets c), facts (start-from-after-targets c) .few)
+boards-from-requires c κs = (first-known (st-targets c), facts (st-targets c) .few)
 
 sub-stripes-by : tie.Need-sub-stripes-by
 sub-stripes-by c = search needs
@@ -139,7 +127,7 @@ part-stripes-by-start : tie.Need-part-stripes-by-start
 part-stripes-by-start c = search needs
 
 part-stripes-by-end : tie.Need-part-stripes-by-end
-part-stripes-by-end c = simp length-append (omega (arith, facts (start-from-after-targets3 c), near-made (c .before .before)))
+part-stripes-by-end c = simp length-append (omega (arith, facts (st-boards-from (c .before .before)), near-made (c .before .before)))
 
 sub-stripes-by-2 : tie.Need-sub-stripes-by-2
 sub-stripes-by-2 c = search needs
@@ -148,7 +136,7 @@ part-stripes-by-start-2 : tie.Need-part-stripes-by-start-2
 part-stripes-by-start-2 c = search needs
 
 part-stripes-by-end-2 : tie.Need-part-stripes-by-end-2
-part-stripes-by-end-2 c = omega (arith, f-few _ (facts (start-from-after-stripes-by-arg c)), (start-from-after-stripes-by-arg c) .pre .4 .long)
+part-stripes-by-end-2 c = omega (arith, f-few _ (facts (st-stripes-by-arg c)), st-stripes-by-arg c .pre .4 .long)
 
 sub-stripes-by-3 : tie.Need-sub-stripes-by-3
 sub-stripes-by-3 c = search needs
@@ -157,7 +145,7 @@ part-stripes-by-start-3 : tie.Need-part-stripes-by-start-3
 part-stripes-by-start-3 c = search needs
 
 part-stripes-by-end-3 : tie.Need-part-stripes-by-end-3
-part-stripes-by-end-3 c = omega (arith, g-few _ (facts (start-from-after-stripes-by-arg2 c)), (start-from-after-stripes-by-arg2 c) .pre .4 .long)
+part-stripes-by-end-3 c = omega (arith, g-few _ (facts (st-stripes-by-arg (c .before))), st-stripes-by-arg (c .before) .pre .4 .long)
 
 sub-stripes-by-4 : tie.Need-sub-stripes-by-4
 sub-stripes-by-4 c = search needs
@@ -166,7 +154,7 @@ part-stripes-by-start-4 : tie.Need-part-stripes-by-start-4
 part-stripes-by-start-4 c = search needs
 
 part-stripes-by-end-4 : tie.Need-part-stripes-by-end-4
-part-stripes-by-end-4 c = omega (arith, facts (start-from-after-stripes-by-arg3 c), (start-from-after-stripes-by-arg3 c) .pre .4 .long)
+part-stripes-by-end-4 c = omega (arith, facts (st-stripes-by-arg3 c), st-stripes-by-arg3 c .pre .4 .long)
 
 sub-stripes-by-5 : tie.Need-sub-stripes-by-5
 sub-stripes-by-5 c = search needs
@@ -175,7 +163,7 @@ part-stripes-by-start-5 : tie.Need-part-stripes-by-start-5
 part-stripes-by-start-5 c = search needs
 
 part-stripes-by-end-5 : tie.Need-part-stripes-by-end-5
-part-stripes-by-end-5 c = omega (arith, facts (start-from-after-stripes-by-arg4 c), (start-from-after-stripes-by-arg4 c) .pre .4 .long)
+part-stripes-by-end-5 c = omega (arith, facts (st-stripes-by-arg3 (c .before)), st-stripes-by-arg3 (c .before) .pre .4 .long)
 
 sub-stripes-by-6 : tie.Need-sub-stripes-by-6
 sub-stripes-by-6 c = search needs
@@ -184,15 +172,15 @@ part-stripes-by-start-6 : tie.Need-part-stripes-by-start-6
 part-stripes-by-start-6 c = search needs
 
 part-stripes-by-end-6 : tie.Need-part-stripes-by-end-6
-part-stripes-by-end-6 c = omega (arith, facts (start-from-after-stripes-by-arg5 c), (start-from-after-stripes-by-arg5 c) .pre .4 .long)
+part-stripes-by-end-6 c = omega (arith, facts (st-stripes-by-arg5 c), st-stripes-by-arg5 c .pre .4 .long)
 
 stripes-by-requires : tie.Need-stripes-by-requires
 stripes-by-requires c κs =
-    let g = (start-from-after-stripes-by-arg7 c) in
+    let g = st-stripes-by-arg7 c in
     let a = g .args in
     let p = g .pre in
     let f = facts g in
-    let e = near-again (a .sizes) f (getD (a .boards .now) 0 0) _ ((after-boards-from-from-after-stripes-by-arg7 c) .boards-from .last .1 .1 .0) refl ((after-boards-from-from-after-stripes-by-arg7 c) .boards-from .ensures) in
+    let e = near-again (a .sizes) f (getD (a .boards .now) 0 0) _ (boards-from-at-stripes-by-arg7 c .boards-from .last .1 .1 .0) refl (boards-from-at-stripes-by-arg7 c .boards-from .ensures) in
     (p .0, targets-are (a .sizes) f (a .boards .now) _ (first-known g) e, p .1, p .2, p .3, tables-lent (a .sizes) (a .points .now) (a .boards .now) (a .tables .now) _ e (p .4), p .5, p .6)
 
 same-length : tie.Need-same-length

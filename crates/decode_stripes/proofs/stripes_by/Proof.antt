@@ -15,43 +15,31 @@ use Rattle.decode_stripes.proofs.stripes_by.Statement.{statement}
 use Rattle.decode_stripes.proofs.stripes_by.Tie as tie
 
 -- places in the code
-abbrev start-from-after-stripe-len : tie.After-stripe-len → tie.Start
-start-from-after-stripe-len c = c .before .before .before .before .before .before .before .before .before .before .before .before .before
+abbrev st-stripe-len : tie.After-stripe-len → tie.Start
+st-stripe-len c = c .before .before .before .before .before .before .before .before .before .before .before .before .before
 
-abbrev start-from-after-fs : tie.After-fs → tie.Start
-start-from-after-fs c = c .before .before .before .before .before .before .before .before .before .before .before .before .before .before
+abbrev st-vg : tie.After-vg → tie.Start
+st-vg c = st-stripe-len (c .before .before .before .before)
 
-abbrev start-from-after-gs : tie.After-gs → tie.Start
-start-from-after-gs c = c .before .before .before .before .before .before .before .before .before .before .before .before .before .before .before
+abbrev stripe-len-at-columns : tie.After-columns → tie.After-stripe-len
+stripe-len-at-columns c = c .before .before .before .before .before .before .before
 
-abbrev start-from-after-vg : tie.After-vg → tie.Start
-start-from-after-vg c = c .before .before .before .before .before .before .before .before .before .before .before .before .before .before .before .before .before
+abbrev stripe-len-at-stripes-in-arg : tie.After-stripes-in-arg → tie.After-stripe-len
+stripe-len-at-stripes-in-arg c = stripe-len-at-columns (c .before .before)
 
-abbrev start-from-after-tp : tie.After-tp → tie.Start
-start-from-after-tp c = c .before .before .before .before .before .before .before .before .before .before .before .before .before .before .before .before .before .before
-
-abbrev start-from-after-rows : tie.After-rows → tie.Start
-start-from-after-rows c = c .before .before .before .before .before .before .before .before .before .before .before .before .before .before .before .before .before .before .before
-
-abbrev after-stripe-len-from-after-columns : tie.After-columns → tie.After-stripe-len
-after-stripe-len-from-after-columns c = c .before .before .before .before .before .before .before
-
-abbrev start-from-after-stripes-in-arg : tie.After-stripes-in-arg → tie.Start
-start-from-after-stripes-in-arg c = c .before .before .before .before .before .before .before .before .before .before .before .before .before .before .before .before .before .before .before .before .before .before
-
-abbrev after-stripe-len-from-after-stripes-in-arg : tie.After-stripes-in-arg → tie.After-stripe-len
-after-stripe-len-from-after-stripes-in-arg c = c .before .before .before .before .before .before .before .before .before
+abbrev st-stripes-in-arg : tie.After-stripes-in-arg → tie.Start
+st-stripes-in-arg c = st-stripe-len (stripe-len-at-stripes-in-arg c)
 
 -- the sizes are legal
 facts : (c : tie.Start) → Legal (c .args .sizes)
 facts c = legal-facts _ (c .pre .0 .sized)
 
 -- the length of a stripe
-whole : (c : tie.After-stripe-len) → c .stripe-len .result ≡ B ((start-from-after-stripe-len c) .args .sizes)
-whole c = c .stripe-len .ensures ∙ ap (λ b. pick b (B ((start-from-after-stripe-len c) .args .sizes)) 0) ((start-from-after-stripe-len c) .pre .0 .sized)
+whole : (c : tie.After-stripe-len) → c .stripe-len .result ≡ B (st-stripe-len c .args .sizes)
+whole c = c .stripe-len .ensures ∙ ap (λ b. pick b (B (st-stripe-len c .args .sizes)) 0) (st-stripe-len c .pre .0 .sized)
 
 most : (c : tie.After-stripe-len) → c .stripe-len .result ≤ 992
-most c = omega (arith, whole c, B-most _ (facts (start-from-after-stripe-len c)))
+most c = omega (arith, whole c, B-most _ (facts (st-stripe-len c)))
 
 add-w : tie.Need-add-w
 add-w c = search needs
@@ -60,16 +48,16 @@ stripe-len-requires : tie.Need-stripe-len-requires
 stripe-len-requires c κs = search needs
 
 mul-kept : tie.Need-mul-kept
-mul-kept c = omega (arith, facts (start-from-after-stripe-len c))
+mul-kept c = omega (arith, facts (st-stripe-len c))
 
 mul-values : tie.Need-mul-values
-mul-values c = omega (arith, values-few _ (facts (start-from-after-stripe-len c)))
+mul-values c = omega (arith, values-few _ (facts (st-stripe-len c)))
 
 sub-tops : tie.Need-sub-tops
-sub-tops c = omega (arith, facts (start-from-after-stripe-len c))
+sub-tops c = omega (arith, facts (st-stripe-len c))
 
 mul-tops : tie.Need-mul-tops
-mul-tops c = omega (arith, tops-few _ (facts (start-from-after-stripe-len c)))
+mul-tops c = omega (arith, tops-few _ (facts (st-stripe-len c)))
 
 mul-high : tie.Need-mul-high
 mul-high c = search needs
@@ -84,7 +72,7 @@ part-fs-start : tie.Need-part-fs-start
 part-fs-start c = search needs
 
 part-fs-end : tie.Need-part-fs-end
-part-fs-end c = omega (arith, facts (start-from-after-stripe-len c))
+part-fs-end c = omega (arith, facts (st-stripe-len c))
 
 sub-stripes-in-2 : tie.Need-sub-stripes-in-2
 sub-stripes-in-2 c = search needs
@@ -93,7 +81,7 @@ part-gs-start : tie.Need-part-gs-start
 part-gs-start c = search needs
 
 part-gs-end : tie.Need-part-gs-end
-part-gs-end c = omega (arith, facts (start-from-after-fs c))
+part-gs-end c = omega (arith, facts (st-stripe-len (c .before)))
 
 sub-stripes-in-3 : tie.Need-sub-stripes-in-3
 sub-stripes-in-3 c = search needs
@@ -102,7 +90,7 @@ part-vf-start : tie.Need-part-vf-start
 part-vf-start c = search needs
 
 part-vf-end : tie.Need-part-vf-end
-part-vf-end c = omega (arith, values-few _ (facts (start-from-after-gs c)))
+part-vf-end c = omega (arith, values-few _ (facts (st-stripe-len (c .before .before))))
 
 slice-aggregate-stripes-in : tie.Need-slice-aggregate-stripes-in
 slice-aggregate-stripes-in c = search needs
@@ -114,7 +102,7 @@ part-tp-start : tie.Need-part-tp-start
 part-tp-start c = search needs
 
 part-tp-end : tie.Need-part-tp-end
-part-tp-end c = omega (arith, tops-few _ (facts (start-from-after-vg c)))
+part-tp-end c = omega (arith, tops-few _ (facts (st-vg c)))
 
 sub-stripes-in-5 : tie.Need-sub-stripes-in-5
 sub-stripes-in-5 c = search needs
@@ -123,7 +111,7 @@ part-rows-start : tie.Need-part-rows-start
 part-rows-start c = search needs
 
 part-rows-end : tie.Need-part-rows-end
-part-rows-end c = omega (arith, facts (start-from-after-tp c))
+part-rows-end c = omega (arith, facts (st-vg (c .before)))
 
 sub-stripes-in-6 : tie.Need-sub-stripes-in-6
 sub-stripes-in-6 c = search needs
@@ -132,7 +120,7 @@ part-columns-start : tie.Need-part-columns-start
 part-columns-start c = search needs
 
 part-columns-end : tie.Need-part-columns-end
-part-columns-end c = omega (arith, facts (start-from-after-rows c))
+part-columns-end c = omega (arith, facts (st-vg (c .before .before)))
 
 sub-stripes-in-7 : tie.Need-sub-stripes-in-7
 sub-stripes-in-7 c = search needs
@@ -141,11 +129,11 @@ part-u-start : tie.Need-part-u-start
 part-u-start c = search needs
 
 part-u-end : tie.Need-part-u-end
-part-u-end c = most (after-stripe-len-from-after-columns c)
+part-u-end c = most (stripe-len-at-columns c)
 
 stripes-in-requires : tie.Need-stripes-in-requires
 stripes-in-requires c κs =
-    let g = (start-from-after-stripes-in-arg c) in
+    let g = st-stripes-in-arg c in
     let p = g .pre in
     let f = facts g in
     let z = g .args .sizes in (
@@ -164,7 +152,7 @@ stripes-in-requires c κs =
         all-rows = part-long _ _ (omega (arith, f));
         all-columns = part-long _ _ (omega (arith, f));
       },
-      part-long _ _ (most (after-stripe-len-from-after-stripes-in-arg c)) ∙ whole (after-stripe-len-from-after-stripes-in-arg c),
+      part-long _ _ (most (stripe-len-at-stripes-in-arg c)) ∙ whole (stripe-len-at-stripes-in-arg c),
       p .6,
       p .7,
     )

@@ -26,59 +26,38 @@ abbrev μ-loop : tie.MeasureT-loop
 μ-loop sizes points boards targets starts bytes first count ff gf vc tr et fs₀ gs₀ vf₀ vg₀ tp₀ rows₀ columns₀ u₀ out₀ b len s₀ fs gs vf vg tp rows columns u out s = count - s
 
 -- places in the code
-abbrev at-loop-from-after-copy-arg2 : tie.After-copy-arg2 Inv-loop μ-loop → tie.At-loop Inv-loop μ-loop
-at-loop-from-after-copy-arg2 c = c .before .before .before .before .before .before .before .before .before .before .before .before .before .before .before .before .before .before .before .before .before .before .before .before .before .before .before .before .before
+abbrev st-lent : tie.After-slice-known9 Inv-loop μ-loop → tie.Start Inv-loop μ-loop
+st-lent c = c .before .before .before .before .before .before .before .before .before .before .before .before .before .before .before .before .before .before .before
 
-abbrev after-decode-stripe-from-after-copy-arg2 : tie.After-copy-arg2 Inv-loop μ-loop → tie.After-decode-stripe Inv-loop μ-loop
-after-decode-stripe-from-after-copy-arg2 c = c .before .before .before .before .before .before .before .before .before .before .before .before .before .before .before .before .before .before
+abbrev st-turn : tie.In-loop Inv-loop μ-loop → tie.Start Inv-loop μ-loop
+st-turn c = st-lent (c .before .before)
 
-abbrev after-least-from-after-copy-arg2 : tie.After-copy-arg2 Inv-loop μ-loop → tie.After-least Inv-loop μ-loop
-after-least-from-after-copy-arg2 c = c .before .before .before .before .before .before .before .before .before .before .before .before .before .before .before .before .before .before .before .before .before .before .before .before .before .before .before
+abbrev turn-at-decode-stripe-arg8 : tie.After-decode-stripe-arg8 Inv-loop μ-loop → tie.In-loop Inv-loop μ-loop
+turn-at-decode-stripe-arg8 c = c .before .before .before .before .before .before .before .before .before
 
-abbrev start-from-in-loop : tie.In-loop Inv-loop μ-loop → tie.Start Inv-loop μ-loop
-start-from-in-loop c = c .before .before .before .before .before .before .before .before .before .before .before .before .before .before .before .before .before .before .before .before .before
+abbrev st-decode-stripe-arg8 : tie.After-decode-stripe-arg8 Inv-loop μ-loop → tie.Start Inv-loop μ-loop
+st-decode-stripe-arg8 c = st-turn (turn-at-decode-stripe-arg8 c)
 
-abbrev start-from-after-slice-known9 : tie.After-slice-known9 Inv-loop μ-loop → tie.Start Inv-loop μ-loop
-start-from-after-slice-known9 c = c .before .before .before .before .before .before .before .before .before .before .before .before .before .before .before .before .before .before .before
+abbrev least-at-decode-stripe : tie.After-decode-stripe Inv-loop μ-loop → tie.After-least Inv-loop μ-loop
+least-at-decode-stripe c = c .before .before .before .before .before .before .before .before .before
 
-abbrev start-from-after-least : tie.After-least Inv-loop μ-loop → tie.Start Inv-loop μ-loop
-start-from-after-least c = c .before .before .before .before .before .before .before .before .before .before .before .before .before .before .before .before .before .before .before .before .before .before
+abbrev decode-stripe-at-copy-arg : tie.After-copy-arg Inv-loop μ-loop → tie.After-decode-stripe Inv-loop μ-loop
+decode-stripe-at-copy-arg c = c .before .before .before .before .before .before .before .before .before .before .before .before .before .before .before .before .before
 
-abbrev start-from-after-decode-stripe-arg8 : tie.After-decode-stripe-arg8 Inv-loop μ-loop → tie.Start Inv-loop μ-loop
-start-from-after-decode-stripe-arg8 c = c .before .before .before .before .before .before .before .before .before .before .before .before .before .before .before .before .before .before .before .before .before .before .before .before .before .before .before .before .before .before
+abbrev least-at-copy-arg : tie.After-copy-arg Inv-loop μ-loop → tie.After-least Inv-loop μ-loop
+least-at-copy-arg c = least-at-decode-stripe (decode-stripe-at-copy-arg c)
 
-abbrev at-loop-from-after-decode-stripe-arg8 : tie.After-decode-stripe-arg8 Inv-loop μ-loop → tie.At-loop Inv-loop μ-loop
-at-loop-from-after-decode-stripe-arg8 c = c .before .before .before .before .before .before .before .before .before .before
+abbrev decode-stripe-at-turn-end : tie.After-slice-known18 Inv-loop μ-loop → tie.After-decode-stripe Inv-loop μ-loop
+decode-stripe-at-turn-end c = decode-stripe-at-copy-arg (c .before .before .before .before)
 
-abbrev in-loop-from-after-decode-stripe-arg8 : tie.After-decode-stripe-arg8 Inv-loop μ-loop → tie.In-loop Inv-loop μ-loop
-in-loop-from-after-decode-stripe-arg8 c = c .before .before .before .before .before .before .before .before .before
+abbrev least-at-turn-end : tie.After-slice-known18 Inv-loop μ-loop → tie.After-least Inv-loop μ-loop
+least-at-turn-end c = least-at-decode-stripe (decode-stripe-at-turn-end c)
 
-abbrev in-loop-from-after-copy-arg : tie.After-copy-arg Inv-loop μ-loop → tie.In-loop Inv-loop μ-loop
-in-loop-from-after-copy-arg c = c .before .before .before .before .before .before .before .before .before .before .before .before .before .before .before .before .before .before .before .before .before .before .before .before .before .before .before
+abbrev turn-at-turn-end : tie.After-slice-known18 Inv-loop μ-loop → tie.In-loop Inv-loop μ-loop
+turn-at-turn-end c = least-at-turn-end c .before
 
-abbrev after-least-from-after-copy-arg : tie.After-copy-arg Inv-loop μ-loop → tie.After-least Inv-loop μ-loop
-after-least-from-after-copy-arg c = c .before .before .before .before .before .before .before .before .before .before .before .before .before .before .before .before .before .before .before .before .before .before .before .before .before .before
-
-abbrev at-loop-from-after-copy-arg : tie.After-copy-arg Inv-loop μ-loop → tie.At-loop Inv-loop μ-loop
-at-loop-from-after-copy-arg c = c .before .before .before .before .before .before .before .before .before .before .before .before .before .before .before .before .before .before .before .before .before .before .before .before .before .before .before .before
-
-abbrev start-from-after-slice-known18 : tie.After-slice-known18 Inv-loop μ-loop → tie.Start Inv-loop μ-loop
-start-from-after-slice-known18 c = c .before .before .before .before .before .before .before .before .before .before .before .before .before .before .before .before .before .before .before .before .before .before .before .before .before .before .before .before .before .before .before .before .before .before .before .before .before .before .before .before .before .before .before .before .before .before .before .before .before .before .before .before
-
-abbrev at-loop-from-after-slice-known18 : tie.After-slice-known18 Inv-loop μ-loop → tie.At-loop Inv-loop μ-loop
-at-loop-from-after-slice-known18 c = c .before .before .before .before .before .before .before .before .before .before .before .before .before .before .before .before .before .before .before .before .before .before .before .before .before .before .before .before .before .before .before .before
-
-abbrev after-decode-stripe-from-after-slice-known18 : tie.After-slice-known18 Inv-loop μ-loop → tie.After-decode-stripe Inv-loop μ-loop
-after-decode-stripe-from-after-slice-known18 c = c .before .before .before .before .before .before .before .before .before .before .before .before .before .before .before .before .before .before .before .before .before
-
-abbrev after-least-from-after-slice-known18 : tie.After-slice-known18 Inv-loop μ-loop → tie.After-least Inv-loop μ-loop
-after-least-from-after-slice-known18 c = c .before .before .before .before .before .before .before .before .before .before .before .before .before .before .before .before .before .before .before .before .before .before .before .before .before .before .before .before .before .before
-
-abbrev in-loop-from-after-slice-known18 : tie.After-slice-known18 Inv-loop μ-loop → tie.In-loop Inv-loop μ-loop
-in-loop-from-after-slice-known18 c = c .before .before .before .before .before .before .before .before .before .before .before .before .before .before .before .before .before .before .before .before .before .before .before .before .before .before .before .before .before .before .before
-
-abbrev start-from-after-loop : tie.After-loop Inv-loop μ-loop → tie.Start Inv-loop μ-loop
-start-from-after-loop c = c .before .before .before .before .before .before .before .before .before .before .before .before .before .before .before .before .before .before .before .before .before
+abbrev st-turn-end : tie.After-slice-known18 Inv-loop μ-loop → tie.Start Inv-loop μ-loop
+st-turn-end c = st-turn (turn-at-turn-end c)
 
 -- the stripes
 abbrev each : tie.Start Inv-loop μ-loop → ℕ → List ℕ
@@ -92,15 +71,15 @@ each-long c s = let a = c .args in length-decoded (a .sizes) (a .points .now) (l
 fits : (c : tie.Start Inv-loop μ-loop) → length (c .args .out .now) < 18446744073709551616
 fits c = c .good .1 .1 .1 .1 .1 .1 .1 .1 .1 .1 .1 .1 .1 .1 .1 .1 .1 .1 .1 .1 .1 .0 .0
 
-start : (c : tie.In-loop Inv-loop μ-loop) → c .before .loop .s * length ((start-from-in-loop c) .args .u .now) ≤ length ((start-from-in-loop c) .args .out .now)
+start : (c : tie.In-loop Inv-loop μ-loop) → c .before .loop .s * length (st-turn c .args .u .now) ≤ length (st-turn c .args .out .now)
 start c =
-    let g = (start-from-in-loop c) in
+    let g = st-turn c in
     starts-in (length (g .args .u .now)) (length (g .args .out .now)) (g .args .count) (c .before .loop .s) (rw (g .pre .7) (g .pre .9)) (c .loop-test .taken)
 
 loop-holds : tie.Need-loop-holds Inv-loop μ-loop
 loop-holds c =
-    let len = length ((start-from-after-slice-known9 c) .args .out .now) in (
-      ap (λ (l : List ℕ). over l ((start-from-after-slice-known9 c) .args .out .now)) (sym (take-nil len)),
+    let len = length (st-lent c .args .out .now) in (
+      ap (λ (l : List ℕ). over l (st-lent c .args .out .now)) (sym (take-nil len)),
       omega arith,
       refl,
       refl,
@@ -108,7 +87,7 @@ loop-holds c =
     )
 
 mul-at : tie.Need-mul-at Inv-loop μ-loop
-mul-at c = omega (arith, start c, fits (start-from-in-loop c))
+mul-at c = omega (arith, start c, fits (st-turn c))
 
 sub-least : tie.Need-sub-least Inv-loop μ-loop
 sub-least c = omega (arith, start c)
@@ -117,23 +96,23 @@ least-requires : tie.Need-least-requires Inv-loop μ-loop
 least-requires c κs = search needs
 
 add-end : tie.Need-add-end Inv-loop μ-loop
-add-end c = omega (arith, start (c .before), c .least .ensures, fits (start-from-after-least c))
+add-end c = omega (arith, start (c .before), c .least .ensures, fits (st-turn (c .before)))
 
 add-q : tie.Need-add-q Inv-loop μ-loop
-add-q c = omega (arith, (start-from-after-least c) .pre .4, (c .before) .loop-test .taken)
+add-q c = omega (arith, st-turn (c .before) .pre .4, c .before .loop-test .taken)
 
 decode-stripe-requires : tie.Need-decode-stripe-requires Inv-loop μ-loop
 decode-stripe-requires c κs =
-    let g = (start-from-after-decode-stripe-arg8 c) in
+    let g = st-decode-stripe-arg8 c in
     let a = g .args in
     let p = g .pre in
-    let l = (at-loop-from-after-decode-stripe-arg8 c) .loop in
+    let l = (turn-at-decode-stripe-arg8 c .before) .loop in
     let s = l .s in (
       p .0,
       p .1,
       p .2,
-      placed-before (a .sizes) (a .starts .now) (a .bytes .now) (a .first + s + 1) (a .first + a .count) (omega (arith, (in-loop-from-after-decode-stripe-arg8 c) .loop-test .taken)) (p .3),
-      omega (arith, p .4, (in-loop-from-after-decode-stripe-arg8 c) .loop-test .taken),
+      placed-before (a .sizes) (a .starts .now) (a .bytes .now) (a .first + s + 1) (a .first + a .count) (omega (arith, turn-at-decode-stripe-arg8 c .loop-test .taken)) (p .3),
+      omega (arith, p .4, turn-at-decode-stripe-arg8 c .loop-test .taken),
       p .5,
       work-kept (a .sizes) (p .6) (l .inv .4),
       l .inv .3 ∙ p .7,
@@ -146,67 +125,79 @@ part-copy-start : tie.Need-part-copy-start Inv-loop μ-loop
 part-copy-start c = omega arith
 
 part-copy-end : tie.Need-part-copy-end Inv-loop μ-loop
-part-copy-end c = omega (arith, start (in-loop-from-after-copy-arg c), (after-least-from-after-copy-arg c) .least .ensures, (at-loop-from-after-copy-arg c) .loop .inv .2)
+part-copy-end c = omega (arith, start (least-at-copy-arg c .before), least-at-copy-arg c .least .ensures, (least-at-copy-arg c .before .before) .loop .inv .2)
 
 copy-requires : tie.Need-copy-requires Inv-loop μ-loop
 copy-requires c κs =
-    let l = (at-loop-from-after-copy-arg2 c) .loop in
-    let d = (after-decode-stripe-from-after-copy-arg2 c) .decode-stripe in
-    simp length-take (omega (arith, d .kept .1 .1 .1 .1 .1 .1 .1 .1 .1 .1 .1 .1 .1 .1 .1 .1 .1 .1 .1 .0, l .inv .3, (after-least-from-after-copy-arg2 c) .least .ensures))
+    let l = (least-at-copy-arg (c .before) .before .before) .loop in
+    let d = decode-stripe-at-copy-arg (c .before) .decode-stripe in
+    simp length-take (omega (arith, d .kept .1 .1 .1 .1 .1 .1 .1 .1 .1 .1 .1 .1 .1 .1 .1 .1 .1 .1 .1 .0, l .inv .3, least-at-copy-arg (c .before) .least .ensures))
 
 add-s : tie.Need-add-s Inv-loop μ-loop
-add-s c = omega (arith, (in-loop-from-after-slice-known18 c) .loop-test .taken, (start-from-after-slice-known18 c) .pre .4)
+add-s c = omega (arith, turn-at-turn-end c .loop-test .taken, st-turn-end c .pre .4)
 
 loop-less : tie.Need-loop-less Inv-loop μ-loop
-loop-less c = omega (arith, (in-loop-from-after-slice-known18 c) .loop-test .taken)
+loop-less c = omega (arith, turn-at-turn-end c .loop-test .taken)
 
 loop-again : tie.Need-loop-again Inv-loop μ-loop
 loop-again c =
-    let g = (start-from-after-slice-known18 c) in
-    let l = (at-loop-from-after-slice-known18 c) .loop in
-    let d = (after-decode-stripe-from-after-slice-known18 c) .decode-stripe in
+    let g = st-turn-end c in
+    let t = turn-at-turn-end c in
+    let l = t .before .loop in
+    let d = decode-stripe-at-turn-end c .decode-stripe in
     let k = l .inv .4 in
-    let m = (after-least-from-after-slice-known18 c) .least .result in (
-      stripes-turn (each g) (length (g .args .u .now)) (length (g .args .out .now)) (l .s) ((after-least-from-after-slice-known18 c) .least .result) (each-long g) (g .args .out .now) (l .out) _ _ (start (in-loop-from-after-slice-known18 c)) (omega arith) (l .inv .2)
-          ((after-least-from-after-slice-known18 c) .least .ensures) (l .inv .0) (d .ensures) ((c .before .before) .copy .ensures),
-      omega (arith, (in-loop-from-after-slice-known18 c) .loop-test .taken),
-      same-len-mid {X = ℕ} (l .s * length (g .args .u .now)) (l .s * length (g .args .u .now) + m - l .s * length (g .args .u .now)) (l .out) ((c .before .before) .copy .last .1 .0) ((c .before .before) .copy .kept .1 .0) ∙ l .inv .2,
+    let m = least-at-turn-end c .least in
+    let w = c .before .before .copy in
+    let b : ℕ = length (g .args .u .now) in (
+      stripes-turn (each g) b (length (g .args .out .now)) (l .s) (m .result) (each-long g) (g .args .out .now) (l .out) _ _ (start t) (omega arith) (l .inv .2)
+          (m .ensures) (l .inv .0) (d .ensures) (w .ensures),
+      omega (arith, t .loop-test .taken),
+      same-len-mid {X = ℕ} (l .s * b) (l .s * b + m .result - l .s * b) (l .out) (w .last .1 .0) (w .kept .1 .0) ∙ l .inv .2,
       d .kept .1 .1 .1 .1 .1 .1 .1 .1 .1 .1 .1 .1 .1 .1 .1 .1 .1 .1 .1 .0 ∙ l .inv .3,
-      record { f-rows = d .kept .1 .1 .1 .1 .1 .1 .1 .1 .1 .1 .1 .1 .0 ∙ k .f-rows; g-rows = d .kept .1 .1 .1 .1 .1 .1 .1 .1 .1 .1 .1 .1 .1 .0 ∙ k .g-rows; f-values = d .kept .1 .1 .1 .1 .1 .1 .1 .1 .1 .1 .1 .1 .1 .1 .0 ∙ k .f-values; g-values = d .kept .1 .1 .1 .1 .1 .1 .1 .1 .1 .1 .1 .1 .1 .1 .1 .0 ∙ k .g-values; g-tops = d .kept .1 .1 .1 .1 .1 .1 .1 .1 .1 .1 .1 .1 .1 .1 .1 .1 .0 ∙ k .g-tops; all-rows = d .kept .1 .1 .1 .1 .1 .1 .1 .1 .1 .1 .1 .1 .1 .1 .1 .1 .1 .0 ∙ k .all-rows; all-columns = d .kept .1 .1 .1 .1 .1 .1 .1 .1 .1 .1 .1 .1 .1 .1 .1 .1 .1 .1 .0 ∙ k .all-columns },
+      record {
+        f-rows = d .kept .1 .1 .1 .1 .1 .1 .1 .1 .1 .1 .1 .1 .0 ∙ k .f-rows;
+        g-rows = d .kept .1 .1 .1 .1 .1 .1 .1 .1 .1 .1 .1 .1 .1 .0 ∙ k .g-rows;
+        f-values = d .kept .1 .1 .1 .1 .1 .1 .1 .1 .1 .1 .1 .1 .1 .1 .0 ∙ k .f-values;
+        g-values = d .kept .1 .1 .1 .1 .1 .1 .1 .1 .1 .1 .1 .1 .1 .1 .1 .0 ∙ k .g-values;
+        g-tops = d .kept .1 .1 .1 .1 .1 .1 .1 .1 .1 .1 .1 .1 .1 .1 .1 .1 .0 ∙ k .g-tops;
+        all-rows = d .kept .1 .1 .1 .1 .1 .1 .1 .1 .1 .1 .1 .1 .1 .1 .1 .1 .1 .0 ∙ k .all-rows;
+        all-columns = d .kept .1 .1 .1 .1 .1 .1 .1 .1 .1 .1 .1 .1 .1 .1 .1 .1 .1 .1 .0 ∙ k .all-columns;
+      },
     )
 
 same-length : tie.Need-same-length Inv-loop μ-loop
-same-length c = (c .before) .loop .inv .4 .f-rows
+same-length c = c .before .loop .inv .4 .f-rows
 
 same-length-2 : tie.Need-same-length-2 Inv-loop μ-loop
-same-length-2 c = (c .before) .loop .inv .4 .g-rows
+same-length-2 c = c .before .loop .inv .4 .g-rows
 
 same-length-3 : tie.Need-same-length-3 Inv-loop μ-loop
-same-length-3 c = (c .before) .loop .inv .4 .f-values
+same-length-3 c = c .before .loop .inv .4 .f-values
 
 same-length-4 : tie.Need-same-length-4 Inv-loop μ-loop
-same-length-4 c = (c .before) .loop .inv .4 .g-values
+same-length-4 c = c .before .loop .inv .4 .g-values
 
 same-length-5 : tie.Need-same-length-5 Inv-loop μ-loop
-same-length-5 c = (c .before) .loop .inv .4 .g-tops
+same-length-5 c = c .before .loop .inv .4 .g-tops
 
 same-length-6 : tie.Need-same-length-6 Inv-loop μ-loop
-same-length-6 c = (c .before) .loop .inv .4 .all-rows
+same-length-6 c = c .before .loop .inv .4 .all-rows
 
 same-length-7 : tie.Need-same-length-7 Inv-loop μ-loop
-same-length-7 c = (c .before) .loop .inv .4 .all-columns
+same-length-7 c = c .before .loop .inv .4 .all-columns
 
 same-length-8 : tie.Need-same-length-8 Inv-loop μ-loop
-same-length-8 c = (c .before) .loop .inv .3
+same-length-8 c = c .before .loop .inv .3
 
 same-length-9 : tie.Need-same-length-9 Inv-loop μ-loop
-same-length-9 c = (c .before) .loop .inv .2
+same-length-9 c = c .before .loop .inv .2
 
 returns : tie.Need-returns Inv-loop μ-loop
 returns c =
-    let g = (start-from-after-loop c) in
-    let l = (c .before) .loop in
-    stripes-end (each g) (length (g .args .u .now)) (l .s) (g .args .count) (each-long g) (g .args .out .now) (l .out) (omega (arith, c .loop-test .left, l .inv .1)) (rw (g .pre .7) (g .pre .8)) (l .inv .0)
+    let g = st-lent (c .before .before) in
+    let l = c .before .loop in
+    stripes-end (each g) (length (g .args .u .now)) (l .s) (g .args .count) (each-long g) (g .args .out .now) (l .out)
+    (omega (arith, c .loop-test .left, l .inv .1)) (rw (g .pre .7) (g .pre .8)) (l .inv .0)
 
 pub stripes-in-spec : {M : Type 1} → statement M
 stripes-in-spec =

@@ -6,11 +6,11 @@ use Rattle.decode_values.proofs.padded.Statement.{statement}
 use Rattle.decode_values.proofs.padded.Tie as tie
 
 -- places in the code
-abbrev start-from-after-slice-known3 : tie.After-slice-known3 → tie.Start
-start-from-after-slice-known3 c = c .before .before .before .before .before .before .before .before .before .before
+abbrev at-clear : tie.After-copy → tie.After-clear
+at-clear c = c .before .before .before .before
 
-abbrev after-copy-from-after-slice-known3 : tie.After-slice-known3 → tie.After-copy
-after-copy-from-after-slice-known3 c = c .before .before .before .before .before .before
+abbrev start : tie.After-clear → tie.Start
+start c = c .before .before .before .before
 
 sub-copy : tie.Need-sub-copy
 sub-copy c = search needs
@@ -24,37 +24,21 @@ part-copy-end c = search needs
 copy-requires : tie.Need-copy-requires
 copy-requires c κs = search needs
 
-sub-clear : tie.Need-sub-clear
-sub-clear c = search needs
-
-part-clear-start : tie.Need-part-clear-start
-part-clear-start c = search needs
-
-part-clear-end : tie.Need-part-clear-end
-part-clear-end c = search needs
-
-clear-requires : tie.Need-clear-requires
-clear-requires c κs = search needs
-
-same-length : tie.Need-same-length
-same-length c = search needs
-
 returns : tie.Need-returns
 returns c =
-    padded-made ((start-from-after-slice-known3 c) .args .a .now) ((start-from-after-slice-known3 c) .args .out .now) _ _ ((start-from-after-slice-known3 c) .pre)
-    ((after-copy-from-after-slice-known3 c) .copy .ensures) ((c .before .before) .clear .ensures)
+    let w = c .before .before in
+    let z = at-clear w in
+    let a = start z .args in
+    padded-made (a .a .now) (a .out .now) _ _ (start z .pre) (z .clear .ensures) (w .copy .ensures)
 
 pub padded-spec : {M : Type 1} → statement M
 padded-spec =
     tie.close
     (tie.spec
+    (λ c κs. search needs)
     sub-copy
     part-copy-start
     part-copy-end
     copy-requires
-    sub-clear
-    part-clear-start
-    part-clear-end
-    clear-requires
-    same-length
+    (λ c. search needs)
     returns)

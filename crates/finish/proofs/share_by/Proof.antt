@@ -27,70 +27,61 @@ abbrev μ-loop : tie.MeasureT-loop
 μ-loop sizes i lanes rows stripes packets exchanges firsts₀ got₀ g₀ f₀ out₀ a s₀ firsts got g f out s = stripes - s
 
 -- the places
-abbrev st-at-struct-known : tie.After-struct-known Inv-loop μ-loop → tie.Start Inv-loop μ-loop
-st-at-struct-known c = c .before .before .before .before .before .before .before .before .before
+abbrev st-struct-known : tie.After-struct-known Inv-loop μ-loop → tie.Start Inv-loop μ-loop
+st-struct-known c = c .before .before .before .before .before .before .before .before .before
 
-abbrev st-at-struct-known2 : tie.After-struct-known2 Inv-loop μ-loop → tie.Start Inv-loop μ-loop
-st-at-struct-known2 c = c .before .before .before .before .before .before .before .before .before .before
+abbrev st-struct-known2 : tie.After-struct-known2 Inv-loop μ-loop → tie.Start Inv-loop μ-loop
+st-struct-known2 c = st-struct-known (c .before)
 
-abbrev st-at-in-loop : tie.In-loop Inv-loop μ-loop → tie.Start Inv-loop μ-loop
-st-at-in-loop c = c .before .before .before .before .before .before .before .before .before .before .before .before
+abbrev st-loop : tie.At-loop Inv-loop μ-loop → tie.Start Inv-loop μ-loop
+st-loop c = st-struct-known2 (c .before)
 
-abbrev st-at-stripe-by-arg4 : tie.After-stripe-by-arg4 Inv-loop μ-loop → tie.Start Inv-loop μ-loop
-st-at-stripe-by-arg4 c = c .before .before .before .before .before .before .before .before .before .before .before .before .before .before .before .before
+abbrev st-turn : tie.In-loop Inv-loop μ-loop → tie.Start Inv-loop μ-loop
+st-turn c = st-loop (c .before)
 
-abbrev st-at-stripe-by-arg5 : tie.After-stripe-by-arg5 Inv-loop μ-loop → tie.Start Inv-loop μ-loop
-st-at-stripe-by-arg5 c = c .before .before .before .before .before .before .before .before .before .before .before .before .before .before .before .before .before
-
-abbrev loop-at-stripe-by-arg5 : tie.After-stripe-by-arg5 Inv-loop μ-loop → tie.At-loop Inv-loop μ-loop
-loop-at-stripe-by-arg5 c = c .before .before .before .before .before .before
+abbrev st-stripe-by-arg4 : tie.After-stripe-by-arg4 Inv-loop μ-loop → tie.Start Inv-loop μ-loop
+st-stripe-by-arg4 c = st-turn (c .before .before .before .before)
 
 abbrev turn-at-stripe-by-arg5 : tie.After-stripe-by-arg5 Inv-loop μ-loop → tie.In-loop Inv-loop μ-loop
 turn-at-stripe-by-arg5 c = c .before .before .before .before .before
 
-abbrev loop-at-slice-known10 : tie.After-slice-known10 Inv-loop μ-loop → tie.At-loop Inv-loop μ-loop
-loop-at-slice-known10 c = c .before .before .before .before .before .before .before .before .before .before .before .before .before .before .before .before .before
+abbrev st-stripe-by-arg5 : tie.After-stripe-by-arg5 Inv-loop μ-loop → tie.Start Inv-loop μ-loop
+st-stripe-by-arg5 c = st-stripe-by-arg4 (c .before)
 
-abbrev st-at-slice-known10 : tie.After-slice-known10 Inv-loop μ-loop → tie.Start Inv-loop μ-loop
-st-at-slice-known10 c = c .before .before .before .before .before .before .before .before .before .before .before .before .before .before .before .before .before .before .before .before .before .before .before .before .before .before .before .before
+abbrev g-at-turn-end : tie.After-slice-known10 Inv-loop μ-loop → tie.After-g Inv-loop μ-loop
+g-at-turn-end c = c .before .before .before .before .before
 
-abbrev stripe-by-at-slice-known10 : tie.After-slice-known10 Inv-loop μ-loop → tie.After-stripe-by Inv-loop μ-loop
-stripe-by-at-slice-known10 c = c .before .before .before .before .before .before .before .before .before .before
+abbrev firsts-at-turn-end : tie.After-slice-known10 Inv-loop μ-loop → tie.After-firsts Inv-loop μ-loop
+firsts-at-turn-end c = g-at-turn-end c .before .before .before .before
 
-abbrev firsts-at-slice-known10 : tie.After-slice-known10 Inv-loop μ-loop → tie.After-firsts Inv-loop μ-loop
-firsts-at-slice-known10 c = c .before .before .before .before .before .before .before .before .before
+abbrev loop-at-turn-end : tie.After-slice-known10 Inv-loop μ-loop → tie.At-loop Inv-loop μ-loop
+loop-at-turn-end c = turn-at-stripe-by-arg5 (firsts-at-turn-end c .before .before) .before
 
-abbrev got-at-slice-known10 : tie.After-slice-known10 Inv-loop μ-loop → tie.After-got Inv-loop μ-loop
-got-at-slice-known10 c = c .before .before .before .before .before .before .before
-
-abbrev g-at-slice-known10 : tie.After-slice-known10 Inv-loop μ-loop → tie.After-g Inv-loop μ-loop
-g-at-slice-known10 c = c .before .before .before .before .before
-
-abbrev st-at-loop : tie.After-loop Inv-loop μ-loop → tie.Start Inv-loop μ-loop
-st-at-loop c = c .before .before .before .before .before .before .before .before .before .before .before .before
+abbrev st-turn-end : tie.After-slice-known10 Inv-loop μ-loop → tie.Start Inv-loop μ-loop
+st-turn-end c = st-loop (loop-at-turn-end c)
 
 facts : (c : tie.Start Inv-loop μ-loop) → Legal (c .args .sizes)
 facts c = legal-facts _ (c .pre .0)
 
 -- where a turn's stripe ends
-stripe-end : (c : tie.In-loop Inv-loop μ-loop) → let z = st-at-in-loop c .args .sizes in c .before .loop .s * α z + α z ≤ st-at-in-loop c .args .stripes * α z
-stripe-end c = part-end (c .before .loop .s) (α (st-at-in-loop c .args .sizes)) (st-at-in-loop c .args .stripes) (c .loop-test .taken)
+stripe-end : (c : tie.In-loop Inv-loop μ-loop) → let z = st-turn c .args .sizes in c .before .loop .s * α z + α z ≤ st-turn c .args .stripes * α z
+stripe-end c = part-end (c .before .loop .s) (α (st-turn c .args .sizes)) (st-turn c .args .stripes) (c .loop-test .taken)
 
 few : (c : tie.Start Inv-loop μ-loop) → c .args .stripes * α (c .args .sizes) ≤ length (c .args .out .now)
 few c = c .pre .12
 
 loop-holds : tie.Need-loop-holds Inv-loop μ-loop
-loop-holds c = (ap (λ (m : ℕ). drop m (st-at-struct-known2 c .args .out .now)) (sym (zero-mul (α (st-at-struct-known2 c .args .sizes)))), omega arith, refl, refl, refl, refl, refl)
+loop-holds c = (ap (λ (m : ℕ). drop m (st-struct-known2 c .args .out .now)) (sym (zero-mul (α (st-struct-known2 c .args .sizes)))), omega arith, refl, refl, refl, refl, refl)
 
 part-stripe-by-end : tie.Need-part-stripe-by-end Inv-loop μ-loop
-part-stripe-by-end c = omega (arith, stripe-end (c .before .before .before .before), few (st-at-stripe-by-arg4 c))
+part-stripe-by-end c = omega (arith, stripe-end (c .before .before .before .before), few (st-stripe-by-arg4 c))
 
 stripe-by-requires : tie.Need-stripe-by-requires Inv-loop μ-loop
 stripe-by-requires c κs =
-    let p = st-at-stripe-by-arg5 c .pre in
-    let l = loop-at-stripe-by-arg5 c .loop in
-    let z = st-at-stripe-by-arg5 c .args .sizes in
-    let n : l .s * α z + α z ≤ length (l .out) = omega (arith, stripe-end (turn-at-stripe-by-arg5 c), few (st-at-stripe-by-arg5 c)) in (
+    let p = st-stripe-by-arg5 c .pre in
+    let l = turn-at-stripe-by-arg5 c .before .loop in
+    let z = st-stripe-by-arg5 c .args .sizes in
+    let n : l .s * α z + α z ≤ length (l .out) = omega (arith, stripe-end (turn-at-stripe-by-arg5 c), few (st-stripe-by-arg5 c)) in (
       p .0,
       p .1,
       turn-at-stripe-by-arg5 c .loop-test .taken,
@@ -108,26 +99,26 @@ stripe-by-requires c κs =
 
 loop-again : tie.Need-loop-again Inv-loop μ-loop
 loop-again c =
-    let l = loop-at-slice-known10 c .loop in
-    let a = st-at-slice-known10 c .args in
+    let l = loop-at-turn-end c .loop in
+    let a = st-turn-end c .args in
     let z = a .sizes in
-    let L : length (l .f) ≡ a .lanes = l .inv .6 ∙ st-at-slice-known10 c .pre .10 in (
+    let L : length (l .f) ≡ a .lanes = l .inv .6 ∙ st-turn-end c .pre .10 in (
       join-loop (λ s. stripeBy z (a .i) (a .lanes) (a .rows .now) (a .stripes) s (a .packets .now) (a .exchanges .now)) (α z) (l .s) (a .out .now) (l .out) _
-          (λ t h. length-stripe z (facts (st-at-slice-known10 c)) (a .i) (a .lanes) (a .stripes) t (a .rows .now) (a .packets .now) (a .exchanges .now))
-          (stripe-by-at-slice-known10 c .stripe-by .ensures ∙ ap (λ (k : ℕ). stripeBy z (a .i) k (a .rows .now) (a .stripes) (l .s) (a .packets .now) (a .exchanges .now)) L)
+          (λ t h. length-stripe z (facts (st-turn-end c)) (a .i) (a .lanes) (a .stripes) t (a .rows .now) (a .packets .now) (a .exchanges .now))
+          (firsts-at-turn-end c .before .stripe-by .ensures ∙ ap (λ (k : ℕ). stripeBy z (a .i) k (a .rows .now) (a .stripes) (l .s) (a .packets .now) (a .exchanges .now)) L)
           (l .inv .0),
       omega arith,
       c .before .out .given .1 ∙ l .inv .2,
-      firsts-at-slice-known10 c .firsts .given ∙ l .inv .3,
-      got-at-slice-known10 c .got .given ∙ l .inv .4,
-      g-at-slice-known10 c .g .given ∙ l .inv .5,
+      firsts-at-turn-end c .firsts .given ∙ l .inv .3,
+      g-at-turn-end c .before .before .got .given ∙ l .inv .4,
+      g-at-turn-end c .g .given ∙ l .inv .5,
       c .before .before .before .f .given ∙ l .inv .6,
     )
 
 returns : tie.Need-returns Inv-loop μ-loop
 returns c =
     let l = c .before .loop in
-    let a = st-at-loop c .args in
+    let a = st-loop (c .before) .args in
     share-end _ (α (a .sizes)) (a .out .now) (l .out) (l .s) (a .stripes) (omega arith) (l .inv .0)
 
 pub share-by-spec : {M : Type 1} → statement M
@@ -136,12 +127,12 @@ share-by-spec =
     (tie.spec
     Inv-loop
     μ-loop
-    (λ c. let f = facts (st-at-struct-known c) in search needs)
-    (λ c. let f = facts (st-at-struct-known2 c) in search needs)
-    (λ c. let f = facts (st-at-struct-known2 c) in search needs)
+    (λ c. let f = facts (st-struct-known c) in search needs)
+    (λ c. let f = facts (st-struct-known2 c) in search needs)
+    (λ c. let f = facts (st-struct-known2 c) in search needs)
     loop-holds
-    (λ c. omega (arith, stripe-end c, few (st-at-in-loop c)))
-    (λ c. omega (arith, stripe-end c, few (st-at-in-loop c)))
+    (λ c. omega (arith, stripe-end c, few (st-turn c)))
+    (λ c. omega (arith, stripe-end c, few (st-turn c)))
     (λ c. search needs)
     (λ c. search needs)
     part-stripe-by-end

@@ -17,32 +17,41 @@ use Rattle.finish.proofs.share_in.Statement.{statement}
 use Rattle.finish.proofs.share_in.Tie as tie
 
 -- the places
-abbrev st-at-slice-known3 : tie.After-slice-known3 → tie.Start
-st-at-slice-known3 c = c .before .before .before .before .before .before .before .before .before
+abbrev st-lent-packets : tie.After-shared-slice-known4 → tie.Start
+st-lent-packets c = c .before .before .before .before
 
-abbrev st-at-board-rows-arg2 : tie.After-board-rows-arg2 → tie.Start
-st-at-board-rows-arg2 c = c .before .before .before .before .before .before .before .before .before .before .before .before
+abbrev lent-packets-at-lent-exchanges : tie.After-shared-slice-known6 → tie.After-shared-slice-known4
+lent-packets-at-lent-exchanges c = c .before .before
 
-abbrev st-at-share-work-arg2 : tie.After-share-work-arg2 → tie.Start
-st-at-share-work-arg2 c = c .before .before .before .before .before .before .before .before .before .before .before .before .before .before .before .before .before .before .before
+abbrev st-slice-known3 : tie.After-slice-known3 → tie.Start
+st-slice-known3 c = st-lent-packets (lent-packets-at-lent-exchanges (c .before .before .before))
+
+abbrev st-board-rows-arg2 : tie.After-board-rows-arg2 → tie.Start
+st-board-rows-arg2 c = st-slice-known3 (c .before .before .before)
+
+abbrev whole-vectors-at-board-rows : tie.After-board-rows → tie.After-whole-vectors
+whole-vectors-at-board-rows c = c .before .before .before
 
 abbrev whole-vectors-at-share-work-arg2 : tie.After-share-work-arg2 → tie.After-whole-vectors
-whole-vectors-at-share-work-arg2 c = c .before .before .before .before .before .before .before .before .before
+whole-vectors-at-share-work-arg2 c = whole-vectors-at-board-rows (c .before .before .before .before .before .before)
 
-abbrev st-at-slice-known6 : tie.After-slice-known6 → tie.Start
-st-at-slice-known6 c = c .before .before .before .before .before .before .before .before .before .before .before .before .before .before .before .before .before .before .before .before .before .before
+abbrev st-share-work-arg2 : tie.After-share-work-arg2 → tie.Start
+st-share-work-arg2 c = st-slice-known3 (whole-vectors-at-share-work-arg2 c .before)
 
-abbrev whole-vectors-at-slice-known6 : tie.After-slice-known6 → tie.After-whole-vectors
-whole-vectors-at-slice-known6 c = c .before .before .before .before .before .before .before .before .before .before .before .before
+abbrev board-rows-at-end : tie.After-slice-known6 → tie.After-board-rows
+board-rows-at-end c = c .before .before .before .before .before .before .before .before .before
 
-abbrev shared-slice-known4-at-slice-known6 : tie.After-slice-known6 → tie.After-shared-slice-known4
-shared-slice-known4-at-slice-known6 c = c .before .before .before .before .before .before .before .before .before .before .before .before .before .before .before .before .before .before
+abbrev whole-vectors-at-end : tie.After-slice-known6 → tie.After-whole-vectors
+whole-vectors-at-end c = whole-vectors-at-board-rows (board-rows-at-end c)
 
-abbrev shared-slice-known6-at-slice-known6 : tie.After-slice-known6 → tie.After-shared-slice-known6
-shared-slice-known6-at-slice-known6 c = c .before .before .before .before .before .before .before .before .before .before .before .before .before .before .before .before
+abbrev lent-exchanges-at-end : tie.After-slice-known6 → tie.After-shared-slice-known6
+lent-exchanges-at-end c = whole-vectors-at-end c .before .before .before .before
 
-abbrev board-rows-at-slice-known6 : tie.After-slice-known6 → tie.After-board-rows
-board-rows-at-slice-known6 c = c .before .before .before .before .before .before .before .before .before
+abbrev lent-packets-at-end : tie.After-slice-known6 → tie.After-shared-slice-known4
+lent-packets-at-end c = lent-packets-at-lent-exchanges (lent-exchanges-at-end c)
+
+abbrev st-end : tie.After-slice-known6 → tie.Start
+st-end c = st-lent-packets (lent-packets-at-end c)
 
 facts : (c : tie.Start) → Legal (c .args .sizes)
 facts c = legal-facts _ (c .pre .0)
@@ -52,10 +61,10 @@ known c = last-known (c .args .sizes .n) (c .args .i) (c .args .helpers .now) (c
 
 board-rows-requires : tie.Need-board-rows-requires
 board-rows-requires c κs =
-    let p = st-at-board-rows-arg2 c .pre in
-    let a = st-at-board-rows-arg2 c .args in
-    let f = facts (st-at-board-rows-arg2 c) in
-    let k = known (st-at-board-rows-arg2 c) in (
+    let p = st-board-rows-arg2 c .pre in
+    let a = st-board-rows-arg2 c .args in
+    let f = facts (st-board-rows-arg2 c) in
+    let k = known (st-board-rows-arg2 c) in (
       p .3,
       p .1,
       below-more (a .sizes .n) 32 (a .helpers .now) (f .few) (k .0),
@@ -68,8 +77,8 @@ board-rows-requires c κs =
 
 share-work-requires : tie.Need-share-work-requires
 share-work-requires c κs =
-    let p = st-at-share-work-arg2 c .pre in
-    let k = known (st-at-share-work-arg2 c) in (
+    let p = st-share-work-arg2 c .pre in
+    let k = known (st-share-work-arg2 c) in (
       p .0,
       k .2,
       p .4,
@@ -84,21 +93,21 @@ share-work-requires c κs =
 
 returns : tie.Need-returns
 returns c =
-    let a = st-at-slice-known6 c .args in
-    let p = st-at-slice-known6 c .pre in
-    let v = whole-vectors-at-slice-known6 c .whole-vectors .ensures in
-    let bp = all-of (λ x. x < 256) 0 (a .packets .now) (λ i l. omega (arith, shared-slice-known4-at-slice-known6 c .shared-slice-known4 .given i)) in
-    let be = all-of (λ x. x < 256) 0 (a .exchanges .now) (λ i l. omega (arith, shared-slice-known6-at-slice-known6 c .shared-slice-known6 .given i)) in
+    let a = st-end c .args in
+    let p = st-end c .pre in
+    let v = whole-vectors-at-end c .whole-vectors .ensures in
+    let bp = all-of (λ x. x < 256) 0 (a .packets .now) (λ i l. omega (arith, lent-packets-at-end c .shared-slice-known4 .given i)) in
+    let be = all-of (λ x. x < 256) 0 (a .exchanges .now) (λ i l. omega (arith, lent-exchanges-at-end c .shared-slice-known6 .given i)) in
     c .before .before .share-work .ensures
     ∙ ap (λ (l : List ℕ). l ++ drop (a .stripes * α (a .sizes)) (a .out .now))
-    (share-is (a .sizes) (a .points .now) (facts (st-at-slice-known6 c)) (p .2) (a .i) (a .stripes) _ (a .helpers .now) (a .packets .now) (a .partners .now) (a .exchanges .now) _
-    ((known (st-at-slice-known6 c)) .2) (p .7) (p .8) (p .9) (p .10) bp be (v .0) (v .1) (board-rows-at-slice-known6 c .board-rows .ensures))
+    (share-is (a .sizes) (a .points .now) (facts (st-end c)) (p .2) (a .i) (a .stripes) _ (a .helpers .now) (a .packets .now) (a .partners .now) (a .exchanges .now) _
+    ((known (st-end c)) .2) (p .7) (p .8) (p .9) (p .10) bp be (v .0) (v .1) (board-rows-at-end c .board-rows .ensures))
 
 pub share-in-spec : {M : Type 1} → statement M
 share-in-spec =
     tie.close
     (tie.spec
-    (λ c κs. let f = facts (st-at-slice-known3 c) in search needs)
+    (λ c κs. let f = facts (st-slice-known3 c) in search needs)
     board-rows-requires
     share-work-requires
     (λ c. search needs)

@@ -15,65 +15,68 @@ use Rattle.finish.proofs.stripe_by.Statement.{statement}
 use Rattle.finish.proofs.stripe_by.Tie as tie
 
 -- the places
-abbrev st-at-gather-arg : tie.After-gather-arg → tie.Start
-st-at-gather-arg c = c .before .before .before .before .before .before .before .before .before .before .before .before .before .before
+abbrev st-received : tie.After-received → tie.Start
+st-received c = c .before .before .before .before .before .before .before .before .before .before .before
 
-abbrev st-at-row-sums-arg : tie.After-row-sums-arg → tie.Start
-st-at-row-sums-arg c = c .before .before .before .before .before .before .before .before .before .before .before .before .before .before .before .before .before .before
+abbrev st-gather-arg : tie.After-gather-arg → tie.Start
+st-gather-arg c = st-received (c .before .before .before)
 
-abbrev st-at-row-sums-arg3 : tie.After-row-sums-arg3 → tie.Start
-st-at-row-sums-arg3 c = c .before .before .before .before .before .before .before .before .before .before .before .before .before .before .before .before .before .before .before .before
+abbrev st-row-sums-arg : tie.After-row-sums-arg → tie.Start
+st-row-sums-arg c = st-gather-arg (c .before .before .before .before)
 
 abbrev firsts-at-row-sums-arg3 : tie.After-row-sums-arg3 → tie.After-firsts
 firsts-at-row-sums-arg3 c = c .before .before .before .before .before .before .before .before
 
-abbrev st-at-finish-arg5 : tie.After-finish-arg5 → tie.Start
-st-at-finish-arg5 c = c .before .before .before .before .before .before .before .before .before .before .before .before .before .before .before .before .before .before .before .before .before .before .before .before .before .before .before .before
+abbrev st-row-sums-arg3 : tie.After-row-sums-arg3 → tie.Start
+st-row-sums-arg3 c = st-row-sums-arg (c .before .before)
 
-abbrev got-at-finish-arg5 : tie.After-finish-arg5 → tie.After-got
-got-at-finish-arg5 c = c .before .before .before .before .before .before .before .before .before .before .before .before
+abbrev got-at-row-sums : tie.After-row-sums → tie.After-got
+got-at-row-sums c = c .before .before .before .before .before
 
 abbrev g-at-finish-arg5 : tie.After-finish-arg5 → tie.After-g
 g-at-finish-arg5 c = c .before .before .before .before .before .before
 
-abbrev st-at-slice-known11 : tie.After-slice-known11 → tie.Start
-st-at-slice-known11 c = c .before .before .before .before .before .before .before .before .before .before .before .before .before .before .before .before .before .before .before .before .before .before .before .before .before .before .before .before .before .before .before .before .before .before .before
+abbrev got-at-finish-arg5 : tie.After-finish-arg5 → tie.After-got
+got-at-finish-arg5 c = got-at-row-sums (g-at-finish-arg5 c .before)
 
-abbrev finish-at-slice-known11 : tie.After-slice-known11 → tie.After-finish
-finish-at-slice-known11 c = c .before .before .before .before .before .before
+abbrev st-finish-arg5 : tie.After-finish-arg5 → tie.Start
+st-finish-arg5 c = st-row-sums-arg3 (g-at-finish-arg5 c .before .before)
 
-abbrev row-sums-at-slice-known11 : tie.After-slice-known11 → tie.After-row-sums
-row-sums-at-slice-known11 c = c .before .before .before .before .before .before .before .before .before .before .before .before .before .before
+abbrev finish-at-end : tie.After-slice-known11 → tie.After-finish
+finish-at-end c = c .before .before .before .before .before .before
 
-abbrev received-at-slice-known11 : tie.After-slice-known11 → tie.After-received
-received-at-slice-known11 c = c .before .before .before .before .before .before .before .before .before .before .before .before .before .before .before .before .before .before .before .before .before .before .before .before
+abbrev row-sums-at-end : tie.After-slice-known11 → tie.After-row-sums
+row-sums-at-end c = g-at-finish-arg5 (finish-at-end c .before) .before
 
-abbrev gather-at-slice-known11 : tie.After-slice-known11 → tie.After-gather
-gather-at-slice-known11 c = c .before .before .before .before .before .before .before .before .before .before .before .before .before .before .before .before .before .before .before .before
+abbrev got-at-end : tie.After-slice-known11 → tie.After-got
+got-at-end c = got-at-row-sums (row-sums-at-end c)
 
-abbrev got-at-slice-known11 : tie.After-slice-known11 → tie.After-got
-got-at-slice-known11 c = c .before .before .before .before .before .before .before .before .before .before .before .before .before .before .before .before .before .before .before
+abbrev received-at-end : tie.After-slice-known11 → tie.After-received
+received-at-end c = firsts-at-row-sums-arg3 (row-sums-at-end c .before) .before
+
+abbrev st-end : tie.After-slice-known11 → tie.Start
+st-end c = st-received (received-at-end c)
 
 facts : (c : tie.Start) → Legal (c .args .sizes)
 facts c = legal-facts _ (c .pre .0)
 
 gather-requires : tie.Need-gather-requires
-gather-requires c κs = let p = st-at-gather-arg c .pre in ((facts (st-at-gather-arg c)) .some-fresh, p .2, p .3, p .5, p .6, p .8)
+gather-requires c κs = let p = st-gather-arg c .pre in ((facts (st-gather-arg c)) .some-fresh, p .2, p .3, p .5, p .6, p .8)
 
 row-sums-requires : tie.Need-row-sums-requires
 row-sums-requires c κs =
-    let f = facts (st-at-row-sums-arg3 c) in
-    let p = st-at-row-sums-arg3 c .pre in
-    let a = st-at-row-sums-arg3 c .args in
+    let f = facts (st-row-sums-arg3 c) in
+    let p = st-row-sums-arg3 c .pre in
+    let a = st-row-sums-arg3 c .args in
     let l = firsts-at-row-sums-arg3 c .firsts .given in
     let r : length (take (a .sizes .d * 32 - 0) (drop 0 (a .rows .now))) ≡ a .sizes .d * 32 = simp length-take (omega arith) in
     (omega arith, omega arith, omega arith)
 
 finish-requires : tie.Need-finish-requires
 finish-requires c κs =
-    let f = facts (st-at-finish-arg5 c) in
-    let p = st-at-finish-arg5 c .pre in
-    let a = st-at-finish-arg5 c .args in
+    let f = facts (st-finish-arg5 c) in
+    let p = st-finish-arg5 c .pre in
+    let a = st-finish-arg5 c .args in
     let l = got-at-finish-arg5 c .got .given in
     let g = g-at-finish-arg5 c .g .given in
     let r : length (take (length (a .rows .now) - a .sizes .d * 32) (drop (a .sizes .d * 32) (a .rows .now))) ≡ (a .sizes .d + a .sizes .r) * 32 =
@@ -82,15 +85,15 @@ finish-requires c κs =
 
 returns : tie.Need-returns
 returns c =
-    let f = facts (st-at-slice-known11 c) in
-    let p = st-at-slice-known11 c .pre in
-    let a = st-at-slice-known11 c .args in
+    let f = facts (st-end c) in
+    let p = st-end c .pre in
+    let a = st-end c .args in
     let z = a .sizes in
     let m : ℕ = z .d * 32 in
     stripe-step z (a .i) (length (a .f .now)) (length (a .g .now)) (a .stripes) (a .s) _ _ (length (a .got .now)) (a .rows .now) (a .packets .now) (a .exchanges .now) _ _ _ _ _ _
-    (finish-at-slice-known11 c .finish .ensures) (row-sums-at-slice-known11 c .row-sums .ensures) (p .11) (received-at-slice-known11 c .received .ensures) (gather-at-slice-known11 c .gather .ensures)
+    (finish-at-end c .finish .ensures) (row-sums-at-end c .row-sums .ensures) (p .11) (received-at-end c .received .ensures) (got-at-end c .before .gather .ensures)
     (ap (λ (k : ℕ). take k (a .rows .now)) (sub-zero m)) (take-all (length (a .rows .now) - m) (drop m (a .rows .now)) (simp length-drop (omega arith)))
-    (omega (arith, got-at-slice-known11 c .got .given)) (got-at-slice-known11 c .got .given)
+    (omega (arith, got-at-end c .got .given)) (got-at-end c .got .given)
 
 pub stripe-by-spec : {M : Type 1} → statement M
 stripe-by-spec =
@@ -101,7 +104,7 @@ stripe-by-spec =
     gather-requires
     (λ c. search needs)
     (λ c. search needs)
-    (λ c. let p = st-at-row-sums-arg c .pre in omega arith)
+    (λ c. let p = st-row-sums-arg c .pre in omega arith)
     row-sums-requires
     (λ c. search needs)
     (λ c. search needs)

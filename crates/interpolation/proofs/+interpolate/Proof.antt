@@ -28,6 +28,24 @@ abbrev interpolate-below : ℕ → In 3 interpolate-kinds.ps
 interpolate-below t =
     and 3 interpolate-kinds.ps (falls 3 interpolate-kinds.ps _<_ μ-interpolate t) interpolate.Pre
 
+-- the place at which the call began
+abbrev st : (t : ℕ) → interpolate-lts.After-slopes (
+  slopes-reads.Asked,
+  slopes-reads.Learnt,
+  interpolate-below t,
+  interpolate.Post,
+  step-reads.Asked,
+  step-reads.Learnt,
+) (interpolate-at t) interpolate.Post → interpolate-lts.Start (
+  slopes-reads.Asked,
+  slopes-reads.Learnt,
+  interpolate-below t,
+  interpolate.Post,
+  step-reads.Asked,
+  step-reads.Learnt,
+) (interpolate-at t) interpolate.Post
+st t c = c .before .before .before .before .before .before .before .before .before
+
 interpolate-shared-slice-read-a : (t : ℕ) → interpolate-lts.Need-shared-slice-read-a (
   slopes-reads.Asked,
   slopes-reads.Learnt,
@@ -187,8 +205,7 @@ interpolate-interpolate-requires : (t : ℕ) → interpolate-lts.Need-interpolat
   step-reads.Learnt,
 ) (interpolate-at t) interpolate.Post
 interpolate-interpolate-requires t c κs =
-    let s = c .before .before .before .before in
-    let g = s .before .before .before .before .before .before .before .before .before in
+    let g = st t (c .before .before .before .before) in
     (search needs, (g .pre .1 .0, search needs))
 
 interpolate-step-requires : (t : ℕ) → interpolate-lts.Need-step-requires (
@@ -222,8 +239,9 @@ interpolate-returns : (t : ℕ) → interpolate-lts.Need-returns (
 interpolate-returns t c =
     let e = c .before .before in
     let i = e .before .before .before .before in
-    let s = i .before .before .before .before .before in
-    let g = s .before .before .before .before .before .before .before .before .before in
+    let a = i .before in
+    let s = a .before .before .before .before in
+    let g = st t s in
     e .step .ensures
     ∙ interpolate-some (g .args .xs .now) (g .args .vs .now) _ _ (g .pre .1 .1) (omega arith) (s .slopes .ensures) (i .interpolate .ensures)
 
@@ -235,7 +253,9 @@ interpolate-returns-2 : (t : ℕ) → interpolate-lts.Need-returns-2 (
   step-reads.Asked,
   step-reads.Learnt,
 ) (interpolate-at t) interpolate.Post
-interpolate-returns-2 t c = interpolate-none (c .before .before .before .before .args .xs .now) (c .before .before .before .before .args .vs .now) (c .before .before .before .before .pre .1 .1) (c .if1 .left)
+interpolate-returns-2 t c =
+    let g = c .before .before .before .before in
+    interpolate-none (g .args .xs .now) (g .args .vs .now) (g .pre .1 .1) (c .if1 .left)
 
 pub +interpolate-spec : {M : Type 1} → statement M
 +interpolate-spec = close μ-interpolate λ t. interpolate-lts.spec (

@@ -18,6 +18,13 @@ Inv-loop inverses a v ys ws₀ j₀ ws j = (take j ws ++ slopes a v (drop j ys) 
 abbrev μ-loop : tie.MeasureT-loop
 μ-loop inverses a v ys ws₀ j₀ ws j = length ws₀ - j
 
+-- the places
+abbrev at-loop : tie.After-add Inv-loop μ-loop → tie.At-loop Inv-loop μ-loop
+at-loop c = c .before .before .before .before
+
+abbrev st : tie.After-add Inv-loop μ-loop → tie.Start Inv-loop μ-loop
+st c = at-loop c .before .before .before .before
+
 loop-holds : tie.Need-loop-holds Inv-loop μ-loop
 loop-holds c = search needs
 
@@ -35,7 +42,7 @@ cast-n c = search needs
 
 shared-slice-read-n : tie.Need-shared-slice-read-n Inv-loop μ-loop
 shared-slice-read-n c =
-    let g = c .before .before .before .before .before .before .before .before .before in
+    let g = st (c .before) in
     omega (arith, table-length inverse 256 _ (g .pre .0))
 
 add-requires-2 : tie.Need-add-requires-2 Inv-loop μ-loop
@@ -55,10 +62,14 @@ loop-less c = search needs
 
 loop-again : tie.Need-loop-again Inv-loop μ-loop
 loop-again c =
-    let w = c .before .before .before .before .before .before .before .loop in
-    let g = c .before .before .before .before .before .before .before .before .before .before .before in
-    let k : length (set (w .ws) (w .j) (c .product .result)) ≡ length (w .ws) = length-set (w .ws) (w .j) (c .product .result) in
-    (slopes-loop _ _ (g .args .ys .now) (w .ws) _ (w .j) _ _ _ _ (omega arith) (omega arith) (c .before .before .before .add .ensures) (table-at inverse 256 _ _ (g .pre .0) (omega arith)) (c .before .add2 .ensures) (c .product .ensures) (w .inv .0), omega arith)
+    let a = c .before .before .before in
+    let w = at-loop a .loop in
+    let g = st a in
+    let k : length (set (w .ws) (w .j) (c .product .result)) ≡ length (w .ws) = length-set (w .ws) (w .j) (c .product .result) in (
+      slopes-loop _ _ (g .args .ys .now) (w .ws) _ (w .j) _ _ _ _ (omega arith) (omega arith) (a .add .ensures) (table-at inverse 256 _ _ (g .pre .0) (omega arith))
+          (c .before .add2 .ensures) (c .product .ensures) (w .inv .0),
+      omega arith,
+    )
 
 same-length : tie.Need-same-length Inv-loop μ-loop
 same-length c = search needs

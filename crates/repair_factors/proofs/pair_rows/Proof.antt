@@ -23,41 +23,38 @@ abbrev μ-loop : tie.MeasureT-loop
 μ-loop n d c points fresh helpers inverses near₀ rows₀ out₀ h₀ near rows out h = n - h
 
 -- the places
-abbrev st-at-slice-known3 : tie.After-slice-known3 Inv-loop μ-loop → tie.Start Inv-loop μ-loop
-st-at-slice-known3 c = c .before .before .before .before .before .before .before
+abbrev st-lent : tie.After-slice-known3 Inv-loop μ-loop → tie.Start Inv-loop μ-loop
+st-lent c = c .before .before .before .before .before .before .before
 
-abbrev st-at-lagrange-rows-arg2 : tie.After-lagrange-rows-arg2 Inv-loop μ-loop → tie.Start Inv-loop μ-loop
-st-at-lagrange-rows-arg2 c = c .before .before .before .before .before .before .before .before .before .before .before .before .before .before .before
-
-abbrev loop-at-lagrange-rows-arg2 : tie.After-lagrange-rows-arg2 Inv-loop μ-loop → tie.At-loop Inv-loop μ-loop
-loop-at-lagrange-rows-arg2 c = c .before .before .before .before .before .before .before
+abbrev st-loop : tie.At-loop Inv-loop μ-loop → tie.Start Inv-loop μ-loop
+st-loop c = st-lent (c .before)
 
 abbrev turn-at-lagrange-rows-arg2 : tie.After-lagrange-rows-arg2 Inv-loop μ-loop → tie.In-loop Inv-loop μ-loop
 turn-at-lagrange-rows-arg2 c = c .before .before .before .before .before .before
 
-abbrev st-at-put-rows-arg2 : tie.After-put-rows-arg2 Inv-loop μ-loop → tie.Start Inv-loop μ-loop
-st-at-put-rows-arg2 c = c .before .before .before .before .before .before .before .before .before .before .before .before .before .before .before .before .before .before .before .before
+abbrev loop-at-lagrange-rows-arg2 : tie.After-lagrange-rows-arg2 Inv-loop μ-loop → tie.At-loop Inv-loop μ-loop
+loop-at-lagrange-rows-arg2 c = turn-at-lagrange-rows-arg2 c .before
 
-abbrev st-at-slice-known6 : tie.After-slice-known6 Inv-loop μ-loop → tie.Start Inv-loop μ-loop
-st-at-slice-known6 c = c .before .before .before .before .before .before .before .before .before .before .before .before .before .before .before .before .before .before .before .before .before .before .before
+abbrev st-lagrange-rows-arg2 : tie.After-lagrange-rows-arg2 Inv-loop μ-loop → tie.Start Inv-loop μ-loop
+st-lagrange-rows-arg2 c = st-loop (loop-at-lagrange-rows-arg2 c)
 
-abbrev loop-at-slice-known6 : tie.After-slice-known6 Inv-loop μ-loop → tie.At-loop Inv-loop μ-loop
-loop-at-slice-known6 c = c .before .before .before .before .before .before .before .before .before .before .before .before .before .before .before
+abbrev st-put-rows-arg2 : tie.After-put-rows-arg2 Inv-loop μ-loop → tie.Start Inv-loop μ-loop
+st-put-rows-arg2 c = st-lagrange-rows-arg2 (c .before .before .before .before .before)
 
-abbrev boards-from-at-slice-known6 : tie.After-slice-known6 Inv-loop μ-loop → tie.After-boards-from Inv-loop μ-loop
-boards-from-at-slice-known6 c = c .before .before .before .before .before .before .before .before .before .before .before .before
+abbrev rows-at-turn-end : tie.After-slice-known6 Inv-loop μ-loop → tie.After-rows Inv-loop μ-loop
+rows-at-turn-end c = c .before .before .before .before .before .before
 
-abbrev lagrange-rows-at-slice-known6 : tie.After-slice-known6 Inv-loop μ-loop → tie.After-lagrange-rows Inv-loop μ-loop
-lagrange-rows-at-slice-known6 c = c .before .before .before .before .before .before .before
+abbrev lagrange-rows-at-turn-end : tie.After-slice-known6 Inv-loop μ-loop → tie.After-lagrange-rows Inv-loop μ-loop
+lagrange-rows-at-turn-end c = rows-at-turn-end c .before
 
-abbrev near-at-slice-known6 : tie.After-slice-known6 Inv-loop μ-loop → tie.After-near Inv-loop μ-loop
-near-at-slice-known6 c = c .before .before .before .before .before .before .before .before .before .before .before
+abbrev near-at-turn-end : tie.After-slice-known6 Inv-loop μ-loop → tie.After-near Inv-loop μ-loop
+near-at-turn-end c = lagrange-rows-at-turn-end c .before .before .before .before
 
-abbrev rows-at-slice-known6 : tie.After-slice-known6 Inv-loop μ-loop → tie.After-rows Inv-loop μ-loop
-rows-at-slice-known6 c = c .before .before .before .before .before .before
+abbrev loop-at-turn-end : tie.After-slice-known6 Inv-loop μ-loop → tie.At-loop Inv-loop μ-loop
+loop-at-turn-end c = loop-at-lagrange-rows-arg2 (lagrange-rows-at-turn-end c .before)
 
-abbrev st-at-loop : tie.After-loop Inv-loop μ-loop → tie.Start Inv-loop μ-loop
-st-at-loop c = c .before .before .before .before .before .before .before .before .before
+abbrev st-turn-end : tie.After-slice-known6 Inv-loop μ-loop → tie.Start Inv-loop μ-loop
+st-turn-end c = st-loop (loop-at-turn-end c)
 
 -- the fresh board that a helper serves is one of the 32
 known : (c : tie.Start Inv-loop μ-loop) (p : ℕ) → p < length (c .args .helpers .now) → getD (c .args .fresh .now) (p / c .args .d) 0 < 32
@@ -68,14 +65,14 @@ known c p k =
 
 loop-holds : tie.Need-loop-holds Inv-loop μ-loop
 loop-holds c =
-    let a = st-at-slice-known3 c .args in
-    let p = st-at-slice-known3 c .pre in
+    let a = st-lent c .args in
+    let p = st-lent c .pre in
     (rows-start (a .points .now) (a .n) (a .d) (a .c) (a .fresh .now) (a .helpers .now) (a .out .now) (p .11), omega arith, refl, p .9, p .10, p .9, p .10)
 
 lagrange-rows-requires : tie.Need-lagrange-rows-requires Inv-loop μ-loop
 lagrange-rows-requires c κs =
-    let a = st-at-lagrange-rows-arg2 c .args in
-    let p = st-at-lagrange-rows-arg2 c .pre in
+    let a = st-lagrange-rows-arg2 c .args in
+    let p = st-lagrange-rows-arg2 c .pre in
     let l = loop-at-lagrange-rows-arg2 c .loop in
     let e = c .before .before .before .before .boards-from .ensures in
     let g = c .before .before .before .near .given in
@@ -83,31 +80,32 @@ lagrange-rows-requires c κs =
 
 put-rows-requires : tie.Need-put-rows-requires Inv-loop μ-loop
 put-rows-requires c κs =
-    let a = st-at-put-rows-arg2 c .args in
-    let p = st-at-put-rows-arg2 c .pre in
+    let a = st-put-rows-arg2 c .args in
+    let p = st-put-rows-arg2 c .pre in
     let g = c .before .before .before .rows .given in
     (p .3, p .4, omega arith, below-more (a .n) 32 (a .fresh .now) (p .2) (p .5), p .7, p .8, omega arith)
 
 loop-again : tie.Need-loop-again Inv-loop μ-loop
 loop-again c =
-    let a = st-at-slice-known6 c .args in
-    let l = loop-at-slice-known6 c .loop in (
-      rows-turn (a .points .now) (a .n) (a .d) (a .c) (a .fresh .now) (a .helpers .now) (a .out .now) (l .h) _ _ (l .out) _ (st-at-slice-known6 c .pre .11) (known (st-at-slice-known6 c))
-          (near-is (l .h) (a .n) (length (l .near)) (a .c) _ (l .inv .3) (boards-from-at-slice-known6 c .boards-from .ensures)) (lagrange-rows-at-slice-known6 c .lagrange-rows .ensures) (l .inv .0) (c .before .before .put-rows .ensures),
+    let a = st-turn-end c .args in
+    let l = loop-at-turn-end c .loop in (
+      rows-turn (a .points .now) (a .n) (a .d) (a .c) (a .fresh .now) (a .helpers .now) (a .out .now) (l .h) _ _ (l .out) _ (st-turn-end c .pre .11) (known (st-turn-end c))
+          (near-is (l .h) (a .n) (length (l .near)) (a .c) _ (l .inv .3) (near-at-turn-end c .before .boards-from .ensures))
+          (lagrange-rows-at-turn-end c .lagrange-rows .ensures) (l .inv .0) (c .before .before .put-rows .ensures),
       omega arith,
       c .before .out .given ∙ l .inv .2,
-      near-at-slice-known6 c .near .given ∙ l .inv .3,
-      rows-at-slice-known6 c .rows .given ∙ l .inv .4,
+      near-at-turn-end c .near .given ∙ l .inv .3,
+      rows-at-turn-end c .rows .given ∙ l .inv .4,
       l .inv .5,
       l .inv .6,
     )
 
 returns : tie.Need-returns Inv-loop μ-loop
 returns c =
-    let a = st-at-loop c .args in
+    let a = st-loop (c .before) .args in
     let l = c .before .loop in
     rows-end (a .points .now) (a .n) (a .d) (a .c) (a .fresh .now) (a .helpers .now) (a .out .now) (l .h) (l .out)
-    (λ p k. let b = board-below (a .n) (a .helpers .now) p (st-at-loop c .pre .6) k in omega arith) (l .inv .0)
+    (λ p k. let b = board-below (a .n) (a .helpers .now) p (st-loop (c .before) .pre .6) k in omega arith) (l .inv .0)
 
 pub pair-rows-spec : {M : Type 1} → statement M
 pair-rows-spec =

@@ -20,49 +20,46 @@ use Rattle.share_decode.proofs.file.Statement.{statement}
 use Rattle.share_decode.proofs.file.Tie as tie
 
 -- places in the code
-abbrev start-from-after-share-len : tie.After-share-len → tie.Start
-start-from-after-share-len c = c .before .before .before .before .before .before
+abbrev st-share-len : tie.After-share-len → tie.Start
+st-share-len c = c .before .before .before .before .before .before
 
-abbrev start-from-after-starts : tie.After-starts → tie.Start
-start-from-after-starts c = c .before .before .before .before .before .before .before .before
+abbrev share-len-at-starts : tie.After-starts → tie.After-share-len
+share-len-at-starts c = c .before .before
 
-abbrev start-from-after-places : tie.After-places → tie.Start
-start-from-after-places c = c .before .before .before .before .before .before .before
+abbrev st-starts : tie.After-starts → tie.Start
+st-starts c = st-share-len (share-len-at-starts c)
 
-abbrev start-from-after-places3 : tie.After-places3 → tie.Start
-start-from-after-places3 c = c .before .before .before .before .before .before .before .before .before .before
+abbrev share-len-at-file-arg2 : tie.After-file-arg2 → tie.After-share-len
+share-len-at-file-arg2 c = share-len-at-starts (c .before .before .before .before)
 
-abbrev start-from-after-file-arg2 : tie.After-file-arg2 → tie.Start
-start-from-after-file-arg2 c = c .before .before .before .before .before .before .before .before .before .before .before .before
+abbrev st-file-arg2 : tie.After-file-arg2 → tie.Start
+st-file-arg2 c = st-share-len (share-len-at-file-arg2 c)
 
-abbrev after-share-len-from-after-file-arg2 : tie.After-file-arg2 → tie.After-share-len
-after-share-len-from-after-file-arg2 c = c .before .before .before .before .before .before
+abbrev starts-at-end : tie.After-slice-known2 → tie.After-starts
+starts-at-end c = c .before .before .before .before .before .before .before
 
-abbrev start-from-after-slice-known2 : tie.After-slice-known2 → tie.Start
-start-from-after-slice-known2 c = c .before .before .before .before .before .before .before .before .before .before .before .before .before .before .before
+abbrev share-len-at-end : tie.After-slice-known2 → tie.After-share-len
+share-len-at-end c = share-len-at-starts (starts-at-end c)
 
-abbrev after-share-len-from-after-slice-known2 : tie.After-slice-known2 → tie.After-share-len
-after-share-len-from-after-slice-known2 c = c .before .before .before .before .before .before .before .before .before
-
-abbrev after-starts-from-after-slice-known2 : tie.After-slice-known2 → tie.After-starts
-after-starts-from-after-slice-known2 c = c .before .before .before .before .before .before .before
+abbrev st-end : tie.After-slice-known2 → tie.Start
+st-end c = st-starts (starts-at-end c)
 
 -- the sizes are legal
 facts : (c : tie.Start) → Legal (c .args .sizes)
 facts c = legal-facts _ (c .pre .0 .sized)
 
 -- so the length of a share is that of the definitions
-row : (c : tie.After-share-len) → c .share-len .result ≡ α ((start-from-after-share-len c) .args .sizes)
-row c = c .share-len .ensures ∙ ap (λ b. pick b (α ((start-from-after-share-len c) .args .sizes)) 0) ((start-from-after-share-len c) .pre .0 .sized)
+row : (c : tie.After-share-len) → c .share-len .result ≡ α (st-share-len c .args .sizes)
+row c = c .share-len .ensures ∙ ap (λ b. pick b (α (st-share-len c .args .sizes)) 0) (st-share-len c .pre .0 .sized)
 
-few : (c : tie.After-share-len) → (start-from-after-share-len c) .args .stripes * c .share-len .result ≤ 253952
-few c = share-few ((start-from-after-share-len c) .args .sizes) ((start-from-after-share-len c) .args .stripes) (c .share-len .result) (facts (start-from-after-share-len c)) ((start-from-after-share-len c) .pre .1) (row c)
+few : (c : tie.After-share-len) → st-share-len c .args .stripes * c .share-len .result ≤ 253952
+few c = share-few (st-share-len c .args .sizes) (st-share-len c .args .stripes) (c .share-len .result) (facts (st-share-len c)) (st-share-len c .pre .1) (row c)
 
-as-long : (c : tie.After-share-len) → (start-from-after-share-len c) .args .stripes * c .share-len .result ≡ (start-from-after-share-len c) .args .stripes * α ((start-from-after-share-len c) .args .sizes)
-as-long c = ap (λ (m : ℕ). (start-from-after-share-len c) .args .stripes * m) (row c)
+as-long : (c : tie.After-share-len) → st-share-len c .args .stripes * c .share-len .result ≡ st-share-len c .args .stripes * α (st-share-len c .args .sizes)
+as-long c = ap (λ (m : ℕ). (st-share-len c) .args .stripes * m) (row c)
 
-places-long : (c : tie.After-starts) → length (c .starts .last .1 .0) ≡ (start-from-after-starts c) .args .sizes .k
-places-long c = c .starts .kept .1 .0 ∙ part-long _ _ (omega (arith, facts (start-from-after-starts c)))
+places-long : (c : tie.After-starts) → length (c .starts .last .1 .0) ≡ st-starts c .args .sizes .k
+places-long c = c .starts .kept .1 .0 ∙ part-long _ _ (omega (arith, facts (st-starts c)))
 
 share-len-requires : tie.Need-share-len-requires
 share-len-requires c κs = search needs
@@ -77,10 +74,10 @@ part-places-start : tie.Need-part-places-start
 part-places-start c = search needs
 
 part-places-end : tie.Need-part-places-end
-part-places-end c = omega (arith, facts (start-from-after-share-len c))
+part-places-end c = omega (arith, facts (st-share-len c))
 
 starts-requires : tie.Need-starts-requires
-starts-requires c κs = (few (c .before), simp length-take (omega (arith, facts (start-from-after-places c))))
+starts-requires c κs = (few (c .before), simp length-take (omega (arith, facts (st-share-len (c .before)))))
 
 sub-file : tie.Need-sub-file
 sub-file c = search needs
@@ -89,15 +86,15 @@ part-file-start : tie.Need-part-file-start
 part-file-start c = search needs
 
 part-file-end : tie.Need-part-file-end
-part-file-end c = simp length-append (omega (arith, facts (start-from-after-places3 c), places-long (c .before .before)))
+part-file-end c = simp length-append (omega (arith, facts (st-starts (c .before .before)), places-long (c .before .before)))
 
 file-requires : tie.Need-file-requires
 file-requires c κs =
-    let g = (start-from-after-file-arg2 c) in
+    let g = st-file-arg2 c in
     let a = g .args in
     let p = g .pre in
-    let k = (after-share-len-from-after-file-arg2 c) in
-    let e = (c .before .before .before .before) .starts .ensures in
+    let k = share-len-at-file-arg2 c in
+    let e = c .before .before .before .before .starts .ensures in
     let h : a .sizes .k ≤ 32 = omega (arith, facts g) in
     (p .0, lent-long (a .sizes) (a .stripes) _ _ _ (a .held .now) (as-long k) h (p .3) e, lent-placed (a .sizes) (a .stripes) _ _ _ (a .held .now) (as-long k) h (p .3) e, p .1, p .2, p .4, p .5)
 
@@ -106,12 +103,12 @@ same-length c = search needs
 
 returns : tie.Need-returns
 returns c =
-    let g = (start-from-after-slice-known2 c) in
+    let g = st-end c in
     let a = g .args in
-    let k = (after-share-len-from-after-slice-known2 c) in
+    let k = share-len-at-end c in
     (c .before .before) .file .ensures
     ∙ ap (λ (l : List ℕ). decodedFile (a .sizes) (a .points .now) (a .total) (a .boards .now) l ++ drop (a .total) (a .out .now))
-    (lent-shares (a .sizes) (a .stripes) _ _ _ (a .held .now) (as-long k) (omega (arith, facts g)) (g .pre .3) ((after-starts-from-after-slice-known2 c) .starts .ensures))
+    (lent-shares (a .sizes) (a .stripes) _ _ _ (a .held .now) (as-long k) (omega (arith, facts g)) (g .pre .3) (starts-at-end c .starts .ensures))
 
 pub file-spec : {M : Type 1} → statement M
 file-spec =

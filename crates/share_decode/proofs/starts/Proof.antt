@@ -48,8 +48,9 @@ loop-less c = search needs
 
 loop-again : tie.Need-loop-again Inv-loop μ-loop
 loop-again c =
-    let l = (c .before) .loop in
-    (fill-loop (λ t. t * (c .before .before) .args .share) ((c .before .before) .args .out .now) (l .out) (l .t) _ (omega arith) refl (l .inv .0), omega arith, length-set (l .out) (l .t) _ ∙ l .inv .2)
+    let l = c .before .loop in
+    let a = c .before .before .args in
+    (fill-loop (λ t. t * a .share) (a .out .now) (l .out) (l .t) _ (omega arith) refl (l .inv .0), omega arith, length-set (l .out) (l .t) _ ∙ l .inv .2)
 
 same-length : tie.Need-same-length Inv-loop μ-loop
 same-length c = search needs

@@ -24,73 +24,49 @@ use Rattle.store_decode.proofs.check_agrees.Statement.{statement}
 use Rattle.store_decode.proofs.check_agrees.Tie as tie
 
 -- places in the code
-abbrev start-from-after-share-len : tie.After-share-len → tie.Start
-start-from-after-share-len c = c .before .before .before .before .before .before
+abbrev st-share-len : tie.After-share-len → tie.Start
+st-share-len c = c .before .before .before .before .before .before
 
-abbrev start-from-after-places : tie.After-places → tie.Start
-start-from-after-places c = c .before .before .before .before .before .before .before .before
+abbrev share-len-at-places : tie.After-places → tie.After-share-len
+share-len-at-places c = c .before .before
 
-abbrev start-from-after-agrees : tie.After-agrees → tie.Start
-start-from-after-agrees c = c .before .before .before .before .before .before .before .before .before .before .before .before .before .before .before .before .before
+abbrev st-places : tie.After-places → tie.Start
+st-places c = st-share-len (share-len-at-places c)
 
-abbrev after-share-len-from-after-agrees : tie.After-agrees → tie.After-share-len
-after-share-len-from-after-agrees c = c .before .before .before .before .before .before .before .before .before .before .before
+abbrev places-at-fill : tie.After-fill → tie.After-places
+places-at-fill c = c .before .before .before
 
-abbrev after-places-from-after-agrees : tie.After-agrees → tie.After-places
-after-places-from-after-agrees c = c .before .before .before .before .before .before .before .before .before
+abbrev st-starts3 : tie.After-starts3 → tie.Start
+st-starts3 c = st-places (places-at-fill (c .before .before .before))
 
-abbrev start-from-after-starts : tie.After-starts → tie.Start
-start-from-after-starts c = c .before .before .before .before .before .before .before
+abbrev fill-at-agrees-arg2 : tie.After-agrees-arg2 → tie.After-fill
+fill-at-agrees-arg2 c = c .before .before .before .before .before
 
-abbrev start-from-after-fill-arg : tie.After-fill-arg → tie.Start
-start-from-after-fill-arg c = c .before .before .before .before .before .before .before .before .before .before
+abbrev places-at-agrees-arg2 : tie.After-agrees-arg2 → tie.After-places
+places-at-agrees-arg2 c = places-at-fill (fill-at-agrees-arg2 c)
 
-abbrev start-from-after-starts3 : tie.After-starts3 → tie.Start
-start-from-after-starts3 c = c .before .before .before .before .before .before .before .before .before .before .before .before .before .before
+abbrev share-len-at-agrees-arg2 : tie.After-agrees-arg2 → tie.After-share-len
+share-len-at-agrees-arg2 c = share-len-at-places (places-at-agrees-arg2 c)
 
-abbrev after-places-from-after-starts3 : tie.After-starts3 → tie.After-places
-after-places-from-after-starts3 c = c .before .before .before .before .before .before
-
-abbrev start-from-after-agrees-arg2 : tie.After-agrees-arg2 → tie.Start
-start-from-after-agrees-arg2 c = c .before .before .before .before .before .before .before .before .before .before .before .before .before .before .before .before
-
-abbrev after-share-len-from-after-agrees-arg2 : tie.After-agrees-arg2 → tie.After-share-len
-after-share-len-from-after-agrees-arg2 c = c .before .before .before .before .before .before .before .before .before .before
-
-abbrev after-places-from-after-agrees-arg2 : tie.After-agrees-arg2 → tie.After-places
-after-places-from-after-agrees-arg2 c = c .before .before .before .before .before .before .before .before
-
-abbrev after-fill-from-after-agrees-arg2 : tie.After-agrees-arg2 → tie.After-fill
-after-fill-from-after-agrees-arg2 c = c .before .before .before .before .before
-
-abbrev start-from-then1 : tie.Then1 → tie.Start
-start-from-then1 c = c .before .before .before .before .before .before .before .before .before .before .before .before .before .before .before .before .before .before
-
-abbrev after-fill-from-then1 : tie.Then1 → tie.After-fill
-after-fill-from-then1 c = c .before .before .before .before .before .before .before
-
-abbrev start-from-else1 : tie.Else1 → tie.Start
-start-from-else1 c = c .before .before .before .before .before .before .before .before .before .before .before .before .before .before .before .before .before .before
-
-abbrev after-fill-from-else1 : tie.Else1 → tie.After-fill
-after-fill-from-else1 c = c .before .before .before .before .before .before .before
+abbrev st-agrees-arg2 : tie.After-agrees-arg2 → tie.Start
+st-agrees-arg2 c = st-places (places-at-agrees-arg2 c)
 
 -- the sizes are legal
 facts : (c : tie.Start) → Legal (c .args .sizes)
 facts c = legal-facts _ (c .pre .0 .sized)
 
 -- so the length of a stripe's share is that of the definitions
-row : (c : tie.After-share-len) → c .share-len .result ≡ α ((start-from-after-share-len c) .args .sizes)
-row c = c .share-len .ensures ∙ ap (λ b. pick b (α ((start-from-after-share-len c) .args .sizes)) 0) ((start-from-after-share-len c) .pre .0 .sized)
+row : (c : tie.After-share-len) → c .share-len .result ≡ α (st-share-len c .args .sizes)
+row c = c .share-len .ensures ∙ ap (λ b. pick b (α (st-share-len c .args .sizes)) 0) (st-share-len c .pre .0 .sized)
 
-few : (c : tie.After-share-len) → (start-from-after-share-len c) .args .capacity * c .share-len .result ≤ 253952
-few c = part-few ((start-from-after-share-len c) .args .sizes) ((start-from-after-share-len c) .args .capacity) (c .share-len .result) (facts (start-from-after-share-len c)) ((start-from-after-share-len c) .pre .4) (row c)
+few : (c : tie.After-share-len) → st-share-len c .args .capacity * c .share-len .result ≤ 253952
+few c = part-few (st-share-len c .args .sizes) (st-share-len c .args .capacity) (c .share-len .result) (facts (st-share-len c)) (st-share-len c .pre .4) (row c)
 
-as-long : (c : tie.After-share-len) → (start-from-after-share-len c) .args .capacity * c .share-len .result ≡ (start-from-after-share-len c) .args .capacity * α ((start-from-after-share-len c) .args .sizes)
-as-long c = ap (λ (m : ℕ). (start-from-after-share-len c) .args .capacity * m) (row c)
+as-long : (c : tie.After-share-len) → st-share-len c .args .capacity * c .share-len .result ≡ st-share-len c .args .capacity * α (st-share-len c .args .sizes)
+as-long c = ap (λ (m : ℕ). (st-share-len c) .args .capacity * m) (row c)
 
-starts-long : (c : tie.After-places) → length (c .places .last .1 .1 .0) ≡ (start-from-after-places c) .args .sizes .k
-starts-long c = c .places .kept .1 .1 .0 ∙ part-long _ _ (omega (arith, facts (start-from-after-places c)))
+starts-long : (c : tie.After-places) → length (c .places .last .1 .1 .0) ≡ st-places c .args .sizes .k
+starts-long c = c .places .kept .1 .1 .0 ∙ part-long _ _ (omega (arith, facts (st-places c)))
 
 -- what the boards hold, and whether there is such a file
 abbrev holds : tie.Start → List ℕ
@@ -99,15 +75,16 @@ holds g = let a = g .args in joined (held (recordOf (a .sizes) [] (a .capacity) 
 abbrev there : tie.Start → Bool
 there g = given (readFile (g .args .sizes) (g .args .points .now) (g .args .len) (g .args .boards .now) (holds g))
 
-found : (c : tie.After-agrees) → c .agrees .result ≡ there (start-from-after-agrees c)
+found : (c : tie.After-agrees) → c .agrees .result ≡ there (st-agrees-arg2 (c .before))
 found c =
-    let g = (start-from-after-agrees c) in
+    let g = st-agrees-arg2 (c .before) in
     let a = g .args in
     let p = g .pre in
     c .agrees .ensures
     ∙ ap (λ (l : List ℕ). given (readFile (a .sizes) (a .points .now) (a .len) (a .boards .now) l))
-    (lent-shares (a .sizes) (a .capacity) (a .len) (a .stripes) _ (a .boards .now) (a .area .now) _ _ (p .0 .known) (p .0 .counted) (p .6) (p .3) (p .5) (as-long (after-share-len-from-after-agrees c))
-    ((after-places-from-after-agrees c) .places .ensures))
+    (lent-shares (a .sizes) (a .capacity) (a .len) (a .stripes) _ (a .boards .now) (a .area .now) _ _ (p .0 .known) (p .0 .counted) (p .6) (p .3) (p .5)
+    (as-long (share-len-at-agrees-arg2 (c .before)))
+    (places-at-agrees-arg2 (c .before) .places .ensures))
 
 share-len-requires : tie.Need-share-len-requires
 share-len-requires c κs = search needs
@@ -122,11 +99,11 @@ part-starts-start : tie.Need-part-starts-start
 part-starts-start c = search needs
 
 part-starts-end : tie.Need-part-starts-end
-part-starts-end c = omega (arith, facts (start-from-after-share-len c))
+part-starts-end c = omega (arith, facts (st-share-len c))
 
 places-requires : tie.Need-places-requires
 places-requires c κs =
-    let g = (start-from-after-starts c) in
+    let g = st-share-len (c .before) in
     let f = facts g in (
       below-32 (g .args .sizes) (g .args .boards .now) (f .few) (g .pre .0 .known),
       few (c .before),
@@ -135,7 +112,7 @@ places-requires c κs =
     )
 
 fill-requires : tie.Need-fill-requires
-fill-requires c κs = let p = (start-from-after-fill-arg c) .pre in (p .0, p .1, p .2, p .7)
+fill-requires c κs = let p = st-places (c .before .before) .pre in (p .0, p .1, p .2, p .7)
 
 sub-agrees : tie.Need-sub-agrees
 sub-agrees c = search needs
@@ -144,21 +121,21 @@ part-agrees-start : tie.Need-part-agrees-start
 part-agrees-start c = search needs
 
 part-agrees-end : tie.Need-part-agrees-end
-part-agrees-end c = simp length-append (omega (arith, facts (start-from-after-starts3 c), starts-long (after-places-from-after-starts3 c)))
+part-agrees-end c = simp length-append (omega (arith, facts (st-starts3 c), starts-long (places-at-fill (c .before .before .before))))
 
 agrees-requires : tie.Need-agrees-requires
 agrees-requires c κs =
-    let g = (start-from-after-agrees-arg2 c) in
+    let g = st-agrees-arg2 c in
     let a = g .args in
     let p = g .pre in
-    let k = (after-share-len-from-after-agrees-arg2 c) in
-    let e = (after-places-from-after-agrees-arg2 c) .places .ensures in (
+    let k = share-len-at-agrees-arg2 c in
+    let e = places-at-agrees-arg2 c .places .ensures in (
       p .0,
       lent-long (a .sizes) (a .capacity) (a .len) (a .stripes) _ (a .boards .now) (a .area .now) _ _ (p .0 .known) (p .0 .counted) (p .6) (p .3) (p .5) (as-long k) e,
       lent-placed (a .sizes) (a .capacity) (a .len) (a .stripes) _ (a .boards .now) (a .area .now) _ _ (p .0 .known) (p .0 .counted) (p .6) (p .3) (p .5) (as-long k) e,
       omega (arith, p .4, p .5),
       p .3,
-      (after-fill-from-after-agrees-arg2 c) .fill .ensures,
+      fill-at-agrees-arg2 c .fill .ensures,
     )
 
 same-length : tie.Need-same-length
@@ -166,14 +143,14 @@ same-length c = search needs
 
 returns : tie.Need-returns
 returns c =
-    (passes (Disagree when not (there (start-from-then1 c))) (ap not (sym (found (c .before)) ∙ c .if1 .taken)), (after-fill-from-then1 c) .fill .ensures)
+    (passes (Disagree when not (there (st-agrees-arg2 (c .before .before)))) (ap not (sym (found (c .before)) ∙ c .if1 .taken)), fill-at-agrees-arg2 (c .before .before) .fill .ensures)
 
 same-length-2 : tie.Need-same-length-2
 same-length-2 c = search needs
 
 returns-2 : tie.Need-returns-2
 returns-2 c =
-    (refuses (Disagree when not (there (start-from-else1 c))) (ap not (sym (found (c .before)) ∙ c .if1 .left)), (after-fill-from-else1 c) .fill .ensures)
+    (refuses (Disagree when not (there (st-agrees-arg2 (c .before .before)))) (ap not (sym (found (c .before)) ∙ c .if1 .left)), fill-at-agrees-arg2 (c .before .before) .fill .ensures)
 
 pub check-agrees-spec : {M : Type 1} → statement M
 check-agrees-spec =

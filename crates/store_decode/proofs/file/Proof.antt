@@ -24,49 +24,46 @@ use Rattle.store_decode.proofs.file.Statement.{statement}
 use Rattle.store_decode.proofs.file.Tie as tie
 
 -- places in the code
-abbrev start-from-after-share-len : tie.After-share-len → tie.Start
-start-from-after-share-len c = c .before .before .before .before .before .before
+abbrev st-share-len : tie.After-share-len → tie.Start
+st-share-len c = c .before .before .before .before .before .before
 
-abbrev start-from-after-places : tie.After-places → tie.Start
-start-from-after-places c = c .before .before .before .before .before .before .before .before
+abbrev share-len-at-places : tie.After-places → tie.After-share-len
+share-len-at-places c = c .before .before
 
-abbrev start-from-after-starts : tie.After-starts → tie.Start
-start-from-after-starts c = c .before .before .before .before .before .before .before
+abbrev st-places : tie.After-places → tie.Start
+st-places c = st-share-len (share-len-at-places c)
 
-abbrev start-from-after-starts3 : tie.After-starts3 → tie.Start
-start-from-after-starts3 c = c .before .before .before .before .before .before .before .before .before .before
+abbrev share-len-at-file-arg2 : tie.After-file-arg2 → tie.After-share-len
+share-len-at-file-arg2 c = share-len-at-places (c .before .before .before .before)
 
-abbrev start-from-after-file-arg2 : tie.After-file-arg2 → tie.Start
-start-from-after-file-arg2 c = c .before .before .before .before .before .before .before .before .before .before .before .before
+abbrev st-file-arg2 : tie.After-file-arg2 → tie.Start
+st-file-arg2 c = st-share-len (share-len-at-file-arg2 c)
 
-abbrev after-share-len-from-after-file-arg2 : tie.After-file-arg2 → tie.After-share-len
-after-share-len-from-after-file-arg2 c = c .before .before .before .before .before .before
+abbrev places-at-end : tie.After-slice-known2 → tie.After-places
+places-at-end c = c .before .before .before .before .before .before .before
 
-abbrev start-from-after-slice-known2 : tie.After-slice-known2 → tie.Start
-start-from-after-slice-known2 c = c .before .before .before .before .before .before .before .before .before .before .before .before .before .before .before
+abbrev share-len-at-end : tie.After-slice-known2 → tie.After-share-len
+share-len-at-end c = share-len-at-places (places-at-end c)
 
-abbrev after-share-len-from-after-slice-known2 : tie.After-slice-known2 → tie.After-share-len
-after-share-len-from-after-slice-known2 c = c .before .before .before .before .before .before .before .before .before
-
-abbrev after-places-from-after-slice-known2 : tie.After-slice-known2 → tie.After-places
-after-places-from-after-slice-known2 c = c .before .before .before .before .before .before .before
+abbrev st-end : tie.After-slice-known2 → tie.Start
+st-end c = st-places (places-at-end c)
 
 -- the sizes are legal
 facts : (c : tie.Start) → Legal (c .args .sizes)
 facts c = legal-facts _ (c .pre .0 .sized)
 
 -- so the length of a stripe's share is that of the definitions
-row : (c : tie.After-share-len) → c .share-len .result ≡ α ((start-from-after-share-len c) .args .sizes)
-row c = c .share-len .ensures ∙ ap (λ b. pick b (α ((start-from-after-share-len c) .args .sizes)) 0) ((start-from-after-share-len c) .pre .0 .sized)
+row : (c : tie.After-share-len) → c .share-len .result ≡ α (st-share-len c .args .sizes)
+row c = c .share-len .ensures ∙ ap (λ b. pick b (α (st-share-len c .args .sizes)) 0) (st-share-len c .pre .0 .sized)
 
-few : (c : tie.After-share-len) → (start-from-after-share-len c) .args .capacity * c .share-len .result ≤ 253952
-few c = part-few ((start-from-after-share-len c) .args .sizes) ((start-from-after-share-len c) .args .capacity) (c .share-len .result) (facts (start-from-after-share-len c)) ((start-from-after-share-len c) .pre .2) (row c)
+few : (c : tie.After-share-len) → st-share-len c .args .capacity * c .share-len .result ≤ 253952
+few c = part-few (st-share-len c .args .sizes) (st-share-len c .args .capacity) (c .share-len .result) (facts (st-share-len c)) (st-share-len c .pre .2) (row c)
 
-as-long : (c : tie.After-share-len) → (start-from-after-share-len c) .args .capacity * c .share-len .result ≡ (start-from-after-share-len c) .args .capacity * α ((start-from-after-share-len c) .args .sizes)
-as-long c = ap (λ (m : ℕ). (start-from-after-share-len c) .args .capacity * m) (row c)
+as-long : (c : tie.After-share-len) → st-share-len c .args .capacity * c .share-len .result ≡ st-share-len c .args .capacity * α (st-share-len c .args .sizes)
+as-long c = ap (λ (m : ℕ). (st-share-len c) .args .capacity * m) (row c)
 
-starts-long : (c : tie.After-places) → length (c .places .last .1 .1 .0) ≡ (start-from-after-places c) .args .sizes .k
-starts-long c = c .places .kept .1 .1 .0 ∙ part-long _ _ (omega (arith, facts (start-from-after-places c)))
+starts-long : (c : tie.After-places) → length (c .places .last .1 .1 .0) ≡ st-places c .args .sizes .k
+starts-long c = c .places .kept .1 .1 .0 ∙ part-long _ _ (omega (arith, facts (st-places c)))
 
 share-len-requires : tie.Need-share-len-requires
 share-len-requires c κs = search needs
@@ -81,11 +78,11 @@ part-starts-start : tie.Need-part-starts-start
 part-starts-start c = search needs
 
 part-starts-end : tie.Need-part-starts-end
-part-starts-end c = omega (arith, facts (start-from-after-share-len c))
+part-starts-end c = omega (arith, facts (st-share-len c))
 
 places-requires : tie.Need-places-requires
 places-requires c κs =
-    let g = (start-from-after-starts c) in
+    let g = st-share-len (c .before) in
     let f = facts g in (
       below-32 (g .args .sizes) (g .args .boards .now) (f .few) (g .pre .0 .known),
       few (c .before),
@@ -100,15 +97,15 @@ part-file-start : tie.Need-part-file-start
 part-file-start c = search needs
 
 part-file-end : tie.Need-part-file-end
-part-file-end c = simp length-append (omega (arith, facts (start-from-after-starts3 c), starts-long (c .before .before)))
+part-file-end c = simp length-append (omega (arith, facts (st-places (c .before .before)), starts-long (c .before .before)))
 
 file-requires : tie.Need-file-requires
 file-requires c κs =
-    let g = (start-from-after-file-arg2 c) in
+    let g = st-file-arg2 c in
     let a = g .args in
     let p = g .pre in
-    let k = (after-share-len-from-after-file-arg2 c) in
-    let e = (c .before .before .before .before) .places .ensures in (
+    let k = share-len-at-file-arg2 c in
+    let e = c .before .before .before .before .places .ensures in (
       p .0,
       lent-long (a .sizes) (a .capacity) (a .len) (a .stripes) _ (a .boards .now) (a .area .now) _ _ (p .0 .known) (p .0 .counted) (p .4) (p .1) (p .3) (as-long k) e,
       lent-placed (a .sizes) (a .capacity) (a .len) (a .stripes) _ (a .boards .now) (a .area .now) _ _ (p .0 .known) (p .0 .counted) (p .4) (p .1) (p .3) (as-long k) e,
@@ -123,13 +120,13 @@ same-length c = search needs
 
 returns : tie.Need-returns
 returns c =
-    let g = (start-from-after-slice-known2 c) in
+    let g = st-end c in
     let a = g .args in
     let p = g .pre in
     (c .before .before) .file .ensures
     ∙ ap (λ (l : List ℕ). decodedFile (a .sizes) (a .points .now) (a .len) (a .boards .now) l ++ drop (a .len) (a .out .now))
-    (lent-shares (a .sizes) (a .capacity) (a .len) (a .stripes) _ (a .boards .now) (a .area .now) _ _ (p .0 .known) (p .0 .counted) (p .4) (p .1) (p .3) (as-long (after-share-len-from-after-slice-known2 c))
-    ((after-places-from-after-slice-known2 c) .places .ensures))
+    (lent-shares (a .sizes) (a .capacity) (a .len) (a .stripes) _ (a .boards .now) (a .area .now) _ _ (p .0 .known) (p .0 .counted) (p .4) (p .1) (p .3) (as-long (share-len-at-end c))
+    (places-at-end c .places .ensures))
 
 pub file-spec : {M : Type 1} → statement M
 file-spec =

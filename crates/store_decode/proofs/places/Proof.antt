@@ -58,8 +58,9 @@ loop-less c = search needs
 
 loop-again : tie.Need-loop-again Inv-loop μ-loop
 loop-again c =
-    let l = (c .before .before) .loop in (
-      fill-loop (λ t. getD ((c .before .before .before) .args .boards .now) t 0 * (c .before .before .before) .args .part) ((c .before .before .before) .args .out .now) (l .out) (l .t) _ (omega arith) refl (l .inv .0),
+    let l = c .before .before .loop in
+    let a = c .before .before .before .args in (
+      fill-loop (λ t. getD (a .boards .now) t 0 * a .part) (a .out .now) (l .out) (l .t) _ (omega arith) refl (l .inv .0),
       omega arith,
       length-set (l .out) (l .t) _ ∙ l .inv .2,
     )

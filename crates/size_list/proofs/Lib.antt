@@ -1,0 +1,6 @@
+pub mod Each
+pub mod Places
+pub mod Count
+pub mod Limits
+pub mod Laws
+pub mod Figures

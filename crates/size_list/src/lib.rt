@@ -1,0 +1,1 @@
+//! All legal combinations of sizes: definitions and theorems. It has no function.

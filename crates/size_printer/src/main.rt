@@ -1,0 +1,87 @@
+// All sizes for the order form (request A.12): reads a limit from standard input, and writes a line for each legal combination of sizes up to it, or
+// one line with a refusal. It only reads and writes; the limit and the lines are decided by the crate `size_rows`.
+ghost use mathlib.Core.Path.{_≡_};
+ghost use Prim.Native.Nat.{_≤_};
+ghost use lib.ListN.{length};
+ghost use Rattle.size_list.specs.Combinations.{combinations, rows};
+use size_rows::Place;
+use size_rows::Run;
+
+// What a read of one byte gave.
+enum Got {
+    Byte(u8),
+    End,
+    Failed,
+}
+
+fn read_byte() -> Got {
+    let mut byte = [0u8; 1];
+    let got = libc::read(0, &mut byte);
+    if got < 0 {
+        return Got::Failed;
+    }
+    if got == 0 {
+        return Got::End;
+    }
+    Got::Byte(byte[0])
+}
+
+// Reads to the end of the input or until the slice is full, and answers how many bytes came. A read that failed counts as a full slice, which holds
+// no limit.
+fn read_input(input: &mut [u8]) -> usize
+    ensures { λ r. ⌜ r ≤ length (now (input .exit)) ⌝ }
+{
+    let mut done: usize = 0;
+    while done < input.len() {
+        let got = read_byte();
+        match got {
+            Got::Byte(b) => {
+                input[done] = b;
+                done += 1;
+            }
+            Got::End => {
+                return done;
+            }
+            Got::Failed => {
+                return input.len();
+            }
+        }
+    }
+    done
+}
+
+// Writes the lines up to a limit, in 46 blocks of 1,024 lines, of which the last ones may be empty. Answers how many bytes were written, those of the
+// whole list, and the place where the walk ended: none is left.
+fn print(most: usize) -> Run
+    requires { ⌜ (2 ≤ most) × (most ≤ 32) ⌝ }
+    ensures { λ r. ⌜ r .count ≡ length (rows (combinations most)) ⌝ }
+    ensures { λ r. ⌜ r .place ≡ Place.End ⌝ }
+{
+    let mut out = [0u8; 40960];
+    let mut place = size_rows::first();
+    let mut total: usize = 0;
+    let mut t: usize = 0;
+    while t < 46 {
+        let run = size_rows::fill(most, place, 1024, &mut out);
+        let count = run.count;
+        io::write_all(1, &out[..count]);
+        place = run.place;
+        total += count;
+        t += 1;
+    }
+    Run {
+        count: total,
+        place: place,
+    }
+}
+
+fn main() {
+    let mut input = [0u8; 4];
+    let count = read_input(&mut input);
+    let most = size_rows::limit(&input[..count]);
+    if most == 0 {
+        io::write_all(1, b"refused=1\n");
+    } else {
+        print(most);
+    }
+}

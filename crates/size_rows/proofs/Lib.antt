@@ -1,0 +1,4 @@
+pub mod Behind
+pub mod Lines
+pub mod Walk
+pub mod Taken
