@@ -7,15 +7,17 @@ use mathlib.Core.List.{List, [], _∷_, _++_, append-nil}
 use native.Mathlib.Omega.{arith}
 use mir.Val.{boolByte}
 use lib.Dec.{eqb}
-use lib.ListN.{length, getD, set, take, drop, drop-of-length-le}
-use lib.Seq.{sets-eq, drop-cons, take-all}
+use lib.ListN.{length, getD, set, take, drop, replicate, length-append, drop-of-length-le}
+use lib.Seq.{sets-eq, drop-cons, take-all, drop-at, length-take-le}
 use Rattle.lists.specs.Tests.{pick}
 use Rattle.lists.specs.Lists.{tabulate, joined, piece}
+use borrow.Author.Tests.{eq-eqb, ne-eqb}
 use Rattle.row_sums.specs.declared.Row.{Row}
 use Rattle.row_sums.specs.Steps.{rowBytes}
 use Rattle.store_spec.specs.Record.{Record}
 use Rattle.record_words.specs.Words.{bits, fromBits, bytes, fromBytes, recordFrom, wordsOf}
 use Rattle.record_words.proofs.Points.{word-back}
+use Rattle.words.specs.Steps.{arrayOf}
 
 -- the first eight words, each in its place
 pub all-set : (ws : List ℕ) (a b c d e f g h : ℕ) → 8 ≤ length ws
@@ -46,6 +48,13 @@ four-set ws a b c d e =
     ∙ ap (λ (l : List ℕ). take 8 ws ++ (a ∷ b ∷ c ∷ d ∷ []) ++ l) (drop-of-length-le ws {i = 12} (omega arith))
     ∙ append-nil (take 8 ws ++ (a ∷ b ∷ c ∷ d ∷ []))
 
+-- then eight words stand before them, and they behind
+front : (ws vs ps : List ℕ) → length ws ≡ 12 → vs ≡ take 8 ws ++ ps → 8 ≤ length vs
+front ws vs ps l e = omega (arith, ap {B = ℕ} length e, length-append (take 8 ws) ps, length-take-le 8 ws (omega arith))
+
+behind : (ws vs ps : List ℕ) → length ws ≡ 12 → vs ≡ take 8 ws ++ ps → drop 8 vs ≡ ps
+behind ws vs ps l e = ap (drop 8) e ∙ drop-at (take 8 ws) ps 8 (length-take-le 8 ws (omega arith))
+
 abbrev Word : ℕ → Type 0
 Word w = w < 18446744073709551616
 
@@ -59,20 +68,28 @@ row-words xs x l e ha hb hc hd =
     (ap₂ {C = List ℕ} (λ w r. w ∷ r) (word-back (x .b) hb)
     (ap₂ {C = List ℕ} (λ w r. w ∷ r) (word-back (x .c) hc) (ap {B = List ℕ} (λ w. w ∷ []) (word-back (x .d) hd)))))
 
+-- lent points as an array
+pub array-is : (xs : List ℕ) (l : List ℕ) → length xs ≡ 32 → l ≡ take 32 (drop 0 xs) → l ≡ arrayOf xs
+array-is xs l e h = h ∙ take-all 32 xs (omega arith) ∙ sym (ap (λ b. pick b xs (replicate 32 0)) (eq-eqb (length xs) 32 e))
+
+pub array-not : (xs : List ℕ) → (length xs ≡ 32 → ⊥) → replicate 32 0 ≡ arrayOf xs
+array-not xs h = sym (ap (λ b. pick b xs (replicate 32 0)) (ne-eqb (length xs) 32 h))
+
 -- ---- the record
 
 pub flag-word : (b : Bool) → boolByte b ≡ pick b 1 0
 flag-word true = refl
 flag-word false = refl
 
--- the words as they are put, behind them those of the points
-pub words-put : (s : Record) (ws : List ℕ) (w m : ℕ) → 8 ≤ length ws → drop 8 ws ≡ tabulate 4 (λ q. fromBytes (piece 8 q (s .points)))
+-- the words as they are put over the points'
+pub words-put : (s : Record) (ws vs : List ℕ) (w m : ℕ) → length ws ≡ 12 → vs ≡ take 8 ws ++ tabulate 4 (λ q. fromBytes (piece 8 q (s .points)))
     → w ≡ pick (s .written) 1 0 → m ≡ fromBits (s .marks)
-    → set (set (set (set (set (set (set (set ws 0 (s .sizes .n)) 1 (s .sizes .k)) 2 (s .sizes .d)) 3 (s .sizes .r)) 4 (s .capacity)) 5 w) 6 (s .length)) 7 m ≡ wordsOf s
-words-put s ws w m l ep ew em =
-    all-set ws (s .sizes .n) (s .sizes .k) (s .sizes .d) (s .sizes .r) (s .capacity) w (s .length) m l
-    ∙ ap₂ {C = List ℕ} (λ (x y : ℕ). s .sizes .n ∷ s .sizes .k ∷ s .sizes .d ∷ s .sizes .r ∷ s .capacity ∷ x ∷ s .length ∷ y ∷ drop 8 ws) ew em
-    ∙ ap (λ (r : List ℕ). s .sizes .n ∷ s .sizes .k ∷ s .sizes .d ∷ s .sizes .r ∷ s .capacity ∷ pick (s .written) 1 0 ∷ s .length ∷ fromBits (s .marks) ∷ r) ep
+    → set (set (set (set (set (set (set (set vs 0 (s .sizes .n)) 1 (s .sizes .k)) 2 (s .sizes .d)) 3 (s .sizes .r)) 4 (s .capacity)) 5 w) 6 (s .length)) 7 m ≡ wordsOf s
+words-put s ws vs w m l e ew em =
+    all-set vs (s .sizes .n) (s .sizes .k) (s .sizes .d) (s .sizes .r) (s .capacity) w (s .length) m (front ws vs _ l e)
+    ∙ ap₂ {C = List ℕ} (λ (x y : ℕ). s .sizes .n ∷ s .sizes .k ∷ s .sizes .d ∷ s .sizes .r ∷ s .capacity ∷ x ∷ s .length ∷ y ∷ drop 8 vs) ew em
+    ∙ ap (λ (r : List ℕ). s .sizes .n ∷ s .sizes .k ∷ s .sizes .d ∷ s .sizes .r ∷ s .capacity ∷ pick (s .written) 1 0 ∷ s .length ∷ fromBits (s .marks) ∷ r)
+    (behind ws vs _ l e)
 
 -- the record as it is taken from them, but for marks and points
 abbrev from-words : List ℕ → List Bool → List ℕ → Record
