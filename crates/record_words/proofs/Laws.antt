@@ -92,9 +92,16 @@ are-words : (s : Record) → Whole s → isRecord (wordsOf s) ≡ true
 unfolding isRecord
 are-words s f =
     let l : List ℕ = tabulate 4 (λ q. fromBytes (piece 8 q (s .points))) in
-    hold-alls (eqb 12 12 ∷ ltb (pick (s .written) 1 0) 2 ∷ ltb (fromBits (s .marks)) 4294967296 ∷ every word l ∷ [])
-    (refl, (lt-ltb _ 2 (flag-few (s .written)), (lt-ltb _ 4294967296 (number-few (s .marks) (omega (arith, f .marks))),
-    (all-words l (point-words (s .points) (f .points-bytes) (f .points)), tt))))
+    hold-alls (eqb 12 12 ∷ ltb (pick (s .written) 1 0) 2 ∷ ltb (fromBits (s .marks)) 4294967296 ∷ every word l ∷ []) (
+      refl,
+      (
+        lt-ltb _ 2 (flag-few (s .written)),
+        (
+          lt-ltb _ 4294967296 (number-few (s .marks) (omega (arith, f .marks))),
+          (all-words l (point-words (s .points) (f .points-bytes) (f .points)), tt),
+        ),
+      ),
+    )
 
 record-back : (s : Record) → Whole s → recordFrom (wordsOf s) ≡ s
 record-back s f =

@@ -85,7 +85,15 @@ pub extern "C" fn zbk_helper_packet(
         r: r,
     };
     let given = words::points_array(points);
-    answer_word::word_of(board_helper::helper_packet(sizes, given, len, helper, receiver, share, out))
+    answer_word::word_of(board_helper::helper_packet(
+        sizes,
+        given,
+        len,
+        helper,
+        receiver,
+        share,
+        out,
+    ))
 }
 
 // The exchange packet that a board being rebuilt makes of its d helper packets, for another. Reports the number of bytes written.
@@ -112,7 +120,9 @@ pub extern "C" fn zbk_exchange_packet(
         r: r,
     };
     let given = words::points_array(points);
-    answer_word::word_of(board_exchange::exchange_packet(sizes, given,
+    answer_word::word_of(board_exchange::exchange_packet(
+        sizes,
+        given,
         len,
         board,
         helpers,
@@ -147,7 +157,9 @@ pub extern "C" fn zbk_finished_share(
         r: r,
     };
     let given = words::points_array(points);
-    answer_word::word_of(board_finish::finished_share(sizes, given,
+    answer_word::word_of(board_finish::finished_share(
+        sizes,
+        given,
         len,
         board,
         helpers,

@@ -15,8 +15,11 @@ use Rattle.store.proofs.Store.read.Statement.{statement}
 use Rattle.store.proofs.Store.read.Tie as tie
 
 -- the places
+abbrev at-points : tie.After-check-read → tie.After-points2
+at-points c = c .before .before .before .before .before
+
 abbrev at-inverses : tie.After-check-read → tie.After-fill-inverses
-at-inverses c = c .before .before .before .before .before .before .before
+at-inverses c = at-points c .before .before
 
 abbrev st : tie.After-check-read → tie.Start
 st c = at-inverses c .before .before .before .before .before .before .before .before
@@ -44,6 +47,10 @@ asks c =
 made : (c : tie.After-enum-told)
     → let k = at-check c in Made (R k .sizes) (R k .points) (st k .args .boards .now) (k .check-read .last .1 .1 .1 .1 .1 .1 .1 .1 .1 .1 .0)
 made c = at-check c .check-read .ensures .1 (c .enum-told .given .1)
+
+-- there are 32 points
+points-long : tie.Need-slice-aggregate-check-read
+points-long c = search needs
 
 -- the work
 file-asks : tie.Need-file-requires
@@ -76,7 +83,7 @@ read-spec =
     (tie.spec
     (λ c. search needs)
     (λ c κs. search needs)
-    (λ c. search needs)
+    points-long
     (λ c. search needs)
     (λ c. search needs)
     (λ c. search needs)
@@ -87,7 +94,7 @@ read-spec =
     (λ c. c .refuse .ensures _ _ ∙ read-refused (c .before .before))
     (λ c. search needs)
     (λ c κs. asks c .is-ready .stated)
-    (λ c. search needs)
+    (λ c. points-long (at-points (at-check (c .before .before))))
     (λ c. search needs)
     file-asks
     (λ c. search needs)
