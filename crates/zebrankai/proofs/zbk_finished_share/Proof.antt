@@ -21,7 +21,7 @@ abbrev at-array : tie.After-finished-share → tie.After-points-array
 at-array c = c .before .before
 
 abbrev st : tie.After-points-array → tie.Start
-st c = c .before .before .before .before
+st c = c .before .before .before .before .before .before .before
 
 abbrev z : tie.Start → Sizes
 z g = sizesOf (g .args .n) (g .args .k) (g .args .d) (g .args .r)

@@ -2,11 +2,15 @@
 -- Assumes nothing.
 use mathlib.Core.Path.{_≡_, ap, _∙_}
 use mathlib.Core.List.{List, []}
+use Prim.Native.Nat.{ℕ}
 use native.Mathlib.Omega.{arith}
 use borrow.Author.Needs.{needs}
 use Rattle.sizes.specs.declared.Sizes.{Sizes}
 use Rattle.store_spec.specs.Calls.{setUpCall}
+use Rattle.store.specs.declared.Store.{Store}
+use Rattle.store.specs.declared.Handed.{Handed}
 use Rattle.store.specs.Handing.{recordIn, outcomeIn}
+use Rattle.words.specs.Steps.{arrayOf}
 use Rattle.zebrankai.specs.Archive.{sizesOf}
 use Rattle.zebrankai.proofs.Given.{set-up-given}
 use Rattle.zebrankai.proofs.Worded.{no-set-up, did-set-up, not-set-up, as-told, set-up-few}
@@ -24,15 +28,12 @@ abbrev z : tie.Start → Sizes
 z g = sizesOf (g .args .n) (g .args .k) (g .args .d) (g .args .r)
 
 not-twelve : tie.Need-returns
-not-twelve c = let g = c .before .before in no-set-up (g .args .ws .now) (z g) (g .args .points .now) (g .args .capacity) (c .if1 .taken)
+not-twelve c = let g = c .before .before .before in no-set-up (g .args .ws .now) (z g) (g .args .points .now) (g .args .capacity) (c .if1 .taken)
 
 -- the store's call at the array of the points is the call at the points
-is-due : (c : tie.After-set-up)
-    → let g = st (at-array c) in outcomeIn (c .set-up .result) [] [] ≡ setUpCall (recordIn (c .set-up .args .self)) (z g) (g .args .points .now) (g .args .capacity)
-is-due c =
-    let p = at-array c in
-    let g = st p in
-    c .set-up .ensures ∙ ap (λ xs. setUpCall _ (z g) xs (g .args .capacity)) (p .points-array .ensures) ∙ set-up-given _ (z g) (g .args .points .now) (g .args .capacity)
+due : (g : tie.Start) (s : Store) (h : Handed) (xs : List ℕ) → outcomeIn h [] [] ≡ setUpCall (recordIn s) (z g) xs (g .args .capacity) → xs ≡ arrayOf (g .args .points .now)
+    → outcomeIn h [] [] ≡ setUpCall (recordIn s) (z g) (g .args .points .now) (g .args .capacity)
+due g s h xs e q = e ∙ ap (λ ys. setUpCall (recordIn s) (z g) ys (g .args .capacity)) q ∙ set-up-given (recordIn s) (z g) (g .args .points .now) (g .args .capacity)
 
 accepts : tie.Need-returns-2
 accepts c =
@@ -40,14 +41,14 @@ accepts c =
     let t = p .before .before in
     let k = t .before .before in
     let g = st (at-array k) in
-    did-set-up (g .args .ws .now) (z g) (g .args .points .now) (g .args .capacity) _ (k .set-up .result) _ (omega arith) (is-due k) (t .before .word-of .ensures)
+    did-set-up (g .args .ws .now) (z g) (g .args .points .now) (g .args .capacity) _ (k .set-up .result) _ (omega arith) (due g _ (k .set-up .result) _ (k .set-up .ensures) (at-array k .points-array .ensures)) (t .before .word-of .ensures)
     _ (t .if2 .taken) (p .put-words .ensures)
 
 refuses : tie.Need-returns-3
 refuses c =
     let k = c .before .before in
     let g = st (at-array k) in
-    not-set-up (g .args .ws .now) (z g) (g .args .points .now) (g .args .capacity) _ (k .set-up .result) _ (omega arith) (is-due k) (c .before .word-of .ensures)
+    not-set-up (g .args .ws .now) (z g) (g .args .points .now) (g .args .capacity) _ (k .set-up .result) _ (omega arith) (due g _ (k .set-up .result) _ (k .set-up .ensures) (at-array k .points-array .ensures)) (c .before .word-of .ensures)
     (c .if2 .left)
 
 pub zbk-set-up-spec : {M : Type 1} → statement M
@@ -57,7 +58,7 @@ zbk-set-up-spec =
     not-twelve
     (λ c κs. search needs)
     (λ c κs. search needs)
-    (λ c κs. as-told (c .set-up .result) [] [] _ (is-due c) (set-up-few _ (z (st (at-array c))) (st (at-array c) .args .points .now) (st (at-array c) .args .capacity)))
+    (λ c κs. as-told (c .set-up .result) [] [] _ (c .set-up .ensures) (set-up-few _ _ _ _))
     (λ c κs. omega arith)
     (λ c. search needs)
     accepts
