@@ -49,7 +49,8 @@ pub record LongFigures : Type 0 where
   pub file-read : fileCall five (standard five) 12 (1 ∷ 4 ∷ []) (shares five (standard five) fiveFile (1 ∷ 4 ∷ [])) (replicate 14 0xEE)
       ≡ record { answer = record { refusal = 0; reported = 12 }; output = fiveFile ++ (0xEE ∷ 0xEE ∷ []) }
   -- request A.9: the file 01 02 .. 0C from boards 3 and 0, at the points 05 00 80 1D FF
-  pub points-read : fileCall five points5 12 (3 ∷ 0 ∷ []) (0x8B ∷ 0x6E ∷ 0xF7 ∷ 0xA8 ∷ 0xCD ∷ 0x92 ∷ 0xF8 ∷ 0x33 ∷ 0xB5 ∷ 0x74 ∷ 0xF8 ∷ 0x41 ∷ 0xE9 ∷ 0xF4 ∷ []) (replicate 13 0xEE)
+  pub points-read : fileCall five points5 12 (3 ∷ 0 ∷ [])
+      (0x8B ∷ 0x6E ∷ 0xF7 ∷ 0xA8 ∷ 0xCD ∷ 0x92 ∷ 0xF8 ∷ 0x33 ∷ 0xB5 ∷ 0x74 ∷ 0xF8 ∷ 0x41 ∷ 0xE9 ∷ 0xF4 ∷ []) (replicate 13 0xEE)
       ≡ record {
         answer = record { refusal = 0; reported = 12 };
         output = 1 ∷ 2 ∷ 3 ∷ 4 ∷ 5 ∷ 6 ∷ 7 ∷ 8 ∷ 9 ∷ 10 ∷ 11 ∷ 12 ∷ 0xEE ∷ [];

@@ -145,7 +145,8 @@ module _ (s : Record) (area boards output : List ℕ) (ba : Bytes area)
     (λ f. call-is none (none-is .1 (λ file l bf e. f file l bf (shares-all file l .0 e)))),
   )
     where
-      none-is : (fileHeld s area boards ≡ none) ↔ ((file : List ℕ) → length file ≡ s .length → Bytes file → shares (s .sizes) (s .points) file boards ≡ joined (held s area) boards → ⊥)
+      none-is : (fileHeld s area boards ≡ none)
+          ↔ ((file : List ℕ) → length file ≡ s .length → Bytes file → shares (s .sizes) (s .points) file boards ≡ joined (held s area) boards → ⊥)
       none-is = T .read-none (s .length) boards (joined (held s area) boards) held-bytes named
 
       there : (o : Option (List ℕ)) → fileHeld s area boards ≡ o

@@ -50,7 +50,8 @@ accepts b (repair fresh helpers) = refl
 accepts b (read boards output) = refl
 
 done-stay : (b : Book) (call : Call)
-    → (accept b call .book .sizes ≡ b .sizes) × (accept b call .book .points ≡ b .points) × (accept b call .book .capacity ≡ b .capacity) × (accept b call .book .areaLength ≡ b .areaLength)
+    → (accept b call .book .sizes ≡ b .sizes) × (accept b call .book .points ≡ b .points)
+    × (accept b call .book .capacity ≡ b .capacity) × (accept b call .book .areaLength ≡ b .areaLength)
 unfolding accept
 done-stay b (write file) = (refl, refl, refl, refl)
 done-stay b (lose board) = (refl, refl, refl, refl)

@@ -119,17 +119,20 @@ module _ (s : Record) (area fresh helpers : List ℕ) (m : ℕ) (laws : Lengths 
       ≡ finishedShare (s .sizes) (s .points) (stripes (s .sizes) (s .length)) i (heardBy i)
       (joined (λ j. helperPacket (s .sizes) (s .points) (stripes (s .sizes) (s .length)) j i (held s area j)) (heardBy i)) (without i fresh)
       (joined
-      (λ m. exchangePacket (s .sizes) (s .points) (stripes (s .sizes) (s .length)) (heardBy m) (joined (λ j. helperPacket (s .sizes) (s .points) (stripes (s .sizes) (s .length)) j m (held s area j)) (heardBy m)) i)
+      (λ m. exchangePacket (s .sizes) (s .points) (stripes (s .sizes) (s .length)) (heardBy m)
+      (joined (λ j. helperPacket (s .sizes) (s .points) (stripes (s .sizes) (s .length)) j m (held s area j)) (heardBy m)) i)
       (without i fresh))
   unfolding freshShare helperPackets exchangePackets heardBy partnersOf
   fresh-by i e =
-      let c : (j : ℕ) → contents (sentTo j (helperPackets s area fresh helpers)) ≡ joined (λ k. helperPacket (s .sizes) (s .points) (stripes (s .sizes) (s .length)) k j (held s area k)) (heardBy j) =
+      let c : (j : ℕ) → contents (sentTo j (helperPackets s area fresh helpers))
+      ≡ joined (λ k. helperPacket (s .sizes) (s .points) (stripes (s .sizes) (s .length)) k j (held s area k)) (heardBy j) =
       λ j. contents-to _ j (hearHelpers (s .sizes .d) fresh helpers) in
       let a = c i in
       let p = partners-are i e in
       let b : contents (sentTo i (exchangePackets s area fresh helpers))
       ≡ joined
-      (λ m. exchangePacket (s .sizes) (s .points) (stripes (s .sizes) (s .length)) (heardBy m) (joined (λ j. helperPacket (s .sizes) (s .points) (stripes (s .sizes) (s .length)) j m (held s area j)) (heardBy m)) i)
+      (λ m. exchangePacket (s .sizes) (s .points) (stripes (s .sizes) (s .length)) (heardBy m)
+      (joined (λ j. helperPacket (s .sizes) (s .points) (stripes (s .sizes) (s .length)) j m (held s area j)) (heardBy m)) i)
       (without i fresh) =
       contents-to _ i (hearPartners fresh)
       ∙ ap (joined (λ j. exchangePacket (s .sizes) (s .points) (stripes (s .sizes) (s .length)) (heardBy j) (contents (sentTo j (helperPackets s area fresh helpers))) i)) p
@@ -169,7 +172,8 @@ module _ (s : Record) (area fresh helpers : List ℕ) (m : ℕ) (laws : Lengths 
         ∙ joined-all _ _ (heardBy i)
         (by-helpers
         (λ a l. All
-        (λ j. helperPacket (s .sizes) (s .points) (stripes (s .sizes) (s .length)) j i (held s area j) ≡ helperPacket (s .sizes) (s .points) (stripes (s .sizes) (length file)) j i (share (s .sizes) (s .points) file j))
+        (λ j. helperPacket (s .sizes) (s .points) (stripes (s .sizes) (s .length)) j i (held s area j)
+        ≡ helperPacket (s .sizes) (s .points) (stripes (s .sizes) (length file)) j i (share (s .sizes) (s .points) file j))
         l)
         (helpers-each _ (s .sizes .d) fresh helpers
         (all-imp (λ j. inService s j ≡ true) _ (λ j u. let t = truth j u in cc) helpers (every-all (inService s) helpers (f .all-up)))) i e)

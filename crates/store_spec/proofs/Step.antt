@@ -183,7 +183,8 @@ module _ (laws : AllLaws) (b : Book) (area : List ℕ) (v : Inv b area) where
         serving = low;
         room = λ e. sym (v .as-long) ∙ w .area-is;
         holds = λ i e.
-            shares-same (writtenRecord (bookRecord b) (length file)) (share (b .sizes) (b .points) file) (usedLen new) (lawful .lengths .share-length file) (used-fits new is) all area (w .area-is) low i e;
+            shares-same (writtenRecord (bookRecord b) (length file)) (share (b .sizes) (b .points) file) (usedLen new)
+            (lawful .lengths .share-length file) (used-fits new is) all area (w .area-is) low i e;
       }
     where
       low : All (λ x. x < b .sizes .n) (tabulate (b .sizes .n) (λ i. i))
@@ -255,6 +256,7 @@ module _ (laws : AllLaws) (b : Book) (area : List ℕ) (v : Inv b area) where
       good-both _ _ _ _ _ _ (lose-same board) (refusal-good [])
       (λ e. record {
         alike = refl;
-        same-record = ap (λ (m : List Bool). record { sizes = b .sizes; points = b .points; capacity = b .capacity; written = given (b .file); length = bookLength b; marks = m }) (marks-lose (b .service) board);
+        same-record = ap (λ (m : List Bool). record { sizes = b .sizes; points = b .points; capacity = b .capacity; written = given (b .file); length = bookLength b; marks = m })
+            (marks-lose (b .service) board);
         inv = lose-inv board;
       })

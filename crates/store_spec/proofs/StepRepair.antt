@@ -130,6 +130,7 @@ module _ (laws : AllLaws) (b : Book) (area : List ℕ) (v : Inv b area) where
       record {
         alike = ap (λ (m : ℕ). record { answer = said (Done m); output = [] })
             (moved-is (bookRecord b) area fresh helpers (length area) (lawful laws b area v .lengths) (legal-facts (b .sizes) (known .is-legal) .some-fresh) f);
-        same-record = ap (λ (m : List Bool). record { sizes = b .sizes; points = b .points; capacity = b .capacity; written = given (b .file); length = bookLength b; marks = m }) (marks-on fresh (b .service));
+        same-record = ap (λ (m : List Bool). record { sizes = b .sizes; points = b .points; capacity = b .capacity; written = given (b .file); length = bookLength b; marks = m })
+            (marks-on fresh (b .service));
         inv = repair-inv fresh helpers f;
       })

@@ -98,7 +98,8 @@ pub record StoreCalls : Type 0 where
   pub read-ends : (s : Record) (area boards output : List ℕ)
       → StoreEnds (readLines s area boards output) s area output (readDone s area boards output) (readCall s area boards output)
   -- when a set-up is accepted
-  pub set-up-accepted : (old : Record) (z : Sizes) (xs : List ℕ) (c : ℕ) → (setUpCall old z xs c .answer .refusal ≡ 0) ↔ ((legal z ≡ true) × (pointed z xs ≡ true) × (1 ≤ c) × (c ≤ maxStripes))
+  pub set-up-accepted : (old : Record) (z : Sizes) (xs : List ℕ) (c : ℕ)
+      → (setUpCall old z xs c .answer .refusal ≡ 0) ↔ ((legal z ≡ true) × (pointed z xs ≡ true) × (1 ≤ c) × (c ≤ maxStripes))
   -- the records that are not SIZE, in propositions
   pub sound-is : (s : Record) → (sound s ≡ true)
       ↔ ((legal (s .sizes) ≡ true) × (pointed (s .sizes) (s .points) ≡ true) × (1 ≤ s .capacity) × (s .capacity ≤ maxStripes) × (s .length ≤ s .capacity * B (s .sizes))

@@ -113,7 +113,8 @@ half-full-area = 0x05 ∷ 0x06 ∷ 0xFF ∷ 0xFF ∷ 0x06 ∷ 0x05 ∷ 0xFF ∷ 
 pub record FurtherFigures : Type 0 where
   -- a record of a file, of no file, of an empty file, and with all boards lost; then L above C × B, a mark from n up, no file with L above 0
   -- or with a mark, C outside its range, sizes not legal
-  pub sound-records : map sound (five-record true 12 (true ∷ []) ∷ newRecord five (standard five) 1 ∷ five-record true 0 (true ∷ []) ∷ five-record true 12 [] ∷ newRecord five (standard five) 4096 ∷ [])
+  pub sound-records : map sound (five-record true 12 (true ∷ []) ∷ newRecord five (standard five) 1
+      ∷ five-record true 0 (true ∷ []) ∷ five-record true 12 [] ∷ newRecord five (standard five) 4096 ∷ [])
       ≡ true ∷ true ∷ true ∷ true ∷ true ∷ []
   pub unsound-records :
       map sound
@@ -184,7 +185,8 @@ pub record FurtherFigures : Type 0 where
       ≡ replicate 7 (1 ∷ 1 ∷ 1 ∷ 1 ∷ [])
   -- lose: 1, 5; 1 before 5; accepted over an area of any length, before a write, and where the board is out of service
   pub lose-refusals :
-      answers (loseCall unsound [] 0 ∷ loseCall (newRecord five (standard five) 1) [] 5 ∷ loseCall unsound [] 5 ∷ loseCall lost [] 4 ∷ loseCall (newRecord five (standard five) 1) [] 4 ∷ loseCall lost [] 0 ∷ [])
+      answers (loseCall unsound [] 0 ∷ loseCall (newRecord five (standard five) 1) [] 5 ∷ loseCall unsound [] 5
+      ∷ loseCall lost [] 4 ∷ loseCall (newRecord five (standard five) 1) [] 4 ∷ loseCall lost [] 0 ∷ [])
       ≡ 1 ∷ 5 ∷ 1 ∷ 0 ∷ 0 ∷ 0 ∷ []
   -- repair: 1, 2, 8, 4 of the fresh and of the helpers, 5 of each, 6 of the fresh, of one list and of a fresh board as another's helper, 9; then
   -- each before the next

@@ -105,7 +105,8 @@ pub exchange-gives : (κs : Lfts 4) (a : Dens κs exchange-kinds.ps) (w : ℕ) (
     × (exchange-reads.Learnt κs a w e
     → let b = a .1 .1 .1 .1 .1 in
     Gives w (now (e .1 .1 .1 .1 .1 .1 .1 .1 .1 .1 .0))
-    (exchangeCall (sizesOf (a .0) (a .1 .0) (a .1 .1 .0) (a .1 .1 .1 .0)) (now (a .1 .1 .1 .1 .0)) (b .0) (b .1 .0) (now (b .1 .1 .0)) (now (b .1 .1 .1 .0)) (b .1 .1 .1 .1 .0) (now (b .1 .1 .1 .1 .1 .0))))
+    (exchangeCall (sizesOf (a .0) (a .1 .0) (a .1 .1 .0) (a .1 .1 .1 .0)) (now (a .1 .1 .1 .1 .0))
+    (b .0) (b .1 .0) (now (b .1 .1 .0)) (now (b .1 .1 .1 .0)) (b .1 .1 .1 .1 .0) (now (b .1 .1 .1 .1 .1 .0))))
 exchange-gives κs a w e = (tt, λ h. h)
 
 pub finished-gives : (κs : Lfts 6) (a : Dens κs finished-kinds.ps) (w : ℕ) (e : AtExit (endedOf 6 finished-kinds.ps finished-kinds.r) κs)

@@ -75,22 +75,29 @@ helper-sized : (z : Sizes) (ys : List ℕ) (L helper receiver : ℕ) (held out :
 unfolding helperLines helperCall
 helper-sized z ys L helper receiver held out u = rw u refl
 
-pub helper-given : (z : Sizes) (xs : List ℕ) (L helper receiver : ℕ) (held out : List ℕ) → helperCall z (arrayOf xs) L helper receiver held out ≡ helperCall z xs L helper receiver held out
+pub helper-given : (z : Sizes) (xs : List ℕ) (L helper receiver : ℕ) (held out : List ℕ)
+    → helperCall z (arrayOf xs) L helper receiver held out ≡ helperCall z xs L helper receiver held out
 helper-given z xs L helper receiver held out = same-array z xs (λ ys. helperCall z ys L helper receiver held out) out (λ ys u. helper-sized z ys L helper receiver held out u)
 
-exchange-sized : (z : Sizes) (ys : List ℕ) (L board : ℕ) (helpers packets : List ℕ) (receiver : ℕ) (out : List ℕ) → Unfit z ys → exchangeCall z ys L board helpers packets receiver out ≡ sized out
+exchange-sized : (z : Sizes) (ys : List ℕ) (L board : ℕ) (helpers packets : List ℕ) (receiver : ℕ) (out : List ℕ)
+    → Unfit z ys → exchangeCall z ys L board helpers packets receiver out ≡ sized out
 unfolding exchangeLines exchangeCall
 exchange-sized z ys L board helpers packets receiver out u = rw u refl
 
-pub exchange-given : (z : Sizes) (xs : List ℕ) (L board : ℕ) (helpers packets : List ℕ) (receiver : ℕ) (out : List ℕ) → exchangeCall z (arrayOf xs) L board helpers packets receiver out ≡ exchangeCall z xs L board helpers packets receiver out
-exchange-given z xs L board helpers packets receiver out = same-array z xs (λ ys. exchangeCall z ys L board helpers packets receiver out) out (λ ys u. exchange-sized z ys L board helpers packets receiver out u)
+pub exchange-given : (z : Sizes) (xs : List ℕ) (L board : ℕ) (helpers packets : List ℕ) (receiver : ℕ) (out : List ℕ)
+    → exchangeCall z (arrayOf xs) L board helpers packets receiver out ≡ exchangeCall z xs L board helpers packets receiver out
+exchange-given z xs L board helpers packets receiver out =
+    same-array z xs (λ ys. exchangeCall z ys L board helpers packets receiver out) out (λ ys u. exchange-sized z ys L board helpers packets receiver out u)
 
-finished-sized : (z : Sizes) (ys : List ℕ) (L board : ℕ) (helpers packets partners exchanges out : List ℕ) → Unfit z ys → finishedCall z ys L board helpers packets partners exchanges out ≡ sized out
+finished-sized : (z : Sizes) (ys : List ℕ) (L board : ℕ) (helpers packets partners exchanges out : List ℕ)
+    → Unfit z ys → finishedCall z ys L board helpers packets partners exchanges out ≡ sized out
 unfolding finishedLines finishedCall
 finished-sized z ys L board helpers packets partners exchanges out u = rw u refl
 
-pub finished-given : (z : Sizes) (xs : List ℕ) (L board : ℕ) (helpers packets partners exchanges out : List ℕ) → finishedCall z (arrayOf xs) L board helpers packets partners exchanges out ≡ finishedCall z xs L board helpers packets partners exchanges out
-finished-given z xs L board helpers packets partners exchanges out = same-array z xs (λ ys. finishedCall z ys L board helpers packets partners exchanges out) out (λ ys u. finished-sized z ys L board helpers packets partners exchanges out u)
+pub finished-given : (z : Sizes) (xs : List ℕ) (L board : ℕ) (helpers packets partners exchanges out : List ℕ)
+    → finishedCall z (arrayOf xs) L board helpers packets partners exchanges out ≡ finishedCall z xs L board helpers packets partners exchanges out
+finished-given z xs L board helpers packets partners exchanges out =
+    same-array z xs (λ ys. finishedCall z ys L board helpers packets partners exchanges out) out (λ ys u. finished-sized z ys L board helpers packets partners exchanges out u)
 
 text-sized : (z : Sizes) (ys : List ℕ) (L node : ℕ) (held out : List ℕ) → Unfit z ys → textCall z ys L node held out ≡ sized out
 unfolding textLines textCall

@@ -179,14 +179,6 @@ fn run_case(trial: &mut Trial, case: u64) {
     }
 }
 
-/// Writes bytes to standard output.
-fn write(bytes: &[u8]) -> ExitCode {
-    match std::io::stdout().write_all(bytes) {
-        Ok(()) => ExitCode::SUCCESS,
-        Err(_) => ExitCode::FAILURE,
-    }
-}
-
 fn main() -> ExitCode {
     let options = match options() {
         Ok(options) => options,

@@ -32,7 +32,12 @@ due g xs = let a = g .args in helperCall (z g) xs (a .len) (a .helper) (a .recei
 
 -- at the array of the points it is that at the points
 is-due : (c : tie.After-helper-packet) → let p = at-array c in let g = st p in due g (p .points-array .result) ≡ due g (g .args .points .now)
-is-due c = let p = at-array c in let g = st p in let a = g .args in ap (due g) (p .points-array .ensures) ∙ helper-given (z g) (a .points .now) (a .len) (a .helper) (a .receiver) (a .share .now) (a .out .now)
+is-due c =
+    let p = at-array c in
+    let g = st p in
+    let a = g .args in
+    ap (due g) (p .points-array .ensures)
+    ∙ helper-given (z g) (a .points .now) (a .len) (a .helper) (a .receiver) (a .share .now) (a .out .now)
 
 pub zbk-helper-packet-spec : {M : Type 1} → statement M
 zbk-helper-packet-spec =

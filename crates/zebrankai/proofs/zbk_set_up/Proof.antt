@@ -37,18 +37,22 @@ due g s h xs e q = e ∙ ap (λ ys. setUpCall (recordIn s) (z g) ys (g .args .ca
 
 accepts : tie.Need-returns-2
 accepts c =
-    let p = c .before .before in
-    let t = p .before .before in
+    let w = c .before .before in
+    let t = w .before .before in
     let k = t .before .before in
-    let g = st (at-array k) in
-    did-set-up (g .args .ws .now) (z g) (g .args .points .now) (g .args .capacity) _ (k .set-up .result) _ (omega arith) (due g _ (k .set-up .result) _ (k .set-up .ensures) (at-array k .points-array .ensures)) (t .before .word-of .ensures)
-    _ (t .if2 .taken) (p .put-words .ensures)
+    let p = at-array k in
+    let g = st p in
+    let e = due g _ (k .set-up .result) _ (k .set-up .ensures) (p .points-array .ensures) in
+    did-set-up (g .args .ws .now) (z g) (g .args .points .now) (g .args .capacity) _ (k .set-up .result) _ (omega arith) e (t .before .word-of .ensures)
+    _ (t .if2 .taken) (w .put-words .ensures)
 
 refuses : tie.Need-returns-3
 refuses c =
     let k = c .before .before in
-    let g = st (at-array k) in
-    not-set-up (g .args .ws .now) (z g) (g .args .points .now) (g .args .capacity) _ (k .set-up .result) _ (omega arith) (due g _ (k .set-up .result) _ (k .set-up .ensures) (at-array k .points-array .ensures)) (c .before .word-of .ensures)
+    let p = at-array k in
+    let g = st p in
+    let e = due g _ (k .set-up .result) _ (k .set-up .ensures) (p .points-array .ensures) in
+    not-set-up (g .args .ws .now) (z g) (g .args .points .now) (g .args .capacity) _ (k .set-up .result) _ (omega arith) e (c .before .word-of .ensures)
     (c .if2 .left)
 
 pub zbk-set-up-spec : {M : Type 1} → statement M
