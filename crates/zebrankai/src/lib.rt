@@ -33,8 +33,8 @@ pub extern "C" fn zbk_share(
         d: d,
         r: r,
     };
-    let given = words::points_array(points);
-    answer_word::word_of(board_share::share(sizes, given, node, file, out))
+    let xs = words::points_array(points);
+    answer_word::word_of(board_share::share(sizes, xs, node, file, out))
 }
 
 // The file of so many bytes that k shares give, or DISAGREE where no such file has them. Reports the number of bytes written.
@@ -58,8 +58,8 @@ pub extern "C" fn zbk_file(
         d: d,
         r: r,
     };
-    let given = words::points_array(points);
-    answer_word::word_of(board_file::file(sizes, given, len, boards, shares, out))
+    let xs = words::points_array(points);
+    answer_word::word_of(board_file::file(sizes, xs, len, boards, shares, out))
 }
 
 // The helper packet that a board makes of its share of a file of so many bytes, for another board. Reports the number of bytes written.
@@ -84,16 +84,8 @@ pub extern "C" fn zbk_helper_packet(
         d: d,
         r: r,
     };
-    let given = words::points_array(points);
-    answer_word::word_of(board_helper::helper_packet(
-        sizes,
-        given,
-        len,
-        helper,
-        receiver,
-        share,
-        out,
-    ))
+    let xs = words::points_array(points);
+    answer_word::word_of(board_helper::helper_packet(sizes, xs, len, helper, receiver, share, out))
 }
 
 // The exchange packet that a board being rebuilt makes of its d helper packets, for another. Reports the number of bytes written.
@@ -119,10 +111,10 @@ pub extern "C" fn zbk_exchange_packet(
         d: d,
         r: r,
     };
-    let given = words::points_array(points);
+    let xs = words::points_array(points);
     answer_word::word_of(board_exchange::exchange_packet(
         sizes,
-        given,
+        xs,
         len,
         board,
         helpers,
@@ -156,10 +148,10 @@ pub extern "C" fn zbk_finished_share(
         d: d,
         r: r,
     };
-    let given = words::points_array(points);
+    let xs = words::points_array(points);
     answer_word::word_of(board_finish::finished_share(
         sizes,
-        given,
+        xs,
         len,
         board,
         helpers,
@@ -191,8 +183,8 @@ pub extern "C" fn zbk_share_text(
         d: d,
         r: r,
     };
-    let given = words::points_array(points);
-    answer_word::word_of(board_text::text(sizes, given, len, node, share, out))
+    let xs = words::points_array(points);
+    answer_word::word_of(board_text::text(sizes, xs, len, node, share, out))
 }
 
 // The word of SIZE, for words that are no record.
@@ -220,16 +212,16 @@ pub extern "C" fn zbk_set_up(
         d: d,
         r: r,
     };
-    let given = words::points_array(points);
+    let xs = words::points_array(points);
     let blank = Store {
         sizes: sizes,
-        points: given,
+        points: xs,
         capacity: capacity,
         written: false,
         length: 0,
         marks: [false; 32],
     };
-    let handed = blank.set_up(sizes, given, capacity);
+    let handed = blank.set_up(sizes, xs, capacity);
     let answer = handed.answer;
     let word = answer_word::word_of(answer);
     if word == 0 {
