@@ -1,7 +1,8 @@
 //! The archive for C and Rust: every call of the board level and of the store under a C name, for all input, without `requires`.
-//! Each meets its definition in the crates `board_spec` and `store_spec`: the answer as one word, and
-//! every word and byte that it was lent. A slice is a pointer and a length. A record is a lent slice of twelve words: n, k, d, r, capacity,
-//! written, length, marks, and the points of eight boards each. Points are a lent slice of 32 bytes; another number of them is SIZE. An answer has the refusal's number in its low eight bits, 0 where there is none, and the number reported above them.
+//! Each meets its definition in the crates `board_spec` and `store_spec`: the answer as one word, and every word and byte that it was lent.
+//! A slice is a pointer and a length. A record is a lent slice of twelve words: n, k, d, r, capacity, written, length, marks, and four words
+//! with the points of eight boards each. Points are a lent slice of 32 bytes; another number of them is SIZE. An answer has the refusal's number
+//! in its low eight bits, 0 where there is none, and the number reported above them.
 ghost use mathlib.Core.Path.{_≡_};
 ghost use mathlib.Core.List.{List, []};
 ghost use Prim.Native.Nat.{ℕ};
