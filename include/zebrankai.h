@@ -5,6 +5,9 @@
  * together, each from d helpers and the other fresh boards (arXiv 1207.0879, section IV).
  *
  * Sizes:   n boards, numbered 0 to n - 1; k read; d helpers; r fresh boards. Legal: 1 <= k <= d, r >= 1, d + r <= n <= 32.
+ * Points:  a byte for each board, at which its share is worked out. A list of points has 32 bytes: the first n are the boards', all different,
+ *          the rest 00. Board i has the point i on present robots (zbk_standard_points), i + 1 on robots of the first series
+ *          (zbk_first_series_points). All boards of a file have shares at the same points.
  * Share:   2d + r - 1 bytes for each stripe.          Stripe: carries k(2d + r - k) bytes of the file.
  * Stripes: S, the least number of stripes that hold the file's length.
  *
@@ -41,7 +44,7 @@ extern "C" {
 enum {
     ZBK_MAX_BOARDS = 32,
     ZBK_MAX_STRIPES = 4096,
-    ZBK_RECORD_WORDS = 8
+    ZBK_RECORD_WORDS = 12
 };
 
 /* Why a call was refused. Where several hold, the first is given: of the store in the order 1, 2, 3, 8, 4, 5, 6, 9, 7, 10, at board level
@@ -49,7 +52,9 @@ enum {
 enum zbk_refusal_number {
     /* The call was accepted. */
     ZBK_ACCEPTED = 0,
-    /* The sizes are not legal, the capacity is not 1 to 4,096 stripes, or the record is one that no call hands out. */
+    /* The sizes are not legal, the capacity is not 1 to 4,096 stripes, the record is one that no call hands out, the points repeat, or one from
+     * n up is not 00. A record of another number of words than 12 and a list of points of another length than 32 are refused with it before
+     * all else. */
     ZBK_SIZE = 1,
     /* The area, or a slice of shares or packets, has another length than the sizes give. */
     ZBK_AREA = 2,
@@ -71,7 +76,9 @@ enum zbk_refusal_number {
     ZBK_DISAGREE = 10
 };
 
-/* The words of a record, by place. Keep them together with the area; change them only by the calls. */
+/* The words of a record, by place. Keep them together with the area; change them only by the calls. A record of eight words, as calls without
+ * points handed it out, is refused with ZBK_SIZE; with the words of the standard points behind it, it goes on: in word 8 + q, byte m, the lowest
+ * being byte 0, is 8q + m where that is below n, else 00. */
 enum zbk_record_word {
     ZBK_WORD_N = 0,
     ZBK_WORD_K = 1,
@@ -84,7 +91,9 @@ enum zbk_record_word {
     /* the length of that file */
     ZBK_WORD_LENGTH = 6,
     /* bit i is set where board i is in service */
-    ZBK_WORD_MARKS = 7
+    ZBK_WORD_MARKS = 7,
+    /* four words, 8 to 11: word 8 + q has the points of boards 8q to 8q + 7, the lowest byte first */
+    ZBK_WORD_POINTS = 8
 };
 
 /* The refusal's number in an answer: 0 where the call was accepted. */
@@ -93,41 +102,54 @@ static inline unsigned zbk_refusal(uint64_t answer) { return (unsigned)(answer &
 /* What an accepted call reports. */
 static inline uint64_t zbk_value(uint64_t answer) { return answer >> 8; }
 
-/* Board level: these calls keep no record. `length` is the file's length. Each writes to the first bytes of out and reports how many; the
- * rest of out stays. */
+/* The points of present robots: i for board i, 00 from n up. An n above 32 is taken as 32. */
+static inline void zbk_standard_points(uint8_t points[ZBK_MAX_BOARDS], size_t n) {
+    for (size_t i = 0; i < ZBK_MAX_BOARDS; i++) points[i] = (uint8_t)(i < n ? i : 0);
+}
+
+/* The points of robots of the first series: i + 1 for board i, 00 from n up. An n above 32 is taken as 32. */
+static inline void zbk_first_series_points(uint8_t points[ZBK_MAX_BOARDS], size_t n) {
+    for (size_t i = 0; i < ZBK_MAX_BOARDS; i++) points[i] = (uint8_t)(i < n ? i + 1 : 0);
+}
+
+/* Board level: these calls keep no record, and are given the points with the sizes. `length` is the file's length. Each writes to the first
+ * bytes of out and reports how many; the rest of out stays. */
 
 /* The share of board `node` of a file: S(2d + r - 1) bytes. */
-uint64_t zbk_share(size_t n, size_t k, size_t d, size_t r, size_t node, const uint8_t *file, size_t file_len, uint8_t *out, size_t out_len);
+uint64_t zbk_share(size_t n, size_t k, size_t d, size_t r, const uint8_t *points, size_t points_len, size_t node, const uint8_t *file,
+                   size_t file_len, uint8_t *out, size_t out_len);
 
 /* The file of `length` bytes that k boards' shares give; refused where no file of that length has them. */
-uint64_t zbk_file(size_t n, size_t k, size_t d, size_t r, size_t length, const size_t *boards, size_t boards_count, const uint8_t *shares,
-                  size_t shares_len, uint8_t *out, size_t out_len);
+uint64_t zbk_file(size_t n, size_t k, size_t d, size_t r, const uint8_t *points, size_t points_len, size_t length, const size_t *boards,
+                  size_t boards_count, const uint8_t *shares, size_t shares_len, uint8_t *out, size_t out_len);
 
 /* What `helper` sends to the fresh board `receiver`, from its own share: 2S bytes. */
-uint64_t zbk_helper_packet(size_t n, size_t k, size_t d, size_t r, size_t length, size_t helper, size_t receiver, const uint8_t *share,
-                           size_t share_len, uint8_t *out, size_t out_len);
+uint64_t zbk_helper_packet(size_t n, size_t k, size_t d, size_t r, const uint8_t *points, size_t points_len, size_t length, size_t helper,
+                           size_t receiver, const uint8_t *share, size_t share_len, uint8_t *out, size_t out_len);
 
 /* What the fresh board `board` sends to the fresh board `receiver`, from the packets of its d helpers: S bytes. */
-uint64_t zbk_exchange_packet(size_t n, size_t k, size_t d, size_t r, size_t length, size_t board, const size_t *helpers,
-                             size_t helpers_count, const uint8_t *packets, size_t packets_len, size_t receiver, uint8_t *out,
-                             size_t out_len);
+uint64_t zbk_exchange_packet(size_t n, size_t k, size_t d, size_t r, const uint8_t *points, size_t points_len, size_t length, size_t board,
+                             const size_t *helpers, size_t helpers_count, const uint8_t *packets, size_t packets_len, size_t receiver,
+                             uint8_t *out, size_t out_len);
 
 /* The share of the fresh board `board`, from the packets of its d helpers and of the r - 1 other fresh boards: S(2d + r - 1) bytes. */
-uint64_t zbk_finished_share(size_t n, size_t k, size_t d, size_t r, size_t length, size_t board, const size_t *helpers,
-                            size_t helpers_count, const uint8_t *packets, size_t packets_len, const size_t *partners,
-                            size_t partners_count, const uint8_t *partner_packets, size_t partner_packets_len, uint8_t *out,
-                            size_t out_len);
+uint64_t zbk_finished_share(size_t n, size_t k, size_t d, size_t r, const uint8_t *points, size_t points_len, size_t length, size_t board,
+                            const size_t *helpers, size_t helpers_count, const uint8_t *packets, size_t packets_len,
+                            const size_t *partners, size_t partners_count, const uint8_t *partner_packets, size_t partner_packets_len,
+                            uint8_t *out, size_t out_len);
 
-/* A share as text: seven lines, the sizes, the board, the length and the share in hexadecimal: two bytes for each byte of the share, and at
- * most 128 more. */
-uint64_t zbk_share_text(size_t n, size_t k, size_t d, size_t r, size_t length, size_t node, const uint8_t *share, size_t share_len,
-                        uint8_t *out, size_t out_len);
+/* A share as text: seven lines, the sizes, the board, the length and the share in hexadecimal, and before the share a line with the points of
+ * the n boards where they are not 0 to n - 1 in order: two bytes for each byte of the share and at most 200 more. */
+uint64_t zbk_share_text(size_t n, size_t k, size_t d, size_t r, const uint8_t *points, size_t points_len, size_t length, size_t node,
+                        const uint8_t *share, size_t share_len, uint8_t *out, size_t out_len);
 
-/* The store: a record of eight words (another number of words is refused with ZBK_SIZE), and an area of n * capacity * (2d + r - 1) bytes that holds the boards one after another. Each call
- * is given the record and the area as the last call left them. */
+/* The store: a record of twelve words, and an area of n * capacity * (2d + r - 1) bytes that holds the boards one after another. Each call is
+ * given the record and the area as the last call left them. */
 
-/* A new store with no file: where it is accepted all eight words are written, and what they were before does not matter. */
-uint64_t zbk_set_up(uint64_t *record, size_t record_words, size_t n, size_t k, size_t d, size_t r, size_t capacity);
+/* A new store with no file: where it is accepted all twelve words are written, and what they were before does not matter. The record keeps the
+ * points; the other calls take them from it. */
+uint64_t zbk_set_up(uint64_t *record, size_t record_words, size_t n, size_t k, size_t d, size_t r, const uint8_t *points,
+                    size_t points_len, size_t capacity);
 
 /* Writes a file: every board gets its share and comes into service. */
 uint64_t zbk_write(uint64_t *record, size_t record_words, uint8_t *area, size_t area_len, const uint8_t *file, size_t file_len);

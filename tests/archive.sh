@@ -44,12 +44,25 @@ else
     echo "skipped valgrind: it is not on this machine"
 fi
 
-# the header in C++: a set up is accepted
+# the header in C++: its points are right, and a set up is accepted
 cat >"$work/header.cc" <<'END'
 #include "zebrankai.h"
+static bool right(const uint8_t *points, size_t n, size_t first) {
+    for (size_t i = 0; i < ZBK_MAX_BOARDS; i++) if (points[i] != (i < n ? i + first : 0)) return false;
+    return true;
+}
 int main() {
     uint64_t record[ZBK_RECORD_WORDS] = {0};
-    return static_cast<int>(zbk_refusal(zbk_set_up(record, ZBK_RECORD_WORDS, 5, 2, 3, 2, 1)));
+    uint8_t points[ZBK_MAX_BOARDS];
+    const size_t counts[] = {0, 1, 5, 31, 32, 33, SIZE_MAX};
+    for (size_t c = 0; c < sizeof counts / sizeof *counts; c++) {
+        zbk_first_series_points(points, counts[c]);
+        if (!right(points, counts[c], 1)) return 100;
+        zbk_standard_points(points, counts[c]);
+        if (!right(points, counts[c], 0)) return 100;
+    }
+    zbk_first_series_points(points, 5);
+    return static_cast<int>(zbk_refusal(zbk_set_up(record, ZBK_RECORD_WORDS, 5, 2, 3, 2, points, ZBK_MAX_BOARDS, 1)));
 }
 END
 # shellcheck disable=SC2086

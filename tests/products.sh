@@ -1,6 +1,8 @@
 #!/bin/sh
 # All 65,536 products and 256 inverses by the compiled functions `gf256_mul::mul` and `gf256_rows::inverse`, which the program product_printer
-# writes, against the unrelated coder's own field, byte for byte. Ends with exit code 1 where a byte differs.
+# writes, against the unrelated coder's own field, byte for byte. And all products, and all quotients by the 255 bytes other than 00, through the
+# compiled archive: by shares and writes, and by files, reads and helper packets, at points that bring them about. Ends with exit code 1 where a
+# byte differs.
 set -eu
 cd "$(dirname "$0")/.."
 CARGO_TARGET_DIR=$PWD/target/cargo
@@ -24,5 +26,12 @@ if [ "$(wc -c <"$work/due")" -eq 65792 ] && cmp "$work/made" "$work/due"; then
     echo "ok 65,536 products and 256 inverses are the unrelated coder's"
 else
     echo "FAIL products and inverses"
+    exit 1
+fi
+if target/cargo/release/coder --multiply >"$work/calls"; then
+    echo "ok 65,536 products and 65,280 quotients through the archive: $(tail -n 1 "$work/calls")"
+else
+    cat "$work/calls"
+    echo "FAIL products and quotients through the archive"
     exit 1
 fi

@@ -1,4 +1,4 @@
-// For tests/share_printer.sh, loaded before the C library: a read that gives at most READ_MOST bytes, and that fails once READ_TIMES reads are done.
+// For tests/printer.sh, loaded before the C library: a read that gives at most READ_MOST bytes, and that fails once READ_TIMES reads are done.
 #define _GNU_SOURCE
 #include <dlfcn.h>
 #include <errno.h>

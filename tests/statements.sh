@@ -38,7 +38,7 @@ definitions=$(ls crates/*/specs/*.antt | grep -v -e '/Lib.antt$')
 # what only inner functions cite: no public call's contract rests on it
 inner=$(ls crates/*/specs/Steps.antt crates/gf256_mul/specs/Tables.antt)
 # the archive's words, beside the calls that they are for
-archive='crates/answer_word/specs/Answers.antt crates/words/specs/Words.antt crates/zebrankai/specs/Archive.antt crates/zebrankai/specs/Lent.antt'
+archive='crates/answer_word/specs/Answers.antt crates/record_words/specs/Words.antt crates/zebrankai/specs/Archive.antt crates/zebrankai/specs/Lent.antt'
 # what a later request defines in files of its own, each with its most lines; the base's 700 are without them
 requests='crates/size_list/specs/Combinations.antt:45'
 later=$(for f in $requests; do echo "${f%:*}"; done)

@@ -1,6 +1,7 @@
 /*
- * shelf.c: a stock file on seven shelf boards, in C. It is written, two boards are lost and rebuilt together, and it is read back from boards
- * of which two are the rebuilt ones. Every answer is checked; the program ends with 0 only where the file came back as it was written.
+ * shelf.c: a stock file on seven shelf boards, in C, on a present robot and on one of the first series, whose boards have other points. It is
+ * written, two boards are lost and rebuilt together, and it is read back from boards of which two are the rebuilt ones; and the share of one of
+ * them is printed. Every answer is checked; the program ends with 0 only where the file came back as it was written, on both robots.
  *
  * Build, from the top folder:  cc -std=c11 -Iinclude examples/c/shelf.c target/staticlib/libzebrankai.a -o shelf
  */
@@ -44,21 +45,29 @@ static void refused(const char *call, uint64_t answer, unsigned number) {
 /* Fills a lost board's part of the area with other bytes, as a new board would come. */
 static void spoil(uint8_t *area, size_t board) { memset(area + board * CAPACITY * SHARE, 0xEE, CAPACITY * SHARE); }
 
-int main(void) {
-    const size_t length = sizeof stock - 1;
+/* Begins the share of a board as text: all lines but the last, which is its bytes. Gives whether a line has the points. */
+static int print_text(const uint64_t *record, const uint8_t *points, const uint8_t *area, size_t board) {
+    const size_t length = record[ZBK_WORD_LENGTH];
+    const size_t share_len = (length + STRIPE - 1) / STRIPE * SHARE;
+    char text[2 * CAPACITY * SHARE + 200 + 1];
+    const uint64_t written = accepted("a share as text", zbk_share_text(N, K, D, R, points, ZBK_MAX_BOARDS, length, board,
+                                                                        area + board * CAPACITY * SHARE, share_len, (uint8_t *)text,
+                                                                        sizeof text - 1));
+    text[written] = 0;
+    *strstr(text, "data=") = 0;
+    fputs(text, stdout);
+    return strstr(text, "points=") != NULL;
+}
+
+/* The stock file on one robot, over an area and an output that are lent; gives whether all was as it must be. */
+static int robot(const uint8_t *points, uint8_t *area, uint8_t *out, size_t length) {
     uint64_t record[ZBK_RECORD_WORDS] = {0};
-    uint8_t *area = malloc(AREA);
-    uint8_t *out = malloc(length);
-    if (area == NULL || out == NULL) {
-        fprintf(stderr, "no memory\n");
-        return EXIT_FAILURE;
-    }
     memset(area, 0xEE, AREA);
     memset(out, 0, length);
 
-    accepted("set up", zbk_set_up(record, ZBK_RECORD_WORDS, N, K, D, R, CAPACITY));
+    accepted("set up", zbk_set_up(record, ZBK_RECORD_WORDS, N, K, D, R, points, ZBK_MAX_BOARDS, CAPACITY));
     accepted("write", zbk_write(record, ZBK_RECORD_WORDS, area, AREA, (const uint8_t *)stock, length));
-    printf("%zu bytes written to %d boards\n", length, N);
+    printf("%zu bytes written to %d boards with the points %d to %d\n", length, N, points[0], points[N - 1]);
 
     const size_t lost[R] = {1, 4};
     for (size_t i = 0; i < R; i++) {
@@ -78,9 +87,36 @@ int main(void) {
     const int same = memcmp(out, stock, length) == 0;
     printf("read from boards 4, 1 and 6: %s\n", same ? "the file as it was written" : "ANOTHER FILE");
 
+    /* the text says the points where board i has another one than i */
+    const int said = print_text(record, points, area, 4) == (points[0] != 0);
     const uint64_t stripes = (length + STRIPE - 1) / STRIPE;
-    const int formula = moved == stripes * R * (2 * D + R - 1);
+    return same && said && moved == stripes * R * (2 * D + R - 1);
+}
+
+int main(void) {
+    const size_t length = sizeof stock - 1;
+    uint8_t *area = malloc(AREA);
+    uint8_t *out = malloc(length);
+    if (area == NULL || out == NULL) {
+        fprintf(stderr, "no memory\n");
+        return EXIT_FAILURE;
+    }
+    uint8_t points[ZBK_MAX_BOARDS];
+
+    printf("A present robot:\n");
+    zbk_standard_points(points, N);
+    const int present = robot(points, area, out, length);
+
+    printf("A robot of the first series:\n");
+    zbk_first_series_points(points, N);
+    const int first = robot(points, area, out, length);
+
+    /* two boards at one point */
+    uint64_t record[ZBK_RECORD_WORDS] = {0};
+    points[0] = points[1];
+    refused("a set up with a point twice", zbk_set_up(record, ZBK_RECORD_WORDS, N, K, D, R, points, ZBK_MAX_BOARDS, CAPACITY), ZBK_SIZE);
+
     free(out);
     free(area);
-    return same && formula ? EXIT_SUCCESS : EXIT_FAILURE;
+    return present && first ? EXIT_SUCCESS : EXIT_FAILURE;
 }

@@ -1,8 +1,9 @@
 //! The demo: a small stock file on eight shelf boards. Two boards are lost and rebuilt together, then two others, and the file is read back
-//! from the four rebuilt boards only. Prints what happens, board by board, and how many bytes the bus carried.
+//! from the four rebuilt boards only. Then the same file on a robot of the first series, whose boards have other points: two boards are lost and
+//! rebuilt, one of them is printed as text, and the file is read back. Prints what happens, board by board, and how many bytes the bus carried.
 
 use std::error::Error;
-use zebrankai::{Record, Sizes};
+use zebrankai::{board, Points, Record, Sizes};
 
 /// Eight boards; any four give the file back; each fresh board hears six helpers; two are rebuilt together.
 const SIZES: Sizes = Sizes { n: 8, k: 4, d: 6, r: 2 };
@@ -29,10 +30,8 @@ struct Shelf {
 fn main() -> Result<(), Box<dyn Error>> {
     let file = STOCK.as_bytes();
     println!("The stock file has {} lines, {} bytes:\n", STOCK.lines().count(), file.len());
-    for line in STOCK.lines() {
-        println!("    {line}");
-    }
-    let mut shelf = Shelf::write(file)?;
+    print_lines(STOCK);
+    let mut shelf = Shelf::write(Points::standard(SIZES.n), file)?;
     println!("\n1. It is written to {} boards. Any {} of them give it back.\n", SIZES.n, SIZES.k);
     shelf.print_boards();
 
@@ -40,26 +39,48 @@ fn main() -> Result<(), Box<dyn Error>> {
     shelf.swap(4, [0, 7])?;
 
     println!("\n6. The file is read from the four rebuilt boards only: 2, 5, 0 and 7.\n");
-    let mut read = vec![0; shelf.record.length()];
-    shelf.record.read(&shelf.area, &[2, 5, 0, 7], &mut read)?;
-    for line in String::from_utf8_lossy(&read).lines() {
+    shelf.read(&[2, 5, 0, 7], file)?;
+
+    println!("\n7. A robot of the first series keeps the same file. There board i has the point i + 1 and not i, so the boards");
+    println!("   hold other bytes.\n");
+    let mut shelf = Shelf::write(Points::first_series(SIZES.n), file)?;
+    shelf.print_boards();
+
+    shelf.swap(8, [3, 4])?;
+
+    println!("\n10. Board 3 is printed as text, which says the points of all boards.\n");
+    shelf.print_text(3)?;
+
+    println!("\n11. The file is read from boards 3, 4, 6 and 1.\n");
+    shelf.read(&[3, 4, 6, 1], file)
+}
+
+fn print_lines(text: &str) {
+    for line in text.lines() {
         println!("    {line}");
     }
-    if read != file {
-        return Err("the file that was read is not the file that was written".into());
-    }
-    println!("\nAll {} bytes are as they were written: no count was lost, none was made up.", read.len());
-    Ok(())
 }
 
 impl Shelf {
-    /// Sets up a store and writes a file to it.
-    fn write(file: &[u8]) -> Result<Shelf, Box<dyn Error>> {
+    /// Sets up a store of boards with these points and writes a file to it.
+    fn write(points: Points, file: &[u8]) -> Result<Shelf, Box<dyn Error>> {
         // what boards hold before the first write does not matter
         let mut area = vec![0xEE; SIZES.area_len(CAPACITY)];
-        let mut record = Record::set_up(SIZES, CAPACITY)?;
+        let mut record = Record::set_up(SIZES, points, CAPACITY)?;
         record.write(&mut area, file)?;
         Ok(Shelf { record, area, rebuilt: Vec::new() })
+    }
+
+    /// Reads the file from these boards, prints it, and holds it to the file that was written.
+    fn read(&self, boards: &[usize], file: &[u8]) -> Result<(), Box<dyn Error>> {
+        let mut read = vec![0; self.record.length()];
+        self.record.read(&self.area, boards, &mut read)?;
+        print_lines(&String::from_utf8_lossy(&read));
+        if read != file {
+            return Err("the file that was read is not the file that was written".into());
+        }
+        println!("\nAll {} bytes are as they were written: no count was lost, none was made up.", read.len());
+        Ok(())
     }
 
     /// Bytes of a board's share.
@@ -103,6 +124,21 @@ impl Shelf {
         );
         println!("    this way the bus carries {} % of that.\n", (100 * moved).div_ceil(whole));
         self.print_boards();
+        Ok(())
+    }
+
+    /// A board's share as text, the last line cut.
+    fn print_text(&self, board: usize) -> Result<(), Box<dyn Error>> {
+        let length = self.record.length();
+        let share = &self.area[board * CAPACITY * SIZES.share_len()..][..self.share_len()];
+        let mut text = vec![0; SIZES.text_room(length)];
+        let written = board::share_text(SIZES, self.record.points(), length, board, share, &mut text)?;
+        for line in String::from_utf8_lossy(&text[..written]).lines() {
+            match line.get(..21).filter(|line| line.starts_with("data=")) {
+                Some(begin) => println!("    {begin}.."),
+                None => println!("    {line}"),
+            }
+        }
         Ok(())
     }
 

@@ -1,9 +1,9 @@
-//! The calls of single boards. They keep no record: each is given the sizes and the file's length. Each writes to the first bytes of `out`
-//! and answers how many; the rest of `out` stays. Lists of shares and packets are one slice, the pieces one after another in the order of
+//! The calls of single boards. They keep no record: each is given the sizes, the points and the file's length. Each writes to the first bytes of
+//! `out` and answers how many; the rest of `out` stays. Lists of shares and packets are one slice, the pieces one after another in the order of
 //! their list of boards.
 
 use crate::refusal::result;
-use crate::{Refusal, Sizes};
+use crate::{Points, Refusal, Sizes};
 
 // The calls of single boards, as include/zebrankai.h declares them.
 extern "C" {
@@ -12,6 +12,8 @@ extern "C" {
         k: usize,
         d: usize,
         r: usize,
+        points: *const u8,
+        points_len: usize,
         node: usize,
         file: *const u8,
         file_len: usize,
@@ -23,6 +25,8 @@ extern "C" {
         k: usize,
         d: usize,
         r: usize,
+        points: *const u8,
+        points_len: usize,
         length: usize,
         boards: *const usize,
         boards_count: usize,
@@ -36,6 +40,8 @@ extern "C" {
         k: usize,
         d: usize,
         r: usize,
+        points: *const u8,
+        points_len: usize,
         length: usize,
         helper: usize,
         receiver: usize,
@@ -49,6 +55,8 @@ extern "C" {
         k: usize,
         d: usize,
         r: usize,
+        points: *const u8,
+        points_len: usize,
         length: usize,
         board: usize,
         helpers: *const usize,
@@ -64,6 +72,8 @@ extern "C" {
         k: usize,
         d: usize,
         r: usize,
+        points: *const u8,
+        points_len: usize,
         length: usize,
         board: usize,
         helpers: *const usize,
@@ -82,6 +92,8 @@ extern "C" {
         k: usize,
         d: usize,
         r: usize,
+        points: *const u8,
+        points_len: usize,
         length: usize,
         node: usize,
         share: *const u8,
@@ -95,20 +107,45 @@ extern "C" {
 // slice is never null; and `out` is lent to this call alone, so it overlaps nothing else.
 
 /// The share of board `node` of a file.
-pub fn share(sizes: Sizes, node: usize, file: &[u8], out: &mut [u8]) -> Result<usize, Refusal> {
+pub fn share(sizes: Sizes, points: Points, node: usize, file: &[u8], out: &mut [u8]) -> Result<usize, Refusal> {
     let Sizes { n, k, d, r } = sizes;
-    result(unsafe { zbk_share(n, k, d, r, node, file.as_ptr(), file.len(), out.as_mut_ptr(), out.len()) })
+    let points = points.bytes();
+    result(unsafe {
+        zbk_share(
+            n,
+            k,
+            d,
+            r,
+            points.as_ptr(),
+            points.len(),
+            node,
+            file.as_ptr(),
+            file.len(),
+            out.as_mut_ptr(),
+            out.len(),
+        )
+    })
 }
 
 /// The file of `length` bytes that k boards' shares give; refused with [`Refusal::Disagree`] where no file of that length has them.
-pub fn file(sizes: Sizes, length: usize, boards: &[usize], shares: &[u8], out: &mut [u8]) -> Result<usize, Refusal> {
+pub fn file(
+    sizes: Sizes,
+    points: Points,
+    length: usize,
+    boards: &[usize],
+    shares: &[u8],
+    out: &mut [u8],
+) -> Result<usize, Refusal> {
     let Sizes { n, k, d, r } = sizes;
+    let points = points.bytes();
     result(unsafe {
         zbk_file(
             n,
             k,
             d,
             r,
+            points.as_ptr(),
+            points.len(),
             length,
             boards.as_ptr(),
             boards.len(),
@@ -123,6 +160,7 @@ pub fn file(sizes: Sizes, length: usize, boards: &[usize], shares: &[u8], out: &
 /// What `helper` sends to the fresh board `receiver`, from its own share.
 pub fn helper_packet(
     sizes: Sizes,
+    points: Points,
     length: usize,
     helper: usize,
     receiver: usize,
@@ -130,12 +168,15 @@ pub fn helper_packet(
     out: &mut [u8],
 ) -> Result<usize, Refusal> {
     let Sizes { n, k, d, r } = sizes;
+    let points = points.bytes();
     result(unsafe {
         zbk_helper_packet(
             n,
             k,
             d,
             r,
+            points.as_ptr(),
+            points.len(),
             length,
             helper,
             receiver,
@@ -148,8 +189,10 @@ pub fn helper_packet(
 }
 
 /// What the fresh board `board` sends to the fresh board `receiver`, from the packets of its d helpers.
+#[allow(clippy::too_many_arguments)]
 pub fn exchange_packet(
     sizes: Sizes,
+    points: Points,
     length: usize,
     board: usize,
     helpers: &[usize],
@@ -158,12 +201,15 @@ pub fn exchange_packet(
     out: &mut [u8],
 ) -> Result<usize, Refusal> {
     let Sizes { n, k, d, r } = sizes;
+    let points = points.bytes();
     result(unsafe {
         zbk_exchange_packet(
             n,
             k,
             d,
             r,
+            points.as_ptr(),
+            points.len(),
             length,
             board,
             helpers.as_ptr(),
@@ -181,6 +227,7 @@ pub fn exchange_packet(
 #[allow(clippy::too_many_arguments)]
 pub fn finished_share(
     sizes: Sizes,
+    points: Points,
     length: usize,
     board: usize,
     helpers: &[usize],
@@ -190,12 +237,15 @@ pub fn finished_share(
     out: &mut [u8],
 ) -> Result<usize, Refusal> {
     let Sizes { n, k, d, r } = sizes;
+    let points = points.bytes();
     result(unsafe {
         zbk_finished_share(
             n,
             k,
             d,
             r,
+            points.as_ptr(),
+            points.len(),
             length,
             board,
             helpers.as_ptr(),
@@ -212,10 +262,32 @@ pub fn finished_share(
     })
 }
 
-/// A share as text: seven lines, the sizes, the board, the length and the share in hexadecimal.
-pub fn share_text(sizes: Sizes, length: usize, node: usize, share: &[u8], out: &mut [u8]) -> Result<usize, Refusal> {
+/// A share as text: seven lines, the sizes, the board, the length and the share in hexadecimal, and before the share a line with the points of the
+/// n boards where they are not 0 to n − 1 in order. [`Sizes::text_room`] bytes are enough.
+pub fn share_text(
+    sizes: Sizes,
+    points: Points,
+    length: usize,
+    node: usize,
+    share: &[u8],
+    out: &mut [u8],
+) -> Result<usize, Refusal> {
     let Sizes { n, k, d, r } = sizes;
+    let points = points.bytes();
     result(unsafe {
-        zbk_share_text(n, k, d, r, length, node, share.as_ptr(), share.len(), out.as_mut_ptr(), out.len())
+        zbk_share_text(
+            n,
+            k,
+            d,
+            r,
+            points.as_ptr(),
+            points.len(),
+            length,
+            node,
+            share.as_ptr(),
+            share.len(),
+            out.as_mut_ptr(),
+            out.len(),
+        )
     })
 }

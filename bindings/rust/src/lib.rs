@@ -3,17 +3,18 @@
 //! archive `libzebrankai.a`, whose calls end on all input and are proved to give what their definitions say.
 //!
 //! [`Record`] is the store: set up, write, lose, repair, read over an area that the caller lends. The functions of [`board`] are the calls
-//! that single boards make, with no record. Every call answers with its result or with one [`Refusal`], and after a refusal nothing has
+//! that single boards make, with no record. Each board has a point, at which its share is worked out: [`Points::standard`] on present robots,
+//! [`Points::first_series`] on robots of the first series; the record keeps them. Every call answers with its result or with one [`Refusal`], and after a refusal nothing has
 //! changed: no word of the record, no byte of a lent buffer.
 //!
 //! ```
-//! use zebrankai::{Record, Refusal, Sizes};
+//! use zebrankai::{Points, Record, Refusal, Sizes};
 //!
 //! let sizes = Sizes { n: 7, k: 3, d: 4, r: 2 };
 //! let stock = b"aspirin 100 mg: 42 boxes\n";
 //!
 //! let mut area = vec![0; sizes.area_len(8)];
-//! let mut record = Record::set_up(sizes, 8)?;
+//! let mut record = Record::set_up(sizes, Points::standard(sizes.n), 8)?;
 //! record.write(&mut area, stock)?;
 //!
 //! record.lose(1)?;
@@ -35,10 +36,12 @@
 #![warn(missing_docs)]
 
 pub mod board;
+mod points;
 mod record;
 mod refusal;
 mod sizes;
 
-pub use record::Record;
+pub use points::Points;
+pub use record::{Record, RECORD_WORDS};
 pub use refusal::Refusal;
 pub use sizes::{Sizes, MAX_BOARDS, MAX_STRIPES};

@@ -1,7 +1,7 @@
-//! The store: a record of eight words, over an area that the caller lends to each call.
+//! The store: a record of twelve words, over an area that the caller lends to each call.
 
 use crate::refusal::result;
-use crate::{Refusal, Sizes};
+use crate::{Points, Refusal, Sizes, MAX_BOARDS};
 
 // The calls of the store, as include/zebrankai.h declares them.
 extern "C" {
@@ -12,6 +12,8 @@ extern "C" {
         k: usize,
         d: usize,
         r: usize,
+        points: *const u8,
+        points_len: usize,
         capacity: usize,
     ) -> u64;
     fn zbk_write(
@@ -45,34 +47,56 @@ extern "C" {
     ) -> u64;
 }
 
-/// The record of a store: its sizes, its capacity, whether a file was written and how long it is, and which boards are in service. It
+/// The words of a record.
+pub const RECORD_WORDS: usize = 12;
+
+/// The first of the four words that hold the points, of eight boards each, the lowest byte first.
+const POINTS: usize = 8;
+
+/// The record of a store: its sizes, its boards' points, its capacity, whether a file was written and how long it is, and which boards are in service. It
 /// belongs to one area of [`Sizes::area_len`] bytes, in which the boards stand one after another; give each call the area as the last call
 /// left it. A record can be kept as its [`words`](Record::words).
 #[derive(Clone, Copy, Debug, PartialEq, Eq, Hash)]
 pub struct Record {
-    words: [u64; 8],
+    words: [u64; RECORD_WORDS],
 }
 
 // Safety, for every call below: a slice is handed over as its pointer and its length, so it is valid for as many elements; the pointer of a
 // slice is never null; and the record, an area to change and an output are each lent to this call alone, so they overlap nothing else.
 
 impl Record {
-    /// A new store with no file and no board in service. `capacity` is the number of stripes that each board has room for, 1 to 4,096.
-    pub fn set_up(sizes: Sizes, capacity: usize) -> Result<Record, Refusal> {
-        let mut record = Record { words: [0; 8] };
+    /// A new store with no file and no board in service. The record keeps the points of its boards. `capacity` is the number of stripes that each
+    /// board has room for, 1 to 4,096.
+    pub fn set_up(sizes: Sizes, points: Points, capacity: usize) -> Result<Record, Refusal> {
+        let mut record = Record { words: [0; RECORD_WORDS] };
         let Sizes { n, k, d, r } = sizes;
+        let points = points.bytes();
         let words = &mut record.words;
-        result(unsafe { zbk_set_up(words.as_mut_ptr(), words.len(), n, k, d, r, capacity) })?;
+        result(unsafe {
+            zbk_set_up(words.as_mut_ptr(), words.len(), n, k, d, r, points.as_ptr(), points.len(), capacity)
+        })?;
         Ok(record)
     }
 
     /// A record of words that were kept. Any words are taken; the calls refuse those that no call hands out, with [`Refusal::Size`].
-    pub fn from_words(words: [u64; 8]) -> Record {
+    pub fn from_words(words: [u64; RECORD_WORDS]) -> Record {
         Record { words }
     }
 
-    /// The words: n, k, d, r, capacity, written (0 or 1), length, marks (bit i for board i).
-    pub fn words(&self) -> [u64; 8] {
+    /// A record of eight words that were kept before records held points: it goes on with the words of the standard points behind them.
+    pub fn from_eight_words(words: [u64; 8]) -> Record {
+        let points = Points::standard(words[0] as usize);
+        let mut all = [0; RECORD_WORDS];
+        all[..POINTS].copy_from_slice(&words);
+        for (word, bytes) in all[POINTS..].iter_mut().zip(points.bytes().chunks(8)) {
+            *word = u64::from_le_bytes(bytes.try_into().expect("a piece has eight bytes"));
+        }
+        Record { words: all }
+    }
+
+    /// The words: n, k, d, r, capacity, written (0 or 1), length, marks (bit i for board i), and four words with the points of eight boards each,
+    /// the lowest byte first.
+    pub fn words(&self) -> [u64; RECORD_WORDS] {
         self.words
     }
 
@@ -80,6 +104,15 @@ impl Record {
     pub fn sizes(&self) -> Sizes {
         let [n, k, d, r, ..] = self.words.map(|word| word as usize);
         Sizes { n, k, d, r }
+    }
+
+    /// The points of the boards.
+    pub fn points(&self) -> Points {
+        let mut bytes = [0; MAX_BOARDS];
+        for (bytes, word) in bytes.chunks_mut(8).zip(&self.words[POINTS..]) {
+            bytes.copy_from_slice(&word.to_le_bytes());
+        }
+        Points::from(bytes)
     }
 
     /// The stripes that each board has room for.

@@ -8,7 +8,8 @@ use std::fmt;
 #[derive(Clone, Copy, Debug, PartialEq, Eq, Hash)]
 #[repr(u8)]
 pub enum Refusal {
-    /// The sizes are not legal, the capacity is out of range, or the record is one that no call hands out.
+    /// The sizes are not legal, the capacity is out of range, the record is one that no call hands out, the points repeat, or one from n up is
+    /// not 00.
     Size = 1,
     /// A lent area, share or packet slice has another length than the sizes give.
     Area = 2,
@@ -75,7 +76,8 @@ impl Refusal {
     pub fn sentence(self) -> &'static str {
         match self {
             Refusal::Size => {
-                "The sizes are not legal, the capacity is not 1 to 4,096 stripes, or the record is one that no call hands out."
+                "The sizes are not legal, the capacity is not 1 to 4,096 stripes, the record is one that no call hands out, \
+                 the points repeat, or one from n up is not 00."
             }
             Refusal::Area => "The area, or a slice of shares or packets, has another length than the sizes give.",
             Refusal::Long => "The file is longer than the store's capacity, or than 4,096 stripes at board level.",

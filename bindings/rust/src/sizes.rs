@@ -74,9 +74,9 @@ impl Sizes {
         self.n.saturating_mul(capacity).saturating_mul(self.share_len())
     }
 
-    /// Bytes that are enough for the text of a share of a file of `length` bytes: two for each byte of the share, and at most 128 for the
-    /// rest.
+    /// Bytes that are enough for the text of a share of a file of `length` bytes, at any points: two for each byte of the share, and at most 200
+    /// for the rest.
     pub fn text_room(self, length: usize) -> usize {
-        self.stripes(length).saturating_mul(2 * self.share_len()).saturating_add(128)
+        self.stripes(length).saturating_mul(2 * self.share_len()).saturating_add(200)
     }
 }

@@ -1,6 +1,6 @@
-//! Every function of the bindings, accepted and refused, on figures of document 01.
+//! Every function of the bindings, accepted and refused, on figures of document 01, at present points and at those of the first series.
 
-use zebrankai::{board, Record, Refusal, Sizes};
+use zebrankai::{board, Points, Record, Refusal, Sizes};
 
 /// n = 5, k = 2, d = 3, r = 2: shares of 7 bytes, stripes of 12.
 const FIVE: Sizes = Sizes { n: 5, k: 2, d: 3, r: 2 };
@@ -8,7 +8,7 @@ const FIVE: Sizes = Sizes { n: 5, k: 2, d: 3, r: 2 };
 /// Document 01's file: F = X²Y.
 const FILE: [u8; 12] = [0, 0, 0, 0, 0, 0, 0, 0, 0, 0, 0, 1];
 
-/// What its boards hold.
+/// What its boards hold on present robots.
 const SHARES: [[u8; 7]; 5] = [
     [0x00, 0x00, 0x00, 0x00, 0x00, 0x00, 0x00],
     [0x01, 0x02, 0x03, 0x04, 0x00, 0x04, 0x05],
@@ -20,10 +20,39 @@ const SHARES: [[u8; 7]; 5] = [
 /// Packets of helpers 2, 3, 4 for board 1.
 const PACKETS: [u8; 6] = [0x04, 0x02, 0x05, 0x03, 0x10, 0x04];
 
+/// What boards hold on robots of the first series, where board i has the point i + 1.
+const FIRST_SHARES: [[u8; 7]; 5] = [
+    [0x01, 0x02, 0x03, 0x04, 0x05, 0x04, 0x05],
+    [0x08, 0x0C, 0x10, 0x14, 0x04, 0x0A, 0x20],
+    [0x0F, 0x14, 0x11, 0x05, 0x0A, 0x30, 0x33],
+    [0x40, 0x50, 0x10, 0x20, 0x30, 0x44, 0x04],
+    [0x55, 0x11, 0x22, 0x33, 0x44, 0x05, 0x14],
+];
+
+/// Packets of helpers 2, 3, 4 for board 1 there.
+const FIRST_PACKETS: [u8; 6] = [0x0A, 0x0C, 0x20, 0x10, 0x22, 0x14];
+
+/// The points of five boards of present robots.
+fn present() -> Points {
+    Points::standard(5)
+}
+
+/// The points of five boards of robots of the first series.
+fn first() -> Points {
+    Points::first_series(5)
+}
+
+/// Points that begin with these bytes, 00 behind them.
+fn points(begin: &[u8]) -> Points {
+    let mut bytes = [0; 32];
+    bytes[..begin.len()].copy_from_slice(begin);
+    Points::from(bytes)
+}
+
 /// A store of one stripe with the file in it.
-fn written() -> (Record, Vec<u8>) {
+fn written(points: Points) -> (Record, Vec<u8>) {
     let mut area = vec![0xEE; FIVE.area_len(1)];
-    let mut record = Record::set_up(FIVE, 1).unwrap();
+    let mut record = Record::set_up(FIVE, points, 1).unwrap();
     record.write(&mut area, &FILE).unwrap();
     (record, area)
 }
@@ -34,6 +63,7 @@ fn lengths_follow_from_sizes() {
     assert_eq!([0, 1, 12, 13].map(|length| FIVE.stripes(length)), [0, 1, 1, 2]);
     assert_eq!((FIVE.helper_packet_len(13), FIVE.exchange_packet_len(13)), (4, 2));
     assert_eq!((FIVE.area_len(3), FIVE.longest(3)), (105, 36));
+    assert_eq!([0, 12, 13].map(|length| FIVE.text_room(length)), [200, 214, 228]);
 }
 
 #[test]
@@ -45,9 +75,52 @@ fn sizes_that_are_not_legal_have_no_lengths() {
         let sizes = Sizes { n, k, d, r };
         assert!(!sizes.is_legal());
         assert_eq!((sizes.share_len(), sizes.stripe_len(), sizes.stripes(12), sizes.area_len(1)), (0, 0, 0, 0));
-        assert_eq!(Record::set_up(sizes, 1), Err(Refusal::Size));
+        assert_eq!(Record::set_up(sizes, Points::standard(n), 1), Err(Refusal::Size));
     }
     assert!(Sizes { n: 32, k: 31, d: 31, r: 1 }.is_legal());
+}
+
+#[test]
+fn points_are_a_byte_for_each_board() {
+    assert_eq!(present(), points(&[0, 1, 2, 3, 4]));
+    assert_eq!(first(), points(&[1, 2, 3, 4, 5]));
+    assert_eq!([0, 32, 33, usize::MAX].map(|n| Points::standard(n).of_boards(n).len()), [0, 32, 32, 32]);
+    assert_eq!(Points::standard(33), Points::standard(32));
+    assert_eq!((Points::first_series(usize::MAX).of_board(31), first().of_board(5)), (Some(32), Some(0)));
+    assert_eq!((first().of_board(4), first().of_board(32)), (Some(5), None));
+    assert_eq!(<[u8; 32]>::from(first()), *first().bytes());
+}
+
+#[test]
+fn points_that_repeat_or_stand_from_n_up_are_refused() {
+    let legal = [present(), first(), points(&[0xFF, 0x00, 0x80, 0x01, 0x2A]), points(&[9, 8, 7, 6])];
+    let wrong = [
+        points(&[]),
+        points(&[1, 2, 3, 4, 1]),
+        points(&[0, 1, 2, 3, 3]),
+        points(&[0, 1, 2, 3, 4, 5]),
+        points(&[0, 1, 2, 3, 4, 1]),
+        Points::from(std::array::from_fn(|board| board as u8)),
+        Points::from(std::array::from_fn(|board| if board == 31 { 9 } else { Points::standard(5).bytes()[board] })),
+    ];
+    for points in legal {
+        assert!(points.are_legal(5));
+        assert_eq!(Record::set_up(FIVE, points, 1).map(|record| record.points()), Ok(points));
+        assert_eq!(board::share(FIVE, points, 0, &FILE, &mut [0; 7]), Ok(7));
+    }
+    // before all else: NODE and SHORT hold too
+    let mut out = [0xEE; 6];
+    for points in wrong {
+        assert!(!points.are_legal(5));
+        assert_eq!(Record::set_up(FIVE, points, 1), Err(Refusal::Size));
+        assert_eq!(board::share(FIVE, points, 5, &FILE, &mut out), Err(Refusal::Size));
+        assert_eq!(board::file(FIVE, points, 12, &[], &[], &mut out), Err(Refusal::Size));
+        assert_eq!(board::helper_packet(FIVE, points, 12, 5, 5, &[], &mut out), Err(Refusal::Size));
+        assert_eq!(board::exchange_packet(FIVE, points, 12, 5, &[], &[], 5, &mut out), Err(Refusal::Size));
+        assert_eq!(board::finished_share(FIVE, points, 12, 5, &[], &[], &[], &[], &mut out), Err(Refusal::Size));
+        assert_eq!(board::share_text(FIVE, points, 12, 5, &[], &mut out), Err(Refusal::Size));
+    }
+    assert_eq!(out, [0xEE; 6]);
 }
 
 #[test]
@@ -66,29 +139,38 @@ fn every_refusal_has_its_number_name_and_sentence() {
 
 #[test]
 fn a_share_of_a_file() {
-    for (node, share) in SHARES.iter().enumerate() {
-        let mut out = [0xEE; 8];
-        assert_eq!(board::share(FIVE, node, &FILE, &mut out), Ok(7));
-        assert_eq!((&out[..7], out[7]), (&share[..], 0xEE));
+    for (points, shares) in [(present(), SHARES), (first(), FIRST_SHARES)] {
+        for (node, share) in shares.iter().enumerate() {
+            let mut out = [0xEE; 8];
+            assert_eq!(board::share(FIVE, points, node, &FILE, &mut out), Ok(7));
+            assert_eq!((&out[..7], out[7]), (&share[..], 0xEE));
+        }
     }
     let mut out = [0xEE; 7];
-    assert_eq!(board::share(FIVE, 5, &FILE, &mut out), Err(Refusal::Node));
-    assert_eq!(board::share(FIVE, 0, &FILE, &mut out[..6]), Err(Refusal::Short));
-    assert_eq!(board::share(FIVE, 0, &[0; 4096 * 12 + 1], &mut out), Err(Refusal::Long));
+    assert_eq!(board::share(FIVE, present(), 5, &FILE, &mut out), Err(Refusal::Node));
+    assert_eq!(board::share(FIVE, present(), 0, &FILE, &mut out[..6]), Err(Refusal::Short));
+    assert_eq!(board::share(FIVE, present(), 0, &[0; 4096 * 12 + 1], &mut out), Err(Refusal::Long));
     assert_eq!(out, [0xEE; 7]);
 }
 
 #[test]
 fn a_file_from_shares() {
     let mut out = [0xEE; 12];
-    let shares = [SHARES[3], SHARES[1]].concat();
-    assert_eq!(board::file(FIVE, 12, &[3, 1], &shares, &mut out), Ok(12));
+    let shares = [FIRST_SHARES[3], FIRST_SHARES[1]].concat();
+    assert_eq!(board::file(FIVE, first(), 12, &[3, 1], &shares, &mut out), Ok(12));
     assert_eq!(out, FILE);
     out.fill(0xEE);
-    assert_eq!(board::file(FIVE, 11, &[3, 1], &shares, &mut out), Err(Refusal::Disagree));
-    assert_eq!(board::file(FIVE, 12, &[3, 3], &shares, &mut out), Err(Refusal::Repeat));
-    assert_eq!(board::file(FIVE, 12, &[3], &shares, &mut out), Err(Refusal::Count));
-    assert_eq!(board::file(FIVE, 13, &[3, 1], &shares, &mut out), Err(Refusal::Area));
+    // of the first series' shares no file of present points has these
+    assert_eq!(board::file(FIVE, present(), 12, &[3, 1], &shares, &mut out), Err(Refusal::Disagree));
+    assert_eq!(out, [0xEE; 12]);
+    let shares = [SHARES[3], SHARES[1]].concat();
+    assert_eq!(board::file(FIVE, present(), 12, &[3, 1], &shares, &mut out), Ok(12));
+    assert_eq!(out, FILE);
+    out.fill(0xEE);
+    assert_eq!(board::file(FIVE, present(), 11, &[3, 1], &shares, &mut out), Err(Refusal::Disagree));
+    assert_eq!(board::file(FIVE, present(), 12, &[3, 3], &shares, &mut out), Err(Refusal::Repeat));
+    assert_eq!(board::file(FIVE, present(), 12, &[3], &shares, &mut out), Err(Refusal::Count));
+    assert_eq!(board::file(FIVE, present(), 13, &[3, 1], &shares, &mut out), Err(Refusal::Area));
     assert_eq!(out, [0xEE; 12]);
 }
 
@@ -96,23 +178,43 @@ fn a_file_from_shares() {
 fn what_boards_send_and_finish() {
     let mut out = [0xEE; 2];
     for (helper, packet) in (2..5).zip(PACKETS.chunks(2)) {
-        assert_eq!(board::helper_packet(FIVE, 12, helper, 1, &SHARES[helper], &mut out), Ok(2));
+        assert_eq!(board::helper_packet(FIVE, present(), 12, helper, 1, &SHARES[helper], &mut out), Ok(2));
         assert_eq!(out, packet);
     }
-    assert_eq!(board::helper_packet(FIVE, 12, 2, 2, &SHARES[2], &mut out), Err(Refusal::Repeat));
+    assert_eq!(board::helper_packet(FIVE, present(), 12, 2, 2, &SHARES[2], &mut out), Err(Refusal::Repeat));
 
     let mut byte = [0xEE];
-    assert_eq!(board::exchange_packet(FIVE, 12, 0, &[2, 3, 4], &[0; 6], 1, &mut byte), Ok(1));
+    assert_eq!(board::exchange_packet(FIVE, present(), 12, 0, &[2, 3, 4], &[0; 6], 1, &mut byte), Ok(1));
     assert_eq!(byte, [0]);
     // g_1(X) = X² at board 0, 00, by the packets for board 1
-    assert_eq!(board::exchange_packet(FIVE, 12, 1, &[2, 3, 4], &PACKETS, 0, &mut byte), Ok(1));
+    assert_eq!(board::exchange_packet(FIVE, present(), 12, 1, &[2, 3, 4], &PACKETS, 0, &mut byte), Ok(1));
     assert_eq!(byte, [0]);
-    assert_eq!(board::exchange_packet(FIVE, 12, 1, &[2, 3], &PACKETS, 0, &mut byte), Err(Refusal::Count));
+    assert_eq!(board::exchange_packet(FIVE, present(), 12, 1, &[2, 3], &PACKETS, 0, &mut byte), Err(Refusal::Count));
 
     let mut share = [0xEE; 7];
-    assert_eq!(board::finished_share(FIVE, 12, 1, &[2, 3, 4], &PACKETS, &[0], &[0], &mut share), Ok(7));
+    assert_eq!(board::finished_share(FIVE, present(), 12, 1, &[2, 3, 4], &PACKETS, &[0], &[0], &mut share), Ok(7));
     assert_eq!(share, SHARES[1]);
-    assert_eq!(board::finished_share(FIVE, 12, 1, &[2, 3, 4], &PACKETS, &[], &[0], &mut share), Err(Refusal::Count));
+    assert_eq!(
+        board::finished_share(FIVE, present(), 12, 1, &[2, 3, 4], &PACKETS, &[], &[0], &mut share),
+        Err(Refusal::Count)
+    );
+}
+
+#[test]
+fn what_boards_of_the_first_series_send_and_finish() {
+    let mut out = [0xEE; 2];
+    for (helper, packet) in (2..5).zip(FIRST_PACKETS.chunks(2)) {
+        assert_eq!(board::helper_packet(FIVE, first(), 12, helper, 1, &FIRST_SHARES[helper], &mut out), Ok(2));
+        assert_eq!(out, packet);
+    }
+    let mut byte = [0xEE];
+    // g_1(X) = 2 X² at board 0, 01, by the packets for board 1
+    assert_eq!(board::exchange_packet(FIVE, first(), 12, 1, &[2, 3, 4], &FIRST_PACKETS, 0, &mut byte), Ok(1));
+    assert_eq!(byte, [2]);
+    // and what board 0 sends it: g_0(X) = X² at 02
+    let mut share = [0xEE; 7];
+    assert_eq!(board::finished_share(FIVE, first(), 12, 1, &[2, 3, 4], &FIRST_PACKETS, &[0], &[4], &mut share), Ok(7));
+    assert_eq!(share, FIRST_SHARES[1]);
 }
 
 #[test]
@@ -120,27 +222,79 @@ fn a_share_as_text() {
     let small = Sizes { n: 2, k: 1, d: 1, r: 1 };
     let text = b"n=2\nk=1\nd=1\nr=1\nnode=0\nlength=2\ndata=0506\n";
     let mut out = vec![0xEE; text.len()];
-    assert_eq!(board::share_text(small, 2, 0, &[5, 6], &mut out), Ok(text.len()));
+    assert_eq!(board::share_text(small, Points::standard(2), 2, 0, &[5, 6], &mut out), Ok(text.len()));
     assert_eq!(out, text);
-    assert_eq!(board::share_text(small, 2, 0, &[5], &mut out), Err(Refusal::Area));
+    assert_eq!(board::share_text(small, Points::standard(2), 2, 0, &[5], &mut out), Err(Refusal::Area));
+    // the points have a line just where they are not 0 to n − 1 in order
+    assert_eq!(board::share_text(small, points(&[0, 1]), 2, 0, &[5, 6], &mut out), Ok(text.len()));
+    assert_eq!(board::share_text(small, Points::first_series(2), 2, 0, &[6, 3], &mut out), Err(Refusal::Short));
+    for (points, line) in [(Points::first_series(2), "0102"), (points(&[1, 0]), "0100"), (points(&[0, 0xAF]), "00af")] {
+        let text = format!("n=2\nk=1\nd=1\nr=1\nnode=0\nlength=2\npoints={line}\ndata=0603\n");
+        let mut out = vec![0xEE; small.text_room(2)];
+        assert_eq!(board::share_text(small, points, 2, 0, &[6, 3], &mut out), Ok(text.len()));
+        assert_eq!(out[..text.len()], *text.as_bytes());
+    }
+}
+
+#[test]
+fn the_longest_line_of_points_has_room() {
+    let sizes = Sizes { n: 32, k: 31, d: 31, r: 1 };
+    let length = sizes.longest(4096);
+    let share = vec![0; 4096 * sizes.share_len()];
+    let mut out = vec![0xEE; sizes.text_room(length)];
+    let written = board::share_text(sizes, Points::first_series(32), length, 31, &share, &mut out).unwrap();
+    assert!(written <= out.len() && out[written..].iter().all(|&byte| byte == 0xEE));
 }
 
 #[test]
 fn a_record_says_what_it_holds() {
-    let record = Record::set_up(FIVE, 9).unwrap();
-    assert_eq!(record.words(), [5, 2, 3, 2, 9, 0, 0, 0]);
-    assert_eq!((record.sizes(), record.capacity()), (FIVE, 9));
+    let record = Record::set_up(FIVE, present(), 9).unwrap();
+    assert_eq!(record.words(), [5, 2, 3, 2, 9, 0, 0, 0, 0x04_03_02_01_00, 0, 0, 0]);
+    assert_eq!((record.sizes(), record.points(), record.capacity()), (FIVE, present(), 9));
     assert_eq!((record.has_file(), record.length(), record.in_service(0)), (false, 0, false));
-    let (record, area) = written();
-    assert_eq!(record.words(), [5, 2, 3, 2, 1, 1, 12, 0b11111]);
+    let (record, area) = written(present());
+    assert_eq!(record.words(), [5, 2, 3, 2, 1, 1, 12, 0b11111, 0x04_03_02_01_00, 0, 0, 0]);
     assert_eq!((record.has_file(), record.length()), (true, 12));
     assert_eq!((record.in_service(4), record.in_service(5), record.in_service(64)), (true, false, false));
     assert_eq!(area, SHARES.concat());
+    let (record, area) = written(first());
+    assert_eq!(record.words(), [5, 2, 3, 2, 1, 1, 12, 0b11111, 0x05_04_03_02_01, 0, 0, 0]);
+    assert_eq!((record.points(), area), (first(), FIRST_SHARES.concat()));
+}
+
+#[test]
+fn a_record_keeps_the_points_of_32_boards() {
+    let sizes = Sizes { n: 32, k: 1, d: 1, r: 1 };
+    let points = Points::from(std::array::from_fn(|board| 0xFF - 3 * board as u8));
+    let record = Record::set_up(sizes, points, 1).unwrap();
+    assert_eq!(record.points(), points);
+    let due = [0xEAED_F0F3_F6F9_FCFF, 0xD2D5_D8DB_DEE1_E4E7, 0xBABD_C0C3_C6C9_CCCF, 0xA2A5_A8AB_AEB1_B4B7];
+    assert_eq!(record.words()[8..], due);
+}
+
+#[test]
+fn a_record_of_eight_words_goes_on_with_standard_points() {
+    let (record, area) = written(present());
+    let eight: [u64; 8] = record.words()[..8].try_into().unwrap();
+    let mut kept = Record::from_eight_words(eight);
+    assert_eq!(kept, record);
+    let mut out = [0xEE; 12];
+    assert_eq!(kept.read(&area, &[4, 0], &mut out), Ok(()));
+    assert_eq!((out, kept.lose(2)), (FILE, Ok(())));
+    // words that no call hands out stay so
+    let mut made_up = Record::from_eight_words([u64::MAX; 8]);
+    assert_eq!(made_up.lose(0), Err(Refusal::Size));
 }
 
 #[test]
 fn a_store_loses_repairs_and_reads() {
-    let (mut record, mut area) = written();
+    for (points, shares) in [(present(), SHARES), (first(), FIRST_SHARES)] {
+        loses_repairs_and_reads(points, shares);
+    }
+}
+
+fn loses_repairs_and_reads(points: Points, shares: [[u8; 7]; 5]) {
+    let (mut record, mut area) = written(points);
     for lost in [0, 1] {
         record.lose(lost).unwrap();
         area[lost * 7..][..7].fill(0xEE);
@@ -150,7 +304,8 @@ fn a_store_loses_repairs_and_reads() {
     assert_eq!(record.repair(&mut area, &[0, 1], &[2, 3, 4, 2, 3, 0]), Err(Refusal::Repeat));
     assert_eq!(record.words()[7], 0b11100);
     assert_eq!(record.repair(&mut area, &[0, 1], &[2, 3, 4, 4, 2, 3]), Ok(14));
-    assert_eq!((record.words()[7], &area), (0b11111, &SHARES.concat()));
+    assert_eq!((record.words()[7], &area), (0b11111, &shares.concat()));
+    assert_eq!(record.points(), points);
     assert_eq!(record.read(&area, &[1], &mut out), Err(Refusal::Count));
     assert_eq!(out, [0xEE; 13]);
     assert_eq!(record.read(&area, &[1, 0], &mut out), Ok(()));
@@ -160,14 +315,23 @@ fn a_store_loses_repairs_and_reads() {
 #[test]
 fn a_store_refuses_and_stays() {
     let mut area = vec![0xEE; FIVE.area_len(1)];
-    let mut record = Record::set_up(FIVE, 1).unwrap();
+    let mut record = Record::set_up(FIVE, present(), 1).unwrap();
     let before = record;
     assert_eq!(record.read(&area, &[0, 1], &mut []), Err(Refusal::Empty));
     assert_eq!(record.write(&mut area, &[1; 13]), Err(Refusal::Long));
     assert_eq!(record.write(&mut area[1..], &FILE), Err(Refusal::Area));
     assert_eq!(record.lose(5), Err(Refusal::Node));
     assert_eq!((record, area), (before, vec![0xEE; 35]));
-    let mut made_up = Record::from_words([5, 2, 3, 2, 1, 0, 1, 0]);
-    assert_eq!(made_up.lose(0), Err(Refusal::Size));
-    assert_eq!(made_up.words(), [5, 2, 3, 2, 1, 0, 1, 0]);
+    // a length with no file; a point twice; a point from n up
+    let made_up = [
+        [5, 2, 3, 2, 1, 0, 1, 0, 0x04_03_02_01_00, 0, 0, 0],
+        [5, 2, 3, 2, 1, 0, 0, 0, 0x04_03_02_01_04, 0, 0, 0],
+        [5, 2, 3, 2, 1, 0, 0, 0, 0x09_04_03_02_01_00, 0, 0, 0],
+        [5, 2, 3, 2, 1, 0, 0, 0, 0x04_03_02_01_00, 0, 0, 1 << 56],
+    ];
+    for words in made_up {
+        let mut record = Record::from_words(words);
+        assert_eq!(record.lose(0), Err(Refusal::Size));
+        assert_eq!(record.words(), words);
+    }
 }

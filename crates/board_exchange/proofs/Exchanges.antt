@@ -1,7 +1,7 @@
 -- An exchange packet: what it says of the call that its check passes, and what the call answers where it refuses and where it passes.
 -- Assumes nothing.
 use Prim.Native.Nat.{ℕ, _*_, _≤_, _<_}
-use mathlib.Core.Path.{_≡_, ap, ap₂, _∙_}
+use mathlib.Core.Path.{_≡_, ap, _∙_}
 use mathlib.Core.Bool.{true}
 use mathlib.Core.List.{List, [], _∷_, _++_}
 use borrow.Author.Tests.{ltb-false, eqb-true}
@@ -23,10 +23,11 @@ use Rattle.mbcr.proofs.Repair.{length-exchange}
 use Rattle.board_spec.specs.Calls.{exchangeLines, exchangeCall}
 use Rattle.checks.specs.Steps.{Stated}
 use Rattle.checks.specs.Outcomes.{outcome}
-use Rattle.checks.proofs.Facts.{refused-by, done-by}
+use Rattle.checks.proofs.Facts.{stated-of, Taken, taken-of, refused-by, done-by}
 
-pub record Exchanges (z : Sizes) (L : ℕ) (helpers packets : List ℕ) (receiver : ℕ) (output : List ℕ) : Type 0 where
+pub record Exchanges (z : Sizes) (xs : List ℕ) (L : ℕ) (helpers packets : List ℕ) (receiver : ℕ) (output : List ℕ) : Type 0 where
   pub stated : Stated z L
+  pub points-taken : Taken z xs
   pub enough : length helpers ≡ z .d
   pub known : below (z .n) helpers ≡ true
   pub once : different helpers ≡ true
@@ -38,14 +39,15 @@ module _ (z : Sizes) (xs : List ℕ) (L board : ℕ) (helpers packets : List ℕ
   abbrev pub checked : Check
   checked = first boardOrder (exchangeLines z xs L board helpers packets receiver output)
 
-  pub exchanges : checked ≡ Pass → Exchanges z L helpers packets receiver output
+  pub exchanges : checked ≡ Pass → Exchanges z xs L helpers packets receiver output
   unfolding exchangeLines
   exchanges h =
       let e = first-clear (exchangeLines z xs L board helpers packets receiver output) boardOrder h in
       let k = e .1 .1 in
       let known = below-all (z .n) (board ∷ receiver ∷ helpers) (not-no _ (k .1 .0)) in
       record {
-        stated = record { is-legal = not-no _ (e .0); not-long = ltb-false _ _ (e .1 .0) };
+        stated = stated-of z xs L (e .0) (e .1 .0);
+        points-taken = taken-of z xs (e .0);
         enough = eqb-true _ _ (alls-hold (eqb (length helpers) (z .d) ∷ []) (not-no _ (k .0)) .0);
         known = all-below (z .n) helpers (known .1 .1);
         once = different-cons receiver helpers (different-cons board (receiver ∷ helpers) (not-no _ (k .1 .1 .0)) .1) .1;
@@ -58,12 +60,12 @@ module _ (z : Sizes) (xs : List ℕ) (L board : ℕ) (helpers packets : List ℕ
   unfolding exchangeCall
   exchange-refuses e = refused-by (exchangePacket z xs (stripes z L) helpers packets receiver) output e
 
-  pub exchange-works : (points written : List ℕ) (s : ℕ) → checked ≡ Pass → points ≡ xs → s ≡ stripes z L
-      → written ≡ exchangePacket z points s helpers packets receiver ++ drop s output
+  pub exchange-works : (written : List ℕ) (s : ℕ) → checked ≡ Pass → s ≡ stripes z L
+      → written ≡ exchangePacket z xs s helpers packets receiver ++ drop s output
       → outcome (Done s) written ≡ exchangeCall z xs L board helpers packets receiver output
   unfolding exchangeCall
-  exchange-works points written s p same many e =
+  exchange-works written s p many e =
       ap (λ (m : ℕ). outcome (Done m) written) many
       ∙ done-by (exchangePacket z xs (stripes z L) helpers packets receiver) output written (stripes z L) p
       (length-exchange z xs (stripes z L) helpers packets receiver)
-      (e ∙ ap₂ (λ (ys : List ℕ) (m : ℕ). exchangePacket z ys m helpers packets receiver ++ drop m output) same many)
+      (e ∙ ap (λ (m : ℕ). exchangePacket z xs m helpers packets receiver ++ drop m output) many)

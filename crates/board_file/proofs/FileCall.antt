@@ -19,16 +19,14 @@ use Rattle.sizes.specs.Refusals.{first, boardOrder}
 use Rattle.sizes.specs.Sizing.{α, stripes}
 use Rattle.sizes.proofs.Legal.{legal-facts}
 use Rattle.sizes.proofs.Lines.{first-clear}
-use Rattle.mbcr.specs.Share.{standard}
 use Rattle.mbcr.specs.Read.{decodedFile, readFile}
-use Rattle.mbcr.proofs.Points.{standard-points}
 use Rattle.mbcr.proofs.Read.{length-decoded-file}
 use Rattle.board_spec.specs.Calls.{fileOf, countLine, nodeLine, repeatLine, areaLine, fileLines, fileCall}
 use Rattle.board_spec.proofs.Files.{file-is}
 use Rattle.checks.specs.Steps.{asked, Stated}
 use Rattle.checks.specs.Outcomes.{outcome}
 use Rattle.checks.proofs.Answers.{passed}
-use Rattle.checks.proofs.Facts.{refused-by, done-by}
+use Rattle.checks.proofs.Facts.{stated-of, Taken, taken-of, refused-by, done-by}
 use Rattle.decode_stripe.specs.Steps.{Asked}
 
 -- a refusal is no pass
@@ -37,8 +35,9 @@ not-passed e = let z : _≡_ {A = ℕ} 0 1 = cc in absurd (omega arith)
 
 -- ---- what the kernels ask
 
-pub record Readable (z : Sizes) (L : ℕ) (boards : List ℕ) (m : ℕ) : Type 0 where
+pub record Readable (z : Sizes) (xs : List ℕ) (L : ℕ) (boards : List ℕ) (m : ℕ) : Type 0 where
   pub stated : Stated z L
+  pub points-taken : Taken z xs
   pub enough : length boards ≡ z .k
   pub known : below (z .n) boards ≡ true
   pub all-different : different boards ≡ true
@@ -48,24 +47,24 @@ pub record Readable (z : Sizes) (L : ℕ) (boards : List ℕ) (m : ℕ) : Type 0
 one : (a b : ℕ) → not (alls (eqb a b ∷ [])) ≡ false → a ≡ b
 one a b e = eqb-true a b (alls-hold (eqb a b ∷ []) (not-no _ e) .0)
 
-pub readable : (z : Sizes) (L : ℕ) (boards : List ℕ) (m : ℕ) → Stated z L → asked (countLine (eqb (length boards) (z .k) ∷ [])) ≡ Pass
+pub readable : (z : Sizes) (xs : List ℕ) (L : ℕ) (boards : List ℕ) (m : ℕ) → Stated z L → Taken z xs → asked (countLine (eqb (length boards) (z .k) ∷ [])) ≡ Pass
     → asked (nodeLine z boards) ≡ Pass → asked (repeatLine boards) ≡ Pass → asked (areaLine (eqb m (z .k * (stripes z L * α z)) ∷ [])) ≡ Pass
-    → Readable z L boards m
-readable z L boards m s count node repeat area =
+    → Readable z xs L boards m
+readable z xs L boards m s t count node repeat area =
     record {
       stated = s;
+      points-taken = t;
       enough = one _ _ (passed (countLine (eqb (length boards) (z .k) ∷ [])) count);
       known = not-no _ (passed (nodeLine z boards) node);
       all-different = not-no _ (passed (repeatLine boards) repeat);
       held-is = one _ _ (passed (areaLine (eqb m (z .k * (stripes z L * α z)) ∷ [])) area);
     }
 
--- at document 01's points
-pub asked-of : (z : Sizes) (L : ℕ) (boards : List ℕ) (m : ℕ) (xs : List ℕ) → xs ≡ standard → Readable z L boards m → Asked z xs boards
-asked-of z L boards m xs e f =
+pub asked-of : (z : Sizes) (xs : List ℕ) (L : ℕ) (boards : List ℕ) (m : ℕ) → Readable z xs L boards m → Asked z xs boards
+asked-of z xs L boards m f =
     record {
       sized = f .stated .is-legal;
-      distinct = rw e (standard-points z (legal-facts z (f .stated .is-legal) .few));
+      distinct = f .points-taken .differ;
       counted = f .enough;
       known = f .known;
       unlike = f .all-different;
@@ -77,12 +76,12 @@ module _ (z : Sizes) (xs : List ℕ) (L : ℕ) (boards held output : List ℕ) w
   abbrev pub checked : Check
   checked = first boardOrder (fileLines z xs L boards held output)
 
-  pub file-readable : checked ≡ Pass → Readable z L boards (length held)
+  pub file-readable : checked ≡ Pass → Readable z xs L boards (length held)
   unfolding fileLines
   file-readable h =
       let e = first-clear (fileLines z xs L boards held output) boardOrder h in
       let f = e .1 .1 in
-      readable z L boards (length held) (record { is-legal = not-no _ (e .0); not-long = ltb-false _ _ (e .1 .0) })
+      readable z xs L boards (length held) (stated-of z xs L (e .0) (e .1 .0)) (taken-of z xs (e .0))
       (rw (f .0)) (rw (f .1 .0)) (rw (f .1 .1 .0)) (rw (f .1 .1 .1 .0))
 
   pub file-room : checked ≡ Pass → L ≤ length output
@@ -97,12 +96,12 @@ module _ (z : Sizes) (xs : List ℕ) (L : ℕ) (boards held output : List ℕ) w
   unfolding fileCall
   file-refuses e = refused-by (fileOf (readFile z xs L boards held)) output e
 
-  pub file-works : (points written : List ℕ) → checked ≡ Pass → points ≡ xs → written ≡ decodedFile z points L boards held ++ drop L output
+  pub file-works : (written : List ℕ) → checked ≡ Pass → written ≡ decodedFile z xs L boards held ++ drop L output
       → outcome (Done L) written ≡ fileCall z xs L boards held output
   unfolding fileCall
-  file-works points written p ep e =
+  file-works written p e =
       let f = file-readable p in
       let read = file-is z xs L boards held (file-agrees p) in
       done-by (fileOf (readFile z xs L boards held)) output written L p
       (ap length read ∙ length-decoded-file z xs (legal-facts z (f .stated .is-legal)) boards (f .enough) L held)
-      (e ∙ ap (λ (ps : List ℕ). decodedFile z ps L boards held ++ drop L output) ep ∙ ap (λ (l : List ℕ). l ++ drop L output) (sym read))
+      (e ∙ ap (λ (l : List ℕ). l ++ drop L output) (sym read))

@@ -1,14 +1,14 @@
 //! Document 01, board level, stateless, for all input: a file from k shares.
-//! The call meets its definition in the crate `board_spec` at document 01's points: the answer, and every byte of the output that it
-//! was lent. A refusal leaves the output as it came.
+//! The call meets its definition in the crate `board_spec` at the points that it is given: the answer, and every byte of the output
+//! that it was lent. A refusal leaves the output as it came.
 ghost use mathlib.Core.Path.{_≡_};
 ghost use lib.ListN.{length};
+ghost use Rattle.lists.specs.Lists.{tabulate};
+ghost use Rattle.gf256.specs.Field.{inverse};
 ghost use Rattle.sizes.specs.Refusals.{first, boardOrder};
-ghost use Rattle.mbcr.specs.Share.{standard};
 ghost use Rattle.board_spec.specs.Calls.{fileLines, fileCall};
 ghost use Rattle.checks.specs.Outcomes.{outcome};
 ghost use Rattle.decode_setup.specs.Steps.{Made};
-ghost use Rattle.board_file.specs.Steps.{Tables};
 use sizes::Answer;
 use sizes::Check;
 use sizes::Sizes;
@@ -25,10 +25,10 @@ fn check_file(
     out: &[u8],
     tables: &mut [u8],
 ) -> Check
-    requires { ⌜ Tables (now points) (now inverses) × (length (now tables) ≡ 49152) ⌝ }
-    ensures { λ r. ⌜ (r ≡ first boardOrder (fileLines sizes standard len (now (boards .entry)) (now (held .entry)) (now (out .entry)))) × (r ≡ Check.Pass → Made sizes (now (points .entry)) (now (boards .entry)) (now (tables .exit))) ⌝ }
+    requires { ⌜ (now inverses ≡ tabulate 256 inverse) × (length (now tables) ≡ 49152) ⌝ }
+    ensures { λ r. ⌜ (r ≡ first boardOrder (fileLines sizes (now (points .entry)) len (now (boards .entry)) (now (held .entry)) (now (out .entry)))) × (r ≡ Check.Pass → Made sizes (now (points .entry)) (now (boards .entry)) (now (tables .exit))) ⌝ }
 {
-    if let Check::Refuse(stated) = checks::check_stated(sizes, len) {
+    if let Check::Refuse(stated) = checks::check_stated(sizes, points, len) {
         return Check::Refuse(stated);
     }
     if let Check::Refuse(miscounted) = checks::check_count(boards.len(), sizes.k) {
@@ -52,10 +52,16 @@ fn check_file(
 }
 
 // The file of so many bytes that k shares give, or DISAGREE where no such file has them. Answers the number of bytes written.
-pub fn file(sizes: Sizes, len: usize, boards: &[usize], held: &[u8], out: &mut [u8]) -> Answer
-    ensures { λ r. ⌜ outcome r (now (out .exit)) ≡ fileCall sizes standard len (now (boards .entry)) (now (held .entry)) (now (out .entry)) ⌝ }
+pub fn file(
+    sizes: Sizes,
+    points: [u8; 32],
+    len: usize,
+    boards: &[usize],
+    held: &[u8],
+    out: &mut [u8],
+) -> Answer
+    ensures { λ r. ⌜ outcome r (now (out .exit)) ≡ fileCall sizes points len (now (boards .entry)) (now (held .entry)) (now (out .entry)) ⌝ }
 {
-    let points = checks::standard_points();
     let mut inverses = [0u8; 256];
     inverses::fill_inverses(&mut inverses);
     let mut tables = [0u8; 49152];

@@ -1,7 +1,7 @@
 -- A finished share: what it says of the call that its check passes, and what the call answers where it refuses and where it passes.
 -- Assumes nothing.
 use Prim.Native.Nat.{ℕ, _-_, _*_, _≤_}
-use mathlib.Core.Path.{_≡_, ap, ap₂, _∙_}
+use mathlib.Core.Path.{_≡_, ap, _∙_}
 use mathlib.Core.Bool.{true}
 use mathlib.Core.List.{List, [], _∷_, _++_}
 use borrow.Author.Tests.{ltb-false, eqb-true}
@@ -23,10 +23,11 @@ use Rattle.mbcr.proofs.Repair.{length-finished}
 use Rattle.board_spec.specs.Calls.{finishedLines, finishedCall}
 use Rattle.checks.specs.Steps.{Stated}
 use Rattle.checks.specs.Outcomes.{outcome}
-use Rattle.checks.proofs.Facts.{refused-by, done-by}
+use Rattle.checks.proofs.Facts.{stated-of, Taken, taken-of, refused-by, done-by}
 
-pub record Finishes (z : Sizes) (L board : ℕ) (helpers packets partners exchanges output : List ℕ) : Type 0 where
+pub record Finishes (z : Sizes) (xs : List ℕ) (L board : ℕ) (helpers packets partners exchanges output : List ℕ) : Type 0 where
   pub stated : Stated z L
+  pub points-taken : Taken z xs
   pub helpers-enough : length helpers ≡ z .d
   pub partners-enough : length partners ≡ z .r - 1
   pub known : below (z .n) (helpers ++ partners ++ (board ∷ [])) ≡ true
@@ -39,7 +40,7 @@ module _ (z : Sizes) (xs : List ℕ) (L board : ℕ) (helpers packets partners e
   abbrev pub checked : Check
   checked = first boardOrder (finishedLines z xs L board helpers packets partners exchanges output)
 
-  pub finishes : checked ≡ Pass → Finishes z L board helpers packets partners exchanges output
+  pub finishes : checked ≡ Pass → Finishes z xs L board helpers packets partners exchanges output
   unfolding finishedLines
   finishes h =
       let e = first-clear (finishedLines z xs L board helpers packets partners exchanges output) boardOrder h in
@@ -48,7 +49,8 @@ module _ (z : Sizes) (xs : List ℕ) (L board : ℕ) (helpers packets partners e
       let lents = eqb (length packets) (z .d * (2 * stripes z L)) ∷ eqb (length exchanges) ((z .r - 1) * stripes z L) ∷ [] in
       let lengths = alls-hold lents (not-no _ (k .1 .1 .1 .0)) in
       record {
-        stated = record { is-legal = not-no _ (e .0); not-long = ltb-false _ _ (e .1 .0) };
+        stated = stated-of z xs L (e .0) (e .1 .0);
+        points-taken = taken-of z xs (e .0);
         helpers-enough = eqb-true _ _ (counts .0);
         partners-enough = eqb-true _ _ (counts .1 .0);
         known = not-no _ (k .1 .0);
@@ -62,12 +64,12 @@ module _ (z : Sizes) (xs : List ℕ) (L board : ℕ) (helpers packets partners e
   unfolding finishedCall
   finish-refuses e = refused-by (finishedShare z xs (stripes z L) board helpers packets partners exchanges) output e
 
-  pub finish-works : (points written : List ℕ) (s count : ℕ) → checked ≡ Pass → points ≡ xs → s ≡ stripes z L → count ≡ stripes z L * α z
-      → written ≡ finishedShare z points s board helpers packets partners exchanges ++ drop (s * α z) output
+  pub finish-works : (written : List ℕ) (s count : ℕ) → checked ≡ Pass → s ≡ stripes z L → count ≡ stripes z L * α z
+      → written ≡ finishedShare z xs s board helpers packets partners exchanges ++ drop (s * α z) output
       → outcome (Done count) written ≡ finishedCall z xs L board helpers packets partners exchanges output
   unfolding finishedCall
-  finish-works points written s count p same many total e =
+  finish-works written s count p many total e =
       ap (λ (m : ℕ). outcome (Done m) written) total
       ∙ done-by (finishedShare z xs (stripes z L) board helpers packets partners exchanges) output written (stripes z L * α z) p
       (length-finished z xs (legal-facts z (finishes p .stated .is-legal)) (stripes z L) board helpers packets partners exchanges)
-      (e ∙ ap₂ (λ (ys : List ℕ) (m : ℕ). finishedShare z ys m board helpers packets partners exchanges ++ drop (m * α z) output) same many)
+      (e ∙ ap (λ (m : ℕ). finishedShare z xs m board helpers packets partners exchanges ++ drop (m * α z) output) many)

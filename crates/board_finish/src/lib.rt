@@ -1,9 +1,8 @@
 //! Document 01, board level, stateless, for all input: a finished share.
-//! The call meets its definition in the crate `board_spec` at document 01's points: the answer, and every byte of the output that it
-//! was lent. A refusal leaves the output as it came.
+//! The call meets its definition in the crate `board_spec` at the points that it is given: the answer, and every byte of the output
+//! that it was lent. A refusal leaves the output as it came.
 ghost use mathlib.Core.Path.{_≡_};
 ghost use Rattle.sizes.specs.Refusals.{first, boardOrder};
-ghost use Rattle.mbcr.specs.Share.{standard};
 ghost use Rattle.board_spec.specs.Calls.{finishedLines, finishedCall};
 ghost use Rattle.checks.specs.Outcomes.{outcome};
 use sizes::Answer;
@@ -13,6 +12,7 @@ use sizes::Sizes;
 // The first refusal of a finished share: its lines in document 01's order. Each check's answer is taken apart, and a refusal returned early.
 fn check_finish(
     sizes: Sizes,
+    points: &[u8],
     len: usize,
     board: usize,
     helpers: &[usize],
@@ -21,9 +21,9 @@ fn check_finish(
     exchanges: &[u8],
     out: &[u8],
 ) -> Check
-    ensures { λ r. ⌜ r ≡ first boardOrder (finishedLines sizes standard len board (now (helpers .entry)) (now (packets .entry)) (now (partners .entry)) (now (exchanges .entry)) (now (out .entry))) ⌝ }
+    ensures { λ r. ⌜ r ≡ first boardOrder (finishedLines sizes (now (points .entry)) len board (now (helpers .entry)) (now (packets .entry)) (now (partners .entry)) (now (exchanges .entry)) (now (out .entry))) ⌝ }
 {
-    if let Check::Refuse(stated) = checks::check_stated(sizes, len) {
+    if let Check::Refuse(stated) = checks::check_stated(sizes, points, len) {
         return Check::Refuse(stated);
     }
     let others = sizes.r - 1;
@@ -58,6 +58,7 @@ fn check_finish(
 // The share of a board being rebuilt, of its d helper packets and its r - 1 partners' packets. Answers the number of bytes written.
 pub fn finished_share(
     sizes: Sizes,
+    points: [u8; 32],
     len: usize,
     board: usize,
     helpers: &[usize],
@@ -66,10 +67,11 @@ pub fn finished_share(
     exchanges: &[u8],
     out: &mut [u8],
 ) -> Answer
-    ensures { λ r. ⌜ outcome r (now (out .exit)) ≡ finishedCall sizes standard len board (now (helpers .entry)) (now (packets .entry)) (now (partners .entry)) (now (exchanges .entry)) (now (out .entry)) ⌝ }
+    ensures { λ r. ⌜ outcome r (now (out .exit)) ≡ finishedCall sizes points len board (now (helpers .entry)) (now (packets .entry)) (now (partners .entry)) (now (exchanges .entry)) (now (out .entry)) ⌝ }
 {
     if let Check::Refuse(x) = check_finish(
         sizes,
+        &points,
         len,
         board,
         helpers,
@@ -81,7 +83,6 @@ pub fn finished_share(
         return Answer::Refused(x);
     }
     let stripes = checks::stripe_count(sizes, len);
-    let points = checks::standard_points();
     let mut inverses = [0u8; 256];
     inverses::fill_inverses(&mut inverses);
     finish::finished_share(

@@ -1,7 +1,7 @@
 -- A helper packet: what it says of the call that its check passes, and what the call answers where it refuses and where it passes.
 -- Assumes nothing.
 use Prim.Native.Nat.{ℕ, _*_, _≤_, _<_}
-use mathlib.Core.Path.{_≡_, ap, ap₂, _∙_}
+use mathlib.Core.Path.{_≡_, ap, _∙_}
 use mathlib.Core.List.{List, [], _∷_, _++_}
 use borrow.Author.Tests.{ltb-false, eqb-true}
 use lib.Dec.{eqb}
@@ -21,10 +21,11 @@ use Rattle.mbcr.proofs.Repair.{length-packet}
 use Rattle.board_spec.specs.Calls.{helperLines, helperCall}
 use Rattle.checks.specs.Steps.{Stated}
 use Rattle.checks.specs.Outcomes.{outcome}
-use Rattle.checks.proofs.Facts.{refused-by, done-by}
+use Rattle.checks.proofs.Facts.{stated-of, Taken, taken-of, refused-by, done-by}
 
-pub record Helps (z : Sizes) (L helper receiver : ℕ) (held output : List ℕ) : Type 0 where
+pub record Helps (z : Sizes) (xs : List ℕ) (L helper receiver : ℕ) (held output : List ℕ) : Type 0 where
   pub stated : Stated z L
+  pub points-taken : Taken z xs
   pub helper-known : helper < z .n
   pub receiver-known : receiver < z .n
   pub held-is : length held ≡ stripes z L * α z
@@ -34,14 +35,15 @@ module _ (z : Sizes) (xs : List ℕ) (L helper receiver : ℕ) (held output : Li
   abbrev pub checked : Check
   checked = first boardOrder (helperLines z xs L helper receiver held output)
 
-  pub helps : checked ≡ Pass → Helps z L helper receiver held output
+  pub helps : checked ≡ Pass → Helps z xs L helper receiver held output
   unfolding helperLines
   helps h =
       let e = first-clear (helperLines z xs L helper receiver held output) boardOrder h in
       let k = e .1 .1 .1 in
       let known = below-all (z .n) (helper ∷ receiver ∷ []) (not-no _ (k .0)) in
       record {
-        stated = record { is-legal = not-no _ (e .0); not-long = ltb-false _ _ (e .1 .0) };
+        stated = stated-of z xs L (e .0) (e .1 .0);
+        points-taken = taken-of z xs (e .0);
         helper-known = known .0;
         receiver-known = known .1 .0;
         held-is = eqb-true _ _ (alls-hold (eqb (length held) (stripes z L * α z) ∷ []) (not-no _ (k .1 .1 .0)) .0);
@@ -52,12 +54,12 @@ module _ (z : Sizes) (xs : List ℕ) (L helper receiver : ℕ) (held output : Li
   unfolding helperCall
   helper-refuses e = refused-by (helperPacket z xs (stripes z L) helper receiver held) output e
 
-  pub helper-works : (points written : List ℕ) (s : ℕ) → checked ≡ Pass → points ≡ xs → s ≡ stripes z L
-      → written ≡ helperPacket z points s helper receiver held ++ drop (2 * s) output
+  pub helper-works : (written : List ℕ) (s : ℕ) → checked ≡ Pass → s ≡ stripes z L
+      → written ≡ helperPacket z xs s helper receiver held ++ drop (2 * s) output
       → outcome (Done (2 * s)) written ≡ helperCall z xs L helper receiver held output
   unfolding helperCall
-  helper-works points written s p same many e =
+  helper-works written s p many e =
       ap (λ (m : ℕ). outcome (Done (2 * m)) written) many
       ∙ done-by (helperPacket z xs (stripes z L) helper receiver held) output written (2 * stripes z L) p
       (length-packet z xs (stripes z L) helper receiver held)
-      (e ∙ ap₂ (λ (ys : List ℕ) (m : ℕ). helperPacket z ys m helper receiver held ++ drop (2 * m) output) same many)
+      (e ∙ ap (λ (m : ℕ). helperPacket z xs m helper receiver held ++ drop (2 * m) output) many)

@@ -1,9 +1,8 @@
 //! Document 01, board level, stateless, for all input: a helper packet.
-//! The call meets its definition in the crate `board_spec` at document 01's points: the answer, and every byte of the output that it
-//! was lent. A refusal leaves the output as it came.
+//! The call meets its definition in the crate `board_spec` at the points that it is given: the answer, and every byte of the output
+//! that it was lent. A refusal leaves the output as it came.
 ghost use mathlib.Core.Path.{_≡_};
 ghost use Rattle.sizes.specs.Refusals.{first, boardOrder};
-ghost use Rattle.mbcr.specs.Share.{standard};
 ghost use Rattle.board_spec.specs.Calls.{helperLines, helperCall};
 ghost use Rattle.checks.specs.Outcomes.{outcome};
 use sizes::Answer;
@@ -13,15 +12,16 @@ use sizes::Sizes;
 // The first refusal of a helper packet: its lines in document 01's order. Each check's answer is taken apart, and a refusal returned early.
 fn check_helper(
     sizes: Sizes,
+    points: &[u8],
     len: usize,
     helper: usize,
     receiver: usize,
     held: &[u8],
     out: &[u8],
 ) -> Check
-    ensures { λ r. ⌜ r ≡ first boardOrder (helperLines sizes standard len helper receiver (now (held .entry)) (now (out .entry))) ⌝ }
+    ensures { λ r. ⌜ r ≡ first boardOrder (helperLines sizes (now (points .entry)) len helper receiver (now (held .entry)) (now (out .entry))) ⌝ }
 {
-    if let Check::Refuse(stated) = checks::check_stated(sizes, len) {
+    if let Check::Refuse(stated) = checks::check_stated(sizes, points, len) {
         return Check::Refuse(stated);
     }
     let named = [helper, receiver];
@@ -42,19 +42,19 @@ fn check_helper(
 // The helper packet that a board makes of its share of a file of so many bytes, for another board. Answers the number of bytes written.
 pub fn helper_packet(
     sizes: Sizes,
+    points: [u8; 32],
     len: usize,
     helper: usize,
     receiver: usize,
     held: &[u8],
     out: &mut [u8],
 ) -> Answer
-    ensures { λ r. ⌜ outcome r (now (out .exit)) ≡ helperCall sizes standard len helper receiver (now (held .entry)) (now (out .entry)) ⌝ }
+    ensures { λ r. ⌜ outcome r (now (out .exit)) ≡ helperCall sizes points len helper receiver (now (held .entry)) (now (out .entry)) ⌝ }
 {
-    if let Check::Refuse(x) = check_helper(sizes, len, helper, receiver, held, out) {
+    if let Check::Refuse(x) = check_helper(sizes, &points, len, helper, receiver, held, out) {
         return Answer::Refused(x);
     }
     let stripes = checks::stripe_count(sizes, len);
-    let points = checks::standard_points();
     let mut inverses = [0u8; 256];
     inverses::fill_inverses(&mut inverses);
     helper::helper_packet(

@@ -1,7 +1,7 @@
 -- One share of a file, at any points: what it says of the call that its check passes, and what the call answers by what its check answered.
 -- Assumes nothing.
 use Prim.Native.Nat.{ℕ, _*_, _≤_, _<_}
-use mathlib.Core.Path.{_≡_, ap, ap₂, _∙_}
+use mathlib.Core.Path.{_≡_, ap, _∙_}
 use mathlib.Core.List.{List, [], _∷_, _++_}
 use borrow.Author.Tests.{ltb-false}
 use lib.ListN.{length, drop}
@@ -21,10 +21,11 @@ use Rattle.mbcr.proofs.Repair.{length-share}
 use Rattle.board_spec.specs.Calls.{shareLines, shareCall}
 use Rattle.checks.specs.Steps.{Stated}
 use Rattle.checks.specs.Outcomes.{outcome}
-use Rattle.checks.proofs.Facts.{refused-by, done-by}
+use Rattle.checks.proofs.Facts.{stated-of, Taken, taken-of, refused-by, done-by}
 
-pub record Shares (z : Sizes) (node : ℕ) (file output : List ℕ) : Type 0 where
+pub record Shares (z : Sizes) (xs : List ℕ) (node : ℕ) (file output : List ℕ) : Type 0 where
   pub stated : Stated z (length file)
+  pub points-taken : Taken z xs
   pub known : node < z .n
   pub room : stripes z (length file) * α z ≤ length output
 
@@ -32,12 +33,13 @@ module _ (z : Sizes) (xs : List ℕ) (node : ℕ) (file output : List ℕ) where
   abbrev pub checked : Check
   checked = first boardOrder (shareLines z xs node file output)
 
-  pub share-facts : checked ≡ Pass → Shares z node file output
+  pub share-facts : checked ≡ Pass → Shares z xs node file output
   unfolding shareLines
   share-facts h =
       let e = first-clear (shareLines z xs node file output) boardOrder h in
       record {
-        stated = record { is-legal = not-no _ (e .0); not-long = ltb-false _ _ (e .1 .0) };
+        stated = stated-of z xs (length file) (e .0) (e .1 .0);
+        points-taken = taken-of z xs (e .0);
         known = below-all (z .n) (node ∷ []) (not-no _ (e .1 .1 .1 .0)) .0;
         room = ltb-false _ _ (e .1 .1 .1 .1 .1 .1 .0);
       }
@@ -46,10 +48,10 @@ module _ (z : Sizes) (xs : List ℕ) (node : ℕ) (file output : List ℕ) where
   unfolding shareCall
   share-refuses e = refused-by (share z xs file node) output e
 
-  pub share-works : (points written : List ℕ) (s count : ℕ) → checked ≡ Pass → points ≡ xs → s ≡ stripes z (length file) → count ≡ stripes z (length file) * α z
-      → written ≡ share z points file node ++ drop (s * α z) output → outcome (Done count) written ≡ shareCall z xs node file output
+  pub share-works : (written : List ℕ) (s count : ℕ) → checked ≡ Pass → s ≡ stripes z (length file) → count ≡ stripes z (length file) * α z
+      → written ≡ share z xs file node ++ drop (s * α z) output → outcome (Done count) written ≡ shareCall z xs node file output
   unfolding shareCall
-  share-works points written s count p same here many e =
+  share-works written s count p here many e =
       ap (λ (m : ℕ). outcome (Done m) written) many
       ∙ done-by (share z xs file node) output written (stripes z (length file) * α z) p (length-share z xs (legal-facts z (share-facts p .stated .is-legal)) file node)
-      (e ∙ ap₂ (λ (ps : List ℕ) (m : ℕ). share z ps file node ++ drop (m * α z) output) same here)
+      (e ∙ ap (λ (m : ℕ). share z xs file node ++ drop (m * α z) output) here)

@@ -28,7 +28,8 @@ use Rattle.sizes.proofs.Lines.{Clear, clear-first, refuse-first, one-or-none, s
 use Rattle.mbcr.specs.Demand2.{Named}
 use Rattle.mbcr.specs.Read.{decodedFile, readFile}
 use Rattle.mbcr.specs.Rebuild.{helperPacket, exchangePacket, finishedShare}
-use Rattle.mbcr.specs.Share.{DifferentPoints, share, shares}
+use Rattle.mbcr.specs.Share.{DifferentPoints, pointed, share, shares}
+use Rattle.mbcr.proofs.PointLaws.{pointed-differ}
 use Rattle.mbcr.proofs.Points.{Boards, boards-of}
 use Rattle.mbcr.proofs.Read.{read-sound, read-complete, read-none}
 use Rattle.mbcr.proofs.Repair.{length-share, length-packet, length-exchange, length-finished}
@@ -37,8 +38,8 @@ use Rattle.board_spec.specs.Calls.{finishedLines, finishedCall, textLine
 use Rattle.board_spec.specs.Claims.{LinesSay}
 use Rattle.board_spec.specs.Demand1.{BoardEnds, BoardCalls, shareClaims, fileClaims, helperClaims, exchangeClaims, finishedClaims, textClaims}
 use Rattle.board_spec.specs.Text.{shareText}
-use Rattle.board_spec.proofs.Claims.{lines-say}
-use Rattle.board_spec.proofs.Runs.{legal-of, named}
+use Rattle.board_spec.proofs.Claims.{lines-say, says-either}
+use Rattle.board_spec.proofs.Runs.{legal-of, points-of, named}
 
 -- ---- lines that do not hold
 
@@ -85,7 +86,7 @@ module _ (z : Sizes) (xs : List ℕ) where
   share-ends : (node : ℕ) (file output : List ℕ)
       → BoardEnds (shareLines z xs node file output) output (share z xs file node) (shareCall z xs node file output)
   unfolding shareLines shareCall
-  share-ends node file output = ends _ output _ (λ p. rw (length-share z xs (legal-of z (p .size)) file node) (ltb-false _ _ (p .short)))
+  share-ends node file output = ends _ output _ (λ p. rw (length-share z xs (legal-of z xs (p .size)) file node) (ltb-false _ _ (p .short)))
 
   length-read : (L : ℕ) (boards held : List ℕ) → length (fileOf (readFile z xs L boards held)) ≤ L
   unfolding readFile decodedFile
@@ -113,12 +114,12 @@ module _ (z : Sizes) (xs : List ℕ) where
       (finishedCall z xs L board helpers packets partners exchanges output)
   unfolding finishedLines finishedCall
   finished-ends L board helpers packets partners exchanges output =
-      ends _ output _ (λ p. rw (length-finished z xs (legal-of z (p .size)) (stripes z L) board helpers packets partners exchanges) (ltb-false _ _ (p .short)))
+      ends _ output _ (λ p. rw (length-finished z xs (legal-of z xs (p .size)) (stripes z L) board helpers packets partners exchanges) (ltb-false _ _ (p .short)))
 
   text-ends : (L node : ℕ) (held output : List ℕ)
-      → BoardEnds (textLines z xs L node held output) output (shareText z L node held) (textCall z xs L node held output)
+      → BoardEnds (textLines z xs L node held output) output (shareText z xs L node held) (textCall z xs L node held output)
   unfolding textLines textCall
-  text-ends L node held output = ends _ output _ (λ p. ltb-false (length output) (length (shareText z L node held)) (p .short))
+  text-ends L node held output = ends _ output _ (λ p. ltb-false (length output) (length (shareText z xs L node held)) (p .short))
 
 -- ---- a file is given just where there is one
 
@@ -165,14 +166,18 @@ pub written : (file file′ output : List ℕ) → length file ≡ length file�
 written file file′ output l e =
     sym (take-at file _ (length file′) l) ∙ ap (take (length file′)) e ∙ take-at file′ _ (length file′) refl
 
-module _ (z : Sizes) (xs : List ℕ) (L : ℕ) (boards held output : List ℕ) (pts : DifferentPoints z xs) (bh : Bytes held)
+module _ (z : Sizes) (xs : List ℕ) (L : ℕ) (boards held output : List ℕ) (bh : Bytes held)
     (h : Only (fileLines z xs L boards held output)) where
   others : Passed (fileLines z xs L boards held output)
   others = only-passed (fileLines z xs L boards held output) h
 
   facts : Legal z
   unfolding fileLines
-  facts = legal-of z (others .size)
+  facts = legal-of z xs (others .size)
+
+  pts : DifferentPoints z xs
+  unfolding fileLines
+  pts = points-of z xs (others .size)
 
   count : length boards ≡ z .k
   unfolding fileLines
@@ -221,14 +226,14 @@ module _ (z : Sizes) (xs : List ℕ) where
   unfolding shareLines
   share-lines node file output =
       lines-say (shareLines z xs node file output) (shareClaims z xs node file output)
-      (refl, says-not _, (refl, says-less _ _, (refl, says-not _, (refl, says-less _ _, tt))))
+      (refl, says-either _ _, (refl, says-less _ _, (refl, says-not _, (refl, says-less _ _, tt))))
 
   file-lines : (L : ℕ) (boards held output : List ℕ) → LinesSay (fileLines z xs L boards held output) (fileClaims z xs L boards held output)
   unfolding fileLines
   file-lines L boards held output =
       lines-say (fileLines z xs L boards held output) (fileClaims z xs L boards held output) (
         refl,
-        says-not _,
+        says-either _ _,
         (
           refl,
           says-less _ _,
@@ -253,7 +258,7 @@ module _ (z : Sizes) (xs : List ℕ) where
   unfolding helperLines
   helper-lines L helper receiver held output =
       lines-say (helperLines z xs L helper receiver held output) (helperClaims z xs L helper receiver held output)
-      (refl, says-not _, (refl, says-less _ _, (refl, says-not _, (refl, says-not _, (refl, says-one _ _, (refl, says-less _ _, tt))))))
+      (refl, says-either _ _, (refl, says-less _ _, (refl, says-not _, (refl, says-not _, (refl, says-one _ _, (refl, says-less _ _, tt))))))
 
   exchange-lines : (L board : ℕ) (helpers packets : List ℕ) (receiver : ℕ) (output : List ℕ)
       → LinesSay (exchangeLines z xs L board helpers packets receiver output) (exchangeClaims z xs L board helpers packets receiver output)
@@ -261,7 +266,7 @@ module _ (z : Sizes) (xs : List ℕ) where
   exchange-lines L board helpers packets receiver output =
       lines-say (exchangeLines z xs L board helpers packets receiver output) (exchangeClaims z xs L board helpers packets receiver output) (
         refl,
-        says-not _,
+        says-either _ _,
         (
           refl,
           says-less _ _,
@@ -287,7 +292,7 @@ module _ (z : Sizes) (xs : List ℕ) where
   finished-lines L board helpers packets partners exchanges output =
       lines-say (finishedLines z xs L board helpers packets partners exchanges output) (finishedClaims z xs L board helpers packets partners exchanges output) (
         refl,
-        says-not _,
+        says-either _ _,
         (
           refl,
           says-less _ _,
@@ -311,14 +316,14 @@ module _ (z : Sizes) (xs : List ℕ) where
   unfolding textLines
   text-lines L node held output =
       lines-say (textLines z xs L node held output) (textClaims z xs L node held output)
-      (refl, says-not _, (refl, says-less _ _, (refl, says-not _, (refl, says-one _ _, (refl, says-less _ _, tt)))))
+      (refl, says-either _ _, (refl, says-less _ _, (refl, says-not _, (refl, says-one _ _, (refl, says-less _ _, tt)))))
 
 -- ---- the reader gives the file
 
-module _ (z : Sizes) (xs file boards output : List ℕ) (ok : legal z ≡ true) (pts : DifferentPoints z xs) (bf : Bytes file) (few : length file ≤ 4096 * B z)
+module _ (z : Sizes) (xs file boards output : List ℕ) (ok : legal z ≡ true) (taken : pointed z xs ≡ true) (bf : Bytes file) (few : length file ≤ 4096 * B z)
     (h : Named z (z .k) boards) (room : length file ≤ length output) where
   found-file : readFile z xs (length file) boards (shares z xs file boards) ≡ some file
-  found-file = read-complete z xs (legal-facts z ok) pts boards (boards-of z boards (h .1) (h .2)) (h .0) (length file) (shares z xs file boards) file refl bf refl
+  found-file = read-complete z xs (legal-facts z ok) (pointed-differ z xs ok taken) boards (boards-of z boards (h .1) (h .2)) (h .0) (length file) (shares z xs file boards) file refl bf refl
 
   shares-long : length (shares z xs file boards) ≡ z .k * (stripes z (length file) * α z)
   unfolding shares
@@ -330,7 +335,7 @@ module _ (z : Sizes) (xs file boards output : List ℕ) (ok : legal z ≡ true) 
   reader-gives =
       let held : List ℕ = shares z xs file boards in
       let c : first boardOrder (fileLines z xs (length file) boards held output) ≡ Pass = clear-first (fileLines z xs (length file) boards held output) boardOrder (
-        ap not ok,
+        ap not (hold-alls (legal z ∷ pointed z xs ∷ []) (ok, (taken, tt))),
         (
           le-ltb _ _ few,
           (
@@ -366,5 +371,5 @@ demand-1 = record {
   exchange-ends = exchange-ends;
   finished-ends = finished-ends;
   text-ends = text-ends;
-  file-exact = λ z xs L boards held output pts bh h. (gives z xs L boards held output pts bh h, refuses z xs L boards held output pts bh h);
+  file-exact = λ z xs L boards held output bh h. (gives z xs L boards held output bh h, refuses z xs L boards held output bh h);
 }

@@ -4,21 +4,29 @@ use mathlib.Core.Path.{_≡_, refl}
 use Rattle.lists.specs.Lists.{piece}
 use Rattle.gf256.specs.Field.{add, product, reduce, mul, squares, inverse}
 use Rattle.sizes.specs.Sizing.{legal, B, stripes}
-use Rattle.mbcr.specs.Share.{stripe, grid, F, neighbours, symbols, kept, share, shares}
+use Rattle.mbcr.specs.Share.{pointed, stripe, grid, F, neighbours, symbols, kept, share, shares}
 use Rattle.mbcr.specs.Rebuild.{received, exchanged, ownF, ownG, helperPair, helperPacket, gFrom, exchangePacket, fFrom, finishedStripe, finishedShare}
 use Rattle.mbcr.specs.Read.{through, bColumn, cRow, aColumn, decodedStripe, decodedFile, readFile}
-use Rattle.board_spec.specs.Text.{decimal, shareText}
+use Rattle.board_spec.specs.Text.{decimal, pointsLine, shareText}
 use Rattle.board_spec.specs.Calls.{shareLines, shareCall, fileLines, fileCall, helperLines, helperCall, exchangeLines, exchangeCall, finishedLines, finishedCall, textLines, textCall}
 use Rattle.board_spec.specs.Figures.{BoardFigures}
 
 pub figures : BoardFigures
-unfolding piece add product reduce mul squares inverse legal B stripes stripe grid F neighbours symbols kept share shares received exchanged ownF ownG
+unfolding piece add product reduce mul squares inverse legal B stripes pointed stripe grid F neighbours symbols kept share shares received exchanged ownF ownG
     helperPair helperPacket gFrom exchangePacket fFrom finishedStripe finishedShare through bColumn cRow aColumn decodedStripe decodedFile readFile
-    decimal shareText shareLines shareCall fileLines fileCall helperLines helperCall exchangeLines exchangeCall finishedLines finishedCall textLines
+    decimal pointsLine shareText shareLines shareCall fileLines fileCall helperLines helperCall exchangeLines exchangeCall finishedLines finishedCall textLines
     textCall
 figures = record {
   legal-sizes = refl;
   illegal-sizes = refl;
+  points-accepted = refl;
+  points-refused = refl;
+  points-first = refl;
+  points-shares = refl;
+  points-packet = refl;
+  points-exchange = refl;
+  points-finished = refl;
+  points-file = refl;
   share-refusals = refl;
   file-refusals = refl;
   helper-refusals = refl;
@@ -39,5 +47,6 @@ figures = record {
   two-pairs = refl;
   two-exchanged = refl;
   text = refl;
+  points-text = refl;
   longer-text = refl;
 }

@@ -5,9 +5,9 @@ use mathlib.Core.Bool.{true, false, not}
 use mathlib.Core.List.{List, [], _∷_, _++_, map}
 use Prim.Native.Nat.{ℕ, _+_, _<_}
 use native.Mathlib.Omega.{arith}
-use Rattle.lists.specs.Tests.{different, below}
+use Rattle.lists.specs.Tests.{alls, different, below}
 use Rattle.lists.specs.Lists.{All, concat}
-use Rattle.lists.proofs.Tests.{all-every, every-all, not-no}
+use Rattle.lists.proofs.Tests.{all-every, every-all, not-no, alls-hold}
 use Rattle.lists.proofs.Alls.{append-all, all-imp}
 use Rattle.lists.proofs.Boards.{distinct-different}
 use Rattle.sizes.specs.declared.Sizes.{Sizes}
@@ -17,7 +17,8 @@ use Rattle.sizes.specs.declared.Refusal.the-variants.{Size, Node, Repeat}
 use Rattle.sizes.specs.Sizing.{legal}
 use Rattle.sizes.proofs.Legal.{Legal, legal-facts}
 use Rattle.sizes.proofs.Lines.{first-clear}
-use Rattle.mbcr.specs.Share.{DifferentPoints, points}
+use Rattle.mbcr.specs.Share.{DifferentPoints, points, pointed}
+use Rattle.mbcr.proofs.PointLaws.{pointed-differ}
 use Rattle.mbcr.proofs.Points.{Boards, boards-of, neighbours-boards, points-distinct, boards-left}
 use Rattle.board_spec.specs.Calls.{fileLines, helperLines, exchangeLines, finishedLines}
 use Rattle.board_spec.specs.Runs.{equalPoints, ownRuns, exchangeRuns, finishRuns, readRuns, BoardRuns}
@@ -73,8 +74,14 @@ module _ (z : Sizes) (xs : List ℕ) (legal : Legal z) (pts : DifferentPoints z 
 -- ---- the calls
 
 -- what SIZE, NODE and REPEAT leave
-pub legal-of : (z : Sizes) → not (legal z) ≡ false → Legal z
-legal-of z h = legal-facts z (not-no (legal z) h)
+pub size-facts : (z : Sizes) (xs : List ℕ) → not (alls (legal z ∷ pointed z xs ∷ [])) ≡ false → (legal z ≡ true) × (pointed z xs ≡ true)
+size-facts z xs h = let e = alls-hold (legal z ∷ pointed z xs ∷ []) (not-no _ h) in (e .0, e .1 .0)
+
+pub legal-of : (z : Sizes) (xs : List ℕ) → not (alls (legal z ∷ pointed z xs ∷ [])) ≡ false → Legal z
+legal-of z xs h = legal-facts z (size-facts z xs h .0)
+
+pub points-of : (z : Sizes) (xs : List ℕ) → not (alls (legal z ∷ pointed z xs ∷ [])) ≡ false → DifferentPoints z xs
+points-of z xs h = let e = size-facts z xs h in pointed-differ z xs (e .0) (e .1)
 
 pub named : (z : Sizes) (boards : List ℕ) → not (below (z .n) boards) ≡ false → not (different boards) ≡ false → Boards z boards
 named z boards h k = boards-of z boards (not-no _ h) (not-no _ k)
@@ -89,35 +96,35 @@ passed : (lines : List Line) → first boardOrder lines ≡ Pass → Passed line
 passed lines h = let e = first-clear lines boardOrder h in record { size = e .0; node = e .1 .1 .1 .0; repeat = e .1 .1 .1 .1 .0 }
 
 module _ (z : Sizes) (xs : List ℕ) (L : ℕ) where
-  file-apart : (boards held output : List ℕ) → DifferentPoints z xs
+  file-apart : (boards held output : List ℕ)
       → first boardOrder (fileLines z xs L boards held output) ≡ Pass → equalPoints xs (readRuns z boards) ≡ false
   unfolding fileLines
-  file-apart boards held output pts h =
+  file-apart boards held output h =
       let p = passed (fileLines z xs L boards held output) h in
-      read-runs z xs (legal-of z (p .size)) pts boards (named z boards (p .node) (p .repeat))
+      read-runs z xs (legal-of z xs (p .size)) (points-of z xs (p .size)) boards (named z boards (p .node) (p .repeat))
 
-  helper-apart : (helper receiver : ℕ) (held output : List ℕ) → DifferentPoints z xs
+  helper-apart : (helper receiver : ℕ) (held output : List ℕ)
       → first boardOrder (helperLines z xs L helper receiver held output) ≡ Pass → equalPoints xs (ownRuns z helper) ≡ false
   unfolding helperLines
-  helper-apart helper receiver held output pts h =
+  helper-apart helper receiver held output h =
       let p = passed (helperLines z xs L helper receiver held output) h in
-      own-runs z xs (legal-of z (p .size)) pts helper (named z (helper ∷ receiver ∷ []) (p .node) (p .repeat) .known .0)
+      own-runs z xs (legal-of z xs (p .size)) (points-of z xs (p .size)) helper (named z (helper ∷ receiver ∷ []) (p .node) (p .repeat) .known .0)
 
-  exchange-apart : (board : ℕ) (helpers packets : List ℕ) (receiver : ℕ) (output : List ℕ) → DifferentPoints z xs
+  exchange-apart : (board : ℕ) (helpers packets : List ℕ) (receiver : ℕ) (output : List ℕ)
       → first boardOrder (exchangeLines z xs L board helpers packets receiver output) ≡ Pass → equalPoints xs (exchangeRuns helpers) ≡ false
   unfolding exchangeLines
-  exchange-apart board helpers packets receiver output pts h =
+  exchange-apart board helpers packets receiver output h =
       let p = passed (exchangeLines z xs L board helpers packets receiver output) h in
       let b = named z (board ∷ receiver ∷ helpers) (p .node) (p .repeat) in
-      one-run z xs pts helpers (record { known = b .known .1 .1; once = b .once .1 .1 })
+      one-run z xs (points-of z xs (p .size)) helpers (record { known = b .known .1 .1; once = b .once .1 .1 })
 
-  finished-apart : (board : ℕ) (helpers packets partners exchanges output : List ℕ) → DifferentPoints z xs
+  finished-apart : (board : ℕ) (helpers packets partners exchanges output : List ℕ)
       → first boardOrder (finishedLines z xs L board helpers packets partners exchanges output) ≡ Pass
       → equalPoints xs (finishRuns board helpers partners) ≡ false
   unfolding finishedLines
-  finished-apart board helpers packets partners exchanges output pts h =
+  finished-apart board helpers packets partners exchanges output h =
       let p = passed (finishedLines z xs L board helpers packets partners exchanges output) h in
-      finish-runs z xs pts board helpers partners (named z (helpers ++ partners ++ (board ∷ [])) (p .node) (p .repeat))
+      finish-runs z xs (points-of z xs (p .size)) board helpers partners (named z (helpers ++ partners ++ (board ∷ [])) (p .node) (p .repeat))
 
 pub board-runs : BoardRuns
 board-runs = record { file-apart = file-apart; helper-apart = helper-apart; exchange-apart = exchange-apart; finished-apart = finished-apart }

@@ -1,19 +1,29 @@
--- The laws of share text: a decimal has the digits of its number, and two bytes have different hexadecimal pairs.
+-- The laws of share text: a decimal has the digits of its number, two bytes have different hexadecimal pairs, and the line of points is there just
+-- where some board has another point than its number.
 -- Assumes nothing.
-use mathlib.Core.Path.{_≡_, refl, ap}
+use mathlib.Core.Path.{_≡_, refl, sym, ap, _∙_}
 use mathlib.Core.Bool.{Bool, true, false}
-use mathlib.Core.Logic.{_⊎_, inl, inr}
+use mathlib.Core.Logic.{_≢_, _⊎_, inl, inr}
 use mathlib.Core.List.{List, [], _∷_, _++_}
 use Prim.Native.Nat.{ℕ, zero, suc, _+_, _*_, _-_, _/_, _%_, _≤_, _<_}
 use native.Mathlib.Nat.{div-add-mod', mod-lt}
 use native.Mathlib.Omega.{arith}
 use lib.Dec.{ltb}
-use lib.ListN.{getD}
+use lib.ListN.{length, getD, take}
+use lib.Seq.{length-take-le, getD-take, ext-getD}
 use borrow.Author.Tests.{ltb-true, ltb-false, lt-ltb, le-ltb}
-use Rattle.lists.specs.Lists.{All}
+use Rattle.lists.specs.Tests.{pick, same}
+use Rattle.lists.specs.Lists.{All, tabulate, joined}
 use Rattle.lists.proofs.Alls.{append-all}
+use Rattle.lists.proofs.Pieces.{length-tabulate, tabulate-at}
+use Rattle.lists.proofs.Tests.{same-eq, same-refl, is-false}
+use Rattle.sizes.specs.declared.Sizes.{Sizes}
+use Rattle.sizes.specs.Sizing.{legal}
+use Rattle.sizes.proofs.Legal.{legal-facts}
+use Rattle.mbcr.specs.Share.{point, standard}
+use Rattle.mbcr.proofs.Points.{standard-point}
 use Rattle.board_spec.specs.Demand1.{value, TextLaws, hexValue}
-use Rattle.board_spec.specs.Text.{digits, decimal, hexDigit}
+use Rattle.board_spec.specs.Text.{digits, decimal, hexDigit, hexPair, textLine, pointsLine}
 
 -- ---- decimals
 
@@ -85,6 +95,38 @@ decimal-none : decimal 0 ≡ 0x30 ∷ []
 unfolding decimal
 decimal-none = refl
 
+-- ---- the line of points
+
+abbrev numbers : ℕ → List ℕ
+numbers n = tabulate n (λ i. i)
+
+module _ (z : Sizes) (xs : List ℕ) where
+  open Sizes z using (n)
+
+  pub points-unsaid : n ≤ length xs → ((i : ℕ) → i < n → point xs i ≡ i) → pointsLine z xs ≡ []
+  unfolding pointsLine
+  points-unsaid h e =
+      let taken : length (take n xs) ≡ n = length-take-le n xs h in
+      let all : take n xs ≡ numbers n =
+      ext-getD 0 (take n xs) (numbers n) (taken ∙ sym (length-tabulate n (λ i. i)))
+      (λ i l. let k : i < n = omega arith in getD-take n xs i 0 k ∙ e i k ∙ sym (tabulate-at n (λ i. i) 0 i k)) in
+      let t : same (take n xs) (numbers n) ≡ true = rw all (same-refl (numbers n)) in
+      rw t refl
+
+  pub points-said : (i : ℕ) → i < n → point xs i ≢ i
+      → pointsLine z xs ≡ textLine (0x70 ∷ 0x6F ∷ 0x69 ∷ 0x6E ∷ 0x74 ∷ 0x73 ∷ []) (joined hexPair (take n xs))
+  unfolding pointsLine
+  points-said i h e =
+      let t : same (take n xs) (numbers n) ≡ false =
+      is-false (same (take n xs) (numbers n)) (λ q. e
+      (sym (getD-take n xs i 0 h) ∙ ap (λ (l : List ℕ). getD l i 0) (same-eq (take n xs) (numbers n) q) ∙ tabulate-at n (λ i. i) 0 i h)) in
+      rw t refl
+
+pub standard-unsaid : (z : Sizes) → legal z ≡ true → pointsLine z (standard z) ≡ []
+standard-unsaid z ok =
+    let few = legal-facts z ok .few in
+    points-unsaid z (standard z) (omega (arith, length-tabulate 32 (λ i. pick (ltb i (z .n)) i 0))) (standard-point z few)
+
 pub text-laws : TextLaws
 text-laws = record {
   decimal-value = λ x. decimal-written x .whole;
@@ -95,5 +137,8 @@ text-laws = record {
     (hex-digit (b % 16) (mod-lt b (omega arith)), tt),
   );
   decimal-zero = decimal-none;
+  points-unsaid = points-unsaid;
+  points-said = points-said;
+  standard-unsaid = standard-unsaid;
   hex-value = λ b. omega (arith, hex-back (b / 16), hex-back (b % 16), div-add-mod' b 16);
 }

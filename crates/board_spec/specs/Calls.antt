@@ -1,5 +1,5 @@
 -- Document 01, 'The calls', board level: each call is a total function of its arguments to its answer and to every byte of the output
--- that it was lent. `z` are the sizes, `xs` the boards' points, `L` the file's length.
+-- that it was lent. `z` are the sizes, `xs` the boards' points, which each call "is given .. with the sizes" (request A.9), `L` the file's length.
 -- Assumes nothing.
 use mathlib.Core.Bool.{Bool, not}
 use mathlib.Core.Option.{Option, some, none}
@@ -16,7 +16,7 @@ use Rattle.sizes.specs.declared.Check.the-variants.{Pass, Refuse}
 use Rattle.sizes.specs.declared.Answer.the-variants.{Done, Refused}
 use Rattle.sizes.specs.Sizing.{maxStripes, legal, α, B, stripes}
 use Rattle.sizes.specs.Refusals.{Said, said, Line, _when_, first, boardOrder}
-use Rattle.mbcr.specs.Share.{share}
+use Rattle.mbcr.specs.Share.{pointed, share}
 use Rattle.mbcr.specs.Rebuild.{helperPacket, exchangePacket, finishedShare}
 use Rattle.mbcr.specs.Read.{readFile}
 use Rattle.board_spec.specs.Text.{shareText}
@@ -37,9 +37,9 @@ abbrev pub fileOf : Option (List ℕ) → List ℕ
 fileOf none = []
 fileOf (some file) = file
 
--- "1 SIZE: sizes not legal"
-abbrev pub sizeLine : Sizes → Line
-sizeLine z = Size when not (legal z)
+-- "1 SIZE: sizes not legal"; request A.9: "A repeated point, or one other than 00 kept for a number from n up, counts as SIZE"
+abbrev pub sizeLine : Sizes → List ℕ → Line
+sizeLine z xs = Size when not (alls (legal z ∷ pointed z xs ∷ []))
 
 -- "3 LONG: L above 4,096 × B (board level)"
 abbrev pub longLine : Sizes → ℕ → Line
@@ -71,7 +71,7 @@ module _ (z : Sizes) (xs : List ℕ) where
   -- "one share of a file": "for a share of a file it is the file's own length"
   unfoldable pub shareLines : ℕ → List ℕ → List ℕ → List Line
   shareLines node file output =
-      sizeLine z
+      sizeLine z xs
       ∷ longLine z (length file)
       ∷ nodeLine z (node ∷ [])
       ∷ shortLine output (stripes z (length file) * α z)
@@ -83,7 +83,7 @@ module _ (z : Sizes) (xs : List ℕ) where
   -- "a file from k shares"
   unfoldable pub fileLines : ℕ → List ℕ → List ℕ → List ℕ → List Line
   fileLines L boards held output =
-      sizeLine z
+      sizeLine z xs
       ∷ longLine z L
       ∷ countLine (eqb (length boards) k ∷ [])
       ∷ nodeLine z boards
@@ -99,7 +99,7 @@ module _ (z : Sizes) (xs : List ℕ) where
   -- "a helper packet for another board"
   unfoldable pub helperLines : ℕ → ℕ → ℕ → List ℕ → List ℕ → List Line
   helperLines L helper receiver held output =
-      sizeLine z
+      sizeLine z xs
       ∷ longLine z L
       ∷ nodeLine z (helper ∷ receiver ∷ [])
       ∷ repeatLine (helper ∷ receiver ∷ [])
@@ -114,7 +114,7 @@ module _ (z : Sizes) (xs : List ℕ) where
   -- "an exchange packet, from a board number, d helper numbers, their packets and a receiver"
   unfoldable pub exchangeLines : ℕ → ℕ → List ℕ → List ℕ → ℕ → List ℕ → List Line
   exchangeLines L board helpers packets receiver output =
-      sizeLine z
+      sizeLine z xs
       ∷ longLine z L
       ∷ countLine (eqb (length helpers) d ∷ [])
       ∷ nodeLine z (board ∷ receiver ∷ helpers)
@@ -130,7 +130,7 @@ module _ (z : Sizes) (xs : List ℕ) where
   -- "a finished share, from the same without a receiver, and from r − 1 partner numbers with their packets"
   unfoldable pub finishedLines : ℕ → ℕ → List ℕ → List ℕ → List ℕ → List ℕ → List ℕ → List Line
   finishedLines L board helpers packets partners exchanges output =
-      sizeLine z
+      sizeLine z xs
       ∷ longLine z L
       ∷ countLine (eqb (length helpers) d ∷ eqb (length partners) (r - 1) ∷ [])
       ∷ nodeLine z (helpers ++ partners ++ (board ∷ []))
@@ -147,12 +147,12 @@ module _ (z : Sizes) (xs : List ℕ) where
   -- "a share as text"
   unfoldable pub textLines : ℕ → ℕ → List ℕ → List ℕ → List Line
   textLines L node held output =
-      sizeLine z
+      sizeLine z xs
       ∷ longLine z L
       ∷ nodeLine z (node ∷ [])
       ∷ areaLine (eqb (length held) (stripes z L * α z) ∷ [])
-      ∷ shortLine output (length (shareText z L node held))
+      ∷ shortLine output (length (shareText z xs L node held))
       ∷ []
 
   unfoldable pub textCall : ℕ → ℕ → List ℕ → List ℕ → BoardOutcome
-  textCall L node held output = settled (first boardOrder (textLines L node held output)) (shareText z L node held) output
+  textCall L node held output = settled (first boardOrder (textLines L node held output)) (shareText z xs L node held) output

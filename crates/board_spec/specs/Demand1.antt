@@ -8,22 +8,22 @@ use mathlib.Core.Option.{none}
 use mathlib.Core.List.{List, [], _∷_, _++_}
 use Prim.Native.Nat.{ℕ, _+_, _*_, _-_, _≤_, _<_}
 use lib.Dec.{ltb}
-use lib.ListN.{length, getD}
+use lib.ListN.{length, getD, take}
 use Rattle.lists.specs.Tests.{pick, below, different}
-use Rattle.lists.specs.Lists.{All, Bytes, over}
+use Rattle.lists.specs.Lists.{All, Bytes, joined, over}
 use Rattle.sizes.specs.declared.Sizes.{Sizes}
 use Rattle.sizes.specs.declared.Refusal.{Refusal}
 use Rattle.sizes.specs.declared.Refusal.the-variants.{Size, Area, Long, Count, Node, Repeat, Short, Disagree}
 use Rattle.sizes.specs.declared.Answer.the-variants.{Done, Refused}
 use Rattle.sizes.specs.Refusals.{said, Line, appliesIn, boardOrder}
 use Rattle.sizes.specs.Laws.{First}
-use Rattle.mbcr.specs.Share.{DifferentPoints, share, shares}
+use Rattle.mbcr.specs.Share.{point, standard, pointed, share, shares}
 use Rattle.mbcr.specs.Rebuild.{helperPacket, exchangePacket, finishedShare}
 use Rattle.mbcr.specs.Read.{readFile}
 use Rattle.mbcr.specs.Demand2.{Named}
 use Rattle.sizes.specs.Sizing.{maxStripes, legal, α, B, stripes}
 use Rattle.board_spec.specs.Claims.{Claim, _means_, LinesSay}
-use Rattle.board_spec.specs.Text.{decimal, hexPair, shareText}
+use Rattle.board_spec.specs.Text.{decimal, hexPair, textLine, pointsLine, shareText}
 use Rattle.board_spec.specs.Calls.{BoardOutcome, fileOf, shareLines, shareCall, fileLines, fileCall, helperLines, helperCall}
 use Rattle.board_spec.specs.Calls.{exchangeLines, exchangeCall, finishedLines, finishedCall, textLines, textCall}
 
@@ -39,9 +39,12 @@ pub record BoardEnds (lines : List Line) (output bytes : List ℕ) (o : BoardOut
 
 -- what the lines of each call say
 module _ (z : Sizes) (xs : List ℕ) where
+  abbrev sizeClaim : Claim
+  sizeClaim = Size means ((legal z ≡ false) ⊎ (pointed z xs ≡ false))
+
   abbrev pub shareClaims : ℕ → List ℕ → List ℕ → List Claim
   shareClaims node file output =
-      Size means (legal z ≡ false)
+      sizeClaim
       ∷ Long means (maxStripes * B z < length file)
       ∷ Node means (below (z .n) (node ∷ []) ≡ false)
       ∷ Short means (length output < stripes z (length file) * α z)
@@ -49,7 +52,7 @@ module _ (z : Sizes) (xs : List ℕ) where
 
   abbrev pub fileClaims : ℕ → List ℕ → List ℕ → List ℕ → List Claim
   fileClaims L boards held output =
-      Size means (legal z ≡ false)
+      sizeClaim
       ∷ Long means (maxStripes * B z < L)
       ∷ Count means (length boards ≢ z .k)
       ∷ Node means (below (z .n) boards ≡ false)
@@ -61,7 +64,7 @@ module _ (z : Sizes) (xs : List ℕ) where
 
   abbrev pub helperClaims : ℕ → ℕ → ℕ → List ℕ → List ℕ → List Claim
   helperClaims L helper receiver held output =
-      Size means (legal z ≡ false)
+      sizeClaim
       ∷ Long means (maxStripes * B z < L)
       ∷ Node means (below (z .n) (helper ∷ receiver ∷ []) ≡ false)
       ∷ Repeat means (different (helper ∷ receiver ∷ []) ≡ false)
@@ -71,7 +74,7 @@ module _ (z : Sizes) (xs : List ℕ) where
 
   abbrev pub exchangeClaims : ℕ → ℕ → List ℕ → List ℕ → ℕ → List ℕ → List Claim
   exchangeClaims L board helpers packets receiver output =
-      Size means (legal z ≡ false)
+      sizeClaim
       ∷ Long means (maxStripes * B z < L)
       ∷ Count means (length helpers ≢ z .d)
       ∷ Node means (below (z .n) (board ∷ receiver ∷ helpers) ≡ false)
@@ -82,7 +85,7 @@ module _ (z : Sizes) (xs : List ℕ) where
 
   abbrev pub finishedClaims : ℕ → ℕ → List ℕ → List ℕ → List ℕ → List ℕ → List ℕ → List Claim
   finishedClaims L board helpers packets partners exchanges output =
-      Size means (legal z ≡ false)
+      sizeClaim
       ∷ Long means (maxStripes * B z < L)
       ∷ Count means ((length helpers ≡ z .d) × (length partners ≡ z .r - 1) → ⊥)
       ∷ Node means (below (z .n) (helpers ++ partners ++ (board ∷ [])) ≡ false)
@@ -93,11 +96,11 @@ module _ (z : Sizes) (xs : List ℕ) where
 
   abbrev pub textClaims : ℕ → ℕ → List ℕ → List ℕ → List Claim
   textClaims L node held output =
-      Size means (legal z ≡ false)
+      sizeClaim
       ∷ Long means (maxStripes * B z < L)
       ∷ Node means (below (z .n) (node ∷ []) ≡ false)
       ∷ Area means (length held ≢ stripes z L * α z)
-      ∷ Short means (length output < length (shareText z L node held))
+      ∷ Short means (length output < length (shareText z xs L node held))
       ∷ []
 
 pub record BoardCalls : Type 0 where
@@ -127,14 +130,14 @@ pub record BoardCalls : Type 0 where
       → BoardEnds (finishedLines z xs L board helpers packets partners exchanges output) output (finishedShare z xs (stripes z L) board helpers packets partners exchanges)
       (finishedCall z xs L board helpers packets partners exchanges output)
   pub text-ends : (z : Sizes) (xs : List ℕ) (L node : ℕ) (held output : List ℕ)
-      → BoardEnds (textLines z xs L node held output) output (shareText z L node held) (textCall z xs L node held output)
+      → BoardEnds (textLines z xs L node held output) output (shareText z xs L node held) (textCall z xs L node held output)
   -- "From k different boards' shares the reader gives the file they encode"
-  pub reader-gives : (z : Sizes) (xs file boards output : List ℕ) → legal z ≡ true → DifferentPoints z xs → Bytes file → length file ≤ maxStripes * B z
+  pub reader-gives : (z : Sizes) (xs file boards output : List ℕ) → legal z ≡ true → pointed z xs ≡ true → Bytes file → length file ≤ maxStripes * B z
       → Named z (z .k) boards → length file ≤ length output
       → fileCall z xs (length file) boards (shares z xs file boards) output ≡ record { answer = said (Done (length file)); output = over file output }
-  -- "a file from k shares": where no line but DISAGREE holds, and the points differ, it gives f exactly when f has length L and these shares,
+  -- "a file from k shares": where no line but DISAGREE holds, it gives f exactly when f has length L and these shares,
   -- and DISAGREE exactly when there is no such file
-  pub file-exact : (z : Sizes) (xs : List ℕ) (L : ℕ) (boards held output : List ℕ) → DifferentPoints z xs → Bytes held
+  pub file-exact : (z : Sizes) (xs : List ℕ) (L : ℕ) (boards held output : List ℕ) → Bytes held
       → All (λ x. (x ≡ Disagree) ⊎ (appliesIn (fileLines z xs L boards held output) x ≡ false)) boardOrder
       → ((file : List ℕ) → length file ≡ L → Bytes file
       → (fileCall z xs L boards held output ≡ record { answer = said (Done L); output = over file output }) ↔ (shares z xs file boards ≡ held))
@@ -158,3 +161,8 @@ pub record TextLaws : Type 0 where
   pub decimal-zero : decimal 0 ≡ 0x30 ∷ []
   pub hex-value : (b : ℕ) → 16 * hexValue (getD (hexPair b) 0 0) + hexValue (getD (hexPair b) 1 0) ≡ b
   pub hex-digits : (b : ℕ) → b < 256 → All (λ c. ((0x30 ≤ c) × (c ≤ 0x39)) ⊎ ((0x61 ≤ c) × (c ≤ 0x66))) (hexPair b)
+  -- request A.9: no line where each board has its number for a point, and one line where some board has not
+  pub points-unsaid : (z : Sizes) (xs : List ℕ) → z .n ≤ length xs → ((i : ℕ) → i < z .n → point xs i ≡ i) → pointsLine z xs ≡ []
+  pub points-said : (z : Sizes) (xs : List ℕ) (i : ℕ) → i < z .n → point xs i ≢ i
+      → pointsLine z xs ≡ textLine (0x70 ∷ 0x6F ∷ 0x69 ∷ 0x6E ∷ 0x74 ∷ 0x73 ∷ []) (joined hexPair (take (z .n) xs))
+  pub standard-unsaid : (z : Sizes) → legal z ≡ true → pointsLine z (standard z) ≡ []

@@ -11,7 +11,7 @@ use Rattle.lists.specs.Lists.{concat}
 use Rattle.sizes.specs.declared.Sizes.{Sizes}
 use Rattle.sizes.specs.declared.Check.the-variants.{Pass}
 use Rattle.sizes.specs.Refusals.{first, boardOrder}
-use Rattle.mbcr.specs.Share.{DifferentPoints, points, neighbours}
+use Rattle.mbcr.specs.Share.{points, neighbours}
 use Rattle.board_spec.specs.Calls.{fileLines, helperLines, exchangeLines, finishedLines}
 
 -- "two equal points in one interpolation", of interpolations at the points of these boards
@@ -35,12 +35,12 @@ abbrev pub readRuns : Sizes → List ℕ → List (List ℕ)
 readRuns z boards = boards ∷ concat (map (ownRuns z) boards)
 
 pub record BoardRuns : Type 0 where
-  pub file-apart : (z : Sizes) (xs : List ℕ) (L : ℕ) (boards held output : List ℕ) → DifferentPoints z xs
+  pub file-apart : (z : Sizes) (xs : List ℕ) (L : ℕ) (boards held output : List ℕ)
       → first boardOrder (fileLines z xs L boards held output) ≡ Pass → equalPoints xs (readRuns z boards) ≡ false
-  pub helper-apart : (z : Sizes) (xs : List ℕ) (L helper receiver : ℕ) (held output : List ℕ) → DifferentPoints z xs
+  pub helper-apart : (z : Sizes) (xs : List ℕ) (L helper receiver : ℕ) (held output : List ℕ)
       → first boardOrder (helperLines z xs L helper receiver held output) ≡ Pass → equalPoints xs (ownRuns z helper) ≡ false
-  pub exchange-apart : (z : Sizes) (xs : List ℕ) (L board : ℕ) (helpers packets : List ℕ) (receiver : ℕ) (output : List ℕ) → DifferentPoints z xs
+  pub exchange-apart : (z : Sizes) (xs : List ℕ) (L board : ℕ) (helpers packets : List ℕ) (receiver : ℕ) (output : List ℕ)
       → first boardOrder (exchangeLines z xs L board helpers packets receiver output) ≡ Pass → equalPoints xs (exchangeRuns helpers) ≡ false
-  pub finished-apart : (z : Sizes) (xs : List ℕ) (L board : ℕ) (helpers packets partners exchanges output : List ℕ) → DifferentPoints z xs
+  pub finished-apart : (z : Sizes) (xs : List ℕ) (L board : ℕ) (helpers packets partners exchanges output : List ℕ)
       → first boardOrder (finishedLines z xs L board helpers packets partners exchanges output) ≡ Pass
       → equalPoints xs (finishRuns board helpers partners) ≡ false

@@ -5,10 +5,11 @@ use mathlib.Core.Path.{_≡_}
 use mathlib.Core.Bool.{true, false}
 use mathlib.Core.List.{List}
 use native.Mathlib.Numerals.{add-one}
+use lib.Dec.{eqb}
 use lib.ListN.{length, drop, getD}
 use lib.Seq.{drop-cons}
 use borrow.Author.Tests.{lt-ltb, le-ltb, eq-eqb, ne-eqb}
-use Rattle.lists.specs.Tests.{below, among, different, apart}
+use Rattle.lists.specs.Tests.{every, below, among, different, apart}
 
 module _ (l : List ℕ) (i : ℕ) (h : i < length l) where
   pub below-no : (n : ℕ) → n ≤ getD l i 0 → below n (drop i l) ≡ false
@@ -34,3 +35,9 @@ module _ (l : List ℕ) (i : ℕ) (h : i < length l) where
 
   pub apart-next : (boards : List ℕ) → among boards (getD l i 0) ≡ false → apart boards (drop (i + 1) l) ≡ apart boards (drop i l)
   apart-next boards e = rw (add-one, drop-cons l i 0, e)
+
+  pub zero-no : (getD l i 0 ≡ 0 → ⊥) → every (λ x. eqb x 0) (drop i l) ≡ false
+  zero-no e = rw (drop-cons l i 0, ne-eqb _ _ e)
+
+  pub zero-next : getD l i 0 ≡ 0 → every (λ x. eqb x 0) (drop (i + 1) l) ≡ every (λ x. eqb x 0) (drop i l)
+  zero-next e = rw (add-one, drop-cons l i 0, eq-eqb _ _ e)

@@ -1,7 +1,8 @@
 //! Tests on lists of board numbers and of points.
 ghost use mathlib.Core.Path.{_≡_};
+ghost use lib.Dec.{eqb};
 ghost use lib.ListN.{drop};
-ghost use Rattle.lists.specs.Tests.{below, among, different, apart};
+ghost use Rattle.lists.specs.Tests.{every, below, among, different, apart};
 
 // Whether each board is below n.
 pub fn below(n: usize, boards: &[usize]) -> bool
@@ -80,6 +81,20 @@ pub fn points_differ(points: &[u8]) -> bool
     let mut i = 0;
     while i < points.len() {
         if point_from(points, i + 1, points[i]) {
+            return false;
+        }
+        i += 1;
+    }
+    true
+}
+
+// Whether each point at place `from` or after it is 00.
+pub fn zero_from(points: &[u8], from: usize) -> bool
+    ensures { λ r. ⌜ r ≡ every (λ x. eqb x 0) (drop from (now (points .entry))) ⌝ }
+{
+    let mut i = from;
+    while i < points.len() {
+        if points[i] != 0 {
             return false;
         }
         i += 1;

@@ -25,18 +25,20 @@ use Rattle.board_spec.specs.Calls.{nodeLine, areaLine, textLines, textCall}
 use Rattle.checks.specs.Steps.{asked, Stated}
 use Rattle.checks.specs.Outcomes.{outcome}
 use Rattle.checks.proofs.Answers.{passed}
-use Rattle.checks.proofs.Facts.{refused-by, done-by}
-use Rattle.text_writer.specs.Steps.{Writes}
+use Rattle.checks.proofs.Facts.{stated-of, taken-of, refused-by, done-by}
+use Rattle.text_writer.specs.Steps.{Writes, Fits}
 
 -- what the writer asks, from the lines before SHORT
-pub writes : (z : Sizes) (L node m : ℕ) → Stated z L → asked (nodeLine z (node ∷ [])) ≡ Pass → asked (areaLine (eqb m (stripes z L * α z) ∷ [])) ≡ Pass
-    → Writes z L node m
-writes z L node m s n a =
+pub writes : (z : Sizes) (xs : List ℕ) (L node m : ℕ) → Stated z L → length xs ≡ 32
+    → asked (nodeLine z (node ∷ [])) ≡ Pass → asked (areaLine (eqb m (stripes z L * α z) ∷ [])) ≡ Pass
+    → Writes z xs L node m
+writes z xs L node m s l n a =
     let f = legal-facts z (s .is-legal) in
     let e : m ≡ stripes z L * α z = eqb-true _ _ (alls-hold (eqb m (stripes z L * α z) ∷ []) (not-no _ (passed (areaLine (eqb m (stripes z L * α z) ∷ [])) a)) .0) in
     let p : stripes z L * α z ≤ 4096 * α z = mul-le-mul-right (α z) (stripes-least z f L 4096 (s .not-long)) in
     record {
       is-legal = s .is-legal;
+      has-points = omega (arith, l, f .few);
       low-node = omega (arith, below-all (z .n) (node ∷ []) (not-no _ (passed (nodeLine z (node ∷ [])) n)) .0, f .few);
       low-length = omega (arith, s .not-long, B-most z f);
       low-held = omega (arith, e, p, α-most z f);
@@ -46,22 +48,24 @@ module _ (z : Sizes) (xs : List ℕ) (L node : ℕ) (held output : List ℕ) whe
   abbrev pub checked : Check
   checked = first boardOrder (textLines z xs L node held output)
 
-  pub text-writes : checked ≡ Pass → Writes z L node (length held)
+  pub text-writes : checked ≡ Pass → Writes z xs L node (length held)
   unfolding textLines
   text-writes h =
       let e = first-clear (textLines z xs L node held output) boardOrder h in
-      writes z L node (length held) (record { is-legal = not-no _ (e .0); not-long = ltb-false _ _ (e .1 .0) }) (rw (e .1 .1 .1 .0)) (rw (e .1 .1 .1 .1 .1 .0))
+      writes z xs L node (length held) (stated-of z xs L (e .0) (e .1 .0)) (taken-of z xs (e .0) .long) (rw (e .1 .1 .1 .0)) (rw (e .1 .1 .1 .1 .1 .0))
 
-  pub text-room : checked ≡ Pass → length (shareText z L node held) ≤ length output
+  pub text-fits : checked ≡ Pass → Fits z xs L node held output
   unfolding textLines
-  text-room h = ltb-false _ _ (first-clear (textLines z xs L node held output) boardOrder h .1 .1 .1 .1 .1 .1 .0)
+  text-fits h =
+      let e = first-clear (textLines z xs L node held output) boardOrder h in
+      record { has-points = text-writes h .has-points; has-room = ltb-false _ _ (e .1 .1 .1 .1 .1 .1 .0) }
 
   pub text-refuses : {x : Refusal} → checked ≡ Refuse x → outcome (Refused x) output ≡ textCall z xs L node held output
   unfolding textCall
-  text-refuses e = refused-by (shareText z L node held) output e
+  text-refuses e = refused-by (shareText z xs L node held) output e
 
-  pub text-works : (written : List ℕ) (count : ℕ) → checked ≡ Pass → count ≡ length (shareText z L node held) → written ≡ over (shareText z L node held) output
+  pub text-works : (written : List ℕ) (count : ℕ) → checked ≡ Pass → count ≡ length (shareText z xs L node held) → written ≡ over (shareText z xs L node held) output
       → outcome (Done count) written ≡ textCall z xs L node held output
   unfolding textCall
   text-works written count p many e =
-      done-by (shareText z L node held) output written count p (sym many) (e ∙ ap (λ (m : ℕ). shareText z L node held ++ drop m output) (sym many))
+      done-by (shareText z xs L node held) output written count p (sym many) (e ∙ ap (λ (m : ℕ). shareText z xs L node held ++ drop m output) (sym many))

@@ -1,4 +1,5 @@
 pub mod Answers
+pub mod Points
 pub mod Joined
 pub mod Given
 pub mod Chain

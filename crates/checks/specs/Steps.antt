@@ -16,8 +16,8 @@ use Rattle.board_spec.specs.Calls.{sizeLine, longLine}
 abbrev pub asked : Line → Check
 asked l = pick (l .applies) (Refuse (l .refusal)) Pass
 
-abbrev pub statedLines : Sizes → ℕ → List Line
-statedLines z L = sizeLine z ∷ longLine z L ∷ []
+abbrev pub statedLines : Sizes → List ℕ → ℕ → List Line
+statedLines z xs L = sizeLine z xs ∷ longLine z L ∷ []
 
 pub record Stated (z : Sizes) (L : ℕ) : Type 0 where
   pub is-legal : legal z ≡ true

@@ -2,70 +2,74 @@
 ghost use mathlib.Core.Path.{_≡_};
 ghost use mathlib.Core.List.{[], _∷_, _++_};
 ghost use Prim.Native.Nat.{_+_, _*_, _≤_};
-ghost use lib.ListN.{length, take};
+ghost use lib.ListN.{length};
 ghost use mathlib.Core.Bool.{true, not};
-ghost use lib.Dec.{eqb};
-ghost use Rattle.lists.specs.Tests.{different};
+ghost use lib.Dec.{ltb, eqb};
+ghost use Rattle.lists.specs.Tests.{pick, different};
+ghost use Rattle.lists.specs.Lists.{tabulate};
 ghost use Rattle.sizes.specs.Sizing.{legal, stripes};
-ghost use Rattle.sizes.specs.Refusals.{_when_, first, boardOrder};
-ghost use Rattle.mbcr.specs.Share.{standard};
+ghost use Rattle.sizes.specs.Refusals.{first, boardOrder};
+ghost use Rattle.mbcr.specs.Share.{standard, pointed};
 ghost use Rattle.board_spec.specs.Calls.{sizeLine, longLine, countLine, nodeLine, repeatLine, areaLine, shortLine};
 ghost use Rattle.checks.specs.Steps.{asked, statedLines, Stated};
 use sizes::Check;
 use sizes::Refusal;
 use sizes::Sizes;
 
-// The points of document 01: the byte i for board i.
-const STANDARD: [u8; 32] = [
-    0,
-    1,
-    2,
-    3,
-    4,
-    5,
-    6,
-    7,
-    8,
-    9,
-    10,
-    11,
-    12,
-    13,
-    14,
-    15,
-    16,
-    17,
-    18,
-    19,
-    20,
-    21,
-    22,
-    23,
-    24,
-    25,
-    26,
-    27,
-    28,
-    29,
-    30,
-    31,
-];
-
-pub fn standard_points() -> [u8; 32]
-    ensures { λ r. ⌜ r ≡ standard ⌝ }
+// Document 01's point of board i: its number, and 00 from n up.
+fn standard_point(n: usize, i: usize) -> u8
+    requires { ⌜ i ≤ 255 ⌝ }
+    ensures { λ r. ⌜ r ≡ pick (ltb i n) i 0 ⌝ }
 {
-    STANDARD
+    if i < n { i as u8 } else { 0 }
+}
+
+// The points of as many boards as there is room for.
+fn put_points(n: usize, points: &mut [u8])
+    requires { ⌜ length (now points) ≤ 256 ⌝ }
+    ensures { λ _. ⌜ now (points .exit) ≡ tabulate (length (now (points .entry))) (λ i. pick (ltb i n) i 0) ⌝ }
+{
+    let mut i: usize = 0;
+    while i < points.len() {
+        points[i] = standard_point(n, i);
+        i += 1;
+    }
+}
+
+// The points of document 01.
+pub fn standard_points(sizes: Sizes) -> [u8; 32]
+    ensures { λ r. ⌜ r ≡ standard sizes ⌝ }
+{
+    let mut points = [0u8; 32];
+    put_points(sizes.n, &mut points);
+    points
+}
+
+// Whether these points are taken: 32 bytes, those of n boards different, and 00 from n up.
+pub fn points_taken(sizes: Sizes, points: &[u8]) -> bool
+    requires { ⌜ legal sizes ≡ true ⌝ }
+    ensures { λ r. ⌜ r ≡ pointed sizes (now (points .entry)) ⌝ }
+{
+    if points.len() != Sizes::MAX_BOARDS {
+        return false;
+    }
+    let n = sizes.n;
+    if board_tests::points_differ(&points[0..n]) {
+        return board_tests::zero_from(points, n);
+    }
+    false
 }
 
 // 1 SIZE, board level.
-pub fn check_sizes(sizes: Sizes) -> Check
-    ensures { λ r. ⌜ r ≡ asked (sizeLine sizes) ⌝ }
+pub fn check_sizes(sizes: Sizes, points: &[u8]) -> Check
+    ensures { λ r. ⌜ r ≡ asked (sizeLine sizes (now (points .entry))) ⌝ }
 {
     if sizes.legal() {
-        Check::Pass
-    } else {
-        Check::Refuse(Refusal::Size)
+        if points_taken(sizes, points) {
+            return Check::Pass;
+        }
     }
+    Check::Refuse(Refusal::Size)
 }
 
 // 3 LONG, board level.
@@ -80,11 +84,11 @@ pub fn check_length(sizes: Sizes, len: usize) -> Check
     }
 }
 
-// 1 SIZE and 3 LONG, of the sizes and the length that every board-level call is given.
-pub fn check_stated(sizes: Sizes, len: usize) -> Check
-    ensures { λ r. ⌜ r ≡ first boardOrder (statedLines sizes len) ⌝ }
+// 1 SIZE and 3 LONG, of the sizes, the points and the length that every board-level call is given.
+pub fn check_stated(sizes: Sizes, points: &[u8], len: usize) -> Check
+    ensures { λ r. ⌜ r ≡ first boardOrder (statedLines sizes (now (points .entry)) len) ⌝ }
 {
-    if let Check::Refuse(size) = check_sizes(sizes) {
+    if let Check::Refuse(size) = check_sizes(sizes, points) {
         return Check::Refuse(size);
     }
     check_length(sizes, len)

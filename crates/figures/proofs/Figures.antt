@@ -5,7 +5,7 @@ use Rattle.lists.specs.Lists.{piece, put}
 use Rattle.gf256.specs.Field.{add, product, reduce, mul, squares, inverse}
 use Rattle.gf256.proofs.Field.{zero-mul}
 use Rattle.sizes.specs.Sizing.{legal, B, stripes}
-use Rattle.mbcr.specs.Share.{stripe, grid, F, neighbours, symbols, kept, share, shares}
+use Rattle.mbcr.specs.Share.{pointed, stripe, grid, F, neighbours, symbols, kept, share, shares}
 use Rattle.mbcr.specs.Rebuild.{received, exchanged, ownF, ownG, helperPair, helperPacket, gFrom, exchangePacket, fFrom, finishedStripe, finishedShare}
 use Rattle.mbcr.specs.Read.{through, bColumn, cRow, aColumn, decodedStripe, decodedFile, readFile}
 use Rattle.store_spec.specs.Record.{sound}
@@ -16,7 +16,7 @@ use Rattle.figures.specs.MarkedFigures.{MarkedFigures}
 use Rattle.figures.specs.LongFigures.{LongFigures}
 
 pub figures : MarkedFigures
-unfolding piece put add product reduce mul squares inverse legal B stripes stripe grid F neighbours symbols kept share shares received exchanged ownF
+unfolding piece put add product reduce mul squares inverse legal B stripes pointed stripe grid F neighbours symbols kept share shares received exchanged ownF
     ownG helperPair helperPacket gFrom exchangePacket fFrom finishedStripe finishedShare sound helperPackets exchangePackets repairPackets writeLines
     writeCall
 figures = record {
@@ -38,13 +38,14 @@ figures = record {
 }
 
 pub long-figures : LongFigures
-unfolding piece put add product reduce mul squares inverse legal B stripes stripe grid F neighbours symbols kept share shares received exchanged ownF
+unfolding piece put add product reduce mul squares inverse legal B stripes pointed stripe grid F neighbours symbols kept share shares received exchanged ownF
     ownG helperPair helperPacket gFrom exchangePacket fFrom finishedStripe finishedShare through bColumn cRow aColumn decodedStripe decodedFile
     readFile sound helperPackets exchangePackets repairPackets freshShare writeLines loseLines repairLines readLines setUpCall writeCall loseCall
     repairCall readCall fileLines fileCall
 long-figures = record {
   file-disagrees = refl;
   file-read = refl;
+  points-read = refl;
   store-disagrees = refl;
   store-read = refl;
   losses = refl;

@@ -19,16 +19,16 @@ pub record MarkedFigures : Type 0 where
   pub m2 : mul 0x03 0x03 ≡ 0x05
   pub m3 : mul 0x02 0x8E ≡ 0x01
   pub m4 : (a : ℕ) → mul 0x00 a ≡ 0x00
-  pub m5 : share two standard twoFile 0 ≡ 0x05 ∷ 0x06 ∷ []
-  pub m6 : share two standard twoFile 1 ≡ 0x06 ∷ 0x05 ∷ []
+  pub m5 : share two (standard two) twoFile 0 ≡ 0x05 ∷ 0x06 ∷ []
+  pub m6 : share two (standard two) twoFile 1 ≡ 0x06 ∷ 0x05 ∷ []
   pub sizes : (α five ≡ 7) × (B five ≡ 12)
-  pub m7 : share five standard fiveFile 0 ≡ 0x00 ∷ 0x00 ∷ 0x00 ∷ 0x00 ∷ 0x00 ∷ 0x00 ∷ 0x00 ∷ []
-  pub m8 : share five standard fiveFile 1 ≡ 0x01 ∷ 0x02 ∷ 0x03 ∷ 0x04 ∷ 0x00 ∷ 0x04 ∷ 0x05 ∷ []
-  pub m9 : share five standard fiveFile 2 ≡ 0x08 ∷ 0x0C ∷ 0x10 ∷ 0x00 ∷ 0x04 ∷ 0x0A ∷ 0x20 ∷ []
-  pub m10 : share five standard fiveFile 3 ≡ 0x0F ∷ 0x14 ∷ 0x00 ∷ 0x05 ∷ 0x0A ∷ 0x30 ∷ 0x00 ∷ []
-  pub m11 : share five standard fiveFile 4 ≡ 0x40 ∷ 0x00 ∷ 0x10 ∷ 0x20 ∷ 0x30 ∷ 0x00 ∷ 0x04 ∷ []
-  pub m7-to-m11 : writeCall standard (newRecord five 1) (replicate 35 0xFF) fiveFile ≡ gives 0 0 written area []
+  pub m7 : share five (standard five) fiveFile 0 ≡ 0x00 ∷ 0x00 ∷ 0x00 ∷ 0x00 ∷ 0x00 ∷ 0x00 ∷ 0x00 ∷ []
+  pub m8 : share five (standard five) fiveFile 1 ≡ 0x01 ∷ 0x02 ∷ 0x03 ∷ 0x04 ∷ 0x00 ∷ 0x04 ∷ 0x05 ∷ []
+  pub m9 : share five (standard five) fiveFile 2 ≡ 0x08 ∷ 0x0C ∷ 0x10 ∷ 0x00 ∷ 0x04 ∷ 0x0A ∷ 0x20 ∷ []
+  pub m10 : share five (standard five) fiveFile 3 ≡ 0x0F ∷ 0x14 ∷ 0x00 ∷ 0x05 ∷ 0x0A ∷ 0x30 ∷ 0x00 ∷ []
+  pub m11 : share five (standard five) fiveFile 4 ≡ 0x40 ∷ 0x00 ∷ 0x10 ∷ 0x20 ∷ 0x30 ∷ 0x00 ∷ 0x04 ∷ []
+  pub m7-to-m11 : writeCall (newRecord five (standard five) 1) (replicate 35 0xFF) fiveFile ≡ gives 0 0 written area []
   -- "board 1 gets 04 02, 05 03, 10 04, then 00 from board 0. Moved: 14."
-  pub m12-gets : contents (sentTo 1 (repairPackets standard written spoiled (0 ∷ 1 ∷ []) helpers))
+  pub m12-gets : contents (sentTo 1 (repairPackets written spoiled (0 ∷ 1 ∷ []) helpers))
       ≡ 0x04 ∷ 0x02 ∷ 0x05 ∷ 0x03 ∷ 0x10 ∷ 0x04 ∷ 0x00 ∷ []
-  pub m12-moved : total (repairPackets standard written spoiled (0 ∷ 1 ∷ []) helpers) ≡ 14
+  pub m12-moved : total (repairPackets written spoiled (0 ∷ 1 ∷ []) helpers) ≡ 14

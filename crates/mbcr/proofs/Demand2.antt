@@ -153,4 +153,4 @@ demand-2 = all
 pub standard-is : Standard
 standard-is z ok =
     let f = legal-facts z ok in
-    (standard-points z (f .few), λ i l. standard-point i (omega (arith, f .few)))
+    (standard-points z (f .few), standard-point z (f .few))

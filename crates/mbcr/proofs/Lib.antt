@@ -8,4 +8,5 @@ pub mod Places
 pub mod Linear
 pub mod Demand2
 pub mod Tight
+pub mod PointLaws
 pub mod Figures

@@ -8,10 +8,12 @@ use Prim.Native.Nat.{ℕ, zero, suc, _+_, _*_, _-_, _/_, _%_, _<_, _≤_}
 use native.Mathlib.Nat.{mod-lt, mod-eq-of-lt, mod-eq-sub-mod}
 use native.Mathlib.Decide.{decLt}
 use native.Mathlib.Omega.{arith}
+use lib.Dec.{ltb}
+use borrow.Author.Tests.{lt-ltb}
 use lib.ListN.{length, getD, take, length-map}
 use lib.Seq.{length-take-le, getD-take}
 use Rattle.lists.specs.Lists.{All, Bytes, tabulate}
-use Rattle.lists.specs.Tests.{below, different}
+use Rattle.lists.specs.Tests.{pick, below, different}
 use Rattle.lists.proofs.Alls.{all-at, Distinct, distinct-of, byte-at, all-left, distinct-left}
 use Rattle.lists.proofs.Boards.{below-all, distinct}
 use Rattle.lists.proofs.Pieces.{length-tabulate, tabulate-at, tabulate-all}
@@ -98,12 +100,19 @@ boards-left z xs ys h = record { known = all-left (λ i. i < z .n) xs ys (h .kno
 
 -- ---- lists of points
 
--- "The point of board i is the byte i": the point is i, and these are points
-pub standard-point : (i : ℕ) → i < 32 → point standard i ≡ i
-standard-point i h = tabulate-at 32 (λ i. i) 0 i h
+-- f i for each of n boards, and 00 from n up
+abbrev pub listed : ℕ → (ℕ → ℕ) → List ℕ
+listed n f = tabulate 32 (λ i. pick (ltb i n) (f i) 0)
 
-pub standard-points : (z : Sizes) → z .n ≤ 32 → DifferentPoints z standard
+pub listed-point : (n : ℕ) (f : ℕ → ℕ) (i : ℕ) → n ≤ 32 → i < n → point (listed n f) i ≡ f i
+listed-point n f i h l = tabulate-at 32 (λ i. pick (ltb i n) (f i) 0) 0 i (omega arith) ∙ rw (lt-ltb i n l) refl
+
+-- "The point of board i is the byte i": the point is i, and these are points
+pub standard-point : (z : Sizes) → z .n ≤ 32 → (i : ℕ) → i < z .n → point (standard z) i ≡ i
+standard-point z h i l = listed-point (z .n) (λ i. i) i h l
+
+pub standard-points : (z : Sizes) → z .n ≤ 32 → DifferentPoints z (standard z)
 standard-points z h = record {
-  bytes = λ i l. omega (arith, standard-point i (omega arith));
-  differ = λ i j a b e. sym (standard-point i (omega arith)) ∙ e ∙ standard-point j (omega arith);
+  bytes = λ i l. omega (arith, standard-point z h i l);
+  differ = λ i j a b e. sym (standard-point z h i a) ∙ e ∙ standard-point z h j b;
 }

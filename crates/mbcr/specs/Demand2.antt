@@ -111,4 +111,4 @@ Demand2Claim = (z : Sizes) (xs : List ℕ) → legal z ≡ true → DifferentPoi
 
 -- document 01's points are such
 abbrev pub Standard : Type 0
-Standard = (z : Sizes) → legal z ≡ true → DifferentPoints z standard × ((i : ℕ) → i < z .n → point standard i ≡ i)
+Standard = (z : Sizes) → legal z ≡ true → DifferentPoints z (standard z) × ((i : ℕ) → i < z .n → point (standard z) i ≡ i)

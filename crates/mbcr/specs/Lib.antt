@@ -3,4 +3,5 @@ pub mod Rebuild
 pub mod Read
 pub mod Demand2
 pub mod Tight
+pub mod PointLaws
 pub mod Figures

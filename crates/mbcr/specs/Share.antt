@@ -1,10 +1,13 @@
 -- Document 01, 'Field and sizes' and 'From stripe to share', in its order and letters. A quoted text in a comment is the document's.
--- `z` are the sizes n, k, d, r; `xs` the boards' points, of which the first n count.
+-- `z` are the sizes n, k, d, r; `xs` the boards' points, of which the first n count. Request A.9, 'First-series robots': which points are taken.
 -- Assumes nothing.
 use mathlib.Core.Path.{_≡_}
+use mathlib.Core.Bool.{Bool}
 use mathlib.Core.List.{List, [], _∷_, _++_, map}
 use Prim.Native.Nat.{ℕ, _+_, _*_, _-_, _%_, _<_}
-use lib.ListN.{length, getD, drop}
+use lib.Dec.{ltb, eqb}
+use lib.ListN.{length, getD, take, drop}
+use Rattle.lists.specs.Tests.{pick, every, alls, below, different}
 use Rattle.lists.specs.Lists.{tabulate, join, joined, piece, fit}
 use Rattle.sizes.specs.declared.Sizes.{Sizes}
 use Rattle.sizes.specs.Sizing.{maxBoards, B, stripes}
@@ -18,9 +21,13 @@ point xs i = getD xs i 0
 abbrev pub points : List ℕ → List ℕ → List ℕ
 points xs boards = map (point xs) boards
 
--- "The point of board i is the byte i, for both variables: x_i = y_i = i"
-abbrev pub standard : List ℕ
-standard = tabulate maxBoards (λ i. i)
+-- "The point of board i is the byte i, for both variables: x_i = y_i = i"; 00 from n up
+abbrev pub standard : Sizes → List ℕ
+standard z = tabulate maxBoards (λ i. pick (ltb i (z .n)) i 0)
+
+-- "a point for each board, n different bytes": an array of 32, with "00 kept for a number from n up"
+unfoldable pub pointed : Sizes → List ℕ → Bool
+pointed z xs = alls (eqb (length xs) maxBoards ∷ below 256 xs ∷ different (take (z .n) xs) ∷ every (λ x. eqb x 0) (drop (z .n) xs) ∷ [])
 
 -- the points of n boards are bytes, and those of two boards differ
 pub record DifferentPoints (z : Sizes) (xs : List ℕ) : Type 0 where

@@ -11,14 +11,15 @@ use lib.ListN.{length, take, set, length-set}
 use lib.Seq.{take-all, take-suc-set, set-out}
 use borrow.Author.Tests.{ltb-true, ltb-false, eqb-true, eqb-false}
 use Rattle.lists.specs.Tests.{pick}
+use Rattle.lists.proofs.Tests.{true-false}
 use Rattle.number_lines.specs.declared.Read.{Read}
 use Rattle.number_lines.specs.declared.Read.the-variants.{More, Whole, Malformed}
 use Rattle.printer.specs.declared.Parser.{Parser}
 use Rattle.printer.specs.Printer.{maxFile}
-use Rattle.printer.specs.Steps.{counted, lineFed, taken, fed, keep}
+use Rattle.printer.specs.Steps.{counted, lineFed, taken, fed, inFile, keep}
 use Rattle.print_feed.specs.Steps.{keptIn}
-use Rattle.number_lines.proofs.Picks.{yes, no, if-eq, if-ne, if-le}
-use Rattle.printer.proofs.Fed.{fed-bad, fed-file, fed-line}
+use Rattle.number_lines.proofs.Picks.{yes, no, if-le}
+use Rattle.printer.proofs.Fed.{behind-all, in-lines, in-points, fed-bad, fed-file, fed-points, fed-line}
 
 -- ---- the slice after a byte
 
@@ -27,14 +28,14 @@ module _ (p : Parser) (b : ℕ) (file : List ℕ) where
   in-bad e = yes (p .bad) _ _ e
 
   module _ (g : p .bad ≡ false) where
-    pub in-line : (p .left ≡ 0 → ⊥) → keptIn p b file ≡ file
-    in-line l = no (p .bad) _ _ g ∙ if-ne (p .left) 0 _ _ l
+    pub in-line : inFile p ≡ false → keptIn p b file ≡ file
+    in-line l = no (p .bad) _ _ g ∙ no (inFile p) _ _ l
 
-    pub in-file : p .left ≡ 0 → keptIn p b file ≡ set file (p .count) b
-    in-file l = no (p .bad) _ _ g ∙ if-eq (p .left) 0 _ _ l
+    pub in-file : inFile p ≡ true → keptIn p b file ≡ set file (p .count) b
+    in-file l = no (p .bad) _ _ g ∙ yes (inFile p) _ _ l
 
   pub in-length : length (keptIn p b file) ≡ length file
-  in-length = go (p .bad) (eqb (p .left) 0)
+  in-length = go (p .bad) (inFile p)
     where
       go : (t u : Bool) → length (pick t file (pick u (set file (p .count) b) file)) ≡ length file
       go true u = refl
@@ -48,6 +49,23 @@ line-count : (p : Parser) (x : Read) → taken p x .count ≡ p .count
 line-count p (More r) = refl
 line-count p (Whole v) = refl
 line-count p Malformed = refl
+
+-- a byte is of a line of a number, of the line of points, or of the file
+unfiled : (p : Parser) (b : ℕ) → p .bad ≡ false → inFile p ≡ false → fed p b .count ≡ p .count
+unfiled p b e f = go (eqb (p .left) 0) refl (eqb (p .points .part) 2) refl
+  where
+    go : (t : Bool) → eqb (p .left) 0 ≡ t → (u : Bool) → eqb (p .points .part) 2 ≡ u → fed p b .count ≡ p .count
+    go false l u q = let h = eqb-false (p .left) 0 l in ap (λ (q : Parser). q .count) (fed-line p b e h) ∙ line-count p (lineFed (p .left) (p .line) b)
+    go true l false q = ap (λ (q : Parser). q .count) (fed-points p b e (eqb-true (p .left) 0 l) (eqb-false (p .points .part) 2 q))
+    go true l true q = absurd (true-false (behind-all p (eqb-true (p .left) 0 l) (eqb-true (p .points .part) 2 q)) f)
+
+filed : (p : Parser) (b : ℕ) → p .bad ≡ false → inFile p ≡ true → fed p b ≡ counted p
+filed p b e f = go (eqb (p .left) 0) refl (eqb (p .points .part) 2) refl
+  where
+    go : (t : Bool) → eqb (p .left) 0 ≡ t → (u : Bool) → eqb (p .points .part) 2 ≡ u → fed p b ≡ counted p
+    go false l u q = absurd (true-false f (in-lines p (eqb-false (p .left) 0 l)))
+    go true l false q = absurd (true-false f (in-points p (eqb-true (p .left) 0 l) (eqb-false (p .points .part) 2 q)))
+    go true l true q = fed-file p b e (eqb-true (p .left) 0 l) (eqb-true (p .points .part) 2 q)
 
 module _ (p : Parser) (b : ℕ) (file : List ℕ) (n : length file ≡ 16384) where
   -- a byte of the file
@@ -68,15 +86,12 @@ module _ (p : Parser) (b : ℕ) (file : List ℕ) (n : length file ≡ 16384) wh
           ap (take (counted p .count)) (set-out file (p .count) b (omega arith)) ∙ past (ltb maxFile (p .count)) h
 
   pub kept-step : take (fed p b .count) (keptIn p b file) ≡ keep p (take (p .count) file) b
-  kept-step = go (p .bad) refl (eqb (p .left) 0) refl
+  kept-step = go (p .bad) refl (inFile p) refl
     where
-      go : (t : Bool) → p .bad ≡ t → (u : Bool) → eqb (p .left) 0 ≡ u → take (fed p b .count) (keptIn p b file) ≡ keep p (take (p .count) file) b
+      go : (t : Bool) → p .bad ≡ t → (u : Bool) → inFile p ≡ u → take (fed p b .count) (keptIn p b file) ≡ keep p (take (p .count) file) b
       go true e u f = ap₂ {C = List ℕ} (λ (q : Parser) l. take (q .count) l) (fed-bad p b e) (in-bad p b file e) ∙ sym (yes (p .bad) _ _ e)
       go false e true f =
-          let l = eqb-true (p .left) 0 f in
-          ap₂ {C = List ℕ} (λ (q : Parser) l. take (q .count) l) (fed-file p b e l) (in-file p b file e l)
-          ∙ kept-byte ∙ sym (no (p .bad) _ _ e ∙ if-eq (p .left) 0 _ _ l)
+          ap₂ {C = List ℕ} (λ (q : Parser) l. take (q .count) l) (filed p b e f) (in-file p b file e f)
+          ∙ kept-byte ∙ sym (no (p .bad) _ _ e ∙ yes (inFile p) _ _ f)
       go false e false f =
-          let l = eqb-false (p .left) 0 f in
-          ap₂ {C = List ℕ} (λ (q : Parser) l. take (q .count) l) (fed-line p b e l) (in-line p b file e l)
-          ∙ ap (λ (m : ℕ). take m file) (line-count p (lineFed (p .left) (p .line) b)) ∙ sym (no (p .bad) _ _ e ∙ if-ne (p .left) 0 _ _ l)
+          ap₂ {C = List ℕ} (λ m l. take m l) (unfiled p b e f) (in-line p b file e f) ∙ sym (no (p .bad) _ _ e ∙ no (inFile p) _ _ f)

@@ -1,13 +1,15 @@
 -- The laws of specs/Laws.antt.
 -- Assumes nothing.
 use mathlib.Core.Path.{_≡_, refl, ap, _∙_}
+use mathlib.Core.Bool.{Bool, true, false}
 use mathlib.Core.List.{List, [], _∷_, _++_}
 use Prim.Native.Nat.{ℕ}
 use lib.ListN.{length, take}
 use Rattle.lists.specs.Lists.{concat}
-use Rattle.printer.specs.Steps.{fed, runs}
+use Rattle.printer.specs.Steps.{begin, fed, runs}
 use Rattle.printer.proofs.Laws.{printer-laws}
-use Rattle.print_feed.specs.Steps.{Feed, keptIn, feedAll, feedParts}
+use Rattle.points_print.proofs.Laws.{points-laws}
+use Rattle.print_feed.specs.Steps.{Feed, keptIn, feedAll, feedParts, printedBy}
 use Rattle.print_feed.specs.Laws.{FeedLaws}
 use Rattle.print_feed.proofs.Kept.{in-length, kept-step}
 
@@ -36,9 +38,13 @@ runs-on (b ∷ input) s n =
     runs-on input (record { parser = fed (s .parser) b; file = keptIn (s .parser) b (s .file) }) (in-length (s .parser) b (s .file) ∙ n)
     ∙ ap (λ (l : List ℕ). runs (fed (s .parser) b) l input) (kept-step (s .parser) b (s .file) n)
 
+either : (asked : Bool) (input : List ℕ) → runs (begin asked) [] input ≡ printedBy asked input
+either true = points-laws .byte-by-byte
+either false = printer-laws .byte-by-byte
+
 pub feed-laws : FeedLaws
 feed-laws = record {
   parts-are-whole = λ s parts. parts-are-whole parts s;
   same-length = λ s input. same-length input s;
-  decides = λ file input n. runs-on input _ n ∙ printer-laws .byte-by-byte input;
+  decides = λ asked file input n. runs-on input _ n ∙ either asked input;
 }

@@ -1,4 +1,4 @@
-//! The share printer's input over lent slices, a part at a time. The file's bytes stand at the beginning of a slice, as many as the parser has
+//! The printers' input over lent slices, a part at a time. The file's bytes stand at the beginning of a slice, as many as the parser has
 //! counted. Each contract says, for a slice of any length, what every byte of it is after the call; with a slice of 16,384 bytes it is what the
 //! crate `printer` defines.
 ghost use mathlib.Core.Path.{_≡_};
@@ -12,7 +12,7 @@ pub fn keep(p: Parser, b: u8, file: &mut [u8])
     if p.bad {
         return;
     }
-    if p.left != 0 {
+    if !printer::in_file(p) {
         return;
     }
     let at = p.count;

@@ -1,20 +1,22 @@
 -- How much room the printer needs: 17,375 bytes for a share of a file of 16,384 bytes, 34,900 for its text.
 -- Assumes nothing.
-use mathlib.Core.Path.{_≡_, refl}
+use mathlib.Core.Path.{_≡_, refl, ap}
 use mathlib.Core.Bool.{Bool, true, false}
 use mathlib.Core.List.{List}
 use Prim.Native.Nat.{ℕ, zero, suc, _+_, _*_, _-_, _/_, _≤_, _<_}
 use native.Mathlib.Nat.{div-add-mod', mul-le-mul-left, mul-one, suc-mul}
 use native.Mathlib.Omega.{arith}
 use lib.Dec.{ltb}
-use lib.ListN.{length}
+use lib.ListN.{length, take}
+use lib.Seq.{length-take-le}
 use borrow.Author.Tests.{ltb-true, ltb-false}
 use Rattle.sizes.specs.declared.Sizes.{Sizes}
 use Rattle.sizes.specs.Sizing.{α, B, stripes}
 use Rattle.sizes.proofs.Legal.{Legal, B-most, B-pos}
-use Rattle.board_spec.specs.Text.{decimal, shareText}
+use Rattle.board_spec.specs.Text.{decimal, pointsLine, shareText}
 use Rattle.text_lines.proofs.Decimals.{length-one, length-more}
 use Rattle.text_lines.proofs.Lines.{length-text}
+use Rattle.text_lines.proofs.Orders.{points-line, said-most}
 
 -- one digit more
 longer : (m b : ℕ) → ((y : ℕ) → y < b → length (decimal y) ≤ m) → (x : ℕ) → x < 10 * b → length (decimal x) ≤ m + 1
@@ -51,12 +53,18 @@ module _ (z : Sizes) (f : Legal z) where
       let m = mul-le-mul-left ((L + (B z - 1)) / B z) less in
       omega (arith, m, div-add-mod' (L + (B z - 1)) (B z), B-pos z f, B-most z f)
 
-  pub text-room : (L node : ℕ) (held : List ℕ) → L ≤ 16384 → node < z .n → length held ≤ 17375 → length (shareText z L node held) ≤ 34900
-  text-room L node held h g l =
+  -- the points' line has at most 72 bytes
+  points-room : (xs : List ℕ) → z .n ≤ length xs → length (pointsLine z xs) ≤ 72
+  points-room xs h =
+      omega (arith, ap length (points-line z xs h), said-most (take (z .n) xs), length-take-le (z .n) xs h, f .few)
+
+  pub text-room : (xs : List ℕ) (L node : ℕ) (held : List ℕ) → z .n ≤ length xs → L ≤ 16384 → node < z .n → length held ≤ 17375
+      → length (shareText z xs L node held) ≤ 34900
+  text-room xs L node held p h g l =
       let an = two (z .n) (omega (arith, f .few)) in
       let ak = two (z .k) (omega (arith, f .few, f .read-helpers, f .enough)) in
       let ad = two (z .d) (omega (arith, f .few, f .enough)) in
       let ar = two (z .r) (omega (arith, f .few, f .enough)) in
       let ao = two node (omega (arith, f .few)) in
       let al = five L (omega arith) in
-      omega (arith, length-text z L node held, an, ak, ad, ar, ao, al)
+      omega (arith, length-text z xs L node held, points-room xs p, an, ak, ad, ar, ao, al)

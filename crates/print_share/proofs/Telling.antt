@@ -25,17 +25,19 @@ use Rattle.sizes.specs.Refusals.{number, first, boardOrder}
 use Rattle.sizes.proofs.Legal.{legal-facts}
 use Rattle.sizes.proofs.Laws.{number-low}
 use Rattle.sizes.proofs.Lines.{first-clear}
-use Rattle.mbcr.specs.Share.{standard, share}
+use Rattle.mbcr.specs.Share.{pointed, share}
 use Rattle.mbcr.proofs.Repair.{length-share}
 use Rattle.board_spec.specs.Text.{decimal, shareText}
 use Rattle.board_spec.specs.Calls.{BoardOutcome, settled, shareLines, shareCall, textLines, textCall}
+use Rattle.board_spec.proofs.Runs.{size-facts}
 use Rattle.text_lines.specs.Steps.{Wrote}
 use Rattle.text_lines.proofs.Lines.{length-line, from-start}
 use Rattle.checks.specs.Outcomes.{outcome}
 use Rattle.printer.specs.declared.Parser.{Parser}
 use Rattle.printer.specs.Printer.{refusedLine, maxFile, told, shared}
-use Rattle.printer.specs.Steps.{sizesRead, refusalOf, decided}
+use Rattle.printer.specs.Steps.{accepted, inFile, sizesRead, pointsRead, refusalOf, decided}
 use Rattle.number_lines.proofs.Picks.{if-eq, if-ne, if-lt, if-le}
+use Rattle.printer.proofs.Near.{both}
 use Rattle.printer.proofs.Room.{any-room}
 use Rattle.print_share.specs.Steps.{Written, placed, wroteIn, toWrite}
 use Rattle.print_share.proofs.Rooms.{share-room}
@@ -75,62 +77,68 @@ done-taken n bytes l after q =
     let a-is : after ≡ over bytes l = ap (λ (o : BoardOutcome). o .output) q in
     (ap (take n) a-is ∙ take-at bytes _ n (sym n-is), omega (arith, n-is, ap length a-is, length-append bytes (drop (length bytes) l)))
 
-module _ (z : Sizes) (L node : ℕ) (held l : List ℕ) where
-  text-first : legal z ≡ true → ltb (4096 * B z) L ≡ false → ltb node (z .n) ≡ true → eqb (length held) (stripes z L * α z) ≡ true
-      → first boardOrder (textLines z standard L node held l) ≡ pick (ltb (length l) (length (shareText z L node held))) (Refuse Short) Pass
+module _ (z : Sizes) (xs : List ℕ) (L node : ℕ) (held l : List ℕ) where
+  text-first : legal z ≡ true → pointed z xs ≡ true → ltb (4096 * B z) L ≡ false → ltb node (z .n) ≡ true → eqb (length held) (stripes z L * α z) ≡ true
+      → first boardOrder (textLines z xs L node held l) ≡ pick (ltb (length l) (length (shareText z xs L node held))) (Refuse Short) Pass
   unfolding textLines
-  text-first a b c d = rw (a, b, c, d)
+  text-first a o b c d = rw (a, o, b, c, d)
 
-  text-written : first boardOrder (textLines z standard L node held l) ≡ pick (ltb (length l) (length (shareText z L node held))) (Refuse Short) Pass
-      → wroteIn (textCall z standard L node held l) ≡ placed (shareText z L node held) l
+  text-written : first boardOrder (textLines z xs L node held l) ≡ pick (ltb (length l) (length (shareText z xs L node held))) (Refuse Short) Pass
+      → wroteIn (textCall z xs L node held l) ≡ placed (shareText z xs L node held) l
   unfolding textCall
   text-written e =
-      ap (λ (c : Check). wroteIn (settled c (shareText z L node held) l)) e
-      ∙ settled-written (ltb (length l) (length (shareText z L node held))) (shareText z L node held) l
+      ap (λ (c : Check). wroteIn (settled c (shareText z xs L node held) l)) e
+      ∙ settled-written (ltb (length l) (length (shareText z xs L node held))) (shareText z xs L node held) l
 
 -- the share of a file
-module _ (z : Sizes) (node : ℕ) (file area : List ℕ) where
+module _ (z : Sizes) (xs : List ℕ) (node : ℕ) (file area : List ℕ) where
   module _ (v : ℕ) (after : List ℕ) where
-    passing : (c : Check) → first boardOrder (shareLines z standard node file area) ≡ c → outcome (Done v) after ≡ settled c (share z standard file node) area
+    passing : (c : Check) → first boardOrder (shareLines z xs node file area) ≡ c → outcome (Done v) after ≡ settled c (share z xs file node) area
         → (v ≤ length after)
-        × ((l : List ℕ) → wroteIn (textCall z standard (length file) node (take v after) l) ≡ placed (shareText z (length file) node (take v after)) l)
+        × ((l : List ℕ) → wroteIn (textCall z xs (length file) node (take v after) l) ≡ placed (shareText z xs (length file) node (take v after)) l)
     unfolding shareLines
     passing (Refuse x) p e = absurd (omega (arith, number-low x, ap (λ (o : BoardOutcome). o .answer .refusal) e))
     passing Pass p e =
-        let d = done-taken v (share z standard file node) area after e in
-        let h = first-clear (shareLines z standard node file area) boardOrder p in
-        let ok : legal z ≡ true = not-no _ (h .0) in
+        let d = done-taken v (share z xs file node) area after e in
+        let h = first-clear (shareLines z xs node file area) boardOrder p in
+        let ok = size-facts z xs (h .0) in
         let known = lt-ltb node (z .n) (below-all (z .n) (node ∷ []) (not-no _ (h .1 .1 .1 .0)) .0) in
-        let whole = eq-eqb _ _ (ap length (d .0) ∙ length-share z standard (legal-facts z ok) file node) in
-        (d .1, λ l. text-written z (length file) node (take v after) l (text-first z (length file) node (take v after) l ok (h .1 .0) known whole))
+        let whole = eq-eqb _ _ (ap length (d .0) ∙ length-share z xs (legal-facts z (ok .0)) file node) in
+        (d .1, λ l. text-written z xs (length file) node (take v after) l (text-first z xs (length file) node (take v after) l (ok .0) (ok .1) (h .1 .0) known whole))
 
     -- that it is done leaves only room to ask of the text
-    pub share-done : outcome (Done v) after ≡ shareCall z standard node file area
+    pub share-done : outcome (Done v) after ≡ shareCall z xs node file area
         → (v ≤ length after)
-        × ((l : List ℕ) → wroteIn (textCall z standard (length file) node (take v after) l) ≡ placed (told z (length file) node (shareCall z standard node file area)) l)
+        × ((l : List ℕ) → wroteIn (textCall z xs (length file) node (take v after) l) ≡ placed (told z xs (length file) node (shareCall z xs node file area)) l)
     unfolding shareCall
     share-done e =
-        let d = passing (first boardOrder (shareLines z standard node file area)) refl e in
-        (d .0, λ l. d .1 l ∙ ap (λ (o : BoardOutcome). placed (told z (length file) node o) l) e)
+        let d = passing (first boardOrder (shareLines z xs node file area)) refl e in
+        (d .0, λ l. d .1 l ∙ ap (λ (o : BoardOutcome). placed (told z xs (length file) node o) l) e)
 
-  pub share-refused : (x : Refusal) (after : List ℕ) → outcome (Refused x) after ≡ shareCall z standard node file area
-      → refusedLine (number x) ≡ told z (length file) node (shareCall z standard node file area)
+  pub share-refused : (x : Refusal) (after : List ℕ) → outcome (Refused x) after ≡ shareCall z xs node file area
+      → refusedLine (number x) ≡ told z xs (length file) node (shareCall z xs node file area)
   share-refused x after e =
-      sym (if-ne (number x) 0 _ _ (λ q. omega (arith, number-low x))) ∙ ap (told z (length file) node) e
+      sym (if-ne (number x) 0 _ _ (λ q. omega (arith, number-low x))) ∙ ap (told z xs (length file) node) e
 
 -- ---- the parser
 
--- no line, no sizes and no length cause a refusal
-pub none-refused : (p : Parser) → refusalOf p ≡ 0 → (legal (sizesRead p) ≡ true) × (p .count ≤ 16384)
-none-refused p e = go (p .bad) (eqb (p .left) 0) (legal (sizesRead p)) (ltb maxFile (p .count)) refl refl e
+-- no line, no sizes, no points and no length cause a refusal
+pub record Whole (p : Parser) : Type 0 where
+  pub is-legal : legal (sizesRead p) ≡ true
+  pub is-pointed : pointed (sizesRead p) (pointsRead p) ≡ true
+  pub few : p .count ≤ 16384
+
+pub none-refused : (p : Parser) → refusalOf p ≡ 0 → Whole p
+none-refused p e = go (p .bad) (inFile p) (accepted (sizesRead p) (pointsRead p)) (ltb maxFile (p .count)) refl refl e
   where
-    go : (b l g t : Bool) → legal (sizesRead p) ≡ g → ltb maxFile (p .count) ≡ t → pick {A = ℕ} b 1 (pick l (pick g (pick t 3 0) 1) 1) ≡ 0
-        → (legal (sizesRead p) ≡ true) × (p .count ≤ 16384)
+    go : (b l g t : Bool) → accepted (sizesRead p) (pointsRead p) ≡ g → ltb maxFile (p .count) ≡ t → pick {A = ℕ} b 1 (pick l (pick g (pick t 3 0) 1) 1) ≡ 0 → Whole p
     go true l g t q s e = absurd (omega arith)
     go false false g t q s e = absurd (omega arith)
     go false true false t q s e = absurd (omega arith)
     go false true true true q s e = absurd (omega arith)
-    go false true true false q s e = (q, ltb-false maxFile (p .count) s)
+    go false true true false q s e =
+        let h = both (sizesRead p) (pointsRead p) q in
+        record { is-legal = h .0; is-pointed = h .1; few = ltb-false maxFile (p .count) s }
 
 module _ (p : Parser) (file : List ℕ) where
   abbrev kept : List ℕ
@@ -145,7 +153,7 @@ module _ (p : Parser) (file : List ℕ) where
     output-lacks h =
         ap (λ (t : Bool). pick t [] (decided p kept)) (if-eq {A = Bool} (refusalOf p) 0 (ltb (length file) (p .count)) false e ∙ lt-ltb (length file) (p .count) h)
 
-    pub output-whole : p .count ≤ length file → toWrite p file ≡ shared (sizesRead p) (p .node) kept
+    pub output-whole : p .count ≤ length file → toWrite p file ≡ shared (sizesRead p) (pointsRead p) (p .node) kept
     unfolding decided
     output-whole h =
         ap (λ (t : Bool). pick t [] (decided p kept)) (if-eq {A = Bool} (refusalOf p) 0 (ltb (length file) (p .count)) false e ∙ le-ltb (length file) (p .count) h)
@@ -153,8 +161,9 @@ module _ (p : Parser) (file : List ℕ) where
 
     -- by any area with room for the share of a file that the printer takes
     pub output-told : p .count ≤ length file → (area : List ℕ) → length area ≡ 17376
-        → toWrite p file ≡ told (sizesRead p) (length kept) (p .node) (shareCall (sizesRead p) standard (p .node) kept area)
+        → toWrite p file ≡ told (sizesRead p) (pointsRead p) (length kept) (p .node) (shareCall (sizesRead p) (pointsRead p) (p .node) kept area)
     output-told h area room =
         let n = none-refused p e in
-        let few : length kept ≤ 16384 = omega (arith, length-take-le (p .count) file h, n .1) in
-        output-whole h ∙ any-room (sizesRead p) (p .node) kept area (omega (arith, share-room (sizesRead p) (legal-facts (sizesRead p) (n .0)) (length kept) few))
+        let few : length kept ≤ 16384 = omega (arith, length-take-le (p .count) file h, n .few) in
+        output-whole h
+        ∙ any-room (sizesRead p) (pointsRead p) (p .node) kept area (omega (arith, share-room (sizesRead p) (legal-facts (sizesRead p) (n .is-legal)) (length kept) few))

@@ -1,4 +1,4 @@
--- What the share printer puts into a lent slice at the end of the input, for slices of any length.
+-- What a printer puts into a lent slice at the end of the input, for slices of any length.
 -- Assumes nothing.
 use mathlib.Core.Bool.{Bool, false}
 use mathlib.Core.List.{List, []}

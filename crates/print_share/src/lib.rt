@@ -1,9 +1,8 @@
-//! The share printer's output over lent slices. The file's bytes stand at the beginning of a slice, as many as the parser has counted. Each
+//! The printers' output over lent slices. The file's bytes stand at the beginning of a slice, as many as the parser has counted. Each
 //! contract says, for slices of any length, what is answered and what every lent byte is after the call: what the crate `printer` defines, where
 //! there is room for all of it, and else nothing.
 ghost use mathlib.Core.Path.{_≡_};
 ghost use lib.ListN.{length};
-ghost use Rattle.mbcr.specs.Share.{standard};
 ghost use Rattle.board_spec.specs.Calls.{shareCall, textCall};
 ghost use Rattle.printer.specs.Printer.{refusedLine, told};
 ghost use Rattle.print_share.specs.Steps.{placed, wroteIn, toWrite};
@@ -24,10 +23,10 @@ fn refused(x: u8, out: &mut [u8]) -> usize
 }
 
 // The text of a share, to the beginning of out. Answers how many bytes it has.
-fn text(z: Sizes, total: usize, node: usize, held: &[u8], out: &mut [u8]) -> usize
-    ensures { λ r. ⌜ record { count = r; out = now (out .exit) } ≡ wroteIn (textCall z standard total node (now (held .entry)) (now (out .entry))) ⌝ }
+fn text(z: Sizes, points: [u8; 32], total: usize, node: usize, held: &[u8], out: &mut [u8]) -> usize
+    ensures { λ r. ⌜ record { count = r; out = now (out .exit) } ≡ wroteIn (textCall z points total node (now (held .entry)) (now (out .entry))) ⌝ }
 {
-    let answer = board_text::text(z, total, node, held, out);
+    let answer = board_text::text(z, points, total, node, held, out);
     match answer {
         Answer::Done(count) => count,
         Answer::Refused(_) => 0,
@@ -35,13 +34,20 @@ fn text(z: Sizes, total: usize, node: usize, held: &[u8], out: &mut [u8]) -> usi
 }
 
 // What the share of a file gives to write, to the beginning of out. Answers how many bytes it has.
-fn told(z: Sizes, node: usize, file: &[u8], share: &mut [u8], out: &mut [u8]) -> usize
-    ensures { λ _. ⌜ now (share .exit) ≡ shareCall z standard node (now (file .entry)) (now (share .entry)) .output ⌝ }
-    ensures { λ r. ⌜ record { count = r; out = now (out .exit) } ≡ placed (told z (length (now (file .entry))) node (shareCall z standard node (now (file .entry)) (now (share .entry)))) (now (out .entry)) ⌝ }
+fn told(
+    z: Sizes,
+    points: [u8; 32],
+    node: usize,
+    file: &[u8],
+    share: &mut [u8],
+    out: &mut [u8],
+) -> usize
+    ensures { λ _. ⌜ now (share .exit) ≡ shareCall z points node (now (file .entry)) (now (share .entry)) .output ⌝ }
+    ensures { λ r. ⌜ record { count = r; out = now (out .exit) } ≡ placed (told z points (length (now (file .entry))) node (shareCall z points node (now (file .entry)) (now (share .entry)))) (now (out .entry)) ⌝ }
 {
-    let answer = board_share::share(z, node, file, share);
+    let answer = board_share::share(z, points, node, file, share);
     match answer {
-        Answer::Done(count) => text(z, file.len(), node, &share[..count], out),
+        Answer::Done(count) => text(z, points, file.len(), node, &share[..count], out),
         Answer::Refused(x) => refused(x.number(), out),
     }
 }
@@ -59,6 +65,7 @@ pub fn answer(p: Parser, file: &[u8], out: &mut [u8]) -> usize
         return 0;
     }
     let z = printer::sizes(p);
+    let points = printer::points(p);
     let mut share = [0u8; 17376];
-    told(z, p.node, &file[..count], &mut share, out)
+    told(z, points, p.node, &file[..count], &mut share, out)
 }

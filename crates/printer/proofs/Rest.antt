@@ -8,7 +8,7 @@ use native.Mathlib.Nat.{zero-add}
 use native.Mathlib.Omega.{arith}
 use lib.Dec.{ltb, eqb}
 use lib.ListN.{length}
-use borrow.Author.Tests.{ltb-true, ltb-false}
+use borrow.Author.Tests.{ltb-true, ltb-false, eqb-true, eqb-false}
 use Rattle.lists.specs.Tests.{pick}
 use Rattle.number_lines.specs.declared.Reader.{Reader}
 use Rattle.number_lines.specs.declared.Read.{Read}
@@ -16,20 +16,27 @@ use Rattle.number_lines.specs.declared.Read.the-variants.{More, Whole, Malforme
 use Rattle.number_lines.specs.Steps.{told, reads}
 use Rattle.number_lines.proofs.Picks.{yes, no, if-eq, if-ne, if-lt, if-le}
 use Rattle.sizes.specs.declared.Sizes.{Sizes}
-use Rattle.sizes.specs.Sizing.{legal}
+use Rattle.mbcr.specs.Share.{standard}
+use Rattle.point_lines.specs.Steps as points
 use Rattle.printer.specs.declared.Parser.{Parser}
 use Rattle.printer.specs.Printer.{refusedLine, maxFile, shared}
-use Rattle.printer.specs.Steps.{nameOf, maxNumber, wrong, stored, counted, lineFed, taken, fed, keep, sizesRead, refusalOf, decided}
-use Rattle.printer.proofs.Fed.{fed-bad, fed-file, fed-line}
+use Rattle.printer.specs.Steps.{accepted, nameOf, maxNumber, wrong, stored, counted, lineFed, taken, pointsMoved, fed, inFile, keep, sizesRead, pointsRead, refusalOf, decided}
+use Rattle.printer.proofs.Fed.{behind-all, in-lines, in-points, fed-bad, fed-file, fed-points, fed-line}
 
 -- the file's bytes: those kept, then the input
-unfoldable pub filing : Sizes → ℕ → ℕ → List ℕ → List ℕ → List ℕ
-filing z node count kept input =
-    pick (legal z) (pick (ltb maxFile (length input + count)) (refusedLine 3) (shared z node (kept ++ input))) (refusedLine 1)
+unfoldable pub filing : Sizes → List ℕ → ℕ → ℕ → List ℕ → List ℕ → List ℕ
+filing z xs node count kept input =
+    pick (accepted z xs) (pick (ltb maxFile (length input + count)) (refusedLine 3) (shared z xs node (kept ++ input))) (refusedLine 1)
 
--- that many lines, the first from where its reader stands, then the file
+-- behind the lines of numbers: the line of points from where its reader stands, then the file
+abbrev pub behindLines : Parser → List ℕ → List ℕ → List ℕ
+behindLines p kept input =
+    pick (eqb (p .points .part) 2) (filing (sizesRead p) (pointsRead p) (p .node) (p .count) kept input)
+    (points.reads (refusedLine 1) (p .n) (p .points) input (λ xs rest. filing (sizesRead p) (pick (p .asked) xs (standard (sizesRead p))) (p .node) (p .count) kept rest))
+
+-- that many lines, the first from where its reader stands, then what is behind them
 abbrev pub lines : ℕ → Parser → List ℕ → List ℕ → List ℕ
-lines zero p kept input = filing (sizesRead p) (p .node) (p .count) kept input
+lines zero p kept input = behindLines p kept input
 lines (suc m) p kept input = reads (refusedLine 1) (nameOf (suc m)) maxNumber (p .line) input (λ v rest. lines m (stored (suc m) p v) kept rest)
 
 unfoldable pub rest : Parser → List ℕ → List ℕ → List ℕ
@@ -68,52 +75,75 @@ module _ (m : ℕ) (p : Parser) (kept input : List ℕ) (good : p .bad ≡ false
 
 -- ---- a byte of the file
 
-module _ (z : Sizes) (node : ℕ) where
+module _ (z : Sizes) (xs : List ℕ) (node : ℕ) where
   -- too long, whatever is kept
-  filing-long : (count : ℕ) (kept input : List ℕ) → maxFile < length input + count → filing z node count kept input ≡ pick (legal z) (refusedLine 3) (refusedLine 1)
+  filing-long : (count : ℕ) (kept input : List ℕ) → maxFile < length input + count → filing z xs node count kept input ≡ pick (accepted z xs) (refusedLine 3) (refusedLine 1)
   unfolding filing
-  filing-long count kept input h = ap (λ (l : List ℕ). pick (legal z) l (refusedLine 1)) (if-lt maxFile (length input + count) _ _ h)
+  filing-long count kept input h = ap (λ (l : List ℕ). pick (accepted z xs) l (refusedLine 1)) (if-lt maxFile (length input + count) _ _ h)
 
-  filing-step : (count : ℕ) (kept : List ℕ) (b : ℕ) (input : List ℕ) → filing z node count kept (b ∷ input)
-      ≡ filing z node (pick (ltb maxFile count) count (count + 1)) (pick (ltb count maxFile) (kept ++ (b ∷ [])) kept) input
+  filing-step : (count : ℕ) (kept : List ℕ) (b : ℕ) (input : List ℕ) → filing z xs node count kept (b ∷ input)
+      ≡ filing z xs node (pick (ltb maxFile count) count (count + 1)) (pick (ltb count maxFile) (kept ++ (b ∷ [])) kept) input
   unfolding filing
   filing-step count kept b input = go (ltb count maxFile) refl (ltb maxFile count) refl
     where
-      go : (t : Bool) → ltb count maxFile ≡ t → (u : Bool) → ltb maxFile count ≡ u → filing z node count kept (b ∷ input)
-          ≡ filing z node (pick (ltb maxFile count) count (count + 1)) (pick (ltb count maxFile) (kept ++ (b ∷ [])) kept) input
+      go : (t : Bool) → ltb count maxFile ≡ t → (u : Bool) → ltb maxFile count ≡ u → filing z xs node count kept (b ∷ input)
+          ≡ filing z xs node (pick (ltb maxFile count) count (count + 1)) (pick (ltb count maxFile) (kept ++ (b ∷ [])) kept) input
       go true e u f =
           let h = ltb-true count maxFile e in
           let a : length (b ∷ input) + count ≡ length input + (count + 1) = omega arith in
-          ap₂ {C = List ℕ} (λ (x : ℕ) y. pick (legal z) (pick (ltb maxFile x) (refusedLine 3) (shared z node y)) (refusedLine 1)) a
+          ap₂ {C = List ℕ} (λ (x : ℕ) y. pick (accepted z xs) (pick (ltb maxFile x) (refusedLine 3) (shared z xs node y)) (refusedLine 1)) a
           (sym (append-assoc kept (b ∷ []) input))
-          ∙ ap₂ {C = List ℕ} (λ x y. filing z node x y input) (sym (if-le maxFile count _ _ (omega arith))) (sym (yes (ltb count maxFile) _ _ e))
+          ∙ ap₂ {C = List ℕ} (λ x y. filing z xs node x y input) (sym (if-le maxFile count _ _ (omega arith))) (sym (yes (ltb count maxFile) _ _ e))
       go false e true f =
           let h = ltb-true maxFile count f in
           filing-long count kept (b ∷ input) (omega arith)
-          ∙ sym (ap (λ (x : ℕ). filing z node x (pick (ltb count maxFile) (kept ++ (b ∷ [])) kept) input) (yes (ltb maxFile count) _ _ f)
+          ∙ sym (ap (λ (x : ℕ). filing z xs node x (pick (ltb count maxFile) (kept ++ (b ∷ [])) kept) input) (yes (ltb maxFile count) _ _ f)
           ∙ filing-long count (pick (ltb count maxFile) (kept ++ (b ∷ [])) kept) input (omega arith))
       go false e false f =
           let h = ltb-false count maxFile e in
           filing-long count kept (b ∷ input) (omega arith)
-          ∙ sym (ap (λ (x : ℕ). filing z node x (pick (ltb count maxFile) (kept ++ (b ∷ [])) kept) input) (no (ltb maxFile count) _ _ f)
+          ∙ sym (ap (λ (x : ℕ). filing z xs node x (pick (ltb count maxFile) (kept ++ (b ∷ [])) kept) input) (no (ltb maxFile count) _ _ f)
           ∙ filing-long (count + 1) (pick (ltb count maxFile) (kept ++ (b ∷ [])) kept) input (omega arith))
 
 -- ---- a byte, and the end
 
+-- a byte of the line of points
+points-step : (p : Parser) (kept : List ℕ) (b : ℕ) (input : List ℕ) → p .bad ≡ false → p .left ≡ 0 → (p .points .part ≡ 2 → ⊥)
+    → rest p kept (b ∷ input) ≡ rest (fed p b) kept input
+points-step p kept b input e f g =
+    let q = pointsMoved p (points.fed (p .n) (p .points) b) in
+    rest-lines 0 p kept (b ∷ input) e f ∙ if-ne (p .points .part) 2 _ _ g
+    ∙ sym (ap (λ (x : Parser). rest x kept input) (fed-points p b e f g) ∙ rest-lines 0 q kept input e f)
+
+-- a byte of the file
+file-step : (p : Parser) (kept : List ℕ) (b : ℕ) (input : List ℕ) → p .bad ≡ false → p .left ≡ 0 → p .points .part ≡ 2
+    → rest p kept (b ∷ input) ≡ rest (fed p b) (pick (ltb (p .count) maxFile) (kept ++ (b ∷ [])) kept) input
+file-step p kept b input e f g =
+    rest-lines 0 p kept (b ∷ input) e f ∙ if-eq (p .points .part) 2 _ _ g
+    ∙ filing-step (sizesRead p) (pointsRead p) (p .node) (p .count) kept b input
+    ∙ sym (ap (λ (x : Parser). rest x (pick (ltb (p .count) maxFile) (kept ++ (b ∷ [])) kept) input) (fed-file p b e f g)
+    ∙ rest-lines 0 (counted p) (pick (ltb (p .count) maxFile) (kept ++ (b ∷ [])) kept) input e f
+    ∙ if-eq (p .points .part) 2 _ _ g)
+
 pub step : (p : Parser) (kept : List ℕ) (b : ℕ) (input : List ℕ) → rest p kept (b ∷ input) ≡ rest (fed p b) (keep p kept b) input
-step p kept b input = go (p .bad) refl (p .left) refl
+step p kept b input = go (p .bad) refl (p .left) refl (eqb (p .points .part) 2) refl
   where
-    go : (t : Bool) → p .bad ≡ t → (m : ℕ) → p .left ≡ m → rest p kept (b ∷ input) ≡ rest (fed p b) (keep p kept b) input
-    go true e m f =
+    unkept : p .bad ≡ false → inFile p ≡ false → keep p kept b ≡ kept
+    unkept e f = no (p .bad) _ _ e ∙ no (inFile p) _ _ f
+
+    go : (t : Bool) → p .bad ≡ t → (m : ℕ) → p .left ≡ m → (u : Bool) → eqb (p .points .part) 2 ≡ u → rest p kept (b ∷ input) ≡ rest (fed p b) (keep p kept b) input
+    go true e m f u g =
         rest-bad p kept (b ∷ input) e
         ∙ sym (ap₂ {C = List ℕ} (λ x y. rest x y input) (fed-bad p b e) (yes (p .bad) _ _ e) ∙ rest-bad p kept input e)
-    go false e zero f =
-        rest-lines 0 p kept (b ∷ input) e f ∙ filing-step (sizesRead p) (p .node) (p .count) kept b input
-        ∙ sym (ap₂ {C = List ℕ} (λ x y. rest x y input) (fed-file p b e f) (no (p .bad) _ _ e ∙ if-eq (p .left) 0 _ _ f)
-        ∙ rest-lines 0 (counted p) (pick (ltb (p .count) maxFile) (kept ++ (b ∷ [])) kept) input e f)
-    go false e (suc m) f =
+    go false e zero f true g =
+        let h = eqb-true (p .points .part) 2 g in
+        file-step p kept b input e f h ∙ ap (λ (l : List ℕ). rest (fed p b) l input) (sym (no (p .bad) _ _ e ∙ yes (inFile p) _ _ (behind-all p f h)))
+    go false e zero f false g =
+        let h = eqb-false (p .points .part) 2 g in
+        points-step p kept b input e f h ∙ ap (λ (l : List ℕ). rest (fed p b) l input) (sym (unkept e (in-points p f h)))
+    go false e (suc m) f u g =
         line-step m p kept input e f b
-        ∙ ap (λ (l : List ℕ). rest (fed p b) l input) (sym (no (p .bad) _ _ e ∙ if-ne (p .left) 0 _ _ (λ z. omega arith)))
+        ∙ ap (λ (l : List ℕ). rest (fed p b) l input) (sym (unkept e (in-lines p (λ z. omega arith))))
 
 -- the refusal of a whole file, or what is told of it
 file-said : (t u : Bool) (l : List ℕ)
@@ -124,18 +154,25 @@ file-said false u l = refl
 
 pub at-end : (p : Parser) (kept : List ℕ) → rest p kept [] ≡ decided p kept
 unfolding decided filing
-at-end p kept = go (p .bad) refl (p .left) refl
+at-end p kept = go (p .bad) refl (p .left) refl (eqb (p .points .part) 2) refl
   where
-    said : (x : ℕ) → refusalOf p ≡ x → decided p kept ≡ pick (eqb x 0) (shared (sizesRead p) (p .node) kept) (refusedLine x)
-    said x e = ap (λ (x : ℕ). pick (eqb x 0) (shared (sizesRead p) (p .node) kept) (refusedLine x)) e
+    said : (x : ℕ) → refusalOf p ≡ x → decided p kept ≡ pick (eqb x 0) (shared (sizesRead p) (pointsRead p) (p .node) kept) (refusedLine x)
+    said x e = ap (λ (x : ℕ). pick (eqb x 0) (shared (sizesRead p) (pointsRead p) (p .node) kept) (refusedLine x)) e
 
-    go : (t : Bool) → p .bad ≡ t → (m : ℕ) → p .left ≡ m → rest p kept [] ≡ decided p kept
-    go true e m f = rest-bad p kept [] e ∙ sym (said 1 (yes (p .bad) _ _ e))
-    go false e zero f =
-        rest-lines 0 p kept [] e f
-        ∙ ap₂ {C = List ℕ} (λ (x : ℕ) y. pick (legal (sizesRead p)) (pick (ltb maxFile x) (refusedLine 3) (shared (sizesRead p) (p .node) y)) (refusedLine 1))
+    cut : p .bad ≡ false → inFile p ≡ false → refusalOf p ≡ 1
+    cut e f = no (p .bad) _ _ e ∙ no (inFile p) _ _ f
+
+    go : (t : Bool) → p .bad ≡ t → (m : ℕ) → p .left ≡ m → (u : Bool) → eqb (p .points .part) 2 ≡ u → rest p kept [] ≡ decided p kept
+    go true e m f u g = rest-bad p kept [] e ∙ sym (said 1 (yes (p .bad) _ _ e))
+    go false e zero f true g =
+        let h = eqb-true (p .points .part) 2 g in
+        rest-lines 0 p kept [] e f ∙ if-eq (p .points .part) 2 _ _ h
+        ∙ ap₂ {C = List ℕ} (λ (x : ℕ) y. pick (accepted (sizesRead p) (pointsRead p))
+        (pick (ltb maxFile x) (refusedLine 3) (shared (sizesRead p) (pointsRead p) (p .node) y)) (refusedLine 1))
         (zero-add (p .count)) (append-nil kept)
-        ∙ file-said (legal (sizesRead p)) (ltb maxFile (p .count)) (shared (sizesRead p) (p .node) kept)
-        ∙ sym (said (pick (legal (sizesRead p)) (pick (ltb maxFile (p .count)) 3 0) 1) (no (p .bad) _ _ e ∙ if-eq (p .left) 0 _ _ f))
-    go false e (suc m) f =
-        rest-lines (suc m) p kept [] e f ∙ sym (said 1 (no (p .bad) _ _ e ∙ if-ne (p .left) 0 _ _ (λ z. omega arith)))
+        ∙ file-said (accepted (sizesRead p) (pointsRead p)) (ltb maxFile (p .count)) (shared (sizesRead p) (pointsRead p) (p .node) kept)
+        ∙ sym (said (pick (accepted (sizesRead p) (pointsRead p)) (pick (ltb maxFile (p .count)) 3 0) 1) (no (p .bad) _ _ e ∙ yes (inFile p) _ _ (behind-all p f h)))
+    go false e zero f false g =
+        let h = eqb-false (p .points .part) 2 g in
+        rest-lines 0 p kept [] e f ∙ if-ne (p .points .part) 2 _ _ h ∙ sym (said 1 (cut e (in-points p f h)))
+    go false e (suc m) f u g = rest-lines (suc m) p kept [] e f ∙ sym (said 1 (cut e (in-lines p (λ z. omega arith))))

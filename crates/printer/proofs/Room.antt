@@ -15,26 +15,27 @@ use Rattle.sizes.specs.declared.Check.the-variants.{Pass, Refuse}
 use Rattle.sizes.specs.declared.Refusal.the-variants.{Short}
 use Rattle.sizes.specs.Sizing.{α, stripes}
 use Rattle.sizes.specs.Refusals.{_when_, first, boardOrder}
-use Rattle.mbcr.specs.Share.{standard, share}
+use Rattle.mbcr.specs.Share.{share}
 use Rattle.board_spec.specs.Text.{shareText}
 use Rattle.board_spec.specs.Calls.{settled, sizeLine, longLine, nodeLine, shareLines, shareCall}
 use Rattle.printer.specs.Printer.{told, shared}
 
-told-same : (z : Sizes) (L node : ℕ) (c : Check) (bytes a b : List ℕ) → told z L node (settled c bytes a) ≡ told z L node (settled c bytes b)
-told-same z L node (Refuse x) bytes a b = refl
-told-same z L node Pass bytes a b = ap (shareText z L node) (take-at bytes _ (length bytes) refl ∙ sym (take-at bytes _ (length bytes) refl))
+module _ (z : Sizes) (xs : List ℕ) where
+  told-same : (L node : ℕ) (c : Check) (bytes a b : List ℕ) → told z xs L node (settled c bytes a) ≡ told z xs L node (settled c bytes b)
+  told-same L node (Refuse x) bytes a b = refl
+  told-same L node Pass bytes a b = ap (shareText z xs L node) (take-at bytes _ (length bytes) refl ∙ sym (take-at bytes _ (length bytes) refl))
 
-module _ (z : Sizes) (node : ℕ) (file output : List ℕ) (enough : stripes z (length file) * α z ≤ length output) where
-  lines-same : shareLines z standard node file (fit (stripes z (length file) * α z) []) ≡ shareLines z standard node file output
-  unfolding shareLines
-  lines-same =
-      let room = stripes z (length file) * α z in
-      let n = length-fit room [] in
-      let enough-there = le-ltb (length (fit room [])) room (omega arith) ∙ sym (le-ltb _ _ enough) in
-      ap (λ t. sizeLine z ∷ longLine z (length file) ∷ nodeLine z (node ∷ []) ∷ Short when t ∷ []) enough-there
+  module _ (node : ℕ) (file output : List ℕ) (enough : stripes z (length file) * α z ≤ length output) where
+    lines-same : shareLines z xs node file (fit (stripes z (length file) * α z) []) ≡ shareLines z xs node file output
+    unfolding shareLines
+    lines-same =
+        let room = stripes z (length file) * α z in
+        let n = length-fit room [] in
+        let enough-there = le-ltb (length (fit room [])) room (omega arith) ∙ sym (le-ltb _ _ enough) in
+        ap (λ t. sizeLine z xs ∷ longLine z (length file) ∷ nodeLine z (node ∷ []) ∷ Short when t ∷ []) enough-there
 
-  pub any-room : shared z node file ≡ told z (length file) node (shareCall z standard node file output)
-  unfolding shared shareCall
-  any-room =
-      ap (λ l. told z (length file) node (settled (first boardOrder l) (share z standard file node) (fit (stripes z (length file) * α z) []))) lines-same
-      ∙ told-same z (length file) node (first boardOrder (shareLines z standard node file output)) (share z standard file node) _ output
+    pub any-room : shared z xs node file ≡ told z xs (length file) node (shareCall z xs node file output)
+    unfolding shared shareCall
+    any-room =
+        ap (λ l. told z xs (length file) node (settled (first boardOrder l) (share z xs file node) (fit (stripes z (length file) * α z) []))) lines-same
+        ∙ told-same (length file) node (first boardOrder (shareLines z xs node file output)) (share z xs file node) _ output

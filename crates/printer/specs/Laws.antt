@@ -8,6 +8,7 @@ use mathlib.Core.Logic.{_⊎_}
 use mathlib.Core.List.{List, [], _∷_, _++_}
 use Prim.Native.Nat.{ℕ, _*_, _≤_, _<_}
 use lib.ListN.{length}
+use Rattle.lists.specs.Lists.{joined}
 use Rattle.number_lines.specs.Lines.{line}
 use Rattle.number_lines.specs.Laws.{Number}
 use Rattle.sizes.specs.declared.Sizes.{Sizes}
@@ -15,7 +16,7 @@ use Rattle.sizes.specs.Sizing.{legal, α, B, stripes}
 use Rattle.mbcr.specs.Share.{standard, share}
 use Rattle.board_spec.specs.Calls.{shareCall}
 use Rattle.board_spec.specs.Demand1.{value}
-use Rattle.board_spec.specs.Text.{decimal, textLine, shareText}
+use Rattle.board_spec.specs.Text.{decimal, hexPair, textLine}
 use Rattle.printer.specs.declared.Parser.{Parser}
 use Rattle.printer.specs.Printer.{refusedLine, told, shared, printed}
 use Rattle.printer.specs.Steps.{begin, wrong, runs}
@@ -36,14 +37,20 @@ asks n k d r node file =
     ++ (textLine (0x72 ∷ []) r
     ++ (textLine (0x6E ∷ 0x6F ∷ 0x64 ∷ 0x65 ∷ []) node ++ file))))
 
--- what is written for sizes, a board and a file: the refusals in their order, and else the share's text
+-- "n, k, d, r, node, length as decimals with no leading zero, then data as lower-case hexadecimal pairs of the share"
+abbrev pub sevenLines : Sizes → ℕ → ℕ → List ℕ → List ℕ
+sevenLines z L node share =
+    asks (decimal (z .n)) (decimal (z .k)) (decimal (z .d)) (decimal (z .r)) (decimal node)
+    (textLine (0x6C ∷ 0x65 ∷ 0x6E ∷ 0x67 ∷ 0x74 ∷ 0x68 ∷ []) (decimal L) ++ textLine (0x64 ∷ 0x61 ∷ 0x74 ∷ 0x61 ∷ []) (joined hexPair share))
+
+-- what is written for sizes, a board and a file, at document 01's points: the refusals in their order, and else the share's text
 pub record PrintedFor (z : Sizes) (node : ℕ) (file written : List ℕ) : Type 0 where
   pub illegal : legal z ≡ false → written ≡ refusedLine 1
   pub over-16384 : legal z ≡ true → 16384 < length file → written ≡ refusedLine 3
   pub over-stripes : legal z ≡ true → 4096 * B z < length file → written ≡ refusedLine 3
   pub no-board : legal z ≡ true → length file ≤ 16384 → length file ≤ 4096 * B z → z .n ≤ node → written ≡ refusedLine 5
   pub text : legal z ≡ true → length file ≤ 16384 → length file ≤ 4096 * B z → node < z .n
-      → written ≡ shareText z (length file) node (share z standard file node)
+      → written ≡ sevenLines z (length file) node (share z (standard z) file node)
 
 pub record PrinterLaws : Type 0 where
   pub taken : (name l : List ℕ) → Number l → (input : List ℕ) (go : ℕ → List ℕ → List ℕ)
@@ -55,8 +62,8 @@ pub record PrinterLaws : Type 0 where
       → line (refusedLine 1) (name ++ (0x3D ∷ [])) (textLine name (decimal x) ++ input) go ≡ go x input
   pub printed-for : (z : Sizes) (node : ℕ) (file : List ℕ)
       → PrintedFor z node file (printed (asks (decimal (z .n)) (decimal (z .k)) (decimal (z .d)) (decimal (z .r)) (decimal node) file))
-  pub byte-by-byte : (input : List ℕ) → runs begin [] input ≡ printed input
+  pub byte-by-byte : (input : List ℕ) → runs (begin false) [] input ≡ printed input
   pub failed-read : (p : Parser) (kept input : List ℕ) → runs (wrong p) kept input ≡ refusedLine 1
   -- any room that is enough does for the call
-  pub any-room : (z : Sizes) (node : ℕ) (file output : List ℕ) → stripes z (length file) * α z ≤ length output
-      → shared z node file ≡ told z (length file) node (shareCall z standard node file output)
+  pub any-room : (z : Sizes) (xs : List ℕ) (node : ℕ) (file output : List ℕ) → stripes z (length file) * α z ≤ length output
+      → shared z xs node file ≡ told z xs (length file) node (shareCall z xs node file output)

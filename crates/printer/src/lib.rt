@@ -1,10 +1,12 @@
-//! The share printer's decisions over a stream of bytes: a parser by value, fed one byte after another.
+//! The printers' decisions over a stream of bytes: a parser by value, fed one byte after another. The share printer has document 01's points; the
+//! points printer is asked for the line of points behind the five lines.
 ghost use mathlib.Core.Path.{_≡_};
 ghost use Prim.Native.Nat.{_≤_};
 ghost use Rattle.lists.specs.Tests.{pick};
-ghost use Rattle.printer.specs.Steps.{begin, wrong, stored, counted, lineFed, fed, sizesRead, refusalOf};
+ghost use Rattle.printer.specs.Steps.{accepted, begin, wrong, stored, counted, lineFed, behindFed, fed, inFile, sizesRead, pointsRead, refusalOf};
 use number_lines::Read;
 use number_lines::Reader;
+use point_lines::PointReader;
 use sizes::Sizes;
 
 // "more than 16,384 file bytes give 3"
@@ -13,8 +15,9 @@ const MOST: usize = 16384;
 // a number of 1,000 or more is held as 1,000, which no size and no board is
 const HELD: usize = 1000;
 
-// Where the input is: the lines left; in a line, its reader; the numbers read, of which any of 1,000 or more is 1,000; the bytes of the file,
-// counted up to 16,385; whether a line was malformed.
+// Where the input is: the lines of numbers left; in a line, its reader; the numbers read, of which any of 1,000 or more is 1,000; whether a line of
+// points is asked for, and its reader, which stands behind the line where there is none to read; the bytes of the file, counted up to 16,385; whether
+// a line of a number was malformed, or a read failed.
 pub struct Parser {
     pub left: u8,
     pub line: Reader,
@@ -23,15 +26,26 @@ pub struct Parser {
     pub d: usize,
     pub r: usize,
     pub node: usize,
+    pub asked: bool,
+    pub points: PointReader,
     pub count: usize,
     pub bad: bool,
 }
 
-// The parser before the first byte.
-pub fn start() -> Parser
-    ensures { λ p. ⌜ p ≡ begin ⌝ }
+// Where the reader of the line of points begins: before the line, or behind it where there is none to read.
+fn first_part(asked: bool) -> u8
+    ensures { λ r. ⌜ r ≡ pick asked 0 2 ⌝ }
+{
+    if asked { 0 } else { 2 }
+}
+
+// The parser before the first byte, of an input that has a line of points, or of one that has none.
+pub fn start(asked: bool) -> Parser
+    ensures { λ p. ⌜ p ≡ begin asked ⌝ }
 {
     let line = number_lines::start();
+    let first = point_lines::start();
+    let points = point_lines::turned(first, first_part(asked));
     Parser {
         left: 5,
         line: line,
@@ -40,6 +54,8 @@ pub fn start() -> Parser
         d: 0,
         r: 0,
         node: 0,
+        asked: asked,
+        points: points,
         count: 0,
         bad: false,
     }
@@ -77,6 +93,7 @@ fn stored(p: Parser, v: usize) -> Parser
     ensures { λ q. ⌜ q ≡ stored (p .left) p v ⌝ }
 {
     let line = number_lines::start();
+    let points = p.points;
     Parser {
         left: p.left - 1,
         line: line,
@@ -85,6 +102,8 @@ fn stored(p: Parser, v: usize) -> Parser
         d: choose(p.left == 3, v, p.d),
         r: choose(p.left == 2, v, p.r),
         node: choose(p.left == 1, v, p.node),
+        asked: p.asked,
+        points: points,
         count: p.count,
         bad: p.bad,
     }
@@ -103,6 +122,19 @@ fn feed_line(left: u8, line: Reader, b: u8) -> Read
     }
 }
 
+// A byte behind the lines of numbers: of the line of points, or of the file.
+fn feed_behind(p: Parser, b: u8) -> Parser
+    ensures { λ q. ⌜ q ≡ behindFed p b ⌝ }
+{
+    let points = p.points;
+    if points.part == 2 {
+        return counted(p);
+    }
+    let mut q = p;
+    q.points = point_lines::feed(points, p.n, b);
+    q
+}
+
 // The parser after a byte.
 pub fn feed(p: Parser, b: u8) -> Parser
     ensures { λ q. ⌜ q ≡ fed p b ⌝ }
@@ -111,7 +143,7 @@ pub fn feed(p: Parser, b: u8) -> Parser
         return p;
     }
     if p.left == 0 {
-        return counted(p);
+        return feed_behind(p, b);
     }
     let line = p.line;
     let x = feed_line(p.left, line, b);
@@ -138,6 +170,40 @@ pub fn sizes(p: Parser) -> Sizes
     }
 }
 
+// The boards' points: those that were read, or document 01's.
+pub fn points(p: Parser) -> [u8; 32]
+    ensures { λ xs. ⌜ xs ≡ pointsRead p ⌝ }
+{
+    if p.asked {
+        let points = p.points;
+        return points.points;
+    }
+    checks::standard_points(sizes(p))
+}
+
+// Whether the input is behind its lines.
+pub fn in_file(p: Parser) -> bool
+    ensures { λ r. ⌜ r ≡ inFile p ⌝ }
+{
+    if p.left != 0 {
+        return false;
+    }
+    let points = p.points;
+    points.part == 2
+}
+
+// Whether the sizes are legal, and the points are taken with them.
+fn is_accepted(p: Parser) -> bool
+    ensures { λ r. ⌜ r ≡ accepted (sizesRead p) (pointsRead p) ⌝ }
+{
+    let z = sizes(p);
+    if z.legal() {
+        let xs = points(p);
+        return checks::points_taken(z, &xs);
+    }
+    false
+}
+
 // At the end of the input: the number of a refusal that the lines and the file's length cause, else 0.
 pub fn refusal(p: Parser) -> u8
     ensures { λ x. ⌜ x ≡ refusalOf p ⌝ }
@@ -145,11 +211,10 @@ pub fn refusal(p: Parser) -> u8
     if p.bad {
         return 1;
     }
-    if p.left != 0 {
+    if !in_file(p) {
         return 1;
     }
-    let z = sizes(p);
-    if !z.legal() {
+    if !is_accepted(p) {
         return 1;
     }
     if MOST < p.count {

@@ -9,26 +9,34 @@ ghost use Rattle.store_checks.specs.Steps.{recordOf};
 use sizes::Check;
 use sizes::Sizes;
 
-// The first refusal of setting up a store of these sizes and this capacity.
-pub fn check_set_up(sizes: Sizes, capacity: usize) -> Check
-    ensures { λ r. ⌜ r ≡ first storeOrder (recordLine (newRecord sizes capacity) ∷ []) ⌝ }
+// The first refusal of setting up a store of these sizes, these points and this capacity.
+pub fn check_set_up(sizes: Sizes, points: &[u8], capacity: usize) -> Check
+    ensures { λ r. ⌜ r ≡ first storeOrder (recordLine (newRecord sizes (now (points .entry)) capacity) ∷ []) ⌝ }
 {
     let marks = [false; 32];
-    store_checks::check_record(sizes, capacity, false, 0, &marks)
+    store_checks::check_record(sizes, points, capacity, false, 0, &marks)
 }
 
 // The first refusal of losing this board, on a record of these parts.
 pub fn check_lose(
     sizes: Sizes,
+    points: &[u8],
     capacity: usize,
     written: bool,
     len: usize,
     marks: &[bool],
     board: usize,
 ) -> Check
-    ensures { λ r. ⌜ r ≡ first storeOrder (loseLines (recordOf sizes capacity written len (now (marks .entry))) board) ⌝ }
+    ensures { λ r. ⌜ r ≡ first storeOrder (loseLines (recordOf sizes (now (points .entry)) capacity written len (now (marks .entry))) board) ⌝ }
 {
-    if let Check::Refuse(size) = store_checks::check_record(sizes, capacity, written, len, marks) {
+    if let Check::Refuse(size) = store_checks::check_record(
+        sizes,
+        points,
+        capacity,
+        written,
+        len,
+        marks,
+    ) {
         return Check::Refuse(size);
     }
     checks::check_node(sizes, board)

@@ -27,8 +27,8 @@ use Rattle.checks.specs.Steps.{asked}
 use Rattle.checks.proofs.Answers.{passed, passes}
 use Rattle.shared_checks.proofs.Facts.{Ready, ready}
 
-pub record Repairable (s : Record) (points : List ℕ) (m : ℕ) (fresh helpers : List ℕ) : Type 0 where
-  pub is-ready : Ready s points
+pub record Repairable (s : Record) (m : ℕ) (fresh helpers : List ℕ) : Type 0 where
+  pub is-ready : Ready s
   pub fresh-count : length fresh ≡ s .sizes .r
   pub fresh-known : below (s .sizes .n) fresh ≡ true
   pub helper-count : length helpers ≡ s .sizes .r * s .sizes .d
@@ -48,13 +48,12 @@ run-different d (i ∷ fresh) helpers h (suc a) k =
     ap different (piece-suc d a helpers)
     ∙ run-different d fresh (drop d helpers) (both (different (take d helpers)) (every (λ h. different (h .senders)) (hearHelpers d fresh (drop d helpers))) h .1) a (omega arith)
 
-pub repairable : (s : Record) (points : List ℕ) (m : ℕ) (fresh helpers : List ℕ) → 32 ≤ length points → Repairs s m fresh helpers
-    → Repairable s points m fresh helpers
-repairable s points m fresh helpers l k =
+pub repairable : (s : Record) (m : ℕ) (fresh helpers : List ℕ) → Repairs s m fresh helpers → Repairable s m fresh helpers
+repairable s m fresh helpers k =
     let n = s .sizes .n in
     let all = below-all n (fresh ++ helpers) (k .named-below) in
     record {
-      is-ready = ready s points l (k .is-sound);
+      is-ready = ready s (k .is-sound);
       fresh-count = k .fresh-count;
       fresh-known = all-below n fresh (all-left (λ x. x < n) fresh helpers all);
       helper-count = k .helper-count;

@@ -9,6 +9,7 @@ use sizes::Sizes;
 // The first refusal of a repair of these fresh boards by these helpers, on a record of these parts and an area of so many bytes.
 pub fn check_repair(
     sizes: Sizes,
+    points: &[u8],
     capacity: usize,
     written: bool,
     len: usize,
@@ -17,10 +18,11 @@ pub fn check_repair(
     fresh: &[usize],
     helpers: &[usize],
 ) -> Check
-    ensures { λ r. ⌜ r ≡ first storeOrder (repairLines (recordOf sizes capacity written len (now (marks .entry))) lent (now (fresh .entry)) (now (helpers .entry))) ⌝ }
+    ensures { λ r. ⌜ r ≡ first storeOrder (repairLines (recordOf sizes (now (points .entry)) capacity written len (now (marks .entry))) lent (now (fresh .entry)) (now (helpers .entry))) ⌝ }
 {
     if let Check::Refuse(area) = shared_checks::check_area(
         sizes,
+        points,
         capacity,
         written,
         len,

@@ -49,27 +49,27 @@ as-piece : (d a : ℕ) (l : List ℕ) → take d (drop (a * d) l) ≡ piece d a 
 unfolding piece
 as-piece d a l = refl
 
-module _ (xs : List ℕ) (s : Record) (area fresh helpers : List ℕ) (f : Repairs s (length area) fresh helpers) (done : repairCall xs s area fresh helpers .answer .refusal ≡ 0) where
+module _ (s : Record) (area fresh helpers : List ℕ) (f : Repairs s (length area) fresh helpers) (done : repairCall s area fresh helpers .answer .refusal ≡ 0) where
   abbrev H : ℕ → List ℕ
-  H m = sendersOf (sentTo m (helperPackets xs s area fresh helpers))
+  H m = sendersOf (sentTo m (helperPackets s area fresh helpers))
 
   runs : (b : ℕ) → b < s .sizes .r → H (getD fresh b 0) ≡ piece (s .sizes .d) b helpers
   unfolding helperPackets
   runs b h = heard-run _ (s .sizes .d) fresh helpers (f .fresh-different) b (omega (arith, h, f .fresh-count)) ∙ as-piece (s .sizes .d) b helpers
 
   share-at : (a : ℕ) → a < s .sizes .r
-      → join (stripeCount s) (λ t. rebuilt (s .sizes) xs (λ j. piece (α (s .sizes)) t (drop (j * partLen s) area)) fresh helpers a) ≡ freshShare xs s area fresh helpers (getD fresh a 0)
+      → join (stripeCount s) (λ t. rebuilt (s .sizes) (s .points) (λ j. piece (α (s .sizes)) t (drop (j * partLen s) area)) fresh helpers a) ≡ freshShare s area fresh helpers (getD fresh a 0)
   share-at a h =
       join-ext (stripeCount s) _ _
       (λ t k.
-      rebuilt-same (s .sizes) xs fresh helpers (λ j. piece (α (s .sizes)) t (drop (j * partLen s) area)) (λ j. piece (α (s .sizes)) t (held s area j))
+      rebuilt-same (s .sizes) (s .points) fresh helpers (λ j. piece (α (s .sizes)) t (drop (j * partLen s) area)) (λ j. piece (α (s .sizes)) t (held s area j))
       (among-all _ helpers (λ j e. sym (held-piece s area t j k))) a
-      ∙ sym (stripe-same (s .sizes) xs (λ j. piece (α (s .sizes)) t (held s area j)) fresh helpers H (f .fresh-count) (f .helper-count) (f .fresh-different) runs a h))
-      ∙ sym (repair-by-stripes xs s area fresh helpers done (getD fresh a 0) (getD-among fresh a (omega (arith, h, f .fresh-count))))
+      ∙ sym (stripe-same (s .sizes) (s .points) (λ j. piece (α (s .sizes)) t (held s area j)) fresh helpers H (f .fresh-count) (f .helper-count) (f .fresh-different) runs a h))
+      ∙ sym (repair-by-stripes s area fresh helpers done (getD fresh a 0) (getD-among fresh a (omega (arith, h, f .fresh-count))))
 
   pub repaired : puts (λ a. getD fresh a 0 * partLen s)
-      (λ a. join (stripeCount s) (λ t. rebuilt (s .sizes) xs (λ j. piece (α (s .sizes)) t (drop (j * partLen s) area)) fresh helpers a)) (s .sizes .r) area
-      ≡ putShares s (freshShare xs s area fresh helpers) fresh area
+      (λ a. join (stripeCount s) (λ t. rebuilt (s .sizes) (s .points) (λ j. piece (α (s .sizes)) t (drop (j * partLen s) area)) fresh helpers a)) (s .sizes .r) area
+      ≡ putShares s (freshShare s area fresh helpers) fresh area
   repaired =
-      puts-same (λ a. getD fresh a 0 * partLen s) (λ a. getD fresh a 0 * partLen s) _ (λ a. freshShare xs s area fresh helpers (getD fresh a 0)) (s .sizes .r) area (λ a h. refl) share-at
-      ∙ by-places s (freshShare xs s area fresh helpers) fresh (s .sizes .r) area (f .fresh-count)
+      puts-same (λ a. getD fresh a 0 * partLen s) (λ a. getD fresh a 0 * partLen s) _ (λ a. freshShare s area fresh helpers (getD fresh a 0)) (s .sizes .r) area (λ a h. refl) share-at
+      ∙ by-places s (freshShare s area fresh helpers) fresh (s .sizes .r) area (f .fresh-count)

@@ -1,7 +1,7 @@
 -- What it says of a call that its shared checks pass: what its kernels ask.
 -- Assumes nothing.
 use Prim.Native.Nat.{ℕ, _*_, _≤_}
-use mathlib.Core.Path.{_≡_, ap}
+use mathlib.Core.Path.{_≡_}
 use mathlib.Core.Bool.{Bool, true, false}
 use mathlib.Core.List.{List}
 use native.Mathlib.Nat.{mul-le-mul-right}
@@ -16,10 +16,10 @@ use Rattle.sizes.specs.Sizing.{B, stripes}
 use Rattle.sizes.specs.Refusals.{first, storeOrder}
 use Rattle.sizes.proofs.Legal.{legal-facts, stripes-least}
 use Rattle.sizes.proofs.Lines.{first-clear}
-use Rattle.mbcr.specs.Share.{standard}
 use Rattle.store_spec.specs.Record.{Record, sound, areaLen}
 use Rattle.store_spec.proofs.Records.{sound-facts}
 use Rattle.checks.specs.Steps.{Stated}
+use Rattle.checks.proofs.Facts.{Taken, taken}
 use Rattle.shared_checks.specs.Steps.{areaLines, boardLines}
 
 pub record Lent (s : Record) (m : ℕ) : Type 0 where
@@ -46,25 +46,24 @@ board-facts z count marks boards h =
       all-up = not-no _ (e .1 .1 .1 .0);
     }
 
--- what kernels ask of a record and of the points
-pub record Ready (s : Record) (points : List ℕ) : Type 0 where
+-- what kernels ask of a record
+pub record Ready (s : Record) : Type 0 where
   pub stated : Stated (s .sizes) (s .length)
-  pub few-points : s .sizes .n ≤ length points
+  pub points-taken : Taken (s .sizes) (s .points)
+  pub few-points : s .sizes .n ≤ length (s .points)
   pub cap-high : s .capacity ≤ 4096
   pub few-stripes : stripes (s .sizes) (s .length) ≤ s .capacity
 
-pub ready : (s : Record) (points : List ℕ) → 32 ≤ length points → sound s ≡ true → Ready s points
-ready s points enough h =
+pub ready : (s : Record) → sound s ≡ true → Ready s
+ready s h =
     let f = sound-facts s h in
     let g = legal-facts _ (f .is-legal) in
+    let t = taken (s .sizes) (s .points) (f .is-legal) (f .is-pointed) in
     let p : s .capacity * B (s .sizes) ≤ 4096 * B (s .sizes) = mul-le-mul-right (B (s .sizes)) (f .cap-high) in
     record {
       stated = record { is-legal = f .is-legal; not-long = omega (arith, f .fits, p) };
-      few-points = omega (arith, enough, g .few);
+      points-taken = t;
+      few-points = omega (arith, t .long, g .few);
       cap-high = f .cap-high;
       few-stripes = stripes-least (s .sizes) g (s .length) (s .capacity) (f .fits);
     }
-
--- document 01's points are as many
-pub standard-enough : (points : List ℕ) → points ≡ standard → 32 ≤ length points
-standard-enough points e = let l : length points ≡ 32 = ap length e in omega (arith, l)

@@ -12,15 +12,23 @@ use sizes::Sizes;
 // 1 SIZE and 2 AREA, of a record of these parts and an area of so many bytes.
 pub fn check_area(
     sizes: Sizes,
+    points: &[u8],
     capacity: usize,
     written: bool,
     len: usize,
     marks: &[bool],
     lent: usize,
 ) -> Check
-    ensures { λ r. ⌜ r ≡ first storeOrder (areaLines (recordOf sizes capacity written len (now (marks .entry))) lent) ⌝ }
+    ensures { λ r. ⌜ r ≡ first storeOrder (areaLines (recordOf sizes (now (points .entry)) capacity written len (now (marks .entry))) lent) ⌝ }
 {
-    if let Check::Refuse(size) = store_checks::check_record(sizes, capacity, written, len, marks) {
+    if let Check::Refuse(size) = store_checks::check_record(
+        sizes,
+        points,
+        capacity,
+        written,
+        len,
+        marks,
+    ) {
         return Check::Refuse(size);
     }
     let part_len = capacity * sizes.share_len();

@@ -25,7 +25,7 @@ use Rattle.store.proofs.Store.read.Reads as reads
 use Rattle.store.proofs.Store.read.Kinds as read-kinds
 
 pub set-up-meets : (κs : Lfts 0) (a : Dens κs set-up-kinds.ps) (r : Handed) (e : AtExit (endedOf 0 set-up-kinds.ps set-up-kinds.r) κs)
-    → set-ups.Asked κs a × (set-ups.Learnt κs a r e → outcomeIn r [] [] ≡ setUpCall (recordIn (a .0)) (a .1 .0) (a .1 .1 .0))
+    → set-ups.Asked κs a × (set-ups.Learnt κs a r e → outcomeIn r [] [] ≡ setUpCall (recordIn (a .0)) (a .1 .0) (a .1 .1 .0) (a .1 .1 .1 .0))
 set-up-meets κs a r e = (tt, λ h. h)
 
 pub write-meets : (κs : Lfts 2) (a : Dens κs write-kinds.ps) (r : Handed) (e : AtExit (endedOf 2 write-kinds.ps write-kinds.r) κs)

@@ -5,7 +5,6 @@ use mathlib.Core.Bool.{true}
 use mathlib.Core.List.{List, []}
 use Prim.Native.Nat.{ℕ}
 use Rattle.sizes.specs.Refusals.{said, Said}
-use Rattle.mbcr.specs.Share.{standard}
 use Rattle.store_spec.specs.Record.{held}
 use Rattle.store_spec.specs.Calls.{StoreOutcome}
 use Rattle.store_spec.specs.Ledger.{repair, read, act}
@@ -17,9 +16,9 @@ use Rattle.store.specs.Demand3.{Given, gave, Meets}
 use Rattle.store.specs.Gives.{CodeGives}
 
 module _ (s : Store) (area fresh helpers : List ℕ) (h : Given) (m : Meets s area (repair fresh helpers) h) (ok : said (h .handed .answer) .refusal ≡ 0) where
-  is-repaired : Repaired standard (recordIn s) area fresh helpers
+  is-repaired : Repaired (recordIn s) area fresh helpers
   unfolding act
-  is-repaired = accepted-repair standard (recordIn s) area fresh helpers (ap (λ (o : StoreOutcome). o .answer .refusal) (sym m) ∙ ok)
+  is-repaired = accepted-repair (recordIn s) area fresh helpers (ap (λ (o : StoreOutcome). o .answer .refusal) (sym m) ∙ ok)
 
 pub code-gives : CodeGives
 unfolding act

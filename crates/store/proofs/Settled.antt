@@ -30,17 +30,17 @@ done-by out done e = sym (ap (λ (k : Check). settle k out done) e)
 
 -- ---- set up
 
-module _ (s : Record) (z : Sizes) (c : ℕ) where
+module _ (s : Record) (z : Sizes) (xs : List ℕ) (c : ℕ) where
   abbrev pub begun : Check
-  begun = first storeOrder (recordLine (newRecord z c) ∷ [])
+  begun = first storeOrder (recordLine (newRecord z xs c) ∷ [])
 
-  pub set-up-refuses : {r : Check} {x : Refusal} → r ≡ begun → r ≡ Refuse x → refused s [] [] x ≡ setUpCall s z c
+  pub set-up-refuses : {r : Check} {x : Refusal} → r ≡ begun → r ≡ Refuse x → refused s [] [] x ≡ setUpCall s z xs c
   unfolding setUpCall
-  set-up-refuses e h = refused-by (refused s [] []) (accepted 0 (newRecord z c) [] []) e h
+  set-up-refuses e h = refused-by (refused s [] []) (accepted 0 (newRecord z xs c) [] []) e h
 
-  pub set-up-works : begun ≡ Pass → accepted 0 (newRecord z c) [] [] ≡ setUpCall s z c
+  pub set-up-works : begun ≡ Pass → accepted 0 (newRecord z xs c) [] [] ≡ setUpCall s z xs c
   unfolding setUpCall
-  set-up-works e = done-by (refused s [] []) (accepted 0 (newRecord z c) [] []) e
+  set-up-works e = done-by (refused s [] []) (accepted 0 (newRecord z xs c) [] []) e
 
 -- ---- lose a board
 
@@ -68,26 +68,26 @@ puts-same s t f [] area e = refl
 puts-same s t f (i ∷ boards) area e =
     puts-same s t f boards (put area (i * partLen s) (f i)) e ∙ ap (λ (m : ℕ). putShares t f boards (put area (i * m) (f i))) e
 
-module _ (xs : List ℕ) (s : Record) (area file : List ℕ) where
+module _ (s : Record) (area file : List ℕ) where
   abbrev pub checked : Check
   checked = first storeOrder (writeLines s (length area) file)
 
-  pub write-refuses : {r : Check} {x : Refusal} → r ≡ checked → r ≡ Refuse x → refused s area [] x ≡ writeCall xs s area file
+  pub write-refuses : {r : Check} {x : Refusal} → r ≡ checked → r ≡ Refuse x → refused s area [] x ≡ writeCall s area file
   unfolding writeCall
-  write-refuses e h = refused-by (refused s area []) (writeDone xs s area file) e h
+  write-refuses e h = refused-by (refused s area []) (writeDone s area file) e h
 
   -- what a write hands on with these marks and this area
   abbrev pub made : List Bool → List ℕ → StoreOutcome
-  made marks after = accepted 0 (recordOf (s .sizes) (s .capacity) true (length file) marks) after []
+  made marks after = accepted 0 (recordOf (s .sizes) (s .points) (s .capacity) true (length file) marks) after []
 
-  -- the area with these shares in it
-  abbrev pub shared : List ℕ → List ℕ
-  shared points = putShares (recordOf (s .sizes) (s .capacity) true 0 []) (share (s .sizes) points file) (tabulate (s .sizes .n) (λ i. i)) area
+  -- the area with the shares in it
+  abbrev pub shared : List ℕ
+  shared = putShares (recordOf (s .sizes) [] (s .capacity) true 0 []) (share (s .sizes) (s .points) file) (tabulate (s .sizes .n) (λ i. i)) area
 
-  pub write-works : (marks : List Bool) (points after : List ℕ) → checked ≡ Pass → marks ≡ tabulate 32 (λ i. ltb i (s .sizes .n)) → points ≡ xs
-      → after ≡ shared points → made marks after ≡ writeCall xs s area file
+  pub write-works : (marks : List Bool) (after : List ℕ) → checked ≡ Pass → marks ≡ tabulate 32 (λ i. ltb i (s .sizes .n)) → after ≡ shared
+      → made marks after ≡ writeCall s area file
   unfolding writeCall
-  write-works marks points after p em ep ea =
+  write-works marks after p em ea =
       let w = writtenRecord s (length file) in
-      let same = puts-same (recordOf (s .sizes) (s .capacity) true 0 []) w (share (s .sizes) xs file) (tabulate (s .sizes .n) (λ i. i)) area refl in
-      ap₂ made em (ea ∙ ap shared ep ∙ same) ∙ done-by (refused s area []) (writeDone xs s area file) p
+      let same = puts-same (recordOf (s .sizes) [] (s .capacity) true 0 []) w (share (s .sizes) (s .points) file) (tabulate (s .sizes .n) (λ i. i)) area refl in
+      ap₂ made em (ea ∙ same) ∙ done-by (refused s area []) (writeDone s area file) p

@@ -7,7 +7,6 @@ use Prim.Native.Nat.{ℕ}
 use lib.ListN.{length}
 use Rattle.sizes.specs.declared.Sizes.{Sizes}
 use Rattle.sizes.specs.Refusals.{said}
-use Rattle.mbcr.specs.Share.{standard}
 use Rattle.store_spec.specs.Calls.{StoreOutcome, setUpCall}
 use Rattle.store_spec.specs.Ledger.{Call, repair, Step, State, Reply, replyOf, act, Allowed, openBook, bookReplies, bookFinal}
 use Rattle.store_spec.specs.Demand3.{Intact, Repaired, begun, calls}
@@ -26,7 +25,7 @@ gave h = outcomeIn (h .handed) (h .area) (h .output)
 
 -- the contract of the call's method, for a call on this store with this area: it gave what the definition gives
 abbrev pub Meets : Store → List ℕ → Call → Given → Type 0
-Meets s area call h = gave h ≡ act standard (record { kept = recordIn s; area = area }) call
+Meets s area call h = gave h ≡ act (record { kept = recordIn s; area = area }) call
 
 -- each call is on the store that the call before it handed on
 abbrev pub Run : Store → List Step → List Given → Type 0
@@ -44,9 +43,9 @@ ending s area (h ∷ hs) = ending (h .handed .store) (h .area) hs
 -- run or not, fresh boards get the packets and hold the shares that demand 3 says
 abbrev pub CodeDemand3 : Type 0
 CodeDemand3 =
-    (old : Store) (z : Sizes) (c : ℕ) (new : Handed) → outcomeIn new [] [] ≡ setUpCall (recordIn old) z c → said (new .answer) .refusal ≡ 0
-    → (area : List ℕ) (steps : List Step) (run : List Given) → Allowed standard (begun (recordIn old) z c area) (openBook z c (length area)) steps → Run (new .store) steps run
-    → (map (λ h. replyOf (gave h)) run ≡ bookReplies (openBook z c (length area)) (calls steps))
-    × Intact standard (ending (new .store) area run) (bookFinal (openBook z c (length area)) (calls steps))
+    (old : Store) (z : Sizes) (xs : List ℕ) (c : ℕ) (new : Handed) → outcomeIn new [] [] ≡ setUpCall (recordIn old) z xs c → said (new .answer) .refusal ≡ 0
+    → (area : List ℕ) (steps : List Step) (run : List Given) → Allowed (begun (recordIn old) z xs c area) (openBook z xs c (length area)) steps → Run (new .store) steps run
+    → (map (λ h. replyOf (gave h)) run ≡ bookReplies (openBook z xs c (length area)) (calls steps))
+    × Intact (ending (new .store) area run) (bookFinal (openBook z xs c (length area)) (calls steps))
     × ((s : Store) (any fresh helpers : List ℕ) (h : Given) → Meets s any (repair fresh helpers) h → said (h .handed .answer) .refusal ≡ 0
-    → Repaired standard (recordIn s) any fresh helpers)
+    → Repaired (recordIn s) any fresh helpers)

@@ -8,7 +8,6 @@ use lib.ListN.{length}
 use Rattle.lists.specs.Tests.{every, among, different}
 use Rattle.lists.specs.Lists.{over}
 use Rattle.sizes.specs.Refusals.{said}
-use Rattle.mbcr.specs.Share.{standard}
 use Rattle.board_spec.specs.Calls.{fileOf}
 use Rattle.store_spec.specs.Record.{stripeCount, held}
 use Rattle.store_spec.specs.Packets.{freshShare}
@@ -21,7 +20,7 @@ use Rattle.store.specs.Demand3.{Given, gave, Meets}
 
 pub record CodeGives : Type 0 where
   -- where demand 3's ending holds: a read of any k different boards in service, with output long enough, gave exactly the last file accepted
-  pub reads : (s : Store) (area : List ℕ) (b : Book) → Intact standard (record { kept = recordIn s; area = area }) b
+  pub reads : (s : Store) (area : List ℕ) (b : Book) → Intact (record { kept = recordIn s; area = area }) b
       → (lent : List ℕ) → Altered b (recordIn s) area lent
       → (boards output : List ℕ) → length boards ≡ b .sizes .k → different boards ≡ true → every (among (b .service)) boards ≡ true
       → bookLength b ≤ length output
@@ -31,4 +30,4 @@ pub record CodeGives : Type 0 where
   pub moved : (s : Store) (area fresh helpers : List ℕ) (h : Given) → Meets s area (repair fresh helpers) h → said (h .handed .answer) .refusal ≡ 0
       → said (h .handed .answer) .reported ≡ stripeCount (recordIn s) * s .sizes .r * (2 * s .sizes .d + s .sizes .r - 1)
   pub has : (s : Store) (area fresh helpers : List ℕ) (h : Given) → Meets s area (repair fresh helpers) h → said (h .handed .answer) .refusal ≡ 0
-      → (i : ℕ) → among fresh i ≡ true → held (recordIn s) (h .area) i ≡ freshShare standard (recordIn s) area fresh helpers i
+      → (i : ℕ) → among fresh i ≡ true → held (recordIn s) (h .area) i ≡ freshShare (recordIn s) area fresh helpers i

@@ -9,7 +9,7 @@ use Rattle.store.specs.declared.Store.{Store}
 use Rattle.store.specs.declared.Handed.{Handed}
 
 abbrev pub recordIn : Store → Record
-recordIn s = record { sizes = s .sizes; capacity = s .capacity; written = s .written; length = s .length; marks = s .marks }
+recordIn s = record { sizes = s .sizes; points = s .points; capacity = s .capacity; written = s .written; length = s .length; marks = s .marks }
 
 abbrev pub outcomeIn : Handed → List ℕ → List ℕ → StoreOutcome
 outcomeIn h area output = record { answer = said (h .answer); handed = recordIn (h .store); area = area; output = output }

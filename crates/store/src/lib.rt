@@ -1,9 +1,8 @@
 //! Document 01, the store: its record, and the calls as methods by value. Each hands on a record beside its answer, and meets its definition in
-//! the crate `store_spec` at document 01's points, for all input: the answer, the record, and every lent byte.
+//! the crate `store_spec`, for all input: the answer, the record, and every lent byte.
 ghost use mathlib.Core.Path.{_≡_};
 ghost use mathlib.Core.List.{List, []};
 ghost use Prim.Native.Nat.{ℕ, _+_, _*_, _-_};
-ghost use Rattle.mbcr.specs.Share.{standard};
 ghost use Rattle.store_spec.specs.Calls.{refused, setUpCall, writeCall, loseCall, repairCall, readCall};
 ghost use Rattle.store_checks.specs.Steps.{Bounded};
 ghost use Rattle.store.specs.Handing.{recordIn, outcomeIn};
@@ -12,9 +11,10 @@ use sizes::Check;
 use sizes::Refusal;
 use sizes::Sizes;
 
-// The sizes, the capacity in stripes, whether a file was accepted, its length, and a mark for each board: in service or not.
+// The sizes, a point for each board, the capacity in stripes, whether a file was accepted, its length, and a mark for each board: in service or not.
 pub struct Store {
     pub sizes: Sizes,
+    pub points: [u8; 32],
     pub capacity: usize,
     pub written: bool,
     pub length: usize,
@@ -47,16 +47,17 @@ fn bytes_moved(sizes: Sizes, stripes: usize) -> usize
 }
 
 impl Store {
-    // A store of these sizes and this capacity, with no file. The record that it is handed is not examined.
-    pub fn set_up(self, sizes: Sizes, capacity: usize) -> Handed
-        ensures { λ r. ⌜ outcomeIn r [] [] ≡ setUpCall (recordIn self) sizes capacity ⌝ }
+    // A store of these sizes, these points and this capacity, with no file. The record that it is handed is not examined.
+    pub fn set_up(self, sizes: Sizes, points: [u8; 32], capacity: usize) -> Handed
+        ensures { λ r. ⌜ outcomeIn r [] [] ≡ setUpCall (recordIn self) sizes points capacity ⌝ }
     {
-        if let Check::Refuse(x) = record_checks::check_set_up(sizes, capacity) {
+        if let Check::Refuse(x) = record_checks::check_set_up(sizes, &points, capacity) {
             return refuse(self, x);
         }
         Handed {
             store: Store {
                 sizes: sizes,
+                points: points,
                 capacity: capacity,
                 written: false,
                 length: 0,
@@ -68,13 +69,15 @@ impl Store {
 
     // Writes a file: each board gets its share, and all n come into service.
     pub fn write(self, area: &mut [u8], file: &[u8]) -> Handed
-        ensures { λ r. ⌜ outcomeIn r (now (area .exit)) [] ≡ writeCall standard (recordIn self) (now (area .entry)) (now (file .entry)) ⌝ }
+        ensures { λ r. ⌜ outcomeIn r (now (area .exit)) [] ≡ writeCall (recordIn self) (now (area .entry)) (now (file .entry)) ⌝ }
     {
         let sizes = self.sizes;
+        let points = self.points;
         let capacity = self.capacity;
         let marks = self.marks;
         if let Check::Refuse(x) = write_check::check_write(
             sizes,
+            &points,
             capacity,
             self.written,
             self.length,
@@ -84,12 +87,12 @@ impl Store {
         ) {
             return refuse(self, x);
         }
-        let points = checks::standard_points();
         let count = checks::stripe_count(sizes, file.len());
         store_write::write_shares(sizes, capacity, &points, file, count, area);
         Handed {
             store: Store {
                 sizes: sizes,
+                points: points,
                 capacity: capacity,
                 written: true,
                 length: file.len(),
@@ -104,9 +107,11 @@ impl Store {
         ensures { λ r. ⌜ ((area : List ℕ) → outcomeIn r area [] ≡ loseCall (recordIn self) area board) ⌝ }
     {
         let sizes = self.sizes;
+        let points = self.points;
         let marks = self.marks;
         if let Check::Refuse(x) = record_checks::check_lose(
             sizes,
+            &points,
             self.capacity,
             self.written,
             self.length,
@@ -125,15 +130,17 @@ impl Store {
 
     // Rebuilds the fresh boards together, each from its own run of d helpers, and puts them in service. Answers the bytes that are moved.
     pub fn repair(self, area: &mut [u8], fresh: &[usize], helpers: &[usize]) -> Handed
-        ensures { λ r. ⌜ outcomeIn r (now (area .exit)) [] ≡ repairCall standard (recordIn self) (now (area .entry)) (now (fresh .entry)) (now (helpers .entry)) ⌝ }
+        ensures { λ r. ⌜ outcomeIn r (now (area .exit)) [] ≡ repairCall (recordIn self) (now (area .entry)) (now (fresh .entry)) (now (helpers .entry)) ⌝ }
     {
         let sizes = self.sizes;
+        let points = self.points;
         let capacity = self.capacity;
         let written = self.written;
         let length = self.length;
         let mut marks = self.marks;
         if let Check::Refuse(x) = repair_check::check_repair(
             sizes,
+            &points,
             capacity,
             written,
             length,
@@ -144,7 +151,6 @@ impl Store {
         ) {
             return refuse(self, x);
         }
-        let points = checks::standard_points();
         let mut inverses = [0u8; 256];
         inverses::fill_inverses(&mut inverses);
         let stripes = checks::stripe_count(sizes, length);
@@ -163,6 +169,7 @@ impl Store {
         Handed {
             store: Store {
                 sizes: sizes,
+                points: points,
                 capacity: capacity,
                 written: written,
                 length: length,
@@ -174,23 +181,23 @@ impl Store {
 
     // Reads the file from k boards: it goes to the beginning of the output, the rest of which stays.
     pub fn read(self, area: &[u8], boards: &[usize], out: &mut [u8]) -> Handed
-        ensures { λ r. ⌜ outcomeIn r (now (area .entry)) (now (out .exit)) ≡ readCall standard (recordIn self) (now (area .entry)) (now (boards .entry)) (now (out .entry)) ⌝ }
+        ensures { λ r. ⌜ outcomeIn r (now (area .entry)) (now (out .exit)) ≡ readCall (recordIn self) (now (area .entry)) (now (boards .entry)) (now (out .entry)) ⌝ }
     {
         let sizes = self.sizes;
+        let points = self.points;
         let capacity = self.capacity;
         let length = self.length;
         let marks = self.marks;
-        let points = checks::standard_points();
         let mut inverses = [0u8; 256];
         inverses::fill_inverses(&mut inverses);
         let mut tables = [0u8; 49152];
         if let Check::Refuse(x) = read_check::check_read(
             sizes,
+            &points,
             capacity,
             self.written,
             length,
             &marks,
-            &points,
             &inverses,
             area,
             boards,

@@ -9,8 +9,8 @@ use Rattle.sizes.specs.declared.Sizes.{Sizes}
 use Rattle.sizes.specs.Sizing.{legal}
 use Rattle.store_spec.specs.Record.{Record}
 
-abbrev pub recordOf : Sizes → ℕ → Bool → ℕ → List Bool → Record
-recordOf z capacity written length marks = record { sizes = z; capacity = capacity; written = written; length = length; marks = marks }
+abbrev pub recordOf : Sizes → List ℕ → ℕ → Bool → ℕ → List Bool → Record
+recordOf z xs capacity written length marks = record { sizes = z; points = xs; capacity = capacity; written = written; length = length; marks = marks }
 
 -- legal sizes, and so few stripes that their bytes can be counted
 pub record Bounded (z : Sizes) (stripes : ℕ) : Type 0 where

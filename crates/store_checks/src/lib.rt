@@ -36,10 +36,20 @@ pub fn some_on(marks: &[bool], from: usize) -> bool
 }
 
 // Whether a record of these parts, with legal sizes, is one that calls return.
-fn sound_in(sizes: Sizes, capacity: usize, written: bool, len: usize, marks: &[bool]) -> bool
+fn sound_in(
+    sizes: Sizes,
+    points: &[u8],
+    capacity: usize,
+    written: bool,
+    len: usize,
+    marks: &[bool],
+) -> bool
     requires { ⌜ legal sizes ≡ true ⌝ }
-    ensures { λ r. ⌜ r ≡ sound (recordOf sizes capacity written len (now (marks .entry))) ⌝ }
+    ensures { λ r. ⌜ r ≡ sound (recordOf sizes (now (points .entry)) capacity written len (now (marks .entry))) ⌝ }
 {
+    if !checks::points_taken(sizes, points) {
+        return false;
+    }
     if capacity < 1 {
         return false;
     }
@@ -67,15 +77,16 @@ fn sound_in(sizes: Sizes, capacity: usize, written: bool, len: usize, marks: &[b
 // 1 SIZE of a record of these parts.
 pub fn check_record(
     sizes: Sizes,
+    points: &[u8],
     capacity: usize,
     written: bool,
     len: usize,
     marks: &[bool],
 ) -> Check
-    ensures { λ r. ⌜ r ≡ asked (recordLine (recordOf sizes capacity written len (now (marks .entry)))) ⌝ }
+    ensures { λ r. ⌜ r ≡ asked (recordLine (recordOf sizes (now (points .entry)) capacity written len (now (marks .entry)))) ⌝ }
 {
     if sizes.legal() {
-        if sound_in(sizes, capacity, written, len, marks) {
+        if sound_in(sizes, points, capacity, written, len, marks) {
             return Check::Pass;
         }
     }

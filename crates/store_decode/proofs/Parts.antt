@@ -59,7 +59,7 @@ module _ (z : Sizes) (c L S m : ℕ) (boards area zs ys : List ℕ) (ok : below 
       let q : S * α z ≤ c * α z = mul-le-mul-right (α z) lS in
       omega (arith, q, row-fits i n (c * α z) h)) boards (below-all n boards ok)))
 
-  pub lent-shares : sharesAt z S lent area ≡ joined (held (recordOf z c true L []) area) boards
+  pub lent-shares : sharesAt z S lent area ≡ joined (held (recordOf z [] c true L []) area) boards
   unfolding sharesAt
   lent-shares =
       ap (joined (λ p. take (S * α z) (drop p area))) lent-are

@@ -45,7 +45,7 @@ pub fn check_agrees(
     tables: &mut [u8],
 ) -> Check
     requires { ⌜ Asked sizes (now points) (now boards) × (now inverses ≡ tabulate 256 inverse) × (length (now points) ≡ 32) × (stripes ≡ stripesOf sizes len) × (capacity ≤ 4096) × (stripes ≤ capacity) × (length (now area) ≡ sizes .n * (capacity * α sizes)) × (length (now tables) ≡ 49152) ⌝ }
-    ensures { λ r. ⌜ (r ≡ asked (Refusal.Disagree when not (given (readFile sizes (now (points .entry)) len (now (boards .entry)) (joined (held (recordOf sizes capacity true len []) (now (area .entry))) (now (boards .entry))))))) × Made sizes (now (points .entry)) (now (boards .entry)) (now (tables .exit)) ⌝ }
+    ensures { λ r. ⌜ (r ≡ asked (Refusal.Disagree when not (given (readFile sizes (now (points .entry)) len (now (boards .entry)) (joined (held (recordOf sizes [] capacity true len []) (now (area .entry))) (now (boards .entry))))))) × Made sizes (now (points .entry)) (now (boards .entry)) (now (tables .exit)) ⌝ }
 {
     let k = sizes.k;
     let part = capacity * sizes.share_len();
@@ -81,7 +81,7 @@ pub fn file(
     out: &mut [u8],
 )
     requires { ⌜ Asked sizes (now points) (now boards) × (stripes ≡ stripesOf sizes len) × (capacity ≤ 4096) × (stripes ≤ capacity) × (length (now area) ≡ sizes .n * (capacity * α sizes)) × Made sizes (now points) (now boards) (now tables) × (len ≤ length (now out)) ⌝ }
-    ensures { λ _. ⌜ now (out .exit) ≡ decodedFile sizes (now (points .entry)) len (now (boards .entry)) (joined (held (recordOf sizes capacity true len []) (now (area .entry))) (now (boards .entry))) ++ drop len (now (out .entry)) ⌝ }
+    ensures { λ _. ⌜ now (out .exit) ≡ decodedFile sizes (now (points .entry)) len (now (boards .entry)) (joined (held (recordOf sizes [] capacity true len []) (now (area .entry))) (now (boards .entry))) ++ drop len (now (out .entry)) ⌝ }
 {
     let k = sizes.k;
     let part = capacity * sizes.share_len();

@@ -22,7 +22,7 @@ use Rattle.sizes.specs.declared.Refusal.the-variants.{Area, Long, Empty, Count,
 use Rattle.sizes.specs.declared.Sizes.{Sizes}
 use Rattle.sizes.proofs.Legal.{legal-facts}
 use Rattle.sizes.proofs.Lines.{one-or-none, refuse-first, clear-first, says-not, says-differ, says-less, says-two, says-no-file}
-use Rattle.mbcr.specs.Share.{share, stripe, kept}
+use Rattle.mbcr.specs.Share.{pointed, share, stripe, kept}
 use Rattle.mbcr.proofs.Repair.{length-kept}
 use Rattle.store_spec.specs.Calls.{StoreOutcome, settle, accepted, refused, recordLine, setUpCall, writeLines, writeDone, writeCall, loseLines, loseDone, loseCall}
 use Rattle.store_spec.specs.Calls.{repairLines, repairDone, repairCall, readLines, readDone, readCall}
@@ -33,7 +33,7 @@ use Rattle.store_spec.specs.Ledger.{Book, bookRecord, Call, write, lose,
 use Rattle.store_spec.specs.Packets.{freshShare, hearHelpers}
 use Rattle.store_spec.specs.Record.{Record, newRecord, allOff, sound, inService, stripeCount, held, writtenRecord, usedLen, partLen, areaLen}
 use Rattle.store_spec.proofs.Area.{held-stripe, length-shares, byte-stays, shares-same}
-use Rattle.store_spec.proofs.Demand3.{set-up-sound, passes}
+use Rattle.store_spec.proofs.Demand3.{set-up-sound, set-up-taken, passes}
 use Rattle.store_spec.proofs.Exact.{read-exact}
 use Rattle.store_spec.proofs.Marks.{off-from, off-none, on-below, off-above, first-below, among-first, mark-at}
 use Rattle.store_spec.proofs.Real.{code-lengths}
@@ -53,59 +53,45 @@ ends lines s area output done z = record {
       (e, ap (λ (o : StoreOutcome). o .answer .refusal) e ∙ z);
 }
 
-set-up-ends : (old : Record) (z : Sizes) (c : ℕ)
-    → StoreEnds (recordLine (newRecord z c) ∷ []) old [] [] (accepted 0 (newRecord z c) [] []) (setUpCall old z c)
+set-up-ends : (old : Record) (z : Sizes) (xs : List ℕ) (c : ℕ)
+    → StoreEnds (recordLine (newRecord z xs c) ∷ []) old [] [] (accepted 0 (newRecord z xs c) [] []) (setUpCall old z xs c)
 unfolding setUpCall
-set-up-ends old z c = ends _ old [] [] _ refl
+set-up-ends old z xs c = ends _ old [] [] _ refl
 
-write-ends : (xs : List ℕ) (s : Record) (area file : List ℕ) → StoreEnds (writeLines s (length area) file) s area [] (writeDone xs s area file) (writeCall xs s area file)
+write-ends : (s : Record) (area file : List ℕ) → StoreEnds (writeLines s (length area) file) s area [] (writeDone s area file) (writeCall s area file)
 unfolding writeCall
-write-ends xs s area file = ends _ s area [] _ refl
+write-ends s area file = ends _ s area [] _ refl
 
 lose-ends : (s : Record) (area : List ℕ) (board : ℕ) → StoreEnds (loseLines s board) s area [] (loseDone s area board) (loseCall s area board)
 unfolding loseCall
 lose-ends s area board = ends _ s area [] _ refl
 
-repair-ends : (xs : List ℕ) (s : Record) (area fresh helpers : List ℕ)
-    → StoreEnds (repairLines s (length area) fresh helpers) s area [] (repairDone xs s area fresh helpers) (repairCall xs s area fresh helpers)
+repair-ends : (s : Record) (area fresh helpers : List ℕ)
+    → StoreEnds (repairLines s (length area) fresh helpers) s area [] (repairDone s area fresh helpers) (repairCall s area fresh helpers)
 unfolding repairCall
-repair-ends xs s area fresh helpers = ends _ s area [] _ refl
+repair-ends s area fresh helpers = ends _ s area [] _ refl
 
-read-ends : (xs : List ℕ) (s : Record) (area boards output : List ℕ)
-    → StoreEnds (readLines xs s area boards output) s area output (readDone xs s area boards output) (readCall xs s area boards output)
+read-ends : (s : Record) (area boards output : List ℕ)
+    → StoreEnds (readLines s area boards output) s area output (readDone s area boards output) (readCall s area boards output)
 unfolding readCall
-read-ends xs s area boards output = ends _ s area output _ refl
+read-ends s area boards output = ends _ s area output _ refl
 
 -- ---- records
 
-off-new : (n m : ℕ) → allOff (drop n (replicate m false)) ≡ true
-off-new n m = off-from n (replicate m false) (λ i e. absurd (off-none (replicate m false) i (all-off m) e))
-  where
-    all-off : (m : ℕ) → allOff (replicate m false) ≡ true
-    all-off Prim.Native.Nat.zero = refl
-    all-off (suc m) = all-off m
-
-new-sound : (z : Sizes) (c : ℕ) → legal z ≡ true → 1 ≤ c → c ≤ maxStripes → sound (newRecord z c) ≡ true
-new-sound z c l a b =
-    facts-sound (newRecord z c) (record { is-legal = l; cap-low = a; cap-high = b; fits = omega arith; beyond = off-new (z .n) maxBoards; blank = refl })
-
-set-up-accepted : (old : Record) (z : Sizes) (c : ℕ) → (setUpCall old z c .answer .refusal ≡ 0) ↔ ((legal z ≡ true) × (1 ≤ c) × (c ≤ maxStripes))
-set-up-accepted old z c = (there, back)
-  where
-    there : setUpCall old z c .answer .refusal ≡ 0 → (legal z ≡ true) × (1 ≤ c) × (c ≤ maxStripes)
-    there h = let f = sound-facts (newRecord z c) (set-up-sound old z c h) in (f .is-legal, f .cap-low, f .cap-high)
-
-    back : (legal z ≡ true) × (1 ≤ c) × (c ≤ maxStripes) → setUpCall old z c .answer .refusal ≡ 0
-    back p =
-        set-up-ends old z c .works
-        (ap not (new-sound z c (p .0) (p .1) (p .2)), (refl, (refl, (refl, (refl, (refl, (refl, (refl, (refl, (refl, tt)))))))))) .1
+set-up-accepted : (old : Record) (z : Sizes) (xs : List ℕ) (c : ℕ)
+    → (setUpCall old z xs c .answer .refusal ≡ 0) ↔ ((legal z ≡ true) × (pointed z xs ≡ true) × (1 ≤ c) × (c ≤ maxStripes))
+set-up-accepted old z xs c = (
+  λ h. let f = sound-facts (newRecord z xs c) (set-up-sound old z xs c h) in (f .is-legal, f .is-pointed, f .cap-low, f .cap-high),
+  λ p. set-up-taken old z xs c (p .0) (p .1) (p .2) (p .3),
+)
 
 sound-there : (s : Record) → sound s ≡ true
-    → (legal (s .sizes) ≡ true) × (1 ≤ s .capacity) × (s .capacity ≤ maxStripes) × (s .length ≤ s .capacity * B (s .sizes))
+    → (legal (s .sizes) ≡ true) × (pointed (s .sizes) (s .points) ≡ true) × (1 ≤ s .capacity) × (s .capacity ≤ maxStripes) × (s .length ≤ s .capacity * B (s .sizes))
     × ((i : ℕ) → inService s i ≡ true → i < s .sizes .n) × (s .written ≡ false → (s .length ≡ 0) × ((i : ℕ) → inService s i ≡ true → ⊥))
 sound-there s h =
     let f = sound-facts s h in (
       f .is-legal,
+      f .is-pointed,
       f .cap-low,
       f .cap-high,
       f .fits,
@@ -114,17 +100,18 @@ sound-there s h =
     )
 
 sound-back : (s : Record)
-    → (legal (s .sizes) ≡ true) × (1 ≤ s .capacity) × (s .capacity ≤ maxStripes) × (s .length ≤ s .capacity * B (s .sizes))
+    → (legal (s .sizes) ≡ true) × (pointed (s .sizes) (s .points) ≡ true) × (1 ≤ s .capacity) × (s .capacity ≤ maxStripes) × (s .length ≤ s .capacity * B (s .sizes))
     × ((i : ℕ) → inService s i ≡ true → i < s .sizes .n) × (s .written ≡ false → (s .length ≡ 0) × ((i : ℕ) → inService s i ≡ true → ⊥))
     → sound s ≡ true
 sound-back s p =
     facts-sound s (record {
       is-legal = p .0;
-      cap-low = p .1;
-      cap-high = p .2;
-      fits = p .3;
-      beyond = off-from (s .sizes .n) (s .marks) (p .4);
-      blank = blank-if s (λ w. (p .5 w .0, off-above (s .marks) (p .5 w .1)));
+      is-pointed = p .1;
+      cap-low = p .2;
+      cap-high = p .3;
+      fits = p .4;
+      beyond = off-from (s .sizes .n) (s .marks) (p .5);
+      blank = blank-if s (λ w. (p .6 w .0, off-above (s .marks) (p .6 w .1)));
     })
 
 -- ---- the area
@@ -134,12 +121,12 @@ held-place : (s : Record) (area : List ℕ) (i t : ℕ) → t < stripeCount s
 unfolding piece
 held-place s area i t h = held-stripe (α (s .sizes)) (s .capacity) (stripeCount s) area i t h
 
-module _ (xs : List ℕ) (s : Record) (area file : List ℕ) (h : writeCall xs s area file .answer .refusal ≡ 0) where
+module _ (s : Record) (area file : List ℕ) (h : writeCall s area file .answer .refusal ≡ 0) where
   write-pass : first storeOrder (writeLines s (length area) file) ≡ Pass
   unfolding writeCall
-  write-pass = passes (first storeOrder (writeLines s (length area) file)) s area [] (writeDone xs s area file) h
+  write-pass = passes (first storeOrder (writeLines s (length area) file)) s area [] (writeDone s area file) h
 
-  write-is : writeCall xs s area file ≡ writeDone xs s area file
+  write-is : writeCall s area file ≡ writeDone s area file
   unfolding writeCall
   write-is = settle-pass _ _ _ write-pass
 
@@ -159,53 +146,53 @@ module _ (xs : List ℕ) (s : Record) (area file : List ℕ) (h : writeCall xs s
   all-low : All (λ i. i < s .sizes .n) (tabulate (s .sizes .n) (λ i. i))
   all-low = first-below (s .sizes .n) (s .sizes .n) (omega arith)
 
-  long : (i : ℕ) → length (share (s .sizes) xs file i) ≡ usedLen new
+  long : (i : ℕ) → length (share (s .sizes) (s .points) file i) ≡ usedLen new
   unfolding new
-  long i = code-lengths xs (s .sizes) (g .is-legal) .share-length file i
+  long i = code-lengths (s .points) (s .sizes) (g .is-legal) .share-length file i
 
-  write-stays : Stays (writtenRecord s (length file)) (tabulate (s .sizes .n) (λ i. i)) area (writeCall xs s area file .area)
+  write-stays : Stays (writtenRecord s (length file)) (tabulate (s .sizes .n) (λ i. i)) area (writeCall s area file .area)
   unfolding new
   write-stays =
       let e = ap (λ (o : StoreOutcome). o .area) write-is in
       record {
-        as-long = ap length e ∙ length-shares new (share (s .sizes) xs file) (usedLen new) long fits-new (tabulate (s .sizes .n) (λ i. i)) area (w .area-is) all-low;
+        as-long = ap length e ∙ length-shares new (share (s .sizes) (s .points) file) (usedLen new) long fits-new (tabulate (s .sizes .n) (λ i. i)) area (w .area-is) all-low;
         same-byte = λ p out. ap (λ (a : List ℕ). getD a p 0) e
-            ∙ byte-stays new (share (s .sizes) xs file) (usedLen new) long fits-new (tabulate (s .sizes .n) (λ i. i)) area (w .area-is) all-low p out;
+            ∙ byte-stays new (share (s .sizes) (s .points) file) (usedLen new) long fits-new (tabulate (s .sizes .n) (λ i. i)) area (w .area-is) all-low p out;
       }
 
   write-place : (i t : ℕ) → i < s .sizes .n → t < stripes (s .sizes) (length file)
-      → take (α (s .sizes)) (drop ((i * s .capacity + t) * α (s .sizes)) (writeCall xs s area file .area)) ≡ kept (s .sizes) xs (stripe (s .sizes) file t) i
+      → take (α (s .sizes)) (drop ((i * s .capacity + t) * α (s .sizes)) (writeCall s area file .area)) ≡ kept (s .sizes) (s .points) (stripe (s .sizes) file t) i
   unfolding new share
   write-place i t hi ht =
-      sym (held-place new (writeCall xs s area file .area) i t ht)
+      sym (held-place new (writeCall s area file .area) i t ht)
       ∙ ap (λ (a : List ℕ). piece (α (s .sizes)) t (held new a i)) (ap (λ (o : StoreOutcome). o .area) write-is)
       ∙ ap (piece (α (s .sizes)) t)
-      (shares-same new (share (s .sizes) xs file) (usedLen new) long fits-new (tabulate (s .sizes .n) (λ i. i)) area (w .area-is) all-low i
+      (shares-same new (share (s .sizes) (s .points) file) (usedLen new) long fits-new (tabulate (s .sizes .n) (λ i. i)) area (w .area-is) all-low i
       (among-first (s .sizes .n) i ∙ lt-ltb i (s .sizes .n) hi))
-      ∙ piece-join (stripes (s .sizes) (length file)) (α (s .sizes)) (λ s₂. kept (s .sizes) xs (stripe (s .sizes) file s₂) i)
-      (λ s₂ l. length-kept (s .sizes) xs (legal-facts (s .sizes) (g .is-legal)) (stripe (s .sizes) file s₂) i) t ht
+      ∙ piece-join (stripes (s .sizes) (length file)) (α (s .sizes)) (λ s₂. kept (s .sizes) (s .points) (stripe (s .sizes) file s₂) i)
+      (λ s₂ l. length-kept (s .sizes) (s .points) (legal-facts (s .sizes) (g .is-legal)) (stripe (s .sizes) file s₂) i) t ht
 
-repair-stays : (xs : List ℕ) (s : Record) (area fresh helpers : List ℕ) → repairCall xs s area fresh helpers .answer .refusal ≡ 0
-    → Stays s fresh area (repairCall xs s area fresh helpers .area)
+repair-stays : (s : Record) (area fresh helpers : List ℕ) → repairCall s area fresh helpers .answer .refusal ≡ 0
+    → Stays s fresh area (repairCall s area fresh helpers .area)
 unfolding repairCall
-repair-stays xs s area fresh helpers h =
-    let p = passes (first storeOrder (repairLines s (length area) fresh helpers)) s area [] (repairDone xs s area fresh helpers) h in
+repair-stays s area fresh helpers h =
+    let p = passes (first storeOrder (repairLines s (length area) fresh helpers)) s area [] (repairDone s area fresh helpers) h in
     let f = repair-facts s (length area) fresh helpers p in
     let g = sound-facts s (f .is-sound) in
-    let l = code-lengths xs (s .sizes) (g .is-legal) in
-    let long = fresh-length xs s area fresh helpers (length area) l (legal-facts (s .sizes) (g .is-legal) .some-fresh) f in
+    let l = code-lengths (s .points) (s .sizes) (g .is-legal) in
+    let long = fresh-length s area fresh helpers (length area) l (legal-facts (s .sizes) (g .is-legal) .some-fresh) f in
     let low = all-left (λ x. x < s .sizes .n) fresh helpers (below-all (s .sizes .n) (fresh ++ helpers) (f .named-below)) in
-    let e : settle (first storeOrder (repairLines s (length area) fresh helpers)) (refused s area []) (repairDone xs s area fresh helpers) ≡ repairDone xs s area fresh helpers =
+    let e : settle (first storeOrder (repairLines s (length area) fresh helpers)) (refused s area []) (repairDone s area fresh helpers) ≡ repairDone s area fresh helpers =
     settle-pass _ _ _ p in
     let q = ap (λ (o : StoreOutcome). o .area) e in
     record {
-      as-long = ap length q ∙ length-shares s (freshShare xs s area fresh helpers) (usedLen s) long (used-fits s g) fresh area (f .area-is) low;
-      same-byte = λ p out. ap (λ (a : List ℕ). getD a p 0) q ∙ byte-stays s (freshShare xs s area fresh helpers) (usedLen s) long (used-fits s g) fresh area (f .area-is) low p out;
+      as-long = ap length q ∙ length-shares s (freshShare s area fresh helpers) (usedLen s) long (used-fits s g) fresh area (f .area-is) low;
+      same-byte = λ p out. ap (λ (a : List ℕ). getD a p 0) q ∙ byte-stays s (freshShare s area fresh helpers) (usedLen s) long (used-fits s g) fresh area (f .area-is) low p out;
     }
 
 -- ---- the ledger's lines
 
-module _ (xs : List ℕ) (b : Book) (area : List ℕ) (ok : legal (b .sizes) ≡ true) (low : All (λ i. i < b .sizes .n) (b .service)) (as-long : length area ≡ b .areaLength) where
+module _ (b : Book) (area : List ℕ) (ok : legal (b .sizes) ≡ true) (low : All (λ i. i < b .sizes .n) (b .service)) (as-long : length area ≡ b .areaLength) where
   up : (i : ℕ) → inService (bookRecord b) i ≡ among (b .service) i
   up i =
       mark-at (b .service) i
@@ -214,7 +201,7 @@ module _ (xs : List ℕ) (b : Book) (area : List ℕ) (ok : legal (b .sizes) ≡
   area-same : not (eqb (length area) (areaLen (bookRecord b))) ≡ not (eqb (b .areaLength) (areaLen (bookRecord b)))
   area-same = ap (λ (m : ℕ). not (eqb m (areaLen (bookRecord b)))) as-long
 
-  lines-agree : (call : Call) → All (λ x. appliesIn (storeLines xs (bookRecord b) area call) x ≡ appliesIn (bookLines b call) x)
+  lines-agree : (call : Call) → All (λ x. appliesIn (storeLines (bookRecord b) area call) x ≡ appliesIn (bookLines b call) x)
       (Area ∷ Long ∷ Empty ∷ Count ∷ Node ∷ Repeat ∷ Down ∷ Short ∷ [])
   unfolding storeLines writeLines loseLines repairLines readLines bookLines
   lines-agree (write file) = (area-same, (refl, (refl, (refl, (refl, (refl, (refl, (refl, tt))))))))
@@ -288,11 +275,11 @@ repair-lines s m fresh helpers =
       ),
     )
 
-read-lines : (xs : List ℕ) (s : Record) (area boards output : List ℕ)
-    → LinesSay (readLines xs s area boards output) (readClaims s xs area boards output)
+read-lines : (s : Record) (area boards output : List ℕ)
+    → LinesSay (readLines s area boards output) (readClaims s area boards output)
 unfolding readLines
-read-lines xs s area boards output =
-    lines-say (readLines xs s area boards output) (readClaims s xs area boards output) (
+read-lines s area boards output =
+    lines-say (readLines s area boards output) (readClaims s area boards output) (
       refl,
       says-not _,
       (
@@ -336,5 +323,5 @@ demand-1 = record {
   write-stays = write-stays;
   repair-stays = repair-stays;
   read-exact = read-exact;
-  lines-agree = λ xs b area call ok low as-long. lines-agree xs b area ok low as-long call;
+  lines-agree = λ b area call ok low as-long. lines-agree b area ok low as-long call;
 }

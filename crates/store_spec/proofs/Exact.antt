@@ -24,13 +24,13 @@ use Rattle.sizes.specs.declared.Check.the-variants.{Refuse, Pass}
 use Rattle.sizes.specs.declared.Refusal.{Refusal}
 use Rattle.sizes.specs.declared.Refusal.the-variants.{Size, Area, Long, Count, Node, Repeat, Short, Empty, Down, Disagree}
 use Rattle.mbcr.specs.Demand2.{Demand2, Named}
-use Rattle.mbcr.specs.Share.{shares, share, DifferentPoints}
+use Rattle.mbcr.specs.Share.{shares, share}
 use Rattle.mbcr.proofs.Demand2.{demand-2}
 use Rattle.board_spec.proofs.Demand1.{clear, written}
 use Rattle.board_spec.specs.Calls.{fileOf}
 use Rattle.store_spec.specs.Calls.{StoreOutcome, accepted, refused, settle, readLines, fileHeld, readCall, readDone}
 use Rattle.store_spec.specs.Record.{Record, held, usedLen, partLen}
-use Rattle.store_spec.proofs.Records.{Reads, Sound, sound-facts, used-fits}
+use Rattle.store_spec.proofs.Records.{Reads, Sound, sound-facts, sound-points, used-fits}
 
 -- ---- no line but DISAGREE holds
 
@@ -48,10 +48,10 @@ found : (s : Record) (area output : List ℕ) (o : Option (List ℕ))
 found s area output (some file) = refl
 found s area output none = refl
 
-module _ (xs : List ℕ) (s : Record) (area boards output : List ℕ) (pts : DifferentPoints (s .sizes) xs) (ba : Bytes area)
-    (h : Only (readLines xs s area boards output)) where
-  line : (x : Refusal) → number x ≢ 10 → (x ≡ Disagree) ⊎ (appliesIn (readLines xs s area boards output) x ≡ false) → appliesIn (readLines xs s area boards output) x ≡ false
-  line = clear (readLines xs s area boards output)
+module _ (s : Record) (area boards output : List ℕ) (ba : Bytes area)
+    (h : Only (readLines s area boards output)) where
+  line : (x : Refusal) → number x ≢ 10 → (x ≡ Disagree) ⊎ (appliesIn (readLines s area boards output) x ≡ false) → appliesIn (readLines s area boards output) x ≡ false
+  line = clear (readLines s area boards output)
 
   facts : Reads s (length area) boards output
   unfolding readLines
@@ -66,7 +66,7 @@ module _ (xs : List ℕ) (s : Record) (area boards output : List ℕ) (pts : Dif
     room = borrow.Author.Tests.ltb-false _ _ (line Short (omega arith) (h .1 .1 .1 .1 .1 .1 .1 .1 .0));
   }
 
-  only-first : first storeOrder (readLines xs s area boards output) ≡ pick (appliesIn (readLines xs s area boards output) Disagree) (Refuse Disagree) Pass
+  only-first : first storeOrder (readLines s area boards output) ≡ pick (appliesIn (readLines s area boards output) Disagree) (Refuse Disagree) Pass
   only-first =
       let p1 = line Size (omega arith) (h .0) in
       let p2 = line Area (omega arith) (h .1 .0) in
@@ -79,17 +79,17 @@ module _ (xs : List ℕ) (s : Record) (area boards output : List ℕ) (pts : Dif
       let p9 = line Short (omega arith) (h .1 .1 .1 .1 .1 .1 .1 .1 .0) in
       rw (p1, p2, p3, p4, p5, p6, p7, p8, p9)
 
-  call-is : (o : Option (List ℕ)) → fileHeld xs s area boards ≡ o → readCall xs s area boards output ≡ outcome s area o output
+  call-is : (o : Option (List ℕ)) → fileHeld s area boards ≡ o → readCall s area boards output ≡ outcome s area o output
   unfolding readLines readCall
   call-is o e =
-      ap (λ (c : Check). settle c (refused s area output) (readDone xs s area boards output)) only-first
-      ∙ found s area output (fileHeld xs s area boards) ∙ ap (λ (o : Option (List ℕ)). outcome s area o output) e
+      ap (λ (c : Check). settle c (refused s area output) (readDone s area boards output)) only-first
+      ∙ found s area output (fileHeld s area boards) ∙ ap (λ (o : Option (List ℕ)). outcome s area o output) e
 
   g : Sound s
   g = sound-facts s (facts .is-sound)
 
-  T : Demand2 (s .sizes) xs
-  T = demand-2 (s .sizes) xs (g .is-legal) pts
+  T : Demand2 (s .sizes) (s .points)
+  T = demand-2 (s .sizes) (s .points) (g .is-legal) (sound-points s g)
 
   named : Named (s .sizes) (s .sizes .k) boards
   named = (facts .count, facts .named-below, facts .all-different)
@@ -106,56 +106,57 @@ module _ (xs : List ℕ) (s : Record) (area boards output : List ℕ) (pts : Dif
 
   -- board by board, or as one list
   shares-all : (file : List ℕ) → length file ≡ s .length
-      → (shares (s .sizes) xs file boards ≡ joined (held s area) boards) ↔ All (λ i. held s area i ≡ share (s .sizes) xs file i) boards
+      → (shares (s .sizes) (s .points) file boards ≡ joined (held s area) boards) ↔ All (λ i. held s area i ≡ share (s .sizes) (s .points) file i) boards
   unfolding shares
   shares-all file l = (there, back)
     where
-      there : joined (share (s .sizes) xs file) boards ≡ joined (held s area) boards → All (λ i. held s area i ≡ share (s .sizes) xs file i) boards
+      there : joined (share (s .sizes) (s .points) file) boards ≡ joined (held s area) boards → All (λ i. held s area i ≡ share (s .sizes) (s .points) file i) boards
       there e =
-          joined-parts (held s area) (share (s .sizes) xs file) boards
+          joined-parts (held s area) (share (s .sizes) (s .points) file) boards
           (all-imp (λ i. i < s .sizes .n) _ (λ i k. held-long i k ∙ ap (λ (m : ℕ). stripes (s .sizes) m * α (s .sizes)) (sym l) ∙ sym (T .share-length file i)) boards
           (below-all (s .sizes .n) boards (facts .named-below)))
           (sym e)
 
-      back : All (λ i. held s area i ≡ share (s .sizes) xs file i) boards → joined (share (s .sizes) xs file) boards ≡ joined (held s area) boards
-      back a = sym (joined-all (held s area) (share (s .sizes) xs file) boards a)
+      back : All (λ i. held s area i ≡ share (s .sizes) (s .points) file i) boards → joined (share (s .sizes) (s .points) file) boards ≡ joined (held s area) boards
+      back a = sym (joined-all (held s area) (share (s .sizes) (s .points) file) boards a)
 
   gives : (file : List ℕ) → length file ≡ s .length → Bytes file
-      → (readCall xs s area boards output ≡ accepted 0 s area (over file output))
-      ↔ All (λ i. held s area i ≡ share (s .sizes) xs file i) boards
-  gives file l bf = (there (fileHeld xs s area boards) refl, back)
+      → (readCall s area boards output ≡ accepted 0 s area (over file output))
+      ↔ All (λ i. held s area i ≡ share (s .sizes) (s .points) file i) boards
+  gives file l bf = (there (fileHeld s area boards) refl, back)
     where
-      there : (o : Option (List ℕ)) → fileHeld xs s area boards ≡ o
-          → readCall xs s area boards output ≡ accepted 0 s area (over file output)
-          → All (λ i. held s area i ≡ share (s .sizes) xs file i) boards
+      there : (o : Option (List ℕ)) → fileHeld s area boards ≡ o
+          → readCall s area boards output ≡ accepted 0 s area (over file output)
+          → All (λ i. held s area i ≡ share (s .sizes) (s .points) file i) boards
       there none e q = absurd (omega (arith, ap (λ (o : StoreOutcome). o .answer .refusal) (sym (call-is none e) ∙ q)))
       there (some f) e q =
           let p = T .read-file (s .length) boards (joined (held s area) boards) f held-bytes named .0 e in
           let same : f ≡ file = written f file output (p .0 ∙ sym l) (ap (λ (o : StoreOutcome). o .output) (sym (call-is (some f) e) ∙ q)) in
-          shares-all file l .0 (ap (λ (f : List ℕ). shares (s .sizes) xs f boards) (sym same) ∙ p .2)
+          shares-all file l .0 (ap (λ (f : List ℕ). shares (s .sizes) (s .points) f boards) (sym same) ∙ p .2)
 
-      back : All (λ i. held s area i ≡ share (s .sizes) xs file i) boards
-          → readCall xs s area boards output ≡ accepted 0 s area (over file output)
+      back : All (λ i. held s area i ≡ share (s .sizes) (s .points) file i) boards
+          → readCall s area boards output ≡ accepted 0 s area (over file output)
       back a = call-is (some file) (T .read-file (s .length) boards (joined (held s area) boards) file held-bytes named .1 (l, bf, shares-all file l .1 a))
 
-  refuses : (readCall xs s area boards output ≡ refused s area output Disagree)
-      ↔ ((file : List ℕ) → length file ≡ s .length → Bytes file → All (λ i. held s area i ≡ share (s .sizes) xs file i) boards → ⊥)
+  refuses : (readCall s area boards output ≡ refused s area output Disagree)
+      ↔ ((file : List ℕ) → length file ≡ s .length → Bytes file → All (λ i. held s area i ≡ share (s .sizes) (s .points) file i) boards → ⊥)
   refuses = (
-    (λ q file l bf a. none-is .0 (there (fileHeld xs s area boards) refl q) file l bf (shares-all file l .1 a)),
+    (λ q file l bf a. none-is .0 (there (fileHeld s area boards) refl q) file l bf (shares-all file l .1 a)),
     (λ f. call-is none (none-is .1 (λ file l bf e. f file l bf (shares-all file l .0 e)))),
   )
     where
-      none-is : (fileHeld xs s area boards ≡ none) ↔ ((file : List ℕ) → length file ≡ s .length → Bytes file → shares (s .sizes) xs file boards ≡ joined (held s area) boards → ⊥)
+      none-is : (fileHeld s area boards ≡ none)
+          ↔ ((file : List ℕ) → length file ≡ s .length → Bytes file → shares (s .sizes) (s .points) file boards ≡ joined (held s area) boards → ⊥)
       none-is = T .read-none (s .length) boards (joined (held s area) boards) held-bytes named
 
-      there : (o : Option (List ℕ)) → fileHeld xs s area boards ≡ o
-          → readCall xs s area boards output ≡ refused s area output Disagree → fileHeld xs s area boards ≡ none
+      there : (o : Option (List ℕ)) → fileHeld s area boards ≡ o
+          → readCall s area boards output ≡ refused s area output Disagree → fileHeld s area boards ≡ none
       there none e q = e
       there (some f) e q = absurd (omega (arith, ap (λ (o : StoreOutcome). o .answer .refusal) (sym (call-is (some f) e) ∙ q)))
 
   pub read-exact : ((file : List ℕ) → length file ≡ s .length → Bytes file
-      → (readCall xs s area boards output ≡ accepted 0 s area (over file output))
-      ↔ All (λ i. held s area i ≡ share (s .sizes) xs file i) boards)
-      × ((readCall xs s area boards output ≡ refused s area output Disagree)
-      ↔ ((file : List ℕ) → length file ≡ s .length → Bytes file → All (λ i. held s area i ≡ share (s .sizes) xs file i) boards → ⊥))
+      → (readCall s area boards output ≡ accepted 0 s area (over file output))
+      ↔ All (λ i. held s area i ≡ share (s .sizes) (s .points) file i) boards)
+      × ((readCall s area boards output ≡ refused s area output Disagree)
+      ↔ ((file : List ℕ) → length file ≡ s .length → Bytes file → All (λ i. held s area i ≡ share (s .sizes) (s .points) file i) boards → ⊥))
   read-exact = (gives, refuses)

@@ -4,7 +4,7 @@ use mathlib.Core.Path.{_≡_, refl}
 use Rattle.lists.specs.Lists.{piece, put}
 use Rattle.gf256.specs.Field.{add, product, reduce, mul, squares, inverse}
 use Rattle.sizes.specs.Sizing.{legal, B, stripes}
-use Rattle.mbcr.specs.Share.{stripe, grid, F, neighbours, symbols, kept, share, shares}
+use Rattle.mbcr.specs.Share.{pointed, stripe, grid, F, neighbours, symbols, kept, share, shares}
 use Rattle.mbcr.specs.Rebuild.{received, exchanged, ownF, ownG, helperPair, helperPacket, gFrom, exchangePacket, fFrom, finishedStripe, finishedShare}
 use Rattle.mbcr.specs.Read.{through, bColumn, cRow, aColumn, decodedStripe, decodedFile, readFile}
 use Rattle.store_spec.specs.Record.{sound}
@@ -13,13 +13,22 @@ use Rattle.store_spec.specs.Calls.{writeLines, loseLines, repairLines, r
 use Rattle.store_spec.specs.FurtherFigures.{FurtherFigures}
 
 pub further-figures : FurtherFigures
-unfolding piece put add product reduce mul squares inverse legal B stripes stripe grid F neighbours symbols kept share shares received exchanged ownF
+unfolding piece put add product reduce mul squares inverse legal B stripes pointed stripe grid F neighbours symbols kept share shares received exchanged ownF
     ownG helperPair helperPacket gFrom exchangePacket fFrom finishedStripe finishedShare through bColumn cRow aColumn decodedStripe decodedFile
     readFile sound helperPackets exchangePackets repairPackets freshShare writeLines loseLines repairLines readLines setUpCall writeCall loseCall
     repairCall readCall
 further-figures = record {
   sound-records = refl;
   unsound-records = refl;
+  pointed-records = refl;
+  unpointed-records = refl;
+  set-up-points = refl;
+  set-up-unpointed = refl;
+  points-write = refl;
+  points-losses = refl;
+  points-repair = refl;
+  points-packets = refl;
+  points-read = refl;
   set-up-new = refl;
   set-up-refused = refl;
   write-refusals = refl;

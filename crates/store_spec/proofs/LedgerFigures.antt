@@ -13,7 +13,7 @@ use Rattle.lists.proofs.Tests.{both, every-all, same-eq}
 use Rattle.lists.proofs.Boards.{all-among, below-all}
 use Rattle.gf256.specs.Field.{add, product, reduce, mul, squares, inverse}
 use Rattle.sizes.specs.Sizing.{legal, B, stripes}
-use Rattle.mbcr.specs.Share.{standard, stripe, grid, F, neighbours, symbols, kept, share, shares}
+use Rattle.mbcr.specs.Share.{pointed, stripe, grid, F, neighbours, symbols, kept, share, shares}
 use Rattle.mbcr.specs.Rebuild.{received, exchanged, ownF, ownG, helperPair, helperPacket, gFrom, exchangePacket, fFrom, finishedStripe, finishedShare}
 use Rattle.mbcr.specs.Read.{through, bColumn, cRow, aColumn, decodedStripe, decodedFile, readFile}
 use Rattle.store_spec.specs.Record.{Record, part, sound}
@@ -37,7 +37,7 @@ abbrev allows : State → Book → List Step → Bool
 allows w b [] = true
 allows w b (t ∷ ts) =
     pick (agrees b (w .kept) (w .area) (t .area))
-    (pick (bytes (t .call)) (allows (left (stepOutcome standard w t)) (enter b (t .call) .book) ts) false)
+    (pick (bytes (t .call)) (allows (left (stepOutcome w t)) (enter b (t .call) .book) ts) false)
     false
 
 pub agree : (b : Book) (s : Record) (old new : List ℕ) → agrees b s old new ≡ true → Altered b s old new
@@ -55,17 +55,17 @@ fair (lose board) e = tt
 fair (repair fresh helpers) e = tt
 fair (read boards output) e = tt
 
-allow : (w : State) (b : Book) (ts : List Step) → allows w b ts ≡ true → Allowed standard w b ts
+allow : (w : State) (b : Book) (ts : List Step) → allows w b ts ≡ true → Allowed w b ts
 allow w b [] e = tt
 allow w b (t ∷ ts) e =
-    let h = both (agrees b (w .kept) (w .area) (t .area)) (pick (bytes (t .call)) (allows (left (stepOutcome standard w t)) (enter b (t .call) .book) ts) false) e in
-    let g = both (bytes (t .call)) (allows (left (stepOutcome standard w t)) (enter b (t .call) .book) ts) (h .1) in
-    (agree b (w .kept) (w .area) (t .area) (h .0), fair (t .call) (g .0), allow (left (stepOutcome standard w t)) (enter b (t .call) .book) ts (g .1))
+    let h = both (agrees b (w .kept) (w .area) (t .area)) (pick (bytes (t .call)) (allows (left (stepOutcome w t)) (enter b (t .call) .book) ts) false) e in
+    let g = both (bytes (t .call)) (allows (left (stepOutcome w t)) (enter b (t .call) .book) ts) (h .1) in
+    (agree b (w .kept) (w .area) (t .area) (h .0), fair (t .call) (g .0), allow (left (stepOutcome w t)) (enter b (t .call) .book) ts (g .1))
 
 -- ---- the figures
 
 pub ledger-figures : LedgerFigures
-unfolding piece put add product reduce mul squares inverse legal B stripes stripe grid F neighbours symbols kept share shares received exchanged ownF
+unfolding piece put add product reduce mul squares inverse legal B stripes pointed stripe grid F neighbours symbols kept share shares received exchanged ownF
     ownG helperPair helperPacket gFrom exchangePacket fFrom finishedStripe finishedShare through bColumn cRow aColumn decodedStripe decodedFile
     readFile sound helperPackets exchangePackets repairPackets freshShare writeLines loseLines repairLines readLines setUpCall writeCall loseCall
     repairCall readCall bookLines accept enter act

@@ -33,10 +33,10 @@ module _ (b : Book) (output : List ℕ) (done : Entry) where
   by-refused Pass e h = absurd (h e)
   by-refused (Refuse x) e h = (refl, refl)
 
-  by-stay : (t : Check) → (done .book .sizes ≡ b .sizes) × (done .book .capacity ≡ b .capacity) × (done .book .areaLength ≡ b .areaLength)
-      → (by t .book .sizes ≡ b .sizes) × (by t .book .capacity ≡ b .capacity) × (by t .book .areaLength ≡ b .areaLength)
+  by-stay : (t : Check) → (done .book .sizes ≡ b .sizes) × (done .book .points ≡ b .points) × (done .book .capacity ≡ b .capacity) × (done .book .areaLength ≡ b .areaLength)
+      → (by t .book .sizes ≡ b .sizes) × (by t .book .points ≡ b .points) × (by t .book .capacity ≡ b .capacity) × (by t .book .areaLength ≡ b .areaLength)
   by-stay Pass h = h
-  by-stay (Refuse x) h = (refl, refl, refl)
+  by-stay (Refuse x) h = (refl, refl, refl, refl)
 
   by-same : (t : Check) → done .book ≡ b → by t .book ≡ b
   by-same Pass e = e
@@ -50,12 +50,13 @@ accepts b (repair fresh helpers) = refl
 accepts b (read boards output) = refl
 
 done-stay : (b : Book) (call : Call)
-    → (accept b call .book .sizes ≡ b .sizes) × (accept b call .book .capacity ≡ b .capacity) × (accept b call .book .areaLength ≡ b .areaLength)
+    → (accept b call .book .sizes ≡ b .sizes) × (accept b call .book .points ≡ b .points)
+    × (accept b call .book .capacity ≡ b .capacity) × (accept b call .book .areaLength ≡ b .areaLength)
 unfolding accept
-done-stay b (write file) = (refl, refl, refl)
-done-stay b (lose board) = (refl, refl, refl)
-done-stay b (repair fresh helpers) = (refl, refl, refl)
-done-stay b (read boards output) = (refl, refl, refl)
+done-stay b (write file) = (refl, refl, refl, refl)
+done-stay b (lose board) = (refl, refl, refl, refl)
+done-stay b (repair fresh helpers) = (refl, refl, refl, refl)
+done-stay b (read boards output) = (refl, refl, refl, refl)
 
 is-done : (b : Book) (call : Call) → Accepted b call → enter b call ≡ accept b call
 unfolding enter
@@ -66,7 +67,7 @@ unfolding enter
 refused b call h = by-refused b (outputOf call) (accept b call) (first storeOrder (bookLines b call)) (accepts b call) h
 
 stay : (b : Book) (call : Call)
-    → (enter b call .book .sizes ≡ b .sizes) × (enter b call .book .capacity ≡ b .capacity) × (enter b call .book .areaLength ≡ b .areaLength)
+    → (enter b call .book .sizes ≡ b .sizes) × (enter b call .book .points ≡ b .points) × (enter b call .book .capacity ≡ b .capacity) × (enter b call .book .areaLength ≡ b .areaLength)
 unfolding enter
 stay b call = by-stay b (outputOf call) (accept b call) (first storeOrder (bookLines b call)) (done-stay b call)
 

@@ -68,26 +68,26 @@ all-on (b ∷ boards) marks i h =
 
 -- ---- the calls
 
-module _ (xs : List ℕ) (s : Record) (area : List ℕ) where
-  did-write : (file : List ℕ) → writeCall xs s area file .answer .refusal ≡ 0 → writeCall xs s area file ≡ writeDone xs s area file
+module _ (s : Record) (area : List ℕ) where
+  did-write : (file : List ℕ) → writeCall s area file .answer .refusal ≡ 0 → writeCall s area file ≡ writeDone s area file
   unfolding writeCall
-  did-write file e = by-done (first storeOrder (writeLines s (length area) file)) s area [] (writeDone xs s area file) e
+  did-write file e = by-done (first storeOrder (writeLines s (length area) file)) s area [] (writeDone s area file) e
 
   did-lose : (board : ℕ) → loseCall s area board .answer .refusal ≡ 0 → loseCall s area board ≡ loseDone s area board
   unfolding loseCall
   did-lose board e = by-done (first storeOrder (loseLines s board)) s area [] (loseDone s area board) e
 
-  did-repair : (fresh helpers : List ℕ) → repairCall xs s area fresh helpers .answer .refusal ≡ 0 → repairCall xs s area fresh helpers ≡ repairDone xs s area fresh helpers
+  did-repair : (fresh helpers : List ℕ) → repairCall s area fresh helpers .answer .refusal ≡ 0 → repairCall s area fresh helpers ≡ repairDone s area fresh helpers
   unfolding repairCall
-  did-repair fresh helpers e = by-done (first storeOrder (repairLines s (length area) fresh helpers)) s area [] (repairDone xs s area fresh helpers) e
+  did-repair fresh helpers e = by-done (first storeOrder (repairLines s (length area) fresh helpers)) s area [] (repairDone s area fresh helpers) e
 
   same : (t : Check) (output : List ℕ) (done : StoreOutcome) → done .handed ≡ s → settle t (refused s area output) done .handed ≡ s
   same Pass output done e = e
   same (Refuse x) output done e = refl
 
-  did-read : (boards output : List ℕ) → readCall xs s area boards output .handed ≡ s
+  did-read : (boards output : List ℕ) → readCall s area boards output .handed ≡ s
   unfolding readCall
-  did-read boards output = same (first storeOrder (readLines xs s area boards output)) output (readDone xs s area boards output) refl
+  did-read boards output = same (first storeOrder (readLines s area boards output)) output (readDone s area boards output) refl
 
 -- ---- whatever the call
 
@@ -97,19 +97,19 @@ keeps : (t : Check) (s : Record) (area output : List ℕ) (done : StoreOutcome) 
 keeps Pass s area output done e h = absurd (h e)
 keeps (Refuse x) s area output done e h = refl
 
-refused-keeps : (xs : List ℕ) (w : State) (call : Call) → (act xs w call .answer .refusal ≡ 0 → ⊥)
-    → act xs w call ≡ record { answer = act xs w call .answer; handed = w .kept; area = w .area; output = outputOf call }
+refused-keeps : (w : State) (call : Call) → (act w call .answer .refusal ≡ 0 → ⊥)
+    → act w call ≡ record { answer = act w call .answer; handed = w .kept; area = w .area; output = outputOf call }
 unfolding act writeCall loseCall repairCall readCall
-refused-keeps xs w (write file) h =
-    keeps (first storeOrder (writeLines (w .kept) (length (w .area)) file)) (w .kept) (w .area) [] (writeDone xs (w .kept) (w .area) file) refl h
-refused-keeps xs w (lose board) h =
+refused-keeps w (write file) h =
+    keeps (first storeOrder (writeLines (w .kept) (length (w .area)) file)) (w .kept) (w .area) [] (writeDone (w .kept) (w .area) file) refl h
+refused-keeps w (lose board) h =
     keeps (first storeOrder (loseLines (w .kept) board)) (w .kept) (w .area) [] (loseDone (w .kept) (w .area) board) refl h
-refused-keeps xs w (repair fresh helpers) h =
+refused-keeps w (repair fresh helpers) h =
     keeps (first storeOrder (repairLines (w .kept) (length (w .area)) fresh helpers)) (w .kept) (w .area) []
-    (repairDone xs (w .kept) (w .area) fresh helpers) refl h
-refused-keeps xs w (read boards output) h =
-    keeps (first storeOrder (readLines xs (w .kept) (w .area) boards output)) (w .kept) (w .area) output
-    (readDone xs (w .kept) (w .area) boards output) refl h
+    (repairDone (w .kept) (w .area) fresh helpers) refl h
+refused-keeps w (read boards output) h =
+    keeps (first storeOrder (readLines (w .kept) (w .area) boards output)) (w .kept) (w .area) output
+    (readDone (w .kept) (w .area) boards output) refl h
 
 length-on : (boards : List ℕ) (marks : List Bool) → length (turnOn boards marks) ≡ length marks
 length-on [] marks = refl
@@ -120,41 +120,58 @@ full : (t : Check) (s : Record) (area output : List ℕ) (done : StoreOutcome) �
 full Pass s area output done e d = d
 full (Refuse x) s area output done e d = e
 
-full-marks : (xs : List ℕ) (w : State) (call : Call) → length (w .kept .marks) ≡ maxBoards → length (act xs w call .handed .marks) ≡ maxBoards
+full-marks : (w : State) (call : Call) → length (w .kept .marks) ≡ maxBoards → length (act w call .handed .marks) ≡ maxBoards
 unfolding act writeCall loseCall repairCall readCall
-full-marks xs w (write file) e =
-    full (first storeOrder (writeLines (w .kept) (length (w .area)) file)) (w .kept) (w .area) [] (writeDone xs (w .kept) (w .area) file) e refl
-full-marks xs w (lose board) e =
+full-marks w (write file) e =
+    full (first storeOrder (writeLines (w .kept) (length (w .area)) file)) (w .kept) (w .area) [] (writeDone (w .kept) (w .area) file) e refl
+full-marks w (lose board) e =
     full (first storeOrder (loseLines (w .kept) board)) (w .kept) (w .area) [] (loseDone (w .kept) (w .area) board) e
     (length-set (w .kept .marks) board false ∙ e)
-full-marks xs w (repair fresh helpers) e =
+full-marks w (repair fresh helpers) e =
     full (first storeOrder (repairLines (w .kept) (length (w .area)) fresh helpers)) (w .kept) (w .area) []
-    (repairDone xs (w .kept) (w .area) fresh helpers) e (length-on fresh (w .kept .marks) ∙ e)
-full-marks xs w (read boards output) e =
-    full (first storeOrder (readLines xs (w .kept) (w .area) boards output)) (w .kept) (w .area) output
-    (readDone xs (w .kept) (w .area) boards output) e e
+    (repairDone (w .kept) (w .area) fresh helpers) e (length-on fresh (w .kept .marks) ∙ e)
+full-marks w (read boards output) e =
+    full (first storeOrder (readLines (w .kept) (w .area) boards output)) (w .kept) (w .area) output
+    (readDone (w .kept) (w .area) boards output) e e
+
+points-by : (t : Check) (s : Record) (area output : List ℕ) (done : StoreOutcome) → done .handed .points ≡ s .points
+    → settle t (refused s area output) done .handed .points ≡ s .points
+points-by Pass s area output done d = d
+points-by (Refuse x) s area output done d = refl
+
+points-stay : (w : State) (call : Call) → act w call .handed .points ≡ w .kept .points
+unfolding act writeCall loseCall repairCall readCall
+points-stay w (write file) =
+    points-by (first storeOrder (writeLines (w .kept) (length (w .area)) file)) (w .kept) (w .area) [] (writeDone (w .kept) (w .area) file) refl
+points-stay w (lose board) = points-by (first storeOrder (loseLines (w .kept) board)) (w .kept) (w .area) [] (loseDone (w .kept) (w .area) board) refl
+points-stay w (repair fresh helpers) =
+    points-by (first storeOrder (repairLines (w .kept) (length (w .area)) fresh helpers)) (w .kept) (w .area) []
+    (repairDone (w .kept) (w .area) fresh helpers) refl
+points-stay w (read boards output) =
+    points-by (first storeOrder (readLines (w .kept) (w .area) boards output)) (w .kept) (w .area) output (readDone (w .kept) (w .area) boards output) refl
 
 pub mark-laws : MarkLaws
 mark-laws = record {
   refused-keeps = refused-keeps;
   full-marks = full-marks;
-  writes = λ xs s area file e.
-      let d = ap (λ (o : StoreOutcome). o .handed) (did-write xs s area file e) in (
+  points-stay = points-stay;
+  writes = λ s area file e.
+      let d = ap (λ (o : StoreOutcome). o .handed) (did-write s area file e) in (
         λ i h. ap (λ (r : Record). inService r i) d ∙ tabulate-at maxBoards (λ x. ltb x (s .sizes .n)) false i h,
-        (ap (λ (r : Record). r .sizes) d, ap (λ (r : Record). r .capacity) d),
+        (ap (λ (r : Record). r .sizes) d, ap (λ (r : Record). r .points) d, ap (λ (r : Record). r .capacity) d),
         ap (λ (r : Record). r .written) d,
         ap (λ (r : Record). r .length) d,
       );
   loses = λ s area board e.
-      let d = ap (λ (o : StoreOutcome). o .handed) (did-lose [] s area board e) in (
+      let d = ap (λ (o : StoreOutcome). o .handed) (did-lose s area board e) in (
         λ i. ap (λ (r : Record). inService r i) d ∙ off (s .marks) board i,
-        (ap (λ (r : Record). r .sizes) d, ap (λ (r : Record). r .capacity) d),
+        (ap (λ (r : Record). r .sizes) d, ap (λ (r : Record). r .points) d, ap (λ (r : Record). r .capacity) d),
         (ap (λ (r : Record). r .written) d, ap (λ (r : Record). r .length) d),
       );
-  repairs = λ xs s area fresh helpers full e.
-      let d = ap (λ (o : StoreOutcome). o .handed) (did-repair xs s area fresh helpers e) in (
+  repairs = λ s area fresh helpers full e.
+      let d = ap (λ (o : StoreOutcome). o .handed) (did-repair s area fresh helpers e) in (
         λ i h. ap (λ (r : Record). inService r i) d ∙ all-on fresh (s .marks) i (omega (arith, full, h)),
-        (ap (λ (r : Record). r .sizes) d, ap (λ (r : Record). r .capacity) d),
+        (ap (λ (r : Record). r .sizes) d, ap (λ (r : Record). r .points) d, ap (λ (r : Record). r .capacity) d),
         (ap (λ (r : Record). r .written) d, ap (λ (r : Record). r .length) d),
       );
   reads = did-read;

@@ -26,14 +26,14 @@ fair (lose board) cs h = (tt, h)
 fair (repair fresh helpers) cs h = (tt, h)
 fair (read boards output) cs h = (tt, h)
 
-all-allowed : (xs : List ℕ) (w : State) (b : Book) (cs : List Call) → All Bytes (files cs) → Allowed xs w b (unaltered xs w cs)
-all-allowed xs w b [] h = tt
-all-allowed xs w b (call ∷ cs) h =
-    let f = fair call cs h in (as-it-was b (w .kept) (w .area), f .0, all-allowed xs (left (act xs w call)) (enter b call .book) cs (f .1))
+all-allowed : (w : State) (b : Book) (cs : List Call) → All Bytes (files cs) → Allowed w b (unaltered w cs)
+all-allowed w b [] h = tt
+all-allowed w b (call ∷ cs) h =
+    let f = fair call cs h in (as-it-was b (w .kept) (w .area), f .0, all-allowed (left (act w call)) (enter b call .book) cs (f .1))
 
-same-calls : (xs : List ℕ) (w : State) (cs : List Call) → calls (unaltered xs w cs) ≡ cs
-same-calls xs w [] = refl
-same-calls xs w (call ∷ cs) = ap (λ (l : List Call). call ∷ l) (same-calls xs (left (act xs w call)) cs)
+same-calls : (w : State) (cs : List Call) → calls (unaltered w cs) ≡ cs
+same-calls w [] = refl
+same-calls w (call ∷ cs) = ap (λ (l : List Call). call ∷ l) (same-calls (left (act w call)) cs)
 
 -- byte q of a board's part is byte i × C × α + q of the area
 part-at : (s : Record) (area : List ℕ) (i q : ℕ) → q < partLen s → getD (part s area i) q 0 ≡ getD area (i * partLen s + q) 0
@@ -75,7 +75,7 @@ altered-is b s old new = (there, back)
 
 pub premises : Premises
 premises = record {
-  all-allowed = λ xs old z c area cs h. all-allowed xs (begun old z c area) (openBook z c (length area)) cs h;
+  all-allowed = λ old z xs c area cs h. all-allowed (begun old z xs c area) (openBook z xs c (length area)) cs h;
   same-calls = same-calls;
   altered-is = altered-is;
 }

@@ -22,7 +22,7 @@ use Rattle.mbcr.proofs.Demand2.{demand-2}
 use Rattle.mbcr.proofs.Points.{Boards}
 use Rattle.mbcr.proofs.Repair.{length-share, length-packet, length-exchange, length-finished}
 use Rattle.store_spec.proofs.Named.{named-boards, named-count}
-use Rattle.store_spec.proofs.Seam.{Hears, Laws, Lengths}
+use Rattle.store_spec.proofs.Seam.{Hears, Lengths, AllLaws}
 
 module _ (xs : List ℕ) (z : Sizes) (ok : legal z ≡ true) (pts : DifferentPoints z xs) where
   T : Demand2 z xs
@@ -69,5 +69,5 @@ code-lengths xs z ok =
       finished-length = length-finished z xs f;
     }
 
-pub code-laws : (xs : List ℕ) (z : Sizes) → legal z ≡ true → DifferentPoints z xs → Laws xs z
+pub code-laws : AllLaws
 code-laws xs z ok pts = record { lengths = code-lengths xs z ok; rebuilt = rebuilt xs z ok pts; reads = reads xs z ok pts }

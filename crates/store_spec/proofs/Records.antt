@@ -17,6 +17,8 @@ use Rattle.sizes.specs.declared.Check.the-variants.{Pass}
 use Rattle.sizes.specs.declared.Sizes.{Sizes}
 use Rattle.sizes.proofs.Legal.{stripes-least, legal-facts}
 use Rattle.sizes.proofs.Lines.{first-clear, clear-first}
+use Rattle.mbcr.specs.Share.{pointed, DifferentPoints}
+use Rattle.mbcr.proofs.PointLaws.{pointed-differ}
 use Rattle.store_spec.specs.Calls.{writeLines, loseLines, repairLines, readLines, fileHeld}
 use Rattle.store_spec.specs.Packets.{hearHelpers}
 use Rattle.store_spec.specs.Record.{Record, allOff, sound, usedLen, partLen, areaLen, inService}
@@ -27,6 +29,7 @@ unwritten s = pick (s .written) true (alls (eqb (s .length) 0 ∷ allOff (s .mar
 
 pub record Sound (s : Record) : Type 0 where
   pub is-legal : legal (s .sizes) ≡ true
+  pub is-pointed : pointed (s .sizes) (s .points) ≡ true
   pub cap-low : 1 ≤ s .capacity
   pub cap-high : s .capacity ≤ maxStripes
   pub fits : s .length ≤ s .capacity * B (s .sizes)
@@ -36,6 +39,7 @@ pub record Sound (s : Record) : Type 0 where
 soundTests : Record → List Bool
 soundTests s =
     legal (s .sizes)
+    ∷ pointed (s .sizes) (s .points)
     ∷ leb 1 (s .capacity)
     ∷ leb (s .capacity) maxStripes
     ∷ leb (s .length) (s .capacity * B (s .sizes))
@@ -49,18 +53,23 @@ sound-facts s h =
     let e = alls-hold (soundTests s) h in
     record {
       is-legal = e .0;
-      cap-low = leb-true _ _ (e .1 .0);
-      cap-high = leb-true _ _ (e .1 .1 .0);
-      fits = leb-true _ _ (e .1 .1 .1 .0);
-      beyond = e .1 .1 .1 .1 .0;
-      blank = e .1 .1 .1 .1 .1 .0;
+      is-pointed = e .1 .0;
+      cap-low = leb-true _ _ (e .1 .1 .0);
+      cap-high = leb-true _ _ (e .1 .1 .1 .0);
+      fits = leb-true _ _ (e .1 .1 .1 .1 .0);
+      beyond = e .1 .1 .1 .1 .1 .0;
+      blank = e .1 .1 .1 .1 .1 .1 .0;
     }
 
 pub facts-sound : (s : Record) → Sound s → sound s ≡ true
 unfolding sound soundTests
 facts-sound s f =
     hold-alls (soundTests s)
-    (f .is-legal, (le-leb _ _ (f .cap-low), (le-leb _ _ (f .cap-high), (le-leb _ _ (f .fits), (f .beyond, (f .blank, tt))))))
+    (f .is-legal, (f .is-pointed, (le-leb _ _ (f .cap-low), (le-leb _ _ (f .cap-high), (le-leb _ _ (f .fits), (f .beyond, (f .blank, tt)))))))
+
+-- the points of a sound record differ
+pub sound-points : (s : Record) → Sound s → DifferentPoints (s .sizes) (s .points)
+sound-points s f = pointed-differ (s .sizes) (s .points) (f .is-legal) (f .is-pointed)
 
 pub blank-off : (s : Record) → unwritten s ≡ true → s .written ≡ false → allOff (s .marks) ≡ true
 blank-off s h w =
@@ -150,11 +159,11 @@ pub record Reads (s : Record) (m : ℕ) (boards output : List ℕ) : Type 0 wher
   pub all-up : every (inService s) boards ≡ true
   pub room : s .length ≤ length output
 
-pub read-facts : (xs : List ℕ) (s : Record) (area boards output : List ℕ) → first storeOrder (readLines xs s area boards output) ≡ Pass
-    → Reads s (length area) boards output × (given (fileHeld xs s area boards) ≡ true)
+pub read-facts : (s : Record) (area boards output : List ℕ) → first storeOrder (readLines s area boards output) ≡ Pass
+    → Reads s (length area) boards output × (given (fileHeld s area boards) ≡ true)
 unfolding readLines
-read-facts xs s area boards output h =
-    let e = first-clear (readLines xs s area boards output) storeOrder h in (
+read-facts s area boards output h =
+    let e = first-clear (readLines s area boards output) storeOrder h in (
       record {
         is-sound = not-no _ (e .0);
         area-is = eqb-true _ _ (not-no _ (e .1 .0));
@@ -168,12 +177,12 @@ read-facts xs s area boards output h =
       not-no _ (e .1 .1 .1 .1 .1 .1 .1 .1 .1 .0),
     )
 
-pub reads-pass : (xs : List ℕ) (s : Record) (area boards output : List ℕ) → Reads s (length area) boards output
-    → given (fileHeld xs s area boards) ≡ true
-    → first storeOrder (readLines xs s area boards output) ≡ Pass
+pub reads-pass : (s : Record) (area boards output : List ℕ) → Reads s (length area) boards output
+    → given (fileHeld s area boards) ≡ true
+    → first storeOrder (readLines s area boards output) ≡ Pass
 unfolding readLines
-reads-pass xs s area boards output f g =
-    clear-first (readLines xs s area boards output) storeOrder (
+reads-pass s area boards output f g =
+    clear-first (readLines s area boards output) storeOrder (
       ap not (f .is-sound),
       (
         ap not (eq-eqb _ _ (f .area-is)),

@@ -20,15 +20,15 @@ use Rattle.store_spec.proofs.Packets.{helpers-each, helpers-different, 
 use Rattle.store_spec.proofs.Records.{Repairs}
 use Rattle.store_spec.proofs.Seam.{Laws, Hears, Lengths}
 
-module _ (xs : List ℕ) (s : Record) (area fresh helpers : List ℕ) (m : ℕ) (laws : Lengths xs (s .sizes)) (low : 1 ≤ s .sizes .r) (f : Repairs s m fresh helpers) where
+module _ (s : Record) (area fresh helpers : List ℕ) (m : ℕ) (laws : Lengths (s .points) (s .sizes)) (low : 1 ≤ s .sizes .r) (f : Repairs s m fresh helpers) where
   -- ---- who hears whom
 
   -- the helpers that board i hears, and the partners
   unfoldable pub heardBy : ℕ → List ℕ
-  heardBy i = sendersOf (sentTo i (helperPackets xs s area fresh helpers))
+  heardBy i = sendersOf (sentTo i (helperPackets s area fresh helpers))
 
   unfoldable pub partnersOf : ℕ → List ℕ
-  partnersOf i = sendersOf (sentTo i (exchangePackets xs s area fresh helpers))
+  partnersOf i = sendersOf (sentTo i (exchangePackets s area fresh helpers))
 
   by-helpers : (P : ℕ → List ℕ → Type 0) → EachHears P (hearHelpers (s .sizes .d) fresh helpers) → (i : ℕ) → among fresh i ≡ true → P i (heardBy i)
   unfolding heardBy helperPackets
@@ -71,12 +71,12 @@ module _ (xs : List ℕ) (s : Record) (area fresh helpers : List ℕ) (m : ℕ) 
       rw x (omega arith)
 
   pub gets : (i : ℕ) → among fresh i ≡ true
-      → total (sentTo i (repairPackets xs s area fresh helpers)) ≡ stripes (s .sizes) (s .length) * (2 * s .sizes .d + s .sizes .r - 1)
+      → total (sentTo i (repairPackets s area fresh helpers)) ≡ stripes (s .sizes) (s .length) * (2 * s .sizes .d + s .sizes .r - 1)
   unfolding repairPackets helperPackets exchangePackets heardBy partnersOf
   gets i e =
       let h : length (heardBy i) ≡ s .sizes .d = by-helpers (λ j l. length l ≡ s .sizes .d) helpers-counted i e in
       let p : suc (length (partnersOf i)) ≡ s .sizes .r = by-partners (λ j l. suc (length l) ≡ s .sizes .r) partners-counted i e in
-      total-to-append i (helperPackets xs s area fresh helpers) (exchangePackets xs s area fresh helpers)
+      total-to-append i (helperPackets s area fresh helpers) (exchangePackets s area fresh helpers)
       ∙ rw (
         total-to _ (2 * stripes (s .sizes) (s .length)) (λ j i2. laws .helper-length _ _ _ _) (hearHelpers (s .sizes .d) fresh helpers) i,
         total-to _ (stripes (s .sizes) (s .length)) (λ j i2. laws .exchange-length _ _ _ _) (hearPartners fresh) i,
@@ -84,7 +84,7 @@ module _ (xs : List ℕ) (s : Record) (area fresh helpers : List ℕ) (m : ℕ) 
       )
       (sum-one (s .sizes .d) (s .sizes .r) (length (partnersOf i)) (stripes (s .sizes) (s .length)) p)
 
-  pub moved-is : total (repairPackets xs s area fresh helpers) ≡ stripes (s .sizes) (s .length) * s .sizes .r * (2 * s .sizes .d + s .sizes .r - 1)
+  pub moved-is : total (repairPackets s area fresh helpers) ≡ stripes (s .sizes) (s .length) * s .sizes .r * (2 * s .sizes .d + s .sizes .r - 1)
   unfolding repairPackets helperPackets exchangePackets
   moved-is =
       let q : suc (s .sizes .r - 1) ≡ s .sizes .r = omega arith in
@@ -93,7 +93,7 @@ module _ (xs : List ℕ) (s : Record) (area fresh helpers : List ℕ) (m : ℕ) 
       let p : EachHears (λ i l. length l ≡ s .sizes .r - 1) (hearPartners fresh) =
       partners-each (λ i l. length l ≡ s .sizes .r - 1) fresh
       (all-imp (λ i. suc (length (without i fresh)) ≡ s .sizes .r) (λ i. length (without i fresh) ≡ s .sizes .r - 1) (λ i e. omega arith) fresh partners-counted) in
-      total-append (helperPackets xs s area fresh helpers) (exchangePackets xs s area fresh helpers)
+      total-append (helperPackets s area fresh helpers) (exchangePackets s area fresh helpers)
       ∙ rw (
         total-all _ (2 * stripes (s .sizes) (s .length)) (λ j i2. laws .helper-length _ _ _ _) (hearHelpers (s .sizes .d) fresh helpers) (s .sizes .d) helpers-counted,
         total-all _ (stripes (s .sizes) (s .length)) (λ j i2. laws .exchange-length _ _ _ _) (hearPartners fresh) (s .sizes .r - 1) p,
@@ -102,7 +102,7 @@ module _ (xs : List ℕ) (s : Record) (area fresh helpers : List ℕ) (m : ℕ) 
       )
       (sum-all (s .sizes .d) (s .sizes .r) (s .sizes .r - 1) (stripes (s .sizes) (s .length)) q)
 
-  pub fresh-length : (i : ℕ) → length (freshShare xs s area fresh helpers i) ≡ stripes (s .sizes) (s .length) * α (s .sizes)
+  pub fresh-length : (i : ℕ) → length (freshShare s area fresh helpers i) ≡ stripes (s .sizes) (s .length) * α (s .sizes)
   unfolding freshShare
   fresh-length i = laws .finished-length _ _ _ _ _ _
 
@@ -115,34 +115,37 @@ module _ (xs : List ℕ) (s : Record) (area fresh helpers : List ℕ) (m : ℕ) 
   partner-count i e = length-without i fresh (f .fresh-different) e ∙ f .fresh-count
 
   pub fresh-by : (i : ℕ) → among fresh i ≡ true
-      → freshShare xs s area fresh helpers i
-      ≡ finishedShare (s .sizes) xs (stripes (s .sizes) (s .length)) i (heardBy i)
-      (joined (λ j. helperPacket (s .sizes) xs (stripes (s .sizes) (s .length)) j i (held s area j)) (heardBy i)) (without i fresh)
+      → freshShare s area fresh helpers i
+      ≡ finishedShare (s .sizes) (s .points) (stripes (s .sizes) (s .length)) i (heardBy i)
+      (joined (λ j. helperPacket (s .sizes) (s .points) (stripes (s .sizes) (s .length)) j i (held s area j)) (heardBy i)) (without i fresh)
       (joined
-      (λ m. exchangePacket (s .sizes) xs (stripes (s .sizes) (s .length)) (heardBy m) (joined (λ j. helperPacket (s .sizes) xs (stripes (s .sizes) (s .length)) j m (held s area j)) (heardBy m)) i)
+      (λ m. exchangePacket (s .sizes) (s .points) (stripes (s .sizes) (s .length)) (heardBy m)
+      (joined (λ j. helperPacket (s .sizes) (s .points) (stripes (s .sizes) (s .length)) j m (held s area j)) (heardBy m)) i)
       (without i fresh))
   unfolding freshShare helperPackets exchangePackets heardBy partnersOf
   fresh-by i e =
-      let c : (j : ℕ) → contents (sentTo j (helperPackets xs s area fresh helpers)) ≡ joined (λ k. helperPacket (s .sizes) xs (stripes (s .sizes) (s .length)) k j (held s area k)) (heardBy j) =
+      let c : (j : ℕ) → contents (sentTo j (helperPackets s area fresh helpers))
+      ≡ joined (λ k. helperPacket (s .sizes) (s .points) (stripes (s .sizes) (s .length)) k j (held s area k)) (heardBy j) =
       λ j. contents-to _ j (hearHelpers (s .sizes .d) fresh helpers) in
       let a = c i in
       let p = partners-are i e in
-      let b : contents (sentTo i (exchangePackets xs s area fresh helpers))
+      let b : contents (sentTo i (exchangePackets s area fresh helpers))
       ≡ joined
-      (λ m. exchangePacket (s .sizes) xs (stripes (s .sizes) (s .length)) (heardBy m) (joined (λ j. helperPacket (s .sizes) xs (stripes (s .sizes) (s .length)) j m (held s area j)) (heardBy m)) i)
+      (λ m. exchangePacket (s .sizes) (s .points) (stripes (s .sizes) (s .length)) (heardBy m)
+      (joined (λ j. helperPacket (s .sizes) (s .points) (stripes (s .sizes) (s .length)) j m (held s area j)) (heardBy m)) i)
       (without i fresh) =
       contents-to _ i (hearPartners fresh)
-      ∙ ap (joined (λ j. exchangePacket (s .sizes) xs (stripes (s .sizes) (s .length)) (heardBy j) (contents (sentTo j (helperPackets xs s area fresh helpers))) i)) p
+      ∙ ap (joined (λ j. exchangePacket (s .sizes) (s .points) (stripes (s .sizes) (s .length)) (heardBy j) (contents (sentTo j (helperPackets s area fresh helpers))) i)) p
       ∙ joined-all _ _ (without i fresh)
       (all-imp (λ j. among fresh j ≡ true) _
-      (λ j u. ap (λ (x : List ℕ). exchangePacket (s .sizes) xs (stripes (s .sizes) (s .length)) (heardBy j) x i) (c j))
+      (λ j u. ap (λ (x : List ℕ). exchangePacket (s .sizes) (s .points) (stripes (s .sizes) (s .length)) (heardBy j) x i) (c j))
       (without i fresh) (all-without (λ j. among fresh j ≡ true) i fresh (all-is-among fresh))) in
       cc
 
   -- ---- true shares
 
-  module _ (truly : Laws xs (s .sizes)) (file : List ℕ) (bytes : Bytes file) (len : s .length ≡ length file)
-      (truth : (j : ℕ) → inService s j ≡ true → held s area j ≡ share (s .sizes) xs file j) where
+  module _ (truly : Laws (s .points) (s .sizes)) (file : List ℕ) (bytes : Bytes file) (len : s .length ≡ length file)
+      (truth : (j : ℕ) → inService s j ≡ true → held s area j ≡ share (s .sizes) (s .points) file j) where
     hears : Hears (s .sizes) fresh heardBy
     hears =
         let low = below-all (s .sizes .n) (fresh ++ helpers) (f .named-below) in
@@ -161,34 +164,35 @@ module _ (xs : List ℕ) (s : Record) (area fresh helpers : List ℕ) (m : ℕ) 
 
     -- the packets that board i gets from its helpers are those of true shares
     true-packets : (i : ℕ) → among fresh i ≡ true
-        → contents (sentTo i (helperPackets xs s area fresh helpers))
-        ≡ joined (λ j. helperPacket (s .sizes) xs (stripes (s .sizes) (length file)) j i (share (s .sizes) xs file j)) (heardBy i)
+        → contents (sentTo i (helperPackets s area fresh helpers))
+        ≡ joined (λ j. helperPacket (s .sizes) (s .points) (stripes (s .sizes) (length file)) j i (share (s .sizes) (s .points) file j)) (heardBy i)
     unfolding helperPackets heardBy
     true-packets i e =
         contents-to _ i (hearHelpers (s .sizes .d) fresh helpers)
         ∙ joined-all _ _ (heardBy i)
         (by-helpers
         (λ a l. All
-        (λ j. helperPacket (s .sizes) xs (stripes (s .sizes) (s .length)) j i (held s area j) ≡ helperPacket (s .sizes) xs (stripes (s .sizes) (length file)) j i (share (s .sizes) xs file j))
+        (λ j. helperPacket (s .sizes) (s .points) (stripes (s .sizes) (s .length)) j i (held s area j)
+        ≡ helperPacket (s .sizes) (s .points) (stripes (s .sizes) (length file)) j i (share (s .sizes) (s .points) file j))
         l)
         (helpers-each _ (s .sizes .d) fresh helpers
         (all-imp (λ j. inService s j ≡ true) _ (λ j u. let t = truth j u in cc) helpers (every-all (inService s) helpers (f .all-up)))) i e)
 
     true-exchanged : (i : ℕ) → among fresh i ≡ true
-        → contents (sentTo i (exchangePackets xs s area fresh helpers))
+        → contents (sentTo i (exchangePackets s area fresh helpers))
         ≡ joined
-        (λ j. exchangePacket (s .sizes) xs (stripes (s .sizes) (length file)) (heardBy j)
-        (joined (λ h. helperPacket (s .sizes) xs (stripes (s .sizes) (length file)) h j (share (s .sizes) xs file h)) (heardBy j)) i)
+        (λ j. exchangePacket (s .sizes) (s .points) (stripes (s .sizes) (length file)) (heardBy j)
+        (joined (λ h. helperPacket (s .sizes) (s .points) (stripes (s .sizes) (length file)) h j (share (s .sizes) (s .points) file h)) (heardBy j)) i)
         (without i fresh)
     unfolding exchangePackets heardBy partnersOf
     true-exchanged i e =
         contents-to _ i (hearPartners fresh)
-        ∙ ap (joined (λ j. exchangePacket (s .sizes) xs (stripes (s .sizes) (s .length)) (heardBy j) (contents (sentTo j (helperPackets xs s area fresh helpers))) i)) (partners-are i e)
+        ∙ ap (joined (λ j. exchangePacket (s .sizes) (s .points) (stripes (s .sizes) (s .length)) (heardBy j) (contents (sentTo j (helperPackets s area fresh helpers))) i)) (partners-are i e)
         ∙ joined-all _ _ (without i fresh)
         (all-imp (λ j. among fresh j ≡ true) _ (λ j u. let t = true-packets j u in cc) (without i fresh)
         (all-without (λ j. among fresh j ≡ true) i fresh (all-is-among fresh)))
 
-    pub true-share : (i : ℕ) → among fresh i ≡ true → freshShare xs s area fresh helpers i ≡ share (s .sizes) xs file i
+    pub true-share : (i : ℕ) → among fresh i ≡ true → freshShare s area fresh helpers i ≡ share (s .sizes) (s .points) file i
     unfolding freshShare heardBy partnersOf
     true-share i e =
         let a = true-packets i e in

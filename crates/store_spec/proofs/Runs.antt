@@ -23,7 +23,7 @@ use Rattle.store_spec.specs.Packets.{hearHelpers}
 use Rattle.store_spec.specs.Record.{Record}
 use Rattle.store_spec.specs.Runs.{repairRuns, StoreRuns}
 use Rattle.store_spec.proofs.Named.{named-boards}
-use Rattle.store_spec.proofs.Records.{sound-facts, repair-facts, read-facts}
+use Rattle.store_spec.proofs.Records.{sound-facts, sound-points, repair-facts, read-facts}
 
 module _ (xs : List ℕ) (z : Sizes) (legal : Legal z) (pts : DifferentPoints z xs) (fresh : List ℕ) (low : All (λ x. x < z .n) fresh) (once : different fresh ≡ true) where
   -- of one fresh board
@@ -49,28 +49,30 @@ module _ (xs : List ℕ) (z : Sizes) (legal : Legal z) (pts : DifferentPoints z 
             (all-every (λ x. not (among fresh x)) (lib.ListN.drop (z .d) helpers) (drop-alls (λ x. not (among fresh x) ≡ true) (z .d) helpers q)),
       )
 
-repair-points : (xs : List ℕ) (s : Record) (fresh helpers : List ℕ) → legal (s .sizes) ≡ true → DifferentPoints (s .sizes) xs
+repair-points : (s : Record) (fresh helpers : List ℕ) → legal (s .sizes) ≡ true → DifferentPoints (s .sizes) (s .points)
     → below (s .sizes .n) (fresh ++ helpers) ≡ true → different fresh ≡ true
     → every (λ h. different (h .senders)) (hearHelpers (s .sizes .d) fresh helpers) ≡ true → apart fresh helpers ≡ true
-    → equalPoints xs (repairRuns s fresh helpers) ≡ false
-repair-points xs s fresh helpers ok pts low once d none =
+    → equalPoints (s .points) (repairRuns s fresh helpers) ≡ false
+repair-points s fresh helpers ok pts low once d none =
     let all = below-all (s .sizes .n) (fresh ++ helpers) low in
     let lf = all-left (λ x. x < s .sizes .n) fresh helpers all in
     let lh = all-right (λ x. x < s .sizes .n) fresh helpers all in
-    unequal-concat xs _ (hearHelpers (s .sizes .d) fresh helpers)
-    (all-runs xs (s .sizes) (legal-facts (s .sizes) ok) pts fresh lf once fresh helpers (all-is-among fresh) lh d none)
+    unequal-concat (s .points) _ (hearHelpers (s .sizes .d) fresh helpers)
+    (all-runs (s .points) (s .sizes) (legal-facts (s .sizes) ok) pts fresh lf once fresh helpers (all-is-among fresh) lh d none)
 
-repair-apart : (xs : List ℕ) (s : Record) (m : ℕ) (fresh helpers : List ℕ) → DifferentPoints (s .sizes) xs
-    → first storeOrder (repairLines s m fresh helpers) ≡ Pass → equalPoints xs (repairRuns s fresh helpers) ≡ false
-repair-apart xs s m fresh helpers pts h =
+repair-apart : (s : Record) (m : ℕ) (fresh helpers : List ℕ)
+    → first storeOrder (repairLines s m fresh helpers) ≡ Pass → equalPoints (s .points) (repairRuns s fresh helpers) ≡ false
+repair-apart s m fresh helpers h =
     let f = repair-facts s m fresh helpers h in
-    repair-points xs s fresh helpers (sound-facts s (f .is-sound) .is-legal) pts (f .named-below) (f .fresh-different) (f .hear-different) (f .none-fresh)
+    let g = sound-facts s (f .is-sound) in
+    repair-points s fresh helpers (g .is-legal) (sound-points s g) (f .named-below) (f .fresh-different) (f .hear-different) (f .none-fresh)
 
-read-apart : (xs : List ℕ) (s : Record) (area boards output : List ℕ) → DifferentPoints (s .sizes) xs
-    → first storeOrder (readLines xs s area boards output) ≡ Pass → equalPoints xs (readRuns (s .sizes) boards) ≡ false
-read-apart xs s area boards output pts h =
-    let f = read-facts xs s area boards output h .0 in
-    read-runs (s .sizes) xs (legal-facts (s .sizes) (sound-facts s (f .is-sound) .is-legal)) pts boards
+read-apart : (s : Record) (area boards output : List ℕ)
+    → first storeOrder (readLines s area boards output) ≡ Pass → equalPoints (s .points) (readRuns (s .sizes) boards) ≡ false
+read-apart s area boards output h =
+    let f = read-facts s area boards output h .0 in
+    let g = sound-facts s (f .is-sound) in
+    read-runs (s .sizes) (s .points) (legal-facts (s .sizes) (g .is-legal)) (sound-points s g) boards
     (boards-of (s .sizes) boards (f .named-below) (f .all-different))
 
 pub store-runs : StoreRuns

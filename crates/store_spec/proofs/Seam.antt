@@ -9,11 +9,11 @@ use mathlib.Core.Option.{Option, some, none}
 use lib.ListN.{length}
 use Rattle.lists.specs.Lists.{Bytes, joined, without}
 use Rattle.lists.specs.Tests.{below, different, among, apart}
-use Rattle.sizes.specs.Sizing.{stripes, α}
+use Rattle.sizes.specs.Sizing.{legal, stripes, α}
 use Rattle.sizes.specs.declared.Sizes.{Sizes}
 use Rattle.mbcr.specs.Read.{readFile}
 use Rattle.mbcr.specs.Rebuild.{helperPacket, exchangePacket, finishedShare}
-use Rattle.mbcr.specs.Share.{share}
+use Rattle.mbcr.specs.Share.{DifferentPoints, share}
 
 -- Who hears whom: r different fresh boards, and for each its own d different helpers, none of them fresh.
 pub record Hears (z : Sizes) (fresh : List ℕ) (helpers : ℕ → List ℕ) : Type 0 where
@@ -50,3 +50,7 @@ pub record Laws (xs : List ℕ) (z : Sizes) : Type 0 where
   pub reads : (file : List ℕ) → Bytes file → (boards : List ℕ)
       → length boards ≡ z .k → below (z .n) boards ≡ true → different boards ≡ true
       → readFile z xs (length file) boards (joined (share z xs file) boards) ≡ some file
+
+-- at all legal sizes and different points
+abbrev pub AllLaws : Type 0
+AllLaws = (xs : List ℕ) (z : Sizes) → legal z ≡ true → DifferentPoints z xs → Laws xs z

@@ -25,7 +25,7 @@ use Rattle.sizes.specs.declared.Refusal.{Refusal}
 use Rattle.sizes.specs.declared.Sizes.{Sizes}
 use Rattle.sizes.proofs.Legal.{legal-facts}
 use Rattle.sizes.proofs.Lines.{first-agree}
-use Rattle.mbcr.specs.Share.{DifferentPoints, share}
+use Rattle.mbcr.specs.Share.{share}
 use Rattle.board_spec.specs.Calls.{fileOf}
 use Rattle.store_spec.specs.Calls.{StoreOutcome, settle, refused, writeLines, writeDone, writeCall, loseLines, loseCall}
 use Rattle.store_spec.specs.Ledger.{Call, write, lose, repair, read, replied, Book, bookRecord, Entry, replyOf, Altered, bookLines, noted, act, enter, accept, bookLength}
@@ -33,34 +33,32 @@ use Rattle.store_spec.specs.Packets.{hearHelpers}
 use Rattle.store_spec.specs.Record.{sound, areaLen, held, usedLen, partLen, inService, Record, writtenRecord}
 use Rattle.store_spec.proofs.Area.{length-shares, shares-same}
 use Rattle.store_spec.proofs.Marks.{mark-at, off-from, marksOf, first-below, marks-all, off-above, off-none, marks-lose}
-use Rattle.store_spec.proofs.Records.{sound-facts, used-fits, Sound, Writes, facts-sound, write-facts, blank-if, blank-length, blank-off}
-use Rattle.store_spec.proofs.Seam.{Laws}
+use Rattle.store_spec.proofs.Records.{sound-facts, sound-points, used-fits, Sound, Writes, facts-sound, write-facts, blank-if, blank-length, blank-off}
+use Rattle.store_spec.proofs.Seam.{Laws, AllLaws}
 
 -- ---- what holds between book and area, the record being the one that the book tells
 
-pub record Inv (xs : List ℕ) (b : Book) (area : List ℕ) : Type 0 where
+pub record Inv (b : Book) (area : List ℕ) : Type 0 where
   pub as-long : length area ≡ b .areaLength
   pub is-sound : sound (bookRecord b) ≡ true
-  pub points : DifferentPoints (b .sizes) xs
   pub bytes : Bytes (fileOf (b .file))
   pub serving : All (λ i. i < b .sizes .n) (b .service)
   pub room : given (b .file) ≡ true → b .areaLength ≡ areaLen (bookRecord b)
-  pub holds : (i : ℕ) → among (b .service) i ≡ true → held (bookRecord b) area i ≡ share (b .sizes) xs (fileOf (b .file)) i
+  pub holds : (i : ℕ) → among (b .service) i ≡ true → held (bookRecord b) area i ≡ share (b .sizes) (b .points) (fileOf (b .file)) i
 
 -- what a call's outcome and its entry have to be
-pub record Good (xs : List ℕ) (o : StoreOutcome) (e : Entry) : Type 0 where
+pub record Good (o : StoreOutcome) (e : Entry) : Type 0 where
   pub alike : replyOf o ≡ e .reply
   pub same-record : o .handed ≡ bookRecord (e .book)
-  pub inv : Inv xs (e .book) (o .area)
+  pub inv : Inv (e .book) (o .area)
 
 -- bytes of boards out of service do not matter
-pub altered : (xs : List ℕ) (b : Book) (old new : List ℕ) → Inv xs b old → Altered b (bookRecord b) old new → Inv xs b new
-altered xs b old new v a =
+pub altered : (b : Book) (old new : List ℕ) → Inv b old → Altered b (bookRecord b) old new → Inv b new
+altered b old new v a =
     let f = sound-facts (bookRecord b) (v .is-sound) in
     record {
       as-long = a .as-long ∙ v .as-long;
       is-sound = v .is-sound;
-      points = v .points;
       bytes = v .bytes;
       serving = v .serving;
       room = v .room;
@@ -72,11 +70,11 @@ altered xs b old new v a =
     }
 
 -- two outcomes picked by one check
-pub good-both : (xs : List ℕ) (c1 c2 : Check) (rs : Refusal → StoreOutcome) (gs : StoreOutcome) (re : Refusal → Entry) (ge : Entry) → c1 ≡ c2
-    → ((x : Refusal) → Good xs (rs x) (re x)) → (c1 ≡ Pass → Good xs gs ge) → Good xs (settle c1 rs gs) (settle c2 re ge)
-good-both xs c1 c2 rs gs re ge e r g = subst (λ (c : Check). Good xs (settle c1 rs gs) (settle c re ge)) e (go c1 g)
+pub good-both : (c1 c2 : Check) (rs : Refusal → StoreOutcome) (gs : StoreOutcome) (re : Refusal → Entry) (ge : Entry) → c1 ≡ c2
+    → ((x : Refusal) → Good (rs x) (re x)) → (c1 ≡ Pass → Good gs ge) → Good (settle c1 rs gs) (settle c2 re ge)
+good-both c1 c2 rs gs re ge e r g = subst (λ (c : Check). Good (settle c1 rs gs) (settle c re ge)) e (go c1 g)
   where
-    go : (c : Check) → (c ≡ Pass → Good xs gs ge) → Good xs (settle c rs gs) (settle c re ge)
+    go : (c : Check) → (c ≡ Pass → Good gs ge) → Good (settle c rs gs) (settle c re ge)
     go Pass k = k refl
     go (Refuse x) k = r x
 
@@ -131,12 +129,12 @@ every-same p q (x ∷ l) h = go (p x) (q x) (h x) (every-same p q l h)
     go true false e k = absurd (true-false refl e)
     go false true e k = absurd (true-false refl (sym e))
 
-module _ (xs : List ℕ) (laws : (z : Sizes) → legal z ≡ true → DifferentPoints z xs → Laws xs z) (b : Book) (area : List ℕ) (v : Inv xs b area) where
+module _ (laws : AllLaws) (b : Book) (area : List ℕ) (v : Inv b area) where
   pub facts : Sound (bookRecord b)
   facts = sound-facts (bookRecord b) (v .is-sound)
 
-  pub lawful : Laws xs (b .sizes)
-  lawful = laws (b .sizes) (facts .is-legal) (v .points)
+  pub lawful : Laws (b .points) (b .sizes)
+  lawful = laws (b .points) (b .sizes) (facts .is-legal) (sound-points (bookRecord b) facts)
 
   pub few : b .sizes .n ≤ maxBoards
   few = legal-facts (b .sizes) (facts .is-legal) .few
@@ -145,7 +143,7 @@ module _ (xs : List ℕ) (laws : (z : Sizes) → legal z ≡ true → DifferentP
   up i = mark-at (b .service) i (all-imp (λ x. x < b .sizes .n) (λ x. x < maxBoards) (λ x h. let k = few in omega arith) (b .service) (v .serving))
 
   -- a refusal leaves all as it was
-  pub refusal-good : (output : List ℕ) (x : Refusal) → Good xs (refused (bookRecord b) area output x) (replied (said (Refused x)) output b)
+  pub refusal-good : (output : List ℕ) (x : Refusal) → Good (refused (bookRecord b) area output x) (replied (said (Refused x)) output b)
   refusal-good output x = record { alike = refl; same-record = refl; inv = v }
 
   pub size-off : not (sound (bookRecord b)) ≡ false
@@ -163,12 +161,13 @@ module _ (xs : List ℕ) (laws : (z : Sizes) → legal z ≡ true → DifferentP
       (size-off, λ _. (area-same, λ _. (refl, λ _. (refl, λ _. (refl, λ _. (refl, λ _. (refl, λ _. (refl, λ _. (refl, λ _. (refl, λ _. tt))))))))))
 
   write-inv : (file : List ℕ) → Bytes file → Writes (bookRecord b) (length area) file
-      → Inv xs (noted b (some file) (tabulate (b .sizes .n) (λ i. i))) (writeDone xs (bookRecord b) area file .area)
+      → Inv (noted b (some file) (tabulate (b .sizes .n) (λ i. i))) (writeDone (bookRecord b) area file .area)
   write-inv file ok w =
       let all : List ℕ = tabulate (b .sizes .n) (λ i. i) in
       let new : Record = bookRecord (noted b (some file) all) in
       let is : Sound new = record {
         is-legal = facts .is-legal;
+        is-pointed = facts .is-pointed;
         cap-low = facts .cap-low;
         cap-high = facts .cap-high;
         fits = w .file-fits;
@@ -177,27 +176,27 @@ module _ (xs : List ℕ) (laws : (z : Sizes) → legal z ≡ true → DifferentP
       } in
       record {
         as-long =
-            length-shares (writtenRecord (bookRecord b) (length file)) (share (b .sizes) xs file) (usedLen new) (lawful .lengths .share-length file) (used-fits new is) all area
+            length-shares (writtenRecord (bookRecord b) (length file)) (share (b .sizes) (b .points) file) (usedLen new) (lawful .lengths .share-length file) (used-fits new is) all area
             (w .area-is) low ∙ v .as-long;
         is-sound = facts-sound new is;
-        points = v .points;
         bytes = ok;
         serving = low;
         room = λ e. sym (v .as-long) ∙ w .area-is;
         holds = λ i e.
-            shares-same (writtenRecord (bookRecord b) (length file)) (share (b .sizes) xs file) (usedLen new) (lawful .lengths .share-length file) (used-fits new is) all area (w .area-is) low i e;
+            shares-same (writtenRecord (bookRecord b) (length file)) (share (b .sizes) (b .points) file) (usedLen new)
+            (lawful .lengths .share-length file) (used-fits new is) all area (w .area-is) low i e;
       }
     where
       low : All (λ x. x < b .sizes .n) (tabulate (b .sizes .n) (λ i. i))
       low = first-below (b .sizes .n) (b .sizes .n) (omega arith)
 
-  pub write-good : (file : List ℕ) → Bytes file → Good xs (act xs (record { kept = bookRecord b; area = area }) (write file)) (enter b (write file))
+  pub write-good : (file : List ℕ) → Bytes file → Good (act (record { kept = bookRecord b; area = area }) (write file)) (enter b (write file))
   unfolding act enter accept writeCall
   write-good file ok =
-      good-both xs _ _ _ _ _ _ (write-same file) (refusal-good [])
+      good-both _ _ _ _ _ _ (write-same file) (refusal-good [])
       (λ e. record {
         alike = refl;
-        same-record = ap (λ (m : List Bool). record { sizes = b .sizes; capacity = b .capacity; written = true; length = length file; marks = m }) (marks-all (b .sizes .n));
+        same-record = ap (λ (m : List Bool). record { sizes = b .sizes; points = b .points; capacity = b .capacity; written = true; length = length file; marks = m }) (marks-all (b .sizes .n));
         inv = write-inv file ok (write-facts (bookRecord b) (length area) file e);
       })
 
@@ -209,12 +208,13 @@ module _ (xs : List ℕ) (laws : (z : Sizes) → legal z ≡ true → DifferentP
       first-agree (loseLines (bookRecord b) board) (bookLines b (lose board)) storeOrder
       (size-off, λ _. (refl, λ _. (refl, λ _. (refl, λ _. (refl, λ _. (ap not (one-below (b .sizes .n) board), λ _. (refl, λ _. (refl, λ _. (refl, λ _. (refl, λ _. tt))))))))))
 
-  lose-inv : (board : ℕ) → Inv xs (noted b (b .file) (without board (b .service))) area
+  lose-inv : (board : ℕ) → Inv (noted b (b .file) (without board (b .service))) area
   lose-inv board =
       record {
         as-long = v .as-long;
         is-sound = facts-sound new (record {
           is-legal = facts .is-legal;
+          is-pointed = facts .is-pointed;
           cap-low = facts .cap-low;
           cap-high = facts .cap-high;
           fits = facts .fits;
@@ -225,7 +225,6 @@ module _ (xs : List ℕ) (laws : (z : Sizes) → legal z ≡ true → DifferentP
                 off-none (marksOf (b .service)) i (blank-off (bookRecord b) (facts .blank) w) (up i ∙ before i (sym (mark-at rest i low-32) ∙ e))),
           ));
         });
-        points = v .points;
         bytes = v .bytes;
         serving = low;
         room = v .room;
@@ -251,12 +250,13 @@ module _ (xs : List ℕ) (laws : (z : Sizes) → legal z ≡ true → DifferentP
           go true k = absurd (true-false k refl)
           go false k = k
 
-  pub lose-good : (board : ℕ) → Good xs (act xs (record { kept = bookRecord b; area = area }) (lose board)) (enter b (lose board))
+  pub lose-good : (board : ℕ) → Good (act (record { kept = bookRecord b; area = area }) (lose board)) (enter b (lose board))
   unfolding act enter accept loseCall
   lose-good board =
-      good-both xs _ _ _ _ _ _ (lose-same board) (refusal-good [])
+      good-both _ _ _ _ _ _ (lose-same board) (refusal-good [])
       (λ e. record {
         alike = refl;
-        same-record = ap (λ (m : List Bool). record { sizes = b .sizes; capacity = b .capacity; written = given (b .file); length = bookLength b; marks = m }) (marks-lose (b .service) board);
+        same-record = ap (λ (m : List Bool). record { sizes = b .sizes; points = b .points; capacity = b .capacity; written = given (b .file); length = bookLength b; marks = m })
+            (marks-lose (b .service) board);
         inv = lose-inv board;
       })

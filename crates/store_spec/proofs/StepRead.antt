@@ -20,35 +20,35 @@ use Rattle.sizes.specs.declared.Sizes.{Sizes}
 use Rattle.sizes.proofs.Legal.{legal-facts}
 use Rattle.sizes.proofs.Lines.{first-agree}
 use Rattle.mbcr.specs.Read.{readFile}
-use Rattle.mbcr.specs.Share.{DifferentPoints, share}
+use Rattle.mbcr.specs.Share.{share}
 use Rattle.board_spec.specs.Calls.{fileOf}
 use Rattle.store_spec.specs.Calls.{accepted, fileHeld, readLines, readCall}
 use Rattle.store_spec.specs.Ledger.{read, Book, bookRecord, bookLength, bookLines, act, enter, accept}
 use Rattle.store_spec.specs.Record.{held, inService}
 use Rattle.store_spec.proofs.Marks.{off-none, marksOf}
 use Rattle.store_spec.proofs.Records.{Sound, read-facts, blank-off, reads-pass}
-use Rattle.store_spec.proofs.Seam.{Laws}
+use Rattle.store_spec.proofs.Seam.{AllLaws}
 use Rattle.store_spec.proofs.Step.{Inv, facts, lawful, size-off, area-same, every-same, up, Good, good-both, refusal-good, settle-pass}
 
-module _ (xs : List ℕ) (laws : (z : Sizes) → legal z ≡ true → DifferentPoints z xs → Laws xs z) (b : Book) (area : List ℕ) (v : Inv xs b area) where
+module _ (laws : AllLaws) (b : Book) (area : List ℕ) (v : Inv b area) where
   known : Sound (bookRecord b)
-  known = facts xs laws b area v
+  known = facts laws b area v
 
   reading : (boards : List ℕ) → length boards ≡ b .sizes .k → below (b .sizes .n) boards ≡ true → different boards ≡ true → every (among (b .service)) boards ≡ true
-      → fileHeld xs (bookRecord b) area boards ≡ some (fileOf (b .file))
+      → fileHeld (bookRecord b) area boards ≡ some (fileOf (b .file))
   reading boards c l d u =
-      let m = joined-all (held (bookRecord b) area) (share (b .sizes) xs (fileOf (b .file))) boards
+      let m = joined-all (held (bookRecord b) area) (share (b .sizes) (b .points) (fileOf (b .file))) boards
       (all-imp (λ i. among (b .service) i ≡ true) _ (λ i e. v .holds i e) boards (every-all (among (b .service)) boards u)) in
-      ap (readFile (b .sizes) xs (bookLength b) boards) m ∙ lawful xs laws b area v .reads (fileOf (b .file)) (v .bytes) boards c l d
+      ap (readFile (b .sizes) (b .points) (bookLength b) boards) m ∙ lawful laws b area v .reads (fileOf (b .file)) (v .bytes) boards c l d
 
   read-same : (boards output : List ℕ)
-      → first storeOrder (readLines xs (bookRecord b) area boards output) ≡ first storeOrder (bookLines b (read boards output))
+      → first storeOrder (readLines (bookRecord b) area boards output) ≡ first storeOrder (bookLines b (read boards output))
   unfolding readLines bookLines
   read-same boards output =
-      first-agree (readLines xs (bookRecord b) area boards output) (bookLines b (read boards output)) storeOrder (
-        size-off xs laws b area v,
+      first-agree (readLines (bookRecord b) area boards output) (bookLines b (read boards output)) storeOrder (
+        size-off laws b area v,
         λ _. (
-          area-same xs laws b area v,
+          area-same laws b area v,
           λ _. (
             refl,
             λ _. (
@@ -60,7 +60,7 @@ module _ (xs : List ℕ) (laws : (z : Sizes) → legal z ≡ true → DifferentP
                   λ l. (
                     refl,
                     λ d. (
-                      ap not (every-same (inService (bookRecord b)) (among (b .service)) boards (up xs laws b area v)),
+                      ap not (every-same (inService (bookRecord b)) (among (b .service)) boards (up laws b area v)),
                       λ u. (
                         refl,
                         λ _. (
@@ -77,12 +77,12 @@ module _ (xs : List ℕ) (laws : (z : Sizes) → legal z ≡ true → DifferentP
         ),
       )
 
-  pub read-good : (boards output : List ℕ) → Good xs (act xs (record { kept = bookRecord b; area = area }) (read boards output)) (enter b (read boards output))
+  pub read-good : (boards output : List ℕ) → Good (act (record { kept = bookRecord b; area = area }) (read boards output)) (enter b (read boards output))
   unfolding act enter accept readCall
   read-good boards output =
-      good-both xs _ _ _ _ _ _ (read-same boards output) (refusal-good xs laws b area v output)
-      (λ e. let f = read-facts xs (bookRecord b) area boards output e .0 in
-      let u : every (among (b .service)) boards ≡ true = sym (every-same (inService (bookRecord b)) (among (b .service)) boards (up xs laws b area v)) ∙ f .all-up in
+      good-both _ _ _ _ _ _ (read-same boards output) (refusal-good laws b area v output)
+      (λ e. let f = read-facts (bookRecord b) area boards output e .0 in
+      let u : every (among (b .service)) boards ≡ true = sym (every-same (inService (bookRecord b)) (among (b .service)) boards (up laws b area v)) ∙ f .all-up in
       rw (reading boards (f .count) (f .named-below) (f .all-different) u) (record { alike = refl; same-record = refl; inv = v }))
 
   -- where a board is in service, a file was accepted
@@ -93,12 +93,12 @@ module _ (xs : List ℕ) (laws : (z : Sizes) → legal z ≡ true → DifferentP
       go : (t : Bool) → given (b .file) ≡ t → given (b .file) ≡ true
       go true e = e
       go false e =
-          absurd (off-none (marksOf (b .service)) x (blank-off (bookRecord b) (known .blank) e) (up xs laws b area v x ∙ both (among (b .service) x) (every (among (b .service)) l) u .0))
+          absurd (off-none (marksOf (b .service)) x (blank-off (bookRecord b) (known .blank) e) (up laws b area v x ∙ both (among (b .service) x) (every (among (b .service)) l) u .0))
 
   -- every read of k different boards in service with output long enough
   pub read-gives : (boards output : List ℕ) → length boards ≡ b .sizes .k → different boards ≡ true → every (among (b .service)) boards ≡ true
       → bookLength b ≤ length output
-      → readCall xs (bookRecord b) area boards output
+      → readCall (bookRecord b) area boards output
       ≡ accepted 0 (bookRecord b) area (over (fileOf (b .file)) output)
   unfolding readCall
   read-gives boards output c d u r =
@@ -107,14 +107,14 @@ module _ (xs : List ℕ) (laws : (z : Sizes) → legal z ≡ true → DifferentP
       (all-imp (λ i. among (b .service) i ≡ true) (λ i. i < b .sizes .n) (λ i e. all-among (λ x. x < b .sizes .n) (b .service) i (v .serving) e) boards
       (every-all (among (b .service)) boards u)) in
       let file = reading boards c l d u in
-      let p : first storeOrder (readLines xs (bookRecord b) area boards output) ≡ Pass = reads-pass xs (bookRecord b) area boards output (record {
+      let p : first storeOrder (readLines (bookRecord b) area boards output) ≡ Pass = reads-pass (bookRecord b) area boards output (record {
         is-sound = v .is-sound;
         area-is = v .as-long ∙ v .room w;
         is-written = w;
         count = c;
         named-below = l;
         all-different = d;
-        all-up = every-same (inService (bookRecord b)) (among (b .service)) boards (up xs laws b area v) ∙ u;
+        all-up = every-same (inService (bookRecord b)) (among (b .service)) boards (up laws b area v) ∙ u;
         room = r;
       }) (ap (given) file) in
       settle-pass _ _ _ p

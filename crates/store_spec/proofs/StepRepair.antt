@@ -16,7 +16,7 @@ use Rattle.sizes.specs.declared.Answer.the-variants.{Done}
 use Rattle.sizes.specs.declared.Sizes.{Sizes}
 use Rattle.sizes.proofs.Legal.{legal-facts}
 use Rattle.sizes.proofs.Lines.{first-agree}
-use Rattle.mbcr.specs.Share.{DifferentPoints, share}
+use Rattle.mbcr.specs.Share.{share}
 use Rattle.board_spec.specs.Calls.{fileOf}
 use Rattle.store_spec.specs.Calls.{repairLines, repairDone, repairCall}
 use Rattle.store_spec.specs.Ledger.{Book, bookRecord, bookLines, noted, act, enter, accept, bookLength, repair}
@@ -26,23 +26,23 @@ use Rattle.store_spec.proofs.Area.{length-shares, shares-same, shares-o
 use Rattle.store_spec.proofs.Marks.{off-from, marksOf, mark-at, marks-on}
 use Rattle.store_spec.proofs.Records.{Sound, Repairs, used-fits, facts-sound, repair-facts}
 use Rattle.store_spec.proofs.Repair.{fresh-length, true-share, moved-is}
-use Rattle.store_spec.proofs.Seam.{Laws}
+use Rattle.store_spec.proofs.Seam.{AllLaws}
 use Rattle.store_spec.proofs.Step.{Inv, facts, both-below, runs-different, size-off, area-same, every-same, up, lawful, few, Good, good-both, refusal-good}
 
 -- ---- the call
 
-module _ (xs : List ℕ) (laws : (z : Sizes) → legal z ≡ true → DifferentPoints z xs → Laws xs z) (b : Book) (area : List ℕ) (v : Inv xs b area) where
+module _ (laws : AllLaws) (b : Book) (area : List ℕ) (v : Inv b area) where
   known : Sound (bookRecord b)
-  known = facts xs laws b area v
+  known = facts laws b area v
 
   repair-same : (fresh helpers : List ℕ)
       → first storeOrder (repairLines (bookRecord b) (length area) fresh helpers) ≡ first storeOrder (bookLines b (repair fresh helpers))
   unfolding repairLines bookLines
   repair-same fresh helpers =
       first-agree (repairLines (bookRecord b) (length area) fresh helpers) (bookLines b (repair fresh helpers)) storeOrder (
-        size-off xs laws b area v,
+        size-off laws b area v,
         λ _. (
-          area-same xs laws b area v,
+          area-same laws b area v,
           λ _. (
             refl,
             λ _. (
@@ -54,7 +54,7 @@ module _ (xs : List ℕ) (laws : (z : Sizes) → legal z ≡ true → DifferentP
                   λ _. (
                     ap (λ (t : Bool). not (alls (different fresh ∷ t ∷ apart fresh helpers ∷ []))) (runs-different (b .sizes .d) fresh helpers),
                     λ _. (
-                      ap not (every-same (inService (bookRecord b)) (among (b .service)) helpers (up xs laws b area v)),
+                      ap not (every-same (inService (bookRecord b)) (among (b .service)) helpers (up laws b area v)),
                       λ _. (
                         refl,
                         λ _. (
@@ -72,12 +72,13 @@ module _ (xs : List ℕ) (laws : (z : Sizes) → legal z ≡ true → DifferentP
       )
 
   repair-inv : (fresh helpers : List ℕ) → Repairs (bookRecord b) (length area) fresh helpers
-      → Inv xs (noted b (b .file) (fresh ++ b .service)) (repairDone xs (bookRecord b) area fresh helpers .area)
+      → Inv (noted b (b .file) (fresh ++ b .service)) (repairDone (bookRecord b) area fresh helpers .area)
   repair-inv fresh helpers f =
       record {
         as-long = length-shares (bookRecord b) made (usedLen (bookRecord b)) long (used-fits (bookRecord b) known) fresh area (f .area-is) low ∙ v .as-long;
         is-sound = facts-sound (bookRecord (noted b (b .file) (fresh ++ b .service))) (record {
           is-legal = known .is-legal;
+          is-pointed = known .is-pointed;
           cap-low = known .cap-low;
           cap-high = known .cap-high;
           fits = known .fits;
@@ -85,7 +86,6 @@ module _ (xs : List ℕ) (laws : (z : Sizes) → legal z ≡ true → DifferentP
               off-from (b .sizes .n) (marksOf (fresh ++ b .service)) (λ i e. all-among (λ x. x < b .sizes .n) (fresh ++ b .service) i serve (sym (mark-at (fresh ++ b .service) i serve-32) ∙ e));
           blank = rw (f .is-written) refl;
         });
-        points = v .points;
         bytes = v .bytes;
         serving = serve;
         room = v .room;
@@ -93,13 +93,13 @@ module _ (xs : List ℕ) (laws : (z : Sizes) → legal z ≡ true → DifferentP
       }
     where
       made : ℕ → List ℕ
-      made = freshShare xs (bookRecord b) area fresh helpers
+      made = freshShare (bookRecord b) area fresh helpers
 
       r-low : 1 ≤ b .sizes .r
       r-low = legal-facts (b .sizes) (known .is-legal) .some-fresh
 
       long : (i : ℕ) → length (made i) ≡ usedLen (bookRecord b)
-      long = fresh-length xs (bookRecord b) area fresh helpers (length area) (lawful xs laws b area v .lengths) r-low f
+      long = fresh-length (bookRecord b) area fresh helpers (length area) (lawful laws b area v .lengths) r-low f
 
       low : All (λ i. i < b .sizes .n) fresh
       low = all-left (λ i. i < b .sizes .n) fresh helpers (below-all (b .sizes .n) (fresh ++ helpers) (f .named-below))
@@ -108,28 +108,29 @@ module _ (xs : List ℕ) (laws : (z : Sizes) → legal z ≡ true → DifferentP
       serve = append-all (λ i. i < b .sizes .n) fresh (b .service) low (v .serving)
 
       serve-32 : All (λ i. i < maxBoards) (fresh ++ b .service)
-      serve-32 = all-imp (λ x. x < b .sizes .n) (λ x. x < maxBoards) (λ x h. let k = few xs laws b area v in omega arith) (fresh ++ b .service) serve
+      serve-32 = all-imp (λ x. x < b .sizes .n) (λ x. x < maxBoards) (λ x h. let k = few laws b area v in omega arith) (fresh ++ b .service) serve
 
       held-by : (i : ℕ) (t : Bool) → among fresh i ≡ t → among (fresh ++ b .service) i ≡ true
-          → held (bookRecord b) (putShares (bookRecord b) made fresh area) i ≡ share (b .sizes) xs (fileOf (b .file)) i
+          → held (bookRecord b) (putShares (bookRecord b) made fresh area) i ≡ share (b .sizes) (b .points) (fileOf (b .file)) i
       held-by i true q e =
           shares-same (bookRecord b) made (usedLen (bookRecord b)) long (used-fits (bookRecord b) known) fresh area (f .area-is) low i q
-          ∙ true-share xs (bookRecord b) area fresh helpers (length area) (lawful xs laws b area v .lengths) r-low f (lawful xs laws b area v) (fileOf (b .file)) (v .bytes) refl
-          (λ j u. v .holds j (sym (up xs laws b area v j) ∙ u)) i q
+          ∙ true-share (bookRecord b) area fresh helpers (length area) (lawful laws b area v .lengths) r-low f (lawful laws b area v) (fileOf (b .file)) (v .bytes) refl
+          (λ j u. v .holds j (sym (up laws b area v j) ∙ u)) i q
       held-by i false q e =
           let o : among (b .service) i ≡ true = sym (among-append-none fresh (b .service) i q) ∙ e in
           shares-other (bookRecord b) made (usedLen (bookRecord b)) long (used-fits (bookRecord b) known) fresh area (f .area-is) low i (usedLen (bookRecord b))
           (all-among (λ x. x < b .sizes .n) (b .service) i (v .serving) o) q (used-fits (bookRecord b) known)
           ∙ v .holds i o
 
-  pub repair-good : (fresh helpers : List ℕ) → Good xs (act xs (record { kept = bookRecord b; area = area }) (repair fresh helpers)) (enter b (repair fresh helpers))
+  pub repair-good : (fresh helpers : List ℕ) → Good (act (record { kept = bookRecord b; area = area }) (repair fresh helpers)) (enter b (repair fresh helpers))
   unfolding act enter accept repairCall
   repair-good fresh helpers =
-      good-both xs _ _ _ _ _ _ (repair-same fresh helpers) (refusal-good xs laws b area v [])
+      good-both _ _ _ _ _ _ (repair-same fresh helpers) (refusal-good laws b area v [])
       (λ e. let f = repair-facts (bookRecord b) (length area) fresh helpers e in
       record {
         alike = ap (λ (m : ℕ). record { answer = said (Done m); output = [] })
-            (moved-is xs (bookRecord b) area fresh helpers (length area) (lawful xs laws b area v .lengths) (legal-facts (b .sizes) (known .is-legal) .some-fresh) f);
-        same-record = ap (λ (m : List Bool). record { sizes = b .sizes; capacity = b .capacity; written = given (b .file); length = bookLength b; marks = m }) (marks-on fresh (b .service));
+            (moved-is (bookRecord b) area fresh helpers (length area) (lawful laws b area v .lengths) (legal-facts (b .sizes) (known .is-legal) .some-fresh) f);
+        same-record = ap (λ (m : List Bool). record { sizes = b .sizes; points = b .points; capacity = b .capacity; written = given (b .file); length = bookLength b; marks = m })
+            (marks-on fresh (b .service));
         inv = repair-inv fresh helpers f;
       })

@@ -108,10 +108,10 @@ module _ (z : Sizes) (xs : List ℕ) (S : ℕ) (hold : ℕ → List ℕ) where
 
 -- ---- an accepted repair
 
-module _ (xs : List ℕ) (s : Record) (area fresh helpers : List ℕ) (h : repairCall xs s area fresh helpers .answer .refusal ≡ 0) where
+module _ (s : Record) (area fresh helpers : List ℕ) (h : repairCall s area fresh helpers .answer .refusal ≡ 0) where
   pass : first storeOrder (repairLines s (length area) fresh helpers) ≡ Pass
   unfolding repairCall
-  pass = passes (first storeOrder (repairLines s (length area) fresh helpers)) s area [] (repairDone xs s area fresh helpers) h
+  pass = passes (first storeOrder (repairLines s (length area) fresh helpers)) s area [] (repairDone s area fresh helpers) h
 
   f : Repairs s (length area) fresh helpers
   f = repair-facts s (length area) fresh helpers pass
@@ -120,17 +120,17 @@ module _ (xs : List ℕ) (s : Record) (area fresh helpers : List ℕ) (h : repai
   legal-is = sound-facts s (f .is-sound) .is-legal
 
   fresh-stripes : (i : ℕ) → among fresh i ≡ true
-      → freshShare xs s area fresh helpers i
+      → freshShare s area fresh helpers i
       ≡ join (stripeCount s)
-      (λ t. freshStripe (s .sizes) xs (λ j. piece (α (s .sizes)) t (held s area j)) fresh (λ m. sendersOf (sentTo m (helperPackets xs s area fresh helpers))) i)
+      (λ t. freshStripe (s .sizes) (s .points) (λ j. piece (α (s .sizes)) t (held s area j)) fresh (λ m. sendersOf (sentTo m (helperPackets s area fresh helpers))) i)
   unfolding own sent swap heardBy
   fresh-stripes i e =
-      let l = code-lengths xs (s .sizes) legal-is in
+      let l = code-lengths (s .points) (s .sizes) legal-is in
       let low = legal-facts (s .sizes) legal-is .some-fresh in
-      let p = partner-count xs s area fresh helpers (length area) l low f i e in
-      fresh-by xs s area fresh helpers (length area) l low f i e
-      ∙ by-stripes (s .sizes) xs (stripeCount s) (held s area) fresh (heardBy xs s area fresh helpers (length area) l low f)
-      (heard-count xs s area fresh helpers (length area) l low f) i e (omega arith)
+      let p = partner-count s area fresh helpers (length area) l low f i e in
+      fresh-by s area fresh helpers (length area) l low f i e
+      ∙ by-stripes (s .sizes) (s .points) (stripeCount s) (held s area) fresh (heardBy s area fresh helpers (length area) l low f)
+      (heard-count s area fresh helpers (length area) l low f) i e (omega arith)
 
 pub repair-by-stripes : ByStripes
 repair-by-stripes = fresh-stripes

@@ -1,5 +1,6 @@
 -- Document 01, 'The calls', the store: each call is a total function of record, area and arguments to its answer, the record it hands on, and
--- every lent byte after it. `xs` are the boards' points; `m` in the lines is the area's length.
+-- every lent byte after it. "Shares, packets and reads use" the record's own points (request A.9); `m` in the
+-- lines is the area's length.
 -- Assumes nothing.
 use Prim.Native.Nat.{ℕ, _*_}
 use mathlib.Core.Bool.{false, not}
@@ -82,13 +83,13 @@ repairLines s m fresh helpers =
     ∷ []
 
 -- the file that the named boards hold, if there is one
-abbrev pub fileHeld : List ℕ → Record → List ℕ → List ℕ → Option (List ℕ)
-fileHeld xs s area boards = readFile (s .sizes) xs (s .length) boards (joined (held s area) boards)
+abbrev pub fileHeld : Record → List ℕ → List ℕ → Option (List ℕ)
+fileHeld s area boards = readFile (s .sizes) (s .points) (s .length) boards (joined (held s area) boards)
 
 -- "6 REPEAT: a board twice among the k read". "7 SHORT: output shorter than what is to be written". "10 DISAGREE: no file of length L, padding
 -- included, has these k shares."
-unfoldable pub readLines : List ℕ → Record → List ℕ → List ℕ → List ℕ → List Line
-readLines xs s area boards output =
+unfoldable pub readLines : Record → List ℕ → List ℕ → List ℕ → List Line
+readLines s area boards output =
     recordLine s
     ∷ lentLine s (length area)
     ∷ emptyLine s
@@ -97,24 +98,24 @@ readLines xs s area boards output =
     ∷ Repeat when not (different boards)
     ∷ downLine s boards
     ∷ Short when ltb (length output) (s .length)
-    ∷ Disagree when not (given (fileHeld xs s area boards))
+    ∷ Disagree when not (given (fileHeld s area boards))
     ∷ []
 
 -- ---- the calls
 
--- "Set up, given sizes and C": "the record it is handed is not examined, and comes back only with a refusal"
-unfoldable pub setUpCall : Record → Sizes → ℕ → StoreOutcome
-setUpCall s z c =
-    settle (first storeOrder (recordLine (newRecord z c) ∷ [])) (refused s [] []) (accepted 0 (newRecord z c) [] [])
+-- "Set up, given sizes and C", and the points: "the record it is handed is not examined, and comes back only with a refusal"
+unfoldable pub setUpCall : Record → Sizes → List ℕ → ℕ → StoreOutcome
+setUpCall s z xs c =
+    settle (first storeOrder (recordLine (newRecord z xs c) ∷ [])) (refused s [] []) (accepted 0 (newRecord z xs c) [] [])
 
 -- "Write: the first S stripes of every board get its share; all n come into service. Other bytes stay."
-abbrev pub writeDone : List ℕ → Record → List ℕ → List ℕ → StoreOutcome
-writeDone xs s area file =
+abbrev pub writeDone : Record → List ℕ → List ℕ → StoreOutcome
+writeDone s area file =
     accepted 0 (writtenRecord s (length file))
-    (putShares (writtenRecord s (length file)) (share (s .sizes) xs file) (tabulate (s .sizes .n) (λ i. i)) area) []
+    (putShares (writtenRecord s (length file)) (share (s .sizes) (s .points) file) (tabulate (s .sizes .n) (λ i. i)) area) []
 
-unfoldable pub writeCall : List ℕ → Record → List ℕ → List ℕ → StoreOutcome
-writeCall xs s area file = settle (first storeOrder (writeLines s (length area) file)) (refused s area []) (writeDone xs s area file)
+unfoldable pub writeCall : Record → List ℕ → List ℕ → StoreOutcome
+writeCall s area file = settle (first storeOrder (writeLines s (length area) file)) (refused s area []) (writeDone s area file)
 
 -- "Lose a board: its mark goes off; already off is accepted."
 abbrev pub loseDone : Record → List ℕ → ℕ → StoreOutcome
@@ -125,19 +126,19 @@ loseCall s area board = settle (first storeOrder (loseLines s board)) (refused s
 
 -- "Repair: .. Fresh boards get their shares and come into service together. The answer reports the bytes moved, the summed length of all
 -- packets". All packets are made from the area before the call.
-abbrev pub repairDone : List ℕ → Record → List ℕ → List ℕ → List ℕ → StoreOutcome
-repairDone xs s area fresh helpers =
-    accepted (total (repairPackets xs s area fresh helpers)) (withMarks s (turnOn fresh (s .marks)))
-    (putShares s (freshShare xs s area fresh helpers) fresh area) []
+abbrev pub repairDone : Record → List ℕ → List ℕ → List ℕ → StoreOutcome
+repairDone s area fresh helpers =
+    accepted (total (repairPackets s area fresh helpers)) (withMarks s (turnOn fresh (s .marks)))
+    (putShares s (freshShare s area fresh helpers) fresh area) []
 
-unfoldable pub repairCall : List ℕ → Record → List ℕ → List ℕ → List ℕ → StoreOutcome
-repairCall xs s area fresh helpers =
-    settle (first storeOrder (repairLines s (length area) fresh helpers)) (refused s area []) (repairDone xs s area fresh helpers)
+unfoldable pub repairCall : Record → List ℕ → List ℕ → List ℕ → StoreOutcome
+repairCall s area fresh helpers =
+    settle (first storeOrder (repairLines s (length area) fresh helpers)) (refused s area []) (repairDone s area fresh helpers)
 
 -- "Read: k boards; the file goes to the first L bytes of the output, the rest of it stays."
-abbrev pub readDone : List ℕ → Record → List ℕ → List ℕ → List ℕ → StoreOutcome
-readDone xs s area boards output = accepted 0 s area (over (fileOf (fileHeld xs s area boards)) output)
+abbrev pub readDone : Record → List ℕ → List ℕ → List ℕ → StoreOutcome
+readDone s area boards output = accepted 0 s area (over (fileOf (fileHeld s area boards)) output)
 
-unfoldable pub readCall : List ℕ → Record → List ℕ → List ℕ → List ℕ → StoreOutcome
-readCall xs s area boards output =
-    settle (first storeOrder (readLines xs s area boards output)) (refused s area output) (readDone xs s area boards output)
+unfoldable pub readCall : Record → List ℕ → List ℕ → List ℕ → StoreOutcome
+readCall s area boards output =
+    settle (first storeOrder (readLines s area boards output)) (refused s area output) (readDone s area boards output)

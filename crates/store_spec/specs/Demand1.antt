@@ -18,7 +18,7 @@ use Rattle.sizes.specs.declared.Answer.the-variants.{Refused}
 use Rattle.sizes.specs.Sizing.{maxStripes, legal, α, B, stripes}
 use Rattle.sizes.specs.Refusals.{said, Line, appliesIn, storeOrder}
 use Rattle.sizes.specs.Laws.{First}
-use Rattle.mbcr.specs.Share.{DifferentPoints, stripe, kept, share}
+use Rattle.mbcr.specs.Share.{pointed, stripe, kept, share}
 use Rattle.board_spec.specs.Claims.{Claim, _means_, LinesSay}
 use Rattle.store_spec.specs.Record.{Record, inService, sound, newRecord, writtenRecord, stripeCount, partLen, usedLen, held}
 use Rattle.store_spec.specs.Calls.{StoreOutcome, accepted, refused, fileHeld, recordLine, writeLines, loseLines, repairLines, readLines, setUpCall, writeDone, writeCall}
@@ -40,11 +40,11 @@ pub record Stays (s : Record) (boards old new : List ℕ) : Type 0 where
   pub same-byte : (p : ℕ) → ((i : ℕ) → among boards i ≡ true → (p < i * partLen s) ⊎ (i * partLen s + usedLen s ≤ p)) → getD new p 0 ≡ getD old p 0
 
 -- a call's lines by the store
-unfoldable pub storeLines : List ℕ → Record → List ℕ → Call → List Line
-storeLines xs s area (write file) = writeLines s (length area) file
-storeLines xs s area (lose board) = loseLines s board
-storeLines xs s area (repair fresh helpers) = repairLines s (length area) fresh helpers
-storeLines xs s area (read boards output) = readLines xs s area boards output
+unfoldable pub storeLines : Record → List ℕ → Call → List Line
+storeLines s area (write file) = writeLines s (length area) file
+storeLines s area (lose board) = loseLines s board
+storeLines s area (repair fresh helpers) = repairLines s (length area) fresh helpers
+storeLines s area (read boards output) = readLines s area boards output
 
 -- what the lines of each call say
 module _ (s : Record) where
@@ -69,8 +69,8 @@ module _ (s : Record) where
       ∷ Down means (every (inService s) helpers ≡ false)
       ∷ [])
 
-  abbrev pub readClaims : List ℕ → List ℕ → List ℕ → List ℕ → List Claim
-  readClaims xs area boards output =
+  abbrev pub readClaims : List ℕ → List ℕ → List ℕ → List Claim
+  readClaims area boards output =
       lentClaims (length area)
       ++ (Empty means (s .written ≡ false)
       ∷ Count means (length boards ≢ s .sizes .k)
@@ -78,7 +78,7 @@ module _ (s : Record) where
       ∷ Repeat means (different boards ≡ false)
       ∷ Down means (every (inService s) boards ≡ false)
       ∷ Short means (length output < s .length)
-      ∷ Disagree means (fileHeld xs s area boards ≡ none)
+      ∷ Disagree means (fileHeld s area boards ≡ none)
       ∷ [])
 
 pub record StoreCalls : Type 0 where
@@ -86,45 +86,46 @@ pub record StoreCalls : Type 0 where
   pub write-lines : (s : Record) (m : ℕ) (file : List ℕ) → LinesSay (writeLines s m file) (writeClaims s m file)
   pub lose-lines : (s : Record) (board : ℕ) → LinesSay (loseLines s board) (loseClaims s board)
   pub repair-lines : (s : Record) (m : ℕ) (fresh helpers : List ℕ) → LinesSay (repairLines s m fresh helpers) (repairClaims s m fresh helpers)
-  pub read-lines : (xs : List ℕ) (s : Record) (area boards output : List ℕ)
-      → LinesSay (readLines xs s area boards output) (readClaims s xs area boards output)
-  pub set-up-ends : (old : Record) (z : Sizes) (c : ℕ)
-      → StoreEnds (recordLine (newRecord z c) ∷ []) old [] [] (accepted 0 (newRecord z c) [] []) (setUpCall old z c)
-  pub write-ends : (xs : List ℕ) (s : Record) (area file : List ℕ)
-      → StoreEnds (writeLines s (length area) file) s area [] (writeDone xs s area file) (writeCall xs s area file)
+  pub read-lines : (s : Record) (area boards output : List ℕ)
+      → LinesSay (readLines s area boards output) (readClaims s area boards output)
+  pub set-up-ends : (old : Record) (z : Sizes) (xs : List ℕ) (c : ℕ)
+      → StoreEnds (recordLine (newRecord z xs c) ∷ []) old [] [] (accepted 0 (newRecord z xs c) [] []) (setUpCall old z xs c)
+  pub write-ends : (s : Record) (area file : List ℕ)
+      → StoreEnds (writeLines s (length area) file) s area [] (writeDone s area file) (writeCall s area file)
   pub lose-ends : (s : Record) (area : List ℕ) (board : ℕ) → StoreEnds (loseLines s board) s area [] (loseDone s area board) (loseCall s area board)
-  pub repair-ends : (xs : List ℕ) (s : Record) (area fresh helpers : List ℕ)
-      → StoreEnds (repairLines s (length area) fresh helpers) s area [] (repairDone xs s area fresh helpers) (repairCall xs s area fresh helpers)
-  pub read-ends : (xs : List ℕ) (s : Record) (area boards output : List ℕ)
-      → StoreEnds (readLines xs s area boards output) s area output (readDone xs s area boards output) (readCall xs s area boards output)
+  pub repair-ends : (s : Record) (area fresh helpers : List ℕ)
+      → StoreEnds (repairLines s (length area) fresh helpers) s area [] (repairDone s area fresh helpers) (repairCall s area fresh helpers)
+  pub read-ends : (s : Record) (area boards output : List ℕ)
+      → StoreEnds (readLines s area boards output) s area output (readDone s area boards output) (readCall s area boards output)
   -- when a set-up is accepted
-  pub set-up-accepted : (old : Record) (z : Sizes) (c : ℕ) → (setUpCall old z c .answer .refusal ≡ 0) ↔ ((legal z ≡ true) × (1 ≤ c) × (c ≤ maxStripes))
+  pub set-up-accepted : (old : Record) (z : Sizes) (xs : List ℕ) (c : ℕ)
+      → (setUpCall old z xs c .answer .refusal ≡ 0) ↔ ((legal z ≡ true) × (pointed z xs ≡ true) × (1 ≤ c) × (c ≤ maxStripes))
   -- the records that are not SIZE, in propositions
   pub sound-is : (s : Record) → (sound s ≡ true)
-      ↔ ((legal (s .sizes) ≡ true) × (1 ≤ s .capacity) × (s .capacity ≤ maxStripes) × (s .length ≤ s .capacity * B (s .sizes))
+      ↔ ((legal (s .sizes) ≡ true) × (pointed (s .sizes) (s .points) ≡ true) × (1 ≤ s .capacity) × (s .capacity ≤ maxStripes) × (s .length ≤ s .capacity * B (s .sizes))
       × ((i : ℕ) → inService s i ≡ true → i < s .sizes .n)
       × (s .written ≡ false → (s .length ≡ 0) × ((i : ℕ) → inService s i ≡ true → ⊥)))
   -- "stripe s of board i starts at (i × C + s) × α", in what is held and after a write
   pub held-place : (s : Record) (area : List ℕ) (i t : ℕ) → t < stripeCount s
       → piece (α (s .sizes)) t (held s area i) ≡ take (α (s .sizes)) (drop ((i * s .capacity + t) * α (s .sizes)) area)
-  pub write-place : (xs : List ℕ) (s : Record) (area file : List ℕ) → writeCall xs s area file .answer .refusal ≡ 0
+  pub write-place : (s : Record) (area file : List ℕ) → writeCall s area file .answer .refusal ≡ 0
       → (i t : ℕ) → i < s .sizes .n → t < stripes (s .sizes) (length file)
-      → take (α (s .sizes)) (drop ((i * s .capacity + t) * α (s .sizes)) (writeCall xs s area file .area)) ≡ kept (s .sizes) xs (stripe (s .sizes) file t) i
+      → take (α (s .sizes)) (drop ((i * s .capacity + t) * α (s .sizes)) (writeCall s area file .area)) ≡ kept (s .sizes) (s .points) (stripe (s .sizes) file t) i
   -- "Other bytes stay." "Only the first S stripes of fresh boards change."
-  pub write-stays : (xs : List ℕ) (s : Record) (area file : List ℕ) → writeCall xs s area file .answer .refusal ≡ 0
-      → Stays (writtenRecord s (length file)) (tabulate (s .sizes .n) (λ i. i)) area (writeCall xs s area file .area)
-  pub repair-stays : (xs : List ℕ) (s : Record) (area fresh helpers : List ℕ) → repairCall xs s area fresh helpers .answer .refusal ≡ 0
-      → Stays s fresh area (repairCall xs s area fresh helpers .area)
+  pub write-stays : (s : Record) (area file : List ℕ) → writeCall s area file .answer .refusal ≡ 0
+      → Stays (writtenRecord s (length file)) (tabulate (s .sizes .n) (λ i. i)) area (writeCall s area file .area)
+  pub repair-stays : (s : Record) (area fresh helpers : List ℕ) → repairCall s area fresh helpers .answer .refusal ≡ 0
+      → Stays s fresh area (repairCall s area fresh helpers .area)
   -- a read over any area, where no line but DISAGREE holds: it gives f exactly when f has length L and the k boards hold its shares, and
   -- DISAGREE exactly when there is no such file
-  pub read-exact : (xs : List ℕ) (s : Record) (area boards output : List ℕ) → DifferentPoints (s .sizes) xs → Bytes area
-      → All (λ x. (x ≡ Disagree) ⊎ (appliesIn (readLines xs s area boards output) x ≡ false)) storeOrder
+  pub read-exact : (s : Record) (area boards output : List ℕ) → Bytes area
+      → All (λ x. (x ≡ Disagree) ⊎ (appliesIn (readLines s area boards output) x ≡ false)) storeOrder
       → ((file : List ℕ) → length file ≡ s .length → Bytes file
-      → (readCall xs s area boards output ≡ accepted 0 s area (over file output))
-      ↔ All (λ i. held s area i ≡ share (s .sizes) xs file i) boards)
-      × ((readCall xs s area boards output ≡ refused s area output Disagree)
-      ↔ ((file : List ℕ) → length file ≡ s .length → Bytes file → All (λ i. held s area i ≡ share (s .sizes) xs file i) boards → ⊥))
+      → (readCall s area boards output ≡ accepted 0 s area (over file output))
+      ↔ All (λ i. held s area i ≡ share (s .sizes) (s .points) file i) boards)
+      × ((readCall s area boards output ≡ refused s area output Disagree)
+      ↔ ((file : List ℕ) → length file ≡ s .length → Bytes file → All (λ i. held s area i ≡ share (s .sizes) (s .points) file i) boards → ⊥))
   -- the ledger's lines are the store's: for each refusal but 1 and 10, by any book that tells legal sizes and names boards below n
-  pub lines-agree : (xs : List ℕ) (b : Book) (area : List ℕ) (call : Call) → legal (b .sizes) ≡ true → All (λ i. i < b .sizes .n) (b .service) → length area ≡ b .areaLength
-      → All (λ x. appliesIn (storeLines xs (bookRecord b) area call) x ≡ appliesIn (bookLines b call) x)
+  pub lines-agree : (b : Book) (area : List ℕ) (call : Call) → legal (b .sizes) ≡ true → All (λ i. i < b .sizes .n) (b .service) → length area ≡ b .areaLength
+      → All (λ x. appliesIn (storeLines (bookRecord b) area call) x ≡ appliesIn (bookLines b call) x)
       (Area ∷ Long ∷ Empty ∷ Count ∷ Node ∷ Repeat ∷ Down ∷ Short ∷ [])

@@ -10,7 +10,9 @@ use Rattle.lists.specs.Lists.{joined, without, over}
 use Rattle.sizes.specs.declared.Sizes.{Sizes}
 use Rattle.sizes.specs.declared.Answer.the-variants.{Done}
 use Rattle.sizes.specs.Refusals.{said}
-use Rattle.mbcr.specs.Share.{standard, DifferentPoints, share}
+use Rattle.sizes.specs.Sizing.{maxStripes, legal}
+use Rattle.mbcr.specs.Share.{standard, share}
+use Rattle.mbcr.specs.PointLaws.{firstSeries}
 use Rattle.mbcr.specs.Rebuild.{helperPacket, exchangePacket, finishedShare}
 use Rattle.board_spec.specs.Calls.{fileOf}
 use Rattle.store_spec.specs.Record.{Record, stripeCount, held}
@@ -19,13 +21,13 @@ use Rattle.store_spec.specs.Calls.{StoreOutcome, accepted, setUpCall, re
 use Rattle.store_spec.specs.Ledger.{Call, Book, State, Step, Altered, Allowed, openBook, bookLength, bookRecord, replies, final, bookReplies, bookFinal}
 
 -- After the list, also where bytes of boards out of service were altered since the last call: `now` is the area.
-pub record Intact (xs : List ℕ) (w : State) (b : Book) : Type 0 where
+pub record Intact (w : State) (b : Book) : Type 0 where
   -- the record is the one that the book tells
   pub same-record : w .kept ≡ bookRecord b
   -- "every board in service holds its share of that file": the first S stripes of its part of the area are its share
   pub holds : (now : List ℕ) → Altered b (w .kept) (w .area) now
       → (i : ℕ) → among (b .service) i ≡ true
-      → held (w .kept) now i ≡ share (b .sizes) xs (fileOf (b .file)) i
+      → held (w .kept) now i ≡ share (b .sizes) (b .points) (fileOf (b .file)) i
   -- "a read of any k different boards in service, with output long enough, is accepted and gives exactly the last file accepted"
   pub gives : (now : List ℕ) → Altered b (w .kept) (w .area) now
       → (boards output : List ℕ)
@@ -33,68 +35,75 @@ pub record Intact (xs : List ℕ) (w : State) (b : Book) : Type 0 where
       → different boards ≡ true
       → every (among (b .service)) boards ≡ true
       → bookLength b ≤ length output
-      → readCall xs (w .kept) now boards output
+      → readCall (w .kept) now boards output
       ≡ accepted 0 (w .kept) now (over (fileOf (b .file)) output)
 
 -- An accepted repair, over any record and any area.
-pub record Repaired (xs : List ℕ) (s : Record) (area fresh helpers : List ℕ) : Type 0 where
+pub record Repaired (s : Record) (area fresh helpers : List ℕ) : Type 0 where
   -- "the bytes moved, the summed length of all packets: S × r × (2d + r − 1)"
-  pub moved : repairCall xs s area fresh helpers .answer ≡ said (Done (total (repairPackets xs s area fresh helpers)))
-  pub moved-is : total (repairPackets xs s area fresh helpers) ≡ stripeCount s * s .sizes .r * (2 * s .sizes .d + s .sizes .r - 1)
+  pub moved : repairCall s area fresh helpers .answer ≡ said (Done (total (repairPackets s area fresh helpers)))
+  pub moved-is : total (repairPackets s area fresh helpers) ≡ stripeCount s * s .sizes .r * (2 * s .sizes .d + s .sizes .r - 1)
   -- the packets are those of the helpers and those that fresh boards exchange, which the fresh shares are made of
-  pub packets-are : repairPackets xs s area fresh helpers ≡ helperPackets xs s area fresh helpers ++ exchangePackets xs s area fresh helpers
-  pub shares-are : (i : ℕ) → freshShare xs s area fresh helpers i
-      ≡ finishedShare (s .sizes) xs (stripeCount s) i
-      (sendersOf (sentTo i (helperPackets xs s area fresh helpers))) (contents (sentTo i (helperPackets xs s area fresh helpers)))
-      (sendersOf (sentTo i (exchangePackets xs s area fresh helpers))) (contents (sentTo i (exchangePackets xs s area fresh helpers)))
+  pub packets-are : repairPackets s area fresh helpers ≡ helperPackets s area fresh helpers ++ exchangePackets s area fresh helpers
+  pub shares-are : (i : ℕ) → freshShare s area fresh helpers i
+      ≡ finishedShare (s .sizes) (s .points) (stripeCount s) i
+      (sendersOf (sentTo i (helperPackets s area fresh helpers))) (contents (sentTo i (helperPackets s area fresh helpers)))
+      (sendersOf (sentTo i (exchangePackets s area fresh helpers))) (contents (sentTo i (exchangePackets s area fresh helpers)))
   -- the a-th fresh board's helpers are the a-th run of d, its partners the other fresh boards
   pub helpers-are : (a : ℕ) → a < length fresh
-      → sendersOf (sentTo (getD fresh a 0) (helperPackets xs s area fresh helpers)) ≡ take (s .sizes .d) (drop (a * s .sizes .d) helpers)
-  pub partners-are : (i : ℕ) → among fresh i ≡ true → sendersOf (sentTo i (exchangePackets xs s area fresh helpers)) ≡ without i fresh
+      → sendersOf (sentTo (getD fresh a 0) (helperPackets s area fresh helpers)) ≡ take (s .sizes .d) (drop (a * s .sizes .d) helpers)
+  pub partners-are : (i : ℕ) → among fresh i ≡ true → sendersOf (sentTo i (exchangePackets s area fresh helpers)) ≡ without i fresh
   -- "these are the board-level packets of its senders": a helper's from what it holds, a partner's from its own helper packets
-  pub helpers-send : (i : ℕ) → among fresh i ≡ true → contents (sentTo i (helperPackets xs s area fresh helpers))
-      ≡ joined (λ j. helperPacket (s .sizes) xs (stripeCount s) j i (held s area j)) (sendersOf (sentTo i (helperPackets xs s area fresh helpers)))
-  pub partners-send : (i : ℕ) → among fresh i ≡ true → contents (sentTo i (exchangePackets xs s area fresh helpers))
+  pub helpers-send : (i : ℕ) → among fresh i ≡ true → contents (sentTo i (helperPackets s area fresh helpers))
+      ≡ joined (λ j. helperPacket (s .sizes) (s .points) (stripeCount s) j i (held s area j)) (sendersOf (sentTo i (helperPackets s area fresh helpers)))
+  pub partners-send : (i : ℕ) → among fresh i ≡ true → contents (sentTo i (exchangePackets s area fresh helpers))
       ≡ joined
-      (λ m. exchangePacket (s .sizes) xs (stripeCount s) (sendersOf (sentTo m (helperPackets xs s area fresh helpers)))
-      (contents (sentTo m (helperPackets xs s area fresh helpers))) i)
+      (λ m. exchangePacket (s .sizes) (s .points) (stripeCount s) (sendersOf (sentTo m (helperPackets s area fresh helpers)))
+      (contents (sentTo m (helperPackets s area fresh helpers))) i)
       (without i fresh)
   -- "every fresh board gets exactly 2d + r − 1 bytes per stripe"
   pub gets : (i : ℕ) → among fresh i ≡ true
-      → total (sentTo i (repairPackets xs s area fresh helpers)) ≡ stripeCount s * (2 * s .sizes .d + s .sizes .r - 1)
+      → total (sentTo i (repairPackets s area fresh helpers)) ≡ stripeCount s * (2 * s .sizes .d + s .sizes .r - 1)
   -- "and, over any area, then holds what document 01's steps make of them": the finished share of just the packets sent to it
-  pub has : (i : ℕ) → among fresh i ≡ true → held s (repairCall xs s area fresh helpers .area) i ≡ freshShare xs s area fresh helpers i
+  pub has : (i : ℕ) → among fresh i ≡ true → held s (repairCall s area fresh helpers .area) i ≡ freshShare s area fresh helpers i
 
 -- the store newly set up, whatever record was handed to it and whatever the area holds
-abbrev pub begun : Record → Sizes → ℕ → List ℕ → State
-begun old z c area = record { kept = setUpCall old z c .handed; area = area }
+abbrev pub begun : Record → Sizes → List ℕ → ℕ → List ℕ → State
+begun old z xs c area = record { kept = setUpCall old z xs c .handed; area = area }
 
 abbrev pub calls : List Step → List Call
 calls steps = map (λ t. t .call) steps
 
 -- What demand 3 says of one list of calls.
-pub record Demand3 (xs : List ℕ) (old : Record) (z : Sizes) (c : ℕ) (area : List ℕ) (steps : List Step) : Type 0 where
+pub record Demand3 (old : Record) (z : Sizes) (xs : List ℕ) (c : ℕ) (area : List ℕ) (steps : List Step) : Type 0 where
   -- "every call answers as document 01's ledger does"
-  pub alike : replies xs (begun old z c area) steps ≡ bookReplies (openBook z c (length area)) (calls steps)
+  pub alike : replies (begun old z xs c area) steps ≡ bookReplies (openBook z xs c (length area)) (calls steps)
   -- "After the list"
-  pub after : Intact xs (final xs (begun old z c area) steps) (bookFinal (openBook z c (length area)) (calls steps))
+  pub after : Intact (final (begun old z xs c area) steps) (bookFinal (openBook z xs c (length area)) (calls steps))
   -- "In each accepted repair", in this list or not
-  pub repaired : (s : Record) (any fresh helpers : List ℕ) → repairCall xs s any fresh helpers .answer .refusal ≡ 0 → Repaired xs s any fresh helpers
+  pub repaired : (s : Record) (any fresh helpers : List ℕ) → repairCall s any fresh helpers .answer .refusal ≡ 0 → Repaired s any fresh helpers
 
--- Demand 3: for every accepted set-up, any first area and any list of calls that is allowed. The points are document 01's (`standard`) or any
--- others that differ.
+-- Demand 3: for every accepted set-up, with whatever points, any first area and any list of calls that is allowed.
 abbrev pub Demand3Claim : Type 0
 Demand3Claim =
-    (xs : List ℕ) (old : Record) (z : Sizes) (c : ℕ) (area : List ℕ) (steps : List Step)
-    → setUpCall old z c .answer .refusal ≡ 0
-    → DifferentPoints z xs
-    → Allowed xs (begun old z c area) (openBook z c (length area)) steps
-    → Demand3 xs old z c area steps
+    (old : Record) (z : Sizes) (xs : List ℕ) (c : ℕ) (area : List ℕ) (steps : List Step)
+    → setUpCall old z xs c .answer .refusal ≡ 0
+    → Allowed (begun old z xs c area) (openBook z xs c (length area)) steps
+    → Demand3 old z xs c area steps
 
--- The same with document 01's points, which differ.
-abbrev pub Demand3Standard : Type 0
-Demand3Standard =
+-- The same with points that depend on the sizes alone and are taken at all legal sizes: the set-up is accepted.
+abbrev pub Demand3At : (Sizes → List ℕ) → Type 0
+Demand3At points =
     (old : Record) (z : Sizes) (c : ℕ) (area : List ℕ) (steps : List Step)
-    → setUpCall old z c .answer .refusal ≡ 0
-    → Allowed standard (begun old z c area) (openBook z c (length area)) steps
-    → Demand3 standard old z c area steps
+    → legal z ≡ true
+    → 1 ≤ c
+    → c ≤ maxStripes
+    → Allowed (begun old z (points z) c area) (openBook z (points z) c (length area)) steps
+    → Demand3 old z (points z) c area steps
+
+-- document 01's points, and those of the first series
+abbrev pub Demand3Standard : Type 0
+Demand3Standard = Demand3At standard
+
+abbrev pub Demand3FirstSeries : Type 0
+Demand3FirstSeries = Demand3At firstSeries

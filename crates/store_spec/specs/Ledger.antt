@@ -33,20 +33,21 @@ pub record Reply : Type 0 where
 
 -- ---- the ledger
 
--- "It is fed the sizes, C, the area's length .. It keeps the last file accepted and the boards in service"
+-- "It is fed the sizes", with them the points (request A.9), "C, the area's length .. It keeps the last file accepted and the boards in service"
 pub record Book : Type 0 where
   pub sizes : Sizes
+  pub points : List ℕ
   pub capacity : ℕ
   pub areaLength : ℕ
   pub file : Option (List ℕ)
   pub service : List ℕ
 
 -- "none of either at first"
-abbrev pub openBook : Sizes → ℕ → ℕ → Book
-openBook z c m = record { sizes = z; capacity = c; areaLength = m; file = none; service = [] }
+abbrev pub openBook : Sizes → List ℕ → ℕ → ℕ → Book
+openBook z xs c m = record { sizes = z; points = xs; capacity = c; areaLength = m; file = none; service = [] }
 
 abbrev pub noted : Book → Option (List ℕ) → List ℕ → Book
-noted b file service = record { sizes = b .sizes; capacity = b .capacity; areaLength = b .areaLength; file = file; service = service }
+noted b file service = record { sizes = b .sizes; points = b .points; capacity = b .capacity; areaLength = b .areaLength; file = file; service = service }
 
 -- "L and S are those of that file"
 abbrev pub bookLength : Book → ℕ
@@ -112,11 +113,11 @@ pub record State : Type 0 where
   pub kept : Record
   pub area : List ℕ
 
-unfoldable pub act : List ℕ → State → Call → StoreOutcome
-act xs w (write file) = writeCall xs (w .kept) (w .area) file
-act xs w (lose board) = loseCall (w .kept) (w .area) board
-act xs w (repair fresh helpers) = repairCall xs (w .kept) (w .area) fresh helpers
-act xs w (read boards output) = readCall xs (w .kept) (w .area) boards output
+unfoldable pub act : State → Call → StoreOutcome
+act w (write file) = writeCall (w .kept) (w .area) file
+act w (lose board) = loseCall (w .kept) (w .area) board
+act w (repair fresh helpers) = repairCall (w .kept) (w .area) fresh helpers
+act w (read boards output) = readCall (w .kept) (w .area) boards output
 
 abbrev pub replyOf : StoreOutcome → Reply
 replyOf o = record { answer = o .answer; output = o .output }
@@ -131,8 +132,8 @@ pub record Step : Type 0 where
   pub area : List ℕ
   pub call : Call
 
-abbrev pub stepOutcome : List ℕ → State → Step → StoreOutcome
-stepOutcome xs w t = act xs (record { kept = w .kept; area = t .area }) (t .call)
+abbrev pub stepOutcome : State → Step → StoreOutcome
+stepOutcome w t = act (record { kept = w .kept; area = t .area }) (t .call)
 
 -- "altered since at most in bytes of boards out of service": of the same length, and the same in all bytes of boards that are in service by
 -- the book
@@ -147,19 +148,19 @@ Fair (lose board) = Unit
 Fair (repair fresh helpers) = Unit
 Fair (read boards output) = Unit
 
-abbrev pub Allowed : List ℕ → State → Book → List Step → Type 0
-Allowed xs w b [] = Unit
-Allowed xs w b (t ∷ ts) =
-    Altered b (w .kept) (w .area) (t .area) × Fair (t .call) × Allowed xs (left (stepOutcome xs w t)) (enter b (t .call) .book) ts
+abbrev pub Allowed : State → Book → List Step → Type 0
+Allowed w b [] = Unit
+Allowed w b (t ∷ ts) =
+    Altered b (w .kept) (w .area) (t .area) × Fair (t .call) × Allowed (left (stepOutcome w t)) (enter b (t .call) .book) ts
 
 -- the store's replies along the list, and where it ends
-abbrev pub replies : List ℕ → State → List Step → List Reply
-replies xs w [] = []
-replies xs w (t ∷ ts) = replyOf (stepOutcome xs w t) ∷ replies xs (left (stepOutcome xs w t)) ts
+abbrev pub replies : State → List Step → List Reply
+replies w [] = []
+replies w (t ∷ ts) = replyOf (stepOutcome w t) ∷ replies (left (stepOutcome w t)) ts
 
-abbrev pub final : List ℕ → State → List Step → State
-final xs w [] = w
-final xs w (t ∷ ts) = final xs (left (stepOutcome xs w t)) ts
+abbrev pub final : State → List Step → State
+final w [] = w
+final w (t ∷ ts) = final (left (stepOutcome w t)) ts
 
 -- the ledger's, which sees the calls alone
 abbrev pub bookReplies : Book → List Call → List Reply
@@ -173,4 +174,4 @@ bookFinal b (call ∷ calls) = bookFinal (enter b call .book) calls
 -- the record that the book tells
 abbrev pub bookRecord : Book → Record
 bookRecord b =
-    record { sizes = b .sizes; capacity = b .capacity; written = given (b .file); length = bookLength b; marks = tabulate maxBoards (among (b .service)) }
+    record { sizes = b .sizes; points = b .points; capacity = b .capacity; written = given (b .file); length = bookLength b; marks = tabulate maxBoards (among (b .service)) }

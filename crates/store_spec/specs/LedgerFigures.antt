@@ -10,7 +10,7 @@ use Rattle.mbcr.specs.Share.{standard}
 use Rattle.store_spec.specs.Record.{newRecord}
 use Rattle.store_spec.specs.Ledger.{Call, write, lose, repair, read, Reply, Book, State, Step, Allowed, openBook, replies, bookReplies, bookFinal}
 use Rattle.store_spec.specs.Demand3.{begun, calls}
-use Rattle.store_spec.specs.FurtherFigures.{five, fiveFile, boards234, area, spoiled, helpers}
+use Rattle.store_spec.specs.FurtherFigures.{five, fiveFile, helpers}
 
 -- what is replied: the refusal's number or 0, the number reported, all bytes of the output
 abbrev reply : ℕ → ℕ → List ℕ → Reply
@@ -19,18 +19,37 @@ reply refusal value output = record { answer = record { refusal = refusal; repor
 abbrev step : List ℕ → Call → Step
 step lent call = record { area = lent; call = call }
 
--- five boards of one stripe. Boards 0 and 1 are lost and spoiled, rebuilt, and board 1 is lost again and spoiled.
+-- five boards of one stripe, at five points that are not their numbers. Boards 0 and 1 are lost and spoiled, rebuilt, and board 1 is lost again and
+-- spoiled.
+abbrev points5 : List ℕ
+points5 = 0x05 ∷ 0xFF ∷ 0x80 ∷ 0x1D ∷ 0x02 ∷ replicate 27 0
+
 abbrev blank : List ℕ
 blank = replicate 35 0xEE
 
 abbrev pub start : State
-start = begun (newRecord five 1) five 1 blank
+start = begun (newRecord five (standard five) 1) five points5 1 blank
 
 abbrev pub opened : Book
-opened = openBook five 1 35
+opened = openBook five points5 1 35
+
+abbrev board0 : List ℕ
+board0 = 0x55 ∷ 0xB4 ∷ 0x68 ∷ 0xD0 ∷ 0x22 ∷ 0x4D ∷ 0x5F ∷ []
+
+abbrev boards234 : List ℕ
+boards234 =
+    0x75 ∷ 0xEA ∷ 0x26 ∷ 0x5F ∷ 0x57 ∷ 0xC9 ∷ 0x3A
+    ∷ 0x8F ∷ 0x98 ∷ 0x61 ∷ 0x41 ∷ 0xC9 ∷ 0x74 ∷ 0xD0
+    ∷ 0x08 ∷ 0x14 ∷ 0xDB ∷ 0x3A ∷ 0x74 ∷ 0x22 ∷ 0xD9 ∷ []
+
+abbrev area : List ℕ
+area = board0 ++ (0x26 ∷ 0x44 ∷ 0x88 ∷ 0xD9 ∷ 0x4D ∷ 0x57 ∷ 0x41 ∷ []) ++ boards234
+
+abbrev spoiled : List ℕ
+spoiled = replicate 14 0x77 ++ boards234
 
 abbrev again : List ℕ
-again = replicate 7 0 ++ replicate 7 0x99 ++ boards234
+again = board0 ++ replicate 7 0x99 ++ boards234
 
 abbrev pub steps : List Step
 steps =
@@ -66,10 +85,10 @@ told =
 
 pub record LedgerFigures : Type 0 where
   -- the list is allowed
-  pub allowed : Allowed standard start opened steps
+  pub allowed : Allowed start opened steps
   -- what the ledger replies, and what the store does
   pub book-replies : bookReplies opened (calls steps) ≡ told
-  pub store-replies : replies standard start steps ≡ told
+  pub store-replies : replies start steps ≡ told
   -- the book after them
   pub book-after : bookFinal opened (calls steps)
-      ≡ record { sizes = five; capacity = 1; areaLength = 35; file = some fiveFile; service = 0 ∷ 2 ∷ 3 ∷ 4 ∷ [] }
+      ≡ record { sizes = five; points = points5; capacity = 1; areaLength = 35; file = some fiveFile; service = 0 ∷ 2 ∷ 3 ∷ 4 ∷ [] }

@@ -16,9 +16,10 @@ Accepted b call = enter b call .reply .answer .refusal ≡ 0
 pub record LedgerLaws : Type 0 where
   -- "and then changes nothing"
   pub refused : (b : Book) (call : Call) → (Accepted b call → ⊥) → (enter b call .book ≡ b) × (enter b call .reply .output ≡ outputOf call)
-  -- sizes, capacity and the area's length stay
+  -- sizes, points, capacity and the area's length stay
   pub stay : (b : Book) (call : Call)
-      → (enter b call .book .sizes ≡ b .sizes) × (enter b call .book .capacity ≡ b .capacity) × (enter b call .book .areaLength ≡ b .areaLength)
+      → (enter b call .book .sizes ≡ b .sizes) × (enter b call .book .points ≡ b .points) × (enter b call .book .capacity ≡ b .capacity)
+      × (enter b call .book .areaLength ≡ b .areaLength)
   -- "all n come into service"
   pub writes : (b : Book) (file : List ℕ) → Accepted b (write file)
       → (enter b (write file) .book .file ≡ some file) × ((i : ℕ) → among (enter b (write file) .book .service) i ≡ ltb i (b .sizes .n))

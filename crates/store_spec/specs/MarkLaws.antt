@@ -13,9 +13,9 @@ use Rattle.store_spec.specs.Record.{Record, inService}
 use Rattle.store_spec.specs.Calls.{writeCall, loseCall, repairCall, readCall}
 use Rattle.store_spec.specs.Ledger.{Call, State, act, outputOf}
 
--- one record has the other's sizes and capacity
+-- one record has the other's sizes, points and capacity
 abbrev pub SameStore : Record → Record → Type 0
-SameStore new old = (new .sizes ≡ old .sizes) × (new .capacity ≡ old .capacity)
+SameStore new old = (new .sizes ≡ old .sizes) × (new .points ≡ old .points) × (new .capacity ≡ old .capacity)
 
 -- and it has its file
 abbrev pub SameFile : Record → Record → Type 0
@@ -23,23 +23,25 @@ SameFile new old = (new .written ≡ old .written) × (new .length ≡ old .leng
 
 pub record MarkLaws : Type 0 where
   -- "all n come into service", and none from n up
-  pub writes : (xs : List ℕ) (s : Record) (area file : List ℕ) → writeCall xs s area file .answer .refusal ≡ 0
-      → ((i : ℕ) → i < maxBoards → inService (writeCall xs s area file .handed) i ≡ ltb i (s .sizes .n))
-      × SameStore (writeCall xs s area file .handed) s
-      × (writeCall xs s area file .handed .written ≡ true) × (writeCall xs s area file .handed .length ≡ length file)
+  pub writes : (s : Record) (area file : List ℕ) → writeCall s area file .answer .refusal ≡ 0
+      → ((i : ℕ) → i < maxBoards → inService (writeCall s area file .handed) i ≡ ltb i (s .sizes .n))
+      × SameStore (writeCall s area file .handed) s
+      × (writeCall s area file .handed .written ≡ true) × (writeCall s area file .handed .length ≡ length file)
   -- "its mark goes off"
   pub loses : (s : Record) (area : List ℕ) (board : ℕ) → loseCall s area board .answer .refusal ≡ 0
       → ((i : ℕ) → inService (loseCall s area board .handed) i ≡ pick (eqb board i) false (inService s i))
       × SameStore (loseCall s area board .handed) s × SameFile (loseCall s area board .handed) s
   -- "Fresh boards .. come into service together"
-  pub repairs : (xs : List ℕ) (s : Record) (area fresh helpers : List ℕ) → length (s .marks) ≡ maxBoards
-      → repairCall xs s area fresh helpers .answer .refusal ≡ 0
-      → ((i : ℕ) → i < maxBoards → inService (repairCall xs s area fresh helpers .handed) i ≡ pick (among fresh i) true (inService s i))
-      × SameStore (repairCall xs s area fresh helpers .handed) s × SameFile (repairCall xs s area fresh helpers .handed) s
+  pub repairs : (s : Record) (area fresh helpers : List ℕ) → length (s .marks) ≡ maxBoards
+      → repairCall s area fresh helpers .answer .refusal ≡ 0
+      → ((i : ℕ) → i < maxBoards → inService (repairCall s area fresh helpers .handed) i ≡ pick (among fresh i) true (inService s i))
+      × SameStore (repairCall s area fresh helpers .handed) s × SameFile (repairCall s area fresh helpers .handed) s
   -- whatever the call: a refused one leaves record, area and output as they came, and one on 32 marks hands on 32
-  pub refused-keeps : (xs : List ℕ) (w : State) (call : Call) → (act xs w call .answer .refusal ≡ 0 → ⊥)
-      → act xs w call ≡ record { answer = act xs w call .answer; handed = w .kept; area = w .area; output = outputOf call }
-  pub full-marks : (xs : List ℕ) (w : State) (call : Call) → length (w .kept .marks) ≡ maxBoards
-      → length (act xs w call .handed .marks) ≡ maxBoards
+  pub refused-keeps : (w : State) (call : Call) → (act w call .answer .refusal ≡ 0 → ⊥)
+      → act w call ≡ record { answer = act w call .answer; handed = w .kept; area = w .area; output = outputOf call }
+  pub full-marks : (w : State) (call : Call) → length (w .kept .marks) ≡ maxBoards
+      → length (act w call .handed .marks) ≡ maxBoards
+  -- request A.9: the points are those of the set-up, whatever the call
+  pub points-stay : (w : State) (call : Call) → act w call .handed .points ≡ w .kept .points
   -- a read hands on the record that it was given
-  pub reads : (xs : List ℕ) (s : Record) (area boards output : List ℕ) → readCall xs s area boards output .handed ≡ s
+  pub reads : (s : Record) (area boards output : List ℕ) → readCall s area boards output .handed ≡ s

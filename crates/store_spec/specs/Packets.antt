@@ -49,16 +49,16 @@ hearHelpers d (i ∷ fresh) helpers = record { receiver = i; senders = take d he
 abbrev pub hearPartners : List ℕ → List Hearing
 hearPartners fresh = map (λ i. record { receiver = i; senders = without i fresh }) fresh
 
-module _ (xs : List ℕ) (s : Record) (area fresh helpers : List ℕ) where
+module _ (s : Record) (area fresh helpers : List ℕ) where
   -- "these are the board-level packets of its senders": each helper works from what it holds
   unfoldable pub helperPackets : List Packet
   helperPackets =
-      packetsOf (λ j i. helperPacket (s .sizes) xs (stripeCount s) j i (held s area j)) (hearHelpers (s .sizes .d) fresh helpers)
+      packetsOf (λ j i. helperPacket (s .sizes) (s .points) (stripeCount s) j i (held s area j)) (hearHelpers (s .sizes .d) fresh helpers)
 
   -- a fresh board works from the helper packets sent to it
   unfoldable pub exchangePackets : List Packet
   exchangePackets =
-      packetsOf (λ i m. exchangePacket (s .sizes) xs (stripeCount s) (sendersOf (sentTo i helperPackets)) (contents (sentTo i helperPackets)) m)
+      packetsOf (λ i m. exchangePacket (s .sizes) (s .points) (stripeCount s) (sendersOf (sentTo i helperPackets)) (contents (sentTo i helperPackets)) m)
       (hearPartners fresh)
 
   unfoldable pub repairPackets : List Packet
@@ -67,6 +67,6 @@ module _ (xs : List ℕ) (s : Record) (area fresh helpers : List ℕ) where
   -- "each fresh share is the finished share of just its packets"
   unfoldable pub freshShare : ℕ → List ℕ
   freshShare i =
-      finishedShare (s .sizes) xs (stripeCount s) i
+      finishedShare (s .sizes) (s .points) (stripeCount s) i
       (sendersOf (sentTo i helperPackets)) (contents (sentTo i helperPackets))
       (sendersOf (sentTo i exchangePackets)) (contents (sentTo i exchangePackets))

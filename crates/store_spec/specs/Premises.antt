@@ -24,9 +24,9 @@ files (repair fresh helpers ∷ cs) = files cs
 files (read boards output ∷ cs) = files cs
 
 -- the steps of these calls with nothing altered between them: each is given the area that the last one left
-abbrev pub unaltered : List ℕ → State → List Call → List Step
-unaltered xs w [] = []
-unaltered xs w (call ∷ cs) = record { area = w .area; call = call } ∷ unaltered xs (left (act xs w call)) cs
+abbrev pub unaltered : State → List Call → List Step
+unaltered w [] = []
+unaltered w (call ∷ cs) = record { area = w .area; call = call } ∷ unaltered (left (act w call)) cs
 
 -- the two areas agree in each byte that lies in the C × α bytes of a board in service
 abbrev pub AgreeInService : Book → Record → List ℕ → List ℕ → Type 0
@@ -36,10 +36,10 @@ AgreeInService b s old new =
     → getD new p 0 ≡ getD old p 0
 
 pub record Premises : Type 0 where
-  -- every list of calls whose files are of bytes is allowed, with nothing altered, after a set-up of any sizes over any area
-  pub all-allowed : (xs : List ℕ) (old : Record) (z : Sizes) (c : ℕ) (area : List ℕ) (cs : List Call) → All Bytes (files cs)
-      → Allowed xs (begun old z c area) (openBook z c (length area)) (unaltered xs (begun old z c area) cs)
+  -- every list of calls whose files are of bytes is allowed, with nothing altered, after a set-up of any sizes and points over any area
+  pub all-allowed : (old : Record) (z : Sizes) (xs : List ℕ) (c : ℕ) (area : List ℕ) (cs : List Call) → All Bytes (files cs)
+      → Allowed (begun old z xs c area) (openBook z xs c (length area)) (unaltered (begun old z xs c area) cs)
   -- these steps are of these calls
-  pub same-calls : (xs : List ℕ) (w : State) (cs : List Call) → calls (unaltered xs w cs) ≡ cs
+  pub same-calls : (w : State) (cs : List Call) → calls (unaltered w cs) ≡ cs
   -- altered is an area exactly where it is as long and agrees in each byte of a board in service
   pub altered-is : (b : Book) (s : Record) (old new : List ℕ) → Altered b s old new ↔ ((length new ≡ length old) × AgreeInService b s old new)

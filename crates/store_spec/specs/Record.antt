@@ -9,11 +9,13 @@ use Rattle.lists.specs.Tests.{pick, every, alls}
 use Rattle.lists.specs.Lists.{tabulate, put}
 use Rattle.sizes.specs.declared.Sizes.{Sizes}
 use Rattle.sizes.specs.Sizing.{maxBoards, maxStripes, legal, α, B, stripes}
+use Rattle.mbcr.specs.Share.{pointed}
 
 -- "The record has the sizes, a capacity C of 1 to 4,096 stripes, whether a file was accepted, L, and a mark for each of 32 boards: in
--- service or not."
+-- service or not." Request A.9: "The record now keeps a point for each board".
 pub record Record : Type 0 where
   pub sizes : Sizes
+  pub points : List ℕ
   pub capacity : ℕ
   pub written : Bool
   pub length : ℕ
@@ -27,11 +29,13 @@ abbrev pub allOff : List Bool → Bool
 allOff marks = every not marks
 
 -- 1 SIZE does not hold: "sizes not legal, or C outside its range (store only). Also a record that no call returns: L above C × B, a mark on
--- a number from n up, or no file together with L above 0 or some mark."
+-- a number from n up, or no file together with L above 0 or some mark." Request A.9: "A repeated point, or one other than 00 kept for a number
+-- from n up, counts as SIZE."
 unfoldable pub sound : Record → Bool
 sound s =
     alls
     (legal (s .sizes)
+    ∷ pointed (s .sizes) (s .points)
     ∷ leb 1 (s .capacity)
     ∷ leb (s .capacity) maxStripes
     ∷ leb (s .length) (s .capacity * B (s .sizes))
@@ -39,16 +43,16 @@ sound s =
     ∷ pick (s .written) true (alls (eqb (s .length) 0 ∷ allOff (s .marks) ∷ []))
     ∷ [])
 
--- "no file, L = 0, all marks off"
-abbrev pub newRecord : Sizes → ℕ → Record
-newRecord z c = record { sizes = z; capacity = c; written = false; length = 0; marks = replicate maxBoards false }
+-- "no file, L = 0, all marks off"; the points "given at set-up"
+abbrev pub newRecord : Sizes → List ℕ → ℕ → Record
+newRecord z xs c = record { sizes = z; points = xs; capacity = c; written = false; length = 0; marks = replicate maxBoards false }
 
 -- a file of this length was accepted, and "all n come into service"
 abbrev pub writtenRecord : Record → ℕ → Record
-writtenRecord s L = record { sizes = s .sizes; capacity = s .capacity; written = true; length = L; marks = tabulate maxBoards (λ i. ltb i (s .sizes .n)) }
+writtenRecord s L = record { sizes = s .sizes; points = s .points; capacity = s .capacity; written = true; length = L; marks = tabulate maxBoards (λ i. ltb i (s .sizes .n)) }
 
 abbrev pub withMarks : Record → List Bool → Record
-withMarks s marks = record { sizes = s .sizes; capacity = s .capacity; written = s .written; length = s .length; marks = marks }
+withMarks s marks = record { sizes = s .sizes; points = s .points; capacity = s .capacity; written = s .written; length = s .length; marks = marks }
 
 -- the marks of these boards go on
 abbrev pub turnOn : List ℕ → List Bool → List Bool

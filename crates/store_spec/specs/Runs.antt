@@ -8,7 +8,6 @@ use Prim.Native.Nat.{ℕ}
 use Rattle.lists.specs.Lists.{concat, without}
 use Rattle.sizes.specs.declared.Check.the-variants.{Pass}
 use Rattle.sizes.specs.Refusals.{first, storeOrder}
-use Rattle.mbcr.specs.Share.{DifferentPoints}
 use Rattle.board_spec.specs.Runs.{equalPoints, ownRuns, finishRuns, readRuns}
 use Rattle.store_spec.specs.Record.{Record}
 use Rattle.store_spec.specs.Packets.{hearHelpers}
@@ -21,7 +20,7 @@ repairRuns s fresh helpers =
     (hearHelpers (s .sizes .d) fresh helpers))
 
 pub record StoreRuns : Type 0 where
-  pub repair-apart : (xs : List ℕ) (s : Record) (m : ℕ) (fresh helpers : List ℕ) → DifferentPoints (s .sizes) xs
-      → first storeOrder (repairLines s m fresh helpers) ≡ Pass → equalPoints xs (repairRuns s fresh helpers) ≡ false
-  pub read-apart : (xs : List ℕ) (s : Record) (area boards output : List ℕ) → DifferentPoints (s .sizes) xs
-      → first storeOrder (readLines xs s area boards output) ≡ Pass → equalPoints xs (readRuns (s .sizes) boards) ≡ false
+  pub repair-apart : (s : Record) (m : ℕ) (fresh helpers : List ℕ)
+      → first storeOrder (repairLines s m fresh helpers) ≡ Pass → equalPoints (s .points) (repairRuns s fresh helpers) ≡ false
+  pub read-apart : (s : Record) (area boards output : List ℕ)
+      → first storeOrder (readLines s area boards output) ≡ Pass → equalPoints (s .points) (readRuns (s .sizes) boards) ≡ false

@@ -36,8 +36,8 @@ module _ (z : Sizes) (xs : List ℕ) (own : ℕ → List ℕ) (fresh : List ℕ)
 -- In an accepted repair over any area a fresh share is its finished stripes, each from the same stripe of its helpers.
 abbrev pub ByStripes : Type 0
 ByStripes =
-    (xs : List ℕ) (s : Record) (area fresh helpers : List ℕ) → repairCall xs s area fresh helpers .answer .refusal ≡ 0
+    (s : Record) (area fresh helpers : List ℕ) → repairCall s area fresh helpers .answer .refusal ≡ 0
     → (i : ℕ) → among fresh i ≡ true
-    → freshShare xs s area fresh helpers i
+    → freshShare s area fresh helpers i
     ≡ join (stripeCount s)
-    (λ t. freshStripe (s .sizes) xs (λ j. piece (α (s .sizes)) t (held s area j)) fresh (λ m. sendersOf (sentTo m (helperPackets xs s area fresh helpers))) i)
+    (λ t. freshStripe (s .sizes) (s .points) (λ j. piece (α (s .sizes)) t (held s area j)) fresh (λ m. sendersOf (sentTo m (helperPackets s area fresh helpers))) i)

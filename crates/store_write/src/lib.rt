@@ -83,7 +83,7 @@ pub fn write_shares(
     area: &mut [u8],
 )
     requires { ⌜ (legal sizes ≡ true) × (capacity ≤ 4096) × (length (now points) ≡ 32) × (count ≡ stripes sizes (length (now file))) × (count ≤ capacity) × (length (now area) ≡ sizes .n * (capacity * α sizes)) ⌝ }
-    ensures { λ _. ⌜ now (area .exit) ≡ putShares (recordOf sizes capacity true 0 []) (share sizes (now (points .entry)) (now (file .entry))) (tabulate (sizes .n) (λ i. i)) (now (area .entry)) ⌝ }
+    ensures { λ _. ⌜ now (area .exit) ≡ putShares (recordOf sizes [] capacity true 0 []) (share sizes (now (points .entry)) (now (file .entry))) (tabulate (sizes .n) (λ i. i)) (now (area .entry)) ⌝ }
 {
     let part = capacity * (2 * sizes.d + sizes.r - 1);
     let m = sizes.d + sizes.r;

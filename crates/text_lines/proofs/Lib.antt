@@ -1,3 +1,4 @@
 pub mod Decimals
 pub mod Writes
 pub mod Lines
+pub mod Orders

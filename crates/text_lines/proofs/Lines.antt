@@ -8,7 +8,7 @@ use native.Mathlib.Omega.{arith}
 use lib.ListN.{length, drop, set, length-append}
 use Rattle.lists.specs.Lists.{put, joined, over}
 use Rattle.sizes.specs.declared.Sizes.{Sizes}
-use Rattle.board_spec.specs.Text.{decimal, hexPair, textLine, shareText}
+use Rattle.board_spec.specs.Text.{decimal, hexPair, textLine, pointsLine, shareText}
 use Rattle.text_lines.specs.Steps.{Wrote}
 use Rattle.text_lines.proofs.Writes.{length-pairs, room, then, more, less}
 
@@ -51,35 +51,41 @@ module _ (z : Sizes) where
   abbrev pub toLength : ℕ → ℕ → List ℕ
   toLength L node = toNode node ++ textLine (0x6C ∷ 0x65 ∷ 0x6E ∷ 0x67 ∷ 0x74 ∷ 0x68 ∷ []) (decimal L)
 
-  abbrev pub toData : ℕ → ℕ → List ℕ → List ℕ
-  toData L node share = toLength L node ++ textLine (0x64 ∷ 0x61 ∷ 0x74 ∷ 0x61 ∷ []) (joined hexPair share)
+  abbrev pub toPoints : List ℕ → ℕ → ℕ → List ℕ
+  toPoints xs L node = toLength L node ++ pointsLine z xs
+
+  abbrev pub toData : List ℕ → ℕ → ℕ → List ℕ → List ℕ
+  toData xs L node share = toPoints xs L node ++ textLine (0x64 ∷ 0x61 ∷ 0x74 ∷ 0x61 ∷ []) (joined hexPair share)
 
 -- where there is room for the text, there is for the lines up to each
-pub record Rooms (z : Sizes) (L node : ℕ) (share : List ℕ) (m : ℕ) : Type 0 where
+pub record Rooms (z : Sizes) (xs : List ℕ) (L node : ℕ) (share : List ℕ) (m : ℕ) : Type 0 where
   pub n : 0 + length (toN z) ≤ m
   pub k : 0 + length (toK z) ≤ m
   pub d : 0 + length (toD z) ≤ m
   pub r : 0 + length (toR z) ≤ m
   pub node-too : 0 + length (toNode z node) ≤ m
   pub length-too : 0 + length (toLength z L node) ≤ m
-  pub data-too : 0 + length (toData z L node share) ≤ m
+  pub points-too : 0 + length (toPoints z xs L node) ≤ m
+  pub data-too : 0 + length (toData z xs L node share) ≤ m
 
-pub rooms : (z : Sizes) (L node : ℕ) (share : List ℕ) (m : ℕ) → length (shareText z L node share) ≤ m → Rooms z L node share m
-unfolding shareText
-rooms z L node share m h =
-    let h7 : 0 + length (toData z L node share) ≤ m = omega arith in
-    let h6 = less (toLength z L node) _ 0 m h7 in
-    let h5 = less (toNode z node) _ 0 m h6 in
-    let h4 = less (toR z) _ 0 m h5 in
-    let h3 = less (toD z) _ 0 m h4 in
-    let h2 = less (toK z) _ 0 m h3 in
-    record { n = less (toN z) _ 0 m h2; k = h2; d = h3; r = h4; node-too = h5; length-too = h6; data-too = h7 }
+module _ (z : Sizes) (xs : List ℕ) (L node : ℕ) (share : List ℕ) where
+  pub rooms : (m : ℕ) → length (shareText z xs L node share) ≤ m → Rooms z xs L node share m
+  unfolding shareText
+  rooms m h =
+      let h8 : 0 + length (toData z xs L node share) ≤ m = omega arith in
+      let h7 = less (toPoints z xs L node) _ 0 m h8 in
+      let h6 = less (toLength z L node) _ 0 m h7 in
+      let h5 = less (toNode z node) _ 0 m h6 in
+      let h4 = less (toR z) _ 0 m h5 in
+      let h3 = less (toD z) _ 0 m h4 in
+      let h2 = less (toK z) _ 0 m h3 in
+      record { n = less (toN z) _ 0 m h2; k = h2; d = h3; r = h4; node-too = h5; length-too = h6; points-too = h7; data-too = h8 }
 
-pub length-text : (z : Sizes) (L node : ℕ) (share : List ℕ) → length (shareText z L node share)
-    ≡ 32 + (length (decimal (z .n)) + length (decimal (z .k)) + length (decimal (z .d)) + length (decimal (z .r))) + length (decimal node) + length (decimal L)
-    + length share * 2
-unfolding shareText
-length-text z L node share = simp length-append (omega (arith, length-pairs share))
+  pub length-text : length (shareText z xs L node share)
+      ≡ 32 + (length (decimal (z .n)) + length (decimal (z .k)) + length (decimal (z .d)) + length (decimal (z .r))) + length (decimal node) + length (decimal L)
+      + length (pointsLine z xs) + length share * 2
+  unfolding shareText
+  length-text = simp length-append (omega (arith, length-pairs share))
 
 -- bytes written from the start
 pub from-start : {l a l1 : List ℕ} {e : ℕ} → Wrote l 0 a l1 e → l1 ≡ over a l

@@ -1,11 +1,10 @@
 //! Share text, written into a lent slice: decimals, hexadecimal pairs, lines. A function that writes answers the place behind what it wrote.
 ghost use mathlib.Core.Path.{_≡_};
-ghost use mathlib.Core.List.{[], _∷_};
 ghost use Prim.Native.Nat.{_+_, _≤_, _<_};
 ghost use lib.ListN.{length};
 ghost use Rattle.lists.specs.Lists.{joined};
 ghost use Rattle.board_spec.specs.Text.{decimal, hexDigit, hexPair, textLine};
-ghost use Rattle.text_lines.specs.Steps.{Wrote};
+ghost use Rattle.text_lines.specs.Steps.{Wrote, inOrder, pointsSaid};
 
 // How many digits the decimal of x has.
 pub fn decimal_len(x: usize) -> usize
@@ -56,7 +55,7 @@ pub fn hex_digit(v: u8) -> u8
     if v < 10 { 48 + v } else { 87 + v }
 }
 
-// The hexadecimal pairs of a share.
+// The hexadecimal pairs of bytes.
 pub fn put_pairs(share: &[u8], at: usize, out: &mut [u8]) -> usize
     requires { ⌜ at + length (joined hexPair (now share)) ≤ length (now out) ⌝ }
     ensures { λ r. ⌜ Wrote (now (out .entry)) at (joined hexPair (now (share .entry))) (now (out .exit)) r ⌝ }
@@ -84,13 +83,50 @@ pub fn put_line(name: &[u8], x: usize, at: usize, out: &mut [u8]) -> usize
     end + 1
 }
 
-// The data line of a share.
-pub fn put_data(share: &[u8], at: usize, out: &mut [u8]) -> usize
-    requires { ⌜ at + length (textLine (0x64 ∷ 0x61 ∷ 0x74 ∷ 0x61 ∷ []) (joined hexPair (now share))) ≤ length (now out) ⌝ }
-    ensures { λ r. ⌜ Wrote (now (out .entry)) at (textLine (0x64 ∷ 0x61 ∷ 0x74 ∷ 0x61 ∷ []) (joined hexPair (now (share .entry)))) (now (out .exit)) r ⌝ }
+// The line of bytes as pairs: its name, =, the pairs and byte 0A.
+pub fn put_pairs_line(name: &[u8], bytes: &[u8], at: usize, out: &mut [u8]) -> usize
+    requires { ⌜ at + length (textLine (now name) (joined hexPair (now bytes))) ≤ length (now out) ⌝ }
+    ensures { λ r. ⌜ Wrote (now (out .entry)) at (textLine (now (name .entry)) (joined hexPair (now (bytes .entry)))) (now (out .exit)) r ⌝ }
 {
-    let value = put_bytes(b"data=", at, out);
-    let end = put_pairs(share, value, out);
+    let equals = put_bytes(name, at, out);
+    out[equals] = b'=';
+    let end = put_pairs(bytes, equals + 1, out);
     out[end] = b'\n';
     end + 1
+}
+
+// Whether the points are 0, 1, 2 and so on, in order.
+pub fn in_order(points: &[u8]) -> bool
+    ensures { λ r. ⌜ r ≡ inOrder (now (points .entry)) ⌝ }
+{
+    let mut i: usize = 0;
+    while i < points.len() {
+        if points[i] as usize != i {
+            return false;
+        }
+        i += 1;
+    }
+    true
+}
+
+// How many bytes the line of these points has: none where they are in order.
+pub fn points_len(points: &[u8]) -> usize
+    requires { ⌜ length (now points) ≤ 32 ⌝ }
+    ensures { λ r. ⌜ r ≡ length (pointsSaid (now (points .entry))) ⌝ }
+{
+    if in_order(points) {
+        return 0;
+    }
+    8 + points.len() * 2
+}
+
+// The line of points, where they are not in order.
+pub fn put_points(points: &[u8], at: usize, out: &mut [u8]) -> usize
+    requires { ⌜ at + length (pointsSaid (now points)) ≤ length (now out) ⌝ }
+    ensures { λ r. ⌜ Wrote (now (out .entry)) at (pointsSaid (now (points .entry))) (now (out .exit)) r ⌝ }
+{
+    if in_order(points) {
+        return at;
+    }
+    put_pairs_line(b"points", points, at, out)
 }

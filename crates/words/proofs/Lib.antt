@@ -1,4 +1,1 @@
-pub mod Bits
-pub mod Eight
-pub mod Laws
-pub mod Figures
+pub mod Twelve

@@ -1,12 +1,16 @@
-//! The archive's record in eight words.
+//! The archive's record in twelve words.
 ghost use mathlib.Core.Path.{_≡_};
 ghost use mathlib.Core.Bool.{true};
 ghost use Prim.Native.Nat.{_≤_, _<_};
-ghost use lib.ListN.{length};
+ghost use mathlib.Core.List.{_++_};
+ghost use lib.ListN.{length, take, drop};
+ghost use Rattle.lists.specs.Lists.{tabulate, joined, piece};
 ghost use Rattle.sizes.specs.Refusals.{said};
 ghost use Rattle.store.specs.Handing.{recordIn};
 ghost use Rattle.answer_word.specs.Answers.{wordOf};
-ghost use Rattle.words.specs.Words.{bits, fromBits, isRecord, recordFrom, wordsOf};
+ghost use Rattle.record_words.specs.Words.{bits, fromBits, bytes, fromBytes, isRecord, recordFrom, wordsOf};
+ghost use Rattle.words.specs.Steps.{arrayOf};
+use row_sums::Row;
 use sizes::Sizes;
 use store::Handed;
 use store::Store;
@@ -15,7 +19,7 @@ use store::Store;
 pub fn is_record(words: &[u64]) -> bool
     ensures { λ b. ⌜ b ≡ isRecord (now (words .entry)) ⌝ }
 {
-    if words.len() != 8 {
+    if words.len() != 12 {
         return false;
     }
     if 1 < words[5] {
@@ -54,6 +58,46 @@ fn marks_word(marks: &[bool]) -> u64
     word
 }
 
+// The points that a record's words tell: eight in a word, the lowest byte first.
+fn points_of(words: &[u64]) -> [u8; 32]
+    requires { ⌜ length (now words) ≡ 12 ⌝ }
+    ensures { λ r. ⌜ r ≡ joined (bytes 8) (drop 8 (now (words .entry))) ⌝ }
+{
+    let row = Row {
+        a: words[8],
+        b: words[9],
+        c: words[10],
+        d: words[11],
+    };
+    let mut points = [0u8; 32];
+    row_sums::put_row(row, &mut points);
+    points
+}
+
+// Points that are lent, as an array; another number of them than 32 gives 32 times 00, which no boards have.
+pub fn points_array(points: &[u8]) -> [u8; 32]
+    ensures { λ r. ⌜ r ≡ arrayOf (now (points .entry)) ⌝ }
+{
+    let mut given = [0u8; 32];
+    if points.len() == 32 {
+        let row = row_sums::row_at(points, 0);
+        row_sums::put_row(row, &mut given);
+    }
+    given
+}
+
+// The words of points, from the eighth on.
+fn put_points(points: &[u8], words: &mut [u64])
+    requires { ⌜ (length (now points) ≡ 32) × (length (now words) ≡ 12) ⌝ }
+    ensures { λ _. ⌜ now (words .exit) ≡ take 8 (now (words .entry)) ++ tabulate 4 (λ q. fromBytes (piece 8 q (now (points .entry)))) ⌝ }
+{
+    let row = row_sums::row_at(points, 0);
+    words[8] = row.a;
+    words[9] = row.b;
+    words[10] = row.c;
+    words[11] = row.d;
+}
+
 // The store that a record's words tell.
 pub fn store_of(words: &[u64]) -> Store
     requires { ⌜ isRecord (now words) ≡ true ⌝ }
@@ -61,6 +105,7 @@ pub fn store_of(words: &[u64]) -> Store
 {
     let mut marks = [false; 32];
     fill_marks(words[7], &mut marks);
+    let points = points_of(words);
     Store {
         sizes: Sizes {
             n: words[0] as usize,
@@ -68,6 +113,7 @@ pub fn store_of(words: &[u64]) -> Store
             d: words[2] as usize,
             r: words[3] as usize,
         },
+        points: points,
         capacity: words[4] as usize,
         written: words[5] == 1,
         length: words[6] as usize,
@@ -77,10 +123,12 @@ pub fn store_of(words: &[u64]) -> Store
 
 // The words that tell a store's record.
 pub fn put_words(store: Store, words: &mut [u64])
-    requires { ⌜ length (now words) ≡ 8 ⌝ }
+    requires { ⌜ length (now words) ≡ 12 ⌝ }
     ensures { λ _. ⌜ now (words .exit) ≡ wordsOf (recordIn store) ⌝ }
 {
     let marks = store.marks;
+    let points = store.points;
+    put_points(&points, words);
     words[0] = store.sizes.n as u64;
     words[1] = store.sizes.k as u64;
     words[2] = store.sizes.d as u64;
@@ -93,7 +141,7 @@ pub fn put_words(store: Store, words: &mut [u64])
 
 // The record that a call of the store hands on, in its words; and the word of its answer.
 pub fn hand_on(handed: Handed, words: &mut [u64]) -> u64
-    requires { ⌜ (length (now words) ≡ 8) × (said (handed .answer) .reported < 72057594037927936) ⌝ }
+    requires { ⌜ (length (now words) ≡ 12) × (said (handed .answer) .reported < 72057594037927936) ⌝ }
     ensures { λ w. ⌜ (w ≡ wordOf (said (handed .answer))) × (now (words .exit) ≡ wordsOf (recordIn (handed .store))) ⌝ }
 {
     put_words(handed.store, words);

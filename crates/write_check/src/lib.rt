@@ -9,6 +9,7 @@ use sizes::Sizes;
 // The first refusal of a write of this file, on a record of these parts, to an area of so many bytes.
 pub fn check_write(
     sizes: Sizes,
+    points: &[u8],
     capacity: usize,
     written: bool,
     len: usize,
@@ -16,10 +17,11 @@ pub fn check_write(
     lent: usize,
     file: &[u8],
 ) -> Check
-    ensures { λ r. ⌜ r ≡ first storeOrder (writeLines (recordOf sizes capacity written len (now (marks .entry))) lent (now (file .entry))) ⌝ }
+    ensures { λ r. ⌜ r ≡ first storeOrder (writeLines (recordOf sizes (now (points .entry)) capacity written len (now (marks .entry))) lent (now (file .entry))) ⌝ }
 {
     if let Check::Refuse(lent) = shared_checks::check_area(
         sizes,
+        points,
         capacity,
         written,
         len,

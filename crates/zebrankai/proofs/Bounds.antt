@@ -10,7 +10,8 @@ use native.Mathlib.Omega.{arith}
 use lib.Dec.{ltb, eqb}
 use lib.ListN.{length, take, length-take}
 use borrow.Author.Tests.{ltb-false, eqb-true}
-use Rattle.lists.specs.Tests.{pick, same}
+use Rattle.lists.specs.Tests.{pick, alls, same}
+use Rattle.lists.specs.Lists.{tabulate, joined}
 use Rattle.lists.proofs.Tests.{not-no, alls-hold}
 use Rattle.lists.proofs.Boards.{below-all}
 use Rattle.sizes.specs.declared.Sizes.{Sizes}
@@ -20,15 +21,16 @@ use Rattle.sizes.specs.Sizing.{legal, α, B, stripes}
 use Rattle.sizes.specs.Refusals.{Line, first, boardOrder}
 use Rattle.sizes.proofs.Legal.{Legal, legal-facts, stripes-least, B-most, α-most}
 use Rattle.sizes.proofs.Lines.{Clear, first-clear}
-use Rattle.mbcr.specs.Share.{share, shares}
+use Rattle.mbcr.specs.Share.{pointed, share, shares}
 use Rattle.mbcr.specs.Rebuild.{helperPacket, exchangePacket, finishedShare}
 use Rattle.mbcr.specs.Read.{decodedFile, readFile}
 use Rattle.mbcr.proofs.Repair.{length-share, length-packet, length-exchange, length-finished}
-use Rattle.board_spec.specs.Text.{shareText}
+use Rattle.board_spec.specs.Text.{hexPair, textLine, pointsLine, shareText}
 use Rattle.board_spec.specs.Calls.{settled, fileOf, shareLines, shareCall, fileLines, fileCall, helperLines, helperCall}
 use Rattle.board_spec.specs.Calls.{exchangeLines, exchangeCall, finishedLines, finishedCall, textLines, textCall}
 use Rattle.text_lines.proofs.Decimals.{decimal-most}
-use Rattle.text_lines.proofs.Lines.{length-text}
+use Rattle.text_lines.proofs.Lines.{length-line, length-text}
+use Rattle.text_lines.proofs.Writes.{length-pairs}
 
 -- what a word has room for above a refusal's number: 2^56
 abbrev pub Fits : ℕ → Type 0
@@ -49,9 +51,9 @@ record Few (z : Sizes) (L : ℕ) : Type 0 where
   most-stripes : stripes z L ≤ 4096
   most-bytes : L ≤ 4063232
 
-few : (z : Sizes) (L : ℕ) → not (legal z) ≡ false → ltb (4096 * B z) L ≡ false → Few z L
-few z L size long =
-    let f = legal-facts z (not-no (legal z) size) in
+few : (z : Sizes) (xs : List ℕ) (L : ℕ) → not (alls (legal z ∷ pointed z xs ∷ [])) ≡ false → ltb (4096 * B z) L ≡ false → Few z L
+few z xs L size long =
+    let f = legal-facts z (alls-hold (legal z ∷ pointed z xs ∷ []) (not-no _ size) .0) in
     let h : L ≤ 4096 * B z = ltb-false (4096 * B z) L long in
     record {
       allowed = f;
@@ -72,14 +74,27 @@ length-file : (z : Sizes) (xs : List ℕ) (L : ℕ) (boards held : List ℕ) →
 unfolding readFile decodedFile
 length-file z xs L boards held = length-found (same (shares z xs (decodedFile z xs L boards held) boards) held) L _
 
+-- the line of points is few bytes
+said-few : (t : Bool) (l : List ℕ) → length (pick t [] l) ≤ length l
+said-few true l = omega arith
+said-few false l = omega arith
+
+line-few : (z : Sizes) (xs : List ℕ) → z .n ≤ 32 → length (pointsLine z xs) ≤ 72
+unfolding pointsLine
+line-few z xs h =
+    let l : List ℕ = textLine (0x70 ∷ 0x6F ∷ 0x69 ∷ 0x6E ∷ 0x74 ∷ 0x73 ∷ []) (joined hexPair (take (z .n) xs)) in
+    let a = said-few (same (take (z .n) xs) (tabulate (z .n) (λ i. i))) l in
+    omega (arith, a, length-line (0x70 ∷ 0x6F ∷ 0x69 ∷ 0x6E ∷ 0x74 ∷ 0x73 ∷ []) (joined hexPair (take (z .n) xs)), length-pairs (take (z .n) xs), length-take (z .n) xs)
+
 -- the text is few bytes
-text-few : (z : Sizes) (L node : ℕ) (held : List ℕ) → Few z L → node < z .n → length held ≡ stripes z L * α z → Fits (length (shareText z L node held))
-text-few z L node held f h e =
+text-few : (z : Sizes) (xs : List ℕ) (L node : ℕ) (held : List ℕ) → Few z L → node < z .n → length held ≡ stripes z L * α z → Fits (length (shareText z xs L node held))
+text-few z xs L node held f h e =
     let m = few-in-share z L f in
     let g = f .allowed in
     omega (
       arith,
-      length-text z L node held,
+      length-text z xs L node held,
+      line-few z xs (g .few),
       decimal-most (z .n),
       decimal-most (z .k),
       decimal-most (z .d),
@@ -98,19 +113,19 @@ module _ (z : Sizes) (xs : List ℕ) where
   pub share-fits : (node : ℕ) (file output : List ℕ) → Fits (shareCall z xs node file output .answer .reported)
   unfolding shareLines shareCall
   share-fits node file output = settled-fits (shareLines z xs node file output) (share z xs file node) output (λ h.
-      let f = few z (length file) (h .0) (h .1 .0) in
+      let f = few z xs (length file) (h .0) (h .1 .0) in
       omega (arith, length-share z xs (f .allowed) file node, few-in-share z (length file) f))
 
   pub file-fits : (L : ℕ) (boards held output : List ℕ) → Fits (fileCall z xs L boards held output .answer .reported)
   unfolding fileLines fileCall
   file-fits L boards held output = settled-fits (fileLines z xs L boards held output) (fileOf (readFile z xs L boards held)) output (λ h.
-      let f = few z L (h .0) (h .1 .0) in
+      let f = few z xs L (h .0) (h .1 .0) in
       omega (arith, length-file z xs L boards held, f .most-bytes))
 
   pub helper-fits : (L helper receiver : ℕ) (held output : List ℕ) → Fits (helperCall z xs L helper receiver held output .answer .reported)
   unfolding helperLines helperCall
   helper-fits L helper receiver held output = settled-fits (helperLines z xs L helper receiver held output) (helperPacket z xs (stripes z L) helper receiver held) output (λ h.
-      let f = few z L (h .0) (h .1 .0) in
+      let f = few z xs L (h .0) (h .1 .0) in
       omega (arith, length-packet z xs (stripes z L) helper receiver held, f .most-stripes))
 
   pub exchange-fits : (L board : ℕ) (helpers packets : List ℕ) (receiver : ℕ) (output : List ℕ)
@@ -118,7 +133,7 @@ module _ (z : Sizes) (xs : List ℕ) where
   unfolding exchangeLines exchangeCall
   exchange-fits L board helpers packets receiver output =
       settled-fits (exchangeLines z xs L board helpers packets receiver output) (exchangePacket z xs (stripes z L) helpers packets receiver) output (λ h.
-      let f = few z L (h .0) (h .1 .0) in
+      let f = few z xs L (h .0) (h .1 .0) in
       omega (arith, length-exchange z xs (stripes z L) helpers packets receiver, f .most-stripes))
 
   pub finished-fits : (L board : ℕ) (helpers packets partners exchanges output : List ℕ)
@@ -127,12 +142,12 @@ module _ (z : Sizes) (xs : List ℕ) where
   finished-fits L board helpers packets partners exchanges output =
       settled-fits (finishedLines z xs L board helpers packets partners exchanges output)
       (finishedShare z xs (stripes z L) board helpers packets partners exchanges) output (λ h.
-      let f = few z L (h .0) (h .1 .0) in
+      let f = few z xs L (h .0) (h .1 .0) in
       omega (arith, length-finished z xs (f .allowed) (stripes z L) board helpers packets partners exchanges, few-in-share z L f))
 
   pub text-fits : (L node : ℕ) (held output : List ℕ) → Fits (textCall z xs L node held output .answer .reported)
   unfolding textLines textCall
-  text-fits L node held output = settled-fits (textLines z xs L node held output) (shareText z L node held) output (λ h.
-      text-few z L node held (few z L (h .0) (h .1 .0))
+  text-fits L node held output = settled-fits (textLines z xs L node held output) (shareText z xs L node held) output (λ h.
+      text-few z xs L node held (few z xs L (h .0) (h .1 .0))
       (below-all (z .n) (node ∷ []) (not-no _ (h .1 .1 .1 .0)) .0)
       (eqb-true _ _ (alls-hold (eqb (length held) (stripes z L * α z) ∷ []) (not-no _ (h .1 .1 .1 .1 .1 .0)) .0)))

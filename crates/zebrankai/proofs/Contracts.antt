@@ -9,7 +9,6 @@ use contract.Lifetimes.{Lfts}
 use denote.Ref.{now}
 use denote.Triple.Clauses.{AtExit}
 use borrow.Fn.Kinds.{Dens, endedOf}
-use Rattle.mbcr.specs.Share.{standard}
 use Rattle.board_spec.specs.Calls.{BoardOutcome, shareCall, fileCall, helperCall, exchangeCall, finishedCall, textCall}
 use Rattle.store_spec.specs.Ledger.{write, lose, repair, read}
 use Rattle.answer_word.specs.Answers.{wordOf}
@@ -43,10 +42,10 @@ use Rattle.zebrankai.proofs.zbk_share_text.Kinds as text-kinds
 abbrev lent : ℕ → List ℕ → List ℕ → List ℕ → Lent
 lent w ws area output = record { answer = w; words = ws; area = area; output = output }
 
-pub set-up-gives : (κs : Lfts 1) (a : Dens κs set-up-kinds.ps) (w : ℕ) (e : AtExit (endedOf 1 set-up-kinds.ps set-up-kinds.r) κs)
+pub set-up-gives : (κs : Lfts 2) (a : Dens κs set-up-kinds.ps) (w : ℕ) (e : AtExit (endedOf 2 set-up-kinds.ps set-up-kinds.r) κs)
     → set-ups.Asked κs a
     × (set-ups.Learnt κs a w e
-    → lent w (now (e .0)) [] [] ≡ zbkSetUp (now (a .0)) (sizesOf (a .1 .0) (a .1 .1 .0) (a .1 .1 .1 .0) (a .1 .1 .1 .1 .0)) (a .1 .1 .1 .1 .1 .0))
+    → lent w (now (e .0)) [] [] ≡ zbkSetUp (now (a .0)) (sizesOf (a .1 .0) (a .1 .1 .0) (a .1 .1 .1 .0) (a .1 .1 .1 .1 .0)) (now (a .1 .1 .1 .1 .1 .0)) (a .1 .1 .1 .1 .1 .1 .0))
 set-up-gives κs a w e = (tt, λ h. h)
 
 pub write-gives : (κs : Lfts 3) (a : Dens κs write-kinds.ps) (w : ℕ) (e : AtExit (endedOf 3 write-kinds.ps write-kinds.r) κs)
@@ -72,56 +71,57 @@ pub read-gives : (κs : Lfts 4) (a : Dens κs read-kinds.ps) (w : ℕ) (e : AtEx
     → lent w (now (e .0)) (now (a .1 .0)) (now (e .1 .1 .1 .0)) ≡ zbk (now (a .0)) (now (a .1 .0)) (read (now (a .1 .1 .0)) (now (a .1 .1 .1 .0))))
 read-gives κs a w e = (tt, λ h. h)
 
--- ---- board level: the word of the answer, and all bytes of the output; the arguments behind the four sizes are b
+-- ---- board level: the word of the answer, and all bytes of the output; the points stand behind the four sizes, and the arguments behind them are b
 
 abbrev Gives : ℕ → List ℕ → BoardOutcome → Type 0
 Gives w output o = (w ≡ wordOf (o .answer)) × (output ≡ o .output)
 
-pub share-gives : (κs : Lfts 2) (a : Dens κs share-kinds.ps) (w : ℕ) (e : AtExit (endedOf 2 share-kinds.ps share-kinds.r) κs)
+pub share-gives : (κs : Lfts 3) (a : Dens κs share-kinds.ps) (w : ℕ) (e : AtExit (endedOf 3 share-kinds.ps share-kinds.r) κs)
     → share-reads.Asked κs a
     × (share-reads.Learnt κs a w e
-    → let b = a .1 .1 .1 .1 in
-    Gives w (now (e .1 .1 .1 .1 .1 .1 .0))
-    (shareCall (sizesOf (a .0) (a .1 .0) (a .1 .1 .0) (a .1 .1 .1 .0)) standard (b .0) (now (b .1 .0)) (now (b .1 .1 .0))))
+    → let b = a .1 .1 .1 .1 .1 in
+    Gives w (now (e .1 .1 .1 .1 .1 .1 .1 .0))
+    (shareCall (sizesOf (a .0) (a .1 .0) (a .1 .1 .0) (a .1 .1 .1 .0)) (now (a .1 .1 .1 .1 .0)) (b .0) (now (b .1 .0)) (now (b .1 .1 .0))))
 share-gives κs a w e = (tt, λ h. h)
 
-pub file-gives : (κs : Lfts 3) (a : Dens κs file-kinds.ps) (w : ℕ) (e : AtExit (endedOf 3 file-kinds.ps file-kinds.r) κs)
+pub file-gives : (κs : Lfts 4) (a : Dens κs file-kinds.ps) (w : ℕ) (e : AtExit (endedOf 4 file-kinds.ps file-kinds.r) κs)
     → file-reads.Asked κs a
     × (file-reads.Learnt κs a w e
-    → let b = a .1 .1 .1 .1 in
-    Gives w (now (e .1 .1 .1 .1 .1 .1 .1 .0))
-    (fileCall (sizesOf (a .0) (a .1 .0) (a .1 .1 .0) (a .1 .1 .1 .0)) standard (b .0) (now (b .1 .0)) (now (b .1 .1 .0)) (now (b .1 .1 .1 .0))))
+    → let b = a .1 .1 .1 .1 .1 in
+    Gives w (now (e .1 .1 .1 .1 .1 .1 .1 .1 .0))
+    (fileCall (sizesOf (a .0) (a .1 .0) (a .1 .1 .0) (a .1 .1 .1 .0)) (now (a .1 .1 .1 .1 .0)) (b .0) (now (b .1 .0)) (now (b .1 .1 .0)) (now (b .1 .1 .1 .0))))
 file-gives κs a w e = (tt, λ h. h)
 
-pub helper-gives : (κs : Lfts 2) (a : Dens κs helper-kinds.ps) (w : ℕ) (e : AtExit (endedOf 2 helper-kinds.ps helper-kinds.r) κs)
+pub helper-gives : (κs : Lfts 3) (a : Dens κs helper-kinds.ps) (w : ℕ) (e : AtExit (endedOf 3 helper-kinds.ps helper-kinds.r) κs)
     → helper-reads.Asked κs a
     × (helper-reads.Learnt κs a w e
-    → let b = a .1 .1 .1 .1 in
-    Gives w (now (e .1 .1 .1 .1 .1 .1 .1 .1 .0))
-    (helperCall (sizesOf (a .0) (a .1 .0) (a .1 .1 .0) (a .1 .1 .1 .0)) standard (b .0) (b .1 .0) (b .1 .1 .0) (now (b .1 .1 .1 .0)) (now (b .1 .1 .1 .1 .0))))
+    → let b = a .1 .1 .1 .1 .1 in
+    Gives w (now (e .1 .1 .1 .1 .1 .1 .1 .1 .1 .0))
+    (helperCall (sizesOf (a .0) (a .1 .0) (a .1 .1 .0) (a .1 .1 .1 .0)) (now (a .1 .1 .1 .1 .0)) (b .0) (b .1 .0) (b .1 .1 .0) (now (b .1 .1 .1 .0)) (now (b .1 .1 .1 .1 .0))))
 helper-gives κs a w e = (tt, λ h. h)
 
-pub exchange-gives : (κs : Lfts 3) (a : Dens κs exchange-kinds.ps) (w : ℕ) (e : AtExit (endedOf 3 exchange-kinds.ps exchange-kinds.r) κs)
+pub exchange-gives : (κs : Lfts 4) (a : Dens κs exchange-kinds.ps) (w : ℕ) (e : AtExit (endedOf 4 exchange-kinds.ps exchange-kinds.r) κs)
     → exchange-reads.Asked κs a
     × (exchange-reads.Learnt κs a w e
-    → let b = a .1 .1 .1 .1 in
-    Gives w (now (e .1 .1 .1 .1 .1 .1 .1 .1 .1 .0))
-    (exchangeCall (sizesOf (a .0) (a .1 .0) (a .1 .1 .0) (a .1 .1 .1 .0)) standard (b .0) (b .1 .0) (now (b .1 .1 .0)) (now (b .1 .1 .1 .0)) (b .1 .1 .1 .1 .0) (now (b .1 .1 .1 .1 .1 .0))))
+    → let b = a .1 .1 .1 .1 .1 in
+    Gives w (now (e .1 .1 .1 .1 .1 .1 .1 .1 .1 .1 .0))
+    (exchangeCall (sizesOf (a .0) (a .1 .0) (a .1 .1 .0) (a .1 .1 .1 .0)) (now (a .1 .1 .1 .1 .0))
+    (b .0) (b .1 .0) (now (b .1 .1 .0)) (now (b .1 .1 .1 .0)) (b .1 .1 .1 .1 .0) (now (b .1 .1 .1 .1 .1 .0))))
 exchange-gives κs a w e = (tt, λ h. h)
 
-pub finished-gives : (κs : Lfts 5) (a : Dens κs finished-kinds.ps) (w : ℕ) (e : AtExit (endedOf 5 finished-kinds.ps finished-kinds.r) κs)
+pub finished-gives : (κs : Lfts 6) (a : Dens κs finished-kinds.ps) (w : ℕ) (e : AtExit (endedOf 6 finished-kinds.ps finished-kinds.r) κs)
     → finished-reads.Asked κs a
     × (finished-reads.Learnt κs a w e
-    → let b = a .1 .1 .1 .1 in
-    Gives w (now (e .1 .1 .1 .1 .1 .1 .1 .1 .1 .1 .0))
-    (finishedCall (sizesOf (a .0) (a .1 .0) (a .1 .1 .0) (a .1 .1 .1 .0)) standard (b .0) (b .1 .0) (now (b .1 .1 .0)) (now (b .1 .1 .1 .0))
+    → let b = a .1 .1 .1 .1 .1 in
+    Gives w (now (e .1 .1 .1 .1 .1 .1 .1 .1 .1 .1 .1 .0))
+    (finishedCall (sizesOf (a .0) (a .1 .0) (a .1 .1 .0) (a .1 .1 .1 .0)) (now (a .1 .1 .1 .1 .0)) (b .0) (b .1 .0) (now (b .1 .1 .0)) (now (b .1 .1 .1 .0))
     (now (b .1 .1 .1 .1 .0)) (now (b .1 .1 .1 .1 .1 .0)) (now (b .1 .1 .1 .1 .1 .1 .0))))
 finished-gives κs a w e = (tt, λ h. h)
 
-pub text-gives : (κs : Lfts 2) (a : Dens κs text-kinds.ps) (w : ℕ) (e : AtExit (endedOf 2 text-kinds.ps text-kinds.r) κs)
+pub text-gives : (κs : Lfts 3) (a : Dens κs text-kinds.ps) (w : ℕ) (e : AtExit (endedOf 3 text-kinds.ps text-kinds.r) κs)
     → text-reads.Asked κs a
     × (text-reads.Learnt κs a w e
-    → let b = a .1 .1 .1 .1 in
-    Gives w (now (e .1 .1 .1 .1 .1 .1 .1 .0))
-    (textCall (sizesOf (a .0) (a .1 .0) (a .1 .1 .0) (a .1 .1 .1 .0)) standard (b .0) (b .1 .0) (now (b .1 .1 .0)) (now (b .1 .1 .1 .0))))
+    → let b = a .1 .1 .1 .1 .1 in
+    Gives w (now (e .1 .1 .1 .1 .1 .1 .1 .1 .0))
+    (textCall (sizesOf (a .0) (a .1 .0) (a .1 .1 .0) (a .1 .1 .1 .0)) (now (a .1 .1 .1 .1 .0)) (b .0) (b .1 .0) (now (b .1 .1 .0)) (now (b .1 .1 .1 .0))))
 text-gives κs a w e = (tt, λ h. h)

@@ -9,7 +9,7 @@ use Rattle.lists.proofs.Tests.{both}
 use Rattle.lists.specs.Lists.{piece, put}
 use Rattle.gf256.specs.Field.{add, product, reduce, mul, squares, inverse}
 use Rattle.sizes.specs.Sizing.{legal, B, stripes}
-use Rattle.mbcr.specs.Share.{stripe, grid, F, neighbours, symbols, kept, share, shares}
+use Rattle.mbcr.specs.Share.{pointed, stripe, grid, F, neighbours, symbols, kept, share, shares}
 use Rattle.mbcr.specs.Rebuild.{received, exchanged, ownF, ownG, helperPair, helperPacket, gFrom, exchangePacket, fFrom, finishedStripe, finishedShare}
 use Rattle.mbcr.specs.Read.{through, bColumn, cRow, aColumn, decodedStripe, decodedFile, readFile}
 use Rattle.store_spec.specs.Record.{sound}
@@ -17,10 +17,10 @@ use Rattle.store_spec.specs.Packets.{helperPackets, exchangePackets, repairPack
 use Rattle.store_spec.specs.Calls.{writeLines, loseLines, repairLines, readLines, setUpCall, writeCall, loseCall, repairCall, readCall}
 use Rattle.store_spec.specs.Ledger.{Book, Step, act, openBook, bookLines, accept, enter}
 use Rattle.store_spec.proofs.LedgerFigures.{bytes, agrees, agree, fair}
-use Rattle.words.specs.Words.{isRecord, recordFrom}
+use Rattle.record_words.specs.Words.{isRecord, recordFrom}
 use Rattle.zebrankai.specs.Lent.{zbkSetUp, zbk}
 use Rattle.zebrankai.specs.Demand3.{AllowedLents}
-use Rattle.zebrankai.specs.Figures.{blank, four, eight, steps, ArchiveFigures}
+use Rattle.zebrankai.specs.Figures.{blank, four, points, any, steps, ArchiveFigures}
 
 -- the premises of a list, tested
 abbrev allows : List ℕ → List ℕ → Book → List Step → Bool
@@ -42,18 +42,20 @@ allow ws area b (t ∷ ts) e =
     )
 
 pub archive-figures : ArchiveFigures
-unfolding piece put add product reduce mul squares inverse legal B stripes stripe grid F neighbours symbols kept share shares received
+unfolding piece put pointed add product reduce mul squares inverse legal B stripes stripe grid F neighbours symbols kept share shares received
     exchanged ownF ownG helperPair helperPacket gFrom exchangePacket fFrom finishedStripe finishedShare through bColumn cRow aColumn
     decodedStripe decodedFile readFile sound helperPackets exchangePackets repairPackets freshShare writeLines loseLines repairLines
     readLines setUpCall writeCall loseCall repairCall readCall isRecord zbkSetUp act bookLines accept enter
 archive-figures = record {
   set-up = refl;
   set-up-refused = refl;
+  eight-words = refl;
   lost = refl;
   not-lost = refl;
+  no-records = refl;
   calls-say = refl;
   ledger-says = refl;
-  allowed = allow (zbkSetUp eight four 1 .words) blank (openBook four 1 12) steps refl;
+  allowed = allow (zbkSetUp any four points 1 .words) blank (openBook four points 1 12) steps refl;
   last-words = refl;
   last-area = refl;
   last-book = refl;

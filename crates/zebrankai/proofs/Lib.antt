@@ -1,5 +1,6 @@
 pub mod Bounds
 pub mod Words
+pub mod Given
 pub mod Worded
 pub mod Laws
 pub mod Demand3

@@ -16,7 +16,6 @@ use Rattle.sizes.specs.declared.Check.the-variants.{Pass, Refuse}
 use Rattle.sizes.specs.Refusals.{said, first, storeOrder}
 use Rattle.sizes.proofs.Laws.{number-low}
 use Rattle.sizes.proofs.Legal.{legal-facts, α-most, stripes-least}
-use Rattle.mbcr.specs.Share.{standard}
 use Rattle.store_spec.specs.Record.{Record, newRecord, stripeCount}
 use Rattle.store_spec.specs.Calls.{StoreOutcome, accepted, refused, settle, recordLine, setUpCall}
 use Rattle.store_spec.specs.Calls.{writeLines, writeDone, writeCall, loseLines, loseDone, loseCall}
@@ -28,9 +27,10 @@ use Rattle.store.specs.declared.Store.{Store}
 use Rattle.store.specs.declared.Handed.{Handed}
 use Rattle.store.specs.Handing.{recordIn, outcomeIn}
 use Rattle.answer_word.specs.Answers.{wordOf}
-use Rattle.words.specs.Words.{isRecord, recordFrom, wordsOf}
-use Rattle.words.proofs.Bits.{words-facts}
-use Rattle.words.proofs.Laws.{word-laws}
+use Rattle.record_words.specs.Words.{isRecord, recordFrom, wordsOf}
+use Rattle.record_words.specs.Laws.{Whole}
+use Rattle.record_words.proofs.Bits.{words-facts}
+use Rattle.record_words.proofs.Laws.{word-laws}
 use Rattle.zebrankai.specs.Lent.{Lent, noRecord, inWords, lentBy, zbkSetUp}
 
 -- ---- a call over the record that the words tell
@@ -71,65 +71,65 @@ module _ (call : Record → StoreOutcome) (ws area output : List ℕ) where
       ∙ lent is
 
 -- and of a record's own words
-pub lent-back : (call : Record → StoreOutcome) (s : Record) (area output : List ℕ) → length (s .marks) ≡ 32
+pub lent-back : (call : Record → StoreOutcome) (s : Record) (area output : List ℕ) → Whole s
     → lentBy call (wordsOf s) area output ≡ inWords (call s)
 lent-back call s area output full =
     sym (lent call (wordsOf s) area output (word-laws .are-words s full)) ∙ ap (λ (t : Record). inWords (call t)) (word-laws .record-back s full)
 
 -- ---- set up
 
-module _ (old new : Record) (z : Sizes) (c : ℕ) where
+module _ (old new : Record) (z : Sizes) (xs : List ℕ) (c : ℕ) where
   abbrev by-check : Check → Record → StoreOutcome
-  by-check t s = settle t (refused s [] []) (accepted 0 (newRecord z c) [] [])
+  by-check t s = settle t (refused s [] []) (accepted 0 (newRecord z xs c) [] [])
 
   -- what it answers does not hang on the record that it is handed
-  same-answer : setUpCall old z c .answer ≡ setUpCall new z c .answer
+  same-answer : setUpCall old z xs c .answer ≡ setUpCall new z xs c .answer
   unfolding setUpCall
-  same-answer = go (first storeOrder (recordLine (newRecord z c) ∷ []))
+  same-answer = go (first storeOrder (recordLine (newRecord z xs c) ∷ []))
     where
       go : (t : Check) → by-check t old .answer ≡ by-check t new .answer
       go Pass = refl
       go (Refuse x) = refl
 
   -- where it is accepted, nor does what it hands on
-  same-handed : wordOf (setUpCall old z c .answer) ≡ 0 → setUpCall old z c .handed ≡ setUpCall new z c .handed
+  same-handed : wordOf (setUpCall old z xs c .answer) ≡ 0 → setUpCall old z xs c .handed ≡ setUpCall new z xs c .handed
   unfolding setUpCall
-  same-handed h = go (first storeOrder (recordLine (newRecord z c) ∷ [])) h
+  same-handed h = go (first storeOrder (recordLine (newRecord z xs c) ∷ [])) h
     where
       go : (t : Check) → wordOf (by-check t old .answer) ≡ 0 → by-check t old .handed ≡ by-check t new .handed
       go Pass h = refl
       go (Refuse x) h = absurd (omega (arith, number-low x, h))
 
--- a set-up over words that are eight, or not, and accepted, or not
+-- a set-up over words that are twelve, or not, and accepted, or not
 abbrev pub set-up-lent : List ℕ → StoreOutcome → Bool → Bool → Lent
 set-up-lent ws o t accepts =
     pick t (record { answer = wordOf (o .answer); words = pick accepts (wordsOf (o .handed)) ws; area = []; output = [] }) (noRecord ws [] [])
 
-module _ (ws : List ℕ) (z : Sizes) (c : ℕ) where
-  pub no-set-up : (length ws ≡ 8 → ⊥) → noRecord ws [] [] ≡ zbkSetUp ws z c
+module _ (ws : List ℕ) (z : Sizes) (xs : List ℕ) (c : ℕ) where
+  pub no-set-up : (length ws ≡ 12 → ⊥) → noRecord ws [] [] ≡ zbkSetUp ws z xs c
   unfolding zbkSetUp
-  no-set-up h = rw (ne-eqb (length ws) 8 h) refl
+  no-set-up h = rw (ne-eqb (length ws) 12 h) refl
 
   abbrev new : StoreOutcome
-  new = setUpCall (newRecord z c) z c
+  new = setUpCall (newRecord z xs c) z xs c
 
-  module _ (s : Store) (h : Handed) (w : ℕ) (eight : length ws ≡ 8) (e : outcomeIn h [] [] ≡ setUpCall (recordIn s) z c) (ew : w ≡ wordOf (said (h .answer))) where
+  module _ (s : Store) (h : Handed) (w : ℕ) (twelve : length ws ≡ 12) (e : outcomeIn h [] [] ≡ setUpCall (recordIn s) z xs c) (ew : w ≡ wordOf (said (h .answer))) where
     word-is : w ≡ wordOf (new .answer)
-    word-is = ew ∙ ap (λ (o : StoreOutcome). wordOf (o .answer)) e ∙ ap wordOf (same-answer (recordIn s) (newRecord z c) z c)
+    word-is = ew ∙ ap (λ (o : StoreOutcome). wordOf (o .answer)) e ∙ ap wordOf (same-answer (recordIn s) (newRecord z xs c) z xs c)
 
     -- what it leaves is the definition's, as its word is 0 or not
-    as-set-up : (accepts : Bool) → eqb (wordOf (new .answer)) 0 ≡ accepts → set-up-lent ws new true accepts ≡ zbkSetUp ws z c
+    as-set-up : (accepts : Bool) → eqb (wordOf (new .answer)) 0 ≡ accepts → set-up-lent ws new true accepts ≡ zbkSetUp ws z xs c
     unfolding zbkSetUp
-    as-set-up accepts q = ap₂ {C = Lent} (set-up-lent ws new) (sym (eq-eqb (length ws) 8 eight)) (sym q)
+    as-set-up accepts q = ap₂ {C = Lent} (set-up-lent ws new) (sym (eq-eqb (length ws) 12 twelve)) (sym q)
 
-    pub did-set-up : (next : List ℕ) → w ≡ 0 → next ≡ wordsOf (recordIn (h .store)) → record { answer = w; words = next; area = []; output = [] } ≡ zbkSetUp ws z c
+    pub did-set-up : (next : List ℕ) → w ≡ 0 → next ≡ wordsOf (recordIn (h .store)) → record { answer = w; words = next; area = []; output = [] } ≡ zbkSetUp ws z xs c
     did-set-up next h0 en =
         let z0 = sym (ap (λ (o : StoreOutcome). wordOf (o .answer)) e) ∙ sym ew ∙ h0 in
-        let made : recordIn (h .store) ≡ new .handed = ap (λ (o : StoreOutcome). o .handed) e ∙ same-handed (recordIn s) (newRecord z c) z c z0 in
+        let made : recordIn (h .store) ≡ new .handed = ap (λ (o : StoreOutcome). o .handed) e ∙ same-handed (recordIn s) (newRecord z xs c) z xs c z0 in
         ap₂ {C = Lent} (λ (a : ℕ) (l : List ℕ). record { answer = a; words = l; area = []; output = [] }) word-is (en ∙ ap wordsOf made)
         ∙ as-set-up true (eq-eqb _ 0 (sym word-is ∙ h0))
 
-    pub not-set-up : (w ≡ 0 → ⊥) → record { answer = w; words = ws; area = []; output = [] } ≡ zbkSetUp ws z c
+    pub not-set-up : (w ≡ 0 → ⊥) → record { answer = w; words = ws; area = []; output = [] } ≡ zbkSetUp ws z xs c
     not-set-up h0 =
         ap (λ (a : ℕ). record { answer = a; words = ws; area = []; output = [] }) word-is
         ∙ as-set-up false (ne-eqb _ 0 (λ q. h0 (word-is ∙ q)))
@@ -148,35 +148,35 @@ as-told h area output o e few = subst (λ (v : ℕ). v < 72057594037927936) (ap 
 -- what `hand_on` asks
 pub handed-asks : (call : Record → StoreOutcome) (ws : List ℕ) → ((s : Record) → call s .answer .reported < 72057594037927936)
     → (s : Record) (h : Handed) (after written : List ℕ) → isRecord ws ≡ true → outcomeIn h after written ≡ call s
-    → (length ws ≡ 8) × (said (h .answer) .reported < 72057594037927936)
-handed-asks call ws few s h after written is e = (words-facts ws is .eight, as-told h after written (call s) e (few s))
+    → (length ws ≡ 12) × (said (h .answer) .reported < 72057594037927936)
+handed-asks call ws few s h after written is e = (words-facts ws is .twelve, as-told h after written (call s) e (few s))
 
-pub set-up-few : (s : Record) (z : Sizes) (c : ℕ) → setUpCall s z c .answer .reported < 72057594037927936
+pub set-up-few : (s : Record) (z : Sizes) (xs : List ℕ) (c : ℕ) → setUpCall s z xs c .answer .reported < 72057594037927936
 unfolding setUpCall
-set-up-few s z c = settled-few s [] [] _ (first storeOrder (recordLine (newRecord z c) ∷ [])) (λ _. omega arith)
+set-up-few s z xs c = settled-few s [] [] _ (first storeOrder (recordLine (newRecord z xs c) ∷ [])) (λ _. omega arith)
 
-pub write-few : (s : Record) (area file : List ℕ) → writeCall standard s area file .answer .reported < 72057594037927936
+pub write-few : (s : Record) (area file : List ℕ) → writeCall s area file .answer .reported < 72057594037927936
 unfolding writeCall
-write-few s area file = settled-few s area [] (writeDone standard s area file) (first storeOrder (writeLines s (length area) file)) (λ _. omega arith)
+write-few s area file = settled-few s area [] (writeDone s area file) (first storeOrder (writeLines s (length area) file)) (λ _. omega arith)
 
 pub lose-few : (s : Record) (area : List ℕ) (board : ℕ) → loseCall s area board .answer .reported < 72057594037927936
 unfolding loseCall
 lose-few s area board = settled-few s area [] (loseDone s area board) (first storeOrder (loseLines s board)) (λ _. omega arith)
 
-pub read-few : (s : Record) (area boards output : List ℕ) → readCall standard s area boards output .answer .reported < 72057594037927936
+pub read-few : (s : Record) (area boards output : List ℕ) → readCall s area boards output .answer .reported < 72057594037927936
 unfolding readCall
 read-few s area boards output =
-    settled-few s area output (readDone standard s area boards output) (first storeOrder (readLines standard s area boards output)) (λ _. omega arith)
+    settled-few s area output (readDone s area boards output) (first storeOrder (readLines s area boards output)) (λ _. omega arith)
 
-pub repair-few : (s : Record) (area fresh helpers : List ℕ) → repairCall standard s area fresh helpers .answer .reported < 72057594037927936
+pub repair-few : (s : Record) (area fresh helpers : List ℕ) → repairCall s area fresh helpers .answer .reported < 72057594037927936
 unfolding repairCall
 repair-few s area fresh helpers =
-    settled-few s area [] (repairDone standard s area fresh helpers) (first storeOrder (repairLines s (length area) fresh helpers))
+    settled-few s area [] (repairDone s area fresh helpers) (first storeOrder (repairLines s (length area) fresh helpers))
     (λ p.
     let f = repair-facts s (length area) fresh helpers p in
     let g = sound-facts s (f .is-sound) in
     let l = legal-facts (s .sizes) (g .is-legal) in
-    let e = moved-is standard s area fresh helpers (length area) (code-lengths standard (s .sizes) (g .is-legal)) (l .some-fresh) f in
+    let e = moved-is s area fresh helpers (length area) (code-lengths (s .points) (s .sizes) (g .is-legal)) (l .some-fresh) f in
     let few : stripeCount s ≤ 4096 = few-stripes s (g .cap-high) (stripes-least (s .sizes) l (s .length) (s .capacity) (g .fits)) in
     let a : stripeCount s * s .sizes .r ≤ 4096 * s .sizes .r = mul-le-mul-right (s .sizes .r) few in
     let b : stripeCount s * s .sizes .r ≤ 131072 = omega (arith, a, l .enough, l .few) in

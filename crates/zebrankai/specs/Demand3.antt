@@ -12,7 +12,7 @@ use Rattle.lists.specs.Tests.{every, among, different}
 use Rattle.lists.specs.Lists.{All, Bytes, over}
 use Rattle.sizes.specs.declared.Sizes.{Sizes}
 use Rattle.sizes.specs.Sizing.{legal, maxStripes}
-use Rattle.mbcr.specs.Share.{standard}
+use Rattle.mbcr.specs.Share.{pointed}
 use Rattle.board_spec.specs.Calls.{fileOf}
 use Rattle.store_spec.specs.Record.{held}
 use Rattle.store_spec.specs.Packets.{total, repairPackets, freshShare}
@@ -20,7 +20,7 @@ use Rattle.store_spec.specs.Ledger.{Call, repair, read, Reply, Book, State, Ste
 use Rattle.store_spec.specs.Demand3.{Intact, Repaired, calls}
 use Rattle.store_spec.specs.Premises.{files}
 use Rattle.answer_word.specs.Answers.{wordOf}
-use Rattle.words.specs.Words.{isRecord, recordFrom}
+use Rattle.record_words.specs.Words.{isRecord, recordFrom}
 use Rattle.zebrankai.specs.Lent.{Lent, zbkSetUp, zbk}
 
 -- the calls one after another: each on the words that the last one left, and the area as its step has it
@@ -57,9 +57,9 @@ abbrev pub inWord : Reply → Told
 inWord r = record { answer = wordOf (r .answer); output = r .output }
 
 -- a list of calls after a set-up: the words that it gave, what the calls give, and where they end: words, area, and the ledger's book
-module _ (ws : List ℕ) (z : Sizes) (c : ℕ) (area : List ℕ) (steps : List Step) where
+module _ (ws : List ℕ) (z : Sizes) (xs : List ℕ) (c : ℕ) (area : List ℕ) (steps : List Step) where
   abbrev pub firstWords : List ℕ
-  firstWords = zbkSetUp ws z c .words
+  firstWords = zbkSetUp ws z xs c .words
 
   abbrev pub ran : List Lent
   ran = lents firstWords steps
@@ -71,14 +71,14 @@ module _ (ws : List ℕ) (z : Sizes) (c : ℕ) (area : List ℕ) (steps : List S
   endArea = lastArea area ran
 
   abbrev pub endBook : Book
-  endBook = bookFinal (openBook z c (length area)) (calls steps)
+  endBook = bookFinal (openBook z xs c (length area)) (calls steps)
 
   -- Of these calls every answer is the word of the ledger's reply, and every output the ledger's; the last words are a record's, and demand 3's
   -- ending holds of the record that they tell and of the last area.
   pub record ArchiveRun : Type 0 where
-    pub alike : map told ran ≡ map inWord (bookReplies (openBook z c (length area)) (calls steps))
+    pub alike : map told ran ≡ map inWord (bookReplies (openBook z xs c (length area)) (calls steps))
     pub are-words : isRecord endWords ≡ true
-    pub after : Intact standard (record { kept = recordFrom endWords; area = endArea }) endBook
+    pub after : Intact (record { kept = recordFrom endWords; area = endArea }) endBook
     -- "a read of any k different boards in service, with output long enough, is accepted and gives exactly the last file accepted"
     pub gives : (now : List ℕ) → Altered endBook (recordFrom endWords) endArea now
         → (boards output : List ℕ)
@@ -91,19 +91,19 @@ module _ (ws : List ℕ) (z : Sizes) (c : ℕ) (area : List ℕ) (steps : List S
 
 abbrev pub ArchiveDemand3 : Type 0
 ArchiveDemand3 =
-    (ws : List ℕ) (z : Sizes) (c : ℕ) (area : List ℕ) (steps : List Step)
-    → zbkSetUp ws z c .answer ≡ 0
-    → AllowedLents (zbkSetUp ws z c .words) area (openBook z c (length area)) steps
-    → ArchiveRun ws z c area steps
+    (ws : List ℕ) (z : Sizes) (xs : List ℕ) (c : ℕ) (area : List ℕ) (steps : List Step)
+    → zbkSetUp ws z xs c .answer ≡ 0
+    → AllowedLents (zbkSetUp ws z xs c .words) area (openBook z xs c (length area)) steps
+    → ArchiveRun ws z xs c area steps
 
 -- An accepted repair, over any words and any area: it is one of the definitions', over the record that the words tell; it reports the bytes
 -- moved, and fresh boards hold what the packets make.
 pub record ArchiveRepaired (ws area fresh helpers : List ℕ) : Type 0 where
   pub is-record : isRecord ws ≡ true
-  pub repaired : Repaired standard (recordFrom ws) area fresh helpers
-  pub reports : zbk ws area (repair fresh helpers) .answer ≡ 256 * total (repairPackets standard (recordFrom ws) area fresh helpers)
+  pub repaired : Repaired (recordFrom ws) area fresh helpers
+  pub reports : zbk ws area (repair fresh helpers) .answer ≡ 256 * total (repairPackets (recordFrom ws) area fresh helpers)
   pub has : (i : ℕ) → among fresh i ≡ true
-      → held (recordFrom ws) (zbk ws area (repair fresh helpers) .area) i ≡ freshShare standard (recordFrom ws) area fresh helpers i
+      → held (recordFrom ws) (zbk ws area (repair fresh helpers) .area) i ≡ freshShare (recordFrom ws) area fresh helpers i
 
 abbrev pub ArchiveRepairs : Type 0
 ArchiveRepairs = (ws area fresh helpers : List ℕ) (v : ℕ) → zbk ws area (repair fresh helpers) .answer ≡ 256 * v → ArchiveRepaired ws area fresh helpers
@@ -113,11 +113,11 @@ abbrev pub unalteredLents : List ℕ → List ℕ → List Call → List Step
 unalteredLents ws area [] = []
 unalteredLents ws area (call ∷ cs) = record { area = area; call = call } ∷ unalteredLents (zbk ws area call .words) (zbk ws area call .area) cs
 
--- the premises can be met: a set-up is accepted over any eight words exactly where sizes and capacity are legal, and every list of calls whose
+-- the premises can be met: a set-up is accepted over any twelve words exactly where sizes and capacity are legal and the points are taken, and every list of calls whose
 -- files are of bytes is allowed, with nothing altered
 pub record ArchivePremises : Type 0 where
-  pub set-up-accepted : (ws : List ℕ) (z : Sizes) (c : ℕ)
-      → (zbkSetUp ws z c .answer ≡ 0) ↔ ((length ws ≡ 8) × (legal z ≡ true) × (1 ≤ c) × (c ≤ maxStripes))
-  pub all-allowed : (ws : List ℕ) (z : Sizes) (c : ℕ) (area : List ℕ) (cs : List Call) → All Bytes (files cs)
-      → AllowedLents (zbkSetUp ws z c .words) area (openBook z c (length area)) (unalteredLents (zbkSetUp ws z c .words) area cs)
+  pub set-up-accepted : (ws : List ℕ) (z : Sizes) (xs : List ℕ) (c : ℕ)
+      → (zbkSetUp ws z xs c .answer ≡ 0) ↔ ((length ws ≡ 12) × (legal z ≡ true) × (pointed z xs ≡ true) × (1 ≤ c) × (c ≤ maxStripes))
+  pub all-allowed : (ws : List ℕ) (z : Sizes) (xs : List ℕ) (c : ℕ) (area : List ℕ) (cs : List Call) → All Bytes (files cs)
+      → AllowedLents (zbkSetUp ws z xs c .words) area (openBook z xs c (length area)) (unalteredLents (zbkSetUp ws z xs c .words) area cs)
   pub same-calls : (ws area : List ℕ) (cs : List Call) → calls (unalteredLents ws area cs) ≡ cs

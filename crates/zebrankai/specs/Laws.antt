@@ -5,7 +5,6 @@ use mathlib.Core.Path.{_≡_}
 use mathlib.Core.List.{List, []}
 use Prim.Native.Nat.{ℕ, _*_}
 use Rattle.sizes.specs.declared.Sizes.{Sizes}
-use Rattle.mbcr.specs.Share.{standard}
 use Rattle.board_spec.specs.Calls.{BoardOutcome, shareCall, fileCall, helperCall, exchangeCall, finishedCall, textCall}
 use Rattle.store_spec.specs.Ledger.{Call, outputOf}
 use Rattle.answer_word.specs.Answers.{wordOf}
@@ -20,13 +19,13 @@ abbrev pub Leaves : BoardOutcome → List ℕ → Type 0
 Leaves o output = ((v : ℕ) → wordOf (o .answer) ≡ 256 * v → ⊥) → o .output ≡ output
 
 pub record ArchiveLaws : Type 0 where
-  pub share-leaves : (z : Sizes) (node : ℕ) (file out : List ℕ) → Leaves (shareCall z standard node file out) out
-  pub file-leaves : (z : Sizes) (L : ℕ) (boards shares out : List ℕ) → Leaves (fileCall z standard L boards shares out) out
-  pub helper-leaves : (z : Sizes) (L helper receiver : ℕ) (share out : List ℕ) → Leaves (helperCall z standard L helper receiver share out) out
-  pub exchange-leaves : (z : Sizes) (L board : ℕ) (helpers packets : List ℕ) (receiver : ℕ) (out : List ℕ)
-      → Leaves (exchangeCall z standard L board helpers packets receiver out) out
-  pub finished-leaves : (z : Sizes) (L board : ℕ) (helpers packets partners exchanges out : List ℕ)
-      → Leaves (finishedCall z standard L board helpers packets partners exchanges out) out
-  pub text-leaves : (z : Sizes) (L node : ℕ) (share out : List ℕ) → Leaves (textCall z standard L node share out) out
-  pub set-up-keeps : (ws : List ℕ) (z : Sizes) (c : ℕ) → Keeps (zbkSetUp ws z c) ws [] []
+  pub share-leaves : (z : Sizes) (xs : List ℕ) (node : ℕ) (file out : List ℕ) → Leaves (shareCall z xs node file out) out
+  pub file-leaves : (z : Sizes) (xs : List ℕ) (L : ℕ) (boards shares out : List ℕ) → Leaves (fileCall z xs L boards shares out) out
+  pub helper-leaves : (z : Sizes) (xs : List ℕ) (L helper receiver : ℕ) (share out : List ℕ) → Leaves (helperCall z xs L helper receiver share out) out
+  pub exchange-leaves : (z : Sizes) (xs : List ℕ) (L board : ℕ) (helpers packets : List ℕ) (receiver : ℕ) (out : List ℕ)
+      → Leaves (exchangeCall z xs L board helpers packets receiver out) out
+  pub finished-leaves : (z : Sizes) (xs : List ℕ) (L board : ℕ) (helpers packets partners exchanges out : List ℕ)
+      → Leaves (finishedCall z xs L board helpers packets partners exchanges out) out
+  pub text-leaves : (z : Sizes) (xs : List ℕ) (L node : ℕ) (share out : List ℕ) → Leaves (textCall z xs L node share out) out
+  pub set-up-keeps : (ws : List ℕ) (z : Sizes) (xs : List ℕ) (c : ℕ) → Keeps (zbkSetUp ws z xs c) ws [] []
   pub keeps : (ws area : List ℕ) (call : Call) → Keeps (zbk ws area call) ws area (outputOf call)

@@ -1,4 +1,4 @@
--- The archive's calls of the store: what each answers, and words, area and output after it. The record stands in eight words.
+-- The archive's calls of the store: what each answers, and words, area and output after it. The record stands in twelve words.
 -- Assumes nothing.
 use mathlib.Core.List.{List, []}
 use Prim.Native.Nat.{ℕ}
@@ -9,12 +9,11 @@ use Rattle.sizes.specs.declared.Sizes.{Sizes}
 use Rattle.sizes.specs.declared.Refusal.the-variants.{Size}
 use Rattle.sizes.specs.declared.Answer.the-variants.{Refused}
 use Rattle.sizes.specs.Refusals.{said}
-use Rattle.mbcr.specs.Share.{standard}
 use Rattle.store_spec.specs.Record.{Record, newRecord}
 use Rattle.store_spec.specs.Calls.{StoreOutcome, setUpCall}
 use Rattle.store_spec.specs.Ledger.{Call, act, outputOf}
 use Rattle.answer_word.specs.Answers.{wordOf}
-use Rattle.words.specs.Words.{isRecord, recordFrom, wordsOf}
+use Rattle.record_words.specs.Words.{isRecord, recordFrom, wordsOf}
 
 pub record Lent : Type 0 where
   pub answer : ℕ
@@ -34,14 +33,14 @@ inWords o = record { answer = wordOf (o .answer); words = wordsOf (o .handed); a
 abbrev pub lentBy : (Record → StoreOutcome) → List ℕ → List ℕ → List ℕ → Lent
 lentBy call ws area output = pick (isRecord ws) (inWords (call (recordFrom ws))) (noRecord ws area output)
 
--- "set up takes any eight words": they are not examined, and stay where it refuses
-unfoldable pub zbkSetUp : List ℕ → Sizes → ℕ → Lent
-zbkSetUp ws z c =
-    let o = setUpCall (newRecord z c) z c in
-    pick (eqb (length ws) 8)
+-- "set up takes any twelve words": they are not examined, and stay where it refuses
+unfoldable pub zbkSetUp : List ℕ → Sizes → List ℕ → ℕ → Lent
+zbkSetUp ws z xs c =
+    let o = setUpCall (newRecord z xs c) z xs c in
+    pick (eqb (length ws) 12)
     (record { answer = wordOf (o .answer); words = pick (eqb (wordOf (o .answer)) 0) (wordsOf (o .handed)) ws; area = []; output = [] })
     (noRecord ws [] [])
 
 -- a call of the store on these words and this area; losing is lent no area, so that it stays whatever it is
 abbrev pub zbk : List ℕ → List ℕ → Call → Lent
-zbk ws area call = lentBy (λ s. act standard (record { kept = s; area = area }) call) ws area (outputOf call)
+zbk ws area call = lentBy (λ s. act (record { kept = s; area = area }) call) ws area (outputOf call)

@@ -1,11 +1,11 @@
 //! The archive for C and Rust: every call of the board level and of the store under a C name, for all input, without `requires`.
-//! Each meets its definition at document 01's points, in the crates `board_spec` and `store_spec`: the answer as one word, and
-//! every word and byte that it was lent. A slice is a pointer and a length. A record is a lent slice of eight words: n, k, d, r, capacity,
-//! written, length, marks. An answer has the refusal's number in its low eight bits, 0 where there is none, and the number reported above them.
+//! Each meets its definition in the crates `board_spec` and `store_spec`: the answer as one word, and every word and byte that it was lent.
+//! A slice is a pointer and a length. A record is a lent slice of twelve words: n, k, d, r, capacity, written, length, marks, and four words
+//! with the points of eight boards each. Points are a lent slice of 32 bytes; another number of them is SIZE. An answer has the refusal's number
+//! in its low eight bits, 0 where there is none, and the number reported above them.
 ghost use mathlib.Core.Path.{_≡_};
 ghost use mathlib.Core.List.{List, []};
 ghost use Prim.Native.Nat.{ℕ};
-ghost use Rattle.mbcr.specs.Share.{standard};
 ghost use Rattle.board_spec.specs.Calls.{shareCall, fileCall, helperCall, exchangeCall, finishedCall, textCall};
 ghost use Rattle.store_spec.specs.Ledger.{write, lose, repair, read};
 ghost use Rattle.answer_word.specs.Answers.{wordOf};
@@ -21,11 +21,12 @@ pub extern "C" fn zbk_share(
     k: usize,
     d: usize,
     r: usize,
+    points: &[u8],
     node: usize,
     file: &[u8],
     out: &mut [u8],
 ) -> u64
-    ensures { λ w. ⌜ (w ≡ wordOf (shareCall (sizesOf n k d r) standard node (now (file .entry)) (now (out .entry)) .answer)) × (now (out .exit) ≡ shareCall (sizesOf n k d r) standard node (now (file .entry)) (now (out .entry)) .output) ⌝ }
+    ensures { λ w. ⌜ (w ≡ wordOf (shareCall (sizesOf n k d r) (now (points .entry)) node (now (file .entry)) (now (out .entry)) .answer)) × (now (out .exit) ≡ shareCall (sizesOf n k d r) (now (points .entry)) node (now (file .entry)) (now (out .entry)) .output) ⌝ }
 {
     let sizes = Sizes {
         n: n,
@@ -33,7 +34,8 @@ pub extern "C" fn zbk_share(
         d: d,
         r: r,
     };
-    answer_word::word_of(board_share::share(sizes, node, file, out))
+    let xs = words::points_array(points);
+    answer_word::word_of(board_share::share(sizes, xs, node, file, out))
 }
 
 // The file of so many bytes that k shares give, or DISAGREE where no such file has them. Reports the number of bytes written.
@@ -43,12 +45,13 @@ pub extern "C" fn zbk_file(
     k: usize,
     d: usize,
     r: usize,
+    points: &[u8],
     len: usize,
     boards: &[usize],
     shares: &[u8],
     out: &mut [u8],
 ) -> u64
-    ensures { λ w. ⌜ (w ≡ wordOf (fileCall (sizesOf n k d r) standard len (now (boards .entry)) (now (shares .entry)) (now (out .entry)) .answer)) × (now (out .exit) ≡ fileCall (sizesOf n k d r) standard len (now (boards .entry)) (now (shares .entry)) (now (out .entry)) .output) ⌝ }
+    ensures { λ w. ⌜ (w ≡ wordOf (fileCall (sizesOf n k d r) (now (points .entry)) len (now (boards .entry)) (now (shares .entry)) (now (out .entry)) .answer)) × (now (out .exit) ≡ fileCall (sizesOf n k d r) (now (points .entry)) len (now (boards .entry)) (now (shares .entry)) (now (out .entry)) .output) ⌝ }
 {
     let sizes = Sizes {
         n: n,
@@ -56,7 +59,8 @@ pub extern "C" fn zbk_file(
         d: d,
         r: r,
     };
-    answer_word::word_of(board_file::file(sizes, len, boards, shares, out))
+    let xs = words::points_array(points);
+    answer_word::word_of(board_file::file(sizes, xs, len, boards, shares, out))
 }
 
 // The helper packet that a board makes of its share of a file of so many bytes, for another board. Reports the number of bytes written.
@@ -66,13 +70,14 @@ pub extern "C" fn zbk_helper_packet(
     k: usize,
     d: usize,
     r: usize,
+    points: &[u8],
     len: usize,
     helper: usize,
     receiver: usize,
     share: &[u8],
     out: &mut [u8],
 ) -> u64
-    ensures { λ w. ⌜ (w ≡ wordOf (helperCall (sizesOf n k d r) standard len helper receiver (now (share .entry)) (now (out .entry)) .answer)) × (now (out .exit) ≡ helperCall (sizesOf n k d r) standard len helper receiver (now (share .entry)) (now (out .entry)) .output) ⌝ }
+    ensures { λ w. ⌜ (w ≡ wordOf (helperCall (sizesOf n k d r) (now (points .entry)) len helper receiver (now (share .entry)) (now (out .entry)) .answer)) × (now (out .exit) ≡ helperCall (sizesOf n k d r) (now (points .entry)) len helper receiver (now (share .entry)) (now (out .entry)) .output) ⌝ }
 {
     let sizes = Sizes {
         n: n,
@@ -80,7 +85,8 @@ pub extern "C" fn zbk_helper_packet(
         d: d,
         r: r,
     };
-    answer_word::word_of(board_helper::helper_packet(sizes, len, helper, receiver, share, out))
+    let xs = words::points_array(points);
+    answer_word::word_of(board_helper::helper_packet(sizes, xs, len, helper, receiver, share, out))
 }
 
 // The exchange packet that a board being rebuilt makes of its d helper packets, for another. Reports the number of bytes written.
@@ -90,6 +96,7 @@ pub extern "C" fn zbk_exchange_packet(
     k: usize,
     d: usize,
     r: usize,
+    points: &[u8],
     len: usize,
     board: usize,
     helpers: &[usize],
@@ -97,7 +104,7 @@ pub extern "C" fn zbk_exchange_packet(
     receiver: usize,
     out: &mut [u8],
 ) -> u64
-    ensures { λ w. ⌜ (w ≡ wordOf (exchangeCall (sizesOf n k d r) standard len board (now (helpers .entry)) (now (packets .entry)) receiver (now (out .entry)) .answer)) × (now (out .exit) ≡ exchangeCall (sizesOf n k d r) standard len board (now (helpers .entry)) (now (packets .entry)) receiver (now (out .entry)) .output) ⌝ }
+    ensures { λ w. ⌜ (w ≡ wordOf (exchangeCall (sizesOf n k d r) (now (points .entry)) len board (now (helpers .entry)) (now (packets .entry)) receiver (now (out .entry)) .answer)) × (now (out .exit) ≡ exchangeCall (sizesOf n k d r) (now (points .entry)) len board (now (helpers .entry)) (now (packets .entry)) receiver (now (out .entry)) .output) ⌝ }
 {
     let sizes = Sizes {
         n: n,
@@ -105,8 +112,10 @@ pub extern "C" fn zbk_exchange_packet(
         d: d,
         r: r,
     };
+    let xs = words::points_array(points);
     answer_word::word_of(board_exchange::exchange_packet(
         sizes,
+        xs,
         len,
         board,
         helpers,
@@ -123,6 +132,7 @@ pub extern "C" fn zbk_finished_share(
     k: usize,
     d: usize,
     r: usize,
+    points: &[u8],
     len: usize,
     board: usize,
     helpers: &[usize],
@@ -131,7 +141,7 @@ pub extern "C" fn zbk_finished_share(
     exchanges: &[u8],
     out: &mut [u8],
 ) -> u64
-    ensures { λ w. ⌜ (w ≡ wordOf (finishedCall (sizesOf n k d r) standard len board (now (helpers .entry)) (now (packets .entry)) (now (partners .entry)) (now (exchanges .entry)) (now (out .entry)) .answer)) × (now (out .exit) ≡ finishedCall (sizesOf n k d r) standard len board (now (helpers .entry)) (now (packets .entry)) (now (partners .entry)) (now (exchanges .entry)) (now (out .entry)) .output) ⌝ }
+    ensures { λ w. ⌜ (w ≡ wordOf (finishedCall (sizesOf n k d r) (now (points .entry)) len board (now (helpers .entry)) (now (packets .entry)) (now (partners .entry)) (now (exchanges .entry)) (now (out .entry)) .answer)) × (now (out .exit) ≡ finishedCall (sizesOf n k d r) (now (points .entry)) len board (now (helpers .entry)) (now (packets .entry)) (now (partners .entry)) (now (exchanges .entry)) (now (out .entry)) .output) ⌝ }
 {
     let sizes = Sizes {
         n: n,
@@ -139,8 +149,10 @@ pub extern "C" fn zbk_finished_share(
         d: d,
         r: r,
     };
+    let xs = words::points_array(points);
     answer_word::word_of(board_finish::finished_share(
         sizes,
+        xs,
         len,
         board,
         helpers,
@@ -158,12 +170,13 @@ pub extern "C" fn zbk_share_text(
     k: usize,
     d: usize,
     r: usize,
+    points: &[u8],
     len: usize,
     node: usize,
     share: &[u8],
     out: &mut [u8],
 ) -> u64
-    ensures { λ w. ⌜ (w ≡ wordOf (textCall (sizesOf n k d r) standard len node (now (share .entry)) (now (out .entry)) .answer)) × (now (out .exit) ≡ textCall (sizesOf n k d r) standard len node (now (share .entry)) (now (out .entry)) .output) ⌝ }
+    ensures { λ w. ⌜ (w ≡ wordOf (textCall (sizesOf n k d r) (now (points .entry)) len node (now (share .entry)) (now (out .entry)) .answer)) × (now (out .exit) ≡ textCall (sizesOf n k d r) (now (points .entry)) len node (now (share .entry)) (now (out .entry)) .output) ⌝ }
 {
     let sizes = Sizes {
         n: n,
@@ -171,7 +184,8 @@ pub extern "C" fn zbk_share_text(
         d: d,
         r: r,
     };
-    answer_word::word_of(board_text::text(sizes, len, node, share, out))
+    let xs = words::points_array(points);
+    answer_word::word_of(board_text::text(sizes, xs, len, node, share, out))
 }
 
 // The word of SIZE, for words that are no record.
@@ -185,11 +199,12 @@ pub extern "C" fn zbk_set_up(
     k: usize,
     d: usize,
     r: usize,
+    points: &[u8],
     capacity: usize,
 ) -> u64
-    ensures { λ w. ⌜ record { answer = w; words = now (ws .exit); area = []; output = [] } ≡ zbkSetUp (now (ws .entry)) (sizesOf n k d r) capacity ⌝ }
+    ensures { λ w. ⌜ record { answer = w; words = now (ws .exit); area = []; output = [] } ≡ zbkSetUp (now (ws .entry)) (sizesOf n k d r) (now (points .entry)) capacity ⌝ }
 {
-    if ws.len() != 8 {
+    if ws.len() != 12 {
         return NO_RECORD;
     }
     let sizes = Sizes {
@@ -198,14 +213,16 @@ pub extern "C" fn zbk_set_up(
         d: d,
         r: r,
     };
+    let xs = words::points_array(points);
     let blank = Store {
         sizes: sizes,
+        points: xs,
         capacity: capacity,
         written: false,
         length: 0,
         marks: [false; 32],
     };
-    let handed = blank.set_up(sizes, capacity);
+    let handed = blank.set_up(sizes, xs, capacity);
     let answer = handed.answer;
     let word = answer_word::word_of(answer);
     if word == 0 {

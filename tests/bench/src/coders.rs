@@ -1,6 +1,6 @@
 //! The three coders that are measured, behind the same calls.
 
-use zebrankai::{board, Record, Sizes};
+use zebrankai::{board, Points, Record, Sizes, RECORD_WORDS};
 
 /// A coder at work on one store. Each call is one that is accepted.
 pub trait Coder {
@@ -14,16 +14,17 @@ pub trait Coder {
     fn share(&mut self, node: usize, file: &[u8], out: &mut [u8]);
 }
 
-/// The coders in the order of their turns, over a store of these sizes with room for so many stripes.
+/// The coders in the order of their turns, over a store of these sizes, at points 0 to n − 1, with room for so many stripes.
 pub fn all(sizes: Sizes, stripes: usize) -> [Box<dyn Coder>; 3] {
-    let record = Record::set_up(sizes, stripes).expect("the sizes are legal");
+    let points = Points::standard(sizes.n);
+    let record = Record::set_up(sizes, points, stripes).expect("the sizes are legal");
     let Sizes { n, k, d, r } = sizes;
     let plain_sizes = plain::Sizes { n, k, d, r };
     let words = record.words();
     [
         Box::new(Archive { record }),
-        Box::new(Plain { sizes: plain_sizes, words }),
-        Box::new(Kernels { sizes: plain_sizes, stripes }),
+        Box::new(Plain { sizes: plain_sizes, points: points.into(), words }),
+        Box::new(Kernels { sizes: plain_sizes, points: points.into(), stripes }),
     ]
 }
 
@@ -46,14 +47,15 @@ impl Coder for Archive {
     }
 
     fn share(&mut self, node: usize, file: &[u8], out: &mut [u8]) {
-        board::share(self.record.sizes(), node, file, out).expect("a share is given");
+        board::share(self.record.sizes(), self.record.points(), node, file, out).expect("a share is given");
     }
 }
 
 /// The plain coder.
 struct Plain {
     sizes: plain::Sizes,
-    words: [u64; 8],
+    points: plain::Points,
+    words: [u64; RECORD_WORDS],
 }
 
 impl Coder for Plain {
@@ -70,30 +72,31 @@ impl Coder for Plain {
     }
 
     fn share(&mut self, node: usize, file: &[u8], out: &mut [u8]) {
-        plain::board::share(self.sizes, node, file, out).expect("a share is given");
+        plain::board::share(self.sizes, &self.points, node, file, out).expect("a share is given");
     }
 }
 
 /// The kernels' algorithm in plain Rust, with products by table.
 struct Kernels {
     sizes: plain::Sizes,
+    points: plain::Points,
     stripes: usize,
 }
 
 impl Coder for Kernels {
     fn write(&mut self, file: &[u8], area: &mut [u8]) {
-        plain_kernels::write(self.sizes, file, area);
+        plain_kernels::write(self.sizes, &self.points, file, area);
     }
 
     fn read(&mut self, boards: &[usize], area: &[u8], out: &mut [u8]) {
-        assert!(plain_kernels::read(self.sizes, boards, area, out), "a read is accepted");
+        assert!(plain_kernels::read(self.sizes, &self.points, boards, area, out), "a read is accepted");
     }
 
     fn repair(&mut self, fresh: &[usize], helpers: &[usize], area: &mut [u8]) -> usize {
-        plain_kernels::repair(self.sizes, self.stripes, fresh, helpers, area)
+        plain_kernels::repair(self.sizes, &self.points, self.stripes, fresh, helpers, area)
     }
 
     fn share(&mut self, node: usize, file: &[u8], out: &mut [u8]) {
-        plain_kernels::share(self.sizes, node, file, out);
+        plain_kernels::share(self.sizes, &self.points, node, file, out);
     }
 }

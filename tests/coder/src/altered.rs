@@ -6,6 +6,7 @@
 use crate::call::refusal::DISAGREE;
 use crate::call::{Call, Lent, Outcome};
 use crate::code::{self, Sizes};
+use crate::points;
 use crate::random::Random;
 use crate::store;
 use crate::trial::Trial;
@@ -26,6 +27,7 @@ const PADDING: usize = 5;
 /// A file, and the boards that it is read from.
 struct Scene {
     sizes: Sizes,
+    points: Vec<u8>,
     stripes: usize,
     length: usize,
     boards: Vec<usize>,
@@ -53,7 +55,7 @@ pub fn run(trial: &mut Trial, random: &mut Random, sizes: Sizes) {
     let scene = Scene::new(random, sizes);
     let shares = scene.all_shares(random);
     let lists: Vec<&[u8]> = shares.iter().map(|shares| &shares.bytes[..]).collect();
-    let files = code::files(sizes, scene.length, &scene.boards, &lists);
+    let files = code::files(sizes, &scene.points, scene.length, &scene.boards, &lists);
     for (shares, file) in shares.iter().zip(files) {
         let (call, lent) = scene.call(random, &shares.bytes);
         let expected = expected(&call, &lent, file.as_deref());
@@ -84,14 +86,15 @@ impl Scene {
             _ => random.within(1, stripe),
         };
         let boards = random.choose((0..sizes.n).collect(), sizes.k);
-        Scene { sizes, stripes, length: (stripes - 1) * stripe + last, boards }
+        let points = points::draw(random, sizes.n);
+        Scene { sizes, points, stripes, length: (stripes - 1) * stripe + last, boards }
     }
 
     /// The true shares, those with each place of one stripe of one board altered, and those of files with a byte in the padding.
     fn all_shares(&self, random: &mut Random) -> Vec<Shares> {
         let sizes = self.sizes;
         let (stripes, width) = (self.stripes, sizes.share_len());
-        let generators: Vec<_> = self.boards.iter().map(|&board| code::generator(sizes, board)).collect();
+        let generators: Vec<_> = self.boards.iter().map(|&board| code::generator(sizes, &self.points, board)).collect();
         let shares_of =
             |file: &[u8]| generators.iter().flat_map(|of| code::share_by(sizes, of, file)).collect::<Vec<u8>>();
         let mut file = random.bytes(self.length);
@@ -134,15 +137,15 @@ impl Scene {
 
     /// A read of these shares, at board level or from a store, and what it is lent.
     fn call(&self, random: &mut Random, shares: &[u8]) -> (Call, Lent) {
-        let (sizes, length, boards) = (self.sizes, self.length, self.boards.clone());
+        let (sizes, points, length, boards) = (self.sizes, self.points.clone(), self.length, self.boards.clone());
         let more = random.below(3);
         let out = random.bytes(length + more);
         if random.once_in(2) {
-            return (Call::File { sizes, length, boards, shares: shares.to_vec() }, Lent::output(out));
+            return (Call::File { sizes, points, length, boards, shares: shares.to_vec() }, Lent::output(out));
         }
         let capacity = self.stripes + random.below(2);
         let in_service = if random.once_in(2) { boards.clone() } else { (0..sizes.n).collect() };
-        let record = store::words(sizes, capacity, Some(length), &in_service);
+        let record = store::words(sizes, &points, capacity, Some(length), &in_service);
         let board_len = capacity * sizes.share_len();
         let mut area = random.bytes(sizes.n * board_len);
         for (&board, share) in boards.iter().zip(shares.chunks(shares.len() / boards.len())) {

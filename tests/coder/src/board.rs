@@ -3,8 +3,9 @@
 use crate::call::refusal::{AREA, COUNT, DISAGREE, LONG, NODE, REPEAT, SHORT, SIZE};
 use crate::call::{Call, Lent, Outcome};
 use crate::code::{self, Sizes};
+use crate::points;
 
-/// What the lines of document 01 ask about a call whose sizes are legal and whose length is in range.
+/// What the lines of document 01 ask about a call whose sizes and points are legal and whose length is in range.
 struct Asked<'a> {
     /// each list with the length that it must have
     lists: Vec<(&'a [usize], usize)>,
@@ -36,20 +37,20 @@ impl Asked<'_> {
     }
 }
 
-/// The sizes and the file's length; none where the call is one of the store's.
-fn sizes_and_length(call: &Call) -> Option<(Sizes, usize)> {
+/// The file's length; the call is none of the store's.
+fn length_of(call: &Call) -> usize {
     match call {
-        Call::Share { sizes, file, .. } => Some((*sizes, file.len())),
-        Call::File { sizes, length, .. }
-        | Call::Helper { sizes, length, .. }
-        | Call::Exchange { sizes, length, .. }
-        | Call::Finished { sizes, length, .. }
-        | Call::Text { sizes, length, .. } => Some((*sizes, *length)),
-        _ => None,
+        Call::Share { file, .. } => file.len(),
+        Call::File { length, .. }
+        | Call::Helper { length, .. }
+        | Call::Exchange { length, .. }
+        | Call::Finished { length, .. }
+        | Call::Text { length, .. } => *length,
+        _ => unreachable!("a call of the store"),
     }
 }
 
-fn asked(call: &Call, sizes: Sizes, length: usize) -> Asked<'_> {
+fn asked<'a>(call: &'a Call, sizes: Sizes, points: &[u8], length: usize) -> Asked<'a> {
     let Sizes { k, d, r, .. } = sizes;
     let stripes = sizes.stripes(length);
     let share_len = stripes * sizes.share_len();
@@ -84,7 +85,7 @@ fn asked(call: &Call, sizes: Sizes, length: usize) -> Asked<'_> {
             lists: vec![],
             named: one(*node),
             slices: vec![(share.len(), share_len)],
-            written: code::share_text(sizes, length, *node, share).len(),
+            written: code::share_text(sizes, points, length, *node, share).len(),
         },
         _ => unreachable!("a call of the store"),
     }
@@ -93,30 +94,35 @@ fn asked(call: &Call, sizes: Sizes, length: usize) -> Asked<'_> {
 /// The bytes that a call with no refusal so far writes; none is DISAGREE.
 fn work(call: &Call) -> Option<Vec<u8>> {
     match call {
-        Call::Share { sizes, node, file } => Some(code::share(*sizes, *node, file)),
-        Call::File { sizes, length, boards, shares } => code::file(*sizes, *length, boards, shares),
-        Call::Helper { sizes, helper, receiver, share, .. } => {
-            Some(code::helper_packet(*sizes, *helper, *receiver, share))
+        Call::Share { sizes, points, node, file } => Some(code::share(*sizes, points, *node, file)),
+        Call::File { sizes, points, length, boards, shares } => code::file(*sizes, points, *length, boards, shares),
+        Call::Helper { sizes, points, helper, receiver, share, .. } => {
+            Some(code::helper_packet(*sizes, points, *helper, *receiver, share))
         }
-        Call::Exchange { helpers, packets, receiver, .. } => Some(code::exchange_packet(helpers, packets, *receiver)),
-        Call::Finished { sizes, board, helpers, packets, partners, partner_packets, .. } => {
-            Some(code::finished_share(*sizes, *board, helpers, packets, partners, partner_packets))
+        Call::Exchange { points, helpers, packets, receiver, .. } => {
+            Some(code::exchange_packet(points, helpers, packets, *receiver))
         }
-        Call::Text { sizes, length, node, share } => Some(code::share_text(*sizes, *length, *node, share)),
+        Call::Finished { sizes, points, board, helpers, packets, partners, partner_packets, .. } => {
+            Some(code::finished_share(*sizes, points, *board, helpers, packets, partners, partner_packets))
+        }
+        Call::Text { sizes, points, length, node, share } => {
+            Some(code::share_text(*sizes, points, *length, *node, share))
+        }
         _ => unreachable!("a call of the store"),
     }
 }
 
 /// What a board-level call answers and leaves.
 pub fn expect(call: &Call, lent: &Lent) -> Outcome {
-    let (sizes, length) = sizes_and_length(call).expect("a board-level call");
-    if !sizes.legal() {
+    let (sizes, points) = call.given().expect("a board-level call");
+    let length = length_of(call);
+    if !sizes.legal() || !points::legal(sizes, points) {
         return Outcome::refused(SIZE, lent);
     }
     if length > sizes.longest() {
         return Outcome::refused(LONG, lent);
     }
-    if let Some(number) = asked(call, sizes, length).refusal(sizes.n, lent.out.len()) {
+    if let Some(number) = asked(call, sizes, points, length).refusal(sizes.n, lent.out.len()) {
         return Outcome::refused(number, lent);
     }
     let Some(bytes) = work(call) else {

@@ -1,9 +1,10 @@
-//! Cases at board level: sizes and a file are drawn, and the six calls are made with true, damaged, arbitrary and spoilt arguments.
+//! Cases at board level: sizes, points and a file are drawn, and the six calls are made with true, damaged, arbitrary and spoilt arguments.
 
 use crate::board;
 use crate::call::{Call, Lent};
 use crate::code::{self, Sizes};
 use crate::draw;
+use crate::points;
 use crate::random::Random;
 use crate::spoil::spoil;
 use crate::trial::Trial;
@@ -14,13 +15,14 @@ const CALLS: usize = 12;
 /// What the calls of a case are about.
 struct Scene {
     sizes: Sizes,
+    points: Vec<u8>,
     file: Vec<u8>,
 }
 
 pub fn run(trial: &mut Trial, random: &mut Random, sizes: Sizes) {
     let most = draw::stripes(random, sizes);
     let length = draw::length(random, sizes, most);
-    let scene = Scene { sizes, file: random.bytes(length) };
+    let scene = Scene { sizes, points: points::draw(random, sizes.n), file: random.bytes(length) };
     for _ in 0..CALLS {
         let (mut call, written) = scene.call(random);
         let mut lent = Lent::output(draw::output(random, written));
@@ -31,18 +33,20 @@ pub fn run(trial: &mut Trial, random: &mut Random, sizes: Sizes) {
 
 impl Scene {
     fn share(&self, board: usize) -> Vec<u8> {
-        code::share(self.sizes, board, &self.file)
+        code::share(self.sizes, &self.points, board, &self.file)
     }
 
     /// The packets that helpers send to a board, one after another.
     fn packets(&self, helpers: &[usize], receiver: usize) -> Vec<u8> {
-        let sent = |&helper: &usize| code::helper_packet(self.sizes, helper, receiver, &self.share(helper));
+        let sent =
+            |&helper: &usize| code::helper_packet(self.sizes, &self.points, helper, receiver, &self.share(helper));
         helpers.iter().flat_map(sent).collect()
     }
 
     /// A call that would be accepted, and the bytes that it writes.
     fn call(&self, random: &mut Random) -> (Call, usize) {
         let sizes = self.sizes;
+        let points = self.points.clone();
         let length = self.file.len();
         let stripes = sizes.stripes(length);
         let share_len = stripes * sizes.share_len();
@@ -50,18 +54,18 @@ impl Scene {
         let boards = random.choose((0..sizes.n).collect(), sizes.n);
         let node = boards[0];
         match random.below(6) {
-            0 => (Call::Share { sizes, node, file: self.file.clone() }, share_len),
+            0 => (Call::Share { sizes, points, node, file: self.file.clone() }, share_len),
             1 => (self.file_call(random, &boards), length),
             2 => {
                 let share = draw::damaged(random, self.share(node));
-                (Call::Helper { sizes, length, helper: node, receiver: boards[1], share }, 2 * stripes)
+                (Call::Helper { sizes, points, length, helper: node, receiver: boards[1], share }, 2 * stripes)
             }
             3 => (self.exchange_call(random, &boards), stripes),
             4 => (self.finished_call(random, &boards), share_len),
             _ => {
                 let share = draw::damaged(random, self.share(node));
-                let written = code::share_text(sizes, length, node, &share).len();
-                (Call::Text { sizes, length, node, share }, written)
+                let written = code::share_text(sizes, &points, length, node, &share).len();
+                (Call::Text { sizes, points, length, node, share }, written)
             }
         }
     }
@@ -70,7 +74,7 @@ impl Scene {
         let boards = boards[..self.sizes.k].to_vec();
         let shares = boards.iter().flat_map(|&board| self.share(board)).collect();
         let shares = draw::damaged(random, shares);
-        Call::File { sizes: self.sizes, length: self.file.len(), boards, shares }
+        Call::File { sizes: self.sizes, points: self.points.clone(), length: self.file.len(), boards, shares }
     }
 
     fn exchange_call(&self, random: &mut Random, boards: &[usize]) -> Call {
@@ -78,7 +82,8 @@ impl Scene {
         // where all other boards help there is no receiver left, and the call is refused
         let receiver = boards.get(self.sizes.d + 1).copied().unwrap_or_else(|| draw::any_number(random, self.sizes.n));
         let packets = draw::damaged(random, self.packets(&helpers, board));
-        Call::Exchange { sizes: self.sizes, length: self.file.len(), board, helpers, packets, receiver }
+        let points = self.points.clone();
+        Call::Exchange { sizes: self.sizes, points, length: self.file.len(), board, helpers, packets, receiver }
     }
 
     fn finished_call(&self, random: &mut Random, boards: &[usize]) -> Call {
@@ -87,9 +92,10 @@ impl Scene {
         let partners = boards[d + 1..d + r].to_vec();
         let packets = draw::damaged(random, self.packets(&helpers, board));
         // each partner hears the same helpers
-        let sent = |&partner: &usize| code::exchange_packet(&helpers, &self.packets(&helpers, partner), board);
+        let sent =
+            |&partner: &usize| code::exchange_packet(&self.points, &helpers, &self.packets(&helpers, partner), board);
         let partner_packets = draw::damaged(random, partners.iter().flat_map(sent).collect());
-        let length = self.file.len();
-        Call::Finished { sizes: self.sizes, length, board, helpers, packets, partners, partner_packets }
+        let (points, length) = (self.points.clone(), self.file.len());
+        Call::Finished { sizes: self.sizes, points, length, board, helpers, packets, partners, partner_packets }
     }
 }

@@ -1,7 +1,7 @@
 //! The eleven calls with their arguments: how each is passed to the archive, what of it may be spoilt, how it is shown. And the memory that they
 //! are lent to change.
 
-use crate::code::Sizes;
+use crate::code::{self, Sizes};
 use std::fmt;
 
 /// Document 01's refusals, by number.
@@ -28,17 +28,20 @@ pub mod refusal {
 pub enum Call {
     Share {
         sizes: Sizes,
+        points: Vec<u8>,
         node: usize,
         file: Vec<u8>,
     },
     File {
         sizes: Sizes,
+        points: Vec<u8>,
         length: usize,
         boards: Vec<usize>,
         shares: Vec<u8>,
     },
     Helper {
         sizes: Sizes,
+        points: Vec<u8>,
         length: usize,
         helper: usize,
         receiver: usize,
@@ -46,6 +49,7 @@ pub enum Call {
     },
     Exchange {
         sizes: Sizes,
+        points: Vec<u8>,
         length: usize,
         board: usize,
         helpers: Vec<usize>,
@@ -54,6 +58,7 @@ pub enum Call {
     },
     Finished {
         sizes: Sizes,
+        points: Vec<u8>,
         length: usize,
         board: usize,
         helpers: Vec<usize>,
@@ -63,12 +68,14 @@ pub enum Call {
     },
     Text {
         sizes: Sizes,
+        points: Vec<u8>,
         length: usize,
         node: usize,
         share: Vec<u8>,
     },
     SetUp {
         sizes: Sizes,
+        points: Vec<u8>,
         capacity: usize,
     },
     Write {
@@ -138,19 +145,23 @@ impl Call {
     /// Makes the call, over what it is lent; the archive's answer.
     pub fn ask(&self, record: &mut [u64], area: &mut [u8], out: &mut [u8]) -> u64 {
         match self {
-            Call::Share { sizes, node, file } => zbk_share(*sizes, *node, file, out),
-            Call::File { sizes, length, boards, shares } => zbk_file(*sizes, *length, boards, shares, out),
-            Call::Helper { sizes, length, helper, receiver, share } => {
-                zbk_helper_packet(*sizes, *length, *helper, *receiver, share, out)
+            Call::Share { sizes, points, node, file } => zbk_share(*sizes, points, *node, file, out),
+            Call::File { sizes, points, length, boards, shares } => {
+                zbk_file(*sizes, points, *length, boards, shares, out)
             }
-            Call::Exchange { sizes, length, board, helpers, packets, receiver } => {
-                zbk_exchange_packet(*sizes, *length, *board, helpers, packets, *receiver, out)
+            Call::Helper { sizes, points, length, helper, receiver, share } => {
+                zbk_helper_packet(*sizes, points, *length, *helper, *receiver, share, out)
             }
-            Call::Finished { sizes, length, board, helpers, packets, partners, partner_packets } => {
-                zbk_finished_share(*sizes, *length, *board, helpers, packets, partners, partner_packets, out)
+            Call::Exchange { sizes, points, length, board, helpers, packets, receiver } => {
+                zbk_exchange_packet(*sizes, points, *length, *board, helpers, packets, *receiver, out)
             }
-            Call::Text { sizes, length, node, share } => zbk_share_text(*sizes, *length, *node, share, out),
-            Call::SetUp { sizes, capacity } => zbk_set_up(record, *sizes, *capacity),
+            Call::Finished { sizes, points, length, board, helpers, packets, partners, partner_packets } => {
+                zbk_finished_share(*sizes, points, *length, *board, helpers, packets, partners, partner_packets, out)
+            }
+            Call::Text { sizes, points, length, node, share } => {
+                zbk_share_text(*sizes, points, *length, *node, share, out)
+            }
+            Call::SetUp { sizes, points, capacity } => zbk_set_up(record, *sizes, points, *capacity),
             Call::Write { file } => zbk_write(record, area, file),
             Call::Lose { board } => zbk_lose(record, *board),
             Call::Repair { fresh, helpers } => zbk_repair(record, area, fresh, helpers),
@@ -158,43 +169,72 @@ impl Call {
         }
     }
 
+    /// The sizes and the points that the call is given; none of those that take them from the record.
+    pub fn given(&self) -> Option<(Sizes, &[u8])> {
+        match self {
+            Call::Share { sizes, points, .. }
+            | Call::File { sizes, points, .. }
+            | Call::Helper { sizes, points, .. }
+            | Call::Exchange { sizes, points, .. }
+            | Call::Finished { sizes, points, .. }
+            | Call::Text { sizes, points, .. }
+            | Call::SetUp { sizes, points, .. } => Some((*sizes, points)),
+            _ => None,
+        }
+    }
+
     /// The arguments, for whoever spoils them.
     pub fn parts(&mut self) -> Parts<'_> {
         let none = Parts::default();
         match self {
-            Call::Share { sizes, node, file } => {
-                Parts { sizes: Some(sizes), numbers: vec![node], slices: vec![file], ..none }
+            Call::Share { sizes, points, node, file } => {
+                Parts { sizes: Some(sizes), points: Some(points), numbers: vec![node], slices: vec![file], ..none }
             }
-            Call::File { sizes, length, boards, shares } => {
-                Parts { sizes: Some(sizes), length: Some(length), lists: vec![boards], slices: vec![shares], ..none }
-            }
-            Call::Helper { sizes, length, helper, receiver, share } => Parts {
+            Call::File { sizes, points, length, boards, shares } => Parts {
                 sizes: Some(sizes),
+                points: Some(points),
+                length: Some(length),
+                lists: vec![boards],
+                slices: vec![shares],
+                ..none
+            },
+            Call::Helper { sizes, points, length, helper, receiver, share } => Parts {
+                sizes: Some(sizes),
+                points: Some(points),
                 length: Some(length),
                 numbers: vec![helper, receiver],
                 slices: vec![share],
                 ..none
             },
-            Call::Exchange { sizes, length, board, helpers, packets, receiver } => Parts {
+            Call::Exchange { sizes, points, length, board, helpers, packets, receiver } => Parts {
                 sizes: Some(sizes),
+                points: Some(points),
                 length: Some(length),
                 numbers: vec![board, receiver],
                 lists: vec![helpers],
                 slices: vec![packets],
                 ..none
             },
-            Call::Finished { sizes, length, board, helpers, packets, partners, partner_packets } => Parts {
+            Call::Finished { sizes, points, length, board, helpers, packets, partners, partner_packets } => Parts {
                 sizes: Some(sizes),
+                points: Some(points),
                 length: Some(length),
                 numbers: vec![board],
                 lists: vec![helpers, partners],
                 slices: vec![packets, partner_packets],
                 ..none
             },
-            Call::Text { sizes, length, node, share } => {
-                Parts { sizes: Some(sizes), length: Some(length), numbers: vec![node], slices: vec![share], ..none }
+            Call::Text { sizes, points, length, node, share } => Parts {
+                sizes: Some(sizes),
+                points: Some(points),
+                length: Some(length),
+                numbers: vec![node],
+                slices: vec![share],
+                ..none
+            },
+            Call::SetUp { sizes, points, capacity } => {
+                Parts { sizes: Some(sizes), points: Some(points), capacity: Some(capacity), ..none }
             }
-            Call::SetUp { sizes, capacity } => Parts { sizes: Some(sizes), capacity: Some(capacity), ..none },
             Call::Write { file } => Parts { slices: vec![file], ..none },
             Call::Lose { board } => Parts { numbers: vec![board], ..none },
             Call::Repair { fresh, helpers } => Parts { lists: vec![fresh, helpers], ..none },
@@ -207,6 +247,7 @@ impl Call {
 #[derive(Default)]
 pub struct Parts<'a> {
     pub sizes: Option<&'a mut Sizes>,
+    pub points: Option<&'a mut Vec<u8>>,
     pub length: Option<&'a mut usize>,
     pub capacity: Option<&'a mut usize>,
     pub numbers: Vec<&'a mut usize>,
@@ -258,40 +299,44 @@ impl Outcome {
     }
 }
 
-/// The call in short form: slices of bytes by their length, lists and numbers whole.
+/// The call in short form: slices of bytes by their length; lists, numbers and points whole.
 impl fmt::Display for Call {
     fn fmt(&self, to: &mut fmt::Formatter) -> fmt::Result {
         write!(to, "{}", CALLS[self.place()].0)?;
-        let sized = |s: &Sizes| format!("n={} k={} d={} r={}", s.n, s.k, s.d, s.r);
+        let given = |s: &Sizes, points: &[u8]| {
+            format!("n={} k={} d={} r={}, points={}", s.n, s.k, s.d, s.r, code::pairs(points))
+        };
         match self {
-            Call::Share { sizes, node, file } => write!(to, "({}, node={node}, file[{}]", sized(sizes), file.len()),
-            Call::File { sizes, length, boards, shares } => {
-                write!(to, "({}, length={length}, boards={boards:?}, shares[{}]", sized(sizes), shares.len())
+            Call::Share { sizes, points, node, file } => {
+                write!(to, "({}, node={node}, file[{}]", given(sizes, points), file.len())
             }
-            Call::Helper { sizes, length, helper, receiver, share } => write!(
+            Call::File { sizes, points, length, boards, shares } => {
+                write!(to, "({}, length={length}, boards={boards:?}, shares[{}]", given(sizes, points), shares.len())
+            }
+            Call::Helper { sizes, points, length, helper, receiver, share } => write!(
                 to,
                 "({}, length={length}, helper={helper}, receiver={receiver}, share[{}]",
-                sized(sizes),
+                given(sizes, points),
                 share.len()
             ),
-            Call::Exchange { sizes, length, board, helpers, packets, receiver } => write!(
+            Call::Exchange { sizes, points, length, board, helpers, packets, receiver } => write!(
                 to,
                 "({}, length={length}, board={board}, helpers={helpers:?}, packets[{}], receiver={receiver}",
-                sized(sizes),
+                given(sizes, points),
                 packets.len()
             ),
-            Call::Finished { sizes, length, board, helpers, packets, partners, partner_packets } => write!(
+            Call::Finished { sizes, points, length, board, helpers, packets, partners, partner_packets } => write!(
                 to,
                 "({}, length={length}, board={board}, helpers={helpers:?}, packets[{}], partners={partners:?}, \
                  partner_packets[{}]",
-                sized(sizes),
+                given(sizes, points),
                 packets.len(),
                 partner_packets.len()
             ),
-            Call::Text { sizes, length, node, share } => {
-                write!(to, "({}, length={length}, node={node}, share[{}]", sized(sizes), share.len())
+            Call::Text { sizes, points, length, node, share } => {
+                write!(to, "({}, length={length}, node={node}, share[{}]", given(sizes, points), share.len())
             }
-            Call::SetUp { sizes, capacity } => write!(to, "({}, capacity={capacity}", sized(sizes)),
+            Call::SetUp { sizes, points, capacity } => write!(to, "({}, capacity={capacity}", given(sizes, points)),
             Call::Write { file } => write!(to, "(file[{}]", file.len()),
             Call::Lose { board } => write!(to, "(board={board}"),
             Call::Repair { fresh, helpers } => write!(to, "(fresh={fresh:?}, helpers={helpers:?}"),

@@ -1,5 +1,5 @@
-//! The code of document 01 by linear algebra. A share is a matrix times the stripe, the matrix by direct evaluation of F's monomials at the
-//! board's points. Reading solves that linear system. What a helper or a fresh board sends, and what a fresh board keeps, are fixed sums of
+//! The code of document 01 by linear algebra, at any points (request A.9). A share is a matrix times the stripe, the matrix by direct evaluation of
+//! F's monomials at the board's points. Reading solves that linear system. What a helper or a fresh board sends, and what a fresh board keeps, are fixed sums of
 //! the bytes it has; the factors of each sum are the solution of a linear system too. Nothing is interpolated.
 
 use crate::field::FIELD;
@@ -64,10 +64,10 @@ impl Sizes {
         list
     }
 
-    /// The points (x, y) at which a board keeps values of F.
-    fn places(self, board: usize) -> Vec<(u8, u8)> {
-        let point = |t: usize| ((board + t) % self.n) as u8;
-        let own = board as u8;
+    /// The places (x, y) at which a board keeps values of F: its neighbours are those that follow it by number, modulo n.
+    fn places(self, points: &[u8], board: usize) -> Vec<(u8, u8)> {
+        let point = |t: usize| points[(board + t) % self.n];
+        let own = points[board];
         let row = (0..self.d + self.r).map(|t| (own, point(t)));
         let column = (1..self.d).map(|t| (point(t), own));
         row.chain(column).collect()
@@ -75,9 +75,9 @@ impl Sizes {
 }
 
 /// The matrix that makes a board's share of a stripe: a row for each byte kept, a column for each byte of the stripe.
-pub fn generator(sizes: Sizes, board: usize) -> Matrix {
+pub fn generator(sizes: Sizes, points: &[u8], board: usize) -> Matrix {
     let monomials = sizes.monomials();
-    let places = sizes.places(board);
+    let places = sizes.places(points, board);
     Matrix::new(places.len(), monomials.len(), |t, m| {
         let ((x, y), (i, j)) = (places[t], monomials[m]);
         FIELD.product(FIELD.power(x, i), FIELD.power(y, j))
@@ -107,24 +107,24 @@ pub fn share_by(sizes: Sizes, generator: &Matrix, file: &[u8]) -> Vec<u8> {
 }
 
 /// A board's share of a file.
-pub fn share(sizes: Sizes, board: usize, file: &[u8]) -> Vec<u8> {
-    share_by(sizes, &generator(sizes, board), file)
+pub fn share(sizes: Sizes, points: &[u8], board: usize, file: &[u8]) -> Vec<u8> {
+    share_by(sizes, &generator(sizes, points, board), file)
 }
 
 /// What boards keep of a stripe, as equations: the rows of their generators, one board after another.
-pub fn equations(sizes: Sizes, boards: &[usize]) -> Matrix {
+pub fn equations(sizes: Sizes, points: &[u8], boards: &[usize]) -> Matrix {
     let width = sizes.share_len();
-    let each: Vec<Matrix> = boards.iter().map(|&board| generator(sizes, board)).collect();
+    let each: Vec<Matrix> = boards.iter().map(|&board| generator(sizes, points, board)).collect();
     Matrix::new(boards.len() * width, sizes.stripe_len(), |e, m| each[e / width].at(e % width, m))
 }
 
 /// The file of `length` bytes that has these shares, one after another in the order of the boards; none where no file has them.
-pub fn file(sizes: Sizes, length: usize, boards: &[usize], shares: &[u8]) -> Option<Vec<u8>> {
-    files(sizes, length, boards, &[shares]).pop().expect("an answer for each list of shares")
+pub fn file(sizes: Sizes, points: &[u8], length: usize, boards: &[usize], shares: &[u8]) -> Option<Vec<u8>> {
+    files(sizes, points, length, boards, &[shares]).pop().expect("an answer for each list of shares")
 }
 
 /// The same for several lists of shares of the same boards.
-pub fn files(sizes: Sizes, length: usize, boards: &[usize], lists: &[&[u8]]) -> Vec<Option<Vec<u8>>> {
+pub fn files(sizes: Sizes, points: &[u8], length: usize, boards: &[usize], lists: &[&[u8]]) -> Vec<Option<Vec<u8>>> {
     let stripes = sizes.stripes(length);
     if stripes == 0 {
         return vec![Some(Vec::new()); lists.len()];
@@ -135,7 +135,7 @@ pub fn files(sizes: Sizes, length: usize, boards: &[usize], lists: &[&[u8]]) -> 
         let (list, s) = (lists[column / stripes], column % stripes);
         list[(e / width * stripes + s) * width + e % width]
     });
-    let Some(solved) = equations(sizes, boards).solve_each(&values) else {
+    let Some(solved) = equations(sizes, points, boards).solve_each(&values) else {
         panic!("{sizes:?}: the shares of boards {boards:?} do not settle a stripe")
     };
     let whole = |stripes: &[Option<Vec<u8>>]| {
@@ -157,20 +157,21 @@ fn factors(points: &[u8], targets: &[u8]) -> Matrix {
     }
 }
 
-fn points(boards: &[usize]) -> Vec<u8> {
-    boards.iter().map(|&board| board as u8).collect()
+/// The points of some boards.
+fn of(points: &[u8], boards: &[usize]) -> Vec<u8> {
+    boards.iter().map(|&board| points[board]).collect()
 }
 
 /// What `helper` sends to `receiver`, from any bytes in the place of its share.
-pub fn helper_packet(sizes: Sizes, helper: usize, receiver: usize, share: &[u8]) -> Vec<u8> {
+pub fn helper_packet(sizes: Sizes, points: &[u8], helper: usize, receiver: usize, share: &[u8]) -> Vec<u8> {
     let Sizes { d, r, .. } = sizes;
-    let kept = sizes.places(helper);
+    let kept = sizes.places(points, helper);
     let ys: Vec<u8> = kept[..d + r].iter().map(|&(_, y)| y).collect();
     // g's values: byte 0, then the last d − 1
     let of_g: Vec<usize> = (0..d).map(|t| if t == 0 { 0 } else { d + r + t - 1 }).collect();
     let xs: Vec<u8> = of_g.iter().map(|&place| kept[place].0).collect();
-    let by_f = factors(&ys, &[receiver as u8]);
-    let by_g = factors(&xs, &[receiver as u8]);
+    let by_f = factors(&ys, &[points[receiver]]);
+    let by_g = factors(&xs, &[points[receiver]]);
     // the first byte is F(x_helper, y_receiver), a value of the helper's f; the second is F(x_receiver, y_helper), one of its g
     let sums = Matrix::new(2, sizes.share_len(), |which, place| match which {
         0 if place < d + r => by_f.at(0, place),
@@ -188,13 +189,14 @@ fn of_pairs(packets: &[u8], helpers: usize, which: usize) -> Matrix {
 
 /// What a fresh board sends to `receiver`, from any bytes in the place of its helpers' packets: g's value at the receiver's point, g being
 /// settled by the first bytes at the helpers' points.
-pub fn exchange_packet(helpers: &[usize], packets: &[u8], receiver: usize) -> Vec<u8> {
-    joined(&factors(&points(helpers), &[receiver as u8]).times(&of_pairs(packets, helpers.len(), 0)))
+pub fn exchange_packet(points: &[u8], helpers: &[usize], packets: &[u8], receiver: usize) -> Vec<u8> {
+    joined(&factors(&of(points, helpers), &[points[receiver]]).times(&of_pairs(packets, helpers.len(), 0)))
 }
 
 /// What a fresh board keeps, from any bytes in the place of its helpers' and partners' packets.
 pub fn finished_share(
     sizes: Sizes,
+    points: &[u8],
     board: usize,
     helpers: &[usize],
     packets: &[u8],
@@ -205,29 +207,39 @@ pub fn finished_share(
     let firsts = of_pairs(packets, d, 0);
     let seconds = of_pairs(packets, d, 1);
     let stripes = firsts.columns();
-    let own = factors(&points(helpers), &[board as u8]).times(&firsts);
+    let own = factors(&of(points, helpers), &[points[board]]).times(&firsts);
     // f's values at the helpers' points, the partners', and its own
     let known = Matrix::new(d + r, stripes, |t, s| match t {
         t if t < d => seconds.at(t, s),
         t if t < d + r - 1 => partner_packets[(t - d) * stripes + s],
         _ => own.at(0, s),
     });
-    let at = points(&[helpers, partners, &[board]].concat());
-    let kept = sizes.places(board);
+    let at = of(points, &[helpers, partners, &[board]].concat());
+    let kept = sizes.places(points, board);
     let ys: Vec<u8> = kept[..d + r].iter().map(|&(_, y)| y).collect();
     let xs: Vec<u8> = kept[d + r..].iter().map(|&(x, _)| x).collect();
     let by_f = factors(&at, &ys).times(&known);
-    let by_g = factors(&points(helpers), &xs).times(&firsts);
+    let by_g = factors(&of(points, helpers), &xs).times(&firsts);
     let share =
         Matrix::new(sizes.share_len(), stripes, |t, s| if t < d + r { by_f.at(t, s) } else { by_g.at(t - d - r, s) });
     joined(&share)
 }
 
-/// A share as text: "Seven lines, each ended by byte 0A".
-pub fn share_text(sizes: Sizes, length: usize, node: usize, share: &[u8]) -> Vec<u8> {
-    let data: String = share.iter().map(|byte| format!("{byte:02x}")).collect();
+/// "lower-case hexadecimal pairs".
+pub fn pairs(bytes: &[u8]) -> String {
+    bytes.iter().map(|byte| format!("{byte:02x}")).collect()
+}
+
+/// A share as text: "Seven lines, each ended by byte 0A", and "the line points=, n lower-case pairs, after length= just where the points are not 0 to
+/// n − 1 in order".
+pub fn share_text(sizes: Sizes, points: &[u8], length: usize, node: usize, share: &[u8]) -> Vec<u8> {
     let Sizes { n, k, d, r } = sizes;
     let numbers = [("n", n), ("k", k), ("d", d), ("r", r), ("node", node), ("length", length)];
-    let lines: String = numbers.iter().map(|(name, number)| format!("{name}={number}\n")).collect();
-    format!("{lines}data={data}\n").into_bytes()
+    let mut lines: Vec<String> = numbers.iter().map(|(name, number)| format!("{name}={number}\n")).collect();
+    let in_order = points[..n].iter().map(|&point| usize::from(point)).eq(0..n);
+    if !in_order {
+        lines.push(format!("points={}\n", pairs(&points[..n])));
+    }
+    lines.push(format!("data={}\n", pairs(share)));
+    lines.concat().into_bytes()
 }

@@ -1,19 +1,26 @@
 //! The figures of document 01, as literal values: all that are not marked M, through the archive and by the coder itself. Those marked M are
-//! proved; they are run here too, since they also try the coder.
+//! proved; they are run here too, since they also try the coder. Then the same for robots of the first series, whose figures were worked out by
+//! hand, and which points are refused (request A.9 of document 02).
 
 use crate::call::refusal::{COUNT, LONG, SIZE};
 use crate::call::{Call, Lent, Outcome};
 use crate::code::Sizes;
 use crate::field::FIELD;
+use crate::points::{filled_up, first_series, standard};
 use crate::trial::{Place, Trial};
 use crate::{board, store};
 
 pub fn run(trial: &mut Trial) {
     field(trial);
-    shares(trial);
-    rebuilding(trial);
+    small(trial);
+    for series in [present(), first()] {
+        shares(trial, &series);
+        rebuilding(trial, &series);
+    }
     text(trial);
     legal_sizes(trial);
+    refused_points(trial);
+    eight_words(trial);
     stripes(trial);
     store_lengths(trial);
 }
@@ -70,77 +77,152 @@ const FIVE: Sizes = Sizes { n: 5, k: 2, d: 3, r: 2 };
 /// Eleven bytes 00, then 01: F = X²Y.
 const X2Y: [u8; 12] = [0, 0, 0, 0, 0, 0, 0, 0, 0, 0, 0, 1];
 
-/// What the five boards hold of it, M7 to M11.
-const X2Y_SHARES: [[u8; 7]; 5] = [
-    [0x00, 0x00, 0x00, 0x00, 0x00, 0x00, 0x00],
-    [0x01, 0x02, 0x03, 0x04, 0x00, 0x04, 0x05],
-    [0x08, 0x0C, 0x10, 0x00, 0x04, 0x0A, 0x20],
-    [0x0F, 0x14, 0x00, 0x05, 0x0A, 0x30, 0x00],
-    [0x40, 0x00, 0x10, 0x20, 0x30, 0x00, 0x04],
-];
+/// What the five boards of a robot hold of it, and what they send boards 0 and 1.
+struct Series {
+    name: &'static str,
+    points: Vec<u8>,
+    shares: [[u8; 7]; 5],
+    /// of helpers 2, 3, 4 for board 0
+    packets_0: [[u8; 2]; 3],
+    /// of the same for board 1
+    packets_1: [[u8; 2]; 3],
+    /// what board 0 sends board 1
+    exchanged: u8,
+}
 
-/// M5 to M11, and the file back from every two boards.
-fn shares(trial: &mut Trial) {
-    writes(trial, "M5", Call::Share { sizes: SMALL, node: 0, file: vec![5, 3] }, &[5, 6]);
-    writes(trial, "M6", Call::Share { sizes: SMALL, node: 1, file: vec![5, 3] }, &[6, 5]);
-    for (node, share) in X2Y_SHARES.iter().enumerate() {
-        writes(trial, &format!("M{}", node + 7), Call::Share { sizes: FIVE, node, file: X2Y.to_vec() }, share);
+/// M7 to M12.
+fn present() -> Series {
+    Series {
+        name: "M7 to M12",
+        points: standard(5),
+        shares: [
+            [0x00, 0x00, 0x00, 0x00, 0x00, 0x00, 0x00],
+            [0x01, 0x02, 0x03, 0x04, 0x00, 0x04, 0x05],
+            [0x08, 0x0C, 0x10, 0x00, 0x04, 0x0A, 0x20],
+            [0x0F, 0x14, 0x00, 0x05, 0x0A, 0x30, 0x00],
+            [0x40, 0x00, 0x10, 0x20, 0x30, 0x00, 0x04],
+        ],
+        packets_0: [[0x00, 0x00], [0x00, 0x00], [0x00, 0x00]],
+        packets_1: [[0x04, 0x02], [0x05, 0x03], [0x10, 0x04]],
+        exchanged: 0x00,
     }
-    for (a, first) in X2Y_SHARES.iter().enumerate() {
-        for (b, second) in X2Y_SHARES.iter().enumerate().filter(|&(b, _)| b != a) {
+}
+
+/// The same with points 01 to 05.
+fn first() -> Series {
+    Series {
+        name: "the first series",
+        points: first_series(5),
+        shares: [
+            [0x01, 0x02, 0x03, 0x04, 0x05, 0x04, 0x05],
+            [0x08, 0x0C, 0x10, 0x14, 0x04, 0x0A, 0x20],
+            [0x0F, 0x14, 0x11, 0x05, 0x0A, 0x30, 0x33],
+            [0x40, 0x50, 0x10, 0x20, 0x30, 0x44, 0x04],
+            [0x55, 0x11, 0x22, 0x33, 0x44, 0x05, 0x14],
+        ],
+        packets_0: [[0x05, 0x03], [0x10, 0x04], [0x11, 0x05]],
+        packets_1: [[0x0A, 0x0C], [0x20, 0x10], [0x22, 0x14]],
+        exchanged: 0x04,
+    }
+}
+
+/// M5 and M6, F = 05 + 03 Y, and the same with points 01 and 02.
+fn small(trial: &mut Trial) {
+    let share = |points: Vec<u8>, node: usize| Call::Share { sizes: SMALL, points, node, file: vec![5, 3] };
+    writes(trial, "M5", share(standard(2), 0), &[5, 6]);
+    writes(trial, "M6", share(standard(2), 1), &[6, 5]);
+    writes(trial, "M5 in the first series", share(first_series(2), 0), &[6, 3]);
+    writes(trial, "M6 in the first series", share(first_series(2), 1), &[3, 6]);
+}
+
+/// M7 to M11, and the file back from every two boards.
+fn shares(trial: &mut Trial, series: &Series) {
+    let Series { name, points, shares, .. } = series;
+    for (node, share) in shares.iter().enumerate() {
+        let call = Call::Share { sizes: FIVE, points: points.clone(), node, file: X2Y.to_vec() };
+        writes(trial, &format!("{name}: board {node}"), call, share);
+    }
+    for (a, first) in shares.iter().enumerate() {
+        for (b, second) in shares.iter().enumerate().filter(|&(b, _)| b != a) {
             let shares = [*first, *second].concat();
-            let call = Call::File { sizes: FIVE, length: 12, boards: vec![a, b], shares };
-            writes(trial, "the file of M7 to M11 from two boards", call, &X2Y);
+            let call = Call::File { sizes: FIVE, points: points.clone(), length: 12, boards: vec![a, b], shares };
+            writes(trial, &format!("{name}: the file from two boards"), call, &X2Y);
         }
     }
 }
 
 /// M12, at board level and in the store.
-fn rebuilding(trial: &mut Trial) {
+fn rebuilding(trial: &mut Trial, series: &Series) {
+    let Series { name, points, shares, packets_0, packets_1, exchanged } = series;
     let helpers = vec![2, 3, 4];
-    let packets = [[0x04, 0x02], [0x05, 0x03], [0x10, 0x04]];
-    for (&helper, packet) in helpers.iter().zip(&packets) {
-        let share = X2Y_SHARES[helper].to_vec();
-        let call = Call::Helper { sizes: FIVE, length: 12, helper, receiver: 1, share };
-        writes(trial, "M12: a helper packet for board 1", call, packet);
+    for (receiver, packets) in [packets_0, packets_1].into_iter().enumerate() {
+        for (&helper, packet) in helpers.iter().zip(packets) {
+            let share = shares[helper].to_vec();
+            let call = Call::Helper { sizes: FIVE, points: points.clone(), length: 12, helper, receiver, share };
+            writes(trial, &format!("{name}: a helper packet"), call, packet);
+        }
     }
-    // for board 0 all helpers send 00 00
     let call = Call::Exchange {
         sizes: FIVE,
+        points: points.clone(),
         length: 12,
         board: 0,
         helpers: helpers.clone(),
-        packets: vec![0; 6],
+        packets: packets_0.concat(),
         receiver: 1,
     };
-    writes(trial, "M12: the exchange packet of board 0", call, &[0]);
+    writes(trial, &format!("{name}: the exchange packet of board 0"), call, &[*exchanged]);
     let call = Call::Finished {
         sizes: FIVE,
+        points: points.clone(),
         length: 12,
         board: 1,
         helpers,
-        packets: packets.concat(),
+        packets: packets_1.concat(),
         partners: vec![0],
-        partner_packets: vec![0],
+        partner_packets: vec![*exchanged],
     };
-    writes(trial, "M12: board 1 finished", call, &X2Y_SHARES[1]);
-    moved(trial);
+    writes(trial, &format!("{name}: board 1 finished"), call, &shares[1]);
+    moved(trial, series);
+}
+
+/// The record of FIVE's store of one stripe with X2Y in it.
+fn record_of(points: &[u8], marks: u64) -> Vec<u64> {
+    [&[5, 2, 3, 2, 1, 1, 12, marks][..], &words_of_five(points)].concat()
+}
+
+/// Five points in four words, "the lowest byte first".
+fn words_of_five(points: &[u8]) -> [u64; 4] {
+    let [a, b, c, d, e] = [0, 1, 2, 3, 4].map(|board: usize| u64::from(points[board]));
+    [e << 32 | d << 24 | c << 16 | b << 8 | a, 0, 0, 0]
 }
 
 /// M12: boards 0 and 1 fresh, helpers 2, 3, 4 for both: 14 bytes moved.
-fn moved(trial: &mut Trial) {
-    let mut area = X2Y_SHARES.concat();
+fn moved(trial: &mut Trial, series: &Series) {
+    let Series { name, points, shares, .. } = series;
+    let mut area = shares.concat();
     area[..14].fill(0xEE);
-    let lent = Lent { record: vec![5, 2, 3, 2, 1, 1, 12, 0b11100], area, out: Vec::new() };
+    let lent = Lent { record: record_of(points, 0b11100), area, out: Vec::new() };
     let call = Call::Repair { fresh: vec![0, 1], helpers: vec![2, 3, 4, 2, 3, 4] };
-    let after = Lent { record: vec![5, 2, 3, 2, 1, 1, 12, 0b11111], area: X2Y_SHARES.concat(), out: Vec::new() };
-    figure(trial, "M12: moved", call, lent, Outcome::accepted(14, after));
+    let after = Lent { record: record_of(points, 0b11111), area: shares.concat(), out: Vec::new() };
+    figure(trial, &format!("{name}: moved"), call, lent, Outcome::accepted(14, after));
 }
 
-/// The whole text that document 01 prints.
+/// The whole text that document 01 prints; and texts whose points are not 0 to n − 1 in order.
 fn text(trial: &mut Trial) {
-    let call = Call::Text { sizes: SMALL, length: 2, node: 0, share: vec![5, 6] };
-    writes(trial, "share text", call, b"n=2\nk=1\nd=1\nr=1\nnode=0\nlength=2\ndata=0506\n");
+    let call = |points: Vec<u8>| Call::Text { sizes: SMALL, points, length: 2, node: 0, share: vec![5, 6] };
+    let begin = "n=2\nk=1\nd=1\nr=1\nnode=0\nlength=2\n";
+    let due = |line: &str| format!("{begin}{line}data=0506\n").into_bytes();
+    writes(trial, "share text", call(filled_up([0, 1])), &due(""));
+    let others = [([1, 2], "0102"), ([1, 0], "0100"), ([0, 2], "0002"), ([0xFA, 0xCE], "face")];
+    for (points, line) in others {
+        writes(trial, "share text with points", call(filled_up(points)), &due(&format!("points={line}\n")));
+    }
+    let sizes = Sizes { n: 32, k: 1, d: 1, r: 1 };
+    let call = Call::Text { sizes, points: first_series(32), length: 0, node: 31, share: vec![] };
+    let text = "n=32\nk=1\nd=1\nr=1\nnode=31\nlength=0\n\
+                points=0102030405060708090a0b0c0d0e0f101112131415161718191a1b1c1d1e1f20\ndata=\n";
+    writes(trial, "share text with 32 points", call, text.as_bytes());
 }
 
 /// "n = 32, d + r = n, k = d are legal; n = 33, d + r = n + 1, k = d + 1, r = 0 give SIZE."
@@ -150,31 +232,89 @@ fn legal_sizes(trial: &mut Trial) {
         let sizes = Sizes { n, k, d, r };
         set_up(trial, "legal sizes", sizes, 1);
         // byte 0 of the file is the coefficient of 1: each symbol of the stripe is this byte
-        let call = Call::Share { sizes, node: n - 1, file: vec![0x2A] };
-        writes(trial, "legal sizes", call, &vec![0x2A; 2 * d + r - 1]);
+        for points in [standard(n), first_series(n)] {
+            let call = Call::Share { sizes, points, node: n - 1, file: vec![0x2A] };
+            writes(trial, "legal sizes", call, &vec![0x2A; 2 * d + r - 1]);
+        }
     }
     for (n, k, d, r) in [(33, 2, 3, 2), (5, 2, 4, 2), (5, 2, 3, 3), (5, 4, 3, 2), (5, 2, 3, 0)] {
         let sizes = Sizes { n, k, d, r };
-        let lent = Lent { record: vec![9; 8], ..Lent::default() };
-        refused(trial, "sizes not legal", Call::SetUp { sizes, capacity: 1 }, lent, SIZE);
-        let call = Call::Share { sizes, node: 0, file: vec![0x2A] };
+        let points = standard(n.min(32));
+        let lent = Lent { record: vec![9; 12], ..Lent::default() };
+        refused(trial, "sizes not legal", Call::SetUp { sizes, points: points.clone(), capacity: 1 }, lent, SIZE);
+        let call = Call::Share { sizes, points, node: 0, file: vec![0x2A] };
         refused(trial, "sizes not legal", call, Lent::output(vec![0xEE; 100]), SIZE);
     }
+}
+
+/// "A repeated point, or one other than 00 kept for a number from n up, counts as SIZE." Only the first n must differ; 00 may be a board's point.
+fn refused_points(trial: &mut Trial) {
+    for points in [[0, 1, 2, 3, 4], [4, 3, 2, 1, 0], [9, 0, 0xFF, 0x80, 1]] {
+        let points = filled_up(points);
+        let (mut lent, mut after) = (Lent::default(), Lent::default());
+        lent.record = vec![u64::MAX; 12];
+        after.record = [&[5, 2, 3, 2, 1, 0, 0, 0][..], &words_of_five(&points)].concat();
+        let call = Call::SetUp { sizes: FIVE, points, capacity: 1 };
+        figure(trial, "points that are taken", call, lent, Outcome::accepted(0, after));
+    }
+    let mut wrong: Vec<Vec<u8>> = vec![
+        filled_up([]),
+        filled_up([1, 2, 3, 4, 1]),
+        filled_up([0, 1, 2, 3, 3]),
+        filled_up([0, 1, 2, 3, 4, 5]),
+        filled_up([0, 1, 2, 3, 4, 0, 1]),
+        standard(32),
+        first_series(32),
+    ];
+    let mut last = standard(5);
+    last[31] = 1;
+    wrong.push(last);
+    // of another length than 32
+    wrong.extend([0, 5, 31, 33].map(|length| {
+        let mut points = standard(5);
+        points.resize(length, 0);
+        points
+    }));
+    for points in wrong {
+        let lent = Lent { record: vec![9; 12], ..Lent::default() };
+        let call = Call::SetUp { sizes: FIVE, points: points.clone(), capacity: 1 };
+        refused(trial, "points that are refused", call, lent, SIZE);
+        // before all else: the file is too long, the board is none of the five, the output is too short
+        let call = Call::Share { sizes: FIVE, points, node: 5, file: vec![0x2A; 4096 * 12 + 1] };
+        refused(trial, "points that are refused", call, Lent::output(vec![0xEE]), SIZE);
+    }
+}
+
+/// "A record kept as eight words from before is SIZE and goes on with the words of the standard points behind it."
+fn eight_words(trial: &mut Trial) {
+    let shares = present().shares;
+    let eight = Lent { record: vec![5, 2, 3, 2, 1, 1, 12, 0b11111], area: shares.concat(), out: vec![0xEE; 12] };
+    refused(trial, "a record of eight words", Call::Read { boards: vec![4, 1] }, eight.clone(), SIZE);
+    let lent = Lent { record: [&eight.record[..], &[0x04_0302_0100, 0, 0, 0]].concat(), ..eight };
+    let after = Lent { out: X2Y.to_vec(), ..lent.clone() };
+    figure(trial, "and four more", Call::Read { boards: vec![4, 1] }, lent, Outcome::accepted(0, after));
 }
 
 /// Sets up a store, and gives what it is then.
 fn set_up(trial: &mut Trial, name: &str, sizes: Sizes, capacity: usize) -> Lent {
     let area = vec![0xEE; sizes.n * capacity * (2 * sizes.d + sizes.r - 1)];
-    let lent = Lent { record: vec![u64::MAX; 8], area, out: Vec::new() };
+    let lent = Lent { record: vec![u64::MAX; 12], area, out: Vec::new() };
     let Sizes { n, k, d, r } = sizes;
-    let record = vec![n as u64, k as u64, d as u64, r as u64, capacity as u64, 0, 0, 0];
-    let after = Lent { record, ..lent.clone() };
-    figure(trial, name, Call::SetUp { sizes, capacity }, lent, Outcome::accepted(0, after))
+    let numbers = [n as u64, k as u64, d as u64, r as u64, capacity as u64, 0, 0, 0];
+    // the points 00 to 1F, those from n up left out
+    let all = [0x0706_0504_0302_0100, 0x0F0E_0D0C_0B0A_0908, 0x1716_1514_1312_1110, 0x1F1E_1D1C_1B1A_1918u64];
+    let points = [0, 1, 2, 3].map(|q: usize| match n.saturating_sub(8 * q) {
+        0 => 0,
+        boards if boards < 8 => all[q] & ((1 << (8 * boards)) - 1),
+        _ => all[q],
+    });
+    let after = Lent { record: [numbers.as_slice(), &points].concat(), ..lent.clone() };
+    figure(trial, name, Call::SetUp { sizes, points: standard(n), capacity }, lent, Outcome::accepted(0, after))
 }
 
 /// "L = B is one stripe, B + 1 two", with α = 7 and B = 12; L = 0 is none; 4,096 × B is the most.
 fn stripes(trial: &mut Trial) {
-    let zeros = |length: usize| Call::Share { sizes: FIVE, node: 3, file: vec![0; length] };
+    let zeros = |length: usize| Call::Share { sizes: FIVE, points: standard(5), node: 3, file: vec![0; length] };
     for (length, written) in [(0, 0), (1, 7), (11, 7), (12, 7), (13, 14), (24, 14), (25, 21), (49_152, 28_672)] {
         writes(trial, &format!("stripes of {length} bytes"), zeros(length), &vec![0; written]);
     }
@@ -185,7 +325,7 @@ fn stripes(trial: &mut Trial) {
 fn store_lengths(trial: &mut Trial) {
     let lent = set_up(trial, "a store of two stripes", FIVE, 2);
     refused(trial, "C × B and one more", Call::Write { file: vec![0; 25] }, lent.clone(), LONG);
-    let record = vec![5, 2, 3, 2, 2, 1, 24, 0b11111];
+    let record = vec![5, 2, 3, 2, 2, 1, 24, 0b11111, 0x04_0302_0100, 0, 0, 0];
     let after = Lent { record, area: vec![0; 70], out: Vec::new() };
     let written = figure(trial, "C × B", Call::Write { file: vec![0; 24] }, lent, Outcome::accepted(0, after));
     let lent = Lent { out: vec![0xEE; 25], ..written };
@@ -194,7 +334,8 @@ fn store_lengths(trial: &mut Trial) {
     figure(trial, "a read of k boards", Call::Read { boards: vec![4, 0] }, lent, Outcome::accepted(0, after));
     set_up(trial, "the greatest capacity", SMALL, 4096);
     for capacity in [0, 4097] {
-        let lent = Lent { record: vec![9; 8], ..Lent::default() };
-        refused(trial, "a capacity out of range", Call::SetUp { sizes: FIVE, capacity }, lent, SIZE);
+        let lent = Lent { record: vec![9; 12], ..Lent::default() };
+        let call = Call::SetUp { sizes: FIVE, points: standard(5), capacity };
+        refused(trial, "a capacity out of range", call, lent, SIZE);
     }
 }

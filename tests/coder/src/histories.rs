@@ -7,6 +7,7 @@ use crate::code::{self, Sizes};
 use crate::draw;
 use crate::ledger::Book;
 use crate::matrix::Matrix;
+use crate::points;
 use crate::random::Random;
 use crate::spoil::spoil;
 use crate::store;
@@ -41,15 +42,25 @@ impl History {
         let right = sizes.n * capacity * sizes.share_len();
         let area_len = if random.once_in(20) { random.pick(&[0, right - 1, right + 1]) } else { right };
         let area = random.bytes(area_len);
-        let record = (0..8).map(|_| random.next()).collect();
-        let lent = Lent { record, area, out: Vec::new() };
-        let call = Call::SetUp { sizes, capacity };
-        let expected = store::expect(&call, &lent);
-        if !trial.check(&call, &lent, &expected) {
-            return None;
+        let record = (0..store::word::COUNT).map(|_| random.next()).collect();
+        let mut lent = Lent { record, area, out: Vec::new() };
+        let points = points::draw(random, sizes.n);
+        // sometimes it is first tried with other points, mostly such as are refused
+        let mut tries = vec![points.clone()];
+        if random.once_in(2) {
+            points::spoil(random, sizes.n, &mut tries[0]);
+            tries.push(points.clone());
         }
-        let generators = (0..sizes.n).map(|board| code::generator(sizes, board)).collect();
-        Some(History { book: Book::new(sizes, capacity, area_len), lent: expected.lent, generators })
+        for points in tries {
+            let call = Call::SetUp { sizes, points, capacity };
+            let expected = store::expect(&call, &lent);
+            if !trial.check(&call, &lent, &expected) {
+                return None;
+            }
+            lent = expected.lent;
+        }
+        let generators = (0..sizes.n).map(|board| code::generator(sizes, &points, board)).collect();
+        Some(History { book: Book::new(sizes, points, capacity, area_len), lent, generators })
     }
 
     fn board_len(&self) -> usize {
@@ -90,7 +101,7 @@ impl History {
         let mut after = self.lent.clone();
         after.out = reply.out;
         let length = self.book.file.as_ref().map(Vec::len);
-        after.record = store::words(self.book.sizes, self.book.capacity, length, &self.in_service());
+        after.record = store::words(self.book.sizes, &self.book.points, self.book.capacity, length, &self.in_service());
         self.put_shares(&mut after.area, &reply.made);
         let expected = Outcome { answer: reply.answer, lent: after };
         let alike = trial.check(call, &self.lent, &expected);

@@ -1,4 +1,4 @@
-//! The ledger of document 01: a plain book kept beside the store. It is fed the sizes, the capacity, the area's length and each call's
+//! The ledger of document 01: a plain book kept beside the store. It is fed the sizes, the points, the capacity, the area's length and each call's
 //! arguments other than record and area, and never an answer. It keeps the last file accepted and the boards in service.
 
 use crate::call::refusal::{AREA, COUNT, DOWN, EMPTY, LONG, NODE, REPEAT, SHORT};
@@ -8,6 +8,7 @@ use std::collections::BTreeSet;
 
 pub struct Book {
     pub sizes: Sizes,
+    pub points: Vec<u8>,
     pub capacity: usize,
     pub area_len: usize,
     pub file: Option<Vec<u8>>,
@@ -22,8 +23,8 @@ pub struct Reply {
 }
 
 impl Book {
-    pub fn new(sizes: Sizes, capacity: usize, area_len: usize) -> Book {
-        Book { sizes, capacity, area_len, file: None, in_service: BTreeSet::new() }
+    pub fn new(sizes: Sizes, points: Vec<u8>, capacity: usize, area_len: usize) -> Book {
+        Book { sizes, points, capacity, area_len, file: None, in_service: BTreeSet::new() }
     }
 
     /// The number of the first line that holds for a call, "1, 2, 3, 8, 4, 5, 6, 9, 7, 10"; 1 and 10 never hold in it.

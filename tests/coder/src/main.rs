@@ -1,20 +1,24 @@
 //! The unrelated coder: holds the archive to a coder that shares no method with it, and reports each mismatch with what repeats it.
 //!
 //!     coder [--seed N] [--calls N] [--only CASE] [--wrong answer|eleven|byte|word] [--trace] [--verbose]
+//!     coder --multiply
 //!     coder --products
+//!     coder --printer share|points
 //!     coder --sizes N
 //!
-//! First the figures of document 01 are run and products of bytes tried, then random cases until so many calls are made: single calls at board
-//! level, single calls of the store over made-up records and areas, long histories against a ledger, second files that k − 1 boards do not tell
-//! from the first (request A.13 of document 02), and shares with one byte altered where least shows it (request A.7). Each case draws from its
-//! own seed, made of the run's seed and the case's number: `--only` repeats one case.
+//! First the figures of document 01 are run, in a run of 20,000 calls or more all products of two bytes are tried, and then random cases until so
+//! many calls are made: single calls at board level, single calls of the store over made-up records and areas, long histories against a ledger,
+//! second files that k − 1 boards do not tell from the first (request A.13 of document 02), and shares with one byte altered where least shows it
+//! (request A.7); all of them at points 0 to n − 1, i + 1 and others (request A.9). Each case draws from its own seed, made of the run's seed and
+//! the case's number: `--only` repeats one case.
 //! `--wrong` alters what the archive answers to one call, to show that this is reported. `--trace` prints each call before it is made,
-//! `--verbose` how often each call gave each refusal, and how often an altered byte was accepted and refused. `--products` makes no call: it writes
-//! all products and inverses of the coder's own field. `--sizes` makes none either: it writes a line for each legal combination of sizes with at most N
-//! boards (request A.12).
+//! `--verbose` how often each call gave each refusal, with which points, and how often an altered byte was accepted and refused. `--multiply` tries
+//! all products and quotients through the archive and nothing else. `--products`, `--printer` and `--sizes` make no call: the first writes all products
+//! and inverses of the coder's own field, the second reads standard input and writes what the share printer or the points printer must write for it,
+//! the third writes a line for each legal combination of sizes with at most N boards (request A.12).
 //!
 //! The last line counts calls and mismatches. The exit code is 1 where there is a mismatch, or where in a run of 20,000 calls or more some
-//! refusal that a call can give was never met, or DISAGREE for a kind of altered byte.
+//! refusal that a call can give was never met, a kind of points, or DISAGREE for a kind of altered byte.
 
 mod altered;
 mod archive;
@@ -28,6 +32,8 @@ mod figures;
 mod histories;
 mod ledger;
 mod matrix;
+mod points;
+mod printer;
 mod products;
 mod random;
 mod size_list;
@@ -38,8 +44,9 @@ mod store_draw;
 mod tight;
 mod trial;
 
+use printer::Printer;
 use random::Random;
-use std::io::Write;
+use std::io::{Read, Write};
 use std::process::ExitCode;
 use std::sync::atomic::{AtomicU64, Ordering};
 use trial::{Place, Trial, Wrong, WrongKind};
@@ -54,13 +61,25 @@ struct Options {
     wrong: Option<WrongKind>,
     trace: bool,
     verbose: bool,
+    multiply: bool,
     products: bool,
+    printer: Option<Printer>,
     sizes: Option<u64>,
 }
 
 fn options() -> Result<Options, String> {
-    let mut options =
-        Options { seed: 1, calls: 300_000, only: None, wrong: None, trace: false, verbose: false, products: false, sizes: None };
+    let mut options = Options {
+        seed: 1,
+        calls: 300_000,
+        only: None,
+        wrong: None,
+        trace: false,
+        verbose: false,
+        multiply: false,
+        products: false,
+        printer: None,
+        sizes: None,
+    };
     let mut words = std::env::args().skip(1);
     while let Some(word) = words.next() {
         let mut number = || {
@@ -73,7 +92,9 @@ fn options() -> Result<Options, String> {
             "--only" => options.only = Some(number()?),
             "--trace" => options.trace = true,
             "--verbose" => options.verbose = true,
+            "--multiply" => options.multiply = true,
             "--products" => options.products = true,
+            "--printer" => options.printer = Some(printer_named(words.next())?),
             "--sizes" => options.sizes = Some(number()?),
             "--wrong" => options.wrong = Some(wrong_kind(words.next())?),
             _ => return Err(format!("{word}: not an option")),
@@ -89,6 +110,31 @@ fn wrong_kind(word: Option<String>) -> Result<WrongKind, String> {
         Some("byte") => Ok(WrongKind::Byte),
         Some("word") => Ok(WrongKind::Word),
         _ => Err("--wrong wants answer, eleven, byte or word".to_string()),
+    }
+}
+
+fn printer_named(word: Option<String>) -> Result<Printer, String> {
+    match word.as_deref() {
+        Some("share") => Ok(Printer::Share),
+        Some("points") => Ok(Printer::Points),
+        _ => Err("--printer wants share or points".to_string()),
+    }
+}
+
+/// What a printer must write for standard input; where a read fails, it is refused as a malformed line is.
+fn print(printer: Printer) -> Vec<u8> {
+    let mut input = Vec::new();
+    match std::io::stdin().read_to_end(&mut input) {
+        Ok(_) => printer::printed(printer, &input),
+        Err(_) => printer::refused(call::refusal::SIZE),
+    }
+}
+
+/// Writes bytes to standard output.
+fn write(bytes: &[u8]) -> ExitCode {
+    match std::io::stdout().write_all(bytes) {
+        Ok(()) => ExitCode::SUCCESS,
+        Err(_) => ExitCode::FAILURE,
     }
 }
 
@@ -133,14 +179,6 @@ fn run_case(trial: &mut Trial, case: u64) {
     }
 }
 
-/// Writes bytes to standard output.
-fn write(bytes: &[u8]) -> ExitCode {
-    match std::io::stdout().write_all(bytes) {
-        Ok(()) => ExitCode::SUCCESS,
-        Err(_) => ExitCode::FAILURE,
-    }
-}
-
 fn main() -> ExitCode {
     let options = match options() {
         Ok(options) => options,
@@ -151,6 +189,9 @@ fn main() -> ExitCode {
     };
     if options.products {
         return write(&products::rows());
+    }
+    if let Some(printer) = options.printer {
+        return write(&print(printer));
     }
     if let Some(most) = options.sizes {
         return write(size_list::lines(most as usize).as_bytes());
@@ -163,9 +204,13 @@ fn main() -> ExitCode {
     trial.trace = options.trace;
     if let Some(case) = options.only {
         run_case(&mut trial, case);
+    } else if options.multiply {
+        products::run(&mut trial);
     } else {
         figures::run(&mut trial);
-        products::run(&mut trial);
+        if options.calls >= ENOUGH {
+            products::run(&mut trial);
+        }
         let mut case = 0;
         while trial.calls < options.calls {
             run_case(&mut trial, case);

@@ -1,11 +1,12 @@
-//! Spoils the arguments of a call: illegal sizes, lengths out of range, wrong lists and numbers, slices of another length, made-up records.
-//! What must be answered then is the model's to say.
+//! Spoils the arguments of a call: illegal sizes, wrong points, lengths out of range, wrong lists and numbers, slices of another length, made-up
+//! records. What must be answered then is the model's to say.
 
 use crate::call::{Call, Lent, Parts};
-use crate::code::Sizes;
+use crate::code::{Sizes, MAX_BOARDS};
 use crate::draw;
+use crate::points;
 use crate::random::Random;
-use crate::store::word;
+use crate::store::{self, word};
 
 /// Spoils a call and what it is lent in no, one or several places; `sizes` are those that the call was made for.
 pub fn spoil(random: &mut Random, sizes: Sizes, call: &mut Call, lent: &mut Lent) {
@@ -23,6 +24,7 @@ fn spoil_arguments(random: &mut Random, sizes: Sizes, mut parts: Parts) {
     // every kind that the call has is as likely as the others
     let kinds = [
         parts.sizes.is_some(),
+        parts.points.is_some(),
         parts.length.is_some(),
         parts.capacity.is_some(),
         !parts.numbers.is_empty(),
@@ -31,16 +33,24 @@ fn spoil_arguments(random: &mut Random, sizes: Sizes, mut parts: Parts) {
     ];
     let there: Vec<usize> = (0..kinds.len()).filter(|&kind| kinds[kind]).collect();
     match random.pick(&there) {
-        0 => *parts.sizes.expect("it is there") = spoilt_sizes(random, sizes),
-        1 => spoil_length(random, sizes, parts.length.expect("it is there")),
-        2 => *parts.capacity.expect("it is there") = random.pick(&[0, 1, 4096, 4097, 1 << 32, usize::MAX]),
-        3 => {
+        0 => {
+            let spoilt = spoilt_sizes(random, sizes);
+            *parts.sizes.expect("it is there") = spoilt;
+            // sometimes the points are those of the new sizes, so that more than SIZE is asked
+            if spoilt.legal() && random.once_in(2) {
+                *parts.points.expect("it is there") = points::draw(random, spoilt.n);
+            }
+        }
+        1 => spoil_points(random, sizes.n, parts.points.expect("it is there")),
+        2 => spoil_length(random, sizes, parts.length.expect("it is there")),
+        3 => *parts.capacity.expect("it is there") = random.pick(&[0, 1, 4096, 4097, 1 << 32, usize::MAX]),
+        4 => {
             let place = random.below(parts.numbers.len());
             let named = parts.named();
             let again = random.once_in(3);
             *parts.numbers[place] = if again { random.pick(&named) } else { draw::any_number(random, sizes.n) };
         }
-        4 if parts.lists.len() == 2 && random.once_in(3) => {
+        5 if parts.lists.len() == 2 && random.once_in(3) => {
             let [one, other] = &mut parts.lists[..] else { unreachable!("there are two") };
             if random.once_in(2) {
                 share_a_board(random, one, other);
@@ -48,7 +58,7 @@ fn spoil_arguments(random: &mut Random, sizes: Sizes, mut parts: Parts) {
                 share_a_board(random, other, one);
             }
         }
-        4 => {
+        5 => {
             let place = random.below(parts.lists.len());
             spoil_list(random, sizes.n, parts.lists[place]);
         }
@@ -56,6 +66,13 @@ fn spoil_arguments(random: &mut Random, sizes: Sizes, mut parts: Parts) {
             let place = random.below(parts.slices.len());
             spoil_slice(random, sizes, parts.slices[place]);
         }
+    }
+}
+
+/// Spoils points, where no other fault has made them of another length already.
+fn spoil_points(random: &mut Random, n: usize, points: &mut Vec<u8>) {
+    if points.len() == MAX_BOARDS {
+        points::spoil(random, n, points);
     }
 }
 
@@ -153,8 +170,9 @@ fn spoil_store(random: &mut Random, sizes: Sizes, lent: &mut Lent) {
         let length = random.pick(&[0, now.saturating_sub(1), now + 1, now + sizes.share_len(), 2 * now]);
         lent.area.resize(length, 0x5A);
     } else if random.once_in(5) {
-        let count = random.pick(&[0, 1, 7, 9, 16]);
-        lent.record.resize(count, 1);
+        // eight words are a record as calls without points handed it out
+        let count = random.pick(&[0, 1, 7, 8, 8, 9, 11, 13, 16]);
+        lent.record.resize(count, 0);
     } else if lent.record.len() == word::COUNT {
         spoil_words(random, sizes, &mut lent.record);
     }
@@ -165,7 +183,7 @@ fn spoil_words(random: &mut Random, sizes: Sizes, words: &mut [u64]) {
     let most = words[word::CAPACITY].wrapping_mul(sizes.stripe_len() as u64);
     let any = random.below(64);
     let bit = random.pick(&[sizes.n, 31, 32, 33, 63, any]);
-    match random.below(11) {
+    match random.below(16) {
         0 => words[word::LENGTH] = most.wrapping_add(1),
         1 => words[word::LENGTH] = random.pick(&[0, most, u64::MAX, 1 << 32]),
         2 => words[word::MARKS] |= 1 << bit,
@@ -184,11 +202,29 @@ fn spoil_words(random: &mut Random, sizes: Sizes, words: &mut [u64]) {
             let place = random.below(word::COUNT);
             words[place] = random.next();
         }
+        10..=13 => {
+            let mut points = points::draw(random, sizes.n);
+            if random.once_in(2) {
+                points = store::given(words).map_or(points, |(_, told)| told);
+            }
+            points::spoil(random, sizes.n, &mut points);
+            // a record has room for 32
+            points.resize(MAX_BOARDS, 0);
+            words[word::POINTS..].copy_from_slice(&store::words_of(&points));
+        }
+        14 => {
+            let place = random.within(word::POINTS, word::COUNT - 1);
+            words[place] = random.pick(&[0, 1, 1 << 63, u64::MAX, words[word::POINTS].swap_bytes()]);
+        }
         _ => {
             let made_up = spoilt_sizes(random, sizes);
             let numbers = [made_up.n, made_up.k, made_up.d, made_up.r];
             for (word, number) in words.iter_mut().zip(numbers) {
                 *word = number as u64;
+            }
+            if made_up.legal() && random.once_in(2) {
+                let points = points::draw(random, made_up.n);
+                words[word::POINTS..].copy_from_slice(&store::words_of(&points));
             }
         }
     }

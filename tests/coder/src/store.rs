@@ -4,6 +4,7 @@
 use crate::call::refusal::{AREA, COUNT, DISAGREE, DOWN, EMPTY, LONG, NODE, REPEAT, SHORT, SIZE};
 use crate::call::{Call, Lent, Outcome};
 use crate::code::{self, Sizes, MAX_STRIPES};
+use crate::points;
 
 /// The places of a record's words.
 pub mod word {
@@ -11,33 +12,60 @@ pub mod word {
     pub const WRITTEN: usize = 5;
     pub const LENGTH: usize = 6;
     pub const MARKS: usize = 7;
-    pub const COUNT: usize = 8;
+    /// the first of the four with the points
+    pub const POINTS: usize = 8;
+    pub const COUNT: usize = 12;
 }
 
 /// A record that calls return.
 struct Record {
     sizes: Sizes,
+    points: Vec<u8>,
     capacity: usize,
     written: bool,
     length: usize,
     marks: Vec<bool>,
 }
 
-/// The words of a record.
-pub fn words(sizes: Sizes, capacity: usize, file_len: Option<usize>, in_service: &[usize]) -> Vec<u64> {
+/// The words of a record; the points are 32.
+pub fn words(sizes: Sizes, points: &[u8], capacity: usize, file_len: Option<usize>, in_service: &[usize]) -> Vec<u64> {
     let marks = in_service.iter().fold(0, |marks, &board| marks | 1u64 << board);
     let numbers = [sizes.n, sizes.k, sizes.d, sizes.r, capacity].map(|number| number as u64);
-    [&numbers[..], &[u64::from(file_len.is_some()), file_len.unwrap_or(0) as u64, marks]].concat()
+    let file = [u64::from(file_len.is_some()), file_len.unwrap_or(0) as u64, marks];
+    [&numbers[..], &file, &words_of(points)].concat()
+}
+
+/// Four words of the points of eight boards each, "the lowest byte first": the first board's counts once, the next one's 256 times, and so on.
+pub fn words_of(points: &[u8]) -> Vec<u64> {
+    points.chunks(8).map(|eight| eight.iter().rev().fold(0, |word, &point| word * 256 + u64::from(point))).collect()
+}
+
+/// The points that words tell, all 32.
+fn points_in(words: &[u64]) -> Vec<u8> {
+    let eight = |&word: &u64| (0..8).map(move |place| (word / 256u64.pow(place) % 256) as u8);
+    words.iter().flat_map(eight).collect()
+}
+
+/// The sizes and the points of words that are a record but for the points; none where they are no record anyhow.
+pub fn given(words: &[u64]) -> Option<(Sizes, Vec<u8>)> {
+    let told = points_in(words.get(word::POINTS..word::COUNT)?);
+    let record = Record::read_but_points(words)?;
+    Some((record.sizes, told))
 }
 
 /// "a capacity C of 1 to 4,096 stripes".
-fn in_range(capacity: usize) -> bool {
+pub fn in_range(capacity: usize) -> bool {
     (1..=MAX_STRIPES).contains(&capacity)
 }
 
 impl Record {
     /// None where the words are no record that a call returns: SIZE.
     fn read(words: &[u64]) -> Option<Record> {
+        Record::read_but_points(words).filter(|record| points::legal(record.sizes, &record.points))
+    }
+
+    /// The same, but any points are taken.
+    fn read_but_points(words: &[u64]) -> Option<Record> {
         let number = |place: usize| usize::try_from(words[place]).ok();
         if words.len() != word::COUNT {
             return None;
@@ -54,7 +82,8 @@ impl Record {
             || length > capacity * sizes.stripe_len()
             || marks[sizes.n..].contains(&true)
             || (!written && (length > 0 || marks.contains(&true)));
-        (!no_record).then_some(Record { sizes, capacity, written, length, marks })
+        let points = points_in(&words[word::POINTS..]);
+        (!no_record).then_some(Record { sizes, points, capacity, written, length, marks })
     }
 
     /// Where the share of a board starts and ends in the area.
@@ -73,7 +102,7 @@ impl Record {
 
     fn words(&self) -> Vec<u64> {
         let in_service: Vec<usize> = (0..self.sizes.n).filter(|&board| self.marks[board]).collect();
-        words(self.sizes, self.capacity, self.written.then_some(self.length), &in_service)
+        words(self.sizes, &self.points, self.capacity, self.written.then_some(self.length), &in_service)
     }
 }
 
@@ -84,7 +113,7 @@ fn has_repeat(list: &[usize]) -> bool {
 /// What a call of the store answers and leaves.
 pub fn expect(call: &Call, lent: &Lent) -> Outcome {
     let result = match call {
-        Call::SetUp { sizes, capacity } => set_up(*sizes, *capacity, lent),
+        Call::SetUp { sizes, points, capacity } => set_up(*sizes, points, *capacity, lent),
         Call::Write { file } => write(file, lent),
         Call::Lose { board } => lose(*board, lent),
         Call::Repair { fresh, helpers } => repair(fresh, helpers, lent),
@@ -94,11 +123,12 @@ pub fn expect(call: &Call, lent: &Lent) -> Outcome {
     result.unwrap_or_else(|number| Outcome::refused(number, lent))
 }
 
-fn set_up(sizes: Sizes, capacity: usize, lent: &Lent) -> Result<Outcome, u8> {
-    if lent.record.len() != word::COUNT || !sizes.legal() || !in_range(capacity) {
+fn set_up(sizes: Sizes, points: &[u8], capacity: usize, lent: &Lent) -> Result<Outcome, u8> {
+    let legal = sizes.legal() && points::legal(sizes, points) && in_range(capacity);
+    if lent.record.len() != word::COUNT || !legal {
         return Err(SIZE);
     }
-    let record = words(sizes, capacity, None, &[]);
+    let record = words(sizes, points, capacity, None, &[]);
     Ok(Outcome::accepted(0, Lent { record, ..lent.clone() }))
 }
 
@@ -121,7 +151,7 @@ fn write(file: &[u8], lent: &Lent) -> Result<Outcome, u8> {
     let mut after = lent.clone();
     for board in 0..record.sizes.n {
         record.marks[board] = true;
-        after.area[record.share(board)].copy_from_slice(&code::share(record.sizes, board, file));
+        after.area[record.share(board)].copy_from_slice(&code::share(record.sizes, &record.points, board, file));
     }
     after.record = record.words();
     Ok(Outcome::accepted(0, after))
@@ -161,14 +191,15 @@ fn check_repair(record: &Record, fresh: &[usize], helpers: &[usize]) -> Result<(
 fn repair(fresh: &[usize], helpers: &[usize], lent: &Lent) -> Result<Outcome, u8> {
     let mut record = opened(lent)?;
     check_repair(&record, fresh, helpers)?;
-    let sizes = record.sizes;
+    let (sizes, points) = (record.sizes, record.points.clone());
     // the helper packets of each fresh board, one after another, all from the area before the call
     let lists: Vec<&[usize]> = helpers.chunks(sizes.d).collect();
     let packets: Vec<Vec<u8>> = fresh
         .iter()
         .zip(&lists)
         .map(|(&board, list)| {
-            let sent = |&helper: &usize| code::helper_packet(sizes, helper, board, &lent.area[record.share(helper)]);
+            let sent =
+                |&helper: &usize| code::helper_packet(sizes, &points, helper, board, &lent.area[record.share(helper)]);
             list.iter().flat_map(sent).collect()
         })
         .collect();
@@ -177,8 +208,9 @@ fn repair(fresh: &[usize], helpers: &[usize], lent: &Lent) -> Result<Outcome, u8
     for (a, &board) in fresh.iter().enumerate() {
         let others = || (0..fresh.len()).filter(|&b| b != a);
         let partners: Vec<usize> = others().map(|b| fresh[b]).collect();
-        let exchanged: Vec<u8> = others().flat_map(|b| code::exchange_packet(lists[b], &packets[b], board)).collect();
-        let share = code::finished_share(sizes, board, lists[a], &packets[a], &partners, &exchanged);
+        let exchanged: Vec<u8> =
+            others().flat_map(|b| code::exchange_packet(&points, lists[b], &packets[b], board)).collect();
+        let share = code::finished_share(sizes, &points, board, lists[a], &packets[a], &partners, &exchanged);
         after.area[record.share(board)].copy_from_slice(&share);
         moved += packets[a].len() + exchanged.len();
     }
@@ -210,7 +242,7 @@ fn read(boards: &[usize], lent: &Lent) -> Result<Outcome, u8> {
         return Err(SHORT);
     }
     let shares: Vec<u8> = boards.iter().flat_map(|&board| lent.area[record.share(board)].to_vec()).collect();
-    let file = code::file(record.sizes, record.length, boards, &shares).ok_or(DISAGREE)?;
+    let file = code::file(record.sizes, &record.points, record.length, boards, &shares).ok_or(DISAGREE)?;
     let mut after = lent.clone();
     after.out[..file.len()].copy_from_slice(&file);
     Ok(Outcome::accepted(0, after))

@@ -1,8 +1,9 @@
-//! Cases of single store calls: a record and an area are made up, true, damaged or arbitrary, and calls are made over them.
+//! Cases of single store calls: points, a record and an area are made up, true, damaged or arbitrary, and calls are made over them.
 
 use crate::call::Lent;
 use crate::code::{self, Sizes};
 use crate::draw;
+use crate::points;
 use crate::random::Random;
 use crate::spoil::spoil;
 use crate::store;
@@ -16,13 +17,14 @@ pub fn run(trial: &mut Trial, random: &mut Random, sizes: Sizes) {
     let capacity = draw::stripes(random, sizes);
     let length = draw::length(random, sizes, capacity);
     let file = random.bytes(length);
-    let area = area(random, sizes, capacity, &file);
+    let points = points::draw(random, sizes.n);
+    let area = area(random, sizes, &points, capacity, &file);
     for _ in 0..CALLS {
         // sometimes all boards are in service, else some
         let out_of_service = random.pick(&[0, 0, 1, sizes.r, sizes.n]);
         let in_service = random.choose((0..sizes.n).collect(), sizes.n - out_of_service.min(sizes.n));
-        let record = store::words(sizes, capacity, Some(length), &in_service);
-        let mut call = store_draw::call(random, sizes, capacity, &in_service);
+        let record = store::words(sizes, &points, capacity, Some(length), &in_service);
+        let mut call = store_draw::call(random, sizes, &points, capacity, &in_service);
         let out = store_draw::output(random, &call, length);
         let mut lent = Lent { record, area: area.clone(), out };
         spoil(random, sizes, &mut call, &mut lent);
@@ -31,11 +33,11 @@ pub fn run(trial: &mut Trial, random: &mut Random, sizes: Sizes) {
 }
 
 /// An area with a file's shares, true, damaged or arbitrary; its other bytes are arbitrary.
-fn area(random: &mut Random, sizes: Sizes, capacity: usize, file: &[u8]) -> Vec<u8> {
+fn area(random: &mut Random, sizes: Sizes, points: &[u8], capacity: usize, file: &[u8]) -> Vec<u8> {
     let board_len = capacity * sizes.share_len();
     let mut area = random.bytes(sizes.n * board_len);
     for board in 0..sizes.n {
-        let share = code::share(sizes, board, file);
+        let share = code::share(sizes, points, board, file);
         area[board * board_len..][..share.len()].copy_from_slice(&share);
     }
     let mut area = draw::damaged(random, area);

@@ -6,11 +6,11 @@ use crate::draw;
 use crate::random::Random;
 
 /// A single call of any kind; sometimes any boards are taken.
-pub fn call(random: &mut Random, sizes: Sizes, capacity: usize, in_service: &[usize]) -> Call {
+pub fn call(random: &mut Random, sizes: Sizes, points: &[u8], capacity: usize, in_service: &[usize]) -> Call {
     let all: Vec<usize> = (0..sizes.n).collect();
     let boards = if random.once_in(8) { &all } else { in_service };
     match random.below(8) {
-        0 => Call::SetUp { sizes, capacity },
+        0 => Call::SetUp { sizes, points: points.to_vec(), capacity },
         1 => lose(random, sizes),
         2 => write(random, sizes, capacity),
         3..=4 => repair(random, sizes, boards),

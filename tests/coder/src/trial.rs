@@ -3,6 +3,8 @@
 use crate::altered;
 use crate::archive::{self, Performed};
 use crate::call::{refusal, Call, Lent, Outcome, CALLS};
+use crate::code::Sizes;
+use crate::{points, store};
 use std::fmt;
 use std::time::{Duration, Instant};
 
@@ -77,6 +79,8 @@ pub struct Trial {
     pub mismatches: u64,
     /// how often each call was accepted (0) or refused with each number, alike by the archive and by the coder
     pub met: [[u64; refusal::COUNTED]; CALLS.len()],
+    /// how often each call was accepted, or refused for its points alone, with points of each kind
+    pub points: [[u64; points::KINDS.len()]; CALLS.len()],
     /// how many second files were found for k − 1 boards, and the calls made with them
     pub second_files: u64,
     pub second_calls: u64,
@@ -100,6 +104,7 @@ impl Trial {
             calls: 0,
             mismatches: 0,
             met: [[0; refusal::COUNTED]; CALLS.len()],
+            points: [[0; points::KINDS.len()]; CALLS.len()],
             second_files: 0,
             second_calls: 0,
             altered: Default::default(),
@@ -127,14 +132,25 @@ impl Trial {
         }
         match difference(&performed, expected) {
             None => {
-                let number = (expected.answer & 255) as usize;
-                self.met[call.place()][number] += 1;
+                let number = (expected.answer & 255) as u8;
+                self.met[call.place()][usize::from(number)] += 1;
+                self.count_points(call, lent, number);
                 true
             }
             Some(what) => {
                 self.report(&format!("{call} over {}: {what}", Short(lent)));
                 false
             }
+        }
+    }
+
+    /// Counts the points that a call went by, or was refused for.
+    fn count_points(&mut self, call: &Call, lent: &Lent, number: u8) {
+        let Some((sizes, points)) = points_asked(call, lent) else { return };
+        let kind = points::kind(sizes, &points);
+        let answer = if kind < points::REFUSED { refusal::ACCEPTED } else { refusal::SIZE };
+        if number == answer {
+            self.points[call.place()][kind] += 1;
         }
     }
 
@@ -195,6 +211,14 @@ impl Trial {
                 }
             }
         }
+        for (place, (name, _)) in CALLS.iter().enumerate() {
+            for (kind, what) in points::KINDS.iter().enumerate() {
+                let can_be = kind != points::NOT_32 || place <= SET_UP;
+                if can_be && self.points[place][kind] == 0 {
+                    missing.push(format!("{name} with points {what}"));
+                }
+            }
+        }
         if self.second_files == 0 {
             missing.push("a second file for k − 1 boards".to_string());
         }
@@ -212,6 +236,10 @@ impl Trial {
         for ((name, _), met) in CALLS.iter().zip(&self.met) {
             println!("{name:20} {}", met.iter().map(|count| format!("{count:>7}")).collect::<String>());
         }
+        println!("{:20} {}", "points", points::KINDS.map(|kind| format!("{kind:>11}")).concat());
+        for ((name, _), met) in CALLS.iter().zip(&self.points) {
+            println!("{name:20} {}", met.iter().map(|count| format!("{count:>11}")).collect::<String>());
+        }
         println!(
             "second files for k − 1 boards: {}, in {} of the calls of zbk_share",
             self.second_files, self.second_calls
@@ -221,6 +249,19 @@ impl Trial {
             println!("{kind:24} {:>8} {:>8}", met.accepted, met.disagree);
         }
     }
+}
+
+/// The place in `CALLS` of the last call that is given points.
+const SET_UP: usize = 6;
+
+/// The sizes and the points that a call goes by; none where something else than the points makes it SIZE.
+fn points_asked(call: &Call, lent: &Lent) -> Option<(Sizes, Vec<u8>)> {
+    let Some((sizes, points)) = call.given() else { return store::given(&lent.record) };
+    let legal = match call {
+        Call::SetUp { capacity, .. } => store::in_range(*capacity) && lent.record.len() == store::word::COUNT,
+        _ => true,
+    };
+    (legal && sizes.legal()).then(|| (sizes, points.to_vec()))
 }
 
 /// What is lent, in short form.

@@ -8,22 +8,27 @@
 macro_rules! archive {
     ($each:ident) => {
         $crate::names!($each board {
-            share as zbk_share(sizes: Sizes, node: usize, file: &[u8], out: &mut [u8],);
-            file as zbk_file(sizes: Sizes, length: usize, boards: &[usize], shares: &[u8], out: &mut [u8],);
+            share as zbk_share(sizes: Sizes, points: &[u8], node: usize, file: &[u8], out: &mut [u8],);
+            file as zbk_file(
+                sizes: Sizes, points: &[u8], length: usize, boards: &[usize], shares: &[u8], out: &mut [u8],
+            );
             helper_packet as zbk_helper_packet(
-                sizes: Sizes, length: usize, helper: usize, receiver: usize, share: &[u8], out: &mut [u8],
+                sizes: Sizes, points: &[u8], length: usize, helper: usize, receiver: usize, share: &[u8], out: &mut [u8],
             );
             exchange_packet as zbk_exchange_packet(
-                sizes: Sizes, length: usize, board: usize, helpers: &[usize], packets: &[u8], receiver: usize, out: &mut [u8],
+                sizes: Sizes, points: &[u8], length: usize, board: usize, helpers: &[usize], packets: &[u8],
+                receiver: usize, out: &mut [u8],
             );
             finished_share as zbk_finished_share(
-                sizes: Sizes, length: usize, board: usize, helpers: &[usize], packets: &[u8],
+                sizes: Sizes, points: &[u8], length: usize, board: usize, helpers: &[usize], packets: &[u8],
                 partners: &[usize], partner_packets: &[u8], out: &mut [u8],
             );
-            share_text as zbk_share_text(sizes: Sizes, length: usize, node: usize, share: &[u8], out: &mut [u8],);
+            share_text as zbk_share_text(
+                sizes: Sizes, points: &[u8], length: usize, node: usize, share: &[u8], out: &mut [u8],
+            );
         });
         $crate::names!($each store {
-            set_up as zbk_set_up(record: &mut [u64], sizes: Sizes, capacity: usize,);
+            set_up as zbk_set_up(record: &mut [u64], sizes: Sizes, points: &[u8], capacity: usize,);
             write as zbk_write(record: &mut [u64], area: &mut [u8], file: &[u8],);
             lose as zbk_lose(record: &mut [u64], board: usize,);
             repair as zbk_repair(record: &mut [u64], area: &mut [u8], fresh: &[usize], helpers: &[usize],);

@@ -1,12 +1,14 @@
 //! The six board-level calls. Each answers the number of bytes it wrote.
 
 use crate::polynomial::value;
-use crate::sizes::{refuse_if, repeats, Refusal, Sizes, MAX_BOARDS, MAX_STRIPES};
+use crate::sizes::{pointed, refuse_if, repeats, Points, Refusal, Sizes, MAX_BOARDS, MAX_STRIPES};
 use crate::stripe::{self, neighbours, Row};
 
-fn check_length(sizes: Sizes, length: usize) -> Result<(), Refusal> {
-    refuse_if(!sizes.legal(), Refusal::Size)?;
-    refuse_if(length > MAX_STRIPES * sizes.stripe_len(), Refusal::Long)
+/// The points, where they and the sizes are legal and the file is not too long.
+fn check_length(sizes: Sizes, points: &[u8], length: usize) -> Result<Points, Refusal> {
+    let points = pointed(sizes, points)?;
+    refuse_if(length > MAX_STRIPES * sizes.stripe_len(), Refusal::Long)?;
+    Ok(points)
 }
 
 fn check_boards(sizes: Sizes, named: impl Iterator<Item = usize> + Clone) -> Result<(), Refusal> {
@@ -15,23 +17,29 @@ fn check_boards(sizes: Sizes, named: impl Iterator<Item = usize> + Clone) -> Res
 }
 
 /// One share of a file.
-pub fn share(sizes: Sizes, node: usize, file: &[u8], out: &mut [u8]) -> Result<usize, Refusal> {
-    check_length(sizes, file.len())?;
+pub fn share(sizes: Sizes, points: &[u8], node: usize, file: &[u8], out: &mut [u8]) -> Result<usize, Refusal> {
+    let points = check_length(sizes, points, file.len())?;
     refuse_if(node >= sizes.n, Refusal::Node)?;
     let count = sizes.stripes(file.len()) * sizes.share_len();
     refuse_if(out.len() < count, Refusal::Short)?;
-    let points = neighbours(sizes, node);
+    let near = neighbours(sizes, &points, node);
     for (bytes, held) in file.chunks(sizes.stripe_len()).zip(out.chunks_mut(sizes.share_len())) {
-        stripe::encode(sizes, &stripe::fill(sizes, bytes), &points, held);
+        stripe::encode(sizes, &stripe::fill(sizes, bytes), &near, held);
     }
     Ok(count)
 }
 
 /// The file of `length` bytes that k shares hold, each a slice of its own, with no checks but DISAGREE.
-pub fn decode(sizes: Sizes, length: usize, boards: &[usize], shares: &[&[u8]]) -> Result<Vec<u8>, Refusal> {
-    let mut points = [[0; MAX_BOARDS]; MAX_BOARDS];
-    for (points, &board) in points.iter_mut().zip(boards) {
-        *points = neighbours(sizes, board);
+pub fn decode(
+    sizes: Sizes,
+    points: &Points,
+    length: usize,
+    boards: &[usize],
+    shares: &[&[u8]],
+) -> Result<Vec<u8>, Refusal> {
+    let mut near = [[0; MAX_BOARDS]; MAX_BOARDS];
+    for (near, &board) in near.iter_mut().zip(boards) {
+        *near = neighbours(sizes, points, board);
     }
     let mut file = vec![0; sizes.stripes(length) * sizes.stripe_len()];
     let mut held: [&[u8]; MAX_BOARDS] = [&[]; MAX_BOARDS];
@@ -39,7 +47,7 @@ pub fn decode(sizes: Sizes, length: usize, boards: &[usize], shares: &[&[u8]]) -
         for (held, share) in held.iter_mut().zip(shares) {
             *held = &share[s * sizes.share_len()..][..sizes.share_len()];
         }
-        refuse_if(!stripe::decode(sizes, &points, &held, bytes), Refusal::Disagree)?;
+        refuse_if(!stripe::decode(sizes, &near, &held, bytes), Refusal::Disagree)?;
     }
     refuse_if(file[length..].iter().any(|&byte| byte != 0), Refusal::Disagree)?;
     file.truncate(length);
@@ -47,8 +55,15 @@ pub fn decode(sizes: Sizes, length: usize, boards: &[usize], shares: &[&[u8]]) -
 }
 
 /// A file from k shares.
-pub fn file(sizes: Sizes, length: usize, boards: &[usize], shares: &[u8], out: &mut [u8]) -> Result<usize, Refusal> {
-    check_length(sizes, length)?;
+pub fn file(
+    sizes: Sizes,
+    points: &[u8],
+    length: usize,
+    boards: &[usize],
+    shares: &[u8],
+    out: &mut [u8],
+) -> Result<usize, Refusal> {
+    let points = check_length(sizes, points, length)?;
     refuse_if(boards.len() != sizes.k, Refusal::Count)?;
     check_boards(sizes, boards.iter().copied())?;
     let share_len = sizes.stripes(length) * sizes.share_len();
@@ -58,56 +73,57 @@ pub fn file(sizes: Sizes, length: usize, boards: &[usize], shares: &[u8], out: &
     for (b, each) in each[..sizes.k].iter_mut().enumerate() {
         *each = &shares[b * share_len..][..share_len];
     }
-    out[..length].copy_from_slice(&decode(sizes, length, boards, &each[..sizes.k])?);
+    out[..length].copy_from_slice(&decode(sizes, &points, length, boards, &each[..sizes.k])?);
     Ok(length)
 }
 
 /// A helper packet, with no checks: `out` has its length.
-pub fn help(sizes: Sizes, helper: usize, receiver: usize, share: &[u8], out: &mut [u8]) {
-    let points = neighbours(sizes, helper);
+pub fn help(sizes: Sizes, points: &Points, helper: usize, receiver: usize, share: &[u8], out: &mut [u8]) {
+    let near = neighbours(sizes, points, helper);
     for (held, pair) in share.chunks(sizes.share_len()).zip(out.chunks_mut(2)) {
-        pair.copy_from_slice(&stripe::help(sizes, &points, held, receiver as u8));
+        pair.copy_from_slice(&stripe::help(sizes, &near, held, points[receiver]));
     }
 }
 
 /// A helper packet for another board.
 pub fn helper_packet(
     sizes: Sizes,
+    points: &[u8],
     length: usize,
     helper: usize,
     receiver: usize,
     share: &[u8],
     out: &mut [u8],
 ) -> Result<usize, Refusal> {
-    check_length(sizes, length)?;
+    let points = check_length(sizes, points, length)?;
     check_boards(sizes, [helper, receiver].into_iter())?;
     let stripes = sizes.stripes(length);
     refuse_if(share.len() != stripes * sizes.share_len(), Refusal::Area)?;
     refuse_if(out.len() < 2 * stripes, Refusal::Short)?;
-    help(sizes, helper, receiver, share, &mut out[..2 * stripes]);
+    help(sizes, &points, helper, receiver, share, &mut out[..2 * stripes]);
     Ok(2 * stripes)
 }
 
 /// The points of a list of boards.
-fn points_of(boards: &[usize]) -> Row {
-    let mut points = [0; MAX_BOARDS];
-    for (point, &board) in points.iter_mut().zip(boards) {
-        *point = board as u8;
+fn points_of(points: &Points, boards: &[usize]) -> Row {
+    let mut row = [0; MAX_BOARDS];
+    for (point, &board) in row.iter_mut().zip(boards) {
+        *point = points[board];
     }
-    points
+    row
 }
 
 /// g of a fresh board in each stripe, from its helpers' packets.
-pub fn all_g(sizes: Sizes, helpers: &[usize], packets: &[u8], stripes: usize) -> Vec<Row> {
-    let at = points_of(helpers);
+pub fn all_g(sizes: Sizes, points: &Points, helpers: &[usize], packets: &[u8], stripes: usize) -> Vec<Row> {
+    let at = points_of(points, helpers);
     let first = |h: usize, s: usize| packets[2 * (h * stripes + s)];
     (0..stripes).map(|s| stripe::own_g(&at[..sizes.d], (0..sizes.d).map(|h| first(h, s)))).collect()
 }
 
 /// An exchange packet of a board with this g in each stripe.
-pub fn exchange(sizes: Sizes, gs: &[Row], receiver: usize, out: &mut [u8]) {
+pub fn exchange(sizes: Sizes, points: &Points, gs: &[Row], receiver: usize, out: &mut [u8]) {
     for (byte, g) in out.iter_mut().zip(gs) {
-        *byte = value(&g[..sizes.d], receiver as u8);
+        *byte = value(&g[..sizes.d], points[receiver]);
     }
 }
 
@@ -115,6 +131,7 @@ pub fn exchange(sizes: Sizes, gs: &[Row], receiver: usize, out: &mut [u8]) {
 #[allow(clippy::too_many_arguments)]
 pub fn exchange_packet(
     sizes: Sizes,
+    points: &[u8],
     length: usize,
     board: usize,
     helpers: &[usize],
@@ -122,13 +139,14 @@ pub fn exchange_packet(
     receiver: usize,
     out: &mut [u8],
 ) -> Result<usize, Refusal> {
-    check_length(sizes, length)?;
+    let points = check_length(sizes, points, length)?;
     refuse_if(helpers.len() != sizes.d, Refusal::Count)?;
     check_boards(sizes, helpers.iter().copied().chain([board, receiver]))?;
     let stripes = sizes.stripes(length);
     refuse_if(packets.len() != sizes.d * 2 * stripes, Refusal::Area)?;
     refuse_if(out.len() < stripes, Refusal::Short)?;
-    exchange(sizes, &all_g(sizes, helpers, packets, stripes), receiver, &mut out[..stripes]);
+    let gs = all_g(sizes, &points, helpers, packets, stripes);
+    exchange(sizes, &points, &gs, receiver, &mut out[..stripes]);
     Ok(stripes)
 }
 
@@ -136,6 +154,7 @@ pub fn exchange_packet(
 #[allow(clippy::too_many_arguments)]
 pub fn finish(
     sizes: Sizes,
+    points: &Points,
     board: usize,
     gs: &[Row],
     helpers: &[usize],
@@ -145,9 +164,9 @@ pub fn finish(
     out: &mut [u8],
 ) {
     let Sizes { d, r, .. } = sizes;
-    let points = neighbours(sizes, board);
-    let mut at = points_of(helpers);
-    at[d..d + r - 1].copy_from_slice(&points_of(partners)[..r - 1]);
+    let near = neighbours(sizes, points, board);
+    let mut at = points_of(points, helpers);
+    at[d..d + r - 1].copy_from_slice(&points_of(points, partners)[..r - 1]);
     let stripes = out.len() / sizes.share_len();
     for (s, held) in out.chunks_mut(sizes.share_len()).enumerate() {
         let mut values = [0; MAX_BOARDS];
@@ -157,7 +176,7 @@ pub fn finish(
         for p in 0..r - 1 {
             values[d + p] = partner_packets[p * stripes + s];
         }
-        stripe::finish(sizes, &points, &gs[s], &at, &values, held);
+        stripe::finish(sizes, &near, &gs[s], &at, &values, held);
     }
 }
 
@@ -165,6 +184,7 @@ pub fn finish(
 #[allow(clippy::too_many_arguments)]
 pub fn finished_share(
     sizes: Sizes,
+    points: &[u8],
     length: usize,
     board: usize,
     helpers: &[usize],
@@ -173,7 +193,7 @@ pub fn finished_share(
     partner_packets: &[u8],
     out: &mut [u8],
 ) -> Result<usize, Refusal> {
-    check_length(sizes, length)?;
+    let points = check_length(sizes, points, length)?;
     refuse_if(helpers.len() != sizes.d || partners.len() != sizes.r - 1, Refusal::Count)?;
     check_boards(sizes, helpers.iter().chain(partners).copied().chain([board]))?;
     let stripes = sizes.stripes(length);
@@ -181,22 +201,34 @@ pub fn finished_share(
     refuse_if(wrong, Refusal::Area)?;
     let count = stripes * sizes.share_len();
     refuse_if(out.len() < count, Refusal::Short)?;
-    let gs = all_g(sizes, helpers, packets, stripes);
-    finish(sizes, board, &gs, helpers, packets, partners, partner_packets, &mut out[..count]);
+    let gs = all_g(sizes, &points, helpers, packets, stripes);
+    finish(sizes, &points, board, &gs, helpers, packets, partners, partner_packets, &mut out[..count]);
     Ok(count)
 }
 
-/// A share as text.
-pub fn share_text(sizes: Sizes, length: usize, node: usize, share: &[u8], out: &mut [u8]) -> Result<usize, Refusal> {
-    check_length(sizes, length)?;
+/// Bytes as lower-case hexadecimal pairs.
+fn pairs(bytes: &[u8]) -> String {
+    bytes.iter().map(|byte| format!("{byte:02x}")).collect()
+}
+
+/// A share as text; the points have a line where they are not 0 to n − 1 in order.
+pub fn share_text(
+    sizes: Sizes,
+    points: &[u8],
+    length: usize,
+    node: usize,
+    share: &[u8],
+    out: &mut [u8],
+) -> Result<usize, Refusal> {
+    let points = check_length(sizes, points, length)?;
     refuse_if(node >= sizes.n, Refusal::Node)?;
     refuse_if(share.len() != sizes.stripes(length) * sizes.share_len(), Refusal::Area)?;
     let Sizes { n, k, d, r } = sizes;
-    let mut text = format!("n={n}\nk={k}\nd={d}\nr={r}\nnode={node}\nlength={length}\ndata=");
-    for byte in share {
-        text.push_str(&format!("{byte:02x}"));
+    let mut text = format!("n={n}\nk={k}\nd={d}\nr={r}\nnode={node}\nlength={length}\n");
+    if (0..n).any(|board| points[board] != board as u8) {
+        text.push_str(&format!("points={}\n", pairs(&points[..n])));
     }
-    text.push('\n');
+    text.push_str(&format!("data={}\n", pairs(share)));
     refuse_if(out.len() < text.len(), Refusal::Short)?;
     out[..text.len()].copy_from_slice(text.as_bytes());
     Ok(text.len())

@@ -16,4 +16,4 @@ pub mod sizes;
 pub mod store;
 pub mod stripe;
 
-pub use sizes::{Refusal, Sizes};
+pub use sizes::{Points, Refusal, Sizes};

@@ -1,4 +1,4 @@
-//! Sizes, refusals, and the checks on lists that both levels share.
+//! Sizes, points, refusals, and the checks on lists that both levels share.
 
 /// n boards, k read, d helpers, r fresh boards.
 #[derive(Clone, Copy)]
@@ -47,6 +47,19 @@ impl Sizes {
     pub fn stripes(self, length: usize) -> usize {
         length.div_ceil(self.stripe_len())
     }
+}
+
+/// A point for each of 32 boards, for both variables; 00 from n up.
+pub type Points = [u8; MAX_BOARDS];
+
+/// The points of legal sizes: 32 bytes, the first n all different, the others 00.
+pub fn pointed(sizes: Sizes, points: &[u8]) -> Result<Points, Refusal> {
+    let points = Points::try_from(points).map_err(|_| Refusal::Size)?;
+    refuse_if(!sizes.legal(), Refusal::Size)?;
+    let (of_boards, rest) = points.split_at(sizes.n);
+    let twice = (1..sizes.n).any(|i| of_boards[..i].contains(&of_boards[i]));
+    refuse_if(twice || rest.iter().any(|&point| point != 0), Refusal::Size)?;
+    Ok(points)
 }
 
 /// Refuses where the condition holds.

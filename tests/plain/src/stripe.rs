@@ -2,7 +2,7 @@
 
 use crate::field::multiply;
 use crate::polynomial::{interpolate, value};
-use crate::sizes::{Sizes, MAX_BOARDS};
+use crate::sizes::{Points, Sizes, MAX_BOARDS};
 
 /// A polynomial of one board, in either variable.
 pub type Row = [u8; MAX_BOARDS];
@@ -28,13 +28,13 @@ pub fn fill(sizes: Sizes, bytes: &[u8]) -> Grid {
     grid
 }
 
-/// The points of a board and of those that follow it, modulo n.
-pub fn neighbours(sizes: Sizes, board: usize) -> Row {
-    let mut points = [0; MAX_BOARDS];
-    for (t, point) in points.iter_mut().enumerate() {
-        *point = ((board + t) % sizes.n) as u8;
+/// The points of a board and of those that follow it by number, modulo n.
+pub fn neighbours(sizes: Sizes, points: &Points, board: usize) -> Row {
+    let mut row = [0; MAX_BOARDS];
+    for (t, point) in row.iter_mut().enumerate() {
+        *point = points[(board + t) % sizes.n];
     }
-    points
+    row
 }
 
 /// f and g of a board, from the grid.

@@ -2,7 +2,7 @@
 
 use crate::interpolate::powers;
 use crate::rows::{add_multiples, Rows};
-use crate::{from_board, Sizes};
+use crate::{from_board, Points, Sizes};
 
 /// One stripe at a time, as rows of values.
 struct Encoder {
@@ -16,10 +16,10 @@ struct Encoder {
 }
 
 impl Encoder {
-    fn new(sizes: Sizes) -> Encoder {
+    fn new(sizes: Sizes, points: &Points) -> Encoder {
         let Sizes { n, d, r, .. } = sizes;
         let bytes = vec![0; sizes.stripe_len()];
-        Encoder { sizes, powers: powers(sizes, d + r), at_y: Rows::new(d, n), bytes }
+        Encoder { sizes, powers: powers(sizes, points, d + r), at_y: Rows::new(d, n), bytes }
     }
 
     /// Takes up a stripe; bytes that are missing at its end are 00.
@@ -68,10 +68,10 @@ pub fn keep(sizes: Sizes, board: usize, f: impl Fn(usize) -> u8, g: impl Fn(usiz
 }
 
 /// Every board's share of a file, to its part of the area.
-pub fn write(sizes: Sizes, file: &[u8], area: &mut [u8]) {
+pub fn write(sizes: Sizes, points: &Points, file: &[u8], area: &mut [u8]) {
     let n = sizes.n;
     let board_len = area.len() / n;
-    let mut encoder = Encoder::new(sizes);
+    let mut encoder = Encoder::new(sizes, points);
     // row l: F with the l-th point for Y
     let mut values = Rows::new(n, n);
     for (s, bytes) in file.chunks(sizes.stripe_len()).enumerate() {
@@ -87,8 +87,8 @@ pub fn write(sizes: Sizes, file: &[u8], area: &mut [u8]) {
 }
 
 /// One board's share of a file.
-pub fn share(sizes: Sizes, node: usize, file: &[u8], out: &mut [u8]) {
-    let mut encoder = Encoder::new(sizes);
+pub fn share(sizes: Sizes, points: &Points, node: usize, file: &[u8], out: &mut [u8]) {
+    let mut encoder = Encoder::new(sizes, points);
     let mut f = vec![0; sizes.n];
     let mut g = vec![0; sizes.n];
     for (bytes, held) in file.chunks(sizes.stripe_len()).zip(out.chunks_mut(sizes.share_len())) {

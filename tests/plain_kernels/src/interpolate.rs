@@ -1,17 +1,17 @@
 //! Interpolation as a matrix, which depends on the points alone.
 
 use crate::rows::{dot, Rows};
-use crate::{from_board, point, Sizes};
+use crate::{from_board, Points, Sizes};
 use plain::field::{divide, multiply};
 use plain::polynomial::value;
 
 /// The powers of the points of all boards, from 0 to `count` − 1: a row for each power.
-pub fn powers(sizes: Sizes, count: usize) -> Rows {
+pub fn powers(sizes: Sizes, points: &Points, count: usize) -> Rows {
     let mut rows = Rows::new(0, sizes.n);
     let mut power = vec![1; sizes.n];
     for _ in 0..count {
         rows.push(power.iter().copied());
-        multiply_each(&mut power, point);
+        multiply_each(&mut power, |board| points[board]);
     }
     rows
 }
@@ -25,13 +25,13 @@ fn multiply_each(row: &mut [u8], factor: impl Fn(usize) -> u8) {
 
 /// Lagrange's polynomials for these boards: row t has the values at the points of all boards of the one that is 1 at the t-th board's point and 0
 /// at those of the others. It is the product of y − x over the others' points x, divided by what this is at its own.
-pub fn lagrange(sizes: Sizes, boards: &[usize]) -> Rows {
+pub fn lagrange(sizes: Sizes, points: &Points, boards: &[usize]) -> Rows {
     let mut rows = Rows::new(0, sizes.n);
     // of the boards before
     let mut product = vec![1; sizes.n];
     for &own in boards {
         rows.push(product.iter().copied());
-        multiply_each(&mut product, |board| point(board) ^ point(own));
+        multiply_each(&mut product, |board| points[board] ^ points[own]);
     }
     // and of those behind
     product.fill(1);
@@ -42,21 +42,21 @@ pub fn lagrange(sizes: Sizes, boards: &[usize]) -> Rows {
         for byte in row {
             *byte = divide(*byte, at_own);
         }
-        multiply_each(&mut product, |board| point(board) ^ point(own));
+        multiply_each(&mut product, |board| points[board] ^ points[own]);
     }
     rows
 }
 
 /// For a board that keeps the values of a polynomial at the first `kept` boards from itself on: the factors by which these give its value at each
 /// of the boards behind them, a row for each.
-pub fn missing(sizes: Sizes, board: usize, kept: usize) -> Rows {
+pub fn missing(sizes: Sizes, points: &Points, board: usize, kept: usize) -> Rows {
     let boards: Vec<usize> = from_board(sizes, board).collect();
     let (near, far) = boards.split_at(kept);
     let mut factors = Rows::new(0, kept);
     if far.is_empty() {
         return factors;
     }
-    let at_all = lagrange(sizes, near);
+    let at_all = lagrange(sizes, points, near);
     for &other in far {
         factors.push(at_all.column(other));
     }

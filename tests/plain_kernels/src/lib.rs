@@ -1,4 +1,4 @@
-//! The algorithm of the archive's kernels in plain Rust, with products by table. What depends on the sizes and on the boards alone is worked out
+//! The algorithm of the archive's kernels in plain Rust, with products by table. What depends on sizes, points and boards alone is worked out
 //! once a call: the powers of all points, and the matrices of interpolation. A stripe is then sums of multiples of their rows; whether k boards
 //! agree is asked of each pair of them; and a byte that a board keeps is taken as it is.
 //!
@@ -14,14 +14,9 @@ mod repair;
 mod rows;
 
 pub use encode::{share, write};
-pub use plain::Sizes;
+pub use plain::{Points, Sizes};
 pub use read::read;
 pub use repair::repair;
-
-/// The point of a board.
-fn point(board: usize) -> u8 {
-    board as u8
-}
 
 /// A board and those that follow it, modulo n.
 fn from_board(sizes: Sizes, board: usize) -> impl Iterator<Item = usize> {

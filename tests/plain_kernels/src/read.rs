@@ -2,7 +2,7 @@
 
 use crate::interpolate::{coefficients, missing, value_at};
 use crate::rows::{add_multiples, dot, Rows};
-use crate::{from_board, point, steps, Sizes};
+use crate::{from_board, steps, Points, Sizes};
 use plain::field::multiply;
 
 /// What the boards keep of one stripe: a row for each.
@@ -37,8 +37,8 @@ struct Factors {
 }
 
 impl Factors {
-    fn new(sizes: Sizes, boards: &[usize]) -> Factors {
-        let of_all = |kept: usize| boards.iter().map(|&board| missing(sizes, board, kept)).collect();
+    fn new(sizes: Sizes, points: &Points, boards: &[usize]) -> Factors {
+        let of_all = |kept: usize| boards.iter().map(|&board| missing(sizes, points, board, kept)).collect();
         Factors { f: of_all(sizes.d + sizes.r), g: of_all(sizes.d) }
     }
 }
@@ -71,9 +71,11 @@ struct Decoder<'a> {
 }
 
 impl<'a> Decoder<'a> {
-    fn new(sizes: Sizes, boards: &'a [usize], factors: &'a Factors) -> Decoder<'a> {
+    fn new(sizes: Sizes, points: &Points, boards: &'a [usize], factors: &'a Factors) -> Decoder<'a> {
         let Sizes { k, d, r, .. } = sizes;
-        let near = |board: usize, count: usize| from_board(sizes, board).take(count).map(point).collect::<Vec<u8>>();
+        let near = |board: usize, count: usize| {
+            from_board(sizes, board).take(count).map(|other| points[other]).collect::<Vec<u8>>()
+        };
         let tops = boards.iter().map(|&board| tops(&coefficients(&near(board, d)), k)).collect();
         Decoder {
             sizes,
@@ -81,7 +83,7 @@ impl<'a> Decoder<'a> {
             factors,
             tops,
             by_y: coefficients(&near(boards[0], d + r)),
-            by_x: by_x(sizes, boards),
+            by_x: by_x(sizes, points, boards),
             f: Rows::new(k, d + r),
             line: vec![0; k],
         }
@@ -146,9 +148,9 @@ fn tops(matrix: &Rows, k: usize) -> Rows {
 
 /// The coefficients of Lagrange's polynomials for the boards read, and behind them, for i from k to d − 1, those of the polynomial that has the
 /// values of X to the i there.
-fn by_x(sizes: Sizes, boards: &[usize]) -> Rows {
-    let points: Vec<u8> = boards.iter().map(|&board| point(board)).collect();
-    let units = coefficients(&points);
+fn by_x(sizes: Sizes, points: &Points, boards: &[usize]) -> Rows {
+    let xs: Vec<u8> = boards.iter().map(|&board| points[board]).collect();
+    let units = coefficients(&xs);
     let mut rows = units.clone();
     let mut power = vec![1; sizes.k];
     for i in 0..sizes.d {
@@ -157,7 +159,7 @@ fn by_x(sizes: Sizes, boards: &[usize]) -> Rows {
             add_multiples(&mut line, power.iter().copied(), units.iter());
             rows.push(line.into_iter());
         }
-        for (power, &x) in power.iter_mut().zip(&points) {
+        for (power, &x) in power.iter_mut().zip(&xs) {
             *power = multiply(*power, x);
         }
     }
@@ -165,8 +167,8 @@ fn by_x(sizes: Sizes, boards: &[usize]) -> Rows {
 }
 
 /// The file of as many bytes as `out` has, from k boards; false where no file has their shares, and then nothing is written.
-pub fn read(sizes: Sizes, boards: &[usize], area: &[u8], out: &mut [u8]) -> bool {
-    let factors = Factors::new(sizes, boards);
+pub fn read(sizes: Sizes, points: &Points, boards: &[usize], area: &[u8], out: &mut [u8]) -> bool {
+    let factors = Factors::new(sizes, points, boards);
     let mut kept = Kept::new(sizes);
     for s in 0..sizes.stripes(out.len()) {
         kept.take(sizes, boards, area, s);
@@ -174,7 +176,7 @@ pub fn read(sizes: Sizes, boards: &[usize], area: &[u8], out: &mut [u8]) -> bool
             return false;
         }
     }
-    let mut decoder = Decoder::new(sizes, boards, &factors);
+    let mut decoder = Decoder::new(sizes, points, boards, &factors);
     let whole = out.len() / sizes.stripe_len();
     let (stripes, rest) = out.split_at_mut(whole * sizes.stripe_len());
     if !rest.is_empty() {

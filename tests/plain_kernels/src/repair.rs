@@ -3,7 +3,7 @@
 use crate::encode::keep;
 use crate::interpolate::lagrange;
 use crate::rows::{add_multiples, dot, Rows};
-use crate::{from_board, Sizes};
+use crate::{from_board, Points, Sizes};
 
 /// A fresh board.
 struct Fresh<'a> {
@@ -23,7 +23,7 @@ struct Fresh<'a> {
 
 impl<'a> Fresh<'a> {
     /// The factors are still to be set.
-    fn new(sizes: Sizes, board: usize, fresh: &[usize], helpers: &'a [usize]) -> Fresh<'a> {
+    fn new(sizes: Sizes, points: &Points, board: usize, fresh: &[usize], helpers: &'a [usize]) -> Fresh<'a> {
         let Sizes { n, d, r, .. } = sizes;
         let partners = fresh.iter().copied().filter(|&partner| partner != board);
         let heard: Vec<usize> = helpers.iter().copied().chain(partners).chain([board]).collect();
@@ -32,8 +32,8 @@ impl<'a> Fresh<'a> {
             helpers,
             of_f: Rows::new(d, d + r),
             of_g: Rows::new(d, d),
-            by_g: lagrange(sizes, helpers),
-            by_f: lagrange(sizes, &heard),
+            by_g: lagrange(sizes, points, helpers),
+            by_f: lagrange(sizes, points, &heard),
             firsts: vec![0; d],
             seconds: vec![0; d],
             g: vec![0; n],
@@ -66,9 +66,16 @@ impl<'a> Fresh<'a> {
 
 /// The shares of the fresh boards, each from its own d helpers and the other fresh boards, over so many stripes; the bytes that boards send each
 /// other for it.
-pub fn repair(sizes: Sizes, stripes: usize, fresh: &[usize], helpers: &[usize], area: &mut [u8]) -> usize {
+pub fn repair(
+    sizes: Sizes,
+    points: &Points,
+    stripes: usize,
+    fresh: &[usize],
+    helpers: &[usize],
+    area: &mut [u8],
+) -> usize {
     let board_len = area.len() / sizes.n;
-    let mut all = prepared(sizes, fresh, helpers);
+    let mut all = prepared(sizes, points, fresh, helpers);
     let mut f = vec![0; sizes.n];
     for s in 0..stripes {
         for one in &mut all {
@@ -88,15 +95,15 @@ pub fn repair(sizes: Sizes, stripes: usize, fresh: &[usize], helpers: &[usize], 
 }
 
 /// The fresh boards with all that depends on sizes and lists alone.
-fn prepared<'a>(sizes: Sizes, fresh: &[usize], helpers: &'a [usize]) -> Vec<Fresh<'a>> {
+fn prepared<'a>(sizes: Sizes, points: &Points, fresh: &[usize], helpers: &'a [usize]) -> Vec<Fresh<'a>> {
     let Sizes { n, d, r, .. } = sizes;
     let lists = helpers.chunks(d);
     let mut all: Vec<Fresh> =
-        fresh.iter().zip(lists).map(|(&board, helpers)| Fresh::new(sizes, board, fresh, helpers)).collect();
+        fresh.iter().zip(lists).map(|(&board, helpers)| Fresh::new(sizes, points, board, fresh, helpers)).collect();
     for helper in (0..n).filter(|board| helpers.contains(board)) {
         let near: Vec<usize> = from_board(sizes, helper).collect();
-        let for_f = lagrange(sizes, &near[..d + r]);
-        let for_g = lagrange(sizes, &near[..d]);
+        let for_f = lagrange(sizes, points, &near[..d + r]);
+        let for_g = lagrange(sizes, points, &near[..d]);
         for one in &mut all {
             one.set_factors(helper, &for_f, &for_g);
         }

@@ -1,6 +1,7 @@
-//! The plain coder and the kernels' algorithm give the same bytes, over all sizes of few boards and some of many, with true and damaged areas.
+//! The plain coder and the kernels' algorithm give the same bytes, over all sizes of few boards and some of many, at points 0 to n − 1, i + 1 and
+//! drawn ones, with true and damaged areas.
 
-use plain::{store, Sizes};
+use plain::{store, Points, Sizes};
 
 /// Numbers that differ from call to call.
 struct Numbers(u64);
@@ -47,6 +48,20 @@ fn all_sizes(numbers: &mut Numbers) -> Vec<Sizes> {
     list
 }
 
+/// Points of n boards, 00 from n up: 0 to n − 1, i + 1, or any different ones.
+fn points(n: usize, numbers: &mut Numbers) -> Points {
+    let drawn: Vec<usize> = match numbers.below(3) {
+        0 => (0..n).collect(),
+        1 => (1..=n).collect(),
+        _ => numbers.choose(&(0..256).collect::<Vec<usize>>(), n),
+    };
+    let mut points = [0; 32];
+    for (point, value) in points.iter_mut().zip(drawn) {
+        *point = value as u8;
+    }
+    points
+}
+
 #[test]
 fn alike() {
     let mut numbers = Numbers(1);
@@ -65,18 +80,19 @@ fn alike() {
 fn one(sizes: Sizes, stripes: usize, length: usize, damaged: bool, numbers: &mut Numbers) -> bool {
     let Sizes { n, k, d, r } = sizes;
     let file = numbers.bytes(length);
-    let mut words = [0; 8];
-    store::set_up(&mut words, sizes, stripes).expect("the sizes are legal");
+    let points = points(n, numbers);
+    let mut words = [0; store::WORDS];
+    store::set_up(&mut words, sizes, &points, stripes).expect("sizes and points are legal");
     let mut area = vec![0xEE; n * stripes * sizes.share_len()];
     let mut other = area.clone();
     store::write(&mut words, &mut area, &file).expect("a write is accepted");
-    plain_kernels::write(sizes, &file, &mut other);
-    assert!(area == other, "a write at n={n} k={k} d={d} r={r}, {length} bytes");
+    plain_kernels::write(sizes, &points, &file, &mut other);
+    assert!(area == other, "a write at n={n} k={k} d={d} r={r}, points {points:?}, {length} bytes");
 
     let share_len = stripes * sizes.share_len();
     let node = numbers.below(n);
     let mut share = vec![0xEE; share_len];
-    plain_kernels::share(sizes, node, &file, &mut share);
+    plain_kernels::share(sizes, &points, node, &file, &mut share);
     assert!(share == area[node * share_len..][..share_len], "a share at n={n} k={k} d={d} r={r}, {length} bytes");
 
     if damaged {
@@ -89,14 +105,14 @@ fn one(sizes: Sizes, stripes: usize, length: usize, damaged: bool, numbers: &mut
     let mut out = vec![0xEE; length];
     let mut other_out = out.clone();
     let given = store::read(&words, &area, &readers, &mut out).is_ok();
-    assert_eq!(given, plain_kernels::read(sizes, &readers, &other, &mut other_out));
+    assert_eq!(given, plain_kernels::read(sizes, &points, &readers, &other, &mut other_out));
     assert!(out == other_out, "a read at n={n} k={k} d={d} r={r}, {length} bytes, boards {readers:?}");
 
     let fresh = numbers.choose(&boards, r);
     let left: Vec<usize> = boards.into_iter().filter(|board| !fresh.contains(board)).collect();
     let helpers: Vec<usize> = (0..r).flat_map(|_| numbers.choose(&left, d)).collect();
     let moved = store::repair(&mut words, &mut area, &fresh, &helpers).expect("a repair is accepted");
-    assert_eq!(moved, plain_kernels::repair(sizes, stripes, &fresh, &helpers, &mut other));
+    assert_eq!(moved, plain_kernels::repair(sizes, &points, stripes, &fresh, &helpers, &mut other));
     assert!(area == other, "a repair at n={n} k={k} d={d} r={r}, {length} bytes, boards {fresh:?} by {helpers:?}");
     given
 }

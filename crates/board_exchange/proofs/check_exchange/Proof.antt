@@ -14,7 +14,6 @@ use Rattle.sizes.specs.declared.Check.the-variants.{Pass, Refuse}
 use Rattle.sizes.specs.Sizing.{stripes}
 use Rattle.sizes.specs.Refusals.{Line, first, boardOrder}
 use Rattle.sizes.proofs.Legal.{Legal, legal-facts}
-use Rattle.mbcr.specs.Share.{standard}
 use Rattle.mbcr.proofs.Points.{Boards, boards-of}
 use Rattle.board_spec.specs.Calls.{countLine, nodeLine, repeatLine, areaLine, shortLine, exchangeLines}
 use Rattle.checks.specs.Steps.{asked, statedLines, Stated}
@@ -54,12 +53,12 @@ abbrev counts : tie.Start → List (List Line)
 counts g = (countLine (eqb (length (g .args .helpers .now)) (g .args .sizes .d) ∷ []) ∷ []) ∷ nodes g
 
 abbrev stateds : tie.Start → List (List Line)
-stateds g = statedLines (g .args .sizes) (g .args .len) ∷ counts g
+stateds g = statedLines (g .args .sizes) (g .args .points .now) (g .args .len) ∷ counts g
 
 abbrev answer : tie.Start → Check
 answer g =
     let a = g .args in
-    first boardOrder (exchangeLines (a .sizes) standard (a .len) (a .board) (a .helpers .now) (a .packets .now) (a .receiver) (a .out .now))
+    first boardOrder (exchangeLines (a .sizes) (a .points .now) (a .len) (a .board) (a .helpers .now) (a .packets .now) (a .receiver) (a .out .now))
 
 whole : (g : tie.Start) → thens (stateds g) ≡ answer g
 unfolding exchangeLines
@@ -67,7 +66,7 @@ whole g = grouped (stateds g)
 
 -- 1 SIZE, 3 LONG
 abbrev st-stated : tie.After-check-stated → tie.Start
-st-stated c = c .before .before .before .before
+st-stated c = c .before .before .before .before .before
 
 no-stated : (c : tie.After-stated) → Refuse (c .stated .given .0 .0) ≡ answer (st-stated (c .before .before))
 no-stated c = let k = c .before .before in refuses _ (whole (st-stated k)) (k .check-stated .ensures) (c .stated .given .1)
@@ -80,7 +79,7 @@ abbrev st-count : tie.After-check-count → tie.Start
 st-count c = st-stated (at-stated c)
 
 stated-on : (c : tie.After-check-count) → let g = st-count c in Stated (g .args .sizes) (g .args .len)
-stated-on c = stated-facts _ _ (sym (at-stated c .check-stated .ensures) ∙ c .before .enum-told .given .1)
+stated-on c = stated-facts _ _ _ (sym (at-stated c .check-stated .ensures) ∙ c .before .enum-told .given .1)
 
 on-count : (c : tie.After-check-count) → thens (counts (st-count c)) ≡ answer (st-count c)
 on-count c = goes-on (whole (st-count c)) (at-stated c .check-stated .ensures) (c .before .enum-told .given .1)

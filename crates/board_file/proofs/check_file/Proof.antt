@@ -16,12 +16,11 @@ use Rattle.sizes.specs.declared.Check.the-variants.{Refuse}
 use Rattle.sizes.specs.Sizing.{α, stripes}
 use Rattle.sizes.specs.Refusals.{Line, _when_, first, boardOrder}
 use Rattle.sizes.proofs.Legal.{legal-facts, α-most}
-use Rattle.mbcr.specs.Share.{standard}
 use Rattle.mbcr.specs.Read.{readFile}
 use Rattle.board_spec.specs.Calls.{countLine, nodeLine, repeatLine, areaLine, shortLine, fileLines}
 use Rattle.checks.specs.Steps.{asked, statedLines, Stated}
 use Rattle.checks.proofs.Chain.{thens, grouped, goes-on, refuses, ends}
-use Rattle.checks.proofs.Facts.{stated-facts}
+use Rattle.checks.proofs.Facts.{Taken, stated-facts, taken-facts}
 use Rattle.checks.proofs.Given.{as-many, few-bytes}
 use Rattle.decode_stripe.specs.Steps.{Asked}
 use Rattle.board_file.proofs.FileCall.{Readable, readable, asked-of, not-passed}
@@ -35,12 +34,12 @@ count-line g = countLine (eqb (length (g .args .boards .now)) (g .args .sizes .k
 abbrev area-line : tie.Start → Line
 area-line g = let z = g .args .sizes in areaLine (eqb (length (g .args .held .now)) (z .k * (stripes z (g .args .len) * α z)) ∷ [])
 
-abbrev agree-line : tie.Start → List ℕ → Line
-agree-line g xs = Disagree when not (given (readFile (g .args .sizes) xs (g .args .len) (g .args .boards .now) (g .args .held .now)))
+abbrev agree-line : tie.Start → Line
+agree-line g = let a = g .args in Disagree when not (given (readFile (a .sizes) (a .points .now) (a .len) (a .boards .now) (a .held .now)))
 
 -- the lines that each check asks, and those after it
 abbrev agrees : tie.Start → List (List Line)
-agrees g = (agree-line g standard ∷ []) ∷ []
+agrees g = (agree-line g ∷ []) ∷ []
 
 abbrev shorts : tie.Start → List (List Line)
 shorts g = (shortLine (g .args .out .now) (g .args .len) ∷ []) ∷ agrees g
@@ -58,10 +57,12 @@ abbrev counts : tie.Start → List (List Line)
 counts g = (count-line g ∷ []) ∷ nodes g
 
 abbrev all : tie.Start → List (List Line)
-all g = statedLines (g .args .sizes) (g .args .len) ∷ counts g
+all g = statedLines (g .args .sizes) (g .args .points .now) (g .args .len) ∷ counts g
 
 abbrev answer : tie.Start → Check
-answer g = first boardOrder (fileLines (g .args .sizes) standard (g .args .len) (g .args .boards .now) (g .args .held .now) (g .args .out .now))
+answer g =
+    let a = g .args in
+    first boardOrder (fileLines (a .sizes) (a .points .now) (a .len) (a .boards .now) (a .held .now) (a .out .now))
 
 whole : (g : tie.Start) → thens (all g) ≡ answer g
 unfolding fileLines
@@ -113,10 +114,15 @@ on-repeat c = let k = at-nodes c in goes-on (on-nodes k) (k .check-nodes .ensure
 no-repeat : (c : tie.After-repeated) → Refuse (c .repeated .given .0 .0) ≡ answer (st-repeat (c .before .before))
 no-repeat c = let k = c .before .before in refuses _ (on-repeat k) (k .check-repeat .ensures) (c .repeated .given .1)
 
+taken-on : (c : tie.After-check-repeat) → Taken (st-repeat c .args .sizes) (st-repeat c .args .points .now)
+taken-on c =
+    let k = at-count (at-nodes c) in
+    taken-facts _ _ (st-repeat c .args .len) (sym (at-stated k .check-stated .ensures) ∙ k .before .enum-told .given .1)
+
 stated-on : (c : tie.After-check-repeat) → Stated (st-repeat c .args .sizes) (st-repeat c .args .len)
 stated-on c =
     let k = at-count (at-nodes c) in
-    stated-facts _ _ (sym (at-stated k .check-stated .ensures) ∙ k .before .enum-told .given .1)
+    stated-facts _ _ _ (sym (at-stated k .check-stated .ensures) ∙ k .before .enum-told .given .1)
 
 -- 2 AREA
 abbrev at-repeat : tie.After-share-len → tie.After-check-repeat
@@ -167,13 +173,13 @@ no-short : (c : tie.After-short) → Refuse (c .short .given .0 .0) ≡ answer (
 no-short c = let k = c .before .before in refuses _ (on-short k) (k .check-room .ensures) (c .short .given .1)
 
 -- what the checks so far told
-readable-on : (c : tie.After-check-room) → let a = st-short c .args in Readable (a .sizes) (a .len) (a .boards .now) (length (a .held .now))
+readable-on : (c : tie.After-check-room) → let a = st-short c .args in Readable (a .sizes) (a .points .now) (a .len) (a .boards .now) (length (a .held .now))
 readable-on c =
     let l = at-len (at-area c) in
     let r = at-repeat l in
     let n = at-nodes r in
     let k = at-count n in
-    readable _ _ _ _ (stated-on r) (sym (k .check-count .ensures) ∙ n .before .enum-told2 .given .1) (sym (n .check-nodes .ensures) ∙ r .before .enum-told3 .given .1)
+    readable _ _ _ _ _ (stated-on r) (taken-on r) (sym (k .check-count .ensures) ∙ n .before .enum-told2 .given .1) (sym (n .check-nodes .ensures) ∙ r .before .enum-told3 .given .1)
     (sym (r .check-repeat .ensures) ∙ l .before .before .enum-told4 .given .1) (sym (is-area (at-area c)) ∙ c .before .enum-told5 .given .1)
 
 -- 10 DISAGREE
@@ -186,12 +192,12 @@ st-agrees c = st-short (at-room c)
 on-agrees : (c : tie.After-check-agrees) → thens (agrees (st-agrees c)) ≡ answer (st-agrees c)
 on-agrees c = let k = at-room c in goes-on (on-short k) (k .check-room .ensures) (c .before .before .enum-told6 .given .1)
 
-is-agrees : (c : tie.After-check-agrees) → c .check-agrees .result ≡ asked (agree-line (st-agrees c) standard)
-is-agrees c = let g = st-agrees c in c .check-agrees .ensures .0 ∙ ap (λ (xs : List ℕ). asked (agree-line g xs)) (g .pre .0 .points-are)
+is-agrees : (c : tie.After-check-agrees) → c .check-agrees .result ≡ asked (agree-line (st-agrees c))
+is-agrees c = c .check-agrees .ensures .0
 
 -- what was asked of the kernels
 asked-on : (c : tie.After-check-room) → let a = st-short c .args in Asked (a .sizes) (a .points .now) (a .boards .now)
-asked-on c = asked-of _ _ _ _ _ (st-short c .pre .0 .points-are) (readable-on c)
+asked-on c = asked-of _ _ _ _ _ (readable-on c)
 
 agrees-ask : tie.Need-check-agrees-requires
 agrees-ask c κs =
@@ -199,7 +205,7 @@ agrees-ask c κs =
     let n = at-len (at-area k) .before in
     let f = readable-on k in
     let e = n .stripe-count .ensures .0 in
-    (asked-on k, st-short k .pre .0 .inverses-are, ap length (st-short k .pre .0 .points-are), n .stripe-count .ensures .1, e, rw e (f .held-is), st-short k .pre .1)
+    (asked-on k, st-short k .pre .0, f .points-taken .long, n .stripe-count .ensures .1, e, rw e (f .held-is), st-short k .pre .1)
 
 pub check-file-spec : {M : Type 1} → statement M
 check-file-spec =

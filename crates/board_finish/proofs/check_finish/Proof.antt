@@ -15,7 +15,6 @@ use Rattle.sizes.specs.declared.Check.the-variants.{Refuse}
 use Rattle.sizes.specs.Sizing.{α, stripes}
 use Rattle.sizes.specs.Refusals.{Line, first, boardOrder}
 use Rattle.sizes.proofs.Legal.{Legal, legal-facts, α-most}
-use Rattle.mbcr.specs.Share.{standard}
 use Rattle.mbcr.proofs.Points.{Boards, boards-of}
 use Rattle.board_spec.specs.Calls.{countLine, nodeLine, repeatLine, areaLine, shortLine, finishedLines}
 use Rattle.checks.specs.Steps.{asked, statedLines, Stated}
@@ -63,13 +62,13 @@ abbrev counts : tie.Start → List (List Line)
 counts g = (heardLine g ∷ []) ∷ nodes g
 
 abbrev stateds : tie.Start → List (List Line)
-stateds g = statedLines (g .args .sizes) (g .args .len) ∷ counts g
+stateds g = statedLines (g .args .sizes) (g .args .points .now) (g .args .len) ∷ counts g
 
 abbrev answer : tie.Start → Check
 answer g =
     let a = g .args in
     first boardOrder
-    (finishedLines (a .sizes) standard (a .len) (a .board) (a .helpers .now) (a .packets .now) (a .partners .now) (a .exchanges .now) (a .out .now))
+    (finishedLines (a .sizes) (a .points .now) (a .len) (a .board) (a .helpers .now) (a .packets .now) (a .partners .now) (a .exchanges .now) (a .out .now))
 
 whole : (g : tie.Start) → thens (stateds g) ≡ answer g
 unfolding finishedLines
@@ -77,13 +76,13 @@ whole g = grouped (stateds g)
 
 -- 1 SIZE, 3 LONG
 abbrev st-stated : tie.After-check-stated → tie.Start
-st-stated c = c .before .before .before .before .before .before
+st-stated c = c .before .before .before .before .before .before .before
 
 no-stated : (c : tie.After-stated) → Refuse (c .stated .given .0 .0) ≡ answer (st-stated (c .before .before))
 no-stated c = let k = c .before .before in refuses _ (whole (st-stated k)) (k .check-stated .ensures) (c .stated .given .1)
 
 stated-on : (c : tie.After-enum-told) → let a = st-stated (c .before .before) .args in Stated (a .sizes) (a .len)
-stated-on c = stated-facts _ _ (sym (c .before .before .check-stated .ensures) ∙ c .enum-told .given .1)
+stated-on c = stated-facts _ _ _ (sym (c .before .before .check-stated .ensures) ∙ c .enum-told .given .1)
 
 -- 4 COUNT
 abbrev at-stated : tie.After-check-counts → tie.After-check-stated

@@ -13,7 +13,6 @@ use Rattle.sizes.specs.declared.Check.the-variants.{Refuse}
 use Rattle.sizes.specs.Sizing.{legal, α, stripes}
 use Rattle.sizes.specs.Refusals.{Line, first, boardOrder}
 use Rattle.sizes.proofs.Legal.{legal-facts, α-most}
-use Rattle.mbcr.specs.Share.{standard}
 use Rattle.board_spec.specs.Calls.{nodeLine, repeatLine, areaLine, shortLine, helperLines}
 use Rattle.checks.specs.Steps.{asked, statedLines, Stated}
 use Rattle.checks.proofs.Given.{as-many, few-bytes}
@@ -48,12 +47,12 @@ abbrev nodes : tie.Start → List (List Line)
 nodes g = (nodeLine (g .args .sizes) (named g) ∷ []) ∷ repeats g
 
 abbrev stateds : tie.Start → List (List Line)
-stateds g = statedLines (g .args .sizes) (g .args .len) ∷ nodes g
+stateds g = statedLines (g .args .sizes) (g .args .points .now) (g .args .len) ∷ nodes g
 
 abbrev answer : tie.Start → Check
 answer g =
     let a = g .args in
-    first boardOrder (helperLines (a .sizes) standard (a .len) (a .helper) (a .receiver) (a .held .now) (a .out .now))
+    first boardOrder (helperLines (a .sizes) (a .points .now) (a .len) (a .helper) (a .receiver) (a .held .now) (a .out .now))
 
 whole : (g : tie.Start) → thens (stateds g) ≡ answer g
 unfolding helperLines
@@ -61,7 +60,7 @@ whole g = grouped (stateds g)
 
 -- 1 SIZE, 3 LONG
 abbrev st-stated : tie.After-check-stated → tie.Start
-st-stated c = c .before .before .before
+st-stated c = c .before .before .before .before
 
 no-stated : (c : tie.After-stated) → Refuse (c .stated .given .0 .0) ≡ answer (st-stated (c .before .before))
 no-stated c = let k = c .before .before in refuses _ (whole (st-stated k)) (k .check-stated .ensures) (c .stated .given .1)
@@ -74,7 +73,7 @@ abbrev st-node : tie.After-check-nodes → tie.Start
 st-node c = st-stated (at-stated c)
 
 stated-on : (c : tie.After-check-nodes) → let g = st-node c in Stated (g .args .sizes) (g .args .len)
-stated-on c = stated-facts _ _ (sym (at-stated c .check-stated .ensures) ∙ c .before .before .enum-told .given .1)
+stated-on c = stated-facts _ _ _ (sym (at-stated c .check-stated .ensures) ∙ c .before .before .enum-told .given .1)
 
 on-node : (c : tie.After-check-nodes) → thens (nodes (st-node c)) ≡ answer (st-node c)
 on-node c = goes-on (whole (st-node c)) (at-stated c .check-stated .ensures) (c .before .before .enum-told .given .1)

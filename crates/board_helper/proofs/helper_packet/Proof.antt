@@ -1,20 +1,19 @@
 -- `board_helper::helper_packet` meets its contract: it answers what its check refuses, and past it the packet is written.
 -- Assumes nothing.
-use mathlib.Core.Path.{_≡_, refl, sym, _∙_}
+use Prim.Native.Nat.{ℕ}
+use mathlib.Core.Path.{_≡_, sym, _∙_}
+use mathlib.Core.List.{List}
 use native.Mathlib.Omega.{arith}
 use borrow.Author.Needs.{needs}
 use Rattle.sizes.specs.declared.Check.{Check}
 use Rattle.sizes.specs.declared.Check.the-variants.{Pass, Refuse}
-use Rattle.sizes.proofs.Legal.{legal-facts}
-use Rattle.mbcr.specs.Share.{standard}
-use Rattle.mbcr.proofs.Points.{standard-points}
 use Rattle.board_helper.proofs.Helps.{Helps, checked, helps, helper-refuses, helper-works}
 use Rattle.board_helper.proofs.helper_packet.Statement.{statement}
 use Rattle.board_helper.proofs.helper_packet.Tie as tie
 
 -- the places
 abbrev st : tie.After-check-helper → tie.Start
-st c = c .before .before .before .before
+st c = c .before .before .before .before .before
 
 abbrev at-check : tie.After-stripe-count → tie.After-check-helper
 at-check c = c .before .before .before
@@ -22,18 +21,19 @@ at-check c = c .before .before .before
 abbrev at-inverses : tie.After-helper-packet-arg → tie.After-fill-inverses
 at-inverses c = c .before .before .before .before
 
-abbrev at-points : tie.After-helper-packet-arg → tie.After-standard-points
-at-points c = at-inverses c .before .before
-
 abbrev at-count : tie.After-helper-packet-arg → tie.After-stripe-count
-at-count c = at-points c .before
+at-count c = at-inverses c .before .before
 
 abbrev at-packet : tie.After-slice-known2 → tie.After-helper-packet
 at-packet c = c .before .before
 
+-- the points that it is given, its second argument
+abbrev given : tie.Start → List ℕ
+given g = g .args .t2
+
 -- what the check told
 abbrev answer : tie.Start → Check
-answer g = let a = g .args in checked (a .sizes) standard (a .len) (a .helper) (a .receiver) (a .held .now) (a .out .now)
+answer g = let a = g .args in checked (a .sizes) (given g) (a .len) (a .helper) (a .receiver) (a .held .now) (a .out .now)
 
 refusal : (c : tie.After-x) → answer (st (c .before .before)) ≡ Refuse (c .x .given .0 .0)
 refusal c = sym (c .before .before .check-helper .ensures) ∙ c .x .given .1
@@ -42,13 +42,14 @@ passed : (c : tie.After-enum-told) → answer (st (c .before .before)) ≡ Pass
 passed c = sym (c .before .before .check-helper .ensures) ∙ c .enum-told .given .1
 
 facts : (c : tie.After-enum-told)
-    → let a = st (c .before .before) .args in Helps (a .sizes) (a .len) (a .helper) (a .receiver) (a .held .now) (a .out .now)
-facts c = let a = st (c .before .before) .args in helps (a .sizes) standard (a .len) (a .helper) (a .receiver) (a .held .now) (a .out .now) (passed c)
+    → let g = st (c .before .before) in let a = g .args in Helps (a .sizes) (given g) (a .len) (a .helper) (a .receiver) (a .held .now) (a .out .now)
+facts c = let g = st (c .before .before) in let a = g .args in helps (a .sizes) (given g) (a .len) (a .helper) (a .receiver) (a .held .now) (a .out .now) (passed c)
 
 refused : tie.Need-returns
 refused c =
-    let a = st (c .before .before .before) .args in
-    helper-refuses (a .sizes) standard (a .len) (a .helper) (a .receiver) (a .held .now) (a .out .now) (refusal (c .before))
+    let g = st (c .before .before .before) in
+    let a = g .args in
+    helper-refuses (a .sizes) (given g) (a .len) (a .helper) (a .receiver) (a .held .now) (a .out .now) (refusal (c .before))
 
 -- the work
 packet-asks : tie.Need-helper-packet-requires
@@ -57,8 +58,8 @@ packet-asks c κs =
     let f = facts (n .before) in
     let e = n .stripe-count .ensures in (
       f .stated .is-legal,
-      rw (at-points c .standard-points .ensures) refl,
-      rw (at-points c .standard-points .ensures) (standard-points _ (legal-facts _ (f .stated .is-legal) .few)),
+      f .points-taken .long,
+      f .points-taken .differ,
       at-inverses c .fill-inverses .ensures,
       e .1,
       f .helper-known,
@@ -71,21 +72,22 @@ done : tie.Need-returns-2
 done c =
     let w = at-packet c in
     let n = at-count (w .before) in
-    let a = st (at-check n) .args in
-    helper-works (a .sizes) standard (a .len) (a .helper) (a .receiver) (a .held .now) (a .out .now) _ _ _
-    (passed (n .before)) (at-points (w .before) .standard-points .ensures) (n .stripe-count .ensures .0) (w .helper-packet .ensures)
+    let g = st (at-check n) in
+    let a = g .args in
+    helper-works (a .sizes) (given g) (a .len) (a .helper) (a .receiver) (a .held .now) (a .out .now) _ _
+    (passed (n .before)) (n .stripe-count .ensures .0) (w .helper-packet .ensures)
 
 pub helper-packet-spec : {M : Type 1} → statement M
 helper-packet-spec =
     tie.close
     (tie.spec
+    (λ c. search needs)
     (λ c κs. search needs)
     (λ c. search needs)
     (λ c. search needs)
     refused
     (λ c. search needs)
     (λ c κs. facts c .stated)
-    (λ c κs. search needs)
     (λ c. search needs)
     (λ c κs. search needs)
     (λ c. search needs)

@@ -11,7 +11,6 @@ use Rattle.sizes.specs.declared.Check.the-variants.{Refuse}
 use Rattle.sizes.specs.Sizing.{α, stripes}
 use Rattle.sizes.specs.Refusals.{Line, first, boardOrder}
 use Rattle.sizes.proofs.Legal.{legal-facts, α-most}
-use Rattle.mbcr.specs.Share.{standard}
 use Rattle.board_spec.specs.Calls.{nodeLine, shortLine, shareLines}
 use Rattle.checks.specs.Steps.{asked, statedLines, Stated}
 use Rattle.checks.proofs.Chain.{thens, grouped, goes-on, refuses, ends}
@@ -35,10 +34,10 @@ abbrev nodes : tie.Start → List (List Line)
 nodes g = (nodeLine (g .args .sizes) (g .args .node ∷ []) ∷ []) ∷ shorts g
 
 abbrev all : tie.Start → List (List Line)
-all g = statedLines (g .args .sizes) (length (file g)) ∷ nodes g
+all g = statedLines (g .args .sizes) (g .args .points .now) (length (file g)) ∷ nodes g
 
 abbrev answer : tie.Start → Check
-answer g = first boardOrder (shareLines (g .args .sizes) standard (g .args .node) (file g) (g .args .out .now))
+answer g = first boardOrder (shareLines (g .args .sizes) (g .args .points .now) (g .args .node) (file g) (g .args .out .now))
 
 whole : (g : tie.Start) → thens (all g) ≡ answer g
 unfolding shareLines
@@ -46,7 +45,7 @@ whole g = grouped (all g)
 
 -- 1 SIZE, 3 LONG
 abbrev st-stated : tie.After-check-stated → tie.Start
-st-stated c = c .before .before .before
+st-stated c = c .before .before .before .before
 
 no-stated : (c : tie.After-stated) → Refuse (c .stated .given .0 .0) ≡ answer (st-stated (c .before .before))
 no-stated c = let k = c .before .before in refuses _ (whole (st-stated k)) (k .check-stated .ensures) (c .stated .given .1)
@@ -65,7 +64,7 @@ no-node : (c : tie.After-named) → Refuse (c .named .given .0 .0) ≡ answer (s
 no-node c = let k = c .before .before in refuses _ (on-node k) (k .check-node .ensures) (c .named .given .1)
 
 stated-on : (c : tie.After-check-node) → Stated (st-node c .args .sizes) (length (file (st-node c)))
-stated-on c = stated-facts _ _ (sym (at-stated c .check-stated .ensures) ∙ c .before .enum-told .given .1)
+stated-on c = stated-facts _ _ _ (sym (at-stated c .check-stated .ensures) ∙ c .before .enum-told .given .1)
 
 -- 7 SHORT
 abbrev at-node : tie.After-share-len → tie.After-check-node

@@ -1,13 +1,12 @@
 -- `board_share::share` meets its contract: it answers what its check refuses, and past it the share is written.
 -- Assumes nothing.
-use Prim.Native.Nat.{_*_, _≤_}
-use mathlib.Core.Path.{_≡_, sym, ap, _∙_}
-use lib.ListN.{length}
+use Prim.Native.Nat.{ℕ, _*_, _≤_}
+use mathlib.Core.Path.{_≡_, sym, _∙_}
+use mathlib.Core.List.{List}
 use native.Mathlib.Omega.{arith}
 use borrow.Author.Needs.{needs}
 use Rattle.sizes.specs.declared.Check.the-variants.{Pass}
 use Rattle.sizes.proofs.Legal.{legal-facts, α-most}
-use Rattle.mbcr.specs.Share.{standard}
 use Rattle.checks.proofs.Given.{as-many, few-bytes}
 use Rattle.board_share.proofs.ShareCall.{Shares, checked, share-facts, share-refuses, share-works}
 use Rattle.board_share.proofs.share.Statement.{statement}
@@ -15,7 +14,11 @@ use Rattle.board_share.proofs.share.Tie as tie
 
 -- the places
 abbrev st : tie.After-check-share → tie.Start
-st c = c .before .before .before .before
+st c = c .before .before .before .before .before
+
+-- the points that it is given, its second argument
+abbrev given : tie.Start → List ℕ
+given g = g .args .t2
 
 abbrev at-told : tie.After-share-len → tie.After-enum-told
 at-told c = c .before .before
@@ -24,11 +27,11 @@ abbrev at-check : tie.After-enum-told → tie.After-check-share
 at-check c = c .before .before
 
 -- what the check told
-passed : (c : tie.After-enum-told) → let a = st (at-check c) .args in checked (a .sizes) standard (a .node) (a .file .now) (a .out .now) ≡ Pass
+passed : (c : tie.After-enum-told) → let g = st (at-check c) in let a = g .args in checked (a .sizes) (given g) (a .node) (a .file .now) (a .out .now) ≡ Pass
 passed c = sym (at-check c .check-share .ensures) ∙ c .enum-told .given .1
 
-facts : (c : tie.After-enum-told) → let a = st (at-check c) .args in Shares (a .sizes) (a .node) (a .file .now) (a .out .now)
-facts c = let a = st (at-check c) .args in share-facts (a .sizes) standard (a .node) (a .file .now) (a .out .now) (passed c)
+facts : (c : tie.After-enum-told) → let g = st (at-check c) in let a = g .args in Shares (a .sizes) (given g) (a .node) (a .file .now) (a .out .now)
+facts c = let g = st (at-check c) in let a = g .args in share-facts (a .sizes) (given g) (a .node) (a .file .now) (a .out .now) (passed c)
 
 -- the work
 few : (c : tie.After-share-len) → c .before .stripe-count .result * c .share-len .result ≤ 253952
@@ -38,33 +41,33 @@ few c =
 
 share-asks : tie.Need-share-requires
 share-asks c κs =
-    let p = c .before .before in
-    let n = p .before .before in
+    let n = c .before .before .before in
     let f = facts (n .before) in
-    let e = n .stripe-count .ensures .0 in
-    let l : length (p .standard-points .result) ≡ 32 = ap length (p .standard-points .ensures) in
-    (f .stated .is-legal, f .known, omega (arith, l, legal-facts _ (f .stated .is-legal) .few), e, n .stripe-count .ensures .1, rw e (f .room))
+    let e = n .stripe-count .ensures in
+    (f .stated .is-legal, f .known, omega (arith, legal-facts _ (f .stated .is-legal) .few), e .0, e .1, rw (e .0) (f .room))
 
 share-done : tie.Need-returns-2
 share-done c =
     let w = c .before .before in
-    let p = w .before .before .before in
-    let m = p .before in
+    let m = w .before .before .before in
     let e = m .before .stripe-count .ensures .0 in
-    let a = st (at-check (at-told m)) .args in
+    let g = st (at-check (at-told m)) in
+    let a = g .args in
     let many = as-many _ (m .share-len .result) _ _ _ e (m .share-len .ensures) (facts (at-told m) .stated .is-legal) in
-    share-works (a .sizes) standard (a .node) (a .file .now) (a .out .now) _ _ _ _ (passed (at-told m)) (p .standard-points .ensures) e many (w .share .ensures)
+    share-works (a .sizes) (given g) (a .node) (a .file .now) (a .out .now) _ _ _ (passed (at-told m)) e many (w .share .ensures)
 
 share-refused : tie.Need-returns
 share-refused c =
     let k = c .before .before .before in
-    let a = st k .args in
-    share-refuses (a .sizes) standard (a .node) (a .file .now) (a .out .now) (sym (k .check-share .ensures) ∙ c .before .x .given .1)
+    let g = st k in
+    let a = g .args in
+    share-refuses (a .sizes) (given g) (a .node) (a .file .now) (a .out .now) (sym (k .check-share .ensures) ∙ c .before .x .given .1)
 
 pub share-spec : {M : Type 1} → statement M
 share-spec =
     tie.close
     (tie.spec
+    (λ c. search needs)
     (λ c κs. search needs)
     (λ c. search needs)
     (λ c. search needs)
@@ -73,7 +76,6 @@ share-spec =
     (λ c κs. facts c .stated)
     (λ c κs. search needs)
     (λ c. omega (arith, few c))
-    (λ c κs. search needs)
     (λ c. search needs)
     share-asks
     (λ c. search needs)

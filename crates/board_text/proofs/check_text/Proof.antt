@@ -12,12 +12,11 @@ use Rattle.sizes.specs.declared.Check.the-variants.{Pass, Refuse}
 use Rattle.sizes.specs.Sizing.{α, stripes}
 use Rattle.sizes.specs.Refusals.{Line, first, boardOrder}
 use Rattle.sizes.proofs.Legal.{legal-facts, α-most}
-use Rattle.mbcr.specs.Share.{standard}
 use Rattle.board_spec.specs.Text.{shareText}
 use Rattle.board_spec.specs.Calls.{nodeLine, areaLine, shortLine, textLines}
 use Rattle.checks.specs.Steps.{asked, statedLines, Stated}
 use Rattle.checks.proofs.Chain.{thens, grouped, goes-on, refuses, ends}
-use Rattle.checks.proofs.Facts.{stated-facts}
+use Rattle.checks.proofs.Facts.{stated-facts, taken-facts}
 use Rattle.checks.proofs.Given.{as-many, few-bytes}
 use Rattle.text_writer.specs.Steps.{Writes}
 use Rattle.board_text.proofs.TextCall.{writes}
@@ -25,7 +24,7 @@ use Rattle.board_text.proofs.check_text.Statement.{statement}
 use Rattle.board_text.proofs.check_text.Tie as tie
 
 abbrev text : tie.Start → List ℕ
-text g = shareText (g .args .sizes) (g .args .len) (g .args .node) (g .args .held .now)
+text g = shareText (g .args .sizes) (g .args .points .now) (g .args .len) (g .args .node) (g .args .held .now)
 
 -- the lines of one test
 abbrev node-line : tie.Start → Line
@@ -45,10 +44,10 @@ abbrev nodes : tie.Start → List (List Line)
 nodes g = (node-line g ∷ []) ∷ areas g
 
 abbrev all : tie.Start → List (List Line)
-all g = statedLines (g .args .sizes) (g .args .len) ∷ nodes g
+all g = statedLines (g .args .sizes) (g .args .points .now) (g .args .len) ∷ nodes g
 
 abbrev answer : tie.Start → Check
-answer g = first boardOrder (textLines (g .args .sizes) standard (g .args .len) (g .args .node) (g .args .held .now) (g .args .out .now))
+answer g = first boardOrder (textLines (g .args .sizes) (g .args .points .now) (g .args .len) (g .args .node) (g .args .held .now) (g .args .out .now))
 
 whole : (g : tie.Start) → thens (all g) ≡ answer g
 unfolding textLines
@@ -56,7 +55,7 @@ whole g = grouped (all g)
 
 -- 1 SIZE, 3 LONG
 abbrev st-stated : tie.After-check-stated → tie.Start
-st-stated c = c .before .before .before
+st-stated c = c .before .before .before .before
 
 no-stated : (c : tie.After-stated) → Refuse (c .stated .given .0 .0) ≡ answer (st-stated (c .before .before))
 no-stated c = let k = c .before .before in refuses _ (whole (st-stated k)) (k .check-stated .ensures) (c .stated .given .1)
@@ -75,7 +74,13 @@ no-node : (c : tie.After-named) → Refuse (c .named .given .0 .0) ≡ answer (s
 no-node c = let k = c .before .before in refuses _ (on-node k) (k .check-node .ensures) (c .named .given .1)
 
 stated-on : (c : tie.After-check-node) → Stated (st-node c .args .sizes) (st-node c .args .len)
-stated-on c = stated-facts _ _ (sym (at-stated c .check-stated .ensures) ∙ c .before .enum-told .given .1)
+stated-on c = stated-facts _ _ _ (sym (at-stated c .check-stated .ensures) ∙ c .before .enum-told .given .1)
+
+long-on : (c : tie.After-check-node) → length (st-node c .args .points .now) ≡ 32
+long-on c =
+    let a = st-node c .args in
+    let e = sym (at-stated c .check-stated .ensures) ∙ c .before .enum-told .given .1 in
+    taken-facts (a .sizes) (a .points .now) (a .len) e .long
 
 -- 2 AREA
 abbrev at-node : tie.After-share-len → tie.After-check-node
@@ -111,12 +116,12 @@ st-short c = st-area (at-area c .before)
 on-short : (c : tie.After-enum-told3) → thens (shorts (st-short c)) ≡ answer (st-short c)
 on-short c = let k = at-area c in goes-on (on-area (k .before)) (is-area k) (c .enum-told3 .given .1)
 
-writes-on : (c : tie.After-enum-told3) → let a = st-short c .args in Writes (a .sizes) (a .len) (a .node) (length (a .held .now))
+writes-on : (c : tie.After-enum-told3) → let a = st-short c .args in Writes (a .sizes) (a .points .now) (a .len) (a .node) (length (a .held .now))
 writes-on c =
     let k = at-area c in
     let n = at-node (k .before) in
     let named : asked (node-line (st-short c)) ≡ Pass = sym (n .check-node .ensures) ∙ k .before .before .before .enum-told2 .given .1 in
-    writes _ _ _ _ (stated-on n) named (sym (is-area k) ∙ c .enum-told3 .given .1)
+    writes _ _ _ _ _ (stated-on n) (long-on n) named (sym (is-area k) ∙ c .enum-told3 .given .1)
 
 is-short : (c : tie.After-check-room) → let g = st-short (c .before .before) in c .check-room .result ≡ asked (shortLine (g .args .out .now) (length (text g)))
 is-short c =

@@ -4,12 +4,12 @@ use mathlib.Core.Path.{_≡_, sym, _∙_}
 use mathlib.Core.Bool.{true}
 use mathlib.Core.List.{List, [], _∷_}
 use borrow.Author.Needs.{needs}
-use Rattle.lists.proofs.Tests.{not-no}
 use Rattle.sizes.specs.declared.Check.{Check}
 use Rattle.sizes.specs.declared.Check.the-variants.{Refuse}
 use Rattle.sizes.specs.Sizing.{legal}
 use Rattle.sizes.specs.Refusals.{Line, first, boardOrder}
 use Rattle.board_spec.specs.Calls.{sizeLine, longLine}
+use Rattle.board_spec.proofs.Runs.{size-facts}
 use Rattle.checks.specs.Steps.{statedLines}
 use Rattle.checks.proofs.Answers.{passed}
 use Rattle.checks.proofs.Chain.{thens, grouped, goes-on, refuses, ends}
@@ -21,23 +21,26 @@ abbrev longs : tie.Start → List (List Line)
 longs g = (longLine (g .args .sizes) (g .args .len) ∷ []) ∷ []
 
 abbrev stated : tie.Start → List (List Line)
-stated g = (sizeLine (g .args .sizes) ∷ []) ∷ longs g
+stated g = (sizeLine (g .args .sizes) (g .args .points .now) ∷ []) ∷ longs g
 
 abbrev answer : tie.Start → Check
-answer g = first boardOrder (statedLines (g .args .sizes) (g .args .len))
+answer g = first boardOrder (statedLines (g .args .sizes) (g .args .points .now) (g .args .len))
 
 whole : (g : tie.Start) → thens (stated g) ≡ answer g
 whole g = grouped (stated g)
 
 -- 1 SIZE
 abbrev st-size : tie.After-check-sizes → tie.Start
-st-size c = c .before
+st-size c = c .before .before
 
 no-size : (c : tie.After-size) → Refuse (c .size .given .0 .0) ≡ answer (st-size (c .before .before))
 no-size c = let k = c .before .before in refuses _ (whole (st-size k)) (k .check-sizes .ensures) (c .size .given .1)
 
 legal-on : (c : tie.After-enum-told) → legal (st-size (c .before .before) .args .sizes) ≡ true
-legal-on c = not-no _ (passed (sizeLine (st-size (c .before .before) .args .sizes)) (sym (c .before .before .check-sizes .ensures) ∙ c .enum-told .given .1))
+legal-on c =
+    let k = c .before .before in
+    let a = st-size k .args in
+    size-facts _ _ (passed (sizeLine (a .sizes) (a .points .now)) (sym (k .check-sizes .ensures) ∙ c .enum-told .given .1)) .0
 
 -- 3 LONG
 abbrev at-size : tie.After-check-length → tie.After-check-sizes

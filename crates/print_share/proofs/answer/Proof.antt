@@ -1,15 +1,13 @@
 -- `print_share::answer` meets its contract: the refusal that the parser has, nothing of a file that is not whole, else what its share gives.
 -- Assumes nothing.
-use mathlib.Core.Path.{sym, ap, _∙_}
+use mathlib.Core.Path.{sym, ap, ap₂, _∙_}
 use mathlib.Core.List.{List}
 use Prim.Native.Nat.{ℕ}
 use lib.ListN.{length, take, replicate, length-replicate}
 use lib.Seq.{length-take-le}
-use Rattle.sizes.specs.declared.Sizes.{Sizes}
-use Rattle.mbcr.specs.Share.{standard}
 use Rattle.board_spec.specs.Calls.{shareCall}
 use Rattle.printer.specs.Printer.{refusedLine, told}
-use Rattle.print_share.specs.Steps.{placed}
+use Rattle.print_share.specs.Steps.{Written, placed}
 use Rattle.print_share.proofs.Telling.{nothing, output-refused, output-lacks, output-told}
 use borrow.Author.Needs.{needs}
 use Rattle.print_share.proofs.answer.Statement.{statement}
@@ -31,19 +29,20 @@ returns-2 c =
     nothing (a .out .now) ∙ ap (λ (l : List ℕ). placed l (a .out .now)) (sym (output-lacks (a .p) (a .file .now) e (c .if2 .taken)))
 
 slice-aggregate-told : tie.Need-slice-aggregate-told
-slice-aggregate-told c = sym (length-take-le _ _ (c .before .before .if2 .left))
+slice-aggregate-told c = sym (length-take-le _ _ (c .before .before .before .if2 .left))
 
 returns-3 : tie.Need-returns-3
 returns-3 c =
     let wrote = c .before .before .before in
-    let at = wrote .before .before .before .before in
+    let xs = wrote .before .before .before .before in
+    let at = xs .before in
     let decided = at .before .before .before in
     let a = decided .before .before .before .args in
     let e = sym (decided .refusal .ensures) ∙ at .before .before .if1 .left in
     let kept = take (a .p .count) (a .file .now) in
     let area = replicate {A = ℕ} 17376 0 in
     wrote .told .ensures .1
-    ∙ ap (λ (z : Sizes). placed (told z (length kept) (a .p .node) (shareCall z standard (a .p .node) kept area)) (a .out .now)) (at .sizes .ensures)
+    ∙ ap₂ {C = Written} (λ z xs. placed (told z xs (length kept) (a .p .node) (shareCall z xs (a .p .node) kept area)) (a .out .now)) (at .sizes .ensures) (xs .points .ensures)
     ∙ ap (λ (l : List ℕ). placed l (a .out .now)) (sym (output-told (a .p) (a .file .now) e (at .before .if2 .left) area (length-replicate {A = ℕ} 17376 0)))
 
 pub answer-spec : {M : Type 1} → statement M
@@ -55,6 +54,7 @@ answer-spec =
     (λ c. search needs)
     returns
     returns-2
+    (λ c κs. search needs)
     (λ c κs. search needs)
     slice-aggregate-told
     (λ c. search needs)

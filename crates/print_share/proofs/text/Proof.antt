@@ -12,12 +12,12 @@ returns : tie.Need-returns
 returns c =
     let at = c .before in
     let t = at .before .before .before .before .text in
-    ap (λ (x : Answer). wroteIn (outcome x (t .last .1 .1 .1 .1 .0))) (sym (at .answer .given .1)) ∙ ap wroteIn (t .ensures)
+    ap (λ (x : Answer). wroteIn (outcome x (t .last .1 .1 .1 .1 .1 .0))) (sym (at .answer .given .1)) ∙ ap wroteIn (t .ensures)
 
 returns-2 : tie.Need-returns-2
 returns-2 c =
     let t = c .before .before .before .before .text in
-    ap (λ (x : Answer). wroteIn (outcome x (t .last .1 .1 .1 .1 .0))) (sym (c .enum-told .given .1)) ∙ ap wroteIn (t .ensures)
+    ap (λ (x : Answer). wroteIn (outcome x (t .last .1 .1 .1 .1 .1 .0))) (sym (c .enum-told .given .1)) ∙ ap wroteIn (t .ensures)
 
 pub text-spec : {M : Type 1} → statement M
 text-spec =

@@ -7,7 +7,6 @@ use lib.ListN.{length, take}
 use lib.Seq.{length-take-le}
 use Rattle.sizes.specs.declared.Answer.{Answer}
 use Rattle.sizes.specs.declared.Answer.the-variants.{Done, Refused}
-use Rattle.mbcr.specs.Share.{standard}
 use Rattle.board_spec.specs.Calls.{BoardOutcome, shareCall, textCall}
 use Rattle.checks.specs.Outcomes.{outcome}
 use Rattle.printer.specs.Printer.{refusedLine, told}
@@ -29,21 +28,21 @@ entry c = let at = c .before in at .before .before .before .before
 
 -- what the call said
 said-done : (c : tie.After-answer) → let s = called c in let a = entry s .args in
-    outcome (Done (c .answer .given .0 .0)) (s .share .last .1 .1 .1 .0) ≡ shareCall (a .z) standard (a .node) (a .file .now) (a .share .now)
-said-done c = let s = called c .share in ap (λ (x : Answer). outcome x (s .last .1 .1 .1 .0)) (sym (c .answer .given .1)) ∙ s .ensures
+    outcome (Done (c .answer .given .0 .0)) (s .share .last .1 .1 .1 .1 .0) ≡ shareCall (a .z) (a .points) (a .node) (a .file .now) (a .share .now)
+said-done c = let s = called c .share in ap (λ (x : Answer). outcome x (s .last .1 .1 .1 .1 .0)) (sym (c .answer .given .1)) ∙ s .ensures
 
 said-refused : (c : tie.After-answer2) → let s = called2 c in let a = entry s .args in
-    outcome (Refused (c .answer2 .given .0 .0)) (s .share .last .1 .1 .1 .0) ≡ shareCall (a .z) standard (a .node) (a .file .now) (a .share .now)
-said-refused c = let s = called2 c .share in ap (λ (x : Answer). outcome x (s .last .1 .1 .1 .0)) (sym (c .answer2 .given .1)) ∙ s .ensures
+    outcome (Refused (c .answer2 .given .0 .0)) (s .share .last .1 .1 .1 .1 .0) ≡ shareCall (a .z) (a .points) (a .node) (a .file .now) (a .share .now)
+said-refused c = let s = called2 c .share in ap (λ (x : Answer). outcome x (s .last .1 .1 .1 .1 .0)) (sym (c .answer2 .given .1)) ∙ s .ensures
 
 -- the share's bytes are there, and what is written of their text
 done : (c : tie.After-answer) → let s = called c in let a = entry s .args in
     let v = c .answer .given .0 .0 in
-    let after = s .share .last .1 .1 .1 .0 in
+    let after = s .share .last .1 .1 .1 .1 .0 in
     (v ≤ length after)
-    × ((l : List ℕ) → wroteIn (textCall (a .z) standard (length (a .file .now)) (a .node) (take v after) l)
-    ≡ placed (told (a .z) (length (a .file .now)) (a .node) (shareCall (a .z) standard (a .node) (a .file .now) (a .share .now))) l)
-done c = let a = entry (called c) .args in share-done (a .z) (a .node) (a .file .now) (a .share .now) _ _ (said-done c)
+    × ((l : List ℕ) → wroteIn (textCall (a .z) (a .points) (length (a .file .now)) (a .node) (take v after) l)
+    ≡ placed (told (a .z) (a .points) (length (a .file .now)) (a .node) (shareCall (a .z) (a .points) (a .node) (a .file .now) (a .share .now))) l)
+done c = let a = entry (called c) .args in share-done (a .z) (a .points) (a .node) (a .file .now) (a .share .now) _ _ (said-done c)
 
 slice-reshare-prefix-text : tie.Need-slice-reshare-prefix-text
 slice-reshare-prefix-text c = done (c .before) .0
@@ -66,7 +65,7 @@ returns-2 c =
     let a = entry s .args in (
       ap (λ (o : BoardOutcome). o .output) (s .share .ensures),
       t .refused .ensures ∙ ap (λ (x : ℕ). placed (refusedLine x) (a .out .now)) (t .before .before .number .ensures)
-          ∙ ap (λ (l : List ℕ). placed l (a .out .now)) (share-refused (a .z) (a .node) (a .file .now) (a .share .now) (at .answer2 .given .0 .0) _ (said-refused at)),
+          ∙ ap (λ (l : List ℕ). placed l (a .out .now)) (share-refused (a .z) (a .points) (a .node) (a .file .now) (a .share .now) (at .answer2 .given .0 .0) _ (said-refused at)),
     )
 
 pub told-spec : {M : Type 1} → statement M

@@ -4,7 +4,7 @@ use mathlib.Core.Path.{_≡_, refl, sym, ap, _∙_}
 use Rattle.number_lines.specs.declared.Read.{Read}
 use Rattle.printer.specs.declared.Parser.{Parser}
 use Rattle.printer.specs.Steps.{taken, fed}
-use Rattle.printer.proofs.Fed.{fed-bad, fed-file, fed-line}
+use Rattle.printer.proofs.Fed.{fed-bad, fed-behind, fed-line}
 use borrow.Author.Needs.{needs}
 use Rattle.printer.proofs.feed.Statement.{statement}
 use Rattle.printer.proofs.feed.Tie as tie
@@ -26,7 +26,7 @@ gave : (c : tie.After-feed-line) (x : Read) (q : Parser) → let a = st-line c .
 gave c x q e g = e ∙ sym (ap (taken (st-line c .args .p)) g) ∙ line-fed c
 
 returns-2 : tie.Need-returns-2
-returns-2 c = let at = c .before in c .counted .ensures ∙ sym (fed-file _ (st (at .before) .args .b) (at .before .before .if1 .left) (at .if2 .taken))
+returns-2 c = let at = c .before in c .feed-behind .ensures ∙ sym (fed-behind _ (st (at .before) .args .b) (at .before .before .if1 .left) (at .if2 .taken))
 
 pub feed-spec : {M : Type 1} → statement M
 feed-spec =

@@ -1,7 +1,7 @@
 -- `read_check::check_read` meets its contract: each early return is the first line that holds.
 -- Assumes nothing.
 use Prim.Native.Nat.{ℕ}
-use mathlib.Core.Path.{_≡_, sym, ap, _∙_}
+use mathlib.Core.Path.{_≡_, sym, _∙_}
 use mathlib.Core.Bool.{not}
 use mathlib.Core.List.{List, [], _∷_}
 use lib.ListN.{length}
@@ -11,7 +11,6 @@ use Rattle.sizes.specs.declared.Refusal.the-variants.{Disagree}
 use Rattle.sizes.specs.declared.Check.{Check}
 use Rattle.sizes.specs.declared.Check.the-variants.{Pass, Refuse}
 use Rattle.sizes.specs.Refusals.{Line, _when_, first, storeOrder}
-use Rattle.mbcr.specs.Share.{standard}
 use Rattle.board_spec.specs.Calls.{shortLine}
 use Rattle.store_spec.specs.Record.{Record}
 use Rattle.store_spec.specs.Calls.{emptyLine, fileHeld, readLines}
@@ -25,11 +24,11 @@ use Rattle.read_check.proofs.check_read.Statement.{statement}
 use Rattle.read_check.proofs.check_read.Tie as tie
 
 abbrev R : tie.Start → Record
-R g = recordOf (g .args .sizes) (g .args .capacity) (g .args .written) (g .args .len) (g .args .marks .now)
+R g = recordOf (g .args .sizes) (g .args .points .now) (g .args .capacity) (g .args .written) (g .args .len) (g .args .marks .now)
 
 -- the lines that each check asks, and those after it
 abbrev disagrees : tie.Start → List (List Line)
-disagrees g = (Disagree when not (given (fileHeld standard (R g) (g .args .area .now) (g .args .boards .now))) ∷ []) ∷ []
+disagrees g = (Disagree when not (given (fileHeld (R g) (g .args .area .now) (g .args .boards .now))) ∷ []) ∷ []
 
 abbrev shorts : tie.Start → List (List Line)
 shorts g = (shortLine (g .args .out .now) (g .args .len) ∷ []) ∷ disagrees g
@@ -44,7 +43,7 @@ abbrev areas : tie.Start → List (List Line)
 areas g = areaLines (R g) (length (g .args .area .now)) ∷ empties g
 
 abbrev answer : tie.Start → Check
-answer g = first storeOrder (readLines standard (R g) (g .args .area .now) (g .args .boards .now) (g .args .out .now))
+answer g = first storeOrder (readLines (R g) (g .args .area .now) (g .args .boards .now) (g .args .out .now))
 
 whole : (g : tie.Start) → thens (areas g) ≡ answer g
 unfolding readLines
@@ -105,12 +104,12 @@ named-on c =
     let e : at-boards c .check-boards .result ≡ Pass = cc in
     board-facts _ _ _ _ (sym (at-boards c .check-boards .ensures) ∙ e)
 
-readable-on : (c : tie.After-check-room) → let g = st-short c in Readable (R g) (g .args .points .now) (length (g .args .area .now)) (g .args .boards .now)
+readable-on : (c : tie.After-check-room) → let g = st-short c in Readable (R g) (length (g .args .area .now)) (g .args .boards .now)
 readable-on c =
     let g = st-short c in
     let l = lent-on (at-empty (at-boards c) .before) in
     let n = named-on c in
-    readable (R g) (g .args .points .now) _ (g .args .boards .now) (g .pre .0 .points-are) (l .is-sound) (l .area-is) (n .enough) (n .known) (n .all-different)
+    readable (R g) _ (g .args .boards .now) (l .is-sound) (l .area-is) (n .enough) (n .known) (n .all-different)
 
 -- 10 DISAGREE
 abbrev at-room : tie.After-stripe-count → tie.After-check-room
@@ -126,11 +125,8 @@ on-agrees : (c : tie.After-check-agrees) → thens (disagrees (st-agrees c)) ≡
 on-agrees c = let k = at-room (at-count c) in goes-on (on-short k) (k .check-room .ensures) (at-count c .before .enum-told4 .given .1)
 
 is-agrees : (c : tie.After-check-agrees)
-    → let g = st-agrees c in c .check-agrees .result ≡ asked (Disagree when not (given (fileHeld standard (R g) (g .args .area .now) (g .args .boards .now))))
-is-agrees c =
-    let g = st-agrees c in
-    c .check-agrees .ensures .0
-    ∙ ap (λ (xs : List ℕ). asked (Disagree when not (given (fileHeld xs (R g) (g .args .area .now) (g .args .boards .now))))) (g .pre .0 .points-are)
+    → let g = st-agrees c in c .check-agrees .result ≡ asked (Disagree when not (given (fileHeld (R g) (g .args .area .now) (g .args .boards .now))))
+is-agrees c = c .check-agrees .ensures .0
 
 agrees-asks : tie.Need-check-agrees-requires
 agrees-asks c κs =
@@ -140,7 +136,7 @@ agrees-asks c κs =
     let f = readable-on k in
     let r = f .is-ready in
     let e = n .stripe-count .ensures .0 in
-    (f .is-asked, p .0 .inverses-are, ap length (p .0 .points-are), e, r .cap-high, rw e (r .few-stripes), f .area-is, p .1)
+    (f .is-asked, p .0, r .points-taken .long, e, r .cap-high, rw e (r .few-stripes), f .area-is, p .1)
 
 pub check-read-spec : {M : Type 1} → statement M
 check-read-spec =

@@ -15,7 +15,7 @@ use Rattle.record_checks.proofs.check_lose.Statement.{statement}
 use Rattle.record_checks.proofs.check_lose.Tie as tie
 
 abbrev R : tie.Start → Record
-R g = recordOf (g .args .sizes) (g .args .capacity) (g .args .written) (g .args .len) (g .args .marks .now)
+R g = recordOf (g .args .sizes) (g .args .points .now) (g .args .capacity) (g .args .written) (g .args .len) (g .args .marks .now)
 
 -- the lines that each check asks, and those after it
 abbrev nodes : tie.Start → List (List Line)
@@ -33,7 +33,7 @@ whole g = grouped (records g)
 
 -- 1 SIZE
 abbrev st-record : tie.After-check-record → tie.Start
-st-record c = c .before .before
+st-record c = c .before .before .before
 
 no-size : (c : tie.After-size) → Refuse (c .size .given .0 .0) ≡ answer (st-record (c .before .before))
 no-size c = let k = c .before .before in refuses _ (whole (st-record k)) (k .check-record .ensures) (c .size .given .1)

@@ -26,7 +26,7 @@ use Rattle.repair_check.proofs.check_repair.Statement.{statement}
 use Rattle.repair_check.proofs.check_repair.Tie as tie
 
 abbrev R : tie.Start → Record
-R g = recordOf (g .args .sizes) (g .args .capacity) (g .args .written) (g .args .len) (g .args .marks .now)
+R g = recordOf (g .args .sizes) (g .args .points .now) (g .args .capacity) (g .args .written) (g .args .len) (g .args .marks .now)
 
 -- the lines that each check asks, and those after it
 abbrev downs : tie.Start → List (List Line)
@@ -58,7 +58,7 @@ whole g = grouped (areas g)
 
 -- 1 SIZE, 2 AREA
 abbrev st-area : tie.After-check-area → tie.Start
-st-area c = c .before .before .before .before
+st-area c = c .before .before .before .before .before
 
 no-area : (c : tie.After-area) → Refuse (c .area .given .0 .0) ≡ answer (st-area (c .before .before))
 no-area c = let k = c .before .before in refuses _ (whole (st-area k)) (k .check-area .ensures) (c .area .given .1)

@@ -9,7 +9,7 @@ use Rattle.store_checks.proofs.check_record.Statement.{statement}
 use Rattle.store_checks.proofs.check_record.Tie as tie
 
 abbrev R : tie.After-legal → Record
-R c = let a = c .before .before .args in recordOf (a .sizes) (a .capacity) (a .written) (a .len) (a .marks .now)
+R c = let a = c .before .before .before .args in recordOf (a .sizes) (a .points .now) (a .capacity) (a .written) (a .len) (a .marks .now)
 
 pub check-record-spec : {M : Type 1} → statement M
 check-record-spec =

@@ -70,7 +70,7 @@ starts-long c = c .places .kept .1 .1 .0 ∙ part-long _ _ (omega (arith, facts 
 
 -- what the boards hold, and whether there is such a file
 abbrev holds : tie.Start → List ℕ
-holds g = let a = g .args in joined (held (recordOf (a .sizes) (a .capacity) true (a .len) []) (a .area .now)) (a .boards .now)
+holds g = let a = g .args in joined (held (recordOf (a .sizes) [] (a .capacity) true (a .len) []) (a .area .now)) (a .boards .now)
 
 abbrev there : tie.Start → Bool
 there g = given (readFile (g .args .sizes) (g .args .points .now) (g .args .len) (g .args .boards .now) (holds g))

@@ -89,7 +89,7 @@ returns c =
     let z = a .sizes in
     let xs = a .points .now in
     let t = powers-tabled xs _ _ (z .d + z .r) (s .pre .2) ((fill-powers c) .fill-powers .ensures) in
-    shares-put (recordOf z (a .capacity) true 0 []) z xs (a .file .now) (a .area .now) _ (a .count) (s .pre .3) (c .before .before .before .before .write-stripes .ensures xs (s .pre .2) t)
+    shares-put (recordOf z [] (a .capacity) true 0 []) z xs (a .file .now) (a .area .now) _ (a .count) (s .pre .3) (c .before .before .before .before .write-stripes .ensures xs (s .pre .2) t)
 
 pub write-shares-spec : {M : Type 1} → statement M
 write-shares-spec =

@@ -1,12 +1,15 @@
 -- `text_writer::text_len` meets its contract: the lengths are the definition's, and small enough to add.
 -- Assumes nothing.
+use mathlib.Core.Path.{_≡_, sym, ap, _∙_}
 use Prim.Native.Nat.{ℕ, _≤_}
 use native.Mathlib.Omega.{arith}
-use lib.ListN.{length}
+use lib.ListN.{length, take}
+use lib.Seq.{length-take-le}
 use Rattle.sizes.proofs.Legal.{legal-facts}
-use Rattle.board_spec.specs.Text.{decimal}
+use Rattle.board_spec.specs.Text.{decimal, pointsLine}
 use Rattle.text_lines.proofs.Decimals.{decimal-most}
 use Rattle.text_lines.proofs.Lines.{length-text}
+use Rattle.text_lines.proofs.Orders.{points-line, said-most}
 use borrow.Author.Needs.{needs}
 use Rattle.text_writer.proofs.text_len.Statement.{statement}
 use Rattle.text_writer.proofs.text_len.Tie as tie
@@ -34,16 +37,36 @@ small c =
 
 -- where the call began
 abbrev st : tie.After-decimal-len4 → tie.Start
-st c = c .before .before .before .before
+st c = c .before .before .before .before .before
+
+abbrev st-points : tie.After-points-len → tie.Start
+st-points c = let at = c .before .before in st at
 
 abbrev st-node : tie.After-decimal-len5 → tie.Start
-st-node c = st (c .before)
+st-node c = st-points (c .before)
 
 abbrev st-length : tie.After-decimal-len6 → tie.Start
 st-length c = st-node (c .before)
 
+-- the points of n boards
+lent : (c : tie.Start) → length (take (c .args .sizes .n) (c .args .points .now)) ≡ c .args .sizes .n
+lent c = length-take-le _ _ (c .pre .has-points)
+
+few : (c : tie.Start) → c .args .sizes .n ≤ 32
+few c = legal-facts (c .args .sizes) (c .pre .is-legal) .few
+
+-- the length of the points' line
+line : (c : tie.After-points-len) → let a = st-points c .args in (c .points-len .result ≡ length (pointsLine (a .sizes) (a .points .now))) × (c .points-len .result ≤ 72)
+line c =
+    let g = st-points c in
+    let e = c .points-len .ensures ∙ ap length (sym (points-line (g .args .sizes) (g .args .points .now) (g .pre .has-points))) in
+    (e, omega (arith, c .points-len .ensures, said-most (take (g .args .sizes .n) (g .args .points .now)), lent g, few g))
+
 returns : tie.Need-returns
-returns c share e = let a = st-length c .args in omega (arith, length-text (a .sizes) (a .total) (a .node) share)
+returns c share e =
+    let a = st-length c .args in
+    let l = line (c .before .before) .0 in
+    omega (arith, length-text (a .sizes) (a .points .now) (a .total) (a .node) share)
 
 pub text-len-spec : {M : Type 1} → statement M
 text-len-spec =
@@ -51,16 +74,19 @@ text-len-spec =
     (tie.spec
     (λ c κs. search needs)
     (λ c κs. search needs)
-    (λ c. let s = small (c .before .before) in omega arith)
-    (λ c κs. search needs)
     (λ c. let s = small (c .before .before .before) in omega arith)
     (λ c κs. search needs)
+    (λ c. let s = small (c .before .before .before .before) in omega arith)
+    (λ c κs. search needs)
     (λ c. let s = small (st c) in omega arith)
-    (λ c. let s = small (st c) in omega arith)
+    (λ c. sym (lent (st (c .before))))
+    (λ c κs. let g = st (c .before) in omega (arith, lent g, few g))
+    (λ c. let s = small (st-points c) in omega arith)
     (λ c κs. search needs)
     (λ c. let s = small (st-node c) in omega arith)
     (λ c κs. search needs)
     (λ c. let s = small (st-length c) in omega arith)
+    (λ c. let s = small (st-length c) in let l = line (c .before .before) .1 in omega arith)
     (λ c. search needs)
-    (λ c. let s = small (st-length c) in omega arith)
+    (λ c. let s = small (st-length c) in let l = line (c .before .before) .1 in omega arith)
     returns)

@@ -1,20 +1,25 @@
 -- `text_writer::write_text` meets its contract: the lines, one behind the other.
 -- Assumes nothing.
-use lib.ListN.{length}
-use Rattle.board_spec.specs.Text.{shareText}
-use Rattle.text_lines.specs.Steps.{Wrote}
-use Rattle.text_lines.proofs.Lines.{Rooms, rooms, toN, toK, toD, toR, toNode, toLength, toData, from-start}
+use mathlib.Core.Path.{_≡_, sym}
+use mathlib.Core.List.{List}
+use Prim.Native.Nat.{ℕ}
+use lib.ListN.{length, take}
+use lib.Seq.{length-take-le}
+use Rattle.board_spec.specs.Text.{pointsLine, shareText}
+use Rattle.text_lines.specs.Steps.{Wrote, pointsSaid}
+use Rattle.text_lines.proofs.Lines.{Rooms, rooms, toN, toK, toD, toR, toNode, toLength, toPoints, toData, from-start}
+use Rattle.text_lines.proofs.Orders.{points-line}
 use Rattle.text_lines.proofs.Writes.{same-room, room, then}
 use borrow.Author.Needs.{needs}
 use Rattle.text_writer.proofs.write_text.Statement.{statement}
 use Rattle.text_writer.proofs.write_text.Tie as tie
 
-fits : (c : tie.Start) → let a = c .args in Rooms (a .sizes) (a .total) (a .node) (a .share .now) (length (a .out .now))
-fits c = rooms _ _ _ _ _ (c .pre)
+fits : (c : tie.Start) → let a = c .args in Rooms (a .sizes) (a .points .now) (a .total) (a .node) (a .share .now) (length (a .out .now))
+fits c = let a = c .args in rooms (a .sizes) (a .points .now) (a .total) (a .node) (a .share .now) _ (c .pre .has-room)
 
 -- past each line: where the call began, and what is written so far
 abbrev st-n : tie.After-put-line → tie.Start
-st-n c = c .before .before .before .before .before
+st-n c = c .before .before .before .before .before .before
 
 by-n : (c : tie.After-put-line) → let a = st-n c .args in Wrote (a .out .now) 0 (toN (a .sizes)) (c .put-line .last .1 .1 .1 .0) (c .put-line .result)
 by-n c = c .put-line .ensures
@@ -64,15 +69,34 @@ st-length c = st-node (at-node c)
 by-length : (c : tie.After-put-line6) → let a = st-length c .args in Wrote (a .out .now) 0 (toLength (a .sizes) (a .total) (a .node)) (c .put-line6 .last .1 .1 .1 .0) (c .put-line6 .result)
 by-length c = then (by-node (at-node c)) (c .put-line6 .ensures) (fits (st-length c) .length-too)
 
-abbrev at-length : tie.After-put-data → tie.After-put-line6
-at-length c = c .before .before .before .before
+abbrev at-length : tie.After-put-points → tie.After-put-line6
+at-length c = c .before .before .before .before .before
 
-abbrev st-data : tie.After-put-data → tie.Start
-st-data c = st-length (at-length c)
+abbrev st-points : tie.After-put-points → tie.Start
+st-points c = st-length (at-length c)
 
-by-data : (c : tie.After-put-data)
-    → let a = st-data c .args in Wrote (a .out .now) 0 (toData (a .sizes) (a .total) (a .node) (a .share .now)) (c .put-data .last .1 .1 .0) (c .put-data .result)
-by-data c = then (by-length (at-length c)) (c .put-data .ensures) (fits (st-data c) .data-too)
+-- the points' line is that of the points of n boards
+line : (c : tie.Start) → let a = c .args in pointsSaid (take (a .sizes .n) (a .points .now)) ≡ pointsLine (a .sizes) (a .points .now)
+line c = sym (points-line (c .args .sizes) (c .args .points .now) (c .pre .has-points))
+
+said-line : (g : tie.Start) {l l1 : List ℕ} {at e : ℕ} → Wrote l at (pointsSaid (take (g .args .sizes .n) (g .args .points .now))) l1 e
+    → Wrote l at (pointsLine (g .args .sizes) (g .args .points .now)) l1 e
+said-line g w = rw (line g) at w
+
+by-points : (c : tie.After-put-points)
+    → let a = st-points c .args in Wrote (a .out .now) 0 (toPoints (a .sizes) (a .points .now) (a .total) (a .node)) (c .put-points .last .1 .1 .0) (c .put-points .result)
+by-points c = let g = st-points c in then (by-length (at-length c)) (said-line g (c .put-points .ensures)) (fits g .points-too)
+
+abbrev at-points : tie.After-put-pairs-line → tie.After-put-points
+at-points c = c .before .before .before .before .before
+
+abbrev st-data : tie.After-put-pairs-line → tie.Start
+st-data c = st-points (at-points c)
+
+by-data : (c : tie.After-put-pairs-line)
+    → let a = st-data c .args in
+    Wrote (a .out .now) 0 (toData (a .sizes) (a .points .now) (a .total) (a .node) (a .share .now)) (c .put-pairs-line .last .1 .1 .1 .0) (c .put-pairs-line .result)
+by-data c = then (by-points (at-points c)) (c .put-pairs-line .ensures) (fits (st-data c) .data-too)
 
 returns : tie.Need-returns
 unfolding shareText
@@ -83,7 +107,7 @@ write-text-spec =
     tie.close
     (tie.spec
     (λ c. search needs)
-    (λ c κs. fits (c .before .before .before .before) .n)
+    (λ c κs. fits (c .before .before .before .before .before) .n)
     (λ c. search needs)
     (λ c κs. let p = c .before .before .before .before in room (by-n p) _ (fits (st-n p) .k))
     (λ c. search needs)
@@ -94,6 +118,9 @@ write-text-spec =
     (λ c κs. let p = c .before .before .before .before in room (by-r p) _ (fits (st-r p) .node-too))
     (λ c. search needs)
     (λ c κs. let p = c .before .before .before .before in room (by-node p) _ (fits (st-node p) .length-too))
-    (λ c κs. let p = c .before .before .before in room (by-length p) _ (fits (st-length p) .data-too))
+    (λ c. sym (length-take-le _ _ (st-length (c .before .before .before) .pre .has-points)))
+    (λ c κs. let p = c .before .before .before .before in let g = st-length p in rw (line g) (room (by-length p) _ (fits g .points-too)))
+    (λ c. search needs)
+    (λ c κs. let p = c .before .before .before .before in room (by-points p) _ (fits (st-points p) .data-too))
     (λ c. let p = c .before .before in same-room (by-data p) (fits (st-data p) .data-too))
     returns)

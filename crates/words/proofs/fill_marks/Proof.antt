@@ -10,8 +10,8 @@ use Prim.Native.Nat.{_%_}
 use lib.Dec.{eqb}
 use lib.ListN.{length, drop, length-set, drop-of-length-le}
 use mathlib.Core.List.{append-nil}
-use Rattle.words.specs.Words.{bits}
-use Rattle.words.proofs.Bits.{rest as left, fill-next, half-next}
+use Rattle.record_words.specs.Words.{bits}
+use Rattle.record_words.proofs.Bits.{rest as left, fill-next, half-next}
 use Rattle.words.proofs.fill_marks.Statement.{statement}
 use Rattle.words.proofs.fill_marks.Tie as tie
 

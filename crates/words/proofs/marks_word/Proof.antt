@@ -5,8 +5,8 @@ use mathlib.Core.Path.{_≡_, sym, ap, _∙_}
 use native.Mathlib.Omega.{arith}
 use borrow.Author.Needs.{needs}
 use lib.ListN.{length, drop, drop-of-length-le}
-use Rattle.words.specs.Words.{fromBits}
-use Rattle.words.proofs.Bits.{rest-few, word-on, word-off}
+use Rattle.record_words.specs.Words.{fromBits}
+use Rattle.record_words.proofs.Bits.{rest-few, word-on, word-off}
 use Rattle.words.proofs.marks_word.Statement.{statement}
 use Rattle.words.proofs.marks_word.Tie as tie
 

@@ -1,16 +1,21 @@
--- `words::put_words` meets its contract: eight words, each in its place.
+-- `words::put_words` meets its contract: the points, and then eight words, each in its place.
 -- Assumes nothing.
 use Prim.Native.Nat.{_-_}
+use mathlib.Core.Path.{_≡_}
 use native.Mathlib.Omega.{arith}
 use borrow.Author.Needs.{needs}
-use lib.ListN.{length-set}
+use lib.ListN.{length, length-set}
 use Rattle.store.specs.Handing.{recordIn}
-use Rattle.words.proofs.Eight.{flag-word, words-put}
+use Rattle.words.proofs.Twelve.{flag-word, words-put}
 use Rattle.words.proofs.put_words.Statement.{statement}
 use Rattle.words.proofs.put_words.Tie as tie
 
-abbrev st : tie.After-marks-word → tie.Start
-st c = c .before .before .before .before .before
+-- the places
+abbrev at-points : tie.After-marks-word → tie.After-put-points
+at-points c = c .before .before .before .before .before
+
+abbrev st : tie.After-put-points → tie.Start
+st c = c .before .before .before .before .before .before
 
 all-marks : tie.Need-slice-aggregate-marks-word
 all-marks c = search needs
@@ -19,6 +24,8 @@ pub put-words-spec : {M : Type 1} → statement M
 put-words-spec =
     tie.close
     (tie.spec
+    (λ c. search needs)
+    (λ c κs. search needs)
     (λ c. search needs)
     (λ c. simp length-set (omega arith))
     (λ c. simp length-set (omega arith))
@@ -30,6 +37,6 @@ put-words-spec =
     all-marks
     (λ c κs. omega (arith, all-marks c))
     (λ c. simp length-set (omega arith))
-    (λ c. search needs)
-    (λ c. let g = st c in
-    words-put (recordIn (g .args .store)) (g .args .words .now) _ _ (g .pre) (flag-word (g .args .store .written)) (c .marks-word .ensures)))
+    (λ c. simp length-set (omega arith))
+    (λ c. let p = at-points c in let g = st p in
+    words-put (recordIn (g .args .store)) (g .args .words .now) _ _ _ (g .pre) (p .put-points .ensures) (flag-word (g .args .store .written)) (c .marks-word .ensures)))

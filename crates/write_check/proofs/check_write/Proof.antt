@@ -22,7 +22,7 @@ use Rattle.write_check.proofs.check_write.Statement.{statement}
 use Rattle.write_check.proofs.check_write.Tie as tie
 
 abbrev R : tie.Start → Record
-R g = recordOf (g .args .sizes) (g .args .capacity) (g .args .written) (g .args .len) (g .args .marks .now)
+R g = recordOf (g .args .sizes) (g .args .points .now) (g .args .capacity) (g .args .written) (g .args .len) (g .args .marks .now)
 
 -- the lines that each check asks, and those after it
 abbrev longs : tie.Start → List (List Line)
@@ -40,7 +40,7 @@ whole g = grouped (areas g)
 
 -- 1 SIZE, 2 AREA
 abbrev st-area : tie.After-check-area → tie.Start
-st-area c = c .before .before .before
+st-area c = c .before .before .before .before
 
 no-area : (c : tie.After-lent) → Refuse (c .lent .given .0 .0) ≡ answer (st-area (c .before .before))
 no-area c = let k = c .before .before in refuses _ (whole (st-area k)) (k .check-area .ensures) (c .lent .given .1)

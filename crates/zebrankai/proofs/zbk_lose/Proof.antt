@@ -5,11 +5,10 @@ use mathlib.Core.Bool.{true}
 use mathlib.Core.List.{List, []}
 use Prim.Native.Nat.{ℕ}
 use borrow.Author.Needs.{needs}
-use Rattle.mbcr.specs.Share.{standard}
 use Rattle.store_spec.specs.Record.{Record}
 use Rattle.store_spec.specs.Calls.{StoreOutcome}
 use Rattle.store_spec.specs.Ledger.{lose, act}
-use Rattle.words.specs.Words.{isRecord}
+use Rattle.record_words.specs.Words.{isRecord}
 use Rattle.zebrankai.proofs.Worded.{is-record, none-lent, lent-on, handed-asks, lose-few}
 use Rattle.zebrankai.proofs.zbk_lose.Statement.{statement}
 use Rattle.zebrankai.proofs.zbk_lose.Tie as tie
@@ -32,7 +31,7 @@ st-call c = st (at-else c .before)
 
 -- the store's call
 abbrev call : tie.Start → List ℕ → Record → StoreOutcome
-call g area s = act standard (record { kept = s; area = area }) (lose (g .args .board))
+call g area s = act (record { kept = s; area = area }) (lose (g .args .board))
 
 -- the words are a record's
 is-one : (c : tie.Else1) → isRecord (st (c .before) .args .ws .now) ≡ true

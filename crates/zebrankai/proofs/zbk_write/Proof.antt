@@ -4,11 +4,10 @@ use mathlib.Core.Path.{_≡_}
 use mathlib.Core.Bool.{true}
 use mathlib.Core.List.{[]}
 use borrow.Author.Needs.{needs}
-use Rattle.mbcr.specs.Share.{standard}
 use Rattle.store_spec.specs.Record.{Record}
 use Rattle.store_spec.specs.Calls.{StoreOutcome}
 use Rattle.store_spec.specs.Ledger.{write, act}
-use Rattle.words.specs.Words.{isRecord}
+use Rattle.record_words.specs.Words.{isRecord}
 use Rattle.zebrankai.proofs.Worded.{is-record, none-lent, lent-on, handed-asks, write-few}
 use Rattle.zebrankai.proofs.zbk_write.Statement.{statement}
 use Rattle.zebrankai.proofs.zbk_write.Tie as tie
@@ -31,7 +30,7 @@ st-call c = st (at-else c .before)
 
 -- the store's call
 abbrev call : tie.Start → Record → StoreOutcome
-call g s = act standard (record { kept = s; area = g .args .area .now }) (write (g .args .file .now))
+call g s = act (record { kept = s; area = g .args .area .now }) (write (g .args .file .now))
 
 -- the words are a record's
 is-one : (c : tie.Else1) → isRecord (st (c .before) .args .ws .now) ≡ true

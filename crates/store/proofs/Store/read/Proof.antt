@@ -4,7 +4,6 @@ use mathlib.Core.Path.{_≡_, refl, sym, ap, _∙_}
 use lib.ListN.{length}
 use borrow.Author.Needs.{needs}
 use Rattle.sizes.specs.declared.Check.the-variants.{Pass}
-use Rattle.mbcr.specs.Share.{standard}
 use Rattle.store_spec.specs.Record.{Record}
 use Rattle.store_spec.specs.Calls.{refused, readCall}
 use Rattle.store_spec.proofs.Records.{Reads, read-facts}
@@ -16,14 +15,14 @@ use Rattle.store.proofs.Store.read.Statement.{statement}
 use Rattle.store.proofs.Store.read.Tie as tie
 
 -- the places
-abbrev at-inverses : tie.After-check-read → tie.After-fill-inverses
-at-inverses c = c .before .before .before .before .before .before .before
+abbrev at-points : tie.After-check-read → tie.After-points2
+at-points c = c .before .before .before .before .before
 
-abbrev at-points : tie.After-check-read → tie.After-standard-points
-at-points c = at-inverses c .before .before
+abbrev at-inverses : tie.After-check-read → tie.After-fill-inverses
+at-inverses c = at-points c .before .before
 
 abbrev st : tie.After-check-read → tie.Start
-st c = at-points c .before .before .before .before .before .before
+st c = at-inverses c .before .before .before .before .before .before .before .before
 
 abbrev at-check : tie.After-enum-told → tie.After-check-read
 at-check c = c .before .before .before
@@ -32,23 +31,26 @@ abbrev R : tie.After-check-read → Record
 R c = recordIn (st c .args .self)
 
 -- what the check told
-passed : (c : tie.After-enum-told) → let k = at-check c in checked standard (R k) (st k .args .area .now) (st k .args .boards .now) (st k .args .out .now) ≡ Pass
+passed : (c : tie.After-enum-told) → let k = at-check c in checked (R k) (st k .args .area .now) (st k .args .boards .now) (st k .args .out .now) ≡ Pass
 passed c = sym (at-check c .check-read .ensures .0) ∙ c .enum-told .given .1
 
 facts : (c : tie.After-enum-told) → let k = at-check c in Reads (R k) (length (st k .args .area .now)) (st k .args .boards .now) (st k .args .out .now)
-facts c = let k = at-check c in read-facts standard (R k) (st k .args .area .now) (st k .args .boards .now) (st k .args .out .now) (passed c) .0
+facts c = let k = at-check c in read-facts (R k) (st k .args .area .now) (st k .args .boards .now) (st k .args .out .now) (passed c) .0
 
-asks : (c : tie.After-enum-told)
-    → let k = at-check c in Readable (R k) (at-points k .standard-points .result) (length (st k .args .area .now)) (st k .args .boards .now)
+asks : (c : tie.After-enum-told) → let k = at-check c in Readable (R k) (length (st k .args .area .now)) (st k .args .boards .now)
 asks c =
     let k = at-check c in
     let f = facts c in
-    readable (R k) _ _ (st k .args .boards .now) (at-points k .standard-points .ensures) (f .is-sound) (f .area-is) (f .count) (f .named-below) (f .all-different)
+    readable (R k) _ (st k .args .boards .now) (f .is-sound) (f .area-is) (f .count) (f .named-below) (f .all-different)
 
 -- the tables are made
 made : (c : tie.After-enum-told)
-    → let k = at-check c in Made (R k .sizes) (at-points k .standard-points .result) (st k .args .boards .now) (k .check-read .last .1 .1 .1 .1 .1 .1 .1 .1 .1 .1 .0)
+    → let k = at-check c in Made (R k .sizes) (R k .points) (st k .args .boards .now) (k .check-read .last .1 .1 .1 .1 .1 .1 .1 .1 .1 .1 .0)
 made c = at-check c .check-read .ensures .1 (c .enum-told .given .1)
+
+-- there are 32 points
+points-long : tie.Need-slice-aggregate-check-read
+points-long c = search needs
 
 -- the work
 file-asks : tie.Need-file-requires
@@ -65,24 +67,23 @@ read-done c =
     let w = c .before .before in
     let t = w .before .before .before .before .before in
     let k = at-check t in
-    read-works standard (R k) (st k .args .area .now) (st k .args .boards .now) (st k .args .out .now) _ _ (at-points k .standard-points .ensures) (passed t) (w .file .ensures)
+    read-works (R k) (st k .args .area .now) (st k .args .boards .now) (st k .args .out .now) _ (passed t) (w .file .ensures)
 
 read-refused : (c : tie.After-x)
     → let k = c .before .before .before in let a = st k .args in
-    refused (R k) (a .area .now) (a .out .now) (c .x .given .0 .0) ≡ readCall standard (R k) (a .area .now) (a .boards .now) (a .out .now)
+    refused (R k) (a .area .now) (a .out .now) (c .x .given .0 .0) ≡ readCall (R k) (a .area .now) (a .boards .now) (a .out .now)
 read-refused c =
     let k = c .before .before .before in
     let a = st k .args in
-    read-refuses standard (R k) (a .area .now) (a .boards .now) (a .out .now) (k .check-read .ensures .0) (c .x .given .1)
+    read-refuses (R k) (a .area .now) (a .boards .now) (a .out .now) (k .check-read .ensures .0) (c .x .given .1)
 
 pub read-spec : {M : Type 1} → statement M
 read-spec =
     tie.close
     (tie.spec
-    (λ c κs. search needs)
     (λ c. search needs)
     (λ c κs. search needs)
-    (λ c. search needs)
+    points-long
     (λ c. search needs)
     (λ c. search needs)
     (λ c. search needs)
@@ -93,7 +94,7 @@ read-spec =
     (λ c. c .refuse .ensures _ _ ∙ read-refused (c .before .before))
     (λ c. search needs)
     (λ c κs. asks c .is-ready .stated)
-    (λ c. search needs)
+    (λ c. points-long (at-points (at-check (c .before .before))))
     (λ c. search needs)
     file-asks
     (λ c. search needs)

@@ -7,13 +7,10 @@ use lib.ListN.{length}
 use borrow.Author.Needs.{needs}
 use Rattle.sizes.specs.declared.Check.the-variants.{Pass}
 use Rattle.sizes.proofs.Legal.{legal-facts}
-use Rattle.mbcr.specs.Share.{DifferentPoints, standard}
-use Rattle.mbcr.proofs.Points.{standard-points}
 use Rattle.factors.proofs.Values.{below-more}
 use Rattle.store_spec.specs.Record.{Record}
 use Rattle.store_spec.specs.Calls.{refused, repairCall}
 use Rattle.store_spec.proofs.Records.{repair-facts}
-use Rattle.shared_checks.proofs.Facts.{standard-enough}
 use Rattle.repair_check.proofs.Repairable.{Repairable, repairable}
 use Rattle.store.specs.Handing.{recordIn}
 use Rattle.store.proofs.RepairCall.{checked, repair-refuses, repair-works}
@@ -22,16 +19,13 @@ use Rattle.store.proofs.Store.repair.Tie as tie
 
 -- the places
 abbrev st : tie.After-check-repair → tie.Start
-st c = c .before .before .before .before .before .before .before
+st c = c .before .before .before .before .before .before .before .before .before
 
 abbrev R : tie.After-check-repair → Record
 R c = recordIn (st c .args .self)
 
-abbrev at-points : tie.After-stripe-count → tie.After-standard-points
-at-points c = c .before .before .before .before
-
 abbrev at-told : tie.After-stripe-count → tie.After-enum-told
-at-told c = at-points c .before
+at-told c = c .before .before .before .before
 
 abbrev at-count : tie.After-repair-shares-arg → tie.After-stripe-count
 at-count c = c .before .before .before .before
@@ -41,29 +35,25 @@ at-shares c = c .before .before .before
 
 -- what the check told
 passed : (c : tie.After-enum-told)
-    → let k = c .before .before in let a = st k .args in checked standard (R k) (a .area .now) (a .fresh .now) (a .helpers .now) ≡ Pass
+    → let k = c .before .before in let a = st k .args in checked (R k) (a .area .now) (a .fresh .now) (a .helpers .now) ≡ Pass
 passed c = sym (c .before .before .check-repair .ensures) ∙ c .enum-told .given .1
 
-asks : (c : tie.After-standard-points)
-    → let k = c .before .before .before in let a = st k .args in Repairable (R k) (c .standard-points .result) (length (a .area .now)) (a .fresh .now) (a .helpers .now)
+asks : (c : tie.After-enum-told) → let k = c .before .before in let a = st k .args in Repairable (R k) (length (a .area .now)) (a .fresh .now) (a .helpers .now)
 asks c =
-    let k = c .before .before .before in
+    let k = c .before .before in
     let a = st k .args in
-    repairable (R k) _ _ (a .fresh .now) (a .helpers .now) (standard-enough _ (c .standard-points .ensures))
-    (repair-facts (R k) _ (a .fresh .now) (a .helpers .now) (passed (c .before)))
+    repairable (R k) _ (a .fresh .now) (a .helpers .now) (repair-facts (R k) _ (a .fresh .now) (a .helpers .now) (passed c))
 
 -- the work
 shares-ask : tie.Need-repair-shares-requires
 shares-ask c κs =
     let n = at-count c in
-    let f = asks (at-points n) in
-    let k = at-told n .before .before in
+    let f = asks (at-told n) in
     let r = f .is-ready in
-    let e-points = at-points n .standard-points .ensures in
     let e = n .stripe-count .ensures .0 in (
       r .stated .is-legal,
-      ap length e-points,
-      subst (DifferentPoints (R k .sizes)) (sym e-points) (standard-points (R k .sizes) (legal-facts _ (r .stated .is-legal) .few)),
+      r .points-taken .long,
+      r .points-taken .differ,
       n .before .before .fill-inverses .ensures,
       f .fresh-count,
       f .fresh-known,
@@ -78,14 +68,14 @@ shares-ask c κs =
     )
 
 -- there are 32 marks
-marks-long : tie.Need-slice-aggregate-check-repair
+marks-long : tie.Need-slice-aggregate-check-repair-2
 marks-long c = search needs
 
 marks-ask : tie.Need-marks-on-requires
 marks-ask c κs =
-    let p = at-points (at-count (at-shares c .before)) in
-    let k = p .before .before .before in
-    let f = asks p in
+    let t = at-told (at-count (at-shares c .before)) in
+    let k = t .before .before in
+    let f = asks t in
     below-more (R k .sizes .n) (length (R k .marks)) (st k .args .fresh .now) (omega (arith, marks-long (k .before), legal-facts _ (f .is-ready .stated .is-legal) .few)) (f .fresh-known)
 
 repair-done : tie.Need-returns-2
@@ -95,31 +85,31 @@ repair-done c =
     let n = at-count (w .before) in
     let k = at-told n .before .before in
     let a = st k .args in
-    repair-works standard (R k) (a .area .now) (a .fresh .now) (a .helpers .now) _ _ _ _ _ (passed (at-told n)) (at-points n .standard-points .ensures) (n .stripe-count .ensures .0)
+    repair-works (R k) (a .area .now) (a .fresh .now) (a .helpers .now) _ _ _ _ (passed (at-told n)) (n .stripe-count .ensures .0)
     (w .before .before .before .before .bytes-moved .ensures) (m .marks-on .ensures) (w .repair-shares .ensures)
 
 repair-refused : (c : tie.After-x)
-    → let k = c .before .before in let a = st k .args in refused (R k) (a .area .now) [] (c .x .given .0 .0) ≡ repairCall standard (R k) (a .area .now) (a .fresh .now) (a .helpers .now)
+    → let k = c .before .before in let a = st k .args in refused (R k) (a .area .now) [] (c .x .given .0 .0) ≡ repairCall (R k) (a .area .now) (a .fresh .now) (a .helpers .now)
 repair-refused c =
     let k = c .before .before in
     let a = st k .args in
-    repair-refuses standard (R k) (a .area .now) (a .fresh .now) (a .helpers .now) (k .check-repair .ensures) (c .x .given .1)
+    repair-refuses (R k) (a .area .now) (a .fresh .now) (a .helpers .now) (k .check-repair .ensures) (c .x .given .1)
 
 pub repair-spec : {M : Type 1} → statement M
 repair-spec =
     tie.close
     (tie.spec
+    (λ c. search needs)
     marks-long
     (λ c κs. search needs)
     (λ c. search needs)
     (λ c κs. search needs)
     (λ c. c .refuse .ensures _ [] ∙ repair-refused (c .before .before))
     (λ c. search needs)
-    (λ c κs. search needs)
     (λ c. search needs)
     (λ c κs. search needs)
     (λ c κs. asks (c .before .before .before) .is-ready .stated)
-    (λ c κs. record { is-legal = asks (at-points c) .is-ready .stated .is-legal; few = c .stripe-count .ensures .1 })
+    (λ c κs. record { is-legal = asks (at-told c) .is-ready .stated .is-legal; few = c .stripe-count .ensures .1 })
     (λ c. search needs)
     (λ c. search needs)
     shares-ask

@@ -9,26 +9,28 @@ use Rattle.store.proofs.Settled.{set-up-refuses, set-up-works}
 use Rattle.store.proofs.Store.set_up.Statement.{statement}
 use Rattle.store.proofs.Store.set_up.Tie as tie
 
+-- where the call began; the points are its third argument
 abbrev st : tie.After-check-set-up → tie.Start
-st c = c .before
+st c = c .before .before
 
 set-up-refused : (c : tie.After-x)
-    → let a = st (c .before .before) .args in refused (recordIn (a .self)) [] [] (c .x .given .0 .0) ≡ setUpCall (recordIn (a .self)) (a .sizes) (a .capacity)
+    → let a = st (c .before .before) .args in refused (recordIn (a .self)) [] [] (c .x .given .0 .0) ≡ setUpCall (recordIn (a .self)) (a .sizes) (a .t3) (a .capacity)
 set-up-refused c =
     let k = c .before .before in
     let a = st k .args in
-    set-up-refuses (recordIn (a .self)) (a .sizes) (a .capacity) (k .check-set-up .ensures) (c .x .given .1)
+    set-up-refuses (recordIn (a .self)) (a .sizes) (a .t3) (a .capacity) (k .check-set-up .ensures) (c .x .given .1)
 
 set-up-done : tie.Need-returns-2
 set-up-done c =
     let k = c .before .before in
     let a = st k .args in
-    set-up-works (recordIn (a .self)) (a .sizes) (a .capacity) (sym (k .check-set-up .ensures) ∙ c .enum-told .given .1)
+    set-up-works (recordIn (a .self)) (a .sizes) (a .t3) (a .capacity) (sym (k .check-set-up .ensures) ∙ c .enum-told .given .1)
 
 pub set-up-spec : {M : Type 1} → statement M
 set-up-spec =
     tie.close
     (tie.spec
+    (λ c. search needs)
     (λ c κs. search needs)
     (λ c. search needs)
     (λ c κs. search needs)

@@ -10,7 +10,6 @@ use borrow.Author.Needs.{needs}
 use Rattle.sizes.specs.declared.Check.the-variants.{Pass}
 use Rattle.sizes.specs.Sizing.{B}
 use Rattle.sizes.proofs.Legal.{legal-facts, stripes-least}
-use Rattle.mbcr.specs.Share.{standard}
 use Rattle.store_spec.specs.Record.{Record}
 use Rattle.store_spec.specs.Calls.{refused, writeCall}
 use Rattle.store_spec.proofs.Records.{Sound, sound-facts, Writes, write-facts}
@@ -21,13 +20,13 @@ use Rattle.store.proofs.Store.write.Tie as tie
 
 -- the places
 abbrev st : tie.After-check-write → tie.Start
-st c = c .before .before .before .before .before .before
+st c = c .before .before .before .before .before .before .before .before
 
 abbrev R : tie.After-check-write → Record
 R c = recordIn (st c .args .self)
 
 -- what the check told
-passed : (c : tie.After-enum-told) → let k = c .before .before in checked standard (R k) (st k .args .area .now) (st k .args .file .now) ≡ Pass
+passed : (c : tie.After-enum-told) → let k = c .before .before in checked (R k) (st k .args .area .now) (st k .args .file .now) ≡ Pass
 passed c = sym (c .before .before .check-write .ensures) ∙ c .enum-told .given .1
 
 facts : (c : tie.After-enum-told) → let k = c .before .before in Writes (R k) (length (st k .args .area .now)) (st k .args .file .now)
@@ -44,43 +43,45 @@ at-most c =
     omega (arith, facts c .file-fits, p)
 
 -- the work
+all-points : tie.Need-slice-aggregate-write-shares
+all-points c = search needs
+
 shares-ask : tie.Need-write-shares-requires
 shares-ask c κs =
     let n = c .before .before in
-    let t = n .before .before in
+    let t = n .before in
     let s = R (t .before .before) in
     let f = sound-on t in
     let g = legal-facts _ (f .is-legal) in
     let e = n .stripe-count .ensures .0 in
-    let l : length (n .before .standard-points .result) ≡ 32 = ap length (n .before .standard-points .ensures) in
-    (f .is-legal, f .cap-high, l, e, rw e (stripes-least (s .sizes) g _ (s .capacity) (facts t .file-fits)), facts t .area-is)
+    (f .is-legal, f .cap-high, sym (all-points (c .before)), e, rw e (stripes-least (s .sizes) g _ (s .capacity) (facts t .file-fits)), facts t .area-is)
 
 write-done : tie.Need-returns-2
 write-done c =
     let w = c .before .before .before in
-    let p = w .before .before .before .before in
-    let k = p .before .before .before in
-    write-works standard (R k) (st k .args .area .now) (st k .args .file .now) _ _ _ (passed (p .before)) (c .first-on .ensures) (p .standard-points .ensures) (w .write-shares .ensures)
+    let t = w .before .before .before .before in
+    let k = t .before .before in
+    write-works (R k) (st k .args .area .now) (st k .args .file .now) _ _ (passed t) (c .first-on .ensures) (w .write-shares .ensures)
 
 write-refused : (c : tie.After-x)
-    → let k = c .before .before in let a = st k .args in refused (R k) (a .area .now) [] (c .x .given .0 .0) ≡ writeCall standard (R k) (a .area .now) (a .file .now)
+    → let k = c .before .before in let a = st k .args in refused (R k) (a .area .now) [] (c .x .given .0 .0) ≡ writeCall (R k) (a .area .now) (a .file .now)
 write-refused c =
     let k = c .before .before in
-    write-refuses standard (R k) (st k .args .area .now) (st k .args .file .now) (k .check-write .ensures) (c .x .given .1)
+    write-refuses (R k) (st k .args .area .now) (st k .args .file .now) (k .check-write .ensures) (c .x .given .1)
 
 pub write-spec : {M : Type 1} → statement M
 write-spec =
     tie.close
     (tie.spec
     (λ c. search needs)
+    (λ c. search needs)
     (λ c κs. search needs)
     (λ c. search needs)
     (λ c κs. search needs)
     (λ c. c .refuse .ensures _ [] ∙ write-refused (c .before .before))
     (λ c. search needs)
-    (λ c κs. search needs)
-    (λ c κs. record { is-legal = sound-on (c .before) .is-legal; not-long = at-most (c .before) })
-    (λ c. search needs)
+    (λ c κs. record { is-legal = sound-on c .is-legal; not-long = at-most c })
+    all-points
     shares-ask
     (λ c κs. search needs)
     (λ c. search needs)

@@ -1,0 +1,49 @@
+-- What holds of the points printer. Of its six lines and a file it is said what is written, for any sizes, points, board and file; the line with
+-- another number of pairs is refused; with points 0 to n − 1 in order it writes what the share printer writes; and byte by byte the same is written
+-- as the definition says.
+-- Assumes nothing.
+use mathlib.Core.Path.{_≡_}
+use mathlib.Core.Bool.{true, false}
+use mathlib.Core.Logic.{_≢_}
+use mathlib.Core.List.{List, [], _∷_, _++_}
+use Prim.Native.Nat.{ℕ, _*_, _≤_, _<_}
+use lib.ListN.{length}
+use Rattle.lists.specs.Lists.{Bytes, tabulate, joined, fit}
+use Rattle.sizes.specs.declared.Sizes.{Sizes}
+use Rattle.sizes.specs.Sizing.{legal, B}
+use Rattle.mbcr.specs.Share.{pointed, share}
+use Rattle.board_spec.specs.Text.{decimal, hexPair, textLine, shareText}
+use Rattle.printer.specs.Laws.{asks}
+use Rattle.printer.specs.Printer.{refusedLine, printed}
+use Rattle.printer.specs.Steps.{accepted, begin, runs}
+use Rattle.points_print.specs.PointsPrinter.{pointsPrinted}
+
+-- points=, pairs, byte 0A
+abbrev pub pointsText : List ℕ → List ℕ
+pointsText xs = textLine (0x70 ∷ 0x6F ∷ 0x69 ∷ 0x6E ∷ 0x74 ∷ 0x73 ∷ []) (joined hexPair xs)
+
+-- the six lines and the file
+abbrev pub asksPoints : Sizes → List ℕ → ℕ → List ℕ → List ℕ
+asksPoints z xs node file = asks (decimal (z .n)) (decimal (z .k)) (decimal (z .d)) (decimal (z .r)) (decimal node) (pointsText xs ++ file)
+
+-- what is written for sizes, a board and a file, at points in 32 bytes: the refusals in their order, and else the share's text
+pub record PointsFor (z : Sizes) (xs : List ℕ) (node : ℕ) (file written : List ℕ) : Type 0 where
+  pub illegal : legal z ≡ false → written ≡ refusedLine 1
+  pub not-taken : legal z ≡ true → pointed z xs ≡ false → written ≡ refusedLine 1
+  pub over-16384 : legal z ≡ true → pointed z xs ≡ true → 16384 < length file → written ≡ refusedLine 3
+  pub over-stripes : legal z ≡ true → pointed z xs ≡ true → 4096 * B z < length file → written ≡ refusedLine 3
+  pub no-board : legal z ≡ true → pointed z xs ≡ true → length file ≤ 16384 → length file ≤ 4096 * B z → z .n ≤ node → written ≡ refusedLine 5
+  pub text : legal z ≡ true → pointed z xs ≡ true → length file ≤ 16384 → length file ≤ 4096 * B z → node < z .n
+      → written ≡ shareText z xs (length file) node (share z xs file node)
+
+pub record PointsLaws : Type 0 where
+  pub printed-for : (z : Sizes) (xs : List ℕ) (node : ℕ) (file : List ℕ) → Bytes xs → length xs ≡ z .n
+      → PointsFor z (fit 32 xs) node file (pointsPrinted (asksPoints z xs node file))
+  -- another number of pairs than n
+  pub other-count : (z : Sizes) (xs : List ℕ) (node : ℕ) (file : List ℕ) → Bytes xs → length xs ≢ z .n
+      → pointsPrinted (asksPoints z xs node file) ≡ refusedLine 1
+  -- "The earlier programs keep points 0 to n − 1"
+  pub in-order : (z : Sizes) (node : ℕ) (file : List ℕ) → legal z ≡ true
+      → pointsPrinted (asksPoints z (tabulate (z .n) (λ i. i)) node file)
+      ≡ printed (asks (decimal (z .n)) (decimal (z .k)) (decimal (z .d)) (decimal (z .r)) (decimal node) file)
+  pub byte-by-byte : (input : List ℕ) → runs (begin true) [] input ≡ pointsPrinted input

@@ -1,0 +1,3 @@
+pub mod PointsPrinter
+pub mod Laws
+pub mod Figures

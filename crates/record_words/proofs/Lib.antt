@@ -1,0 +1,4 @@
+pub mod Bits
+pub mod Points
+pub mod Laws
+pub mod Figures
