@@ -1,10 +1,10 @@
 /*
  * zebrankai.h: the calls of the archive libzebrankai.a for C and C++.
  *
- * A stock store for picking robots: a file is spread over n shelf boards so that any k of them give it back, and r fresh boards are rebuilt
- * together, each from d helpers and the other fresh boards (arXiv 1207.0879, section IV).
+ * A stock store for picking robots: a file is spread over n shelf boards so that any k of them give it back, and up to r fresh boards are rebuilt
+ * together, each from d helpers, the other fresh boards, and stand-ins for as many as there are less than r (arXiv 1207.0879, section IV).
  *
- * Sizes:   n boards, numbered 0 to n - 1; k read; d helpers; r fresh boards. Legal: 1 <= k <= d, r >= 1, d + r <= n <= 32.
+ * Sizes:   n boards, numbered 0 to n - 1; k read; d helpers; at most r fresh boards. Legal: 1 <= k <= d, r >= 1, d + r <= n <= 32.
  * Points:  a byte for each board, at which its share is worked out. A list of points has 32 bytes: the first n are the boards', all different,
  *          the rest 00. Board i has the point i on present robots (zbk_standard_points), i + 1 on robots of the first series
  *          (zbk_first_series_points). All boards of a file have shares at the same points.
@@ -47,7 +47,7 @@ enum {
     ZBK_RECORD_WORDS = 12
 };
 
-/* Why a call was refused. Where several hold, the first is given: of the store in the order 1, 2, 3, 8, 4, 5, 6, 9, 7, 10, at board level
+/* Why a call was refused. Where several hold, the first is given: of the store in the order 1, 2, 3, 8, 4, 5, 6, 14, 9, 7, 10, at board level
  * in the order 1, 3, 4, 5, 6, 2, 7, 10. 11 is not used: no call answers it. */
 enum zbk_refusal_number {
     /* The call was accepted. */
@@ -60,7 +60,7 @@ enum zbk_refusal_number {
     ZBK_AREA = 2,
     /* The file is longer than the store's capacity, or than 4,096 stripes at board level. */
     ZBK_LONG = 3,
-    /* A list has the wrong number of boards. */
+    /* A list has the wrong number of boards, or there are not 1 to r fresh boards. */
     ZBK_COUNT = 4,
     /* A board number is n or more. */
     ZBK_NODE = 5,
@@ -70,10 +70,12 @@ enum zbk_refusal_number {
     ZBK_SHORT = 7,
     /* A repair or a read before any file was written. */
     ZBK_EMPTY = 8,
-    /* A board to read from, or a helper, is out of service. */
+    /* A board to read from, a helper or a stand-in is out of service. */
     ZBK_DOWN = 9,
     /* No file of this length has these shares. */
-    ZBK_DISAGREE = 10
+    ZBK_DISAGREE = 10,
+    /* A fresh board is in service. */
+    ZBK_SERVING = 14
 };
 
 /* The words of a record, by place. Keep them together with the area; change them only by the calls. A record of eight words, as calls without
@@ -132,7 +134,8 @@ uint64_t zbk_exchange_packet(size_t n, size_t k, size_t d, size_t r, const uint8
                              const size_t *helpers, size_t helpers_count, const uint8_t *packets, size_t packets_len, size_t receiver,
                              uint8_t *out, size_t out_len);
 
-/* The share of the fresh board `board`, from the packets of its d helpers and of the r - 1 other fresh boards: S(2d + r - 1) bytes. */
+/* The share of the fresh board `board`, from the packets of its d helpers and of its r - 1 partners: S(2d + r - 1) bytes. A partner is another
+ * fresh board, which sends its exchange packet, or a stand-in, which sends the second byte of each pair of its helper packet: S bytes both. */
 uint64_t zbk_finished_share(size_t n, size_t k, size_t d, size_t r, const uint8_t *points, size_t points_len, size_t length, size_t board,
                             const size_t *helpers, size_t helpers_count, const uint8_t *packets, size_t packets_len,
                             const size_t *partners, size_t partners_count, const uint8_t *partner_packets, size_t partner_packets_len,
@@ -157,10 +160,13 @@ uint64_t zbk_write(uint64_t *record, size_t record_words, uint8_t *area, size_t 
 /* Takes a board out of service. */
 uint64_t zbk_lose(uint64_t *record, size_t record_words, size_t board);
 
-/* Rebuilds r fresh boards together. `helpers` has r * d numbers: the d helpers of the first fresh board, then those of the second, and so
- * on. All fresh boards come into service; reports the bytes moved between boards. */
+/* Rebuilds t fresh boards together, 1 to r of them, each out of service; t is fresh_count. `helpers` has t * d numbers: the d helpers of the first
+ * fresh board, then those of the second, and so on. `stand_ins` has t * (r - t), in the same order: r - t for each fresh board, none where t is r.
+ * A stand-in sends half of what a helper sends. The helpers and stand-ins of one fresh board are all different, and no fresh board is among those
+ * of any; a helper of one may stand in for another. All fresh boards come into service; reports the bytes moved between boards,
+ * S * t * (2d + r - 1). */
 uint64_t zbk_repair(uint64_t *record, size_t record_words, uint8_t *area, size_t area_len, const size_t *fresh, size_t fresh_count,
-                    const size_t *helpers, size_t helpers_count);
+                    const size_t *helpers, size_t helpers_count, const size_t *stand_ins, size_t stand_ins_count);
 
 /* Reads the file from k boards into the first bytes of out; the rest of out stays. What record and area say does not change. */
 uint64_t zbk_read(uint64_t *record, size_t record_words, const uint8_t *area, size_t area_len, const size_t *boards, size_t boards_count,

@@ -70,7 +70,7 @@ includedir=\${prefix}/include
 libdir=\${prefix}/lib
 
 Name: zebrankai
-Description: A proved stock store: a file over n shelf boards, any k give it back, r rebuilt together
+Description: A proved stock store: a file over n shelf boards, any k give it back, up to r rebuilt together
 Version: $(sed -n 's/^version = "\(.*\)"$/\1/p' bindings/rust/Cargo.toml)
 Cflags: -I"\${includedir}"
 Libs: -L"\${libdir}" -lzebrankai

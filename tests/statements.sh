@@ -1,6 +1,6 @@
 #!/bin/sh
 # docs/STATEMENTS.md is true to the tree: each file that it names is there, each name that it cites in `file: name` stands in that file, each
-# must-fail edit that it names exists and each edit of the tree is named; and the definitions a buyer reads are at most 700 lines. Then that
+# must-fail edit that it names exists and each edit of the tree is named; and the definitions a buyer reads are at most 745 lines. Then that
 # docs/ARCHITECTURE.md is true to crates.txt.
 set -eu
 cd "$(dirname "$0")/.."
@@ -39,7 +39,8 @@ definitions=$(ls crates/*/specs/*.antt | grep -v -e '/Lib.antt$')
 inner=$(ls crates/*/specs/Steps.antt crates/gf256_mul/specs/Tables.antt)
 # the archive's words, beside the calls that they are for
 archive='crates/answer_word/specs/Answers.antt crates/record_words/specs/Words.antt crates/zebrankai/specs/Archive.antt crates/zebrankai/specs/Lent.antt'
-# what a later request defines in files of its own, each with its most lines; the base's 700 are without them
+# what a later request defines in files of its own, each with its most lines; they are not among the 745, which are 700 for the base with its points
+# and 45 for what stand-ins (request A.3) add to the base's own definitions
 requests='crates/size_list/specs/Combinations.antt:45'
 later=$(for f in $requests; do echo "${f%:*}"; done)
 for f in $tables $claims $inner $archive $later; do definitions=$(printf '%s\n' $definitions | grep -vxF "$f"); done
@@ -55,7 +56,7 @@ for f in $requests; do
 done
 r=$(lines $later)
 grep -qF "Definitions of requests in files of their own: $r lines" "$page" || complain "it does not say that requests' own definitions have $r lines"
-[ "$d" -le 700 ] || complain "the definitions have $d lines, more than 700"
+[ "$d" -le 745 ] || complain "the definitions have $d lines, more than 745"
 grep -qF "$d lines without imports" "$page" || complain "it does not say that the definitions have $d lines"
 grep -qF "Theorem statements: $c lines" "$page" || complain "it does not say that the theorem statements have $c lines"
 grep -qF "Tables of figures: $t lines" "$page" || complain "it does not say that the tables have $t lines"

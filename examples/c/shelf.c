@@ -1,7 +1,8 @@
 /*
  * shelf.c: a stock file on seven shelf boards, in C, on a present robot and on one of the first series, whose boards have other points. It is
- * written, two boards are lost and rebuilt together, and it is read back from boards of which two are the rebuilt ones; and the share of one of
- * them is printed. Every answer is checked; the program ends with 0 only where the file came back as it was written, on both robots.
+ * written, a single board is lost and rebuilt, then two others are lost and rebuilt together, and it is read back from the three rebuilt boards
+ * only; and the share of one of them is printed. Every answer is checked; the program ends with 0 only where the file came back as it was written,
+ * on both robots.
  *
  * Build, from the top folder:  cc -std=c11 -Iinclude examples/c/shelf.c target/staticlib/libzebrankai.a -o shelf
  */
@@ -12,7 +13,7 @@
 #include <stdlib.h>
 #include <string.h>
 
-/* boards, boards that give the file back, helpers of each fresh board, boards rebuilt together */
+/* boards, boards that give the file back, helpers of each fresh board, the most boards rebuilt together */
 enum { N = 7, K = 3, D = 4, R = 2 };
 
 /* bytes of a share for each stripe, and file bytes that a stripe carries */
@@ -45,6 +46,22 @@ static void refused(const char *call, uint64_t answer, unsigned number) {
 /* Fills a lost board's part of the area with other bytes, as a new board would come. */
 static void spoil(uint8_t *area, size_t board) { memset(area + board * CAPACITY * SHARE, 0xEE, CAPACITY * SHARE); }
 
+/* Loses one board and rebuilds it alone: of the other boards four help, and one stands in for a second fresh board. Gives the bytes moved. */
+static uint64_t swap_one(uint64_t *record, uint8_t *area) {
+    const size_t lost[1] = {6}, helpers[D] = {0, 1, 2, 3}, stand_ins[R - 1] = {4};
+    refused("a repair of a board in service",
+            zbk_repair(record, ZBK_RECORD_WORDS, area, AREA, lost, 1, helpers, D, stand_ins, R - 1), ZBK_SERVING);
+    accepted("lose", zbk_lose(record, ZBK_RECORD_WORDS, lost[0]));
+    spoil(area, lost[0]);
+    printf("board %zu lost\n", lost[0]);
+    refused("a repair of one board without a stand-in",
+            zbk_repair(record, ZBK_RECORD_WORDS, area, AREA, lost, 1, helpers, D, stand_ins, 0), ZBK_COUNT);
+    const uint64_t moved =
+        accepted("repair of one board", zbk_repair(record, ZBK_RECORD_WORDS, area, AREA, lost, 1, helpers, D, stand_ins, R - 1));
+    printf("board %zu rebuilt, board %zu standing in, %llu bytes moved\n", lost[0], stand_ins[0], (unsigned long long)moved);
+    return moved;
+}
+
 /* Begins the share of a board as text: all lines but the last, which is its bytes. Gives whether a line has the points. */
 static int print_text(const uint64_t *record, const uint8_t *points, const uint8_t *area, size_t board) {
     const size_t length = record[ZBK_WORD_LENGTH];
@@ -69,6 +86,8 @@ static int robot(const uint8_t *points, uint8_t *area, uint8_t *out, size_t leng
     accepted("write", zbk_write(record, ZBK_RECORD_WORDS, area, AREA, (const uint8_t *)stock, length));
     printf("%zu bytes written to %d boards with the points %d to %d\n", length, N, points[0], points[N - 1]);
 
+    const uint64_t moved_for_one = swap_one(record, area);
+
     const size_t lost[R] = {1, 4};
     for (size_t i = 0; i < R; i++) {
         accepted("lose", zbk_lose(record, ZBK_RECORD_WORDS, lost[i]));
@@ -78,9 +97,9 @@ static int robot(const uint8_t *points, uint8_t *area, uint8_t *out, size_t leng
     const size_t readers[K] = {4, 1, 6};
     refused("a read of lost boards", zbk_read(record, ZBK_RECORD_WORDS, area, AREA, readers, K, out, length), ZBK_DOWN);
 
-    /* four helpers for board 1, four for board 4 */
-    const size_t helpers[R * D] = {0, 2, 3, 5, 6, 5, 3, 2};
-    const uint64_t moved = accepted("repair", zbk_repair(record, ZBK_RECORD_WORDS, area, AREA, lost, R, helpers, R * D));
+    /* four helpers for board 1, four for board 4, and nobody stands in: the list has no elements, and is no null pointer */
+    const size_t helpers[R * D] = {0, 2, 3, 5, 6, 5, 3, 2}, none[1] = {0};
+    const uint64_t moved = accepted("repair", zbk_repair(record, ZBK_RECORD_WORDS, area, AREA, lost, R, helpers, R * D, none, 0));
     printf("boards 1 and 4 rebuilt together, %llu bytes moved\n", (unsigned long long)moved);
 
     accepted("read", zbk_read(record, ZBK_RECORD_WORDS, area, AREA, readers, K, out, length));
@@ -90,7 +109,8 @@ static int robot(const uint8_t *points, uint8_t *area, uint8_t *out, size_t leng
     /* the text says the points where board i has another one than i */
     const int said = print_text(record, points, area, 4) == (points[0] != 0);
     const uint64_t stripes = (length + STRIPE - 1) / STRIPE;
-    return same && said && moved == stripes * R * (2 * D + R - 1);
+    const uint64_t board_moved = stripes * (2 * D + R - 1);
+    return same && said && moved_for_one == board_moved && moved == R * board_moved;
 }
 
 int main(void) {

@@ -1,11 +1,12 @@
-//! The demo: a small stock file on eight shelf boards. Two boards are lost and rebuilt together, then two others, and the file is read back
-//! from the four rebuilt boards only. Then the same file on a robot of the first series, whose boards have other points: two boards are lost and
-//! rebuilt, one of them is printed as text, and the file is read back. Prints what happens, board by board, and how many bytes the bus carried.
+//! The demo: a small stock file on eight shelf boards. Two boards are lost and rebuilt together, then two others one at a time, each with a board
+//! that stands in, and the file is read back from the four rebuilt boards only. Then the same file on a robot of the first series, whose boards have
+//! other points: two boards are lost and rebuilt, one of them is printed as text, and the file is read back. Prints what happens, board by board,
+//! and how many bytes the bus carried.
 
 use std::error::Error;
 use zebrankai::{board, Points, Record, Sizes};
 
-/// Eight boards; any four give the file back; each fresh board hears six helpers; two are rebuilt together.
+/// Eight boards; any four give the file back; each fresh board hears six helpers; up to two are rebuilt together.
 const SIZES: Sizes = Sizes { n: 8, k: 4, d: 6, r: 2 };
 
 /// Stripes that each board has room for.
@@ -35,23 +36,24 @@ fn main() -> Result<(), Box<dyn Error>> {
     println!("\n1. It is written to {} boards. Any {} of them give it back.\n", SIZES.n, SIZES.k);
     shelf.print_boards();
 
-    shelf.swap(2, [2, 5])?;
-    shelf.swap(4, [0, 7])?;
+    shelf.swap(2, &[2, 5])?;
+    shelf.swap(4, &[0])?;
+    shelf.swap(6, &[7])?;
 
-    println!("\n6. The file is read from the four rebuilt boards only: 2, 5, 0 and 7.\n");
+    println!("\n8. The file is read from the four rebuilt boards only: 2, 5, 0 and 7.\n");
     shelf.read(&[2, 5, 0, 7], file)?;
 
-    println!("\n7. A robot of the first series keeps the same file. There board i has the point i + 1 and not i, so the boards");
+    println!("\n9. A robot of the first series keeps the same file. There board i has the point i + 1 and not i, so the boards");
     println!("   hold other bytes.\n");
     let mut shelf = Shelf::write(Points::first_series(SIZES.n), file)?;
     shelf.print_boards();
 
-    shelf.swap(8, [3, 4])?;
+    shelf.swap(10, &[3, 4])?;
 
-    println!("\n10. Board 3 is printed as text, which says the points of all boards.\n");
+    println!("\n12. Board 3 is printed as text, which says the points of all boards.\n");
     shelf.print_text(3)?;
 
-    println!("\n11. The file is read from boards 3, 4, 6 and 1.\n");
+    println!("\n13. The file is read from boards 3, 4, 6 and 1.\n");
     shelf.read(&[3, 4, 6, 1], file)
 }
 
@@ -101,27 +103,52 @@ impl Shelf {
         }
     }
 
-    /// Takes two boards out, and rebuilds new ones in their places together. `step` is the number of the first of the two steps.
-    fn swap(&mut self, step: usize, boards: [usize; 2]) -> Result<(), Box<dyn Error>> {
-        let [one, other] = boards;
-        for board in boards {
+    /// Takes boards out, and rebuilds new ones in their places together. `step` is the number of the first of the two steps.
+    fn swap(&mut self, step: usize, boards: &[usize]) -> Result<(), Box<dyn Error>> {
+        for &board in boards {
             self.record.lose(board)?;
             let length = CAPACITY * SIZES.share_len();
             self.area[board * length..][..length].fill(0xEE);
         }
-        println!("\n{step}. Boards {one} and {other} fail and are swapped for new ones, which hold nothing of use.\n");
+        match boards {
+            [one] => {
+                println!("\n{step}. Board {one} fails and is swapped for a new one, which holds nothing of use.\n")
+            }
+            _ => println!(
+                "\n{step}. Boards {} fail and are swapped for new ones, which hold nothing of use.\n",
+                listed(boards, " and ")
+            ),
+        }
         self.print_boards();
+        self.rebuild(step + 1, boards)
+    }
 
-        println!("\n{}. The new boards are rebuilt together.\n", step + 1);
-        let helpers: Vec<usize> = (0..SIZES.n).filter(|board| !boards.contains(board)).collect();
-        let moved = self.record.repair(&mut self.area, &boards, &helpers.repeat(2))?;
+    /// Rebuilds boards together: the first of the others stand in for those that are missing to r, the next d help.
+    fn rebuild(&mut self, step: usize, boards: &[usize]) -> Result<(), Box<dyn Error>> {
+        let count = boards.len();
+        let others: Vec<usize> = (0..SIZES.n).filter(|board| !boards.contains(board)).collect();
+        let (stand_ins, others) = others.split_at(SIZES.r - count);
+        let helpers = &others[..SIZES.d];
+        match stand_ins {
+            [] => println!("\n{step}. The new boards are rebuilt together.\n"),
+            _ => {
+                println!("\n{step}. The new board is rebuilt; board {} stands in for a second new one.\n", stand_ins[0])
+            }
+        }
+        let moved = self.record.repair(&mut self.area, boards, &helpers.repeat(count), &stand_ins.repeat(count))?;
         self.rebuilt.extend(boards);
-        self.print_packets(one, other, &helpers);
-        self.print_packets(other, one, &helpers);
-        let whole = 2 * self.record.length();
-        println!(
-            "    The bus carried {moved} bytes. Fetching the whole file for each of the two boards would take {whole}:"
-        );
+        for &board in boards {
+            let partners = boards.iter().filter(|&&other| other != board);
+            let said: Vec<String> = stand_ins
+                .iter()
+                .map(|stand_in| format!("board {stand_in}, which stands in"))
+                .chain(partners.map(|partner| format!("new board {partner}")))
+                .collect();
+            self.print_packets(board, helpers, &said.join(", "));
+        }
+        let whole = count * self.record.length();
+        let each = if count == 1 { "the new board" } else { "each of the two boards" };
+        println!("    The bus carried {moved} bytes. Fetching the whole file for {each} would take {whole}:");
         println!("    this way the bus carries {} % of that.\n", (100 * moved).div_ceil(whole));
         self.print_boards();
         Ok(())
@@ -143,14 +170,18 @@ impl Shelf {
     }
 
     /// What a fresh board hears.
-    fn print_packets(&self, board: usize, partner: usize, helpers: &[usize]) {
+    fn print_packets(&self, board: usize, helpers: &[usize], partner: &str) {
         let length = self.record.length();
-        let names: Vec<String> = helpers.iter().map(usize::to_string).collect();
         println!(
-            "    board {board} hears {} bytes from each of the boards {}, then {} bytes from new board {partner}",
+            "    board {board} hears {} bytes from each of the boards {}, then {} bytes from {partner}",
             SIZES.helper_packet_len(length),
-            names.join(", "),
+            listed(helpers, ", "),
             SIZES.exchange_packet_len(length)
         );
     }
+}
+
+/// The numbers of boards, with these words between them.
+fn listed(boards: &[usize], between: &str) -> String {
+    boards.iter().map(usize::to_string).collect::<Vec<String>>().join(between)
 }

@@ -223,7 +223,8 @@ pub fn exchange_packet(
     })
 }
 
-/// The share of the fresh board `board`, from the packets of its d helpers and of the r − 1 other fresh boards.
+/// The share of the fresh board `board`, from the packets of its d helpers and of its r − 1 partners. A partner is another fresh board, which sends
+/// its exchange packet, or a stand-in, which sends the second byte of each pair of its helper packet.
 #[allow(clippy::too_many_arguments)]
 pub fn finished_share(
     sizes: Sizes,

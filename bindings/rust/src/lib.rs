@@ -1,11 +1,12 @@
-//! A stock store for picking robots, proved: a file is spread over n shelf boards so that any k of them give it back, and r fresh boards are
-//! rebuilt together, each from d helpers and the other fresh boards (arXiv 1207.0879, section IV). This crate is a thin safe layer over the
-//! archive `libzebrankai.a`, whose calls end on all input and are proved to give what their definitions say.
+//! A stock store for picking robots, proved: a file is spread over n shelf boards so that any k of them give it back, and up to r fresh boards are
+//! rebuilt together, each from d helpers, the other fresh boards, and stand-ins for as many as there are less than r (arXiv 1207.0879, section IV).
+//! This crate is a thin safe layer over the archive `libzebrankai.a`, whose calls end on all input and are proved to give what their definitions
+//! say.
 //!
 //! [`Record`] is the store: set up, write, lose, repair, read over an area that the caller lends. The functions of [`board`] are the calls
 //! that single boards make, with no record. Each board has a point, at which its share is worked out: [`Points::standard`] on present robots,
-//! [`Points::first_series`] on robots of the first series; the record keeps them. Every call answers with its result or with one [`Refusal`], and after a refusal nothing has
-//! changed: no word of the record, no byte of a lent buffer.
+//! [`Points::first_series`] on robots of the first series; the record keeps them. Every call answers with its result or with one [`Refusal`], and
+//! after a refusal nothing has changed: no word of the record, no byte of a lent buffer.
 //!
 //! ```
 //! use zebrankai::{Points, Record, Refusal, Sizes};
@@ -23,8 +24,13 @@
 //! assert_eq!(record.read(&area, &[4, 1, 6], &mut file), Err(Refusal::Down));
 //!
 //! // four helpers for board 1, then four for board 4
-//! let moved = record.repair(&mut area, &[1, 4], &[0, 2, 3, 5, 6, 5, 3, 2])?;
+//! let moved = record.repair(&mut area, &[1, 4], &[0, 2, 3, 5, 6, 5, 3, 2], &[])?;
 //! assert_eq!(moved, sizes.stripes(stock.len()) * 2 * sizes.share_len());
+//!
+//! // one board alone: four helpers, and board 4 stands in for a second fresh board
+//! record.lose(6)?;
+//! let moved = record.repair(&mut area, &[6], &[0, 1, 2, 3], &[4])?;
+//! assert_eq!(moved, sizes.stripes(stock.len()) * sizes.share_len());
 //!
 //! record.read(&area, &[4, 1, 6], &mut file)?;
 //! assert_eq!(file, stock);

@@ -49,7 +49,7 @@ impl Points {
         self.0.get(board).copied()
     }
 
-    /// Whether the calls accept these points for n boards: the first n are all different, the rest are 00.
+    /// Whether the calls accept these points for n boards, where they accept n: the first n are all different, the rest are 00.
     pub fn are_legal(&self, n: usize) -> bool {
         let (of_boards, rest) = self.0.split_at(n.min(MAX_BOARDS));
         let different = (1..of_boards.len()).all(|board| !of_boards[..board].contains(&of_boards[board]));

@@ -34,6 +34,8 @@ extern "C" {
         fresh_count: usize,
         helpers: *const usize,
         helpers_count: usize,
+        stand_ins: *const usize,
+        stand_ins_count: usize,
     ) -> u64;
     fn zbk_read(
         record: *mut u64,
@@ -150,9 +152,18 @@ impl Record {
         result(unsafe { zbk_lose(words.as_mut_ptr(), words.len(), board) }).map(drop)
     }
 
-    /// Rebuilds r fresh boards together, in service or not before. `helpers` has r × d numbers: the d helpers of the first fresh board, then
-    /// those of the second, and so on. All fresh boards come into service; answers the bytes moved between boards.
-    pub fn repair(&mut self, area: &mut [u8], fresh: &[usize], helpers: &[usize]) -> Result<usize, Refusal> {
+    /// Rebuilds t fresh boards together, 1 to r of them, each out of service. `helpers` has t × d numbers: the d helpers of the first fresh board,
+    /// then those of the second, and so on. `stand_ins` has t × (r − t), in the same order: r − t for each fresh board, none where t is r. A
+    /// stand-in sends half of what a helper sends. The helpers and stand-ins of one fresh board are all different, and no fresh board is among
+    /// those of any; a helper of one may stand in for another. All fresh boards come into service; answers the bytes moved between boards,
+    /// t × (2d + r − 1) for each stripe.
+    pub fn repair(
+        &mut self,
+        area: &mut [u8],
+        fresh: &[usize],
+        helpers: &[usize],
+        stand_ins: &[usize],
+    ) -> Result<usize, Refusal> {
         let words = &mut self.words;
         result(unsafe {
             zbk_repair(
@@ -164,6 +175,8 @@ impl Record {
                 fresh.len(),
                 helpers.as_ptr(),
                 helpers.len(),
+                stand_ins.as_ptr(),
+                stand_ins.len(),
             )
         })
     }

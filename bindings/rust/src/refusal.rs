@@ -3,7 +3,7 @@
 use std::error::Error;
 use std::fmt;
 
-/// Why a call was refused. Where several hold, the first is given: of the store in the order 1, 2, 3, 8, 4, 5, 6, 9, 7, 10, at board
+/// Why a call was refused. Where several hold, the first is given: of the store in the order 1, 2, 3, 8, 4, 5, 6, 14, 9, 7, 10, at board
 /// level in the order 1, 3, 4, 5, 6, 2, 7, 10. 11 is not used: no call answers it.
 #[derive(Clone, Copy, Debug, PartialEq, Eq, Hash)]
 #[repr(u8)]
@@ -15,7 +15,7 @@ pub enum Refusal {
     Area = 2,
     /// The file is too long.
     Long = 3,
-    /// A list has the wrong number of boards.
+    /// A list has the wrong number of boards, or there are not 1 to r fresh boards.
     Count = 4,
     /// A board number is n or more.
     Node = 5,
@@ -29,11 +29,13 @@ pub enum Refusal {
     Down = 9,
     /// The shares belong to no file of this length.
     Disagree = 10,
+    /// A fresh board is in service.
+    Serving = 14,
 }
 
 impl Refusal {
     /// All refusals, in the order of their numbers.
-    pub const ALL: [Refusal; 10] = [
+    pub const ALL: [Refusal; 11] = [
         Refusal::Size,
         Refusal::Area,
         Refusal::Long,
@@ -44,6 +46,7 @@ impl Refusal {
         Refusal::Empty,
         Refusal::Down,
         Refusal::Disagree,
+        Refusal::Serving,
     ];
 
     /// The refusal with a number; none where no refusal has it.
@@ -69,6 +72,7 @@ impl Refusal {
             Refusal::Empty => "EMPTY",
             Refusal::Down => "DOWN",
             Refusal::Disagree => "DISAGREE",
+            Refusal::Serving => "SERVING",
         }
     }
 
@@ -81,13 +85,14 @@ impl Refusal {
             }
             Refusal::Area => "The area, or a slice of shares or packets, has another length than the sizes give.",
             Refusal::Long => "The file is longer than the store's capacity, or than 4,096 stripes at board level.",
-            Refusal::Count => "A list has the wrong number of boards.",
+            Refusal::Count => "A list has the wrong number of boards, or there are not 1 to r fresh boards.",
             Refusal::Node => "A board number is n or more.",
             Refusal::Repeat => "A board is named twice where each must be another one.",
             Refusal::Short => "The output is shorter than what is to be written.",
             Refusal::Empty => "A repair or a read before any file was written.",
-            Refusal::Down => "A board to read from, or a helper, is out of service.",
+            Refusal::Down => "A board to read from, a helper or a stand-in is out of service.",
             Refusal::Disagree => "No file of this length has these shares.",
+            Refusal::Serving => "A fresh board is in service.",
         }
     }
 }
@@ -104,6 +109,6 @@ impl Error for Refusal {}
 pub(crate) fn result(answer: u64) -> Result<usize, Refusal> {
     match (answer & 255) as u8 {
         0 => Ok((answer >> 8) as usize),
-        number => Err(Refusal::from_number(number).expect("the archive answers with document 01's numbers only")),
+        number => Err(Refusal::from_number(number).expect("the archive answers with these numbers only")),
     }
 }

@@ -6,8 +6,8 @@ pub const MAX_BOARDS: usize = 32;
 /// The most stripes of a file, and the greatest capacity of a store.
 pub const MAX_STRIPES: usize = 4096;
 
-/// n boards, numbered 0 to n − 1; k read; d helpers; r fresh boards. Legal: 1 ≤ k ≤ d, r ≥ 1, d + r ≤ n ≤ 32. The calls refuse sizes that
-/// are not legal; the lengths here are then 0.
+/// n boards, numbered 0 to n − 1; k read; d helpers; at most r fresh boards. Legal: 1 ≤ k ≤ d, r ≥ 1, d + r ≤ n ≤ 32. The calls refuse
+/// sizes that are not legal; the lengths here are then 0.
 #[derive(Clone, Copy, Debug, PartialEq, Eq, Hash)]
 pub struct Sizes {
     /// boards
@@ -16,7 +16,7 @@ pub struct Sizes {
     pub k: usize,
     /// helpers of each fresh board
     pub d: usize,
-    /// boards rebuilt together
+    /// the most boards rebuilt together; stand-ins make up for fewer
     pub r: usize,
 }
 
@@ -63,7 +63,7 @@ impl Sizes {
         self.stripes(length).saturating_mul(2)
     }
 
-    /// Bytes of an exchange packet for a file of `length` bytes: one for each stripe.
+    /// Bytes of an exchange packet for a file of `length` bytes, and of what a stand-in sends: one for each stripe.
     pub fn exchange_packet_len(self, length: usize) -> usize {
         self.stripes(length)
     }

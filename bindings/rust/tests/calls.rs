@@ -126,15 +126,16 @@ fn points_that_repeat_or_stand_from_n_up_are_refused() {
 #[test]
 fn every_refusal_has_its_number_name_and_sentence() {
     let numbers: Vec<u8> = Refusal::ALL.iter().map(|refusal| refusal.number()).collect();
-    assert_eq!(numbers, (1..=10).collect::<Vec<u8>>());
+    assert_eq!(numbers, (1..=10).chain([14]).collect::<Vec<u8>>());
     for refusal in Refusal::ALL {
         assert_eq!(Refusal::from_number(refusal.number()), Some(refusal));
         assert_eq!(refusal.name(), format!("{refusal:?}").to_uppercase());
         assert!(refusal.sentence().ends_with('.'));
     }
     // 11 is not used
-    assert_eq!([0, 11, 12].map(Refusal::from_number), [None, None, None]);
-    assert_eq!(Refusal::Count.to_string(), "COUNT (4): A list has the wrong number of boards.");
+    assert_eq!([0, 11, 15].map(Refusal::from_number), [None, None, None]);
+    assert_eq!(Refusal::Node.to_string(), "NODE (5): A board number is n or more.");
+    assert_eq!(Refusal::Serving.to_string(), "SERVING (14): A fresh board is in service.");
 }
 
 #[test]
@@ -301,9 +302,9 @@ fn loses_repairs_and_reads(points: Points, shares: [[u8; 7]; 5]) {
     }
     let mut out = [0xEE; 13];
     assert_eq!(record.read(&area, &[0, 1], &mut out), Err(Refusal::Down));
-    assert_eq!(record.repair(&mut area, &[0, 1], &[2, 3, 4, 2, 3, 0]), Err(Refusal::Repeat));
+    assert_eq!(record.repair(&mut area, &[0, 1], &[2, 3, 4, 2, 3, 0], &[]), Err(Refusal::Repeat));
     assert_eq!(record.words()[7], 0b11100);
-    assert_eq!(record.repair(&mut area, &[0, 1], &[2, 3, 4, 4, 2, 3]), Ok(14));
+    assert_eq!(record.repair(&mut area, &[0, 1], &[2, 3, 4, 4, 2, 3], &[]), Ok(14));
     assert_eq!((record.words()[7], &area), (0b11111, &shares.concat()));
     assert_eq!(record.points(), points);
     assert_eq!(record.read(&area, &[1], &mut out), Err(Refusal::Count));
@@ -313,11 +314,108 @@ fn loses_repairs_and_reads(points: Points, shares: [[u8; 7]; 5]) {
 }
 
 #[test]
+fn a_single_board_is_rebuilt_with_a_stand_in() {
+    for (points, shares) in [(present(), SHARES), (first(), FIRST_SHARES)] {
+        let (mut record, mut area) = written(points);
+        // each board in turn, from boards that were rebuilt before
+        for lost in [1, 0, 4, 3, 2] {
+            record.lose(lost).unwrap();
+            area[lost * 7..][..7].fill(0xEE);
+            let [one, two, three, stand_in] = [1, 2, 3, 4].map(|step| (lost + step) % 5);
+            assert_eq!(record.repair(&mut area, &[lost], &[one, two, three], &[stand_in]), Ok(7));
+            assert_eq!((record.words()[7], &area), (0b11111, &shares.concat()));
+        }
+    }
+}
+
+#[test]
+fn what_a_stand_in_sends_is_half_of_its_helper_packet() {
+    let mut sent = [0xEE; 8];
+    for (helper, pair) in [0, 2, 3, 4].into_iter().zip(sent.chunks_mut(2)) {
+        assert_eq!(board::helper_packet(FIVE, present(), 12, helper, 1, &SHARES[helper], pair), Ok(2));
+    }
+    assert_eq!(sent, [0x00, 0x00, 0x04, 0x02, 0x05, 0x03, 0x10, 0x04]);
+    // boards 0, 2 and 3 help; board 4 stands in with the second byte of its pair
+    let (packets, stand_in) = (&sent[..6], &sent[7..]);
+    let mut share = [0xEE; 7];
+    let finished = board::finished_share(FIVE, present(), 12, 1, &[0, 2, 3], packets, &[4], stand_in, &mut share);
+    assert_eq!((finished, share), (Ok(7), SHARES[1]));
+}
+
+#[test]
+fn one_to_r_boards_are_rebuilt_together() {
+    let sizes = Sizes { n: 9, k: 2, d: 3, r: 4 };
+    let file: Vec<u8> = (0..3 * sizes.stripe_len() as u8).collect();
+    let mut area = vec![0xEE; sizes.area_len(3)];
+    let mut record = Record::set_up(sizes, Points::first_series(9), 3).unwrap();
+    record.write(&mut area, &file).unwrap();
+    let truth = area.clone();
+    for t in 1..=4 {
+        let fresh: Vec<usize> = (t..2 * t).collect();
+        let left: Vec<usize> = (0..9).filter(|board| !fresh.contains(board)).collect();
+        let (mut helpers, mut stand_ins) = (Vec::new(), Vec::new());
+        for (turn, &lost) in fresh.iter().enumerate() {
+            record.lose(lost).unwrap();
+            area[lost * 3 * sizes.share_len()..][..3 * sizes.share_len()].fill(0xEE);
+            // others for each, so that a helper of one stands in for another
+            let from = |place: usize| left[(place + turn) % left.len()];
+            helpers.extend((0..3).map(from));
+            stand_ins.extend((3..3 + 4 - t).map(from));
+        }
+        assert_eq!(record.repair(&mut area, &fresh, &helpers, &stand_ins), Ok(3 * t * sizes.share_len()));
+        assert_eq!(area, truth);
+    }
+    let mut out = vec![0xEE; file.len()];
+    assert_eq!((record.read(&area, &[7, 4], &mut out), out), (Ok(()), file));
+}
+
+#[test]
+fn a_repair_is_refused_by_the_first_line_that_holds() {
+    let (mut record, mut area) = written(present());
+    for lost in [0, 1] {
+        record.lose(lost).unwrap();
+    }
+    let before = (record, area.clone());
+    let mut refusal = |fresh: &[usize], helpers: &[usize], stand_ins: &[usize]| {
+        let refused = record.repair(&mut area, fresh, helpers, stand_ins).unwrap_err();
+        assert_eq!((record, &area), (before.0, &before.1));
+        refused
+    };
+    // before all else in the lists: not 1 to r fresh boards, and not t × d helpers or t × (r − t) stand-ins
+    assert_eq!(refusal(&[], &[], &[]), Refusal::Count);
+    assert_eq!(refusal(&[0, 1, 9], &[2, 3, 4, 2, 3, 4, 2, 3, 4], &[]), Refusal::Count);
+    assert_eq!(refusal(&[9], &[2, 3], &[4]), Refusal::Count);
+    assert_eq!(refusal(&[9], &[2, 3, 4], &[]), Refusal::Count);
+    assert_eq!(refusal(&[9], &[2, 3, 4], &[2, 2]), Refusal::Count);
+    assert_eq!(refusal(&[0, 9], &[2, 3, 4, 2, 3, 4], &[2]), Refusal::Count);
+    // then a number of n or more, in any list, though a board is named twice
+    assert_eq!(refusal(&[5], &[2, 2, 3], &[4]), Refusal::Node);
+    assert_eq!(refusal(&[0], &[2, 2, 5], &[4]), Refusal::Node);
+    assert_eq!(refusal(&[0], &[2, 2, 3], &[5]), Refusal::Node);
+    // then a board named twice, though a fresh board is in service
+    assert_eq!(refusal(&[2, 2], &[3, 4, 1, 3, 4, 1], &[]), Refusal::Repeat);
+    assert_eq!(refusal(&[2], &[3, 4, 3], &[1]), Refusal::Repeat);
+    assert_eq!(refusal(&[2], &[3, 4, 1], &[4]), Refusal::Repeat);
+    assert_eq!(refusal(&[2], &[3, 4, 1], &[2]), Refusal::Repeat);
+    assert_eq!(refusal(&[2], &[3, 4, 2], &[1]), Refusal::Repeat);
+    // then a fresh board in service, though a helper or a stand-in is out of service
+    assert_eq!(refusal(&[2], &[0, 3, 4], &[1]), Refusal::Serving);
+    assert_eq!(refusal(&[0, 2], &[1, 3, 4, 1, 3, 4], &[]), Refusal::Serving);
+    // then a helper or a stand-in out of service
+    assert_eq!(refusal(&[0], &[1, 2, 3], &[4]), Refusal::Down);
+    assert_eq!(refusal(&[0], &[2, 3, 4], &[1]), Refusal::Down);
+    assert_eq!(record.repair(&mut area, &[0, 1], &[2, 3, 4, 4, 3, 2], &[]), Ok(14));
+    assert_eq!(record.repair(&mut area, &[0, 1], &[2, 3, 4, 4, 3, 2], &[]), Err(Refusal::Serving));
+}
+
+#[test]
 fn a_store_refuses_and_stays() {
     let mut area = vec![0xEE; FIVE.area_len(1)];
     let mut record = Record::set_up(FIVE, present(), 1).unwrap();
     let before = record;
     assert_eq!(record.read(&area, &[0, 1], &mut []), Err(Refusal::Empty));
+    assert_eq!(record.repair(&mut area, &[], &[], &[]), Err(Refusal::Empty));
+    assert_eq!(record.repair(&mut area[1..], &[], &[], &[]), Err(Refusal::Area));
     assert_eq!(record.write(&mut area, &[1; 13]), Err(Refusal::Long));
     assert_eq!(record.write(&mut area[1..], &FILE), Err(Refusal::Area));
     assert_eq!(record.lose(5), Err(Refusal::Node));

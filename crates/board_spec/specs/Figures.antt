@@ -100,7 +100,7 @@ pub record BoardFigures : Type 0 where
       ∷ [])
       ≡ replicate 6 1
   -- what the calls give at five other points: all shares; helper 2 to board 0; board 3 to board 0; board 0's share of helpers 1, 2, 4 and partner 3;
-  -- a file of two boards
+  -- and, of four boards, a file from one
   pub points-shares : map (λ i. shareCall five points5 i file (replicate 7 0xEE) .output) (0 ∷ 1 ∷ 2 ∷ 3 ∷ 4 ∷ [])
       ≡ (0x55 ∷ 0x00 ∷ 0x68 ∷ 0xD0 ∷ 0xB4 ∷ 0x00 ∷ 0x5F ∷ [])
       ∷ (0x00 ∷ 0x00 ∷ 0x00 ∷ 0x00 ∷ 0x00 ∷ 0x00 ∷ 0x00 ∷ [])

@@ -51,11 +51,8 @@ fn pairs_meet(
     let g = 7680;
     let g_end = g + k * ((sizes.n - d) * 32);
     let kept = k * 32;
-    let square = k * k;
     let mut fs = [0u8; 992];
     let mut gs = [0u8; 992];
-    let mut fv = [0u8; 992];
-    let mut gv = [0u8; 992];
     decode_pairs::stripes_meet(
         sizes,
         points,
@@ -67,8 +64,6 @@ fn pairs_meet(
         &tables[g..g_end],
         &mut fs[0..kept],
         &mut gs[0..kept],
-        &mut fv[0..square],
-        &mut gv[0..square],
     )
 }
 

@@ -145,5 +145,6 @@ module _ (z : Sizes) (xs : List ℕ) (pts : DifferentPoints z xs) (bs : List ℕ
           ∙ ap (λ (n : ℕ). sum n (term i t)) (sym lq)
           ∙ sum-below (length qs) (term i t) (λ s. mul (getD (evals (p t) qs) s 0) (U s (k + i)))
           (λ s q. mul-comm _ _ ∙ ap₂ mul (e t s ht (omega (arith, lq)) ∙ sym (value-of t s (omega (arith, lq)))) (top-at i s hi (omega (arith, lq))))
-          ∙ coefficient qs (points-bytes z xs pts C boards) (points-distinct z xs pts C boards) (evals (p t) qs) (sym (length-map qs (λ x. eval (p t) x))) (evals-bytes (p t) qs (p-bytes t ht)) (k + i)
+          ∙ coefficient qs (points-bytes z xs pts C boards) (points-distinct z xs pts C boards) (evals (p t) qs) (sym (length-map qs (λ x. eval (p t) x)))
+          (evals-bytes (p t) qs (p-bytes t ht)) (k + i)
           ∙ ap (λ (q : List ℕ). getD q (k + i) 0) (interpolate-evals (p t) qs (length-p t ht ∙ sym lq) (p-bytes t ht) (points-bytes z xs pts C boards) (points-distinct z xs pts C boards))

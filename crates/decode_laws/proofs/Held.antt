@@ -7,13 +7,14 @@ use Prim.Native.Nat.{ℕ, zero, suc, _+_, _*_, _-_, _<_, _≤_}
 use native.Mathlib.Nat.{suc-mul, mul-le-mul-right}
 use native.Mathlib.Numerals.{add-one}
 use native.Mathlib.Omega.{arith}
+use lib.Dec.{eqb}
 use lib.ListN.{length, getD, take, drop, length-drop, List·getD-append}
 use lib.Seq.{length-take-le}
-use Rattle.lists.specs.Tests.{below}
+use Rattle.lists.specs.Tests.{alls, below}
 use Rattle.lists.specs.Lists.{All, Bytes, tabulate, join, fit}
 use Rattle.lists.proofs.Alls.{all-imp, all-at, take-alls, drop-alls}
 use Rattle.lists.proofs.Boards.{below-all}
-use Rattle.lists.proofs.Pieces.{join-ext, length-join, length-fit, length-tabulate, tabulate-at}
+use Rattle.lists.proofs.Pieces.{join-ext, length-join, length-fit, length-tabulate, tabulate-at, tabulate-ext}
 use Rattle.sizes.specs.declared.Sizes.{Sizes}
 use Rattle.sizes.specs.Sizing.{α}
 use Rattle.sizes.proofs.Legal.{Legal, α-parts, α-most, row-fits}
@@ -21,7 +22,7 @@ use Rattle.polynomial.specs.Polynomial.{eval}
 use Rattle.mbcr.specs.Share.{DifferentPoints, point, points}
 use Rattle.mbcr.specs.Rebuild.{ownF, ownG}
 use Rattle.mbcr.proofs.Points.{Boards}
-use Rattle.decode_laws.specs.Steps.{fRow, gRow, valuesOf, factorsOf, factorRows, unitRows, byRows, topRows, topsOf, meets, pairsMeet, heldAt, Placed}
+use Rattle.decode_laws.specs.Steps.{fRow, gRow, valueAt, valuesOf, boardMeets, boardsMeet, factorsOf, factorRows, unitRows, byRows, topRows, topsOf, meets, pairsMeet, heldAt, Placed}
 use Rattle.decode_laws.proofs.Rows.{join-at}
 use Rattle.decode_laws.proofs.Stripe.{length-f, length-g, f-bytes, g-bytes}
 use Rattle.decode_laws.proofs.Coefs.{length-factors, values-are, coefs-are, tops-are}
@@ -43,6 +44,17 @@ g-long starts bytes c a at gs e =
 pub length-values : (n c m : ℕ) (bs targets factors rows : List ℕ) → length (valuesOf n c m bs targets factors rows) ≡ length bs * length targets
 unfolding valuesOf
 length-values n c m bs targets factors rows = length-join (length bs) (length targets) _ (λ t h. length-tabulate (length targets) _)
+
+-- the values of boards at each other meet: taken one by one, or all of them
+values-meet : (n d w p m : ℕ) (bs ff gf fs gs : List ℕ) → boardsMeet n d w p m bs ff gf fs gs ≡ meets (length bs) (valuesOf n w m bs bs ff fs) (valuesOf n d p bs bs gf gs)
+unfolding boardsMeet boardMeets meets valuesOf
+values-meet n d w p m bs ff gf fs gs =
+    let k : ℕ = length bs in
+    ap alls (tabulate-ext k _ _ (λ i hi. ap alls (tabulate-ext k _ _ (λ j hj.
+    ap₂ eqb (sym (at k (valueAt n w m bs bs ff fs) i j hi hj)) (sym (at k (valueAt n d p bs bs gf gs) j i hj hi))))))
+  where
+    at : (k : ℕ) (f : ℕ → ℕ → ℕ) (i j : ℕ) → i < k → j < k → getD (join k (λ t. tabulate k (f t))) (i * k + j) 0 ≡ f i j
+    at k f i j hi hj = join-at k k (λ t. tabulate k (f t)) (λ t h. length-tabulate k (f t)) i j hi hj ∙ tabulate-at k (f i) 0 j hj
 
 -- stripe s starts not too far behind
 pub at-few : (z : Sizes) → Legal z → (s : ℕ) → s < 4096 → s * (z .d + z .r + (z .d - 1)) ≤ 253952
@@ -165,12 +177,21 @@ module _ (z : Sizes) (xs : List ℕ) (legal : Legal z) (pts : DifferentPoints z 
             ∙ join-at (length bs) d (λ t. tabulate d (v t)) (λ t h. length-tabulate d (v t)) t i ht hi ∙ tabulate-at d (v t) 0 i hi
 
   -- the pairs, from the values
-  pub meets-made : (fv gv : List ℕ) → fv ≡ join (length bs) (λ t. tabulate (length bs) (λ i. eval (ownF z xs (getD bs t 0) (w t)) (point xs (getD bs i 0))))
+  meets-made : (fv gv : List ℕ) → fv ≡ join (length bs) (λ t. tabulate (length bs) (λ i. eval (ownF z xs (getD bs t 0) (w t)) (point xs (getD bs i 0))))
       → gv ≡ join (length bs) (λ t. tabulate (length bs) (λ i. eval (ownG z xs (getD bs t 0) (w t)) (point xs (getD bs i 0)))) → meets k fv gv ≡ pairsMeet z xs bs w
   unfolding pairsMeet
   meets-made fv gv ef eg =
       ap₂ (meets k) (ef ∙ ap (λ (q : ℕ). join q (λ t. tabulate q (λ i. eval (ownF z xs (getD bs t 0) (w t)) (point xs (getD bs i 0))))) lb)
       (eg ∙ ap (λ (q : ℕ). join q (λ t. tabulate q (λ i. eval (ownG z xs (getD bs t 0) (w t)) (point xs (getD bs i 0))))) lb)
+
+  pub pairs-made : (ff gf fs gs : List ℕ) → ff ≡ factorRows z xs (d + r) bs → gf ≡ factorRows z xs d bs
+      → fs ≡ join (length starts) (λ t. fRow (d + r) (take (d + r + (d - 1)) (drop (getD starts t 0 + s * (d + r + (d - 1))) bytes)))
+      → gs ≡ join (length starts) (λ t. gRow (d + r) (take (d + r + (d - 1)) (drop (getD starts t 0 + s * (d + r + (d - 1))) bytes)))
+      → (p m : ℕ) → d ≤ p → p ≤ 32 → d + r ≤ m → m ≤ 32 → boardsMeet n d (d + r) p m bs ff gf fs gs ≡ pairsMeet z xs bs w
+  pairs-made ff gf fs gs ef eg es et p m lp hp lm hm =
+      values-meet n d (d + r) p m bs ff gf fs gs
+      ∙ ap (λ (k : ℕ). meets k (valuesOf n (d + r) m bs bs ff fs) (valuesOf n d p bs bs gf gs)) lb
+      ∙ meets-made _ _ (f-values ff fs ef es m lm hm bs known) (g-values gf gs eg et p lp hp bs known)
 
 -- fewer stripes
 pub placed-before : (z : Sizes) (starts bytes : List ℕ) (s S : ℕ) → s ≤ S → Placed z starts bytes S → Placed z starts bytes s

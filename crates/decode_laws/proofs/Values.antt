@@ -76,7 +76,8 @@ module _ (z : Sizes) (xs : List ℕ) (pts : DifferentPoints z xs) (c : ℕ) (few
     kept-value o h =
         ap (eval (interpolate near vs)) (sym (near-at o h))
         ∙ sym (map-at (λ x. eval (interpolate near vs) x) near o (omega (arith, length-near)))
-        ∙ ap (λ (l : List ℕ). getD l o 0) (evals-interpolate near vs (length-near ∙ sym lv) bv (points-bytes z xs pts (neighbours z b c) boards) (points-distinct z xs pts (neighbours z b c) boards))
+        ∙ ap (λ (l : List ℕ). getD l o 0) (evals-interpolate near vs (length-near ∙ sym lv) bv
+        (points-bytes z xs pts (neighbours z b c) boards) (points-distinct z xs pts (neighbours z b c) boards))
 
     far-value : (o : ℕ) → c ≤ o → o < n → eval (interpolate near vs) (point xs ((b + o) % n)) ≡ sum m (λ j. mul (cell factors (o - c) j) (getD (fit 32 vs) j 0))
     far-value o h l =

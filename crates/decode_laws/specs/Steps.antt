@@ -33,11 +33,23 @@ offset n a b = pick (leb a b) (b - a) (b + n - a)
 unfoldable pub valueBy : ℕ → ℕ → ℕ → List ℕ → List ℕ → ℕ
 valueBy c o m factors row = pick (ltb o c) (getD row o 0) (sum m (λ j. mul (cell factors (o - c) j) (getD row j 0)))
 
--- the values of k boards at others: `rows` has a row of c bytes for each board, `factors` n − c rows for each
+-- the value of boards[t] at targets[i]: `rows` has a row of c bytes for each board, `factors` n − c rows for each
+abbrev pub valueAt : ℕ → ℕ → ℕ → List ℕ → List ℕ → List ℕ → List ℕ → ℕ → ℕ → ℕ
+valueAt n c m boards targets factors rows t i =
+    valueBy c (offset n (getD boards t 0) (getD targets i 0)) m (drop (t * ((n - c) * 32)) factors) (piece 32 t rows)
+
+-- the values of k boards at others
 unfoldable pub valuesOf : ℕ → ℕ → ℕ → List ℕ → List ℕ → List ℕ → List ℕ → List ℕ
-valuesOf n c m boards targets factors rows =
-    join (length boards) (λ t. tabulate (length targets) (λ i.
-    valueBy c (offset n (getD boards t 0) (getD targets i 0)) m (drop (t * ((n - c) * 32)) factors) (piece 32 t rows)))
+valuesOf n c m boards targets factors rows = join (length boards) (λ t. tabulate (length targets) (valueAt n c m boards targets factors rows t))
+
+-- f of boards[i] and g of each board, of which rows of w and of d bytes are kept, have one value where they meet
+unfoldable pub boardMeets : ℕ → ℕ → ℕ → ℕ → ℕ → List ℕ → List ℕ → List ℕ → List ℕ → List ℕ → ℕ → Bool
+boardMeets n d w p m boards ff gf fs gs i =
+    alls (tabulate (length boards) (λ j. eqb (valueAt n w m boards boards ff fs i j) (valueAt n d p boards boards gf gs j i)))
+
+-- so have those of each board
+unfoldable pub boardsMeet : ℕ → ℕ → ℕ → ℕ → ℕ → List ℕ → List ℕ → List ℕ → List ℕ → List ℕ → Bool
+boardsMeet n d w p m boards ff gf fs gs = alls (tabulate (length boards) (boardMeets n d w p m boards ff gf fs gs))
 
 -- the bytes of f, and those of g, of the bytes w that a board keeps of a stripe, of which c are of f: 00 behind them
 abbrev pub fRow : ℕ → List ℕ → List ℕ

@@ -3,25 +3,58 @@
 ghost use mathlib.Core.Path.{_≡_};
 ghost use mathlib.Core.Bool.{true};
 ghost use Prim.Native.Nat.{_+_, _-_, _*_, _<_, _≤_};
-ghost use lib.Dec.{eqb};
-ghost use lib.ListN.{length, getD, take, drop};
+ghost use lib.ListN.{length};
 ghost use Rattle.lists.specs.Tests.{alls, below};
-ghost use Rattle.lists.specs.Lists.{All, tabulate};
-ghost use Rattle.sizes.specs.Sizing.{legal, α};
+ghost use Rattle.lists.specs.Lists.{tabulate};
+ghost use Rattle.sizes.specs.Sizing.{legal};
 ghost use Rattle.mbcr.specs.Share.{DifferentPoints};
-ghost use Rattle.decode_laws.specs.Steps.{meets, pairsMeet, factorRows, heldAt, Placed};
+ghost use Rattle.decode_laws.specs.Steps.{valueAt, boardMeets, boardsMeet, pairsMeet, factorRows, heldAt, Placed};
 use sizes::Sizes;
 
-// Whether the values of the i-th board and those of each at it are the same.
-fn board_meets(k: usize, i: usize, fv: &[u8], gv: &[u8]) -> bool
-    requires { ⌜ (k ≤ 32) × (i < k) × (length (now fv) ≡ k * k) × (length (now gv) ≡ k * k) ⌝ }
-    ensures { λ r. ⌜ r ≡ alls (tabulate k (λ j. eqb (getD (now (fv .entry)) (i * k + j) 0) (getD (now (gv .entry)) (j * k + i) 0))) ⌝ }
+// The value at boards[i] of the polynomial of boards[t], of which there is a row of c bytes.
+fn value_at(
+    n: usize,
+    c: usize,
+    m: usize,
+    boards: &[usize],
+    factors: &[u8],
+    rows: &[u8],
+    t: usize,
+    i: usize,
+) -> u8
+    requires { ⌜ (n ≤ 32) × (c ≤ n) × (m ≤ 32) × (length (now boards) ≤ 32) × (below n (now boards) ≡ true) × (length (now boards) * ((n - c) * 32) ≤ length (now factors)) × (length (now rows) ≡ length (now boards) * 32) × (t < length (now boards)) × (i < length (now boards)) ⌝ }
+    ensures { λ r. ⌜ r ≡ valueAt n c m (now (boards .entry)) (now (boards .entry)) (now (factors .entry)) (now (rows .entry)) t i ⌝ }
 {
+    let o = decode_values::offset(n, boards[t], boards[i]);
+    let from = t * ((n - c) * 32);
+    let row = t * 32;
+    let end = row + 32;
+    decode_values::value(n, c, m, o, &factors[from..], &rows[row..end])
+}
+
+// Whether f of boards[i] and g of each board have one value where they meet: f has w bytes, g has d.
+fn board_meets(
+    n: usize,
+    d: usize,
+    w: usize,
+    p: usize,
+    m: usize,
+    boards: &[usize],
+    ff: &[u8],
+    gf: &[u8],
+    fs: &[u8],
+    gs: &[u8],
+    i: usize,
+) -> bool
+    requires { ⌜ (n ≤ 32) × (d ≤ n) × (w ≤ n) × (p ≤ 32) × (m ≤ 32) × (length (now boards) ≤ 32) × (below n (now boards) ≡ true) × (length (now boards) * ((n - w) * 32) ≤ length (now ff)) × (length (now boards) * ((n - d) * 32) ≤ length (now gf)) × (length (now fs) ≡ length (now boards) * 32) × (length (now gs) ≡ length (now boards) * 32) × (i < length (now boards)) ⌝ }
+    ensures { λ r. ⌜ r ≡ boardMeets n d w p m (now (boards .entry)) (now (ff .entry)) (now (gf .entry)) (now (fs .entry)) (now (gs .entry)) i ⌝ }
+{
+    let k = boards.len();
     let mut j: usize = 0;
     while j < k {
-        let a = i * k + j;
-        let b = j * k + i;
-        if fv[a] != gv[b] {
+        let f = value_at(n, w, m, boards, ff, fs, i, j);
+        let g = value_at(n, d, p, boards, gf, gs, j, i);
+        if f != g {
             return false;
         }
         j += 1;
@@ -29,14 +62,26 @@ fn board_meets(k: usize, i: usize, fv: &[u8], gv: &[u8]) -> bool
     true
 }
 
-// Whether those of each board are.
-fn values_meet(k: usize, fv: &[u8], gv: &[u8]) -> bool
-    requires { ⌜ (k ≤ 32) × (length (now fv) ≡ k * k) × (length (now gv) ≡ k * k) ⌝ }
-    ensures { λ r. ⌜ r ≡ meets k (now (fv .entry)) (now (gv .entry)) ⌝ }
+// Whether those of each board do.
+fn boards_meet(
+    n: usize,
+    d: usize,
+    w: usize,
+    p: usize,
+    m: usize,
+    boards: &[usize],
+    ff: &[u8],
+    gf: &[u8],
+    fs: &[u8],
+    gs: &[u8],
+) -> bool
+    requires { ⌜ (n ≤ 32) × (d ≤ n) × (w ≤ n) × (p ≤ 32) × (m ≤ 32) × (length (now boards) ≤ 32) × (below n (now boards) ≡ true) × (length (now boards) * ((n - w) * 32) ≤ length (now ff)) × (length (now boards) * ((n - d) * 32) ≤ length (now gf)) × (length (now fs) ≡ length (now boards) * 32) × (length (now gs) ≡ length (now boards) * 32) ⌝ }
+    ensures { λ r. ⌜ r ≡ boardsMeet n d w p m (now (boards .entry)) (now (ff .entry)) (now (gf .entry)) (now (fs .entry)) (now (gs .entry)) ⌝ }
 {
+    let k = boards.len();
     let mut i: usize = 0;
     while i < k {
-        if !board_meets(k, i, fv, gv) {
+        if !board_meets(n, d, w, p, m, boards, ff, gf, fs, gs, i) {
             return false;
         }
         i += 1;
@@ -56,39 +101,18 @@ fn stripe_meets(
     gf: &[u8],
     fs: &mut [u8],
     gs: &mut [u8],
-    fv: &mut [u8],
-    gv: &mut [u8],
 ) -> bool
-    requires { ⌜ (legal sizes ≡ true) × DifferentPoints sizes (now points) × (length (now boards) ≡ sizes .k) × (below (sizes .n) (now boards) ≡ true) × (length (now starts) ≡ sizes .k) × Placed sizes (now starts) (now bytes) (s + 1) × (s < 4096) × (now ff ≡ factorRows sizes (now points) (sizes .d + sizes .r) (now boards)) × (now gf ≡ factorRows sizes (now points) (sizes .d) (now boards)) × (length (now fs) ≡ sizes .k * 32) × (length (now gs) ≡ sizes .k * 32) × (length (now fv) ≡ sizes .k * sizes .k) × (length (now gv) ≡ sizes .k * sizes .k) ⌝ }
+    requires { ⌜ (legal sizes ≡ true) × DifferentPoints sizes (now points) × (length (now boards) ≡ sizes .k) × (below (sizes .n) (now boards) ≡ true) × (length (now starts) ≡ sizes .k) × Placed sizes (now starts) (now bytes) (s + 1) × (s < 4096) × (now ff ≡ factorRows sizes (now points) (sizes .d + sizes .r) (now boards)) × (now gf ≡ factorRows sizes (now points) (sizes .d) (now boards)) × (length (now fs) ≡ sizes .k * 32) × (length (now gs) ≡ sizes .k * 32) ⌝ }
     ensures { λ r. ⌜ r ≡ pairsMeet sizes (now (points .entry)) (now (boards .entry)) (heldAt sizes (now (starts .entry)) (now (bytes .entry)) s) ⌝ }
 {
     let n = sizes.n;
-    let k = sizes.k;
     let d = sizes.d;
     let w = d + sizes.r;
     let at = s * (w + (d - 1));
+    let p = row_values::whole_vectors(d);
+    let m = row_values::whole_vectors(w);
     decode_values::rows_of(d, w, starts, at, bytes, fs, gs);
-    decode_values::values(
-        n,
-        w,
-        row_values::whole_vectors(w),
-        boards,
-        boards,
-        ff,
-        fs,
-        fv,
-    );
-    decode_values::values(
-        n,
-        d,
-        row_values::whole_vectors(d),
-        boards,
-        boards,
-        gf,
-        gs,
-        gv,
-    );
-    values_meet(k, fv, gv)
+    boards_meet(n, d, w, p, m, boards, ff, gf, fs, gs)
 }
 
 // Whether they meet in each stripe.
@@ -103,28 +127,13 @@ pub fn stripes_meet(
     gf: &[u8],
     fs: &mut [u8],
     gs: &mut [u8],
-    fv: &mut [u8],
-    gv: &mut [u8],
 ) -> bool
-    requires { ⌜ (legal sizes ≡ true) × DifferentPoints sizes (now points) × (length (now boards) ≡ sizes .k) × (below (sizes .n) (now boards) ≡ true) × (length (now starts) ≡ sizes .k) × Placed sizes (now starts) (now bytes) stripes × (stripes ≤ 4096) × (now ff ≡ factorRows sizes (now points) (sizes .d + sizes .r) (now boards)) × (now gf ≡ factorRows sizes (now points) (sizes .d) (now boards)) × (length (now fs) ≡ sizes .k * 32) × (length (now gs) ≡ sizes .k * 32) × (length (now fv) ≡ sizes .k * sizes .k) × (length (now gv) ≡ sizes .k * sizes .k) ⌝ }
+    requires { ⌜ (legal sizes ≡ true) × DifferentPoints sizes (now points) × (length (now boards) ≡ sizes .k) × (below (sizes .n) (now boards) ≡ true) × (length (now starts) ≡ sizes .k) × Placed sizes (now starts) (now bytes) stripes × (stripes ≤ 4096) × (now ff ≡ factorRows sizes (now points) (sizes .d + sizes .r) (now boards)) × (now gf ≡ factorRows sizes (now points) (sizes .d) (now boards)) × (length (now fs) ≡ sizes .k * 32) × (length (now gs) ≡ sizes .k * 32) ⌝ }
     ensures { λ r. ⌜ r ≡ alls (tabulate stripes (λ s. pairsMeet sizes (now (points .entry)) (now (boards .entry)) (heldAt sizes (now (starts .entry)) (now (bytes .entry)) s))) ⌝ }
 {
     let mut s: usize = 0;
     while s < stripes {
-        if !stripe_meets(
-            sizes,
-            points,
-            boards,
-            starts,
-            bytes,
-            s,
-            ff,
-            gf,
-            fs,
-            gs,
-            fv,
-            gv,
-        ) {
+        if !stripe_meets(sizes, points, boards, starts, bytes, s, ff, gf, fs, gs) {
             return false;
         }
         s += 1;

@@ -120,7 +120,8 @@ module _ (m₀ m₁ m₂ m₃ m₄ : ℕ) (l y₀ y₁ y₂ y₃ y₄ : List ℕ
   on₄ = before 48128 m₄ fourth y₄ (omega (arith, fourth-long)) l₄
 
   pub part₀ : take m₀ fifth ≡ y₀
-  part₀ = on₄ 0 m₀ (omega arith) ∙ on₃ 0 m₀ (omega arith) ∙ on₂ 0 m₀ (omega arith) ∙ on₁ 0 m₀ (omega arith) ∙ ap (take m₀) first-is ∙ there 0 m₀ l y₀ (omega arith) l₀
+  part₀ =
+      on₄ 0 m₀ (omega arith) ∙ on₃ 0 m₀ (omega arith) ∙ on₂ 0 m₀ (omega arith) ∙ on₁ 0 m₀ (omega arith) ∙ ap (take m₀) first-is ∙ there 0 m₀ l y₀ (omega arith) l₀
 
   pub part₁ : take m₁ (drop 7680 fifth) ≡ y₁
   part₁ = on₄ 7680 m₁ (omega arith) ∙ on₃ 7680 m₁ (omega arith) ∙ on₂ 7680 m₁ (omega arith) ∙ there 7680 m₁ first y₁ (omega (arith, first-long)) l₁
@@ -266,7 +267,9 @@ module _ (z : Sizes) (legal : Legal z) (xs bs l zs y y₀ y₁ y₂ y₃ y₄ : 
   h₄ = omega (arith, legal .some-fresh, legal .enough, legal .few)
 
   abbrev pub all-made : List ℕ
-  all-made = fifth (k * ((n - (d + r)) * 32)) (k * ((n - d) * 32)) ((d + r) * 512) (d * 512) ((d - k) * 32) l y₀ y₁ y₂ y₃ y₄ ll (f-few z legal) (g-few z legal) h₂ h₃ h₄ l₀ l₁ l₂ l₃ l₄
+  all-made =
+      fifth (k * ((n - (d + r)) * 32)) (k * ((n - d) * 32)) ((d + r) * 512) (d * 512) ((d - k) * 32) l y₀ y₁ y₂ y₃ y₄
+      ll (f-few z legal) (g-few z legal) h₂ h₃ h₄ l₀ l₁ l₂ l₃ l₄
 
   pub tables-made : Made z xs bs all-made
   tables-made =
@@ -275,13 +278,18 @@ module _ (z : Sizes) (legal : Legal z) (xs bs l zs y y₀ y₁ y₂ y₃ y₄ : 
       let m₂ : ℕ = (d + r) * 512 in
       let m₃ : ℕ = d * 512 in
       let m₄ : ℕ = (d - k) * 32 in
-      let p₂ = part₂ m₀ m₁ m₂ m₃ m₄ l y₀ y₁ y₂ y₃ y₄ ll (f-few z legal) (g-few z legal) h₂ h₃ h₄ l₀ l₁ l₂ l₃ l₄ in
-      let p₃ = part₃ m₀ m₁ m₂ m₃ m₄ l y₀ y₁ y₂ y₃ y₄ ll (f-few z legal) (g-few z legal) h₂ h₃ h₄ l₀ l₁ l₂ l₃ l₄ in
+      let p₂ = part₂ m₀ m₁ m₂ m₃ m₄ l y₀ y₁ y₂ y₃ y₄
+      ll (f-few z legal) (g-few z legal) h₂ h₃ h₄ l₀ l₁ l₂ l₃ l₄ in
+      let p₃ = part₃ m₀ m₁ m₂ m₃ m₄ l y₀ y₁ y₂ y₃ y₄
+      ll (f-few z legal) (g-few z legal) h₂ h₃ h₄ l₀ l₁ l₂ l₃ l₄ in
       record {
-        long = fifth-long m₀ m₁ m₂ m₃ m₄ l y₀ y₁ y₂ y₃ y₄ ll (f-few z legal) (g-few z legal) h₂ h₃ h₄ l₀ l₁ l₂ l₃ l₄;
+        long = fifth-long m₀ m₁ m₂ m₃ m₄ l y₀ y₁ y₂ y₃ y₄
+            ll (f-few z legal) (g-few z legal) h₂ h₃ h₄ l₀ l₁ l₂ l₃ l₄;
         are = record {
-          f-factors = part₀ m₀ m₁ m₂ m₃ m₄ l y₀ y₁ y₂ y₃ y₄ ll (f-few z legal) (g-few z legal) h₂ h₃ h₄ l₀ l₁ l₂ l₃ l₄ ∙ e₀;
-          g-factors = part₁ m₀ m₁ m₂ m₃ m₄ l y₀ y₁ y₂ y₃ y₄ ll (f-few z legal) (g-few z legal) h₂ h₃ h₄ l₀ l₁ l₂ l₃ l₄ ∙ e₁;
+          f-factors = part₀ m₀ m₁ m₂ m₃ m₄ l y₀ y₁ y₂ y₃ y₄
+              ll (f-few z legal) (g-few z legal) h₂ h₃ h₄ l₀ l₁ l₂ l₃ l₄ ∙ e₀;
+          g-factors = part₁ m₀ m₁ m₂ m₃ m₄ l y₀ y₁ y₂ y₃ y₄
+              ll (f-few z legal) (g-few z legal) h₂ h₃ h₄ l₀ l₁ l₂ l₃ l₄ ∙ e₁;
           units-long = ap length p₂ ∙ l₂;
           units = units-placed (d + r) xs _ (targetsOf z bs) y₂ _ (near-again z legal (getD bs 0 0) zs y lz ey) (length-neighbours z (getD bs 0 0) (d + r)) p₂ t₂;
           tops = part₄ m₀ m₁ m₂ m₃ m₄ l y₀ y₁ y₂ y₃ y₄ ll (f-few z legal) (g-few z legal) h₂ h₃ h₄ l₀ l₁ l₂ l₃ l₄ ∙ e₄′;

@@ -11,12 +11,13 @@ ghost use Rattle.sizes.specs.Sizing.{legal, B};
 ghost use Rattle.mbcr.specs.Share.{DifferentPoints, points as pointsOf};
 ghost use Rattle.mbcr.specs.Rebuild.{ownF, ownG};
 ghost use Rattle.mbcr.specs.Read.{decodedStripe};
-ghost use Rattle.decode_laws.specs.Steps.{factorRows, unitRows, topRows, stripeBy, heldAt, Placed};
+ghost use Rattle.decode_laws.specs.Steps.{factorRows, unitRows, topRows, heldAt, Placed};
 ghost use Rattle.decode_rows.specs.Steps.{TabledRows};
 ghost use Rattle.decode_stripe.specs.Steps.{Asked, Targets, Tables, Work};
 use sizes::Sizes;
 
-// f of each board, from stripe s of its bytes: its coefficients, a row each, and the coefficients of X^k, .. of g of each, for each power.
+// f of each board, from stripe s of its bytes: its coefficients, a row each, and the coefficients of X^k, .. of g of each, for each power. Work on
+// f and on g takes turns, so that neither waits for a sum of the other's.
 fn coefficients(
     sizes: Sizes,
     points: &[u8],
@@ -48,30 +49,10 @@ fn coefficients(
     let m = row_values::whole_vectors(w);
     let p = row_values::whole_vectors(d);
     decode_values::rows_of(d, w, starts, at, bytes, fs, gs);
-    decode_values::values(n, w, m, boards, targets, ff, fs, vf);
-    decode_rows::by_rows(k, w, vf, vc, cf);
     decode_values::values(n, d, p, boards, &targets[0..d], gf, gs, &mut vg[0..q]);
+    decode_values::values(n, w, m, boards, targets, ff, fs, vf);
     decode_values::tops(d - k, k, d, p, tr, vg, tp);
-}
-
-// The stripe from the coefficients: of f in the first k rows of rows, of g in tp. columns is for work.
-fn stripe_of(sizes: Sizes, et: &[u8], tp: &[u8], rows: &mut [u8], columns: &mut [u8], u: &mut [u8])
-    requires { ⌜ (legal sizes ≡ true) × (length (now et) ≡ sizes .d * 512) × (length (now tp) ≡ (sizes .d - sizes .k) * sizes .k) × (length (now rows) ≡ sizes .d * 32) × (length (now columns) ≡ (sizes .d + sizes .r) * 32) × (length (now u) ≡ B sizes) ⌝ }
-    ensures { λ _. ⌜ ((e : List ℕ) → sizes .d * 32 ≤ length e → TabledRows (sizes .d) e (now (et .entry)) → now (u .exit) ≡ stripeBy (sizes .k) (sizes .d) (sizes .d + sizes .r) e (take (sizes .k * 32) (now (rows .entry))) (now (tp .entry))) ⌝ }
-{
-    let k = sizes.k;
-    let d = sizes.d;
-    let w = d + sizes.r;
-    let from = k * 32;
-    let to = d * 32;
-    let a = k * k;
-    let b = a + k * (w - k);
-    let end = u.len();
-    decode_rows::by_rows(d - k, k, tp, et, &mut rows[from..to]);
-    decode_rows::by_columns(w, 0, d, rows, et, columns);
-    decode_rows::turned(k, 0, k, columns, &mut u[0..a]);
-    decode_rows::turned(k, k, w - k, columns, &mut u[a..b]);
-    decode_rows::parts(d - k, k, &rows[from..to], &mut u[b..end]);
+    decode_rows::by_rows(k, w, vf, vc, cf);
 }
 
 // Stripe s of the file.
@@ -120,5 +101,5 @@ pub fn decode_stripe(
         &mut rows[0..q],
         tp,
     );
-    stripe_of(sizes, et, tp, rows, columns, u);
+    decode_columns::stripe_of(sizes, et, tp, rows, columns, u);
 }

@@ -45,7 +45,8 @@ take-least b n l h = go (decLt n b)
     go (no k) = take-all (b - (b - n)) l (omega arith) ∙ sym (take-all n l (omega arith))
 
 -- a turn of the loop over the stripes
-pub stripes-turn : (f : ℕ → List ℕ) (b L s m : ℕ) → ((i : ℕ) → length (f i) ≡ b) → (out₀ out u y : List ℕ) → s * b ≤ L → L ≤ length out₀ → length out ≡ length out₀
+pub stripes-turn : (f : ℕ → List ℕ) (b L s m : ℕ) → ((i : ℕ) → length (f i) ≡ b) → (out₀ out u y : List ℕ)
+    → s * b ≤ L → L ≤ length out₀ → length out ≡ length out₀
     → m ≡ b - (b - (L - s * b)) → out ≡ over (take L (join s f)) out₀ → u ≡ f s → y ≡ take (length (take (s * b + m - s * b) (drop (s * b) out))) u
     → putMid (s * b) (s * b + m - s * b) out y ≡ over (take L (join (s + 1) f)) out₀
 stripes-turn f b L s m lf out₀ out u y h hl lo em eo eu ey =

@@ -59,7 +59,7 @@ pub fn rows_of(
 }
 
 // By how many boards b comes after a, modulo n.
-fn offset(n: usize, a: usize, b: usize) -> usize
+pub fn offset(n: usize, a: usize, b: usize) -> usize
     requires { ⌜ (n ≤ 32) × (a < n) × (b < n) ⌝ }
     ensures { λ r. ⌜ r ≡ offset n a b ⌝ }
 {
@@ -67,7 +67,7 @@ fn offset(n: usize, a: usize, b: usize) -> usize
 }
 
 // The value at the o-th board after its own of the polynomial through the c bytes of a row.
-fn value(n: usize, c: usize, m: usize, o: usize, factors: &[u8], row: &[u8]) -> u8
+pub fn value(n: usize, c: usize, m: usize, o: usize, factors: &[u8], row: &[u8]) -> u8
     requires { ⌜ (n ≤ 32) × (c ≤ n) × (m ≤ 32) × (o < n) × ((n - c) * 32 ≤ length (now factors)) × (length (now row) ≡ 32) ⌝ }
     ensures { λ r. ⌜ r ≡ valueBy c o m (now (factors .entry)) (now (row .entry)) ⌝ }
 {

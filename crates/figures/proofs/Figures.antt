@@ -6,18 +6,18 @@ use Rattle.gf256.specs.Field.{add, product, reduce, mul, squares, inverse}
 use Rattle.gf256.proofs.Field.{zero-mul}
 use Rattle.sizes.specs.Sizing.{legal, B, stripes}
 use Rattle.mbcr.specs.Share.{pointed, stripe, grid, F, neighbours, symbols, kept, share, shares}
-use Rattle.mbcr.specs.Rebuild.{received, exchanged, ownF, ownG, helperPair, helperPacket, gFrom, exchangePacket, fFrom, finishedStripe, finishedShare}
+use Rattle.mbcr.specs.Rebuild.{seconds, received, exchanged, ownF, ownG, helperPair, helperPacket, standInPacket, gFrom, exchangePacket, fFrom, finishedStripe, finishedShare}
 use Rattle.mbcr.specs.Read.{through, bColumn, cRow, aColumn, decodedStripe, decodedFile, readFile}
 use Rattle.store_spec.specs.Record.{sound}
-use Rattle.store_spec.specs.Packets.{helperPackets, exchangePackets, repairPackets, freshShare}
-use Rattle.store_spec.specs.Calls.{writeLines, loseLines, repairLines, readLines, setUpCall, writeCall, loseCall, repairCall, readCall}
+use Rattle.store_spec.specs.Packets.{helperPackets, standInPackets, exchangePackets, partnerPackets, repairPackets, freshShare}
+use Rattle.store_spec.specs.Calls.{writeLines, loseLines, listLines, repairLines, readLines, setUpCall, writeCall, loseCall, repairCall, readCall}
 use Rattle.board_spec.specs.Calls.{fileLines, fileCall}
 use Rattle.figures.specs.MarkedFigures.{MarkedFigures}
 use Rattle.figures.specs.LongFigures.{LongFigures}
 
 pub figures : MarkedFigures
-unfolding piece put add product reduce mul squares inverse legal B stripes pointed stripe grid F neighbours symbols kept share shares received exchanged ownF
-    ownG helperPair helperPacket gFrom exchangePacket fFrom finishedStripe finishedShare sound helperPackets exchangePackets repairPackets writeLines
+unfolding piece put add product reduce mul squares inverse legal B stripes pointed stripe grid F neighbours symbols kept share shares seconds received exchanged ownF
+    ownG helperPair helperPacket standInPacket gFrom exchangePacket fFrom finishedStripe finishedShare sound helperPackets standInPackets exchangePackets partnerPackets repairPackets writeLines
     writeCall
 figures = record {
   m1 = refl;
@@ -38,9 +38,9 @@ figures = record {
 }
 
 pub long-figures : LongFigures
-unfolding piece put add product reduce mul squares inverse legal B stripes pointed stripe grid F neighbours symbols kept share shares received exchanged ownF
-    ownG helperPair helperPacket gFrom exchangePacket fFrom finishedStripe finishedShare through bColumn cRow aColumn decodedStripe decodedFile
-    readFile sound helperPackets exchangePackets repairPackets freshShare writeLines loseLines repairLines readLines setUpCall writeCall loseCall
+unfolding piece put add product reduce mul squares inverse legal B stripes pointed stripe grid F neighbours symbols kept share shares seconds received exchanged ownF
+    ownG helperPair helperPacket standInPacket gFrom exchangePacket fFrom finishedStripe finishedShare through bColumn cRow aColumn decodedStripe decodedFile
+    readFile sound helperPackets standInPackets exchangePackets partnerPackets repairPackets freshShare writeLines loseLines listLines repairLines readLines setUpCall writeCall loseCall
     repairCall readCall fileLines fileCall
 long-figures = record {
   file-disagrees = refl;

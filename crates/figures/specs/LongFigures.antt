@@ -61,12 +61,12 @@ pub record LongFigures : Type 0 where
       ≡ gives 0 0 written area (fiveFile ++ (0xEE ∷ 0xEE ∷ []))
   -- boards 0 and 1 are lost and their bytes spoiled; a repair: 14 bytes moved, record and area as after the write
   pub losses : loseCall (loseCall written [] 0 .handed) [] 1 .handed ≡ lost
-  pub repaired : repairCall lost spoiled (0 ∷ 1 ∷ []) helpers ≡ gives 0 14 written area []
+  pub repaired : repairCall lost spoiled (0 ∷ 1 ∷ []) helpers [] ≡ gives 0 14 written area []
   -- "for each, its own list of d helpers": boards 0 and 1 fresh, helpers 2, 3 and 4, 5
   pub own-helpers : map (λ i. sendersOf (sentTo i (helperPackets six six-area (0 ∷ 1 ∷ []) own))) (0 ∷ 1 ∷ []) ≡ (2 ∷ 3 ∷ []) ∷ (4 ∷ 5 ∷ []) ∷ []
   pub own-partners : map (λ i. sendersOf (sentTo i (exchangePackets six six-area (0 ∷ 1 ∷ []) own))) (0 ∷ 1 ∷ []) ≡ (1 ∷ []) ∷ (0 ∷ []) ∷ []
   pub own-packets : map (λ i. contents (sentTo i (helperPackets six six-area (0 ∷ 1 ∷ []) own))) (0 ∷ 1 ∷ [])
       ≡ (0x07 ∷ 0x21 ∷ 0x04 ∷ 0x34 ∷ []) ∷ (0x20 ∷ 0x9D ∷ 0x28 ∷ 0x4F ∷ []) ∷ []
   -- the exchanged bytes: board 1 gets 02 from board 0, and board 0 gets 00 from board 1
-  pub own-exchanged : map (λ i. contents (sentTo i (repairPackets six six-area (0 ∷ 1 ∷ []) own))) (0 ∷ 1 ∷ [])
+  pub own-exchanged : map (λ i. contents (sentTo i (repairPackets six six-area (0 ∷ 1 ∷ []) own []))) (0 ∷ 1 ∷ [])
       ≡ (0x07 ∷ 0x21 ∷ 0x04 ∷ 0x34 ∷ 0x00 ∷ []) ∷ (0x20 ∷ 0x9D ∷ 0x28 ∷ 0x4F ∷ 0x02 ∷ []) ∷ []

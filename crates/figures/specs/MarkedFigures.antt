@@ -29,6 +29,6 @@ pub record MarkedFigures : Type 0 where
   pub m11 : share five (standard five) fiveFile 4 ≡ 0x40 ∷ 0x00 ∷ 0x10 ∷ 0x20 ∷ 0x30 ∷ 0x00 ∷ 0x04 ∷ []
   pub m7-to-m11 : writeCall (newRecord five (standard five) 1) (replicate 35 0xFF) fiveFile ≡ gives 0 0 written area []
   -- "board 1 gets 04 02, 05 03, 10 04, then 00 from board 0. Moved: 14."
-  pub m12-gets : contents (sentTo 1 (repairPackets written spoiled (0 ∷ 1 ∷ []) helpers))
+  pub m12-gets : contents (sentTo 1 (repairPackets written spoiled (0 ∷ 1 ∷ []) helpers []))
       ≡ 0x04 ∷ 0x02 ∷ 0x05 ∷ 0x03 ∷ 0x10 ∷ 0x04 ∷ 0x00 ∷ []
-  pub m12-moved : total (repairPackets written spoiled (0 ∷ 1 ∷ []) helpers) ≡ 14
+  pub m12-moved : total (repairPackets written spoiled (0 ∷ 1 ∷ []) helpers []) ≡ 14

@@ -79,8 +79,11 @@ pub last-known : (n i : ℕ) (helpers partners : List ℕ) → below n (helpers 
     → (below n helpers ≡ true) × (below n partners ≡ true) × (i < n)
 last-known n i helpers partners h =
     let all = below-all n (helpers ++ partners ++ (i ∷ [])) h in
-    let two = all-left (λ b. b < n) (helpers ++ partners) (i ∷ []) all in
-    (all-below n helpers (all-left (λ b. b < n) helpers partners two), all-below n partners (all-right (λ b. b < n) helpers partners two), all-right (λ b. b < n) (helpers ++ partners) (i ∷ []) all .0)
+    let two = all-left (λ b. b < n) (helpers ++ partners) (i ∷ []) all in (
+      all-below n helpers (all-left (λ b. b < n) helpers partners two),
+      all-below n partners (all-right (λ b. b < n) helpers partners two),
+      all-right (λ b. b < n) (helpers ++ partners) (i ∷ []) all .0,
+    )
 
 -- at the end of the loop over the stripes
 pub share-end : (f : ℕ → List ℕ) (w : ℕ) (out₀ out : List ℕ) (s S : ℕ) → s ≡ S → out ≡ join s f ++ drop (s * w) out₀ → out ≡ join S f ++ drop (S * w) out₀

@@ -62,7 +62,8 @@ boards-made helpers partners out a b i l ea eb =
     ∙ set-last last ((a ++ b) ++ drop (last - m) (drop m out)) i lr
     ∙ ap (λ (q : List ℕ). q ++ (i ∷ [])) (take-at (a ++ b) (drop (last - m) (drop m out)) last lab ∙ ap₂ {C = List ℕ} (λ x y. x ++ y) a′ b′)
 
-pub stripe-made : (n i L next : ℕ) (rows g got got′ f out a b : List ℕ) → next ≡ (i + 1) % n → 1 ≤ length got → length got ≤ length out → got′ ≡ set got (length got - 1) (getD g i 0)
+pub stripe-made : (n i L next : ℕ) (rows g got got′ f out a b : List ℕ)
+    → next ≡ (i + 1) % n → 1 ≤ length got → length got ≤ length out → got′ ≡ set got (length got - 1) (getD g i 0)
     → f ≡ rowSums L got′ rows → (let w = length got in a ≡ turned n i (length (take (w - 0) (drop 0 out))) f)
     → (let w = length got in let out′ = putMid 0 (w - 0) out a in b ≡ turned n next (length (take (length out′ - w) (drop w out′))) g)
     → (let w = length got in let out′ = putMid 0 (w - 0) out a in

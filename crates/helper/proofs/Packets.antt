@@ -47,7 +47,8 @@ module _ (z : Sizes) (pts : List ℕ) (legal : Legal z) (apart : DifferentPoints
   abbrev near : ℕ → ℕ → List ℕ
   near L m = fit L (factorsAt pts (tabulate m (λ t. (j + t) % n)) i)
 
-  value : (m L : ℕ) (fs vs : List ℕ) → m ≤ n → m ≤ L → length vs ≡ m → Bytes vs → fs ≡ near L m → dotOf fs vs ≡ eval (interpolate (points pts (neighbours z j m)) vs) (point pts i)
+  value : (m L : ℕ) (fs vs : List ℕ) → m ≤ n → m ≤ L → length vs ≡ m → Bytes vs → fs ≡ near L m
+      → dotOf fs vs ≡ eval (interpolate (points pts (neighbours z j m)) vs) (point pts i)
   unfolding neighbours
   value m L fs vs h l e b ef =
       let bs = neighbours-boards z j m hj h in

@@ -13,8 +13,7 @@ use Rattle.mbcr.proofs.Repair as repair
 use Rattle.mbcr.proofs.Read as reading
 use Rattle.mbcr.proofs.Places as places
 use Rattle.lists.specs.Lists.{Bytes, All, joined, join}
-use Rattle.lists.proofs.Alls.{all-of, all-at}
-use Rattle.lists.proofs.Boards.{joined-all}
+use Rattle.lists.proofs.Alls.{all-imp, all-of, all-at}
 use Rattle.lists.proofs.Pieces.{length-joined, join-joined, length-fit}
 use Rattle.gf256.specs.Field.{mul}
 use Rattle.sizes.specs.Sizing.{legal, B, α}
@@ -82,26 +81,26 @@ module _ (z : Sizes) (xs : List ℕ) (ok : legal z ≡ true) (pts : DifferentPoi
         ap (λ (p : List ℕ). exchangePacket z xs (S z file) helpers p m) (sent-is helpers i)
         ∙ repair.exchange-true z xs facts pts file bf helpers (named d helpers h) (h .0) i m
 
-    exchanged-is : (i : ℕ) (partners : List ℕ) (theirs : ℕ → List ℕ) → length partners ≡ r - 1 → exchangesFromShares z xs file partners theirs i
-        ≡ join (r - 1) (λ t. exchangePacket z xs (S z file) (theirs (getD partners t 0)) (repair.packets z xs file (theirs (getD partners t 0)) (getD partners t 0)) i)
-    unfolding exchangesFromShares
-    exchanged-is i partners theirs l =
-        joined-all (λ m. exchangePacket z xs (S z file) (theirs m) (packetsFromShares z xs file (theirs m) m) i)
-        (λ m. exchangePacket z xs (S z file) (theirs m) (repair.packets z xs file (theirs m) m) i) partners
-        (all-of _ 0 partners (λ t k. ap (λ (p : List ℕ). exchangePacket z xs (S z file) (theirs (getD partners t 0)) p i) (sent-is (theirs (getD partners t 0)) (getD partners t 0))))
-        ∙ sym (join-joined (λ m. exchangePacket z xs (S z file) (theirs m) (repair.packets z xs file (theirs m) m) i) partners)
-        ∙ ap (λ (m : ℕ). join m (λ t. exchangePacket z xs (S z file) (theirs (getD partners t 0)) (repair.packets z xs file (theirs (getD partners t 0)) (getD partners t 0)) i)) l
+    finished-by-symbols : (i : ℕ) (helpers partners : List ℕ) (sent : ℕ → List ℕ)
+        → Named z (d + r) (helpers ++ partners ++ (i ∷ [])) → length helpers ≡ d
+        → All (λ m. sent m ≡ join (S z file) (λ s. symbol z xs file s i m ∷ [])) partners
+        → finishedShare z xs (S z file) i helpers (packetsFromShares z xs file helpers i) partners (joined sent partners) ≡ share z xs file i
+    finished-by-symbols i helpers partners sent h lh ht =
+        let lm : length partners ≡ r - 1 = omega (arith, length-append (helpers ++ partners) (i ∷ []), length-append helpers partners, h .0) in
+        let js : joined sent partners ≡ join (r - 1) (λ t. sent (getD partners t 0)) =
+        sym (join-joined sent partners) ∙ ap (λ (m : ℕ). join m (λ t. sent (getD partners t 0))) lm in
+        ap₂ (λ (a b : List ℕ). finishedShare z xs (S z file) i helpers a partners b) (sent-is helpers i) js
+        ∙ repair.finished-true z xs facts pts file bf i partners lm (λ t. sent (getD partners t 0))
+        (λ t l. all-at (λ m. sent m ≡ join (S z file) (λ s. symbol z xs file s i m ∷ [])) 0 partners ht t (omega arith))
+        helpers lh (named (d + r) (helpers ++ partners ++ (i ∷ [])) h)
 
     finished-true : (i : ℕ) (helpers partners : List ℕ) (theirs : ℕ → List ℕ)
         → Named z (d + r) (helpers ++ partners ++ (i ∷ [])) → length helpers ≡ d → All (λ m. Named z d (theirs m)) partners
         → finishedShare z xs (S z file) i helpers (packetsFromShares z xs file helpers i) partners (exchangesFromShares z xs file partners theirs i) ≡ share z xs file i
+    unfolding exchangesFromShares
     finished-true i helpers partners theirs h lh ht =
-        let lm : length partners ≡ r - 1 = omega (arith, length-append (helpers ++ partners) (i ∷ []), length-append helpers partners, h .0) in
-        let at : (t : ℕ) → t < r - 1 → Named z d (theirs (getD partners t 0)) =
-        λ t l. all-at (λ m. Named z d (theirs m)) 0 partners ht t (omega arith) in
-        ap₂ (λ (a b : List ℕ). finishedShare z xs (S z file) i helpers a partners b) (sent-is helpers i) (exchanged-is i partners theirs lm)
-        ∙ repair.finished-true z xs facts pts file bf i partners lm (λ t. theirs (getD partners t 0))
-        (λ t l. named d (theirs (getD partners t 0)) (at t l)) (λ t l. at t l .0) helpers lh (named (d + r) (helpers ++ partners ++ (i ∷ [])) h)
+        finished-by-symbols i helpers partners (λ m. exchangePacket z xs (S z file) (theirs m) (packetsFromShares z xs file (theirs m) m) i) h lh
+        (all-imp (λ m. Named z d (theirs m)) _ (λ m k. exchange-true (theirs m) k m i) partners ht)
 
   all : Demand2 z xs
   all = record {
@@ -124,19 +123,24 @@ module _ (z : Sizes) (xs : List ℕ) (ok : legal z ≡ true) (pts : DifferentPoi
     );
     share-length = repair.length-share z xs facts;
     packet-length = repair.length-packet z xs;
+    stand-in-length = repair.length-stand-in z xs;
     exchange-length = repair.length-exchange z xs;
     finished-length = repair.length-finished z xs facts;
     decoded-length = λ L boards held l. reading.length-decoded-file z xs facts boards l L held;
     moved = moved;
     share-bytes = places.share-bytes z xs facts;
     packet-bytes = places.packet-bytes z xs facts;
+    stand-in-bytes = places.stand-in-bytes z xs facts;
     exchange-bytes = places.exchange-bytes z xs facts;
     finished-bytes = places.finished-bytes z xs facts;
     received-place = places.received-place z;
     exchanged-place = places.exchanged-place z;
     packet-true = λ file bf. repair.packet-true z xs facts pts file bf;
+    stand-in-place = places.stand-in-place z xs;
+    stand-in-true = λ file bf. repair.stand-in-true z xs facts pts file bf;
     exchange-true = exchange-true;
     finished-true = finished-true;
+    finished-by-symbols = finished-by-symbols;
     decodes = λ file boards bf h. reading.decoded-file-true z xs facts pts boards (named k boards h) (h .0) file bf;
     shares-fix = λ file file′ boards b b′ h. reading.shares-injective z xs facts pts boards (named k boards h) (h .0) file file′ b b′;
     read-file = λ L boards held file b h. (

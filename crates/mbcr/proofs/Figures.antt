@@ -6,13 +6,13 @@ use Rattle.lists.specs.Lists.{piece}
 use Rattle.gf256.specs.Field.{add, product, reduce, mul, squares, inverse}
 use Rattle.sizes.specs.Sizing.{legal, B, stripes}
 use Rattle.mbcr.specs.Share.{pointed, stripe, grid, F, neighbours, symbols, kept, share, shares}
-use Rattle.mbcr.specs.Rebuild.{received, exchanged, ownF, ownG, helperPair, helperPacket, gFrom, exchangePacket, fFrom, finishedStripe, finishedShare}
+use Rattle.mbcr.specs.Rebuild.{seconds, received, exchanged, ownF, ownG, helperPair, helperPacket, standInPacket, gFrom, exchangePacket, fFrom, finishedStripe, finishedShare}
 use Rattle.mbcr.specs.Read.{through, bColumn, cRow, aColumn, decodedStripe, decodedFile, readFile}
 use Rattle.mbcr.specs.Figures.{CodeFigures}
 
 pub figures : CodeFigures
-unfolding piece add product reduce mul squares inverse legal B stripes pointed stripe grid F neighbours symbols kept share shares received exchanged ownF ownG
-    helperPair helperPacket gFrom exchangePacket fFrom finishedStripe finishedShare through bColumn cRow aColumn decodedStripe decodedFile readFile
+unfolding piece add product reduce mul squares inverse legal B stripes pointed stripe grid F neighbours symbols kept share shares seconds received exchanged ownF ownG
+    helperPair helperPacket standInPacket gFrom exchangePacket fFrom finishedStripe finishedShare through bColumn cRow aColumn decodedStripe decodedFile readFile
 figures = record {
   one-point = λ p. omega (arith, p .differ 0 1 (omega arith) (omega arith) refl);
   points-taken = refl;
@@ -25,6 +25,10 @@ figures = record {
   pair = refl;
   exchange = refl;
   finished = refl;
+  stand-in = refl;
+  stand-in-alone = refl;
+  finished-by-stand-in = refl;
+  second-bytes = refl;
   finished-by-exchange = refl;
   read = refl;
   disagrees = refl;

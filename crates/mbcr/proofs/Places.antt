@@ -15,7 +15,7 @@ use Rattle.sizes.specs.declared.Sizes.{Sizes}
 use Rattle.sizes.proofs.Legal.{row-fits, Legal, α-parts}
 use Rattle.polynomial.specs.Polynomial.{atY, interpolate, eval}
 use Rattle.polynomial.proofs.Poly.{eval-byte, interpolate-bytes}
-use Rattle.mbcr.specs.Rebuild.{received, exchanged, ownF, ownG, helperPacket, helperPair, gFrom, exchangePacket, finishedShare, finishedStripe, fFrom}
+use Rattle.mbcr.specs.Rebuild.{seconds, received, exchanged, ownF, ownG, helperPacket, standInPacket, helperPair, gFrom, exchangePacket, finishedShare, finishedStripe, fFrom}
 use Rattle.mbcr.specs.Share.{stripe, neighbours, symbols, point, points, share, kept, F, grid}
 use Rattle.mbcr.proofs.Points.{length-points, length-neighbours}
 use Rattle.mbcr.proofs.Repair.{length-kept}
@@ -48,6 +48,12 @@ module _ (z : Sizes) where
     omega (arith, row-fits t (r - 1) S ht),
     tabulate-at (r - 1) (λ t. getD (piece S t packets) s 0) 0 t ht ∙ piece-at S t packets s 0 hs,
   )
+
+pub stand-in-place : (z : Sizes) (xs : List ℕ) (S j i : ℕ) (held : List ℕ) (s : ℕ) → s < S
+    → getD (standInPacket z xs S j i held) s 0 ≡ getD (helperPacket z xs S j i held) (s * 2 + 1) 0
+unfolding standInPacket seconds
+stand-in-place z xs S j i held s h =
+    tabulate-at S (λ s. getD (piece 2 s (helperPacket z xs S j i held)) 1 0) 0 s h ∙ piece-at 2 s (helperPacket z xs S j i held) 1 0 (omega arith)
 
 module _ (z : Sizes) (xs : List ℕ) (legal : Legal z) where
   open Sizes z using (n, k, d, r)
@@ -133,6 +139,12 @@ module _ (z : Sizes) (xs : List ℕ) (legal : Legal z) where
       join-bytes S (λ s. helperPair z xs j i (piece (α z) s held)) (λ s l.
       let w = piece-bytes (α z) s held b in
       (eval-byte (ownF z xs j (piece (α z) s held)) (point xs i) (own-f-bytes j _ w), (eval-byte (ownG z xs j (piece (α z) s held)) (point xs i) (own-g-bytes j _ w), tt)))
+
+  pub stand-in-bytes : (S j i : ℕ) (held : List ℕ) → Bytes held → Bytes (standInPacket z xs S j i held)
+  unfolding standInPacket seconds
+  stand-in-bytes S j i held b =
+      tabulate-all (λ a. a < 256) S (λ s. getD (piece 2 s (helperPacket z xs S j i held)) 1 0)
+      (λ s l. byte-at (piece 2 s (helperPacket z xs S j i held)) (piece-bytes 2 s _ (packet-bytes S j i held b)) 1)
 
   received-bytes : (S b s : ℕ) (packets : List ℕ) → Bytes packets → Bytes (received z S b s packets)
   unfolding received

@@ -8,12 +8,12 @@ use native.Mathlib.Omega.{arith}
 use lib.ListN.{length, getD, length-append, List·getD-eq-default}
 use Rattle.lists.proofs.Alls.{all-at}
 use Rattle.lists.specs.Lists.{All, Bytes, join, piece}
-use Rattle.lists.proofs.Pieces.{tabulate-ext, tabulate-map, join-ext, length-join, piece-join}
+use Rattle.lists.proofs.Pieces.{tabulate-ext, tabulate-map, tabulate-at, length-tabulate, join-ext, join-ones, length-join, piece-join}
 use Rattle.sizes.specs.Sizing.{α, stripes}
 use Rattle.sizes.specs.declared.Sizes.{Sizes}
 use Rattle.sizes.proofs.Legal.{Legal, α-moved}
 use Rattle.polynomial.specs.Polynomial.{eval}
-use Rattle.mbcr.specs.Rebuild.{helperPair, helperPacket, received, gFrom, exchangePacket, exchanged, finishedStripe, finishedShare}
+use Rattle.mbcr.specs.Rebuild.{seconds, helperPair, helperPacket, standInPacket, received, gFrom, exchangePacket, exchanged, finishedStripe, finishedShare}
 use Rattle.mbcr.specs.Share.{DifferentPoints, stripe, F, kept, share, point}
 use Rattle.mbcr.proofs.Points.{Boards, boards-left}
 use Rattle.mbcr.proofs.Shape.{length-stripe, stripe-bytes}
@@ -27,6 +27,10 @@ module _ (z : Sizes) (xs : List ℕ) where
   pub length-packet : (S j i : ℕ) (bytes : List ℕ) → length (helperPacket z xs S j i bytes) ≡ 2 * S
   unfolding helperPacket helperPair
   length-packet S j i bytes = length-join S 2 (λ s. helperPair z xs j i (piece (α z) s bytes)) (λ s l. refl) ∙ mul-comm S 2
+
+  pub length-stand-in : (S j i : ℕ) (bytes : List ℕ) → length (standInPacket z xs S j i bytes) ≡ S
+  unfolding standInPacket seconds
+  length-stand-in S j i bytes = length-tabulate S (λ s. getD (piece 2 s (helperPacket z xs S j i bytes)) 1 0)
 
   pub length-exchange : (S : ℕ) (hs bytes : List ℕ) (m : ℕ) → length (exchangePacket z xs S hs bytes m) ≡ S
   unfolding exchangePacket
@@ -112,35 +116,36 @@ module _ (z : Sizes) (xs : List ℕ) (legal : Legal z) (pts : DifferentPoints z 
       (ap (λ (vs : List ℕ). eval (gFrom z xs hs vs) (point xs m)) (received-first hs lh (h .known) i s l)
       ∙ exchanged-true z xs legal pts (u s) (length-stripe z file s) (stripe-bytes z file s bf) i m hs h lh))
 
-  module _ (i : ℕ) (ms : List ℕ) (lm : length ms ≡ r - 1) (helpers : ℕ → List ℕ)
-      (hb : (t : ℕ) → t < r - 1 → Boards z (helpers t)) (hl : (t : ℕ) → t < r - 1 → length (helpers t) ≡ d) where
-    -- the exchangePacket packets of the partners, each with helpers of its own
-    abbrev pub exchanges : List ℕ
-    exchanges = join (r - 1) (λ t. exchangePacket z xs S (helpers t) (packets z xs file (helpers t) (getD ms t 0)) i)
+  -- what stand-in j sends to board i
+  pub stand-in-true : (i j : ℕ) → j < n → standInPacket z xs S j i (share z xs file j) ≡ join S (λ s. F z (u s) (point xs i) (point xs j) ∷ [])
+  unfolding standInPacket seconds
+  stand-in-true i j h =
+      tabulate-ext S _ (λ s. F z (u s) (point xs i) (point xs j))
+      (λ s l. ap (λ (p : List ℕ). getD (piece 2 s p) 1 0) (packet-true i j h)
+      ∙ ap (λ (p : List ℕ). getD p 1 0) (piece-join S 2 (λ s. F z (u s) (point xs j) (point xs i) ∷ F z (u s) (point xs i) (point xs j) ∷ []) (λ s l. refl) s l))
+      ∙ sym (join-ones S (λ s. F z (u s) (point xs i) (point xs j)))
 
-    exchanged-all : (s : ℕ) → s < S → exchanged z S s exchanges ≡ map (λ m. F z (u s) (point xs i) (point xs m)) ms
+  module _ (i : ℕ) (ms : List ℕ) (lm : length ms ≡ r - 1) (sent : ℕ → List ℕ)
+      (true-sent : (t : ℕ) → t < r - 1 → sent t ≡ join S (λ s. F z (u s) (point xs i) (point xs (getD ms t 0)) ∷ [])) where
+    -- packets of the partners that have F(x_i, y_m) for each stripe
+    exchanged-all : (s : ℕ) → s < S → exchanged z S s (join (r - 1) sent) ≡ map (λ m. F z (u s) (point xs i) (point xs m)) ms
     unfolding exchanged
     exchanged-all s h =
         tabulate-ext (r - 1) _ (λ t. F z (u s) (point xs i) (point xs (getD ms t 0)))
         (λ t l. ap (λ (p : List ℕ). getD p s 0)
-        (piece-join (r - 1) S (λ t. exchangePacket z xs S (helpers t) (packets z xs file (helpers t) (getD ms t 0)) i)
-        (λ t l. length-exchange z xs S (helpers t) (packets z xs file (helpers t) (getD ms t 0)) i) t l
-        ∙ exchange-true (helpers t) (hb t l) (hl t l) (getD ms t 0) i)
-        ∙ at S (λ s. F z (u s) (point xs i) (point xs (getD ms t 0))) s h)
+        (piece-join (r - 1) S sent (λ t l. ap length (true-sent t l) ∙ length-join S 1 _ (λ s k. refl) ∙ mul-one S) t l ∙ true-sent t l)
+        ∙ ap (λ (p : List ℕ). getD p s 0) (join-ones S (λ s. F z (u s) (point xs i) (point xs (getD ms t 0))))
+        ∙ tabulate-at S (λ s. F z (u s) (point xs i) (point xs (getD ms t 0))) 0 s h)
         ∙ tabulate-map (λ m. F z (u s) (point xs i) (point xs m)) (r - 1) ms 0 lm
-      where
-        at : (n : ℕ) (f : ℕ → ℕ) (s : ℕ) → s < n → getD (join n (λ s. f s ∷ [])) s 0 ≡ f s
-        at zero f s h = absurd (omega arith)
-        at (suc n) f zero h = refl
-        at (suc n) f (suc s) h = at n (λ s. f (suc s)) s (omega arith)
 
     -- the finished share of true packets is the board's share
     pub finished-true : (hs : List ℕ) → length hs ≡ d → Boards z (hs ++ ms ++ (i ∷ []))
-        → finishedShare z xs S i hs (packets z xs file hs i) ms exchanges ≡ share z xs file i
+        → finishedShare z xs S i hs (packets z xs file hs i) ms (join (r - 1) sent) ≡ share z xs file i
     unfolding finishedShare share
     finished-true hs lh h =
         let bh : Boards z hs = boards-left z hs ms (boards-left z (hs ++ ms) (i ∷ []) h) in
         join-ext S _ (λ s. kept z xs (u s) i) (λ s l.
-        ap₂ (λ (x y : List ℕ). finishedStripe z xs i hs x y ms (exchanged z S s exchanges)) (received-first hs lh (bh .known) i s l) (received-second hs lh (bh .known) i s l)
+        ap₂ (λ (x y : List ℕ). finishedStripe z xs i hs x y ms (exchanged z S s (join (r - 1) sent)))
+        (received-first hs lh (bh .known) i s l) (received-second hs lh (bh .known) i s l)
         ∙ ap (finishedStripe z xs i hs _ _ ms) (exchanged-all s l)
         ∙ rebuilt-true z xs legal pts (u s) (length-stripe z file s) (stripe-bytes z file s bf) i hs ms h lh lm)

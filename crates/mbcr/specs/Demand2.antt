@@ -14,7 +14,7 @@ use Rattle.sizes.specs.declared.Sizes.{Sizes}
 use Rattle.sizes.specs.Sizing.{legal, α, B, stripes}
 use Rattle.polynomial.specs.Polynomial.{eval, entry, plus, sum, power}
 use Rattle.mbcr.specs.Share.{point, standard, DifferentPoints, stripe, grid, F, kept, share, shares}
-use Rattle.mbcr.specs.Rebuild.{received, exchanged, ownF, ownG, helperPacket, exchangePacket, finishedShare}
+use Rattle.mbcr.specs.Rebuild.{received, exchanged, ownF, ownG, helperPacket, standInPacket, exchangePacket, finishedShare}
 use Rattle.mbcr.specs.Read.{decodedFile, readFile}
 
 -- board numbers below n, none twice, so many
@@ -64,6 +64,7 @@ pub record Demand2 (z : Sizes) (xs : List ℕ) : Type 0 where
   -- lengths, over any bytes
   pub share-length : (file : List ℕ) (i : ℕ) → length (share z xs file i) ≡ S z file * α z
   pub packet-length : (S j i : ℕ) (held : List ℕ) → length (helperPacket z xs S j i held) ≡ 2 * S
+  pub stand-in-length : (S j i : ℕ) (held : List ℕ) → length (standInPacket z xs S j i held) ≡ S
   pub exchange-length : (S : ℕ) (helpers packets : List ℕ) (m : ℕ) → length (exchangePacket z xs S helpers packets m) ≡ S
   pub finished-length : (S i : ℕ) (helpers packets partners exchanges : List ℕ)
       → length (finishedShare z xs S i helpers packets partners exchanges) ≡ S * α z
@@ -75,6 +76,7 @@ pub record Demand2 (z : Sizes) (xs : List ℕ) : Type 0 where
   -- bytes make bytes
   pub share-bytes : (file : List ℕ) → Bytes file → (i : ℕ) → Bytes (share z xs file i)
   pub packet-bytes : (S j i : ℕ) (held : List ℕ) → Bytes held → Bytes (helperPacket z xs S j i held)
+  pub stand-in-bytes : (S j i : ℕ) (held : List ℕ) → Bytes held → Bytes (standInPacket z xs S j i held)
   pub exchange-bytes : (S : ℕ) (helpers packets : List ℕ) (m : ℕ) → Bytes packets → Bytes (exchangePacket z xs S helpers packets m)
   pub finished-bytes : (S i : ℕ) (helpers packets partners exchanges : List ℕ) → Bytes packets → Bytes exchanges
       → Bytes (finishedShare z xs S i helpers packets partners exchanges)
@@ -86,6 +88,11 @@ pub record Demand2 (z : Sizes) (xs : List ℕ) : Type 0 where
   -- a helper that holds its share sends F(x_j, y_i), then F(x_i, y_j)
   pub packet-true : (file : List ℕ) → Bytes file → (i j : ℕ) → j < z .n
       → helperPacket z xs (S z file) j i (share z xs file j) ≡ join (S z file) (λ s. symbol z xs file s j i ∷ symbol z xs file s i j ∷ [])
+  -- a stand-in sends "the second bytes of its helper packet", over any bytes; one that holds its share sends F(x_i, y_j)
+  pub stand-in-place : (S j i : ℕ) (held : List ℕ) (s : ℕ) → s < S
+      → getD (standInPacket z xs S j i held) s 0 ≡ getD (helperPacket z xs S j i held) (s * 2 + 1) 0
+  pub stand-in-true : (file : List ℕ) → Bytes file → (i j : ℕ) → j < z .n
+      → standInPacket z xs (S z file) j i (share z xs file j) ≡ join (S z file) (λ s. symbol z xs file s i j ∷ [])
   -- a fresh board whose helpers hold their shares sends F(x_m, y_i)
   pub exchange-true : (file : List ℕ) → Bytes file → (helpers : List ℕ) → Named z (z .d) helpers → (i m : ℕ)
       → exchangePacket z xs (S z file) helpers (packetsFromShares z xs file helpers i) m ≡ join (S z file) (λ s. symbol z xs file s m i ∷ [])
@@ -93,6 +100,11 @@ pub record Demand2 (z : Sizes) (xs : List ℕ) : Type 0 where
   pub finished-true : (file : List ℕ) → Bytes file → (i : ℕ) (helpers partners : List ℕ) (theirs : ℕ → List ℕ)
       → Named z (z .d + z .r) (helpers ++ partners ++ (i ∷ [])) → length helpers ≡ z .d → All (λ m. Named z (z .d) (theirs m)) partners
       → finishedShare z xs (S z file) i helpers (packetsFromShares z xs file helpers i) partners (exchangesFromShares z xs file partners theirs i) ≡ share z xs file i
+  -- and so it does with any partners, fresh boards or stand-ins, whose packets have F(x_i, y_m) for each stripe
+  pub finished-by-symbols : (file : List ℕ) → Bytes file → (i : ℕ) (helpers partners : List ℕ) (sent : ℕ → List ℕ)
+      → Named z (z .d + z .r) (helpers ++ partners ++ (i ∷ [])) → length helpers ≡ z .d
+      → All (λ m. sent m ≡ join (S z file) (λ s. symbol z xs file s i m ∷ [])) partners
+      → finishedShare z xs (S z file) i helpers (packetsFromShares z xs file helpers i) partners (joined sent partners) ≡ share z xs file i
   -- the shares of any k different boards decode to the file, and no two files of one length have the same
   pub decodes : (file boards : List ℕ) → Bytes file → Named z (z .k) boards → decodedFile z xs (length file) boards (shares z xs file boards) ≡ file
   pub shares-fix : (file file′ boards : List ℕ) → Bytes file → Bytes file′ → Named z (z .k) boards

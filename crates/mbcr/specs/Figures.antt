@@ -8,7 +8,7 @@ use Prim.Native.Nat.{ℕ}
 use lib.ListN.{take, replicate, set}
 use Rattle.sizes.specs.declared.Sizes.{Sizes}
 use Rattle.mbcr.specs.Share.{standard, pointed, DifferentPoints, neighbours, share}
-use Rattle.mbcr.specs.Rebuild.{helperPacket, exchangePacket, finishedShare}
+use Rattle.mbcr.specs.Rebuild.{seconds, helperPacket, standInPacket, exchangePacket, finishedShare}
 use Rattle.mbcr.specs.Read.{readFile}
 use Rattle.mbcr.specs.PointLaws.{firstSeries}
 
@@ -64,6 +64,13 @@ pub record CodeFigures : Type 0 where
   pub exchange : exchangePacket (sizes 6 2 2 2) (standard (sizes 6 2 2 2)) 1 (2 ∷ 3 ∷ []) (0x07 ∷ 0x21 ∷ 0x04 ∷ 0x34 ∷ []) 1 ≡ 0x02 ∷ []
   pub finished : finishedShare five (standard five) 1 1 (2 ∷ 3 ∷ 4 ∷ []) (0x04 ∷ 0x02 ∷ 0x05 ∷ 0x03 ∷ 0x10 ∷ 0x04 ∷ []) (0 ∷ []) (0x00 ∷ [])
       ≡ 0x01 ∷ 0x02 ∷ 0x03 ∷ 0x04 ∷ 0x00 ∷ 0x04 ∷ 0x05 ∷ []
+  -- request A.3: M11's share sends board 1 the pair 10 04, as a stand-in 04 alone; M8's share by helpers 0, 2, 3 and this byte; the second bytes of
+  -- two stripes
+  pub stand-in : helperPacket five (standard five) 1 4 1 (0x40 ∷ 0x00 ∷ 0x10 ∷ 0x20 ∷ 0x30 ∷ 0x00 ∷ 0x04 ∷ []) ≡ 0x10 ∷ 0x04 ∷ []
+  pub stand-in-alone : standInPacket five (standard five) 1 4 1 (0x40 ∷ 0x00 ∷ 0x10 ∷ 0x20 ∷ 0x30 ∷ 0x00 ∷ 0x04 ∷ []) ≡ 0x04 ∷ []
+  pub finished-by-stand-in : finishedShare five (standard five) 1 1 (0 ∷ 2 ∷ 3 ∷ []) (0x00 ∷ 0x00 ∷ 0x04 ∷ 0x02 ∷ 0x05 ∷ 0x03 ∷ []) (4 ∷ []) (0x04 ∷ [])
+      ≡ 0x01 ∷ 0x02 ∷ 0x03 ∷ 0x04 ∷ 0x00 ∷ 0x04 ∷ 0x05 ∷ []
+  pub second-bytes : seconds 2 (0x0A ∷ 0x0B ∷ 0x0C ∷ 0x0D ∷ []) ≡ 0x0B ∷ 0x0D ∷ []
   -- the exchanged byte is 02, n=6, k=d=r=2, the file 01 02 .. 08
   pub finished-by-exchange : finishedShare (sizes 6 2 2 2) (standard (sizes 6 2 2 2)) 1 1 (4 ∷ 5 ∷ []) (0x20 ∷ 0x9D ∷ 0x28 ∷ 0x4F ∷ []) (0 ∷ []) (0x02 ∷ [])
       ≡ 0x08 ∷ 0x76 ∷ 0x58 ∷ 0x9D ∷ 0x10 ∷ []

@@ -1,4 +1,5 @@
--- Document 01, 'Rebuilding', over any bytes: what a board that follows the steps sends and writes. `S` is the number of stripes.
+-- Document 01, 'Rebuilding', over any bytes: what a board that follows the steps sends and writes; request A.3: what a stand-in sends. `S` is the
+-- number of stripes.
 -- Assumes nothing.
 use mathlib.Core.List.{List, [], _∷_, _++_}
 use Prim.Native.Nat.{ℕ, _+_, _*_, _-_}
@@ -8,6 +9,10 @@ use Rattle.sizes.specs.declared.Sizes.{Sizes}
 use Rattle.sizes.specs.Sizing.{α}
 use Rattle.polynomial.specs.Polynomial.{eval, interpolate}
 use Rattle.mbcr.specs.Share.{point, points, neighbours, symbols}
+
+-- the second byte of each of S pairs
+unfoldable pub seconds : ℕ → List ℕ → List ℕ
+seconds S packet = tabulate S (λ s. getD (piece 2 s packet) 1 0)
 
 module _ (z : Sizes) where
   open Sizes z using (d, r)
@@ -38,6 +43,10 @@ module _ (z : Sizes) (xs : List ℕ) where
   -- "A packet is 2S bytes": from helper j, with this share, to board i
   unfoldable pub helperPacket : ℕ → ℕ → ℕ → List ℕ → List ℕ
   helperPacket S j i held = join S (λ s. helperPair j i (piece (α z) s held))
+
+  -- "A stand-in s sends only F(x_i, y_s), the second bytes of its helper packet": from stand-in j, with this share, to board i
+  unfoldable pub standInPacket : ℕ → ℕ → ℕ → List ℕ → List ℕ
+  standInPacket S j i held = seconds S (helperPacket S j i held)
 
   -- "Fresh board i finds g_i from the d first bytes"
   unfoldable pub gFrom : List ℕ → List ℕ → List ℕ

@@ -1,15 +1,19 @@
--- What holds of the line of points, for any kind of answer: read byte by byte it is the same line. (That it is taken in its form, and with no other
--- number of pairs: points_print/specs/Laws.antt.)
+-- What holds of the line of points, for any kind of answer: which bytes are digits, and read byte by byte it is the same line. (That it is taken in
+-- its form, and in no other: points_print/specs/Laws.antt.)
 -- Assumes nothing.
 use mathlib.Core.Path.{_≡_}
+use mathlib.Core.Bool.{true}
+use mathlib.Core.Logic.{_⊎_}
 use mathlib.Core.List.{List}
 use Prim.Native.Nat.{ℕ, _≤_}
 use Rattle.lists.specs.Lists.{fit}
 use Rattle.point_lines.specs.declared.PointReader.{PointReader}
-use Rattle.point_lines.specs.Lines.{readPoints}
+use Rattle.point_lines.specs.Lines.{hexadecimal, readPoints}
 use Rattle.point_lines.specs.Steps.{begin, reads}
 
 pub record PointLaws : Type 1 where
+  -- a digit is one of 0 to 9 and a to f
+  pub digits : (b : ℕ) → hexadecimal b ≡ true → ((0x30 ≤ b) × (b ≤ 0x39)) ⊎ ((0x61 ≤ b) × (b ≤ 0x66))
   -- n boards have at most 32 points, which stand in 32 bytes with 00 from n up
   pub byte-by-byte : {A : Type 0} (bad : A) (n : ℕ) → n ≤ 32 → (go : List ℕ → List ℕ → A) (input : List ℕ)
       → reads bad n begin input go ≡ readPoints bad n input (λ xs rest. go (fit 32 xs) rest)

@@ -31,6 +31,7 @@ use Rattle.printer.proofs.Laws.{whole, reached, lines-said, runs-rest}
 use Rattle.printer.proofs.Whole.{five-taken, answered-over, answered-called, shared-text, answered-long, answered-far}
 use Rattle.points_print.specs.PointsPrinter.{pointsPrinted}
 use Rattle.points_print.specs.Laws.{pointsText, asksPoints, PointsFor, PointsLaws}
+use Rattle.points_print.proofs.Back.{line-form}
 use Rattle.points_print.proofs.Forms.{line-taken, line-other}
 
 -- what follows the line of points
@@ -118,4 +119,5 @@ unfolding pointsPrinted
 by-bytes input = runs-rest input (begin true) [] ∙ lines-said true _ points-said input
 
 pub points-laws : PointsLaws
-points-laws = record { printed-for = printed-for; other-count = other-count; in-order = in-order; byte-by-byte = by-bytes }
+points-laws =
+    record { printed-for = printed-for; other-count = other-count; else-refused = line-form (refusedLine 1); in-order = in-order; byte-by-byte = by-bytes }

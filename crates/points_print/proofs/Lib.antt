@@ -1,3 +1,4 @@
 pub mod Forms
+pub mod Back
 pub mod Laws
 pub mod Figures

@@ -46,7 +46,8 @@ pub record PointsFigures : Type 0 where
       ≡ differing (lengthLine ++ dataLine
       (0xAA ∷ 0x12 ∷ 0x0A ∷ 0x50 ∷ 0x9D ∷ 0x26 ∷ 0x9B ∷ 0x5D ∷ 0x27 ∷ 0x2F
       ∷ 0x57 ∷ 0x6B ∷ 0x7F ∷ 0xB3 ∷ 0x13 ∷ 0x07 ∷ 0x3B ∷ 0x57 ∷ 0x57 ∷ 0x57 ∷ []))
-  -- no line of points, one pair too few, one too many, half a pair too many, an upper-case digit, byte 0D, the line before node=, the line twice
+  -- no line of points, one pair too few, one too many, half a pair too many, an upper-case digit, byte 0D, the line before node=, the pairs without
+  -- their name, no byte 0A at the end
   pub malformed : map pointsPrinted
       (differing bytes
       ∷ differing (pointsText (0x1A ∷ 0x2B ∷ 0x3C ∷ 0x4D ∷ 0x5E ∷ 0x6F ∷ 0x70 ∷ 0x81 ∷ []) ++ bytes)
@@ -57,8 +58,9 @@ pub record PointsFigures : Type 0 where
       ∷ (textLine (0x6E ∷ []) (0x39 ∷ []) ++ textLine (0x6B ∷ []) (0x32 ∷ []) ++ textLine (0x64 ∷ []) (0x34 ∷ []) ++ textLine (0x72 ∷ []) (0x33 ∷ [])
       ++ pointsText nine ++ textLine (0x6E ∷ 0x6F ∷ 0x64 ∷ 0x65 ∷ []) (0x35 ∷ []) ++ bytes)
       ∷ differing (joined hexPair nine)
+      ∷ differing ((0x70 ∷ 0x6F ∷ 0x69 ∷ 0x6E ∷ 0x74 ∷ 0x73 ∷ 0x3D ∷ []) ++ joined hexPair nine)
       ∷ [])
-      ≡ replicate 8 (refusedLine 1)
+      ≡ replicate 9 (refusedLine 1)
   -- a point twice, with 16,385 bytes too; 33 boards with 33 points
   pub not-taken : map pointsPrinted
       (differing (pointsText (0x1A ∷ 0x2B ∷ 0x3C ∷ 0x4D ∷ 0x1A ∷ 0x6F ∷ 0x70 ∷ 0x81 ∷ 0x9F ∷ []) ++ bytes)

@@ -1,10 +1,10 @@
 -- What holds of the points printer. Of its six lines and a file it is said what is written, for any sizes, points, board and file; the line with
--- another number of pairs is refused; with points 0 to n − 1 in order it writes what the share printer writes; and byte by byte the same is written
+-- another number of pairs is refused, and every other form of it; with points 0 to n − 1 in order it writes what the share printer writes; and byte by byte the same is written
 -- as the definition says.
 -- Assumes nothing.
 use mathlib.Core.Path.{_≡_}
 use mathlib.Core.Bool.{true, false}
-use mathlib.Core.Logic.{_≢_}
+use mathlib.Core.Logic.{_≢_, _⊎_}
 use mathlib.Core.List.{List, [], _∷_, _++_}
 use Prim.Native.Nat.{ℕ, _*_, _≤_, _<_}
 use lib.ListN.{length}
@@ -16,6 +16,7 @@ use Rattle.board_spec.specs.Text.{decimal, hexPair, textLine, shareText}
 use Rattle.printer.specs.Laws.{asks}
 use Rattle.printer.specs.Printer.{refusedLine, printed}
 use Rattle.printer.specs.Steps.{accepted, begin, runs}
+use Rattle.point_lines.specs.Lines.{readPoints}
 use Rattle.points_print.specs.PointsPrinter.{pointsPrinted}
 
 -- points=, pairs, byte 0A
@@ -36,12 +37,22 @@ pub record PointsFor (z : Sizes) (xs : List ℕ) (node : ℕ) (file written : Li
   pub text : legal z ≡ true → pointed z xs ≡ true → length file ≤ 16384 → length file ≤ 4096 * B z → node < z .n
       → written ≡ shareText z xs (length file) node (share z xs file node)
 
+-- the input begins with the line of n points
+pub record PointsStart (n : ℕ) (input : List ℕ) : Type 0 where
+  pub told : List ℕ
+  pub behind : List ℕ
+  pub bytes : Bytes told
+  pub long : length told ≡ n
+  pub whole : input ≡ pointsText told ++ behind
+
 pub record PointsLaws : Type 0 where
   pub printed-for : (z : Sizes) (xs : List ℕ) (node : ℕ) (file : List ℕ) → Bytes xs → length xs ≡ z .n
       → PointsFor z (fit 32 xs) node file (pointsPrinted (asksPoints z xs node file))
   -- another number of pairs than n
   pub other-count : (z : Sizes) (xs : List ℕ) (node : ℕ) (file : List ℕ) → Bytes xs → length xs ≢ z .n
       → pointsPrinted (asksPoints z xs node file) ≡ refusedLine 1
+  -- and so is an input that does not begin with just this line, whatever would follow it
+  pub else-refused : (n : ℕ) (input : List ℕ) → PointsStart n input ⊎ ((go : List ℕ → List ℕ → List ℕ) → readPoints (refusedLine 1) n input go ≡ refusedLine 1)
   -- "The earlier programs keep points 0 to n − 1"
   pub in-order : (z : Sizes) (node : ℕ) (file : List ℕ) → legal z ≡ true
       → pointsPrinted (asksPoints z (tabulate (z .n) (λ i. i)) node file)

@@ -15,7 +15,8 @@ use Rattle.lists.proofs.Pieces.{length-join, join-suc}
 use Rattle.lists.proofs.Put.{length-put, put-append, put-comm, put-before, put-after}
 use Rattle.puts.specs.Steps.{puts}
 
-pub puts-same : (p q : ℕ → ℕ) (f g : ℕ → List ℕ) (m : ℕ) (l : List ℕ) → ((a : ℕ) → a < m → p a ≡ q a) → ((a : ℕ) → a < m → f a ≡ g a) → puts p f m l ≡ puts q g m l
+pub puts-same : (p q : ℕ → ℕ) (f g : ℕ → List ℕ) (m : ℕ) (l : List ℕ) → ((a : ℕ) → a < m → p a ≡ q a) → ((a : ℕ) → a < m → f a ≡ g a)
+    → puts p f m l ≡ puts q g m l
 puts-same p q f g zero l ep ef = refl
 puts-same p q f g (suc m) l ep ef =
     ap (λ (x : List ℕ). put x (p m) (f m)) (puts-same p q f g m l (λ a h. ep a (omega arith)) (λ a h. ef a (omega arith)))
@@ -43,7 +44,8 @@ part-long at w l h =
     omega arith
 
 -- a turn of the loop over the places
-pub puts-turn : (p : ℕ → ℕ) (f : ℕ → List ℕ) (w a at : ℕ) (l₀ l ys : List ℕ) → at ≡ p a → length ys ≡ w → ys ≡ f a → l ≡ puts p f a l₀ → putMid at (at + w - at) l ys ≡ puts p f (a + 1) l₀
+pub puts-turn : (p : ℕ → ℕ) (f : ℕ → List ℕ) (w a at : ℕ) (l₀ l ys : List ℕ) → at ≡ p a → length ys ≡ w → ys ≡ f a → l ≡ puts p f a l₀
+    → putMid at (at + w - at) l ys ≡ puts p f (a + 1) l₀
 puts-turn p f w a at l₀ l ys ea long ey el =
     put-part at w l ys long
     ∙ ap₂ {C = List ℕ} (λ (i : ℕ) (b : List ℕ). put l i b) ea ey

@@ -1,4 +1,5 @@
--- Figures of the words: a record spelled out in the header's order (n, k, d, r, capacity, written, length, marks, points), no two of its words alike.
+-- Figures of the words: records spelled out in the header's order (n, k, d, r, capacity, written, length, marks, points); of `last` no two words are
+-- alike.
 -- proofs/Figures.antt has `word-figures : WordFigures`.
 -- Assumes nothing.
 use mathlib.Core.Path.{_≡_}

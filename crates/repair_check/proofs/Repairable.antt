@@ -1,81 +1,55 @@
--- What the kernel of a repair asks, from what its check told. And what its single checks told.
+-- What the kernel of a repair asks, from what its check told.
 -- Assumes nothing.
-use Prim.Native.Nat.{ℕ, zero, suc, _*_, _≤_, _<_}
-use mathlib.Core.Path.{_≡_, ap, _∙_}
-use mathlib.Core.Bool.{true}
-use mathlib.Core.List.{List, [], _∷_, _++_}
-use native.Mathlib.Nat.{mul-le-mul}
-use native.Mathlib.Omega.{arith}
-use lib.Dec.{eqb}
-use lib.ListN.{length, take, drop}
-use borrow.Author.Tests.{eqb-true}
-use Rattle.lists.specs.Tests.{every, below, different, apart}
+use Prim.Native.Nat.{ℕ, _-_, _*_, _≤_, _<_}
+use mathlib.Core.Path.{_≡_}
+use mathlib.Core.Bool.{true, not}
+use mathlib.Core.List.{List, _++_}
+use lib.ListN.{length}
+use Rattle.lists.specs.Tests.{among, below, different, apart}
 use Rattle.lists.specs.Lists.{piece}
 use Rattle.lists.proofs.Alls.{all-left, all-right}
 use Rattle.lists.proofs.Boards.{below-all, all-below}
-use Rattle.lists.proofs.Pieces.{piece-zero, piece-suc}
-use Rattle.lists.proofs.Tests.{both, not-no, alls-hold}
-use Rattle.sizes.specs.declared.Sizes.{Sizes}
-use Rattle.sizes.specs.declared.Check.the-variants.{Pass}
-use Rattle.sizes.specs.Sizing.{legal}
-use Rattle.sizes.proofs.Legal.{legal-facts}
-use Rattle.board_spec.specs.Calls.{countLine}
+use Rattle.lists.proofs.Tests.{every-all, all-every}
 use Rattle.store_spec.specs.Record.{Record, areaLen}
-use Rattle.store_spec.specs.Packets.{hearHelpers}
+use Rattle.store_spec.specs.Packets.{standInsEach}
+use Rattle.store_spec.proofs.Packets.{run-different}
 use Rattle.store_spec.proofs.Records.{Repairs}
-use Rattle.checks.specs.Steps.{asked}
-use Rattle.checks.proofs.Answers.{passed, passes}
 use Rattle.shared_checks.proofs.Facts.{Ready, ready}
 
-pub record Repairable (s : Record) (m : ℕ) (fresh helpers : List ℕ) : Type 0 where
+pub record Repairable (s : Record) (m : ℕ) (fresh helpers standIns : List ℕ) : Type 0 where
   pub is-ready : Ready s
-  pub fresh-count : length fresh ≡ s .sizes .r
+  pub some-fresh : 1 ≤ length fresh
+  pub few-fresh : length fresh ≤ s .sizes .r
   pub fresh-known : below (s .sizes .n) fresh ≡ true
-  pub helper-count : length helpers ≡ s .sizes .r * s .sizes .d
+  pub helper-count : length helpers ≡ length fresh * s .sizes .d
   pub helpers-known : below (s .sizes .n) helpers ≡ true
+  pub stand-in-count : length standIns ≡ length fresh * (s .sizes .r - length fresh)
+  pub stand-ins-known : below (s .sizes .n) standIns ≡ true
   pub fresh-different : different fresh ≡ true
-  pub none-fresh : apart fresh helpers ≡ true
-  pub runs-different : (a : ℕ) → a < s .sizes .r → different (piece (s .sizes .d) a helpers) ≡ true
+  pub none-helps : apart fresh helpers ≡ true
+  pub none-stands-in : apart fresh standIns ≡ true
+  pub runs-different : (a : ℕ) → a < length fresh → different (piece (s .sizes .d) a helpers ++ piece (s .sizes .r - length fresh) a standIns) ≡ true
   pub area-is : m ≡ areaLen s
 
--- no fresh board names a helper twice
-run-different : (d : ℕ) (fresh helpers : List ℕ) → every (λ h. different (h .senders)) (hearHelpers d fresh helpers) ≡ true
-    → (a : ℕ) → a < length fresh → different (piece d a helpers) ≡ true
-run-different d [] helpers h a k = absurd (omega arith)
-run-different d (i ∷ fresh) helpers h zero k =
-    ap different (piece-zero d helpers) ∙ both (different (take d helpers)) (every (λ h. different (h .senders)) (hearHelpers d fresh (drop d helpers))) h .0
-run-different d (i ∷ fresh) helpers h (suc a) k =
-    ap different (piece-suc d a helpers)
-    ∙ run-different d fresh (drop d helpers) (both (different (take d helpers)) (every (λ h. different (h .senders)) (hearHelpers d fresh (drop d helpers))) h .1) a (omega arith)
-
-pub repairable : (s : Record) (m : ℕ) (fresh helpers : List ℕ) → Repairs s m fresh helpers → Repairable s m fresh helpers
-repairable s m fresh helpers k =
+pub repairable : (s : Record) (m : ℕ) (fresh helpers standIns : List ℕ) → Repairs s m fresh helpers standIns → Repairable s m fresh helpers standIns
+unfolding piece
+repairable s m fresh helpers standIns k =
     let n = s .sizes .n in
-    let all = below-all n (fresh ++ helpers) (k .named-below) in
+    let all = below-all n (fresh ++ (helpers ++ standIns)) (k .named-below) in
+    let rest = all-right (λ x. x < n) fresh (helpers ++ standIns) all in
+    let none = every-all (λ x. not (among fresh x)) (helpers ++ standIns) (k .none-fresh) in
     record {
       is-ready = ready s (k .is-sound);
-      fresh-count = k .fresh-count;
-      fresh-known = all-below n fresh (all-left (λ x. x < n) fresh helpers all);
+      some-fresh = k .some-fresh;
+      few-fresh = k .few-fresh;
+      fresh-known = all-below n fresh (all-left (λ x. x < n) fresh (helpers ++ standIns) all);
       helper-count = k .helper-count;
-      helpers-known = all-below n helpers (all-right (λ x. x < n) fresh helpers all);
+      helpers-known = all-below n helpers (all-left (λ x. x < n) helpers standIns rest);
+      stand-in-count = k .stand-in-count;
+      stand-ins-known = all-below n standIns (all-right (λ x. x < n) helpers standIns rest);
       fresh-different = k .fresh-different;
-      none-fresh = k .none-fresh;
-      runs-different = λ a h. run-different (s .sizes .d) fresh helpers (k .hear-different) a (omega (arith, h, k .fresh-count));
+      none-helps = all-every (λ x. not (among fresh x)) helpers (all-left (λ x. not (among fresh x) ≡ true) helpers standIns none);
+      none-stands-in = all-every (λ x. not (among fresh x)) standIns (all-right (λ x. not (among fresh x) ≡ true) helpers standIns none);
+      runs-different = run-different (s .sizes .d) (standInsEach s fresh) fresh helpers standIns (k .named-different);
       area-is = k .area-is;
     }
-
--- the helpers of all fresh boards are few
-pub few-helpers : (z : Sizes) → legal z ≡ true → z .r * z .d ≤ 1024
-few-helpers z h =
-    let f = legal-facts z h in
-    let r : z .r ≤ 32 = omega (arith, f .enough, f .few) in
-    let d : z .d ≤ 32 = omega (arith, f .enough, f .few) in
-    mul-le-mul r d
-
--- what COUNT tells where it passes
-pub counted : (z : Sizes) (fresh helpers : List ℕ) → asked (countLine (eqb (length fresh) (z .r) ∷ eqb (length helpers) (z .r * z .d) ∷ [])) ≡ Pass
-    → (length fresh ≡ z .r) × (length helpers ≡ z .r * z .d)
-counted z fresh helpers h =
-    let tests = eqb (length fresh) (z .r) ∷ eqb (length helpers) (z .r * z .d) ∷ [] in
-    let e = alls-hold tests (not-no _ (passed (countLine tests) h)) in
-    (eqb-true _ _ (e .0), eqb-true _ _ (e .1 .0))

@@ -6,7 +6,7 @@ ghost use Rattle.store_checks.specs.Steps.{recordOf};
 use sizes::Check;
 use sizes::Sizes;
 
-// The first refusal of a repair of these fresh boards by these helpers, on a record of these parts and an area of so many bytes.
+// The first refusal of a repair of these fresh boards by these helpers and stand-ins, on a record of these parts and an area of so many bytes.
 pub fn check_repair(
     sizes: Sizes,
     points: &[u8],
@@ -17,8 +17,9 @@ pub fn check_repair(
     lent: usize,
     fresh: &[usize],
     helpers: &[usize],
+    standins: &[usize],
 ) -> Check
-    ensures { λ r. ⌜ r ≡ first storeOrder (repairLines (recordOf sizes (now (points .entry)) capacity written len (now (marks .entry))) lent (now (fresh .entry)) (now (helpers .entry))) ⌝ }
+    ensures { λ r. ⌜ r ≡ first storeOrder (repairLines (recordOf sizes (now (points .entry)) capacity written len (now (marks .entry))) lent (now (fresh .entry)) (now (helpers .entry)) (now (standins .entry))) ⌝ }
 {
     if let Check::Refuse(area) = shared_checks::check_area(
         sizes,
@@ -34,15 +35,5 @@ pub fn check_repair(
     if let Check::Refuse(empty) = store_checks::check_written(written) {
         return Check::Refuse(empty);
     }
-    let runs = sizes.r * sizes.d;
-    if let Check::Refuse(count) = checks::check_counts(fresh.len(), sizes.r, helpers.len(), runs) {
-        return Check::Refuse(count);
-    }
-    if let Check::Refuse(node) = store_checks::check_two_lists(sizes, fresh, helpers) {
-        return Check::Refuse(node);
-    }
-    if let Check::Refuse(repeat) = store_checks::check_fresh(sizes.d, fresh, helpers) {
-        return Check::Refuse(repeat);
-    }
-    store_checks::check_service(marks, helpers)
+    list_check::check_lists(sizes, marks, fresh, helpers, standins)
 }

@@ -33,7 +33,8 @@ length-pick true a b m h k = h
 length-pick false a b m h k = k
 
 -- the next piece is as it was
-pub kept-piece : (f : ℕ → List ℕ) (w s : ℕ) (out₀ out : List ℕ) → ((i : ℕ) → i < s → length (f i) ≡ w) → out ≡ join s f ++ drop (s * w) out₀ → piece w s out ≡ piece w s out₀
+pub kept-piece : (f : ℕ → List ℕ) (w s : ℕ) (out₀ out : List ℕ) → ((i : ℕ) → i < s → length (f i) ≡ w) → out ≡ join s f ++ drop (s * w) out₀
+    → piece w s out ≡ piece w s out₀
 unfolding piece
 kept-piece f w s out₀ out l e = ap (take w) (ap (drop (s * w)) e ∙ drop-at (join s f) (drop (s * w) out₀) (s * w) (length-join s w f l))
 

@@ -2,11 +2,11 @@
 -- Assumes nothing.
 use mathlib.Core.Path.{_≡_, refl, sym, ap, ap₂, _∙_}
 use mathlib.Core.List.{List, [], _∷_, _++_}
-use Prim.Native.Nat.{ℕ, zero, suc, _+_, _*_, _-_, _<_, _≤_}
-use native.Mathlib.Nat.{zero-add, suc-add, mul-le-mul}
+use Prim.Native.Nat.{ℕ, _+_, _*_, _-_, _<_, _≤_}
+use native.Mathlib.Nat.{mul-le-mul}
 use native.Mathlib.Omega.{arith}
 use lib.ListN.{length, getD, take, drop, length-append, length-take, length-drop}
-use lib.Seq.{take-at, drop-at, take-all, take-nil, drop-drop}
+use lib.Seq.{take-at, drop-at, take-all}
 use borrow.Rule.Slice.PartMut.{putMid}
 use Rattle.lists.specs.Lists.{tabulate, piece}
 use Rattle.lists.proofs.Pieces.{length-tabulate, fill-end, fill-all}
@@ -17,6 +17,7 @@ use Rattle.row_values.specs.Steps.{rowSums}
 use Rattle.row_values.proofs.Sums.{length-sums}
 use Rattle.finish_rows.specs.Steps.{finishedBy}
 use Rattle.finish_rows.proofs.Finished.{back-next, length-finished}
+use Rattle.repair_hear.specs.Steps.{Naming}
 use Rattle.repair_rows.specs.Steps.{past}
 use Rattle.repair_finish.specs.Steps.{rowsOf, gRow, sentBy, stripeBy}
 
@@ -38,36 +39,21 @@ pub length-sent : (r L : ℕ) (gs : List ℕ) (i a : ℕ) → length (sentBy r L
 unfolding sentBy
 length-sent r L gs i a = length-tabulate (r - 1) (λ u. getD gs (past a u * L + i) 0)
 
--- ---- rows cut out
-
-drop-take : (m k : ℕ) (l : List ℕ) → drop m (take (m + k) l) ≡ take k (drop m l)
-drop-take zero k l = ap (λ (n : ℕ). take n l) (zero-add k)
-drop-take (suc m) k [] = ap (drop (suc m)) (take-nil (suc m + k)) ∙ sym (take-nil k)
-drop-take (suc m) k (x ∷ l) = ap (λ (n : ℕ). drop (suc m) (take n (x ∷ l))) (suc-add m k) ∙ drop-take m k l
-
--- what stands behind the first m bytes of a row of w
-pub row-rest : (w a m : ℕ) (rows : List ℕ) → m ≤ w → take (a * w + w - (a * w + m)) (drop (a * w + m) rows) ≡ drop m (piece w a rows)
-unfolding piece
-row-rest w a m rows h =
-    let e : a * w + w - (a * w + m) ≡ w - m = omega arith in
-    let s : m + (w - m) ≡ w = omega arith in
-    ap₂ {C = List ℕ} take e (sym (drop-drop m (a * w) rows)) ∙ sym (drop-take m (w - m) (drop (a * w) rows)) ∙ ap (λ (n : ℕ). drop m (take n (drop (a * w) rows))) s
-
 -- ---- g of the fresh boards
 
-pub g-made : (d r L a k : ℕ) (rows firsts fs rs ys : List ℕ) → k ≡ L → fs ≡ piece d a firsts → rs ≡ take (d * 32) (rowsOf d r rows a) → ys ≡ rowSums k fs rs
-    → ys ≡ gRow d r L rows firsts a
+pub g-made : (d w c L a k : ℕ) (rows firsts fs rs ys : List ℕ) → k ≡ L → fs ≡ take d (piece c a firsts) → rs ≡ take (d * 32) (piece w a rows) → ys ≡ rowSums k fs rs
+    → ys ≡ gRow d w c L rows firsts a
 unfolding gRow
-g-made d r L a k rows firsts fs rs ys ek ef er ey =
-    ey ∙ ap₂ (rowSums k) ef er ∙ ap (λ (n : ℕ). rowSums n (piece d a firsts) (take (d * 32) (rowsOf d r rows a))) ek
+g-made d w c L a k rows firsts fs rs ys ek ef er ey =
+    ey ∙ ap₂ (rowSums k) ef er ∙ ap (λ (n : ℕ). rowSums n (take d (piece c a firsts)) (take (d * 32) (piece w a rows))) ek
 
-pub length-g : (d r L : ℕ) (rows firsts : List ℕ) (a : ℕ) → length (gRow d r L rows firsts a) ≡ L
+pub length-g : (d w c L : ℕ) (rows firsts : List ℕ) (a : ℕ) → length (gRow d w c L rows firsts a) ≡ L
 unfolding gRow
-length-g d r L rows firsts a = length-sums L (piece d a firsts) (take (d * 32) (rowsOf d r rows a))
+length-g d w c L rows firsts a = length-sums L (take d (piece c a firsts)) (take (d * 32) (piece w a rows))
 
 -- ---- one finished stripe
 
--- the second bytes of its helpers, put in, and the room for those of its partners; then both
+-- the second bytes of the d boards that it names, put in, and the room for those of the other fresh boards; then both
 module _ (d r a : ℕ) (seconds got ss xs : List ℕ) (h : 1 ≤ r) (l : length got ≡ d + r) (lp : length (piece d a seconds) ≡ d) (es : ss ≡ piece d a seconds)
     (ex : xs ≡ take (length (take (d - 0) (drop 0 got))) ss) where
   abbrev last : ℕ
@@ -96,25 +82,26 @@ module _ (d r a : ℕ) (seconds got ss xs : List ℕ) (h : 1 ≤ r) (l : length 
       ∙ ap₂ {C = List ℕ} (λ x y. x ++ y) run-copied ey′
 
 -- from what the callees give
-pub stripe-made : (z : Sizes) (L i a e w w₀ k : ℕ) (rows fresh seconds gs rs g got out : List ℕ) → i ≡ getD fresh a 0
+pub stripe-made : (z : Sizes) (c L i a e w w₀ k : ℕ) (rows fresh seconds gs rs g got out : List ℕ) → i ≡ getD fresh a 0
     → out ≡ finishedBy (z .n) i k e rs g (take (w - 1) got) → rs ≡ drop (z .d * 32) (rowsOf (z .d) (z .r) rows a) → g ≡ piece L a gs
-    → take (w₀ - 1) got ≡ piece (z .d) a seconds ++ sentBy (z .r) L gs i a → k ≡ L → e ≡ z .d - 1 → w ≡ w₀ → out ≡ stripeBy z L rows fresh seconds gs a
+    → take (w₀ - 1) got ≡ piece c a seconds ++ sentBy (length fresh) L gs i a → k ≡ L → e ≡ z .d - 1 → w ≡ w₀ → out ≡ stripeBy z c L rows fresh seconds gs a
 unfolding stripeBy
-stripe-made z L i a e w w₀ k rows fresh seconds gs rs g got out ei eo er eg ec ek ee ew =
+stripe-made z c L i a e w w₀ k rows fresh seconds gs rs g got out ei eo er eg ec ek ee ew =
     let front : List ℕ = take (w - 1) got in
-    let ec′ : front ≡ piece (z .d) a seconds ++ sentBy (z .r) L gs i a = ap (λ (n : ℕ). take (n - 1) got) ew ∙ ec in
+    let t : ℕ = length fresh in
+    let ec′ : front ≡ piece c a seconds ++ sentBy t L gs i a = ap (λ (n : ℕ). take (n - 1) got) ew ∙ ec in
     eo ∙ ap₂ (λ (n m : ℕ). finishedBy (z .n) i n m rs g front) ek ee
     ∙ ap₂ (λ (p q : List ℕ). finishedBy (z .n) i L (z .d - 1) p q front) er eg
     ∙ ap (finishedBy (z .n) i L (z .d - 1) (drop (z .d * 32) (rowsOf (z .d) (z .r) rows a)) (piece L a gs)) ec′
-    ∙ ap (λ (b : ℕ). finishedBy (z .n) b L (z .d - 1) (drop (z .d * 32) (rowsOf (z .d) (z .r) rows a)) (piece L a gs) (piece (z .d) a seconds ++ sentBy (z .r) L gs b a)) ei
+    ∙ ap (λ (b : ℕ). finishedBy (z .n) b L (z .d - 1) (drop (z .d * 32) (rowsOf (z .d) (z .r) rows a)) (piece L a gs) (piece c a seconds ++ sentBy t L gs b a)) ei
 
-pub length-stripe : (z : Sizes) → Legal z → (L : ℕ) (rows fresh seconds gs : List ℕ) (a : ℕ) → length (piece (z .d) a seconds) ≡ z .d
-    → length (stripeBy z L rows fresh seconds gs a) ≡ α z
+pub length-stripe : (z : Sizes) → Legal z → (c L : ℕ) (rows fresh seconds gs : List ℕ) (a : ℕ) → Naming z (length fresh) c → length (piece c a seconds) ≡ c
+    → length (stripeBy z c L rows fresh seconds gs a) ≡ α z
 unfolding stripeBy
-length-stripe z legal L rows fresh seconds gs a l =
+length-stripe z legal c L rows fresh seconds gs a h l =
     let i : ℕ = getD fresh a 0 in
-    let rest : List ℕ = piece (z .d) a seconds ++ sentBy (z .r) L gs i a in
-    let lr : length rest ≡ z .d + (z .r - 1) =
-    length-append (piece (z .d) a seconds) (sentBy (z .r) L gs i a) ∙ ap₂ _+_ l (length-sent (z .r) L gs i a) in
+    let rest : List ℕ = piece c a seconds ++ sentBy (length fresh) L gs i a in
+    let lr : length rest ≡ c + (length fresh - 1) =
+    length-append (piece c a seconds) (sentBy (length fresh) L gs i a) ∙ ap₂ _+_ l (length-sent (length fresh) L gs i a) in
     length-finished (z .n) i L (z .d - 1) (drop (z .d * 32) (rowsOf (z .d) (z .r) rows a)) (piece L a gs) rest
-    ∙ ap (λ (m : ℕ). m + 1 + (z .d - 1)) lr ∙ omega (arith, legal .some-fresh, legal .some-read, legal .read-helpers)
+    ∙ ap (λ (m : ℕ). m + 1 + (z .d - 1)) lr ∙ omega (arith, h .whole, h .some, legal .some-fresh, legal .some-read, legal .read-helpers)

@@ -9,19 +9,27 @@ ghost use lib.ListN.{length, getD, take};
 ghost use Rattle.lists.specs.Tests.{below};
 ghost use Rattle.lists.specs.Lists.{piece};
 ghost use Rattle.sizes.specs.Sizing.{legal, α};
+ghost use Rattle.repair_hear.specs.Steps.{Naming};
 ghost use Rattle.repair_finish.specs.Steps.{gRows, sentBy, stripeBy};
 
-// The values of the g of each fresh board at the points of all boards, a row each, from the first bytes that it heard.
-pub fn all_g(sizes: Sizes, lanes: usize, rows: &[u8], firsts: &[u8], gs: &mut [u8])
-    requires { ⌜ (legal sizes ≡ true) × (lanes ≤ 32) × (length (now rows) ≡ sizes .r * ((sizes .d + (sizes .d + sizes .r)) * 32)) × (length (now firsts) ≡ sizes .r * sizes .d) × (length (now gs) ≡ sizes .r * lanes) ⌝ }
-    ensures { λ _. ⌜ now (gs .exit) ≡ gRows sizes lanes (now (rows .entry)) (now (firsts .entry)) ⌝ }
+// The values of the g of each of t fresh boards at the points of all boards, a row each, from the first bytes of its helpers, d of the c that it names.
+pub fn all_g(
+    sizes: Sizes,
+    lanes: usize,
+    t: usize,
+    c: usize,
+    rows: &[u8],
+    firsts: &[u8],
+    gs: &mut [u8],
+)
+    requires { ⌜ (legal sizes ≡ true) × (lanes ≤ 32) × (length (now rows) ≡ t * ((sizes .d + (sizes .d + sizes .r)) * 32)) × (length (now firsts) ≡ t * c) × (length (now gs) ≡ t * lanes) × Naming sizes t c ⌝ }
+    ensures { λ _. ⌜ now (gs .exit) ≡ gRows sizes t c lanes (now (rows .entry)) (now (firsts .entry)) ⌝ }
 {
     let d = sizes.d;
-    let r = sizes.r;
-    let one = (d + (d + r)) * 32;
+    let one = (d + (d + sizes.r)) * 32;
     let mut a: usize = 0;
-    while a < r {
-        let from = a * d;
+    while a < t {
+        let from = a * c;
         let to = from + d;
         let at = a * one;
         let mid = at + d * 32;
@@ -32,7 +40,7 @@ pub fn all_g(sizes: Sizes, lanes: usize, rows: &[u8], firsts: &[u8], gs: &mut [u
     }
 }
 
-// The bytes that the partners of the a-th fresh board, board i, send it.
+// The bytes that the other fresh boards send the a-th, board i.
 fn sent(lanes: usize, gs: &[u8], i: usize, a: usize, out: &mut [u8])
     requires { ⌜ (lanes ≤ 32) × (i < lanes) × (length (now out) < 32) × (length (now gs) ≡ (length (now out) + 1) * lanes) ⌝ }
     ensures { λ _. ⌜ now (out .exit) ≡ sentBy (length (now (out .entry)) + 1) lanes (now (gs .entry)) i a ⌝ }
@@ -47,23 +55,34 @@ fn sent(lanes: usize, gs: &[u8], i: usize, a: usize, out: &mut [u8])
     }
 }
 
-// What the a-th fresh board, board i, has of f: the second bytes of its helpers, then what its partners send, in all places of got but the last.
-fn gather(sizes: Sizes, lanes: usize, seconds: &[u8], gs: &[u8], i: usize, a: usize, got: &mut [u8])
-    requires { ⌜ (legal sizes ≡ true) × (lanes ≤ 32) × (i < lanes) × (a < sizes .r) × (length (now seconds) ≡ sizes .r * sizes .d) × (length (now gs) ≡ sizes .r * lanes) × (length (now got) ≡ sizes .d + sizes .r) ⌝ }
-    ensures { λ _. ⌜ take (length (now (got .entry)) - 1) (now (got .exit)) ≡ piece (sizes .d) a (now (seconds .entry)) ++ sentBy (sizes .r) lanes (now (gs .entry)) i a ⌝ }
+// What the a-th of t fresh boards, board i, has of f: the second bytes of the c boards that it names, its helpers and stand-ins, then what the other
+// fresh boards send, in all places of got but the last.
+fn gather(
+    sizes: Sizes,
+    lanes: usize,
+    t: usize,
+    c: usize,
+    seconds: &[u8],
+    gs: &[u8],
+    i: usize,
+    a: usize,
+    got: &mut [u8],
+)
+    requires { ⌜ (legal sizes ≡ true) × (lanes ≤ 32) × (i < lanes) × (a < t) × (length (now seconds) ≡ t * c) × (length (now gs) ≡ t * lanes) × (length (now got) ≡ sizes .d + sizes .r) × Naming sizes t c ⌝ }
+    ensures { λ _. ⌜ take (length (now (got .entry)) - 1) (now (got .exit)) ≡ piece c a (now (seconds .entry)) ++ sentBy t lanes (now (gs .entry)) i a ⌝ }
 {
-    let d = sizes.d;
-    let from = a * d;
-    let to = from + d;
+    let from = a * c;
+    let to = from + c;
     let last = got.len() - 1;
-    row_dots::copy(&seconds[from..to], &mut got[0..d]);
-    sent(lanes, gs, i, a, &mut got[d..last]);
+    row_dots::copy(&seconds[from..to], &mut got[0..c]);
+    sent(lanes, gs, i, a, &mut got[c..last]);
 }
 
-// The stripe that the a-th fresh board finishes. got and f are for work.
+// The stripe that the a-th fresh board finishes, where each names c boards. got and f are for work.
 pub fn finish(
     sizes: Sizes,
     lanes: usize,
+    c: usize,
     rows: &[u8],
     fresh: &[usize],
     seconds: &[u8],
@@ -73,8 +92,8 @@ pub fn finish(
     f: &mut [u8],
     out: &mut [u8],
 )
-    requires { ⌜ (legal sizes ≡ true) × (sizes .n ≤ lanes) × (lanes ≤ 32) × (length (now rows) ≡ sizes .r * ((sizes .d + (sizes .d + sizes .r)) * 32)) × (length (now fresh) ≡ sizes .r) × (below (sizes .n) (now fresh) ≡ true) × (length (now seconds) ≡ sizes .r * sizes .d) × (length (now gs) ≡ sizes .r * lanes) × (a < sizes .r) × (length (now got) ≡ sizes .d + sizes .r) × (length (now f) ≡ lanes) × (length (now out) ≡ α sizes) ⌝ }
-    ensures { λ _. ⌜ now (out .exit) ≡ stripeBy sizes lanes (now (rows .entry)) (now (fresh .entry)) (now (seconds .entry)) (now (gs .entry)) a ⌝ }
+    requires { ⌜ (legal sizes ≡ true) × (sizes .n ≤ lanes) × (lanes ≤ 32) × (length (now rows) ≡ length (now fresh) * ((sizes .d + (sizes .d + sizes .r)) * 32)) × Naming sizes (length (now fresh)) c × (below (sizes .n) (now fresh) ≡ true) × (length (now seconds) ≡ length (now fresh) * c) × (length (now gs) ≡ length (now fresh) * lanes) × (a < length (now fresh)) × (length (now got) ≡ sizes .d + sizes .r) × (length (now f) ≡ lanes) × (length (now out) ≡ α sizes) ⌝ }
+    ensures { λ _. ⌜ now (out .exit) ≡ stripeBy sizes c lanes (now (rows .entry)) (now (fresh .entry)) (now (seconds .entry)) (now (gs .entry)) a ⌝ }
 {
     let one = (sizes.d + (sizes.d + sizes.r)) * 32;
     let at = a * one;
@@ -83,6 +102,6 @@ pub fn finish(
     let left = a * lanes;
     let right = left + lanes;
     let i = fresh[a];
-    gather(sizes, lanes, seconds, gs, i, a, got);
+    gather(sizes, lanes, fresh.len(), c, seconds, gs, i, a, got);
     finish_rows::finish(sizes.n, i, &rows[mid..end], &gs[left..right], got, f, out);
 }

@@ -18,6 +18,7 @@ use Rattle.lists.proofs.Boards.{below-all, all-below}
 use Rattle.lists.proofs.Pieces.{length-tabulate, tabulate-at, part-piece, length-piece}
 use Rattle.sizes.specs.declared.Sizes.{Sizes}
 use Rattle.sizes.proofs.Legal.{Legal, row-fits}
+use Rattle.repair_hear.specs.Steps.{Naming}
 
 -- a stripe as it is cut out of the area
 pub cut-piece : (w s at : ℕ) (area : List ℕ) → take (at + s * w + w - (at + s * w)) (drop (at + s * w) area) ≡ piece w s (drop at area)
@@ -52,6 +53,7 @@ most r h =
     all-at (λ r. leb (r * (32 - r)) 256 ≡ true) 0 rs (every-all (λ r. leb (r * (32 - r)) 256) rs most-test) r (rw length-tabulate h) in
     leb-true (r * (32 - r)) 256 (rw e at t)
 
-pub few-runs : (z : Sizes) → Legal z → z .r * z .d ≤ 256
-few-runs z f =
-    le-trans (mul-le-mul-left (z .r) (omega (arith, f .enough, f .few))) (most (z .r) (omega (arith, f .some-read, f .read-helpers, f .enough, f .few)))
+pub few-runs : (z : Sizes) → Legal z → (t c : ℕ) → Naming z t c → t * c ≤ 256
+few-runs z f t c h =
+    le-trans (mul-le-mul-left t (omega (arith, h .whole, f .enough, f .few)))
+    (most t (omega (arith, h .whole, h .helps, f .some-read, f .read-helpers, f .enough, f .few)))

@@ -1,7 +1,8 @@
 -- What helpers send of a stripe: by the definition, and by rows of factors, which are made once a call. `own j` is what board j holds of the
 -- stripe.
 -- Assumes nothing.
-use Prim.Native.Nat.{ℕ}
+use Prim.Native.Nat.{ℕ, _+_, _≤_}
+use mathlib.Core.Path.{_≡_}
 use mathlib.Core.List.{List, map}
 use lib.ListN.{getD, take}
 use Rattle.lists.specs.Lists.{piece}
@@ -11,7 +12,13 @@ use Rattle.mbcr.specs.Share.{point}
 use Rattle.mbcr.specs.Rebuild.{ownF, ownG}
 use Rattle.helper.specs.Steps.{pairBy}
 
--- the first and the second bytes of these helpers for board i
+-- t fresh boards, each of which names c boards: its d helpers, then its r − t stand-ins
+pub record Naming (z : Sizes) (t c : ℕ) : Type 0 where
+  pub some : 1 ≤ t
+  pub helps : z .d ≤ c
+  pub whole : c + t ≡ z .d + z .r
+
+-- the first and the second bytes of these boards for board i
 abbrev pub firstsOf : Sizes → List ℕ → (ℕ → List ℕ) → ℕ → List ℕ → List ℕ
 firstsOf z xs own i helpers = map (λ j. eval (ownF z xs j (own j)) (point xs i)) helpers
 

@@ -55,7 +55,8 @@ product-is t row c r low high a b g h lc lr eq ea eb eg eh el ehi er =
     ∙ ap₂ plus
     (el ∙ ap₂ plus (ea ∙ at t row (c % 4) (c % 4 * 32) lr eq (omega arith) refl) (eb ∙ at t row (c / 4 % 4 + 4) (c / 4 % 4 * 32 + 128) lr eq (omega arith) (omega arith))
     ∙ scale-plus (factor (c % 4)) (factor (c / 4 % 4 + 4)) row)
-    (ehi ∙ ap₂ plus (eg ∙ at t row (c / 16 % 4 + 8) (c / 16 % 4 * 32 + 256) lr eq (omega arith) (omega arith)) (eh ∙ at t row (c / 64 + 12) (c / 64 * 32 + 384) lr eq (omega arith) (omega arith))
+    (ehi ∙ ap₂ plus (eg ∙ at t row (c / 16 % 4 + 8) (c / 16 % 4 * 32 + 256) lr eq (omega arith) (omega arith))
+    (eh ∙ at t row (c / 64 + 12) (c / 64 * 32 + 384) lr eq (omega arith) (omega arith))
     ∙ scale-plus (factor (c / 16 % 4 + 8)) (factor (c / 64 + 12)) row)
     ∙ scale-plus (add (factor (c % 4)) (factor (c / 4 % 4 + 4))) (add (factor (c / 16 % 4 + 8)) (factor (c / 64 + 12))) row
     ∙ ap (λ (k : ℕ). scale k row) (windows-are c lc)

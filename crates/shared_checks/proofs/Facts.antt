@@ -43,7 +43,7 @@ board-facts z count marks boards h =
       enough = eqb-true _ _ (not-no _ (e .0));
       known = not-no _ (e .1 .0);
       all-different = not-no _ (e .1 .1 .0);
-      all-up = not-no _ (e .1 .1 .1 .0);
+      all-up = not-no _ (e .1 .1 .1 .1 .0);
     }
 
 -- what kernels ask of a record

@@ -8,7 +8,7 @@ use Prim.Native.Nat.{ℕ, _≤_}
 use native.Mathlib.Omega.{arith}
 use Rattle.sizes.specs.declared.Sizes.{Sizes}
 use Rattle.sizes.specs.declared.Refusal.{Refusal}
-use Rattle.sizes.specs.declared.Refusal.the-variants.{Size, Area, Long, Count, Node, Repeat, Short, Empty, Down, Disagree}
+use Rattle.sizes.specs.declared.Refusal.the-variants.{Size, Area, Long, Count, Node, Repeat, Short, Empty, Down, Disagree, Serving}
 use Rattle.sizes.specs.declared.Answer.{Answer}
 use Rattle.sizes.specs.declared.Answer.the-variants.{Done, Refused}
 use Rattle.sizes.specs.Refusals.{number, Said, said}
@@ -18,7 +18,7 @@ use Rattle.sizes.proofs.Lines.{first-clear, clear-first, first-refuse, 
 
 -- a refusal by its number
 named : ℕ → Refusal
-named n = lib.ListN.getD (Size ∷ Area ∷ Long ∷ Count ∷ Node ∷ Repeat ∷ Short ∷ Empty ∷ Down ∷ Disagree ∷ []) (Prim.Native.Nat._-_ n 1) Size
+named n = lib.ListN.getD (Size ∷ Area ∷ Long ∷ Count ∷ Node ∷ Repeat ∷ Short ∷ Empty ∷ Down ∷ Disagree ∷ Size ∷ Size ∷ Size ∷ Serving ∷ []) (Prim.Native.Nat._-_ n 1) Size
 
 named-number : (x : Refusal) → named (number x) ≡ x
 unfolding named
@@ -32,6 +32,7 @@ named-number Short = refl
 named-number Empty = refl
 named-number Down = refl
 named-number Disagree = refl
+named-number Serving = refl
 
 pub numbers-differ : (x y : Refusal) → number x ≡ number y → x ≡ y
 numbers-differ x y e = sym (named-number x) ∙ ap named e ∙ named-number y
@@ -47,6 +48,7 @@ number-low Short = omega arith
 number-low Empty = omega arith
 number-low Down = omega arith
 number-low Disagree = omega arith
+number-low Serving = omega arith
 
 pub never-eleven : (x : Refusal) → number x ≢ 11
 never-eleven Size e = omega (arith, e)
@@ -59,6 +61,7 @@ never-eleven Short e = omega (arith, e)
 never-eleven Empty e = omega (arith, e)
 never-eleven Down e = omega (arith, e)
 never-eleven Disagree e = omega (arith, e)
+never-eleven Serving e = omega (arith, e)
 
 answers-differ : (a b : Answer) → said a ≡ said b → a ≡ b
 answers-differ (Done v) (Done w) e = ap Done (ap (λ (s : Said). s .reported) e)

@@ -6,7 +6,7 @@ use Prim.Native.Nat.{ℕ}
 use lib.Dec.{eqb}
 use Rattle.lists.specs.Tests.{pick}
 use Rattle.sizes.specs.declared.Refusal.{Refusal}
-use Rattle.sizes.specs.declared.Refusal.the-variants.{Size, Area, Long, Count, Node, Repeat, Short, Empty, Down, Disagree}
+use Rattle.sizes.specs.declared.Refusal.the-variants.{Size, Area, Long, Count, Node, Repeat, Short, Empty, Down, Disagree, Serving}
 use Rattle.sizes.specs.declared.Check.{Check}
 use Rattle.sizes.specs.declared.Check.the-variants.{Pass, Refuse}
 use Rattle.sizes.specs.declared.Answer.{Answer}
@@ -24,6 +24,7 @@ number Short = 7
 number Empty = 8
 number Down = 9
 number Disagree = 10
+number Serving = 14
 
 -- what an answer says: the refusal's number, 0 where it is accepted; and the number reported, 0 where it is refused
 pub record Said : Type 0 where
@@ -53,9 +54,9 @@ abbrev pub first : List Refusal → List Line → Check
 first [] lines = Pass
 first (x ∷ order) lines = pick (appliesIn lines x) (Refuse x) (first order lines)
 
--- "Store: 1, 2, 3, 8, 4, 5, 6, 9, 7, 10"
+-- "Store: 1, 2, 3, 8, 4, 5, 6, 9, 7, 10"; request A.3: "14 SERVING, .. after 6 and before 9"
 abbrev pub storeOrder : List Refusal
-storeOrder = Size ∷ Area ∷ Long ∷ Empty ∷ Count ∷ Node ∷ Repeat ∷ Down ∷ Short ∷ Disagree ∷ []
+storeOrder = Size ∷ Area ∷ Long ∷ Empty ∷ Count ∷ Node ∷ Repeat ∷ Serving ∷ Down ∷ Short ∷ Disagree ∷ []
 
 -- "Board level: 1, 3, 4, 5, 6, 2, 7, 10"
 abbrev pub boardOrder : List Refusal

@@ -4,7 +4,7 @@ ghost use Rattle.lists.specs.Tests.{pick};
 ghost use Rattle.sizes.specs.Sizing.{legal, α, B, stripes};
 ghost use Rattle.sizes.specs.Refusals.{number};
 
-// Document 01's refusals, in the order of their numbers; 11 is not used, and is never given again.
+// Document 01's refusals and those of the requests, in the order of their numbers; 11 is not used, and is never given again.
 pub enum Refusal {
     Size,
     Area,
@@ -16,6 +16,7 @@ pub enum Refusal {
     Empty,
     Down,
     Disagree,
+    Serving,
 }
 
 // What a check answers: nothing is wrong, or the refusal to give.
@@ -54,6 +55,7 @@ impl Refusal {
             Refusal::Empty => 8,
             Refusal::Down => 9,
             Refusal::Disagree => 10,
+            Refusal::Serving => 14,
         }
     }
 }

@@ -39,10 +39,10 @@ pub lose-meets : (κs : Lfts 0) (a : Dens κs lose-kinds.ps) (r : Handed) (e : A
 unfolding act
 lose-meets κs a r e = (tt, λ h. h)
 
-pub repair-meets : (κs : Lfts 3) (a : Dens κs repair-kinds.ps) (r : Handed) (e : AtExit (endedOf 3 repair-kinds.ps repair-kinds.r) κs)
+pub repair-meets : (κs : Lfts 4) (a : Dens κs repair-kinds.ps) (r : Handed) (e : AtExit (endedOf 4 repair-kinds.ps repair-kinds.r) κs)
     → repairs.Asked κs a
     × (repairs.Learnt κs a r e
-    → Meets (a .0) (now (a .1 .0)) (repair (now (a .1 .1 .0)) (now (a .1 .1 .1 .0))) (record { handed = r; area = now (e .1 .0); output = [] }))
+    → Meets (a .0) (now (a .1 .0)) (repair (now (a .1 .1 .0)) (now (a .1 .1 .1 .0)) (now (a .1 .1 .1 .1 .0))) (record { handed = r; area = now (e .1 .0); output = [] }))
 unfolding act
 repair-meets κs a r e = (tt, λ h. h)
 

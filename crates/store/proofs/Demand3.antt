@@ -40,5 +40,5 @@ code-demand-3 old z xs c new made accepted area steps run ok r =
       answers (new .store) area steps run r ∙ ap (λ (k : Record). replies (record { kept = k; area = area }) steps) e ∙ d .alike,
       subst (λ (w : State). Intact w (bookFinal (openBook z xs c (length area)) (calls steps)))
           (ap (λ (k : Record). final (record { kept = k; area = area }) steps) (sym e) ∙ ends (new .store) area steps run r) (d .after),
-      λ s any fresh helpers h m ok. d .repaired (recordIn s) any fresh helpers (ap (λ (o : StoreOutcome). o .answer .refusal) (sym m) ∙ ok),
+      λ s any fresh helpers standIns h m ok. d .repaired (recordIn s) any fresh helpers standIns (ap (λ (o : StoreOutcome). o .answer .refusal) (sym m) ∙ ok),
     )

@@ -15,18 +15,18 @@ use Rattle.store.specs.Handing.{recordIn}
 use Rattle.store.specs.Demand3.{Given, gave, Meets}
 use Rattle.store.specs.Gives.{CodeGives}
 
-module _ (s : Store) (area fresh helpers : List ℕ) (h : Given) (m : Meets s area (repair fresh helpers) h) (ok : said (h .handed .answer) .refusal ≡ 0) where
-  is-repaired : Repaired (recordIn s) area fresh helpers
+module _ (s : Store) (area fresh helpers standIns : List ℕ) (h : Given) (m : Meets s area (repair fresh helpers standIns) h) (ok : said (h .handed .answer) .refusal ≡ 0) where
+  is-repaired : Repaired (recordIn s) area fresh helpers standIns
   unfolding act
-  is-repaired = accepted-repair (recordIn s) area fresh helpers (ap (λ (o : StoreOutcome). o .answer .refusal) (sym m) ∙ ok)
+  is-repaired = accepted-repair (recordIn s) area fresh helpers standIns (ap (λ (o : StoreOutcome). o .answer .refusal) (sym m) ∙ ok)
 
 pub code-gives : CodeGives
 unfolding act
 code-gives = record {
   reads = λ s area b k lent a boards output count diff up room h m. m ∙ k .gives lent a boards output count diff up room;
-  moved = λ s area fresh helpers h m ok.
-      let p = is-repaired s area fresh helpers h m ok in
+  moved = λ s area fresh helpers standIns h m ok.
+      let p = is-repaired s area fresh helpers standIns h m ok in
       ap (λ (o : StoreOutcome). o .answer .reported) m ∙ ap (λ (a : Said). a .reported) (p .moved) ∙ p .moved-is;
-  has = λ s area fresh helpers h m ok i e.
-      ap (λ (o : StoreOutcome). held (recordIn s) (o .area) i) m ∙ is-repaired s area fresh helpers h m ok .has i e;
+  has = λ s area fresh helpers standIns h m ok i e.
+      ap (λ (o : StoreOutcome). held (recordIn s) (o .area) i) m ∙ is-repaired s area fresh helpers standIns h m ok .has i e;
 }

@@ -1,34 +1,56 @@
 -- A repair, at the record's points: what it hands on where its check refuses, and where it passes.
 -- Assumes nothing.
-use Prim.Native.Nat.{ℕ, _+_, _*_, _-_}
+use Prim.Native.Nat.{ℕ, _+_, _*_, _-_, _<_}
 use mathlib.Core.Path.{_≡_, sym, ap, ap₂, _∙_}
 use mathlib.Core.Bool.{Bool}
-use mathlib.Core.List.{List, []}
-use lib.ListN.{length, getD, drop}
+use mathlib.Core.List.{List, [], _++_}
+use native.Mathlib.Omega.{arith}
+use lib.ListN.{length, getD, drop, length-append}
 use Rattle.lists.specs.Lists.{join, piece}
+use Rattle.lists.specs.Tests.{different}
+use Rattle.lists.proofs.Pieces.{length-piece, piece-join}
 use Rattle.sizes.specs.declared.Refusal.{Refusal}
 use Rattle.sizes.specs.declared.Check.{Check}
 use Rattle.sizes.specs.declared.Check.the-variants.{Pass, Refuse}
 use Rattle.sizes.specs.Sizing.{α}
 use Rattle.sizes.specs.Refusals.{first, storeOrder}
-use Rattle.sizes.proofs.Legal.{legal-facts}
+use Rattle.sizes.proofs.Legal.{legal-facts, row-fits}
 use Rattle.store_spec.specs.Record.{Record, stripeCount, partLen, withMarks, turnOn}
+use Rattle.store_spec.specs.Packets.{standInsEach}
 use Rattle.store_spec.specs.Calls.{StoreOutcome, accepted, refused, repairLines, repairDone, repairCall}
 use Rattle.store_spec.proofs.Records.{repair-facts, sound-facts}
 use Rattle.store_spec.proofs.Real.{code-lengths}
 use Rattle.store_spec.proofs.Repair.{moved-is}
 use Rattle.puts.specs.Steps.{puts}
-use Rattle.store_repair.specs.Steps.{rebuilt}
-use Rattle.repair_seam.proofs.Repaired.{repaired}
+use Rattle.store_repair.specs.Steps.{DifferentRuns, rebuilt}
+use Rattle.repair_check.proofs.Repairable.{Repairable}
+use Rattle.repair_seam.proofs.Repaired.{namedOf, runOf, repaired}
 use Rattle.store.proofs.Settled.{refused-by, done-by}
 
-module _ (s : Record) (area fresh helpers : List ℕ) where
-  abbrev pub checked : Check
-  checked = first storeOrder (repairLines s (length area) fresh helpers)
+-- no fresh board names a board twice, in the list of all that are named
+pub runs-named : (s : Record) (m : ℕ) (fresh helpers standIns : List ℕ) → Repairable s m fresh helpers standIns
+    → DifferentRuns (runOf s fresh) fresh (namedOf s fresh helpers standIns)
+runs-named s m fresh helpers standIns f = record { each = λ a h. ap different (piece-join (length fresh) (runOf s fresh) _ named-run a h) ∙ f .runs-different a h }
+  where
+    d : ℕ
+    d = s .sizes .d
 
-  pub repair-refuses : {r : Check} {x : Refusal} → r ≡ checked → r ≡ Refuse x → refused s area [] x ≡ repairCall s area fresh helpers
+    e : ℕ
+    e = standInsEach s fresh
+
+    named-run : (b : ℕ) → b < length fresh → length (piece d b helpers ++ piece e b standIns) ≡ runOf s fresh
+    named-run b h =
+        length-append (piece d b helpers) (piece e b standIns)
+        ∙ ap₂ _+_ (length-piece d b helpers (omega (arith, f .helper-count, row-fits b (length fresh) d h)))
+        (length-piece e b standIns (omega (arith, f .stand-in-count, row-fits b (length fresh) e h)))
+
+module _ (s : Record) (area fresh helpers standIns : List ℕ) where
+  abbrev pub checked : Check
+  checked = first storeOrder (repairLines s (length area) fresh helpers standIns)
+
+  pub repair-refuses : {r : Check} {x : Refusal} → r ≡ checked → r ≡ Refuse x → refused s area [] x ≡ repairCall s area fresh helpers standIns
   unfolding repairCall
-  repair-refuses e h = refused-by (refused s area []) (repairDone s area fresh helpers) e h
+  repair-refuses e h = refused-by (refused s area []) (repairDone s area fresh helpers standIns) e h
 
   -- what a repair hands on with this answer, these marks and this area
   abbrev pub mended : ℕ → List Bool → List ℕ → StoreOutcome
@@ -36,24 +58,24 @@ module _ (s : Record) (area fresh helpers : List ℕ) where
 
   -- stripe t of the a-th fresh board
   abbrev pub stripe : ℕ → ℕ → List ℕ
-  stripe a t = rebuilt (s .sizes) (s .points) (λ j. piece (α (s .sizes)) t (drop (j * partLen s) area)) fresh helpers a
+  stripe a t = rebuilt (s .sizes) (s .points) (λ j. piece (α (s .sizes)) t (drop (j * partLen s) area)) fresh (runOf s fresh) (namedOf s fresh helpers standIns) a
 
   -- the area with so many stripes of each fresh board in it
   abbrev pub restored : ℕ → List ℕ
-  restored count = puts (λ a. getD fresh a 0 * partLen s) (λ a. join count (stripe a)) (s .sizes .r) area
+  restored count = puts (λ a. getD fresh a 0 * partLen s) (λ a. join count (stripe a)) (length fresh) area
 
   abbrev bytes : ℕ → ℕ
-  bytes count = count * s .sizes .r * (2 * s .sizes .d + s .sizes .r - 1)
+  bytes count = count * length fresh * (2 * s .sizes .d + s .sizes .r - 1)
 
   pub repair-works : (after : List ℕ) (marks : List Bool) (count moved : ℕ) → checked ≡ Pass → count ≡ stripeCount s
-      → moved ≡ bytes count → marks ≡ turnOn fresh (s .marks) → after ≡ restored count → mended moved marks after ≡ repairCall s area fresh helpers
+      → moved ≡ bytes count → marks ≡ turnOn fresh (s .marks) → after ≡ restored count → mended moved marks after ≡ repairCall s area fresh helpers standIns
   unfolding repairCall
   repair-works after marks count moved p ec eb em ea =
-      let f = repair-facts s (length area) fresh helpers p in
+      let f = repair-facts s (length area) fresh helpers standIns p in
       let legal = sound-facts s (f .is-sound) .is-legal in
-      let done = repairDone s area fresh helpers in
+      let done = repairDone s area fresh helpers standIns in
       let d = done-by (refused s area []) done p in
-      let sent = moved-is s area fresh helpers (length area) (code-lengths (s .points) (s .sizes) legal) (legal-facts (s .sizes) legal .some-fresh) f in
+      let sent = moved-is s area fresh helpers standIns (length area) (code-lengths (s .points) (s .sizes) legal) f in
       let whole : after ≡ done .area =
-      ea ∙ ap restored ec ∙ repaired s area fresh helpers f (ap (λ (o : StoreOutcome). o .answer .refusal) (sym d)) in
+      ea ∙ ap restored ec ∙ repaired s area fresh helpers standIns f (ap (λ (o : StoreOutcome). o .answer .refusal) (sym d)) in
       ap₂ (mended moved) em whole ∙ ap (λ (n : ℕ). mended n (turnOn fresh (s .marks)) (done .area)) (eb ∙ ap bytes ec ∙ sym sent) ∙ d

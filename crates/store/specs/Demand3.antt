@@ -47,5 +47,5 @@ CodeDemand3 =
     → (area : List ℕ) (steps : List Step) (run : List Given) → Allowed (begun (recordIn old) z xs c area) (openBook z xs c (length area)) steps → Run (new .store) steps run
     → (map (λ h. replyOf (gave h)) run ≡ bookReplies (openBook z xs c (length area)) (calls steps))
     × Intact (ending (new .store) area run) (bookFinal (openBook z xs c (length area)) (calls steps))
-    × ((s : Store) (any fresh helpers : List ℕ) (h : Given) → Meets s any (repair fresh helpers) h → said (h .handed .answer) .refusal ≡ 0
-    → Repaired (recordIn s) any fresh helpers)
+    × ((s : Store) (any fresh helpers standIns : List ℕ) (h : Given) → Meets s any (repair fresh helpers standIns) h → said (h .handed .answer) .refusal ≡ 0
+    → Repaired (recordIn s) any fresh helpers standIns)

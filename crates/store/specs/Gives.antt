@@ -27,7 +27,7 @@ pub record CodeGives : Type 0 where
       → (h : Given) → Meets s lent (read boards output) h
       → gave h ≡ accepted 0 (recordIn s) lent (over (fileOf (b .file)) output)
   -- an accepted repair, over any record and any area: the bytes moved, and what each fresh board holds in the area that it left
-  pub moved : (s : Store) (area fresh helpers : List ℕ) (h : Given) → Meets s area (repair fresh helpers) h → said (h .handed .answer) .refusal ≡ 0
-      → said (h .handed .answer) .reported ≡ stripeCount (recordIn s) * s .sizes .r * (2 * s .sizes .d + s .sizes .r - 1)
-  pub has : (s : Store) (area fresh helpers : List ℕ) (h : Given) → Meets s area (repair fresh helpers) h → said (h .handed .answer) .refusal ≡ 0
-      → (i : ℕ) → among fresh i ≡ true → held (recordIn s) (h .area) i ≡ freshShare (recordIn s) area fresh helpers i
+  pub moved : (s : Store) (area fresh helpers standIns : List ℕ) (h : Given) → Meets s area (repair fresh helpers standIns) h → said (h .handed .answer) .refusal ≡ 0
+      → said (h .handed .answer) .reported ≡ stripeCount (recordIn s) * length fresh * (2 * s .sizes .d + s .sizes .r - 1)
+  pub has : (s : Store) (area fresh helpers standIns : List ℕ) (h : Given) → Meets s area (repair fresh helpers standIns) h → said (h .handed .answer) .refusal ≡ 0
+      → (i : ℕ) → among fresh i ≡ true → held (recordIn s) (h .area) i ≡ freshShare (recordIn s) area fresh helpers standIns i

@@ -2,7 +2,7 @@
 //! the crate `store_spec`, for all input: the answer, the record, and every lent byte.
 ghost use mathlib.Core.Path.{_≡_};
 ghost use mathlib.Core.List.{List, []};
-ghost use Prim.Native.Nat.{ℕ, _+_, _*_, _-_};
+ghost use Prim.Native.Nat.{ℕ, _+_, _*_, _-_, _≤_};
 ghost use Rattle.store_spec.specs.Calls.{refused, setUpCall, writeCall, loseCall, repairCall, readCall};
 ghost use Rattle.store_checks.specs.Steps.{Bounded};
 ghost use Rattle.store.specs.Handing.{recordIn, outcomeIn};
@@ -38,12 +38,12 @@ fn refuse(kept: Store, x: Refusal) -> Handed
     }
 }
 
-// The bytes that a repair of so many stripes moves.
-fn bytes_moved(sizes: Sizes, stripes: usize) -> usize
-    requires { ⌜ Bounded sizes stripes ⌝ }
-    ensures { λ r. ⌜ r ≡ stripes * sizes .r * (2 * sizes .d + sizes .r - 1) ⌝ }
+// The bytes that a repair of so many stripes of t fresh boards moves.
+fn bytes_moved(sizes: Sizes, t: usize, stripes: usize) -> usize
+    requires { ⌜ Bounded sizes stripes × (t ≤ sizes .r) ⌝ }
+    ensures { λ r. ⌜ r ≡ stripes * t * (2 * sizes .d + sizes .r - 1) ⌝ }
 {
-    stripes * sizes.r * (2 * sizes.d + sizes.r - 1)
+    stripes * t * (2 * sizes.d + sizes.r - 1)
 }
 
 impl Store {
@@ -128,9 +128,16 @@ impl Store {
         }
     }
 
-    // Rebuilds the fresh boards together, each from its own run of d helpers, and puts them in service. Answers the bytes that are moved.
-    pub fn repair(self, area: &mut [u8], fresh: &[usize], helpers: &[usize]) -> Handed
-        ensures { λ r. ⌜ outcomeIn r (now (area .exit)) [] ≡ repairCall (recordIn self) (now (area .entry)) (now (fresh .entry)) (now (helpers .entry)) ⌝ }
+    // Rebuilds one to r fresh boards together, t of them, each from its own run of d helpers and its own run of r − t stand-ins, and puts them in
+    // service. Answers the bytes that are moved.
+    pub fn repair(
+        self,
+        area: &mut [u8],
+        fresh: &[usize],
+        helpers: &[usize],
+        standins: &[usize],
+    ) -> Handed
+        ensures { λ r. ⌜ outcomeIn r (now (area .exit)) [] ≡ repairCall (recordIn self) (now (area .entry)) (now (fresh .entry)) (now (helpers .entry)) (now (standins .entry)) ⌝ }
     {
         let sizes = self.sizes;
         let points = self.points;
@@ -148,14 +155,15 @@ impl Store {
             area.len(),
             fresh,
             helpers,
+            standins,
         ) {
             return refuse(self, x);
         }
         let mut inverses = [0u8; 256];
         inverses::fill_inverses(&mut inverses);
         let stripes = checks::stripe_count(sizes, length);
-        let moved = bytes_moved(sizes, stripes);
-        store_repair::repair_shares(
+        let moved = bytes_moved(sizes, fresh.len(), stripes);
+        repair_boards::repair_shares(
             sizes,
             capacity,
             &points,
@@ -163,6 +171,7 @@ impl Store {
             stripes,
             fresh,
             helpers,
+            standins,
             area,
         );
         store_checks::marks_on(fresh, &mut marks);

@@ -3,8 +3,7 @@
 use mathlib.Core.Path.{_≡_}
 use mathlib.Core.Bool.{Bool, true}
 use mathlib.Core.List.{List}
-use Prim.Native.Nat.{ℕ, _*_, _≤_}
-use lib.ListN.{length}
+use Prim.Native.Nat.{ℕ, _≤_}
 use Rattle.sizes.specs.declared.Sizes.{Sizes}
 use Rattle.sizes.specs.Sizing.{legal}
 use Rattle.store_spec.specs.Record.{Record}
@@ -16,8 +15,3 @@ recordOf z xs capacity written length marks = record { sizes = z; points = xs; c
 pub record Bounded (z : Sizes) (stripes : ℕ) : Type 0 where
   pub is-legal : legal z ≡ true
   pub few : stripes ≤ 4096
-
--- a run of d helpers for each fresh board, and few in all
-pub record Runs (d : ℕ) (fresh helpers : List ℕ) : Type 0 where
-  pub whole : length helpers ≡ length fresh * d
-  pub few : length helpers ≤ 1024

@@ -2,21 +2,20 @@
 //! line holds.
 ghost use mathlib.Core.Path.{_≡_};
 ghost use mathlib.Core.Bool.{true, false, not};
-ghost use mathlib.Core.List.{[], _∷_, _++_};
+ghost use mathlib.Core.List.{_++_};
 ghost use Prim.Native.Nat.{_*_};
 ghost use lib.Dec.{ltb};
 ghost use lib.ListN.{length, getD, drop};
 ghost use Rattle.lists.specs.Lists.{tabulate};
-ghost use Rattle.lists.specs.Tests.{every, alls, below, different, apart};
-ghost use Rattle.sizes.specs.declared.Refusal.the-variants.{Long, Repeat, Empty, Down};
+ghost use Rattle.lists.specs.Tests.{every, below};
+ghost use Rattle.sizes.specs.declared.Refusal.the-variants.{Long, Empty, Down};
 ghost use Rattle.sizes.specs.Sizing.{legal, B};
 ghost use Rattle.sizes.specs.Refusals.{_when_};
 ghost use Rattle.board_spec.specs.Calls.{nodeLine};
 ghost use Rattle.store_spec.specs.Record.{allOff, sound, turnOn};
-ghost use Rattle.store_spec.specs.Packets.{Hearing, hearHelpers};
 ghost use Rattle.store_spec.specs.Calls.{recordLine};
 ghost use Rattle.checks.specs.Steps.{asked};
-ghost use Rattle.store_checks.specs.Steps.{recordOf, Bounded, Runs};
+ghost use Rattle.store_checks.specs.Steps.{recordOf, Bounded};
 use sizes::Check;
 use sizes::Refusal;
 use sizes::Sizes;
@@ -115,39 +114,6 @@ pub fn check_two_lists(sizes: Sizes, boards: &[usize], others: &[usize]) -> Chec
     Check::Refuse(Refusal::Node)
 }
 
-// Whether no board stands twice in the run of d helpers of one fresh board.
-fn runs_differ(d: usize, fresh: &[usize], helpers: &[usize]) -> bool
-    requires { ⌜ Runs d (now fresh) (now helpers) ⌝ }
-    ensures { λ r. ⌜ r ≡ every (λ h. different (h .senders)) (hearHelpers d (now (fresh .entry)) (now (helpers .entry))) ⌝ }
-{
-    let mut a: usize = 0;
-    while a < fresh.len() {
-        let from = a * d;
-        let to = from + d;
-        if board_tests::different(&helpers[from..to]) {
-            a += 1;
-        } else {
-            return false;
-        }
-    }
-    true
-}
-
-// 6 REPEAT of a repair.
-pub fn check_fresh(d: usize, fresh: &[usize], helpers: &[usize]) -> Check
-    requires { ⌜ Runs d (now fresh) (now helpers) ⌝ }
-    ensures { λ r. ⌜ r ≡ asked (Repeat when not (alls (different (now (fresh .entry)) ∷ every (λ h. different (h .senders)) (hearHelpers d (now (fresh .entry)) (now (helpers .entry))) ∷ apart (now (fresh .entry)) (now (helpers .entry)) ∷ []))) ⌝ }
-{
-    if board_tests::different(fresh) {
-        if runs_differ(d, fresh, helpers) {
-            if board_tests::apart(fresh, helpers) {
-                return Check::Pass;
-            }
-        }
-    }
-    Check::Refuse(Refusal::Repeat)
-}
-
 // 8 EMPTY.
 pub fn check_written(written: bool) -> Check
     ensures { λ r. ⌜ r ≡ asked (Empty when not written) ⌝ }
@@ -159,7 +125,7 @@ pub fn check_written(written: bool) -> Check
 }
 
 // The mark of a board; off where it has none.
-fn mark_of(marks: &[bool], board: usize) -> bool
+pub fn mark_of(marks: &[bool], board: usize) -> bool
     ensures { λ r. ⌜ r ≡ getD (now (marks .entry)) board false ⌝ }
 {
     if board < marks.len() {
@@ -170,7 +136,7 @@ fn mark_of(marks: &[bool], board: usize) -> bool
 }
 
 // Whether each board is in service.
-fn all_on(marks: &[bool], boards: &[usize]) -> bool
+pub fn all_on(marks: &[bool], boards: &[usize]) -> bool
     ensures { λ r. ⌜ r ≡ every (λ i. getD (now (marks .entry)) i false) (now (boards .entry)) ⌝ }
 {
     let mut t: usize = 0;

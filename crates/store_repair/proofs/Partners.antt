@@ -3,11 +3,11 @@
 use Prim.Native.Nat.{ℕ, zero, suc, _+_, _*_, _-_, _<_}
 use mathlib.Core.Path.{_≡_, refl, sym, ap, ap₂, subst, _∙_}
 use mathlib.Core.Bool.{Bool, true, false, not}
-use mathlib.Core.List.{List, [], _∷_, _++_}
+use mathlib.Core.List.{List, [], _∷_, _++_, append-assoc}
 use native.Mathlib.Decide.{decLt}
 use native.Mathlib.Omega.{arith}
 use lib.Dec.{ltb, eqb}
-use lib.ListN.{length, getD, drop}
+use lib.ListN.{length, getD, take, drop, take-append-drop}
 use borrow.Author.Tests.{ne-eqb, eq-eqb, lt-ltb, le-ltb}
 use Rattle.lists.specs.Tests.{pick, among, below, different, apart}
 use Rattle.lists.specs.Lists.{All, tabulate, piece, without}
@@ -18,7 +18,7 @@ use Rattle.lists.proofs.Tests.{true-false, every-all, all-every}
 use Rattle.sizes.specs.declared.Sizes.{Sizes}
 use Rattle.mbcr.proofs.Points.{Boards}
 use Rattle.store_spec.proofs.Named.{named-boards}
-use Rattle.repair_rows.specs.Steps.{past, partnersAt}
+use Rattle.repair_rows.specs.Steps.{past, othersAt, helpersAt, partnersAt}
 use Rattle.store_repair.specs.Steps.{DifferentRuns}
 
 -- ---- the list without its a-th board
@@ -72,14 +72,17 @@ pub all-piece : (P : ℕ → Type 0) (d a : ℕ) (l : List ℕ) → All P l → 
 unfolding piece
 all-piece P d a l h = take-alls P d (drop (a * d) l) (drop-alls P (a * d) l h)
 
-pub heard-boards : (z : Sizes) (fresh helpers : List ℕ) → length fresh ≡ z .r → below (z .n) fresh ≡ true → below (z .n) helpers ≡ true
-    → different fresh ≡ true → apart fresh helpers ≡ true → DifferentRuns z helpers → (a : ℕ) → a < z .r
-    → Boards z (piece (z .d) a helpers ++ partnersAt z fresh a ++ (getD fresh a 0 ∷ []))
-heard-boards z fresh helpers lf bf bh once none runs a h =
+pub heard-boards : (z : Sizes) (c : ℕ) (fresh named : List ℕ) → below (z .n) fresh ≡ true → below (z .n) named ≡ true
+    → different fresh ≡ true → apart fresh named ≡ true → DifferentRuns c fresh named → (a : ℕ) → a < length fresh
+    → Boards z (helpersAt z c named a ++ partnersAt z c fresh named a ++ (getD fresh a 0 ∷ []))
+heard-boards z c fresh named bf bn once none runs a h =
     let i : ℕ = getD fresh a 0 in
-    let hs : List ℕ = piece (z .d) a helpers in
-    let apart-run : apart fresh hs ≡ true =
-    all-every (λ x. not (among fresh x)) hs (all-piece (λ x. not (among fresh x) ≡ true) (z .d) a helpers (every-all (λ x. not (among fresh x)) helpers none)) in
-    subst (λ (l : List ℕ). Boards z (hs ++ l ++ (i ∷ []))) (without-place fresh a (z .r - 1) once (omega arith) (omega arith))
-    (named-boards z fresh (below-all (z .n) fresh bf) once i (getD-among fresh a (omega arith)) hs
-    (all-piece (λ x. x < z .n) (z .d) a helpers (below-all (z .n) helpers bh)) (runs .each a h) apart-run)
+    let l : List ℕ = piece c a named in
+    let apart-run : apart fresh l ≡ true =
+    all-every (λ x. not (among fresh x)) l (all-piece (λ x. not (among fresh x) ≡ true) c a named (every-all (λ x. not (among fresh x)) named none)) in
+    let e : l ++ othersAt fresh a ≡ helpersAt z c named a ++ partnersAt z c fresh named a =
+    ap (λ (q : List ℕ). q ++ othersAt fresh a) (sym (take-append-drop (z .d) l)) ∙ append-assoc (take (z .d) l) (drop (z .d) l) (othersAt fresh a) in
+    subst (λ (q : List ℕ). Boards z (q ++ (i ∷ [])))
+    (ap (λ (q : List ℕ). l ++ q) (without-place fresh a (length fresh - 1) once h (omega arith)) ∙ e)
+    (named-boards z fresh (below-all (z .n) fresh bf) once i (getD-among fresh a h) l
+    (all-piece (λ x. x < z .n) c a named (below-all (z .n) named bn)) (runs .each a h) apart-run)

@@ -1,4 +1,4 @@
--- A turn of the loop over the stripes: one stripe more of each fresh board, from helpers whose parts no turn has changed.
+-- A turn of the loop over the stripes: one stripe more of each fresh board, from boards whose parts no turn has changed.
 -- Assumes nothing.
 use Prim.Native.Nat.{ℕ, _+_, _*_, _-_, _≤_, _<_}
 use mathlib.Core.Path.{_≡_, refl, sym, ap, subst, _∙_}
@@ -39,11 +39,11 @@ at-piece : (w s at : ℕ) (l : List ℕ) → piece w s (drop at l) ≡ take w (d
 unfolding piece
 at-piece w s at l = ap (take w) (drop-drop (s * w) at l)
 
--- `stripe own a` is the stripe of the a-th fresh board, where boards hold `own`; only what the helpers hold counts
-module _ (z : Sizes) (fresh helpers area₀ : List ℕ) (part : ℕ) (lf : length fresh ≡ z .r) (bf : below (z .n) fresh ≡ true)
-    (once : different fresh ≡ true) (none : apart fresh helpers ≡ true) (la : length area₀ ≡ z .n * part)
-    (stripe : (ℕ → List ℕ) → ℕ → List ℕ) (long : (own : ℕ → List ℕ) (a : ℕ) → a < z .r → length (stripe own a) ≡ α z)
-    (same : (own other : ℕ → List ℕ) → All (λ j. own j ≡ other j) helpers → (a : ℕ) → stripe own a ≡ stripe other a) where
+-- `stripe own a` is the stripe of the a-th fresh board, where boards hold `own`; only what the boards named hold counts
+module _ (z : Sizes) (fresh named area₀ : List ℕ) (part : ℕ) (bf : below (z .n) fresh ≡ true)
+    (once : different fresh ≡ true) (none : apart fresh named ≡ true) (la : length area₀ ≡ z .n * part)
+    (stripe : (ℕ → List ℕ) → ℕ → List ℕ) (long : (own : ℕ → List ℕ) (a : ℕ) → a < length fresh → length (stripe own a) ≡ α z)
+    (same : (own other : ℕ → List ℕ) → All (λ j. own j ≡ other j) named → (a : ℕ) → stripe own a ≡ stripe other a) where
   -- where the a-th fresh board's part is, and stripe t of it
   abbrev at : ℕ → ℕ
   at a = getD fresh a 0 * part
@@ -52,38 +52,38 @@ module _ (z : Sizes) (fresh helpers area₀ : List ℕ) (part : ℕ) (lf : lengt
   stripeOf a t = stripe (λ j. piece (α z) t (drop (j * part) area₀)) a
 
   abbrev pub upTo : ℕ → List ℕ
-  upTo s = puts at (λ a. join s (stripeOf a)) (z .r) area₀
+  upTo s = puts at (λ a. join s (stripeOf a)) (length fresh) area₀
 
-  ends : (a : ℕ) → a < z .r → at a + part ≤ length area₀
-  ends a h = omega (arith, la, row-fits (getD fresh a 0) (z .n) part (board-below (z .n) fresh a bf (omega (arith, h, lf))))
+  ends : (a : ℕ) → a < length fresh → at a + part ≤ length area₀
+  ends a h = omega (arith, la, row-fits (getD fresh a 0) (z .n) part (board-below (z .n) fresh a bf h))
 
-  others : (a b : ℕ) → a < b → b < z .r → (at b + part ≤ at a) ⊎ (at a + part ≤ at b)
-  others a b h k = apart-parts (getD fresh b 0) (getD fresh a 0) part (tests-mean .different-is fresh .0 once a b h (omega (arith, k, lf)))
+  others : (a b : ℕ) → a < b → b < length fresh → (at b + part ≤ at a) ⊎ (at a + part ≤ at b)
+  others a b h k = apart-parts (getD fresh b 0) (getD fresh a 0) part (tests-mean .different-is fresh .0 once a b h k)
 
-  joined-long : (s a : ℕ) → a < z .r → length (join s (stripeOf a)) ≡ s * α z
+  joined-long : (s a : ℕ) → a < length fresh → length (join s (stripeOf a)) ≡ s * α z
   joined-long s a k = length-join s (α z) (stripeOf a) (λ t h. long _ a k)
 
-  -- what a helper holds stays
-  helper-stays : (s j : ℕ) → s * α z + α z ≤ part → among helpers j ≡ true → piece (α z) s (drop (j * part) (upTo s)) ≡ piece (α z) s (drop (j * part) area₀)
-  helper-stays s j room e =
+  -- what a board that is named holds stays
+  named-stays : (s j : ℕ) → s * α z + α z ≤ part → among named j ≡ true → piece (α z) s (drop (j * part) (upTo s)) ≡ piece (α z) s (drop (j * part) area₀)
+  named-stays s j room e =
       at-piece (α z) s (j * part) (upTo s)
-      ∙ puts-other at (λ a. join s (stripeOf a)) (z .r) area₀ (j * part + s * α z) (α z) (λ a h. omega (arith, ends a h, joined-long s a h, room))
+      ∙ puts-other at (λ a. join s (stripeOf a)) (length fresh) area₀ (j * part + s * α z) (α z) (λ a h. omega (arith, ends a h, joined-long s a h, room))
       (λ a h.
       ⊎-elim (λ k. inl (omega (arith, k, room))) (λ k. inr (omega (arith, k, joined-long s a h, room))) (apart-parts j (getD fresh a 0) part (unlike a h)))
       ∙ sym (at-piece (α z) s (j * part) area₀)
     where
-      unlike : (a : ℕ) → a < z .r → j ≡ getD fresh a 0 → ⊥
+      unlike : (a : ℕ) → a < length fresh → j ≡ getD fresh a 0 → ⊥
       unlike a h q =
-          true-false (getD-among fresh a (omega (arith, h, lf)))
-          (subst (λ (x : ℕ). among fresh x ≡ false) q (off (among fresh j) (all-among (λ x. not (among fresh x) ≡ true) helpers j (every-all (λ x. not (among fresh x)) helpers none) e)))
+          true-false (getD-among fresh a h)
+          (subst (λ (x : ℕ). among fresh x ≡ false) q (off (among fresh j) (all-among (λ x. not (among fresh x) ≡ true) named j (every-all (λ x. not (among fresh x)) named none) e)))
 
   pub turn : (s : ℕ) (area next : List ℕ) → s * α z + α z ≤ part → area ≡ upTo s
-      → next ≡ puts (λ a. at a + s * α z) (stripe (λ j. piece (α z) s (drop (j * part) area))) (z .r) area → next ≡ upTo (s + 1)
+      → next ≡ puts (λ a. at a + s * α z) (stripe (λ j. piece (α z) s (drop (j * part) area))) (length fresh) area → next ≡ upTo (s + 1)
   turn s area next room ea en =
       en
-      ∙ ap (λ (l : List ℕ). puts (λ a. at a + s * α z) (stripe (λ j. piece (α z) s (drop (j * part) l))) (z .r) l) ea
-      ∙ puts-same (λ a. at a + s * α z) (λ a. at a + s * α z) _ (λ a. stripeOf a s) (z .r) (upTo s) (λ a h. refl)
+      ∙ ap (λ (l : List ℕ). puts (λ a. at a + s * α z) (stripe (λ j. piece (α z) s (drop (j * part) l))) (length fresh) l) ea
+      ∙ puts-same (λ a. at a + s * α z) (λ a. at a + s * α z) _ (λ a. stripeOf a s) (length fresh) (upTo s) (λ a h. refl)
       (λ a h.
       same (λ j. piece (α z) s (drop (j * part) (upTo s))) (λ j. piece (α z) s (drop (j * part) area₀))
-      (among-all _ helpers (λ j e. helper-stays s j room e)) a)
-      ∙ puts-stripe at part (α z) s (z .r) stripeOf (λ a t k. long _ a k) room area₀ ends others
+      (among-all _ named (λ j e. named-stays s j room e)) a)
+      ∙ puts-stripe at part (α z) s (length fresh) stripeOf (λ a t k. long _ a k) room area₀ ends others

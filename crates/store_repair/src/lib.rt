@@ -11,6 +11,7 @@ ghost use Rattle.gf256.specs.Field.{inverse};
 ghost use Rattle.sizes.specs.Sizing.{legal, α};
 ghost use Rattle.mbcr.specs.Share.{DifferentPoints};
 ghost use Rattle.puts.specs.Steps.{puts};
+ghost use Rattle.repair_hear.specs.Steps.{Naming};
 ghost use Rattle.repair_finish.specs.Steps.{stripeBy};
 ghost use Rattle.store_repair.specs.Steps.{DifferentRuns, rebuilt, rebuiltBy};
 
@@ -22,24 +23,26 @@ fn put_stripes(
     part: usize,
     s: usize,
     fresh: &[usize],
+    c: usize,
     seconds: &[u8],
     gs: &[u8],
     got: &mut [u8],
     f: &mut [u8],
     area: &mut [u8],
 )
-    requires { ⌜ (legal sizes ≡ true) × (sizes .n ≤ lanes) × (lanes ≤ 32) × (length (now rows) ≡ sizes .r * ((sizes .d + (sizes .d + sizes .r)) * 32)) × (part ≤ 253952) × (s * α sizes + α sizes ≤ part) × (length (now fresh) ≡ sizes .r) × (below (sizes .n) (now fresh) ≡ true) × (length (now seconds) ≡ sizes .r * sizes .d) × (length (now gs) ≡ sizes .r * lanes) × (length (now got) ≡ sizes .d + sizes .r) × (length (now f) ≡ lanes) × (length (now area) ≡ sizes .n * part) ⌝ }
-    ensures { λ _. ⌜ now (area .exit) ≡ puts (λ a. getD (now (fresh .entry)) a 0 * part + s * α sizes) (stripeBy sizes lanes (now (rows .entry)) (now (fresh .entry)) (now (seconds .entry)) (now (gs .entry))) (sizes .r) (now (area .entry)) ⌝ }
+    requires { ⌜ (legal sizes ≡ true) × (sizes .n ≤ lanes) × (lanes ≤ 32) × (length (now rows) ≡ length (now fresh) * ((sizes .d + (sizes .d + sizes .r)) * 32)) × (part ≤ 253952) × (s * α sizes + α sizes ≤ part) × Naming sizes (length (now fresh)) c × (below (sizes .n) (now fresh) ≡ true) × (length (now seconds) ≡ length (now fresh) * c) × (length (now gs) ≡ length (now fresh) * lanes) × (length (now got) ≡ sizes .d + sizes .r) × (length (now f) ≡ lanes) × (length (now area) ≡ sizes .n * part) ⌝ }
+    ensures { λ _. ⌜ now (area .exit) ≡ puts (λ a. getD (now (fresh .entry)) a 0 * part + s * α sizes) (stripeBy sizes c lanes (now (rows .entry)) (now (fresh .entry)) (now (seconds .entry)) (now (gs .entry))) (length (now (fresh .entry))) (now (area .entry)) ⌝ }
 {
-    let r = sizes.r;
-    let w = 2 * sizes.d + r - 1;
+    let t = fresh.len();
+    let w = 2 * sizes.d + sizes.r - 1;
     let mut a: usize = 0;
-    while a < r {
+    while a < t {
         let from = fresh[a] * part + s * w;
         let to = from + w;
         repair_finish::finish(
             sizes,
             lanes,
+            c,
             rows,
             fresh,
             seconds,
@@ -53,7 +56,8 @@ fn put_stripes(
     }
 }
 
-// Stripe s of each fresh board, to its place in the area, from the same stripe of its helpers: by the factors ff and gf of the helpers, of which
+// Stripe s of each fresh board, to its place in the area, from the same stripe of the c boards that it names, d helpers and
+// then its stand-ins: by the factors ff and gf of these, of which
 // fl and gl bytes of a row count, and the rows of the fresh boards, of which `lanes` do. firsts, seconds, gs, got and f are for work.
 fn repair_stripe(
     sizes: Sizes,
@@ -66,7 +70,8 @@ fn repair_stripe(
     part: usize,
     s: usize,
     fresh: &[usize],
-    helpers: &[usize],
+    c: usize,
+    named: &[usize],
     firsts: &mut [u8],
     seconds: &mut [u8],
     gs: &mut [u8],
@@ -74,23 +79,11 @@ fn repair_stripe(
     f: &mut [u8],
     area: &mut [u8],
 )
-    requires { ⌜ (legal sizes ≡ true) × (fl ≤ 32) × (gl ≤ 32) × (sizes .n ≤ lanes) × (lanes ≤ 32) × (length (now ff) ≡ sizes .r * sizes .d * 32) × (length (now gf) ≡ sizes .r * sizes .d * 32) × (length (now rows) ≡ sizes .r * ((sizes .d + (sizes .d + sizes .r)) * 32)) × (part ≤ 253952) × (s * α sizes + α sizes ≤ part) × (length (now fresh) ≡ sizes .r) × (below (sizes .n) (now fresh) ≡ true) × (length (now helpers) ≡ sizes .r * sizes .d) × (below (sizes .n) (now helpers) ≡ true) × (length (now firsts) ≡ sizes .r * sizes .d) × (length (now seconds) ≡ sizes .r * sizes .d) × (length (now gs) ≡ sizes .r * lanes) × (length (now got) ≡ sizes .d + sizes .r) × (length (now f) ≡ lanes) × (length (now area) ≡ sizes .n * part) ⌝ }
-    ensures { λ _. ⌜ now (area .exit) ≡ puts (λ a. getD (now (fresh .entry)) a 0 * part + s * α sizes) (rebuiltBy sizes fl gl lanes (now (ff .entry)) (now (gf .entry)) (now (rows .entry)) (λ j. piece (α sizes) s (drop (j * part) (now (area .entry)))) (now (fresh .entry)) (now (helpers .entry))) (sizes .r) (now (area .entry)) ⌝ }
+    requires { ⌜ (legal sizes ≡ true) × (fl ≤ 32) × (gl ≤ 32) × (sizes .n ≤ lanes) × (lanes ≤ 32) × (length (now ff) ≡ length (now fresh) * c * 32) × (length (now gf) ≡ length (now fresh) * c * 32) × (length (now rows) ≡ length (now fresh) * ((sizes .d + (sizes .d + sizes .r)) * 32)) × (part ≤ 253952) × (s * α sizes + α sizes ≤ part) × Naming sizes (length (now fresh)) c × (below (sizes .n) (now fresh) ≡ true) × (length (now named) ≡ length (now fresh) * c) × (below (sizes .n) (now named) ≡ true) × (length (now firsts) ≡ length (now fresh) * c) × (length (now seconds) ≡ length (now fresh) * c) × (length (now gs) ≡ length (now fresh) * lanes) × (length (now got) ≡ sizes .d + sizes .r) × (length (now f) ≡ lanes) × (length (now area) ≡ sizes .n * part) ⌝ }
+    ensures { λ _. ⌜ now (area .exit) ≡ puts (λ a. getD (now (fresh .entry)) a 0 * part + s * α sizes) (rebuiltBy sizes fl gl lanes (now (ff .entry)) (now (gf .entry)) (now (rows .entry)) (λ j. piece (α sizes) s (drop (j * part) (now (area .entry)))) (now (fresh .entry)) c (now (named .entry))) (length (now (fresh .entry))) (now (area .entry)) ⌝ }
 {
-    repair_hear::hear(
-        sizes,
-        fl,
-        gl,
-        ff,
-        gf,
-        area,
-        part,
-        s,
-        helpers,
-        firsts,
-        seconds,
-    );
-    repair_finish::all_g(sizes, lanes, rows, firsts, gs);
+    repair_hear::hear(sizes, fl, gl, ff, gf, area, part, s, named, firsts, seconds);
+    repair_finish::all_g(sizes, lanes, fresh.len(), c, rows, firsts, gs);
     put_stripes(
         sizes,
         lanes,
@@ -98,6 +91,7 @@ fn repair_stripe(
         part,
         s,
         fresh,
+        c,
         seconds,
         gs,
         got,
@@ -118,7 +112,8 @@ fn repair_stripes(
     part: usize,
     stripes: usize,
     fresh: &[usize],
-    helpers: &[usize],
+    c: usize,
+    named: &[usize],
     firsts: &mut [u8],
     seconds: &mut [u8],
     gs: &mut [u8],
@@ -126,8 +121,8 @@ fn repair_stripes(
     f: &mut [u8],
     area: &mut [u8],
 )
-    requires { ⌜ (legal sizes ≡ true) × (fl ≤ 32) × (gl ≤ 32) × (sizes .n ≤ lanes) × (lanes ≤ 32) × (length (now ff) ≡ sizes .r * sizes .d * 32) × (length (now gf) ≡ sizes .r * sizes .d * 32) × (length (now rows) ≡ sizes .r * ((sizes .d + (sizes .d + sizes .r)) * 32)) × (part ≤ 253952) × (stripes * α sizes ≤ part) × (stripes ≤ 4096) × (length (now fresh) ≡ sizes .r) × (below (sizes .n) (now fresh) ≡ true) × (length (now helpers) ≡ sizes .r * sizes .d) × (below (sizes .n) (now helpers) ≡ true) × (different (now fresh) ≡ true) × (apart (now fresh) (now helpers) ≡ true) × (length (now firsts) ≡ sizes .r * sizes .d) × (length (now seconds) ≡ sizes .r * sizes .d) × (length (now gs) ≡ sizes .r * lanes) × (length (now got) ≡ sizes .d + sizes .r) × (length (now f) ≡ lanes) × (length (now area) ≡ sizes .n * part) ⌝ }
-    ensures { λ _. ⌜ now (area .exit) ≡ puts (λ a. getD (now (fresh .entry)) a 0 * part) (λ a. join stripes (λ s. rebuiltBy sizes fl gl lanes (now (ff .entry)) (now (gf .entry)) (now (rows .entry)) (λ j. piece (α sizes) s (drop (j * part) (now (area .entry)))) (now (fresh .entry)) (now (helpers .entry)) a)) (sizes .r) (now (area .entry)) ⌝ }
+    requires { ⌜ (legal sizes ≡ true) × (fl ≤ 32) × (gl ≤ 32) × (sizes .n ≤ lanes) × (lanes ≤ 32) × (length (now ff) ≡ length (now fresh) * c * 32) × (length (now gf) ≡ length (now fresh) * c * 32) × (length (now rows) ≡ length (now fresh) * ((sizes .d + (sizes .d + sizes .r)) * 32)) × (part ≤ 253952) × (stripes * α sizes ≤ part) × (stripes ≤ 4096) × Naming sizes (length (now fresh)) c × (below (sizes .n) (now fresh) ≡ true) × (length (now named) ≡ length (now fresh) * c) × (below (sizes .n) (now named) ≡ true) × (different (now fresh) ≡ true) × (apart (now fresh) (now named) ≡ true) × (length (now firsts) ≡ length (now fresh) * c) × (length (now seconds) ≡ length (now fresh) * c) × (length (now gs) ≡ length (now fresh) * lanes) × (length (now got) ≡ sizes .d + sizes .r) × (length (now f) ≡ lanes) × (length (now area) ≡ sizes .n * part) ⌝ }
+    ensures { λ _. ⌜ now (area .exit) ≡ puts (λ a. getD (now (fresh .entry)) a 0 * part) (λ a. join stripes (λ s. rebuiltBy sizes fl gl lanes (now (ff .entry)) (now (gf .entry)) (now (rows .entry)) (λ j. piece (α sizes) s (drop (j * part) (now (area .entry)))) (now (fresh .entry)) c (now (named .entry)) a)) (length (now (fresh .entry))) (now (area .entry)) ⌝ }
 {
     let mut s: usize = 0;
     while s < stripes {
@@ -142,7 +137,8 @@ fn repair_stripes(
             part,
             s,
             fresh,
-            helpers,
+            c,
+            named,
             firsts,
             seconds,
             gs,
@@ -166,14 +162,15 @@ fn repair_work(
     part: usize,
     stripes: usize,
     fresh: &[usize],
-    helpers: &[usize],
+    c: usize,
+    named: &[usize],
     area: &mut [u8],
 )
-    requires { ⌜ (legal sizes ≡ true) × (fl ≤ 32) × (gl ≤ 32) × (sizes .n ≤ lanes) × (lanes ≤ 32) × (length (now ff) ≡ sizes .r * sizes .d * 32) × (length (now gf) ≡ sizes .r * sizes .d * 32) × (length (now rows) ≡ sizes .r * ((sizes .d + (sizes .d + sizes .r)) * 32)) × (part ≤ 253952) × (stripes * α sizes ≤ part) × (stripes ≤ 4096) × (length (now fresh) ≡ sizes .r) × (below (sizes .n) (now fresh) ≡ true) × (length (now helpers) ≡ sizes .r * sizes .d) × (below (sizes .n) (now helpers) ≡ true) × (different (now fresh) ≡ true) × (apart (now fresh) (now helpers) ≡ true) × (length (now area) ≡ sizes .n * part) ⌝ }
-    ensures { λ _. ⌜ now (area .exit) ≡ puts (λ a. getD (now (fresh .entry)) a 0 * part) (λ a. join stripes (λ s. rebuiltBy sizes fl gl lanes (now (ff .entry)) (now (gf .entry)) (now (rows .entry)) (λ j. piece (α sizes) s (drop (j * part) (now (area .entry)))) (now (fresh .entry)) (now (helpers .entry)) a)) (sizes .r) (now (area .entry)) ⌝ }
+    requires { ⌜ (legal sizes ≡ true) × (fl ≤ 32) × (gl ≤ 32) × (sizes .n ≤ lanes) × (lanes ≤ 32) × (length (now ff) ≡ length (now fresh) * c * 32) × (length (now gf) ≡ length (now fresh) * c * 32) × (length (now rows) ≡ length (now fresh) * ((sizes .d + (sizes .d + sizes .r)) * 32)) × (part ≤ 253952) × (stripes * α sizes ≤ part) × (stripes ≤ 4096) × Naming sizes (length (now fresh)) c × (below (sizes .n) (now fresh) ≡ true) × (length (now named) ≡ length (now fresh) * c) × (below (sizes .n) (now named) ≡ true) × (different (now fresh) ≡ true) × (apart (now fresh) (now named) ≡ true) × (length (now area) ≡ sizes .n * part) ⌝ }
+    ensures { λ _. ⌜ now (area .exit) ≡ puts (λ a. getD (now (fresh .entry)) a 0 * part) (λ a. join stripes (λ s. rebuiltBy sizes fl gl lanes (now (ff .entry)) (now (gf .entry)) (now (rows .entry)) (λ j. piece (α sizes) s (drop (j * part) (now (area .entry)))) (now (fresh .entry)) c (now (named .entry)) a)) (length (now (fresh .entry))) (now (area .entry)) ⌝ }
 {
-    let m = sizes.r * sizes.d;
-    let e = sizes.r * lanes;
+    let m = named.len();
+    let e = fresh.len() * lanes;
     let w = sizes.d + sizes.r;
     let mut firsts = [0u8; 256];
     let mut seconds = [0u8; 256];
@@ -191,7 +188,8 @@ fn repair_work(
         part,
         stripes,
         fresh,
-        helpers,
+        c,
+        named,
         &mut firsts[0..m],
         &mut seconds[0..m],
         &mut gs[0..e],
@@ -201,7 +199,7 @@ fn repair_work(
     );
 }
 
-// All stripes of the fresh boards, each to its place in the area, from the same stripe of its helpers. ff, gf and rows are for work.
+// All stripes of the fresh boards, each to its place in the area, from the same stripe of the c boards that it names. ff, gf and rows are for work.
 fn repair_in(
     sizes: Sizes,
     points: &[u8],
@@ -209,14 +207,15 @@ fn repair_in(
     part: usize,
     stripes: usize,
     fresh: &[usize],
-    helpers: &[usize],
+    c: usize,
+    named: &[usize],
     ff: &mut [u8],
     gf: &mut [u8],
     rows: &mut [u8],
     area: &mut [u8],
 )
-    requires { ⌜ (legal sizes ≡ true) × (length (now points) ≡ 32) × DifferentPoints sizes (now points) × (now inverses ≡ tabulate 256 inverse) × (part ≤ 253952) × (stripes * α sizes ≤ part) × (stripes ≤ 4096) × (length (now fresh) ≡ sizes .r) × (below (sizes .n) (now fresh) ≡ true) × (length (now helpers) ≡ sizes .r * sizes .d) × (below (sizes .n) (now helpers) ≡ true) × (different (now fresh) ≡ true) × (apart (now fresh) (now helpers) ≡ true) × DifferentRuns sizes (now helpers) × (length (now ff) ≡ sizes .r * sizes .d * 32) × (length (now gf) ≡ sizes .r * sizes .d * 32) × (length (now rows) ≡ sizes .r * ((sizes .d + (sizes .d + sizes .r)) * 32)) × (length (now area) ≡ sizes .n * part) ⌝ }
-    ensures { λ _. ⌜ now (area .exit) ≡ puts (λ a. getD (now (fresh .entry)) a 0 * part) (λ a. join stripes (λ s. rebuilt sizes (now (points .entry)) (λ j. piece (α sizes) s (drop (j * part) (now (area .entry)))) (now (fresh .entry)) (now (helpers .entry)) a)) (sizes .r) (now (area .entry)) ⌝ }
+    requires { ⌜ (legal sizes ≡ true) × (length (now points) ≡ 32) × DifferentPoints sizes (now points) × (now inverses ≡ tabulate 256 inverse) × (part ≤ 253952) × (stripes * α sizes ≤ part) × (stripes ≤ 4096) × Naming sizes (length (now fresh)) c × (below (sizes .n) (now fresh) ≡ true) × (length (now named) ≡ length (now fresh) * c) × (below (sizes .n) (now named) ≡ true) × (different (now fresh) ≡ true) × (apart (now fresh) (now named) ≡ true) × DifferentRuns c (now fresh) (now named) × (length (now ff) ≡ length (now fresh) * c * 32) × (length (now gf) ≡ length (now fresh) * c * 32) × (length (now rows) ≡ length (now fresh) * ((sizes .d + (sizes .d + sizes .r)) * 32)) × (length (now area) ≡ sizes .n * part) ⌝ }
+    ensures { λ _. ⌜ now (area .exit) ≡ puts (λ a. getD (now (fresh .entry)) a 0 * part) (λ a. join stripes (λ s. rebuilt sizes (now (points .entry)) (λ j. piece (α sizes) s (drop (j * part) (now (area .entry)))) (now (fresh .entry)) c (now (named .entry)) a)) (length (now (fresh .entry))) (now (area .entry)) ⌝ }
 {
     let n = sizes.n;
     let d = sizes.d;
@@ -224,9 +223,9 @@ fn repair_in(
     let fl = row_values::whole_vectors(w);
     let gl = row_values::whole_vectors(d);
     let lanes = row_values::whole_vectors(n);
-    repair_factors::all_pair_rows(n, d, w, points, fresh, helpers, inverses, ff);
-    repair_factors::all_pair_rows(n, d, d, points, fresh, helpers, inverses, gf);
-    repair_rows::all_rows(sizes, points, inverses, fresh, helpers, rows);
+    repair_factors::all_pair_rows(n, c, w, points, fresh, named, inverses, ff);
+    repair_factors::all_pair_rows(n, c, d, points, fresh, named, inverses, gf);
+    repair_rows::all_rows(sizes, points, inverses, fresh, c, named, rows);
     repair_work(
         sizes,
         fl,
@@ -238,12 +237,13 @@ fn repair_in(
         part,
         stripes,
         fresh,
-        helpers,
+        c,
+        named,
         area,
     );
 }
 
-// All stripes of the fresh boards, each to its place in the area, from the same stripe of its helpers.
+// All stripes of the fresh boards, each to its place in the area, from the same stripe of the c boards that it names.
 pub fn repair_shares(
     sizes: Sizes,
     capacity: usize,
@@ -251,15 +251,16 @@ pub fn repair_shares(
     inverses: &[u8],
     stripes: usize,
     fresh: &[usize],
-    helpers: &[usize],
+    c: usize,
+    named: &[usize],
     area: &mut [u8],
 )
-    requires { ⌜ (legal sizes ≡ true) × (length (now points) ≡ 32) × DifferentPoints sizes (now points) × (now inverses ≡ tabulate 256 inverse) × (length (now fresh) ≡ sizes .r) × (below (sizes .n) (now fresh) ≡ true) × (length (now helpers) ≡ sizes .r * sizes .d) × (below (sizes .n) (now helpers) ≡ true) × (different (now fresh) ≡ true) × (apart (now fresh) (now helpers) ≡ true) × DifferentRuns sizes (now helpers) × (capacity ≤ 4096) × (stripes ≤ capacity) × (length (now area) ≡ sizes .n * (capacity * α sizes)) ⌝ }
-    ensures { λ _. ⌜ now (area .exit) ≡ puts (λ a. getD (now (fresh .entry)) a 0 * (capacity * α sizes)) (λ a. join stripes (λ s. rebuilt sizes (now (points .entry)) (λ j. piece (α sizes) s (drop (j * (capacity * α sizes)) (now (area .entry)))) (now (fresh .entry)) (now (helpers .entry)) a)) (sizes .r) (now (area .entry)) ⌝ }
+    requires { ⌜ (legal sizes ≡ true) × (length (now points) ≡ 32) × DifferentPoints sizes (now points) × (now inverses ≡ tabulate 256 inverse) × Naming sizes (length (now fresh)) c × (below (sizes .n) (now fresh) ≡ true) × (length (now named) ≡ length (now fresh) * c) × (below (sizes .n) (now named) ≡ true) × (different (now fresh) ≡ true) × (apart (now fresh) (now named) ≡ true) × DifferentRuns c (now fresh) (now named) × (capacity ≤ 4096) × (stripes ≤ capacity) × (length (now area) ≡ sizes .n * (capacity * α sizes)) ⌝ }
+    ensures { λ _. ⌜ now (area .exit) ≡ puts (λ a. getD (now (fresh .entry)) a 0 * (capacity * α sizes)) (λ a. join stripes (λ s. rebuilt sizes (now (points .entry)) (λ j. piece (α sizes) s (drop (j * (capacity * α sizes)) (now (area .entry)))) (now (fresh .entry)) c (now (named .entry)) a)) (length (now (fresh .entry))) (now (area .entry)) ⌝ }
 {
     let part = capacity * (2 * sizes.d + sizes.r - 1);
-    let m = sizes.r * sizes.d * 32;
-    let e = sizes.r * ((sizes.d + (sizes.d + sizes.r)) * 32);
+    let m = named.len() * 32;
+    let e = fresh.len() * ((sizes.d + (sizes.d + sizes.r)) * 32);
     let mut ff = [0u8; 8192];
     let mut gf = [0u8; 8192];
     let mut rows = [0u8; 32768];
@@ -270,7 +271,8 @@ pub fn repair_shares(
         part,
         stripes,
         fresh,
-        helpers,
+        c,
+        named,
         &mut ff[0..m],
         &mut gf[0..m],
         &mut rows[0..e],

@@ -1,45 +1,47 @@
 -- Demand 1 of the store holds.
 -- Assumes nothing.
-use Prim.Native.Nat.{ℕ, suc, _+_, _*_, _≤_, _<_}
+use Prim.Native.Nat.{ℕ, suc, _+_, _-_, _*_, _≤_, _<_}
 use mathlib.Core.Path.{_≡_, refl, sym, _∙_, ap, subst}
 use mathlib.Core.Bool.{Bool, true, false, not}
 use mathlib.Core.Logic.{_↔_}
 use mathlib.Core.List.{List, [], _∷_, _++_}
 use native.Mathlib.Omega.{arith}
 use lib.ListN.{length, drop, take, getD, replicate}
-use lib.Dec.{eqb}
-use borrow.Author.Tests.{lt-ltb}
+use lib.Dec.{leb, eqb}
+use borrow.Author.Tests.{leb-true, le-leb, lt-ltb, eqb-true, eq-eqb, not-true}
 use Rattle.lists.specs.Lists.{piece, All, tabulate}
-use Rattle.lists.specs.Tests.{among, alls, different, apart, every}
+use Rattle.lists.specs.Tests.{pick, among, alls, different, apart, every}
 use Rattle.lists.proofs.Alls.{all-left, all-imp}
-use Rattle.lists.proofs.Boards.{below-all}
+use Rattle.lists.proofs.Boards.{below-all, all-among, among-head, among-tail}
 use Rattle.lists.proofs.Pieces.{piece-join}
+use Rattle.lists.proofs.Tests.{true-false, is-false, alls-hold, hold-alls, every-all}
 use Rattle.sizes.specs.Refusals.{Line, first, storeOrder, appliesIn}
 use Rattle.sizes.specs.Sizing.{legal, maxStripes, maxBoards, B, α, stripes}
 use Rattle.sizes.specs.declared.Check.{Check}
 use Rattle.sizes.specs.declared.Check.the-variants.{Pass}
-use Rattle.sizes.specs.declared.Refusal.the-variants.{Area, Long, Empty, Count, Node, Repeat, Down, Short}
+use Rattle.sizes.specs.declared.Refusal.the-variants.{Area, Long, Empty, Count, Node, Repeat, Serving, Down, Short}
 use Rattle.sizes.specs.declared.Sizes.{Sizes}
 use Rattle.sizes.proofs.Legal.{legal-facts}
-use Rattle.sizes.proofs.Lines.{one-or-none, refuse-first, clear-first, says-not, says-differ, says-less, says-two, says-no-file}
+use Rattle.sizes.proofs.Lines.{one-or-none, refuse-first, clear-first, says-not, says-differ, says-less, says-no-file}
 use Rattle.mbcr.specs.Share.{pointed, share, stripe, kept}
 use Rattle.mbcr.proofs.Repair.{length-kept}
 use Rattle.store_spec.specs.Calls.{StoreOutcome, settle, accepted, refused, recordLine, setUpCall, writeLines, writeDone, writeCall, loseLines, loseDone, loseCall}
-use Rattle.store_spec.specs.Calls.{repairLines, repairDone, repairCall, readLines, readDone, readCall}
+use Rattle.store_spec.specs.Calls.{listLines, repairLines, repairDone, repairCall, readLines, readDone, readCall}
 use Rattle.board_spec.specs.Claims.{LinesSay}
-use Rattle.board_spec.proofs.Claims.{lines-say}
-use Rattle.store_spec.specs.Demand1.{StoreEnds, Stays, storeLines, StoreCalls, writeClaims, loseClaims, repairClaims, readClaims}
+use Rattle.board_spec.proofs.Claims.{EachSays, lines-say}
+use Rattle.store_spec.specs.Demand1.{StoreEnds, Stays, storeLines, StoreCalls, writeClaims, loseClaims, listClaims, repairClaims, readClaims}
 use Rattle.store_spec.specs.Ledger.{Book, bookRecord, Call, write, lose, repair, read, bookLines}
-use Rattle.store_spec.specs.Packets.{freshShare, hearHelpers}
+use Rattle.store_spec.specs.Packets.{freshShare, hearNamed, standInsEach}
 use Rattle.store_spec.specs.Record.{Record, newRecord, allOff, sound, inService, stripeCount, held, writtenRecord, usedLen, partLen, areaLen}
 use Rattle.store_spec.proofs.Area.{held-stripe, length-shares, byte-stays, shares-same}
 use Rattle.store_spec.proofs.Demand3.{set-up-sound, set-up-taken, passes}
 use Rattle.store_spec.proofs.Exact.{read-exact}
 use Rattle.store_spec.proofs.Marks.{off-from, off-none, on-below, off-above, first-below, among-first, mark-at}
+use Rattle.store_spec.proofs.Packets.{runs-different}
 use Rattle.store_spec.proofs.Real.{code-lengths}
 use Rattle.store_spec.proofs.Records.{facts-sound, sound-facts, blank-length, blank-off, blank-if, Writes, write-facts, Sound, used-least, repair-facts, used-fits}
 use Rattle.store_spec.proofs.Repair.{fresh-length}
-use Rattle.store_spec.proofs.Step.{settle-pass, one-below, both-below, runs-different, every-same}
+use Rattle.store_spec.proofs.Step.{settle-pass, one-below, three-below, repeat-same, serving-same, down-same, every-same}
 
 -- ---- every call ends
 
@@ -66,10 +68,11 @@ lose-ends : (s : Record) (area : List ℕ) (board : ℕ) → StoreEnds (loseLine
 unfolding loseCall
 lose-ends s area board = ends _ s area [] _ refl
 
-repair-ends : (s : Record) (area fresh helpers : List ℕ)
-    → StoreEnds (repairLines s (length area) fresh helpers) s area [] (repairDone s area fresh helpers) (repairCall s area fresh helpers)
+repair-ends : (s : Record) (area fresh helpers standIns : List ℕ)
+    → StoreEnds (repairLines s (length area) fresh helpers standIns) s area [] (repairDone s area fresh helpers standIns)
+    (repairCall s area fresh helpers standIns)
 unfolding repairCall
-repair-ends s area fresh helpers = ends _ s area [] _ refl
+repair-ends s area fresh helpers standIns = ends _ s area [] _ refl
 
 read-ends : (s : Record) (area boards output : List ℕ)
     → StoreEnds (readLines s area boards output) s area output (readDone s area boards output) (readCall s area boards output)
@@ -172,22 +175,24 @@ module _ (s : Record) (area file : List ℕ) (h : writeCall s area file .answer 
       ∙ piece-join (stripes (s .sizes) (length file)) (α (s .sizes)) (λ s₂. kept (s .sizes) (s .points) (stripe (s .sizes) file s₂) i)
       (λ s₂ l. length-kept (s .sizes) (s .points) (legal-facts (s .sizes) (g .is-legal)) (stripe (s .sizes) file s₂) i) t ht
 
-repair-stays : (s : Record) (area fresh helpers : List ℕ) → repairCall s area fresh helpers .answer .refusal ≡ 0
-    → Stays s fresh area (repairCall s area fresh helpers .area)
+repair-stays : (s : Record) (area fresh helpers standIns : List ℕ) → repairCall s area fresh helpers standIns .answer .refusal ≡ 0
+    → Stays s fresh area (repairCall s area fresh helpers standIns .area)
 unfolding repairCall
-repair-stays s area fresh helpers h =
-    let p = passes (first storeOrder (repairLines s (length area) fresh helpers)) s area [] (repairDone s area fresh helpers) h in
-    let f = repair-facts s (length area) fresh helpers p in
+repair-stays s area fresh helpers standIns h =
+    let p = passes (first storeOrder (repairLines s (length area) fresh helpers standIns)) s area [] (repairDone s area fresh helpers standIns) h in
+    let f = repair-facts s (length area) fresh helpers standIns p in
     let g = sound-facts s (f .is-sound) in
     let l = code-lengths (s .points) (s .sizes) (g .is-legal) in
-    let long = fresh-length s area fresh helpers (length area) l (legal-facts (s .sizes) (g .is-legal) .some-fresh) f in
-    let low = all-left (λ x. x < s .sizes .n) fresh helpers (below-all (s .sizes .n) (fresh ++ helpers) (f .named-below)) in
-    let e : settle (first storeOrder (repairLines s (length area) fresh helpers)) (refused s area []) (repairDone s area fresh helpers) ≡ repairDone s area fresh helpers =
-    settle-pass _ _ _ p in
+    let long = fresh-length s area fresh helpers standIns (length area) l f in
+    let low = all-left (λ x. x < s .sizes .n) fresh (helpers ++ standIns) (below-all (s .sizes .n) (fresh ++ (helpers ++ standIns)) (f .named-below)) in
+    let e : settle (first storeOrder (repairLines s (length area) fresh helpers standIns)) (refused s area []) (repairDone s area fresh helpers standIns)
+    ≡ repairDone s area fresh helpers standIns = settle-pass _ _ _ p in
     let q = ap (λ (o : StoreOutcome). o .area) e in
     record {
-      as-long = ap length q ∙ length-shares s (freshShare s area fresh helpers) (usedLen s) long (used-fits s g) fresh area (f .area-is) low;
-      same-byte = λ p out. ap (λ (a : List ℕ). getD a p 0) q ∙ byte-stays s (freshShare s area fresh helpers) (usedLen s) long (used-fits s g) fresh area (f .area-is) low p out;
+      as-long = ap length q ∙ length-shares s (freshShare s area fresh helpers standIns) (usedLen s) long (used-fits s g) fresh area (f .area-is) low;
+      same-byte = λ p out.
+          ap (λ (a : List ℕ). getD a p 0) q
+          ∙ byte-stays s (freshShare s area fresh helpers standIns) (usedLen s) long (used-fits s g) fresh area (f .area-is) low p out;
     }
 
 -- ---- the ledger's lines
@@ -202,11 +207,11 @@ module _ (b : Book) (area : List ℕ) (ok : legal (b .sizes) ≡ true) (low : Al
   area-same = ap (λ (m : ℕ). not (eqb m (areaLen (bookRecord b)))) as-long
 
   lines-agree : (call : Call) → All (λ x. appliesIn (storeLines (bookRecord b) area call) x ≡ appliesIn (bookLines b call) x)
-      (Area ∷ Long ∷ Empty ∷ Count ∷ Node ∷ Repeat ∷ Down ∷ Short ∷ [])
-  unfolding storeLines writeLines loseLines repairLines readLines bookLines
-  lines-agree (write file) = (area-same, (refl, (refl, (refl, (refl, (refl, (refl, (refl, tt))))))))
-  lines-agree (lose board) = (refl, (refl, (refl, (refl, (ap not (one-below (b .sizes .n) board), (refl, (refl, (refl, tt))))))))
-  lines-agree (repair fresh helpers) = (
+      (Area ∷ Long ∷ Empty ∷ Count ∷ Node ∷ Repeat ∷ Serving ∷ Down ∷ Short ∷ [])
+  unfolding storeLines writeLines loseLines listLines repairLines readLines bookLines
+  lines-agree (write file) = (area-same, (refl, (refl, (refl, (refl, (refl, (refl, (refl, (refl, tt)))))))))
+  lines-agree (lose board) = (refl, (refl, (refl, (refl, (ap not (one-below (b .sizes .n) board), (refl, (refl, (refl, (refl, tt)))))))))
+  lines-agree (repair fresh helpers standIns) = (
     area-same,
     (
       refl,
@@ -215,10 +220,13 @@ module _ (b : Book) (area : List ℕ) (ok : legal (b .sizes) ≡ true) (low : Al
         (
           refl,
           (
-            ap not (both-below (b .sizes .n) fresh helpers),
+            ap not (three-below (b .sizes .n) fresh helpers standIns),
             (
-              ap (λ (t : Bool). not (alls (different fresh ∷ t ∷ apart fresh helpers ∷ []))) (runs-different (b .sizes .d) fresh helpers),
-              (ap not (every-same (inService (bookRecord b)) (among (b .service)) helpers up), (refl, tt)),
+              ap not (repeat-same (b .sizes .d) (b .sizes .r - length fresh) fresh helpers standIns helpers standIns),
+              (
+                ap not (serving-same (bookRecord b) (b .service) up fresh),
+                (ap not (down-same (bookRecord b) (b .service) up helpers standIns), (refl, tt)),
+              ),
             ),
           ),
         ),
@@ -226,7 +234,7 @@ module _ (b : Book) (area : List ℕ) (ok : legal (b .sizes) ≡ true) (low : Al
     ),
   )
   lines-agree (read boards output) =
-      (area-same, (refl, (refl, (refl, (refl, (refl, (ap not (every-same (inService (bookRecord b)) (among (b .service)) boards up), (refl, tt))))))))
+      (area-same, (refl, (refl, (refl, (refl, (refl, (refl, (ap not (every-same (inService (bookRecord b)) (among (b .service)) boards up), (refl, tt)))))))))
 
 -- ---- what the lines say
 
@@ -239,41 +247,72 @@ lose-lines : (s : Record) (board : ℕ) → LinesSay (loseLines s board) (loseCl
 unfolding loseLines
 lose-lines s board = lines-say (loseLines s board) (loseClaims s board) (refl, says-not _, (refl, says-not _, tt))
 
--- REPEAT by the runs of helpers, as the ledger has them
-repeat-says : (s : Record) (fresh helpers : List ℕ)
-    → (not (alls (different fresh ∷ every (λ h. different (h .senders)) (hearHelpers (s .sizes .d) fresh helpers) ∷ apart fresh helpers ∷ [])) ≡ true)
-    ↔ (alls (different fresh ∷ every different (tabulate (length fresh) (λ a. piece (s .sizes .d) a helpers)) ∷ apart fresh helpers ∷ []) ≡ false)
-repeat-says s fresh helpers =
+-- COUNT by four tests
+says-counts : (t r h d m e : ℕ)
+    → (not (alls (leb 1 t ∷ leb t r ∷ eqb h (t * d) ∷ eqb m (t * e) ∷ [])) ≡ true) ↔ ((1 ≤ t) × (t ≤ r) × (h ≡ t * d) × (m ≡ t * e) → ⊥)
+says-counts t r h d m e = (
+  (λ q p. true-false (hold-alls tests (le-leb 1 t (p .0), (le-leb t r (p .1), (eq-eqb h (t * d) (p .2), (eq-eqb m (t * e) (p .3), tt))))) (says-not (alls tests) .0 q)),
+  (λ no. says-not (alls tests) .1 (is-false (alls tests) (λ q.
+      let p = alls-hold tests q in
+      no (leb-true 1 t (p .0), leb-true t r (p .1 .0), eqb-true h (t * d) (p .1 .1 .0), eqb-true m (t * e) (p .1 .1 .1 .0))))),
+)
+  where
+    tests : List Bool
+    tests = leb 1 t ∷ leb t r ∷ eqb h (t * d) ∷ eqb m (t * e) ∷ []
+
+-- SERVING by some fresh board that is in service
+says-some : (p : ℕ → Bool) (l : List ℕ) → (not (every (λ i. not (p i)) l) ≡ true) ↔ ((i : ℕ) × (among l i ≡ true) × (p i ≡ true))
+says-some p l = (
+  found l,
+  (λ q. says-not (every (λ i. not (p i)) l) .1 (is-false (every (λ i. not (p i)) l)
+      (λ e. true-false (q .2) (not-true (p (q .0)) (all-among (λ i. not (p i) ≡ true) l (q .0) (every-all (λ i. not (p i)) l e) (q .1)))))),
+)
+  where
+    found : (l : List ℕ) → not (every (λ i. not (p i)) l) ≡ true → (i : ℕ) × (among l i ≡ true) × (p i ≡ true)
+    found [] e = absurd (true-false e refl)
+    found (x ∷ l) e = go (p x) refl e (found l)
+      where
+        go : (t : Bool) → p x ≡ t → not (pick (not t) (every (λ i. not (p i)) l) false) ≡ true
+            → (not (every (λ i. not (p i)) l) ≡ true → (i : ℕ) × (among l i ≡ true) × (p i ≡ true)) → (i : ℕ) × (among (x ∷ l) i ≡ true) × (p i ≡ true)
+        go true q k ih = (x, among-head x l, q)
+        go false q k ih = let r = ih k in (r .0, among-tail x (r .0) l (r .1), r .2)
+
+-- REPEAT by the runs of helpers and of stand-ins, as the ledger has them
+repeat-says : (d e : ℕ) (fresh hs ss named : List ℕ)
+    → (not (alls (different fresh ∷ every (λ h. different (h .senders)) (hearNamed d e fresh hs ss) ∷ apart fresh named ∷ [])) ≡ true)
+    ↔ (alls (different fresh ∷ every different (tabulate (length fresh) (λ a. piece d a hs ++ piece e a ss)) ∷ apart fresh named ∷ []) ≡ false)
+repeat-says d e fresh hs ss named =
     subst
     (λ (t : Bool).
-    (not (alls (different fresh ∷ every (λ h. different (h .senders)) (hearHelpers (s .sizes .d) fresh helpers) ∷ apart fresh helpers ∷ [])) ≡ true)
-    ↔ (alls (different fresh ∷ t ∷ apart fresh helpers ∷ []) ≡ false))
-    (runs-different (s .sizes .d) fresh helpers) (says-not _)
+    (not (alls (different fresh ∷ every (λ h. different (h .senders)) (hearNamed d e fresh hs ss) ∷ apart fresh named ∷ [])) ≡ true)
+    ↔ (alls (different fresh ∷ t ∷ apart fresh named ∷ []) ≡ false))
+    (runs-different d e fresh hs ss) (says-not _)
 
-repair-lines : (s : Record) (m : ℕ) (fresh helpers : List ℕ) → LinesSay (repairLines s m fresh helpers) (repairClaims s m fresh helpers)
-unfolding repairLines
-repair-lines s m fresh helpers =
-    lines-say (repairLines s m fresh helpers) (repairClaims s m fresh helpers) (
+list-each : (s : Record) (fresh helpers standIns : List ℕ) → EachSays (listLines s fresh helpers standIns) (listClaims s fresh helpers standIns)
+unfolding listLines
+list-each s fresh helpers standIns = (
+  refl,
+  says-counts (length fresh) (s .sizes .r) (length helpers) (s .sizes .d) (length standIns) (standInsEach s fresh),
+  (
+    refl,
+    says-not _,
+    (
       refl,
-      says-not _,
-      (
-        refl,
-        says-differ _ _,
-        (
-          refl,
-          says-not _,
-          (
-            refl,
-            says-two _ _ _ _,
-            (
-              refl,
-              says-not _,
-              (refl, repeat-says s fresh helpers, (refl, says-not _, tt)),
-            ),
-          ),
-        ),
-      ),
-    )
+      repeat-says (s .sizes .d) (standInsEach s fresh) fresh helpers standIns (helpers ++ standIns),
+      (refl, says-some (inService s) fresh, (refl, says-not _, tt)),
+    ),
+  ),
+)
+
+list-lines : (s : Record) (fresh helpers standIns : List ℕ) → LinesSay (listLines s fresh helpers standIns) (listClaims s fresh helpers standIns)
+list-lines s fresh helpers standIns = lines-say (listLines s fresh helpers standIns) (listClaims s fresh helpers standIns) (list-each s fresh helpers standIns)
+
+repair-lines : (s : Record) (m : ℕ) (fresh helpers standIns : List ℕ)
+    → LinesSay (repairLines s m fresh helpers standIns) (repairClaims s m fresh helpers standIns)
+unfolding repairLines
+repair-lines s m fresh helpers standIns =
+    lines-say (repairLines s m fresh helpers standIns) (repairClaims s m fresh helpers standIns)
+    (refl, says-not _, (refl, says-differ _ _, (refl, says-not _, list-each s fresh helpers standIns)))
 
 read-lines : (s : Record) (area boards output : List ℕ)
     → LinesSay (readLines s area boards output) (readClaims s area boards output)
@@ -309,6 +348,7 @@ pub demand-1 : StoreCalls
 demand-1 = record {
   write-lines = write-lines;
   lose-lines = lose-lines;
+  list-lines = list-lines;
   repair-lines = repair-lines;
   read-lines = read-lines;
   set-up-ends = set-up-ends;

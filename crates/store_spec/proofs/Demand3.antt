@@ -20,7 +20,6 @@ use Rattle.sizes.specs.declared.Check.{Check}
 use Rattle.sizes.specs.declared.Check.the-variants.{Pass, Refuse}
 use Rattle.sizes.specs.declared.Sizes.{Sizes}
 use Rattle.sizes.proofs.Laws.{number-low}
-use Rattle.sizes.proofs.Legal.{legal-facts}
 use Rattle.sizes.proofs.Lines.{first-clear, clear-first}
 use Rattle.mbcr.specs.Share.{share, standard, pointed}
 use Rattle.mbcr.specs.PointLaws.{firstSeries}
@@ -30,14 +29,14 @@ use Rattle.store_spec.specs.Calls.{recordLine, StoreOutcome, settle, acc
 use Rattle.store_spec.specs.Demand3.{Repaired, calls, Intact, begun, Demand3Claim, Demand3At, Demand3Standard, Demand3FirstSeries}
 use Rattle.store_spec.specs.Ledger.{State, Book, Step, replies, bookReplies, final, bookFinal, Call, Fair, act, bookRecord, enter, Altered, stepOutcome, bookLength}
 use Rattle.store_spec.specs.Ledger.{Allowed, left, openBook, write, lose, repair, read}
-use Rattle.store_spec.specs.Packets.{helperPackets, exchangePackets, hearHelpers, hearPartners, freshShare, repairPackets}
+use Rattle.store_spec.specs.Packets.{helperPackets, standInPackets, exchangePackets, hearHelpers, hearPartners, standInsEach, partnerPackets, freshShare, repairPackets}
 use Rattle.store_spec.specs.Record.{Record, allOff, held, usedLen, sound, newRecord}
 use Rattle.store_spec.proofs.Area.{shares-same}
 use Rattle.store_spec.proofs.Marks.{off-from, off-none}
 use Rattle.store_spec.proofs.Packets.{heard-run, contents-to}
 use Rattle.store_spec.proofs.Real.{code-laws, code-lengths}
 use Rattle.store_spec.proofs.Records.{Repairs, repair-facts, sound-facts, facts-sound, used-fits}
-use Rattle.store_spec.proofs.Repair.{partnersOf, moved-is, partners-are, gets, fresh-length}
+use Rattle.store_spec.proofs.Repair.{partnersOf, moved-is, partners-are, share-parts, gets, fresh-length}
 use Rattle.store_spec.proofs.Seam.{AllLaws, Lengths}
 use Rattle.store_spec.proofs.Step.{settle-pass, Inv, Good, write-good, lose-good, altered}
 use Rattle.store_spec.proofs.StepRead.{read-good, read-gives}
@@ -50,39 +49,40 @@ passes (Refuse x) s area output done e = absurd (omega (arith, number-low x))
 
 -- ---- a repair over any record and any area
 
-module _ (s : Record) (area fresh helpers : List ℕ) (pass : first storeOrder (repairLines s (length area) fresh helpers) ≡ Pass) where
-  facts : Repairs s (length area) fresh helpers
-  facts = repair-facts s (length area) fresh helpers pass
+module _ (s : Record) (area fresh helpers standIns : List ℕ) (pass : first storeOrder (repairLines s (length area) fresh helpers standIns) ≡ Pass) where
+  facts : Repairs s (length area) fresh helpers standIns
+  facts = repair-facts s (length area) fresh helpers standIns pass
 
-  is-done : repairCall s area fresh helpers ≡ repairDone s area fresh helpers
+  is-done : repairCall s area fresh helpers standIns ≡ repairDone s area fresh helpers standIns
   unfolding repairCall
   is-done = settle-pass _ _ _ pass
 
-  repaired : Lengths (s .points) (s .sizes) → Repaired s area fresh helpers
-  unfolding helperPackets exchangePackets repairPackets freshShare partnersOf
+  repaired : Lengths (s .points) (s .sizes) → Repaired s area fresh helpers standIns
+  unfolding helperPackets standInPackets exchangePackets partnerPackets repairPackets partnersOf
   repaired l =
       let g = sound-facts s (facts .is-sound) in
-      let r = legal-facts (s .sizes) (g .is-legal) .some-fresh in
       record {
         moved = ap (λ (o : StoreOutcome). o .answer) is-done;
-        moved-is = moved-is s area fresh helpers (length area) l r facts;
+        moved-is = moved-is s area fresh helpers standIns (length area) l facts;
         packets-are = refl;
-        shares-are = λ i. refl;
+        shares-are = share-parts s area fresh helpers standIns (length area) l facts;
         helpers-are = heard-run _ (s .sizes .d) fresh helpers (facts .fresh-different);
-        partners-are = partners-are s area fresh helpers (length area) l r facts;
+        stand-ins-are = heard-run _ (standInsEach s fresh) fresh standIns (facts .fresh-different);
+        partners-are = partners-are s area fresh helpers standIns (length area) l facts;
         helpers-send = λ i e. contents-to _ i (hearHelpers (s .sizes .d) fresh helpers);
-        partners-send = λ i e. contents-to _ i (hearPartners fresh) ∙ ap (joined _) (partners-are s area fresh helpers (length area) l r facts i e);
-        gets = gets s area fresh helpers (length area) l r facts;
+        stand-ins-send = λ i e. contents-to _ i (hearHelpers (standInsEach s fresh) fresh standIns);
+        partners-send = λ i e. contents-to _ i (hearPartners fresh) ∙ ap (joined _) (partners-are s area fresh helpers standIns (length area) l facts i e);
+        gets = gets s area fresh helpers standIns (length area) l facts;
         has = λ i e. ap (λ (o : StoreOutcome). held s (o .area) i) is-done
-            ∙ shares-same s (freshShare s area fresh helpers) (usedLen s) (fresh-length s area fresh helpers (length area) l r facts) (used-fits s g) fresh area (facts .area-is)
-            (all-left (λ x. x < s .sizes .n) fresh helpers (below-all (s .sizes .n) (fresh ++ helpers) (facts .named-below))) i e;
+            ∙ shares-same s (freshShare s area fresh helpers standIns) (usedLen s) (fresh-length s area fresh helpers standIns (length area) l facts) (used-fits s g) fresh area
+            (facts .area-is) (all-left (λ x. x < s .sizes .n) fresh (helpers ++ standIns) (below-all (s .sizes .n) (fresh ++ (helpers ++ standIns)) (facts .named-below))) i e;
       }
 
-pub accepted-repair : (s : Record) (area fresh helpers : List ℕ) → repairCall s area fresh helpers .answer .refusal ≡ 0 → Repaired s area fresh helpers
+pub accepted-repair : (s : Record) (area fresh helpers standIns : List ℕ) → repairCall s area fresh helpers standIns .answer .refusal ≡ 0 → Repaired s area fresh helpers standIns
 unfolding repairCall
-accepted-repair s area fresh helpers h =
-    let p = passes (first storeOrder (repairLines s (length area) fresh helpers)) s area [] (repairDone s area fresh helpers) h in
-    repaired s area fresh helpers p (code-lengths (s .points) (s .sizes) (sound-facts s (facts s area fresh helpers p .is-sound) .is-legal))
+accepted-repair s area fresh helpers standIns h =
+    let p = passes (first storeOrder (repairLines s (length area) fresh helpers standIns)) s area [] (repairDone s area fresh helpers standIns) h in
+    repaired s area fresh helpers standIns p (code-lengths (s .points) (s .sizes) (sound-facts s (facts s area fresh helpers standIns p .is-sound) .is-legal))
 
 -- ---- a list of calls
 
@@ -94,7 +94,7 @@ module _ (laws : AllLaws) where
   step : (b : Book) (area : List ℕ) → Inv b area → (call : Call) → Fair call → Good (act (record { kept = bookRecord b; area = area }) call) (enter b call)
   step b area v (write file) ok = write-good laws b area v file ok
   step b area v (lose board) ok = lose-good laws b area v board
-  step b area v (repair fresh helpers) ok = repair-good laws b area v fresh helpers
+  step b area v (repair fresh helpers standIns) ok = repair-good laws b area v fresh helpers standIns
   step b area v (read boards output) ok = read-good laws b area v boards output
 
   altered-at : (w : State) (b : Book) (now : List ℕ) → w .kept ≡ bookRecord b → Inv b (w .area) → Altered b (w .kept) (w .area) now → Inv b now
@@ -165,7 +165,7 @@ demand-3 old z xs c area steps accepted ok =
     record {
       alike = r .alike;
       after = r .intact;
-      repaired = λ s any fresh helpers h. accepted-repair s any fresh helpers h;
+      repaired = λ s any fresh helpers standIns h. accepted-repair s any fresh helpers standIns h;
     }
 
 -- ---- points that are taken
@@ -191,7 +191,7 @@ pub set-up-taken : (old : Record) (z : Sizes) (xs : List ℕ) (c : ℕ) → lega
 unfolding setUpCall
 set-up-taken old z xs c l p a b =
     let e : first storeOrder (recordLine (newRecord z xs c) ∷ []) ≡ Pass = clear-first (recordLine (newRecord z xs c) ∷ []) storeOrder
-    (ap not (new-sound z xs c l p a b), (refl, (refl, (refl, (refl, (refl, (refl, (refl, (refl, (refl, tt)))))))))) in
+    (ap not (new-sound z xs c l p a b), (refl, (refl, (refl, (refl, (refl, (refl, (refl, (refl, (refl, (refl, tt))))))))))) in
     ap (λ (o : StoreOutcome). o .answer .refusal) (settle-pass _ _ _ e)
 
 taken : (points : Sizes → List ℕ) → ((z : Sizes) → legal z ≡ true → pointed z (points z) ≡ true) → Demand3At points

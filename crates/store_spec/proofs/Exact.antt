@@ -22,7 +22,7 @@ use Rattle.sizes.specs.Sizing.{stripes, α}
 use Rattle.sizes.specs.declared.Check.{Check}
 use Rattle.sizes.specs.declared.Check.the-variants.{Refuse, Pass}
 use Rattle.sizes.specs.declared.Refusal.{Refusal}
-use Rattle.sizes.specs.declared.Refusal.the-variants.{Size, Area, Long, Count, Node, Repeat, Short, Empty, Down, Disagree}
+use Rattle.sizes.specs.declared.Refusal.the-variants.{Size, Area, Long, Count, Node, Repeat, Short, Empty, Down, Disagree, Serving}
 use Rattle.mbcr.specs.Demand2.{Demand2, Named}
 use Rattle.mbcr.specs.Share.{shares, share}
 use Rattle.mbcr.proofs.Demand2.{demand-2}
@@ -62,8 +62,8 @@ module _ (s : Record) (area boards output : List ℕ) (ba : Bytes area)
     count = eqb-true _ _ (not-no _ (line Count (omega arith) (h .1 .1 .1 .1 .0)));
     named-below = not-no _ (line Node (omega arith) (h .1 .1 .1 .1 .1 .0));
     all-different = not-no _ (line Repeat (omega arith) (h .1 .1 .1 .1 .1 .1 .0));
-    all-up = not-no _ (line Down (omega arith) (h .1 .1 .1 .1 .1 .1 .1 .0));
-    room = borrow.Author.Tests.ltb-false _ _ (line Short (omega arith) (h .1 .1 .1 .1 .1 .1 .1 .1 .0));
+    all-up = not-no _ (line Down (omega arith) (h .1 .1 .1 .1 .1 .1 .1 .1 .0));
+    room = borrow.Author.Tests.ltb-false _ _ (line Short (omega arith) (h .1 .1 .1 .1 .1 .1 .1 .1 .1 .0));
   }
 
   only-first : first storeOrder (readLines s area boards output) ≡ pick (appliesIn (readLines s area boards output) Disagree) (Refuse Disagree) Pass
@@ -75,9 +75,10 @@ module _ (s : Record) (area boards output : List ℕ) (ba : Bytes area)
       let p5 = line Count (omega arith) (h .1 .1 .1 .1 .0) in
       let p6 = line Node (omega arith) (h .1 .1 .1 .1 .1 .0) in
       let p7 = line Repeat (omega arith) (h .1 .1 .1 .1 .1 .1 .0) in
-      let p8 = line Down (omega arith) (h .1 .1 .1 .1 .1 .1 .1 .0) in
-      let p9 = line Short (omega arith) (h .1 .1 .1 .1 .1 .1 .1 .1 .0) in
-      rw (p1, p2, p3, p4, p5, p6, p7, p8, p9)
+      let p8 = line Serving (omega arith) (h .1 .1 .1 .1 .1 .1 .1 .0) in
+      let p9 = line Down (omega arith) (h .1 .1 .1 .1 .1 .1 .1 .1 .0) in
+      let p10 = line Short (omega arith) (h .1 .1 .1 .1 .1 .1 .1 .1 .1 .0) in
+      rw (p1, p2, p3, p4, p5, p6, p7, p8, p9, p10)
 
   call-is : (o : Option (List ℕ)) → fileHeld s area boards ≡ o → readCall s area boards output ≡ outcome s area o output
   unfolding readLines readCall

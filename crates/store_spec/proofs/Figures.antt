@@ -5,17 +5,17 @@ use Rattle.lists.specs.Lists.{piece, put}
 use Rattle.gf256.specs.Field.{add, product, reduce, mul, squares, inverse}
 use Rattle.sizes.specs.Sizing.{legal, B, stripes}
 use Rattle.mbcr.specs.Share.{pointed, stripe, grid, F, neighbours, symbols, kept, share, shares}
-use Rattle.mbcr.specs.Rebuild.{received, exchanged, ownF, ownG, helperPair, helperPacket, gFrom, exchangePacket, fFrom, finishedStripe, finishedShare}
+use Rattle.mbcr.specs.Rebuild.{seconds, received, exchanged, ownF, ownG, helperPair, helperPacket, standInPacket, gFrom, exchangePacket, fFrom, finishedStripe, finishedShare}
 use Rattle.mbcr.specs.Read.{through, bColumn, cRow, aColumn, decodedStripe, decodedFile, readFile}
 use Rattle.store_spec.specs.Record.{sound}
-use Rattle.store_spec.specs.Packets.{helperPackets, exchangePackets, repairPackets, freshShare}
-use Rattle.store_spec.specs.Calls.{writeLines, loseLines, repairLines, readLines, setUpCall, writeCall, loseCall, repairCall, readCall}
+use Rattle.store_spec.specs.Packets.{helperPackets, standInPackets, exchangePackets, partnerPackets, repairPackets, freshShare}
+use Rattle.store_spec.specs.Calls.{writeLines, loseLines, listLines, repairLines, readLines, setUpCall, writeCall, loseCall, repairCall, readCall}
 use Rattle.store_spec.specs.FurtherFigures.{FurtherFigures}
 
 pub further-figures : FurtherFigures
-unfolding piece put add product reduce mul squares inverse legal B stripes pointed stripe grid F neighbours symbols kept share shares received exchanged ownF
-    ownG helperPair helperPacket gFrom exchangePacket fFrom finishedStripe finishedShare through bColumn cRow aColumn decodedStripe decodedFile
-    readFile sound helperPackets exchangePackets repairPackets freshShare writeLines loseLines repairLines readLines setUpCall writeCall loseCall
+unfolding piece put add product reduce mul squares inverse legal B stripes pointed stripe grid F neighbours symbols kept share shares seconds received exchanged ownF
+    ownG helperPair helperPacket standInPacket gFrom exchangePacket fFrom finishedStripe finishedShare through bColumn cRow aColumn decodedStripe decodedFile
+    readFile sound helperPackets standInPackets exchangePackets partnerPackets repairPackets freshShare writeLines loseLines listLines repairLines readLines setUpCall writeCall loseCall
     repairCall readCall
 further-figures = record {
   sound-records = refl;
@@ -37,14 +37,23 @@ further-figures = record {
   repair-refusals = refl;
   read-refusals = refl;
   repair-runs = refl;
+  stand-in-runs = refl;
   refused-write = refl;
   refused-repair = refl;
+  refused-serving = refl;
   losses = refl;
   repaired = refl;
   read-back = refl;
   own-helpers = refl;
   own-partners = refl;
   own-packets = refl;
+  stand-in-packets = refl;
+  stand-in-senders = refl;
+  stand-in-repair = refl;
+  mixed-packets = refl;
+  mixed-senders = refl;
+  mixed-repair = refl;
+  stands-in-twice = refl;
   write-places = refl;
   repair-places = refl;
 }

@@ -14,11 +14,11 @@ use Rattle.lists.proofs.Boards.{all-among, below-all}
 use Rattle.gf256.specs.Field.{add, product, reduce, mul, squares, inverse}
 use Rattle.sizes.specs.Sizing.{legal, B, stripes}
 use Rattle.mbcr.specs.Share.{pointed, stripe, grid, F, neighbours, symbols, kept, share, shares}
-use Rattle.mbcr.specs.Rebuild.{received, exchanged, ownF, ownG, helperPair, helperPacket, gFrom, exchangePacket, fFrom, finishedStripe, finishedShare}
+use Rattle.mbcr.specs.Rebuild.{seconds, received, exchanged, ownF, ownG, helperPair, helperPacket, standInPacket, gFrom, exchangePacket, fFrom, finishedStripe, finishedShare}
 use Rattle.mbcr.specs.Read.{through, bColumn, cRow, aColumn, decodedStripe, decodedFile, readFile}
 use Rattle.store_spec.specs.Record.{Record, part, sound}
-use Rattle.store_spec.specs.Packets.{helperPackets, exchangePackets, repairPackets, freshShare}
-use Rattle.store_spec.specs.Calls.{writeLines, loseLines, repairLines, readLines, setUpCall, writeCall, loseCall, repairCall, readCall}
+use Rattle.store_spec.specs.Packets.{helperPackets, standInPackets, exchangePackets, partnerPackets, repairPackets, freshShare}
+use Rattle.store_spec.specs.Calls.{writeLines, loseLines, listLines, repairLines, readLines, setUpCall, writeCall, loseCall, repairCall, readCall}
 use Rattle.store_spec.specs.Ledger.{Call, write, lose, repair, read, Book, State, Step, Altered, Fair, Allowed, left, stepOutcome, bookLines, accept, enter, act}
 use Rattle.store_spec.specs.LedgerFigures.{start, opened, steps, LedgerFigures}
 
@@ -27,7 +27,7 @@ use Rattle.store_spec.specs.LedgerFigures.{start, opened, steps, LedgerF
 abbrev pub bytes : Call → Bool
 bytes (write file) = below 256 file
 bytes (lose board) = true
-bytes (repair fresh helpers) = true
+bytes (repair fresh helpers standIns) = true
 bytes (read boards output) = true
 
 abbrev pub agrees : Book → Record → List ℕ → List ℕ → Bool
@@ -52,7 +52,7 @@ agree b s old new e =
 pub fair : (call : Call) → bytes call ≡ true → Fair call
 fair (write file) e = below-all 256 file e
 fair (lose board) e = tt
-fair (repair fresh helpers) e = tt
+fair (repair fresh helpers standIns) e = tt
 fair (read boards output) e = tt
 
 allow : (w : State) (b : Book) (ts : List Step) → allows w b ts ≡ true → Allowed w b ts
@@ -65,9 +65,9 @@ allow w b (t ∷ ts) e =
 -- ---- the figures
 
 pub ledger-figures : LedgerFigures
-unfolding piece put add product reduce mul squares inverse legal B stripes pointed stripe grid F neighbours symbols kept share shares received exchanged ownF
-    ownG helperPair helperPacket gFrom exchangePacket fFrom finishedStripe finishedShare through bColumn cRow aColumn decodedStripe decodedFile
-    readFile sound helperPackets exchangePackets repairPackets freshShare writeLines loseLines repairLines readLines setUpCall writeCall loseCall
+unfolding piece put add product reduce mul squares inverse legal B stripes pointed stripe grid F neighbours symbols kept share shares seconds received exchanged ownF
+    ownG helperPair helperPacket standInPacket gFrom exchangePacket fFrom finishedStripe finishedShare through bColumn cRow aColumn decodedStripe decodedFile
+    readFile sound helperPackets standInPackets exchangePackets partnerPackets repairPackets freshShare writeLines loseLines listLines repairLines readLines setUpCall writeCall loseCall
     repairCall readCall bookLines accept enter act
 ledger-figures = record {
   allowed = allow start opened steps refl;

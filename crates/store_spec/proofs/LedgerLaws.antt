@@ -46,7 +46,7 @@ accepts : (b : Book) (call : Call) → accept b call .reply .answer .refusal ≡
 unfolding accept
 accepts b (write file) = refl
 accepts b (lose board) = refl
-accepts b (repair fresh helpers) = refl
+accepts b (repair fresh helpers standIns) = refl
 accepts b (read boards output) = refl
 
 done-stay : (b : Book) (call : Call)
@@ -55,7 +55,7 @@ done-stay : (b : Book) (call : Call)
 unfolding accept
 done-stay b (write file) = (refl, refl, refl, refl)
 done-stay b (lose board) = (refl, refl, refl, refl)
-done-stay b (repair fresh helpers) = (refl, refl, refl, refl)
+done-stay b (repair fresh helpers standIns) = (refl, refl, refl, refl)
 done-stay b (read boards output) = (refl, refl, refl, refl)
 
 is-done : (b : Book) (call : Call) → Accepted b call → enter b call ≡ accept b call
@@ -93,12 +93,12 @@ among-either xs ys i = go (among xs i) refl
     go true e = among-append-left xs ys i e
     go false e = among-append-none xs ys i e
 
-repairs : (b : Book) (fresh helpers : List ℕ) → Accepted b (repair fresh helpers)
-    → (enter b (repair fresh helpers) .book .file ≡ b .file)
-    × ((i : ℕ) → among (enter b (repair fresh helpers) .book .service) i ≡ pick (among fresh i) true (among (b .service) i))
+repairs : (b : Book) (fresh helpers standIns : List ℕ) → Accepted b (repair fresh helpers standIns)
+    → (enter b (repair fresh helpers standIns) .book .file ≡ b .file)
+    × ((i : ℕ) → among (enter b (repair fresh helpers standIns) .book .service) i ≡ pick (among fresh i) true (among (b .service) i))
 unfolding accept
-repairs b fresh helpers e =
-    let d = is-done b (repair fresh helpers) e in
+repairs b fresh helpers standIns e =
+    let d = is-done b (repair fresh helpers standIns) e in
     (ap (λ (y : Entry). y .book .file) d, λ i. ap (λ (y : Entry). among (y .book .service) i) d ∙ among-either fresh (b .service) i)
 
 reads : (b : Book) (boards output : List ℕ) → enter b (read boards output) .book ≡ b

@@ -77,9 +77,10 @@ module _ (s : Record) (area : List ℕ) where
   unfolding loseCall
   did-lose board e = by-done (first storeOrder (loseLines s board)) s area [] (loseDone s area board) e
 
-  did-repair : (fresh helpers : List ℕ) → repairCall s area fresh helpers .answer .refusal ≡ 0 → repairCall s area fresh helpers ≡ repairDone s area fresh helpers
+  did-repair : (fresh helpers standIns : List ℕ) → repairCall s area fresh helpers standIns .answer .refusal ≡ 0
+      → repairCall s area fresh helpers standIns ≡ repairDone s area fresh helpers standIns
   unfolding repairCall
-  did-repair fresh helpers e = by-done (first storeOrder (repairLines s (length area) fresh helpers)) s area [] (repairDone s area fresh helpers) e
+  did-repair fresh helpers standIns e = by-done (first storeOrder (repairLines s (length area) fresh helpers standIns)) s area [] (repairDone s area fresh helpers standIns) e
 
   same : (t : Check) (output : List ℕ) (done : StoreOutcome) → done .handed ≡ s → settle t (refused s area output) done .handed ≡ s
   same Pass output done e = e
@@ -104,9 +105,9 @@ refused-keeps w (write file) h =
     keeps (first storeOrder (writeLines (w .kept) (length (w .area)) file)) (w .kept) (w .area) [] (writeDone (w .kept) (w .area) file) refl h
 refused-keeps w (lose board) h =
     keeps (first storeOrder (loseLines (w .kept) board)) (w .kept) (w .area) [] (loseDone (w .kept) (w .area) board) refl h
-refused-keeps w (repair fresh helpers) h =
-    keeps (first storeOrder (repairLines (w .kept) (length (w .area)) fresh helpers)) (w .kept) (w .area) []
-    (repairDone (w .kept) (w .area) fresh helpers) refl h
+refused-keeps w (repair fresh helpers standIns) h =
+    keeps (first storeOrder (repairLines (w .kept) (length (w .area)) fresh helpers standIns)) (w .kept) (w .area) []
+    (repairDone (w .kept) (w .area) fresh helpers standIns) refl h
 refused-keeps w (read boards output) h =
     keeps (first storeOrder (readLines (w .kept) (w .area) boards output)) (w .kept) (w .area) output
     (readDone (w .kept) (w .area) boards output) refl h
@@ -127,9 +128,9 @@ full-marks w (write file) e =
 full-marks w (lose board) e =
     full (first storeOrder (loseLines (w .kept) board)) (w .kept) (w .area) [] (loseDone (w .kept) (w .area) board) e
     (length-set (w .kept .marks) board false ∙ e)
-full-marks w (repair fresh helpers) e =
-    full (first storeOrder (repairLines (w .kept) (length (w .area)) fresh helpers)) (w .kept) (w .area) []
-    (repairDone (w .kept) (w .area) fresh helpers) e (length-on fresh (w .kept .marks) ∙ e)
+full-marks w (repair fresh helpers standIns) e =
+    full (first storeOrder (repairLines (w .kept) (length (w .area)) fresh helpers standIns)) (w .kept) (w .area) []
+    (repairDone (w .kept) (w .area) fresh helpers standIns) e (length-on fresh (w .kept .marks) ∙ e)
 full-marks w (read boards output) e =
     full (first storeOrder (readLines (w .kept) (w .area) boards output)) (w .kept) (w .area) output
     (readDone (w .kept) (w .area) boards output) e e
@@ -144,9 +145,9 @@ unfolding act writeCall loseCall repairCall readCall
 points-stay w (write file) =
     points-by (first storeOrder (writeLines (w .kept) (length (w .area)) file)) (w .kept) (w .area) [] (writeDone (w .kept) (w .area) file) refl
 points-stay w (lose board) = points-by (first storeOrder (loseLines (w .kept) board)) (w .kept) (w .area) [] (loseDone (w .kept) (w .area) board) refl
-points-stay w (repair fresh helpers) =
-    points-by (first storeOrder (repairLines (w .kept) (length (w .area)) fresh helpers)) (w .kept) (w .area) []
-    (repairDone (w .kept) (w .area) fresh helpers) refl
+points-stay w (repair fresh helpers standIns) =
+    points-by (first storeOrder (repairLines (w .kept) (length (w .area)) fresh helpers standIns)) (w .kept) (w .area) []
+    (repairDone (w .kept) (w .area) fresh helpers standIns) refl
 points-stay w (read boards output) =
     points-by (first storeOrder (readLines (w .kept) (w .area) boards output)) (w .kept) (w .area) output (readDone (w .kept) (w .area) boards output) refl
 
@@ -168,8 +169,8 @@ mark-laws = record {
         (ap (λ (r : Record). r .sizes) d, ap (λ (r : Record). r .points) d, ap (λ (r : Record). r .capacity) d),
         (ap (λ (r : Record). r .written) d, ap (λ (r : Record). r .length) d),
       );
-  repairs = λ s area fresh helpers full e.
-      let d = ap (λ (o : StoreOutcome). o .handed) (did-repair s area fresh helpers e) in (
+  repairs = λ s area fresh helpers standIns full e.
+      let d = ap (λ (o : StoreOutcome). o .handed) (did-repair s area fresh helpers standIns e) in (
         λ i h. ap (λ (r : Record). inService r i) d ∙ all-on fresh (s .marks) i (omega (arith, full, h)),
         (ap (λ (r : Record). r .sizes) d, ap (λ (r : Record). r .points) d, ap (λ (r : Record). r .capacity) d),
         (ap (λ (r : Record). r .written) d, ap (λ (r : Record). r .length) d),

@@ -1,4 +1,4 @@
--- The boards named for one fresh board: its helpers, the other fresh boards and itself are different boards below n.
+-- The boards named for one fresh board: its helpers and stand-ins, the other fresh boards and itself are different boards below n.
 -- Assumes nothing.
 use Prim.Native.Nat.{ℕ, suc, _+_, _-_, _<_}
 use mathlib.Core.Path.{_≡_, refl, sym, _∙_, ap}
@@ -37,7 +37,7 @@ module _ (z : Sizes) (fresh : List ℕ) (low : All (λ x. x < z .n) fresh) (once
             (without-self i fresh));
       }
 
-  pub named-count : length fresh ≡ z .r → length l ≡ z .d → length (l ++ without i fresh ++ (i ∷ [])) ≡ z .d + z .r
-  named-count cf cl =
+  pub named-count : length l + length fresh ≡ z .d + z .r → length (l ++ without i fresh ++ (i ∷ [])) ≡ z .d + z .r
+  named-count c =
       let w = length-without i fresh once e in
       length-append (l ++ without i fresh) (i ∷ []) ∙ ap (λ (m : ℕ). m + 1) (length-append l (without i fresh)) ∙ omega arith

@@ -2,7 +2,7 @@
 use Prim.Native.Nat.{ℕ, zero, suc, _+_, _-_, _*_, _≤_, _<_}
 use mathlib.Core.Path.{_≡_, refl, sym, _∙_, ap, ap₂, subst}
 use mathlib.Core.Bool.{Bool, true, false}
-use mathlib.Core.List.{List, [], _∷_, _++_, map, append-nil}
+use mathlib.Core.List.{List, [], _∷_, _++_, map, append-nil, append-assoc}
 use mathlib.Core.Logic.{_⊎_, inl, inr}
 use native.Mathlib.Omega.{arith}
 use native.Mathlib.Nat.{zero-mul, suc-mul, zero-add}
@@ -10,12 +10,14 @@ use lib.Dec.{eqb}
 use lib.ListN.{length, take, drop, getD, length-append, length-drop, length-map}
 use lib.Seq.{length-take-le, drop-drop}
 use borrow.Author.Tests.{eqb-true, eqb-false, eq-eqb, ne-eqb}
-use Rattle.lists.specs.Lists.{joined, without, All}
+use Rattle.lists.specs.Lists.{tabulate, concat, joined, piece, without, All}
 use Rattle.lists.specs.Tests.{pick, among, different, every}
-use Rattle.lists.proofs.Alls.{take-alls, drop-alls}
+use Rattle.lists.proofs.Alls.{all-at, take-alls, drop-alls}
 use Rattle.lists.proofs.Boards.{different-cons, getD-among}
-use Rattle.lists.proofs.Tests.{true-false, both}
-use Rattle.store_spec.specs.Packets.{Packet, Hearing, packetsOf, sendersOf, contents, total, hearHelpers, hearPartners, sentTo}
+use Rattle.lists.proofs.Pieces.{length-tabulate, tabulate-at, tabulate-ext, map-append, piece-zero, piece-suc}
+use Rattle.lists.proofs.Put.{part-end}
+use Rattle.lists.proofs.Tests.{true-false, every-all}
+use Rattle.store_spec.specs.Packets.{Packet, Hearing, packetsOf, sendersOf, contents, total, hearHelpers, hearNamed, hearPartners, sentTo}
 
 -- ---- packets of one hearing
 
@@ -197,10 +199,6 @@ pub helpers-each : (Q : ℕ → Type 0) (d : ℕ) (fresh helpers : List ℕ) →
 helpers-each Q d [] helpers a = tt
 helpers-each Q d (i ∷ fresh) helpers a = (take-alls Q d helpers a, helpers-each Q d fresh (drop d helpers) (drop-alls Q d helpers a))
 
-pub helpers-different : (hs : List Hearing) → every (λ h. different (h .senders)) hs ≡ true → EachHears (λ i l. different l ≡ true) hs
-helpers-different [] e = tt
-helpers-different (h ∷ hs) e = let p = both (different (h .senders)) (every (λ h. different (h .senders)) hs) e in (p .0, helpers-different hs (p .1))
-
 module _ (all : List ℕ) where
   receivers-part : (l : List ℕ) → receivers (map (λ i. record { receiver = i; senders = without i all }) l) ≡ l
   receivers-part [] = refl
@@ -239,3 +237,78 @@ heard-run f d (i ∷ fresh) helpers e (suc a) h =
     ap sendersOf (to-append x (mail f i (take d helpers)) (packetsOf f (hearHelpers d fresh (drop d helpers))))
     ∙ (rw (to-others f x i (take d helpers) o) ih)
     ∙ ap (take d) (drop-drop (a * d) d helpers ∙ ap (λ (y : ℕ). drop y helpers) q)
+
+-- ---- all boards named for one fresh board
+
+-- a place of a board in a list
+place : (l : List ℕ) (i : ℕ) → among l i ≡ true → (a : ℕ) × (a < length l) × (getD l a 0 ≡ i)
+place [] i e = absurd (true-false e refl)
+place (x ∷ l) i e = go (eqb x i) refl e (place l i)
+  where
+    go : (t : Bool) → eqb x i ≡ t → pick t true (among l i) ≡ true → (among l i ≡ true → (a : ℕ) × (a < length l) × (getD l a 0 ≡ i))
+        → (a : ℕ) × (a < length (x ∷ l)) × (getD (x ∷ l) a 0 ≡ i)
+    go true q k ih = (0, omega arith, eqb-true x i q)
+    go false q k ih = let p = ih k in (suc (p .0), (let h = p .1 in omega arith), p .2)
+
+-- what holds of each fresh board with its two runs holds of it with those that it hears
+module _ (f g : ℕ → ℕ → List ℕ) (d e : ℕ) (fresh helpers standIns : List ℕ) (once : different fresh ≡ true) where
+  pub by-runs : (P : ℕ → List ℕ → List ℕ → Type 0)
+      → ((a : ℕ) → a < length fresh → P (getD fresh a 0) (take d (drop (a * d) helpers)) (take e (drop (a * e) standIns)))
+      → (i : ℕ) → among fresh i ≡ true
+      → P i (sendersOf (sentTo i (packetsOf f (hearHelpers d fresh helpers)))) (sendersOf (sentTo i (packetsOf g (hearHelpers e fresh standIns))))
+  by-runs P all i in-it =
+      let p = place fresh i in-it in
+      let a : ℕ = p .0 in
+      let x = heard-run f d fresh helpers once a (p .1) in
+      let y = heard-run g e fresh standIns once a (p .1) in
+      subst
+      (λ (j : ℕ). P j (sendersOf (sentTo j (packetsOf f (hearHelpers d fresh helpers)))) (sendersOf (sentTo j (packetsOf g (hearHelpers e fresh standIns)))))
+      (p .2)
+      (rw (x, y) (all a (p .1)))
+
+-- the two runs of each, by places
+pub runs-different : (d e : ℕ) (fresh helpers standIns : List ℕ)
+    → every (λ h. different (h .senders)) (hearNamed d e fresh helpers standIns)
+    ≡ every different (tabulate (length fresh) (λ a. piece d a helpers ++ piece e a standIns))
+runs-different d e [] helpers standIns = refl
+runs-different d e (i ∷ fresh) helpers standIns =
+    let q : take d helpers ++ take e standIns ≡ piece d 0 helpers ++ piece e 0 standIns =
+    ap₂ {C = List ℕ} (λ x y. x ++ y) (sym (piece-zero d helpers)) (sym (piece-zero e standIns)) in
+    let t : tabulate (length fresh) (λ a. piece d a (drop d helpers) ++ piece e a (drop e standIns))
+    ≡ tabulate (length fresh) (λ a. piece d (suc a) helpers ++ piece e (suc a) standIns) =
+    tabulate-ext (length fresh) _ _
+    (λ a h. ap₂ {C = List ℕ} (λ x y. x ++ y) (sym (piece-suc d a helpers)) (sym (piece-suc e a standIns))) in
+    ap₂ (λ (x y : Bool). pick x y false) (ap different q) (runs-different d e fresh (drop d helpers) (drop e standIns) ∙ ap (every different) t)
+
+pub run-different : (d e : ℕ) (fresh helpers standIns : List ℕ)
+    → every (λ h. different (h .senders)) (hearNamed d e fresh helpers standIns) ≡ true
+    → (a : ℕ) → a < length fresh → different (take d (drop (a * d) helpers) ++ take e (drop (a * e) standIns)) ≡ true
+unfolding piece
+run-different d e fresh helpers standIns h a k =
+    let l : List (List ℕ) = tabulate (length fresh) (λ a. piece d a helpers ++ piece e a standIns) in
+    let n : length l ≡ length fresh = length-tabulate (length fresh) (λ a. piece d a helpers ++ piece e a standIns) in
+    ap different (sym (tabulate-at (length fresh) (λ a. piece d a helpers ++ piece e a standIns) [] a k))
+    ∙ all-at (λ x. different x ≡ true) [] l (every-all different l (sym (runs-different d e fresh helpers standIns) ∙ h)) a (omega arith)
+
+-- one of the runs, of a list with a run for each of so many
+pub run-length : (d a t : ℕ) (l : List ℕ) → length l ≡ t * d → a < t → length (take d (drop (a * d) l)) ≡ d
+run-length d a t l e h =
+    let k : a * d + d ≤ t * d = part-end a d t h in
+    length-take-le d (drop (a * d) l) (simp length-drop (omega arith))
+
+-- ---- packets of two lists
+
+pub concat-append : (xs ys : List (List ℕ)) → concat (xs ++ ys) ≡ concat xs ++ concat ys
+concat-append [] ys = refl
+concat-append (x ∷ xs) ys = ap (λ (l : List ℕ). x ++ l) (concat-append xs ys) ∙ sym (append-assoc x (concat xs) (concat ys))
+
+pub joined-append : (f : ℕ → List ℕ) (xs ys : List ℕ) → joined f (xs ++ ys) ≡ joined f xs ++ joined f ys
+joined-append f xs ys = ap concat (map-append f xs ys) ∙ concat-append (map f xs) (map f ys)
+
+pub senders-append : (i : ℕ) (ps qs : List Packet) → sendersOf (sentTo i (ps ++ qs)) ≡ sendersOf (sentTo i ps) ++ sendersOf (sentTo i qs)
+senders-append i ps qs = ap sendersOf (to-append i ps qs) ∙ map-append (λ p. p .sender) (sentTo i ps) (sentTo i qs)
+
+pub contents-append : (i : ℕ) (ps qs : List Packet) → contents (sentTo i (ps ++ qs)) ≡ contents (sentTo i ps) ++ contents (sentTo i qs)
+contents-append i ps qs =
+    ap contents (to-append i ps qs) ∙ ap concat (map-append (λ p. p .bytes) (sentTo i ps) (sentTo i qs))
+    ∙ concat-append (map (λ p. p .bytes) (sentTo i ps)) (map (λ p. p .bytes) (sentTo i qs))

@@ -23,7 +23,7 @@ as-it-was b s area = record { as-long = refl; in-service = λ i e. refl }
 pub fair : (call : Call) (cs : List Call) → All Bytes (files (call ∷ cs)) → Fair call × All Bytes (files cs)
 fair (write file) cs h = h
 fair (lose board) cs h = (tt, h)
-fair (repair fresh helpers) cs h = (tt, h)
+fair (repair fresh helpers standIns) cs h = (tt, h)
 fair (read boards output) cs h = (tt, h)
 
 all-allowed : (w : State) (b : Book) (cs : List Call) → All Bytes (files cs) → Allowed w b (unaltered w cs)

@@ -19,8 +19,8 @@ use Rattle.sizes.proofs.Legal.{stripes-least, legal-facts}
 use Rattle.sizes.proofs.Lines.{first-clear, clear-first}
 use Rattle.mbcr.specs.Share.{pointed, DifferentPoints}
 use Rattle.mbcr.proofs.PointLaws.{pointed-differ}
-use Rattle.store_spec.specs.Calls.{writeLines, loseLines, repairLines, readLines, fileHeld}
-use Rattle.store_spec.specs.Packets.{hearHelpers}
+use Rattle.store_spec.specs.Calls.{writeLines, loseLines, listLines, repairLines, readLines, fileHeld}
+use Rattle.store_spec.specs.Packets.{hearNamed, standInsEach}
 use Rattle.store_spec.specs.Record.{Record, allOff, sound, usedLen, partLen, areaLen, inService}
 
 -- nothing stored and no mark on, or a file was accepted
@@ -118,35 +118,58 @@ lose-facts s board h =
     let e = first-clear (loseLines s board) storeOrder h in
     record { is-sound = not-no _ (e .0); known = below-all (s .sizes .n) (board ∷ []) (not-no _ (e .1 .1 .1 .1 .1 .0)) .0 }
 
-pub record Repairs (s : Record) (m : ℕ) (fresh helpers : List ℕ) : Type 0 where
+pub record Repairs (s : Record) (m : ℕ) (fresh helpers standIns : List ℕ) : Type 0 where
   pub is-sound : sound s ≡ true
   pub area-is : m ≡ areaLen s
   pub is-written : s .written ≡ true
-  pub fresh-count : length fresh ≡ s .sizes .r
-  pub helper-count : length helpers ≡ s .sizes .r * s .sizes .d
-  pub named-below : below (s .sizes .n) (fresh ++ helpers) ≡ true
+  pub some-fresh : 1 ≤ length fresh
+  pub few-fresh : length fresh ≤ s .sizes .r
+  pub helper-count : length helpers ≡ length fresh * s .sizes .d
+  pub stand-in-count : length standIns ≡ length fresh * standInsEach s fresh
+  pub named-below : below (s .sizes .n) (fresh ++ (helpers ++ standIns)) ≡ true
   pub fresh-different : different fresh ≡ true
-  pub hear-different : every (λ h. different (h .senders)) (hearHelpers (s .sizes .d) fresh helpers) ≡ true
-  pub none-fresh : apart fresh helpers ≡ true
-  pub all-up : every (inService s) helpers ≡ true
+  pub named-different : every (λ h. different (h .senders)) (hearNamed (s .sizes .d) (standInsEach s fresh) fresh helpers standIns) ≡ true
+  pub none-fresh : apart fresh (helpers ++ standIns) ≡ true
+  pub fresh-out : every (λ i. not (inService s i)) fresh ≡ true
+  pub all-up : every (inService s) (helpers ++ standIns) ≡ true
 
-pub repair-facts : (s : Record) (m : ℕ) (fresh helpers : List ℕ) → first storeOrder (repairLines s m fresh helpers) ≡ Pass → Repairs s m fresh helpers
-unfolding repairLines
-repair-facts s m fresh helpers h =
-    let e = first-clear (repairLines s m fresh helpers) storeOrder h in
-    let c = alls-hold (eqb (length fresh) (s .sizes .r) ∷ eqb (length helpers) (s .sizes .r * s .sizes .d) ∷ []) (not-no _ (e .1 .1 .1 .1 .0)) in
-    let d = alls-hold (different fresh ∷ every (λ h. different (h .senders)) (hearHelpers (s .sizes .d) fresh helpers) ∷ apart fresh helpers ∷ []) (not-no _ (e .1 .1 .1 .1 .1 .1 .0)) in
+-- the tests of COUNT and of REPEAT
+abbrev pub countTests : Record → List ℕ → List ℕ → List ℕ → List Bool
+countTests s fresh helpers standIns =
+    leb 1 (length fresh)
+    ∷ leb (length fresh) (s .sizes .r)
+    ∷ eqb (length helpers) (length fresh * s .sizes .d)
+    ∷ eqb (length standIns) (length fresh * standInsEach s fresh)
+    ∷ []
+
+abbrev pub repeatTests : Record → List ℕ → List ℕ → List ℕ → List Bool
+repeatTests s fresh helpers standIns =
+    different fresh
+    ∷ every (λ h. different (h .senders)) (hearNamed (s .sizes .d) (standInsEach s fresh) fresh helpers standIns)
+    ∷ apart fresh (helpers ++ standIns)
+    ∷ []
+
+pub repair-facts : (s : Record) (m : ℕ) (fresh helpers standIns : List ℕ) → first storeOrder (repairLines s m fresh helpers standIns) ≡ Pass
+    → Repairs s m fresh helpers standIns
+unfolding repairLines listLines
+repair-facts s m fresh helpers standIns h =
+    let e = first-clear (repairLines s m fresh helpers standIns) storeOrder h in
+    let c = alls-hold (countTests s fresh helpers standIns) (not-no _ (e .1 .1 .1 .1 .0)) in
+    let d = alls-hold (repeatTests s fresh helpers standIns) (not-no _ (e .1 .1 .1 .1 .1 .1 .0)) in
     record {
       is-sound = not-no _ (e .0);
       area-is = eqb-true _ _ (not-no _ (e .1 .0));
       is-written = not-no _ (e .1 .1 .1 .0);
-      fresh-count = eqb-true _ _ (c .0);
-      helper-count = eqb-true _ _ (c .1 .0);
+      some-fresh = leb-true _ _ (c .0);
+      few-fresh = leb-true _ _ (c .1 .0);
+      helper-count = eqb-true _ _ (c .1 .1 .0);
+      stand-in-count = eqb-true _ _ (c .1 .1 .1 .0);
       named-below = not-no _ (e .1 .1 .1 .1 .1 .0);
       fresh-different = d .0;
-      hear-different = d .1 .0;
+      named-different = d .1 .0;
       none-fresh = d .1 .1 .0;
-      all-up = not-no _ (e .1 .1 .1 .1 .1 .1 .1 .0);
+      fresh-out = not-no _ (e .1 .1 .1 .1 .1 .1 .1 .0);
+      all-up = not-no _ (e .1 .1 .1 .1 .1 .1 .1 .1 .0);
     }
 
 pub record Reads (s : Record) (m : ℕ) (boards output : List ℕ) : Type 0 where
@@ -171,10 +194,10 @@ read-facts s area boards output h =
         count = eqb-true _ _ (not-no _ (e .1 .1 .1 .1 .0));
         named-below = not-no _ (e .1 .1 .1 .1 .1 .0);
         all-different = not-no _ (e .1 .1 .1 .1 .1 .1 .0);
-        all-up = not-no _ (e .1 .1 .1 .1 .1 .1 .1 .0);
-        room = ltb-false _ _ (e .1 .1 .1 .1 .1 .1 .1 .1 .0);
+        all-up = not-no _ (e .1 .1 .1 .1 .1 .1 .1 .1 .0);
+        room = ltb-false _ _ (e .1 .1 .1 .1 .1 .1 .1 .1 .1 .0);
       },
-      not-no _ (e .1 .1 .1 .1 .1 .1 .1 .1 .1 .0),
+      not-no _ (e .1 .1 .1 .1 .1 .1 .1 .1 .1 .1 .0),
     )
 
 pub reads-pass : (s : Record) (area boards output : List ℕ) → Reads s (length area) boards output
@@ -194,7 +217,7 @@ reads-pass s area boards output f g =
               ap not (eq-eqb _ _ (f .count)),
               (
                 ap not (f .named-below),
-                (ap not (f .all-different), (ap not (f .all-up), (le-ltb _ _ (f .room), (ap not g, tt)))),
+                (ap not (f .all-different), (refl, (ap not (f .all-up), (le-ltb _ _ (f .room), (ap not g, tt))))),
               ),
             ),
           ),

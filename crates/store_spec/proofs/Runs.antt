@@ -1,71 +1,84 @@
 -- Interpolations of a repair and of a read: where no check refuses, no two points of one of them are equal.
 -- Assumes nothing.
-use Prim.Native.Nat.{ℕ, _<_}
-use mathlib.Core.Path.{_≡_}
+use Prim.Native.Nat.{ℕ, _*_, _<_}
+use mathlib.Core.Path.{_≡_, refl, subst}
 use mathlib.Core.Bool.{true, false, not}
-use mathlib.Core.List.{List, [], _∷_, _++_, map}
-use Rattle.lists.specs.Lists.{All, concat, without}
-use Rattle.lists.specs.Tests.{different, among, apart, every, below}
-use Rattle.lists.proofs.Alls.{all-imp, take-alls, drop-alls, all-left, all-right}
-use Rattle.lists.proofs.Boards.{below-all, all-is-among}
-use Rattle.lists.proofs.Tests.{both, every-all, all-every}
+use mathlib.Core.List.{List, [], _∷_, _++_, map, append-assoc}
+use lib.ListN.{length, getD, take, drop}
+use Rattle.lists.specs.Lists.{All, tabulate, concat, piece, without}
+use Rattle.lists.specs.Tests.{different, among}
+use Rattle.lists.proofs.Alls.{all-imp, append-all, take-alls, drop-alls, all-left, all-right}
+use Rattle.lists.proofs.Boards.{below-all, getD-among}
+use Rattle.lists.proofs.Pieces.{tabulate-all}
+use Rattle.lists.proofs.Tests.{every-all, all-every}
 use Rattle.sizes.specs.Refusals.{first, storeOrder}
-use Rattle.sizes.specs.Sizing.{legal}
 use Rattle.sizes.specs.declared.Check.the-variants.{Pass}
-use Rattle.sizes.specs.declared.Sizes.{Sizes}
-use Rattle.sizes.proofs.Legal.{Legal, legal-facts}
-use Rattle.mbcr.specs.Share.{DifferentPoints}
-use Rattle.mbcr.proofs.Points.{boards-of}
+use Rattle.sizes.proofs.Legal.{legal-facts}
+use Rattle.mbcr.proofs.Points.{Boards, boards-of}
 use Rattle.board_spec.specs.Runs.{equalPoints, ownRuns, finishRuns, readRuns}
 use Rattle.board_spec.proofs.Runs.{unequal-append, unequal-concat, own-runs, finish-runs, read-runs}
 use Rattle.store_spec.specs.Calls.{repairLines, readLines}
-use Rattle.store_spec.specs.Packets.{hearHelpers}
+use Rattle.store_spec.specs.Packets.{standInsEach}
 use Rattle.store_spec.specs.Record.{Record}
-use Rattle.store_spec.specs.Runs.{repairRuns, StoreRuns}
+use Rattle.store_spec.specs.Runs.{runsOf, repairRuns, StoreRuns}
 use Rattle.store_spec.proofs.Named.{named-boards}
-use Rattle.store_spec.proofs.Records.{sound-facts, sound-points, repair-facts, read-facts}
+use Rattle.store_spec.proofs.Packets.{run-different}
+use Rattle.store_spec.proofs.Records.{Sound, Repairs, sound-facts, sound-points, repair-facts, read-facts}
 
-module _ (xs : List ℕ) (z : Sizes) (legal : Legal z) (pts : DifferentPoints z xs) (fresh : List ℕ) (low : All (λ x. x < z .n) fresh) (once : different fresh ≡ true) where
+unequal-all : (xs : List ℕ) (rs : List (List (List ℕ))) → All (λ r. equalPoints xs r ≡ false) rs → equalPoints xs (concat rs) ≡ false
+unequal-all xs [] h = refl
+unequal-all xs (r ∷ rs) h = unequal-append xs r (concat rs) (h .0) (unequal-all xs rs (h .1))
+
+module _ (s : Record) (m : ℕ) (fresh helpers standIns : List ℕ) (f : Repairs s m fresh helpers standIns) where
+  known : Sound s
+  known = sound-facts s (f .is-sound)
+
+  low : All (λ x. x < s .sizes .n) (fresh ++ (helpers ++ standIns))
+  low = below-all (s .sizes .n) (fresh ++ (helpers ++ standIns)) (f .named-below)
+
+  -- what holds of all helpers and stand-ins holds of those of one fresh board
+  named : (Q : ℕ → Type 0) → All Q (helpers ++ standIns) → (a : ℕ)
+      → All Q (piece (s .sizes .d) a helpers ++ piece (standInsEach s fresh) a standIns)
+  unfolding piece
+  named Q h a =
+      let d = s .sizes .d in
+      let e = standInsEach s fresh in
+      append-all Q (take d (drop (a * d) helpers)) (take e (drop (a * e) standIns))
+      (take-alls Q d (drop (a * d) helpers) (drop-alls Q (a * d) helpers (all-left Q helpers standIns h)))
+      (take-alls Q e (drop (a * e) standIns) (drop-alls Q (a * e) standIns (all-right Q helpers standIns h)))
+
+  named-once : (a : ℕ) → a < length fresh → different (piece (s .sizes .d) a helpers ++ piece (standInsEach s fresh) a standIns) ≡ true
+  unfolding piece
+  named-once a h = run-different (s .sizes .d) (standInsEach s fresh) fresh helpers standIns (f .named-different) a h
+
   -- of one fresh board
-  hearing-runs : (i : ℕ) (l : List ℕ) → among fresh i ≡ true → All (λ x. x < z .n) l → different l ≡ true → apart fresh l ≡ true
-      → equalPoints xs (concat (map (ownRuns z) l) ++ finishRuns i l (without i fresh)) ≡ false
-  hearing-runs i l e known l-once none =
-      unequal-append xs (concat (map (ownRuns z) l)) (finishRuns i l (without i fresh))
-      (unequal-concat xs (ownRuns z) l (all-imp (λ j. j < z .n) (λ j. equalPoints xs (ownRuns z j) ≡ false) (own-runs z xs legal pts) l known))
-      (finish-runs z xs pts i l (without i fresh) (named-boards z fresh low once i e l known l-once none))
+  fresh-runs : (a : ℕ) → a < length fresh
+      → equalPoints (s .points) (runsOf s fresh (getD fresh a 0) (piece (s .sizes .d) a helpers) (piece (standInsEach s fresh) a standIns)) ≡ false
+  fresh-runs a h =
+      let i : ℕ = getD fresh a 0 in
+      let hs : List ℕ = piece (s .sizes .d) a helpers in
+      let ss : List ℕ = piece (standInsEach s fresh) a standIns in
+      let below-n = named (λ x. x < s .sizes .n) (all-right (λ x. x < s .sizes .n) fresh (helpers ++ standIns) low) a in
+      let none = all-every (λ x. not (among fresh x)) (hs ++ ss)
+      (named (λ x. not (among fresh x) ≡ true) (every-all (λ x. not (among fresh x)) (helpers ++ standIns) (f .none-fresh)) a) in
+      let b : Boards (s .sizes) (hs ++ ss ++ without i fresh ++ (i ∷ [])) =
+      named-boards (s .sizes) fresh (all-left (λ x. x < s .sizes .n) fresh (helpers ++ standIns) low) (f .fresh-different) i (getD-among fresh a h)
+      (hs ++ ss) below-n (named-once a h) none in
+      unequal-append (s .points) (concat (map (ownRuns (s .sizes)) (hs ++ ss))) (finishRuns i hs (ss ++ without i fresh))
+      (unequal-concat (s .points) (ownRuns (s .sizes)) (hs ++ ss)
+      (all-imp (λ j. j < s .sizes .n) (λ j. equalPoints (s .points) (ownRuns (s .sizes) j) ≡ false)
+      (own-runs (s .sizes) (s .points) (legal-facts (s .sizes) (known .is-legal)) (sound-points s known)) (hs ++ ss) below-n))
+      (finish-runs (s .sizes) (s .points) (sound-points s known) i hs (ss ++ without i fresh)
+      (subst (λ (l : List ℕ). Boards (s .sizes) (l ++ (i ∷ []))) (append-assoc hs ss (without i fresh)) b))
 
-  -- of all
-  all-runs : (some helpers : List ℕ) → All (λ i. among fresh i ≡ true) some → All (λ x. x < z .n) helpers
-      → every (λ h. different (h .senders)) (hearHelpers (z .d) some helpers) ≡ true → apart fresh helpers ≡ true
-      → All (λ h. equalPoints xs (concat (map (ownRuns z) (h .senders)) ++ finishRuns (h .receiver) (h .senders) (without (h .receiver) fresh)) ≡ false)
-      (hearHelpers (z .d) some helpers)
-  all-runs [] helpers f known d none = tt
-  all-runs (i ∷ some) helpers f known d none =
-      let p = both (different (lib.ListN.take (z .d) helpers)) (every (λ h. different (h .senders)) (hearHelpers (z .d) some (lib.ListN.drop (z .d) helpers))) d in
-      let q = every-all (λ x. not (among fresh x)) helpers none in (
-        hearing-runs i (lib.ListN.take (z .d) helpers) (f .0) (take-alls (λ x. x < z .n) (z .d) helpers known) (p .0)
-            (all-every (λ x. not (among fresh x)) (lib.ListN.take (z .d) helpers) (take-alls (λ x. not (among fresh x) ≡ true) (z .d) helpers q)),
-        all-runs some (lib.ListN.drop (z .d) helpers) (f .1) (drop-alls (λ x. x < z .n) (z .d) helpers known) (p .1)
-            (all-every (λ x. not (among fresh x)) (lib.ListN.drop (z .d) helpers) (drop-alls (λ x. not (among fresh x) ≡ true) (z .d) helpers q)),
-      )
+  all-runs : equalPoints (s .points) (repairRuns s fresh helpers standIns) ≡ false
+  all-runs =
+      let run : ℕ → List (List ℕ) = λ a. runsOf s fresh (getD fresh a 0) (piece (s .sizes .d) a helpers) (piece (standInsEach s fresh) a standIns) in
+      unequal-all (s .points) (tabulate (length fresh) run) (tabulate-all (λ r. equalPoints (s .points) r ≡ false) (length fresh) run fresh-runs)
 
-repair-points : (s : Record) (fresh helpers : List ℕ) → legal (s .sizes) ≡ true → DifferentPoints (s .sizes) (s .points)
-    → below (s .sizes .n) (fresh ++ helpers) ≡ true → different fresh ≡ true
-    → every (λ h. different (h .senders)) (hearHelpers (s .sizes .d) fresh helpers) ≡ true → apart fresh helpers ≡ true
-    → equalPoints (s .points) (repairRuns s fresh helpers) ≡ false
-repair-points s fresh helpers ok pts low once d none =
-    let all = below-all (s .sizes .n) (fresh ++ helpers) low in
-    let lf = all-left (λ x. x < s .sizes .n) fresh helpers all in
-    let lh = all-right (λ x. x < s .sizes .n) fresh helpers all in
-    unequal-concat (s .points) _ (hearHelpers (s .sizes .d) fresh helpers)
-    (all-runs (s .points) (s .sizes) (legal-facts (s .sizes) ok) pts fresh lf once fresh helpers (all-is-among fresh) lh d none)
-
-repair-apart : (s : Record) (m : ℕ) (fresh helpers : List ℕ)
-    → first storeOrder (repairLines s m fresh helpers) ≡ Pass → equalPoints (s .points) (repairRuns s fresh helpers) ≡ false
-repair-apart s m fresh helpers h =
-    let f = repair-facts s m fresh helpers h in
-    let g = sound-facts s (f .is-sound) in
-    repair-points s fresh helpers (g .is-legal) (sound-points s g) (f .named-below) (f .fresh-different) (f .hear-different) (f .none-fresh)
+repair-apart : (s : Record) (m : ℕ) (fresh helpers standIns : List ℕ)
+    → first storeOrder (repairLines s m fresh helpers standIns) ≡ Pass → equalPoints (s .points) (repairRuns s fresh helpers standIns) ≡ false
+repair-apart s m fresh helpers standIns h = all-runs s m fresh helpers standIns (repair-facts s m fresh helpers standIns h)
 
 read-apart : (s : Record) (area boards output : List ℕ)
     → first storeOrder (readLines s area boards output) ≡ Pass → equalPoints (s .points) (readRuns (s .sizes) boards) ≡ false

@@ -1,7 +1,7 @@
 -- One call: store and ledger reply alike, and what holds between them before it holds after it.
 -- Assumes nothing.
 use Prim.Native.Nat.{ℕ, suc, _+_, _-_, _*_, _≤_, _<_}
-use mathlib.Core.Path.{_≡_, refl, sym, _∙_, ap, subst}
+use mathlib.Core.Path.{_≡_, refl, sym, _∙_, ap, ap₂, subst}
 use mathlib.Core.Bool.{Bool, true, false, not}
 use mathlib.Core.List.{List, [], _∷_, _++_, map}
 use mathlib.Core.Option.{Option, some, none}
@@ -11,10 +11,9 @@ use lib.Seq.{take-take}
 use lib.Dec.{eqb, ltb}
 use borrow.Author.Tests.{eq-eqb, eqb-true, ltb-false}
 use Rattle.lists.specs.Lists.{Bytes, All, tabulate, piece, without}
-use Rattle.lists.specs.Tests.{given, among, below, alls, pick, every, different}
+use Rattle.lists.specs.Tests.{given, among, below, alls, pick, every, different, apart}
 use Rattle.lists.proofs.Alls.{all-imp}
 use Rattle.lists.proofs.Boards.{all-among, all-without, among-without}
-use Rattle.lists.proofs.Pieces.{tabulate-ext, piece-zero, piece-suc}
 use Rattle.lists.proofs.Tests.{true-false}
 use Rattle.sizes.specs.Refusals.{said, first, storeOrder}
 use Rattle.sizes.specs.Sizing.{legal, maxBoards}
@@ -29,10 +28,11 @@ use Rattle.mbcr.specs.Share.{share}
 use Rattle.board_spec.specs.Calls.{fileOf}
 use Rattle.store_spec.specs.Calls.{StoreOutcome, settle, refused, writeLines, writeDone, writeCall, loseLines, loseCall}
 use Rattle.store_spec.specs.Ledger.{Call, write, lose, repair, read, replied, Book, bookRecord, Entry, replyOf, Altered, bookLines, noted, act, enter, accept, bookLength}
-use Rattle.store_spec.specs.Packets.{hearHelpers}
+use Rattle.store_spec.specs.Packets.{hearNamed}
 use Rattle.store_spec.specs.Record.{sound, areaLen, held, usedLen, partLen, inService, Record, writtenRecord}
 use Rattle.store_spec.proofs.Area.{length-shares, shares-same}
 use Rattle.store_spec.proofs.Marks.{mark-at, off-from, marksOf, first-below, marks-all, off-above, off-none, marks-lose}
+use Rattle.store_spec.proofs.Packets.{runs-different}
 use Rattle.store_spec.proofs.Records.{sound-facts, sound-points, used-fits, Sound, Writes, facts-sound, write-facts, blank-if, blank-length, blank-off}
 use Rattle.store_spec.proofs.Seam.{Laws, AllLaws}
 
@@ -82,34 +82,31 @@ pub settle-pass : {A : Type 0} (c : Check) (refuse : Refusal → A) (go : A) →
 settle-pass c refuse go e = ap (λ (x : Check). settle x refuse go) e
 
 -- the tests of the ledger's lines, put as the store asks them
-pub both-below : (n : ℕ) (xs ys : List ℕ) → below n (xs ++ ys) ≡ alls (below n xs ∷ below n ys ∷ [])
-both-below n [] ys = go (below n ys)
+pub every-append : {A : Type 0} (p : A → Bool) (xs ys : List A) → every p (xs ++ ys) ≡ alls (every p xs ∷ every p ys ∷ [])
+every-append p [] ys = go (every p ys)
   where
     go : (t : Bool) → t ≡ alls (true ∷ t ∷ [])
     go true = refl
     go false = refl
-both-below n (x ∷ xs) ys = go (ltb x n) (both-below n xs ys)
+every-append p (x ∷ xs) ys = go (p x) (every-append p xs ys)
   where
-    go : (t : Bool) → below n (xs ++ ys) ≡ alls (below n xs ∷ below n ys ∷ []) → pick t (below n (xs ++ ys)) false ≡ alls (pick t (below n xs) false ∷ below n ys ∷ [])
+    go : (t : Bool) → every p (xs ++ ys) ≡ alls (every p xs ∷ every p ys ∷ []) → pick t (every p (xs ++ ys)) false ≡ alls (pick t (every p xs) false ∷ every p ys ∷ [])
     go true e = e
     go false e = refl
 
-pub runs-different : (d : ℕ) (fresh helpers : List ℕ)
-    → every (λ h. different (h .senders)) (hearHelpers d fresh helpers) ≡ every different (tabulate (length fresh) (λ a. piece d a helpers))
-runs-different d [] helpers = refl
-runs-different d (i ∷ fresh) helpers =
-    let e : take d helpers ≡ piece d 0 helpers = sym (piece-zero d helpers) in
-    let t : tabulate (length fresh) (λ a. piece d a (drop d helpers)) ≡ tabulate (length fresh) (λ a. piece d (suc a) helpers) =
-    tabulate-ext (length fresh) (λ a. piece d a (drop d helpers)) (λ a. piece d (suc a) helpers) (λ a h. sym (piece-suc d a helpers)) in
-    go (different (take d helpers)) (different (piece d 0 helpers)) (ap different e) (runs-different d fresh (drop d helpers) ∙ ap (every different) t)
-  where
-    go : (t u : Bool) → t ≡ u
-        → every (λ h. different (h .senders)) (hearHelpers d fresh (drop d helpers)) ≡ every different (tabulate (length fresh) (λ a. piece d (suc a) helpers))
-        → pick t (every (λ h. different (h .senders)) (hearHelpers d fresh (drop d helpers))) false ≡ pick u (every different (tabulate (length fresh) (λ a. piece d (suc a) helpers))) false
-    go true true e k = k
-    go false false e k = refl
-    go true false e k = absurd (true-false refl e)
-    go false true e k = absurd (true-false refl (sym e))
+pub both-below : (n : ℕ) (xs ys : List ℕ) → below n (xs ++ ys) ≡ alls (below n xs ∷ below n ys ∷ [])
+both-below n xs ys = every-append (λ x. ltb x n) xs ys
+
+-- two tests asked as one
+last-two : (a b c : Bool) → alls (a ∷ alls (b ∷ c ∷ []) ∷ []) ≡ alls (a ∷ b ∷ c ∷ [])
+last-two true true true = refl
+last-two true true false = refl
+last-two true false c = refl
+last-two false b c = refl
+
+last-two-of-four : (a b c d : Bool) → alls (a ∷ b ∷ alls (c ∷ d ∷ []) ∷ []) ≡ alls (a ∷ b ∷ c ∷ d ∷ [])
+last-two-of-four true b c d = last-two b c d
+last-two-of-four false b c d = refl
 
 pub one-below : (n x : ℕ) → below n (x ∷ []) ≡ ltb x n
 one-below n x = go (ltb x n)
@@ -128,6 +125,33 @@ every-same p q (x ∷ l) h = go (p x) (q x) (h x) (every-same p q l h)
     go false false e k = refl
     go true false e k = absurd (true-false refl e)
     go false true e k = absurd (true-false refl (sym e))
+
+-- the tests of a repair's lists
+pub three-below : (n : ℕ) (xs ys ws : List ℕ) → below n (xs ++ (ys ++ ws)) ≡ alls (below n xs ∷ below n ys ∷ below n ws ∷ [])
+three-below n xs ys ws =
+    both-below n xs (ys ++ ws) ∙ ap (λ (t : Bool). alls (below n xs ∷ t ∷ [])) (both-below n ys ws) ∙ last-two (below n xs) (below n ys) (below n ws)
+
+-- hs and ss are the lists whose runs are asked
+pub repeat-same : (d e : ℕ) (fresh hs ss helpers standIns : List ℕ)
+    → alls (different fresh ∷ every (λ h. different (h .senders)) (hearNamed d e fresh hs ss) ∷ apart fresh (helpers ++ standIns) ∷ [])
+    ≡ alls
+    (different fresh
+    ∷ every different (tabulate (length fresh) (λ a. piece d a hs ++ piece e a ss))
+    ∷ apart fresh helpers
+    ∷ apart fresh standIns
+    ∷ [])
+repeat-same d e fresh hs ss helpers standIns =
+    ap₂ {C = Bool} (λ (t u : Bool). alls (different fresh ∷ t ∷ u ∷ [])) (runs-different d e fresh hs ss)
+    (every-append (λ x. not (among fresh x)) helpers standIns)
+    ∙ last-two-of-four (different fresh) (every different (tabulate (length fresh) (λ a. piece d a hs ++ piece e a ss)))
+    (apart fresh helpers) (apart fresh standIns)
+
+module _ (s : Record) (service : List ℕ) (up : (i : ℕ) → inService s i ≡ among service i) where
+  pub serving-same : (fresh : List ℕ) → every (λ i. not (inService s i)) fresh ≡ apart service fresh
+  serving-same fresh = every-same (λ i. not (inService s i)) (λ i. not (among service i)) fresh (λ i. ap not (up i))
+
+  pub down-same : (helpers standIns : List ℕ) → every (inService s) (helpers ++ standIns) ≡ alls (every (among service) helpers ∷ every (among service) standIns ∷ [])
+  down-same helpers standIns = every-same (inService s) (among service) (helpers ++ standIns) up ∙ every-append (among service) helpers standIns
 
 module _ (laws : AllLaws) (b : Book) (area : List ℕ) (v : Inv b area) where
   pub facts : Sound (bookRecord b)
@@ -158,7 +182,7 @@ module _ (laws : AllLaws) (b : Book) (area : List ℕ) (v : Inv b area) where
   unfolding writeLines bookLines
   write-same file =
       first-agree (writeLines (bookRecord b) (length area) file) (bookLines b (write file)) storeOrder
-      (size-off, λ _. (area-same, λ _. (refl, λ _. (refl, λ _. (refl, λ _. (refl, λ _. (refl, λ _. (refl, λ _. (refl, λ _. (refl, λ _. tt))))))))))
+      (size-off, λ _. (area-same, λ _. (refl, λ _. (refl, λ _. (refl, λ _. (refl, λ _. (refl, λ _. (refl, λ _. (refl, λ _. (refl, λ _. (refl, λ _. tt)))))))))))
 
   write-inv : (file : List ℕ) → Bytes file → Writes (bookRecord b) (length area) file
       → Inv (noted b (some file) (tabulate (b .sizes .n) (λ i. i))) (writeDone (bookRecord b) area file .area)
@@ -206,7 +230,7 @@ module _ (laws : AllLaws) (b : Book) (area : List ℕ) (v : Inv b area) where
   unfolding loseLines bookLines
   lose-same board =
       first-agree (loseLines (bookRecord b) board) (bookLines b (lose board)) storeOrder
-      (size-off, λ _. (refl, λ _. (refl, λ _. (refl, λ _. (refl, λ _. (ap not (one-below (b .sizes .n) board), λ _. (refl, λ _. (refl, λ _. (refl, λ _. (refl, λ _. tt))))))))))
+      (size-off, λ _. (refl, λ _. (refl, λ _. (refl, λ _. (refl, λ _. (ap not (one-below (b .sizes .n) board), λ _. (refl, λ _. (refl, λ _. (refl, λ _. (refl, λ _. (refl, λ _. tt)))))))))))
 
   lose-inv : (board : ℕ) → Inv (noted b (b .file) (without board (b .service))) area
   lose-inv board =

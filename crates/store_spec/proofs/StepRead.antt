@@ -60,12 +60,15 @@ module _ (laws : AllLaws) (b : Book) (area : List ℕ) (v : Inv b area) where
                   λ l. (
                     refl,
                     λ d. (
-                      ap not (every-same (inService (bookRecord b)) (among (b .service)) boards (up laws b area v)),
-                      λ u. (
-                        refl,
-                        λ _. (
-                          ap (λ (o : Option (List ℕ)). not (given o)) (reading boards (eqb-true _ _ (not-no _ c)) (not-no _ l) (not-no _ d) (not-no _ u)),
-                          λ _. tt,
+                      refl,
+                      λ _. (
+                        ap not (every-same (inService (bookRecord b)) (among (b .service)) boards (up laws b area v)),
+                        λ u. (
+                          refl,
+                          λ _. (
+                            ap (λ (o : Option (List ℕ)). not (given o)) (reading boards (eqb-true _ _ (not-no _ c)) (not-no _ l) (not-no _ d) (not-no _ u)),
+                            λ _. tt,
+                          ),
                         ),
                       ),
                     ),

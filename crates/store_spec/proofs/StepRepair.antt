@@ -1,6 +1,6 @@
 -- A repair: store and ledger reply alike, and fresh boards then hold their shares.
 -- Assumes nothing.
-use Prim.Native.Nat.{ℕ, _+_, _≤_, _<_}
+use Prim.Native.Nat.{ℕ, _+_, _-_, _≤_, _<_}
 use mathlib.Core.Path.{_≡_, refl, sym, _∙_, ap}
 use mathlib.Core.Bool.{Bool, true, false, not}
 use mathlib.Core.List.{List, [], _∷_, _++_}
@@ -18,7 +18,7 @@ use Rattle.sizes.proofs.Legal.{legal-facts}
 use Rattle.sizes.proofs.Lines.{first-agree}
 use Rattle.mbcr.specs.Share.{share}
 use Rattle.board_spec.specs.Calls.{fileOf}
-use Rattle.store_spec.specs.Calls.{repairLines, repairDone, repairCall}
+use Rattle.store_spec.specs.Calls.{listLines, repairLines, repairDone, repairCall}
 use Rattle.store_spec.specs.Ledger.{Book, bookRecord, bookLines, noted, act, enter, accept, bookLength, repair}
 use Rattle.store_spec.specs.Packets.{freshShare}
 use Rattle.store_spec.specs.Record.{inService, usedLen, held, putShares}
@@ -27,7 +27,7 @@ use Rattle.store_spec.proofs.Marks.{off-from, marksOf, mark-at, marks-o
 use Rattle.store_spec.proofs.Records.{Sound, Repairs, used-fits, facts-sound, repair-facts}
 use Rattle.store_spec.proofs.Repair.{fresh-length, true-share, moved-is}
 use Rattle.store_spec.proofs.Seam.{AllLaws}
-use Rattle.store_spec.proofs.Step.{Inv, facts, both-below, runs-different, size-off, area-same, every-same, up, lawful, few, Good, good-both, refusal-good}
+use Rattle.store_spec.proofs.Step.{Inv, facts, three-below, repeat-same, serving-same, down-same, size-off, area-same, up, lawful, few, Good, good-both, refusal-good}
 
 -- ---- the call
 
@@ -35,11 +35,11 @@ module _ (laws : AllLaws) (b : Book) (area : List ℕ) (v : Inv b area) where
   known : Sound (bookRecord b)
   known = facts laws b area v
 
-  repair-same : (fresh helpers : List ℕ)
-      → first storeOrder (repairLines (bookRecord b) (length area) fresh helpers) ≡ first storeOrder (bookLines b (repair fresh helpers))
-  unfolding repairLines bookLines
-  repair-same fresh helpers =
-      first-agree (repairLines (bookRecord b) (length area) fresh helpers) (bookLines b (repair fresh helpers)) storeOrder (
+  repair-same : (fresh helpers standIns : List ℕ)
+      → first storeOrder (repairLines (bookRecord b) (length area) fresh helpers standIns) ≡ first storeOrder (bookLines b (repair fresh helpers standIns))
+  unfolding repairLines listLines bookLines
+  repair-same fresh helpers standIns =
+      first-agree (repairLines (bookRecord b) (length area) fresh helpers standIns) (bookLines b (repair fresh helpers standIns)) storeOrder (
         size-off laws b area v,
         λ _. (
           area-same laws b area v,
@@ -50,16 +50,19 @@ module _ (laws : AllLaws) (b : Book) (area : List ℕ) (v : Inv b area) where
               λ _. (
                 refl,
                 λ _. (
-                  ap not (both-below (b .sizes .n) fresh helpers),
+                  ap not (three-below (b .sizes .n) fresh helpers standIns),
                   λ _. (
-                    ap (λ (t : Bool). not (alls (different fresh ∷ t ∷ apart fresh helpers ∷ []))) (runs-different (b .sizes .d) fresh helpers),
+                    ap not (repeat-same (b .sizes .d) (b .sizes .r - length fresh) fresh helpers standIns helpers standIns),
                     λ _. (
-                      ap not (every-same (inService (bookRecord b)) (among (b .service)) helpers (up laws b area v)),
+                      ap not (serving-same (bookRecord b) (b .service) (up laws b area v) fresh),
                       λ _. (
-                        refl,
+                        ap not (down-same (bookRecord b) (b .service) (up laws b area v) helpers standIns),
                         λ _. (
                           refl,
-                          λ _. tt,
+                          λ _. (
+                            refl,
+                            λ _. tt,
+                          ),
                         ),
                       ),
                     ),
@@ -71,9 +74,9 @@ module _ (laws : AllLaws) (b : Book) (area : List ℕ) (v : Inv b area) where
         ),
       )
 
-  repair-inv : (fresh helpers : List ℕ) → Repairs (bookRecord b) (length area) fresh helpers
-      → Inv (noted b (b .file) (fresh ++ b .service)) (repairDone (bookRecord b) area fresh helpers .area)
-  repair-inv fresh helpers f =
+  repair-inv : (fresh helpers standIns : List ℕ) → Repairs (bookRecord b) (length area) fresh helpers standIns
+      → Inv (noted b (b .file) (fresh ++ b .service)) (repairDone (bookRecord b) area fresh helpers standIns .area)
+  repair-inv fresh helpers standIns f =
       record {
         as-long = length-shares (bookRecord b) made (usedLen (bookRecord b)) long (used-fits (bookRecord b) known) fresh area (f .area-is) low ∙ v .as-long;
         is-sound = facts-sound (bookRecord (noted b (b .file) (fresh ++ b .service))) (record {
@@ -93,16 +96,13 @@ module _ (laws : AllLaws) (b : Book) (area : List ℕ) (v : Inv b area) where
       }
     where
       made : ℕ → List ℕ
-      made = freshShare (bookRecord b) area fresh helpers
-
-      r-low : 1 ≤ b .sizes .r
-      r-low = legal-facts (b .sizes) (known .is-legal) .some-fresh
+      made = freshShare (bookRecord b) area fresh helpers standIns
 
       long : (i : ℕ) → length (made i) ≡ usedLen (bookRecord b)
-      long = fresh-length (bookRecord b) area fresh helpers (length area) (lawful laws b area v .lengths) r-low f
+      long = fresh-length (bookRecord b) area fresh helpers standIns (length area) (lawful laws b area v .lengths) f
 
       low : All (λ i. i < b .sizes .n) fresh
-      low = all-left (λ i. i < b .sizes .n) fresh helpers (below-all (b .sizes .n) (fresh ++ helpers) (f .named-below))
+      low = all-left (λ i. i < b .sizes .n) fresh (helpers ++ standIns) (below-all (b .sizes .n) (fresh ++ (helpers ++ standIns)) (f .named-below))
 
       serve : All (λ i. i < b .sizes .n) (fresh ++ b .service)
       serve = append-all (λ i. i < b .sizes .n) fresh (b .service) low (v .serving)
@@ -114,7 +114,7 @@ module _ (laws : AllLaws) (b : Book) (area : List ℕ) (v : Inv b area) where
           → held (bookRecord b) (putShares (bookRecord b) made fresh area) i ≡ share (b .sizes) (b .points) (fileOf (b .file)) i
       held-by i true q e =
           shares-same (bookRecord b) made (usedLen (bookRecord b)) long (used-fits (bookRecord b) known) fresh area (f .area-is) low i q
-          ∙ true-share (bookRecord b) area fresh helpers (length area) (lawful laws b area v .lengths) r-low f (lawful laws b area v) (fileOf (b .file)) (v .bytes) refl
+          ∙ true-share (bookRecord b) area fresh helpers standIns (length area) (lawful laws b area v .lengths) f (lawful laws b area v) (fileOf (b .file)) (v .bytes) refl
           (λ j u. v .holds j (sym (up laws b area v j) ∙ u)) i q
       held-by i false q e =
           let o : among (b .service) i ≡ true = sym (among-append-none fresh (b .service) i q) ∙ e in
@@ -122,15 +122,15 @@ module _ (laws : AllLaws) (b : Book) (area : List ℕ) (v : Inv b area) where
           (all-among (λ x. x < b .sizes .n) (b .service) i (v .serving) o) q (used-fits (bookRecord b) known)
           ∙ v .holds i o
 
-  pub repair-good : (fresh helpers : List ℕ) → Good (act (record { kept = bookRecord b; area = area }) (repair fresh helpers)) (enter b (repair fresh helpers))
+  pub repair-good : (fresh helpers standIns : List ℕ) → Good (act (record { kept = bookRecord b; area = area }) (repair fresh helpers standIns)) (enter b (repair fresh helpers standIns))
   unfolding act enter accept repairCall
-  repair-good fresh helpers =
-      good-both _ _ _ _ _ _ (repair-same fresh helpers) (refusal-good laws b area v [])
-      (λ e. let f = repair-facts (bookRecord b) (length area) fresh helpers e in
+  repair-good fresh helpers standIns =
+      good-both _ _ _ _ _ _ (repair-same fresh helpers standIns) (refusal-good laws b area v [])
+      (λ e. let f = repair-facts (bookRecord b) (length area) fresh helpers standIns e in
       record {
         alike = ap (λ (m : ℕ). record { answer = said (Done m); output = [] })
-            (moved-is (bookRecord b) area fresh helpers (length area) (lawful laws b area v .lengths) (legal-facts (b .sizes) (known .is-legal) .some-fresh) f);
+            (moved-is (bookRecord b) area fresh helpers standIns (length area) (lawful laws b area v .lengths) f);
         same-record = ap (λ (m : List Bool). record { sizes = b .sizes; points = b .points; capacity = b .capacity; written = given (b .file); length = bookLength b; marks = m })
             (marks-on fresh (b .service));
-        inv = repair-inv fresh helpers f;
+        inv = repair-inv fresh helpers standIns f;
       })

@@ -6,13 +6,13 @@ use Prim.Native.Nat.{ℕ, _*_}
 use mathlib.Core.Bool.{false, not}
 use mathlib.Core.List.{List, [], _∷_, _++_}
 use mathlib.Core.Option.{Option}
-use lib.Dec.{ltb, eqb}
+use lib.Dec.{leb, ltb, eqb}
 use lib.ListN.{length, set}
 use Rattle.lists.specs.Tests.{every, alls, different, apart, given}
 use Rattle.lists.specs.Lists.{tabulate, joined, over}
 use Rattle.sizes.specs.declared.Sizes.{Sizes}
 use Rattle.sizes.specs.declared.Refusal.{Refusal}
-use Rattle.sizes.specs.declared.Refusal.the-variants.{Size, Area, Long, Count, Repeat, Short, Empty, Down, Disagree}
+use Rattle.sizes.specs.declared.Refusal.the-variants.{Size, Area, Long, Count, Repeat, Short, Empty, Down, Disagree, Serving}
 use Rattle.sizes.specs.declared.Check.{Check}
 use Rattle.sizes.specs.declared.Check.the-variants.{Pass, Refuse}
 use Rattle.sizes.specs.declared.Answer.the-variants.{Done, Refused}
@@ -22,7 +22,7 @@ use Rattle.mbcr.specs.Share.{share}
 use Rattle.mbcr.specs.Read.{readFile}
 use Rattle.board_spec.specs.Calls.{fileOf, nodeLine}
 use Rattle.store_spec.specs.Record.{Record, inService, sound, newRecord, writtenRecord, withMarks, turnOn, areaLen, held, putShares}
-use Rattle.store_spec.specs.Packets.{hearHelpers, repairPackets, freshShare, total}
+use Rattle.store_spec.specs.Packets.{hearNamed, standInsEach, repairPackets, freshShare, total}
 
 -- what a call answers, the record that it hands on, and the lent bytes after it
 pub record StoreOutcome : Type 0 where
@@ -58,7 +58,7 @@ lentLine s m = Area when not (eqb m (areaLen s))
 abbrev pub emptyLine : Record → Line
 emptyLine s = Empty when not (s .written)
 
--- "9 DOWN: a named reader or helper board out of service"
+-- "9 DOWN: a named reader or helper board out of service"; a stand-in too
 abbrev pub downLine : Record → List ℕ → Line
 downLine s boards = Down when not (every (inService s) boards)
 
@@ -70,17 +70,28 @@ writeLines s m file = recordLine s ∷ lentLine s m ∷ Long when ltb (s .capaci
 unfoldable pub loseLines : Record → ℕ → List Line
 loseLines s board = recordLine s ∷ nodeLine (s .sizes) (board ∷ []) ∷ []
 
--- "4 COUNT: a list of the wrong length". "6 REPEAT: a board .. twice among the fresh; twice in one helper list; a fresh board as helper".
-unfoldable pub repairLines : Record → ℕ → List ℕ → List ℕ → List Line
-repairLines s m fresh helpers =
-    recordLine s
-    ∷ lentLine s m
-    ∷ emptyLine s
-    ∷ Count when not (alls (eqb (length fresh) (s .sizes .r) ∷ eqb (length helpers) (s .sizes .r * s .sizes .d) ∷ []))
-    ∷ nodeLine (s .sizes) (fresh ++ helpers)
-    ∷ Repeat when not (alls (different fresh ∷ every (λ h. different (h .senders)) (hearHelpers (s .sizes .d) fresh helpers) ∷ apart fresh helpers ∷ []))
-    ∷ downLine s helpers
+-- The lists of a repair. "A repair now names t fresh boards, 1 ≤ t ≤ r. For each it names d helpers and r − t stand-ins"; "t outside 1 to r is
+-- COUNT". "All boards named for one fresh board are different and none of them is fresh." "14 SERVING, a fresh board that is in service".
+unfoldable pub listLines : Record → List ℕ → List ℕ → List ℕ → List Line
+listLines s fresh helpers standIns =
+    Count when not (alls
+    (leb 1 (length fresh)
+    ∷ leb (length fresh) (s .sizes .r)
+    ∷ eqb (length helpers) (length fresh * s .sizes .d)
+    ∷ eqb (length standIns) (length fresh * standInsEach s fresh)
+    ∷ []))
+    ∷ nodeLine (s .sizes) (fresh ++ (helpers ++ standIns))
+    ∷ Repeat when not (alls
+    (different fresh
+    ∷ every (λ h. different (h .senders)) (hearNamed (s .sizes .d) (standInsEach s fresh) fresh helpers standIns)
+    ∷ apart fresh (helpers ++ standIns)
+    ∷ []))
+    ∷ Serving when not (every (λ i. not (inService s i)) fresh)
+    ∷ downLine s (helpers ++ standIns)
     ∷ []
+
+unfoldable pub repairLines : Record → ℕ → List ℕ → List ℕ → List ℕ → List Line
+repairLines s m fresh helpers standIns = recordLine s ∷ lentLine s m ∷ emptyLine s ∷ listLines s fresh helpers standIns
 
 -- the file that the named boards hold, if there is one
 abbrev pub fileHeld : Record → List ℕ → List ℕ → Option (List ℕ)
@@ -126,14 +137,14 @@ loseCall s area board = settle (first storeOrder (loseLines s board)) (refused s
 
 -- "Repair: .. Fresh boards get their shares and come into service together. The answer reports the bytes moved, the summed length of all
 -- packets". All packets are made from the area before the call.
-abbrev pub repairDone : Record → List ℕ → List ℕ → List ℕ → StoreOutcome
-repairDone s area fresh helpers =
-    accepted (total (repairPackets s area fresh helpers)) (withMarks s (turnOn fresh (s .marks)))
-    (putShares s (freshShare s area fresh helpers) fresh area) []
+abbrev pub repairDone : Record → List ℕ → List ℕ → List ℕ → List ℕ → StoreOutcome
+repairDone s area fresh helpers standIns =
+    accepted (total (repairPackets s area fresh helpers standIns)) (withMarks s (turnOn fresh (s .marks)))
+    (putShares s (freshShare s area fresh helpers standIns) fresh area) []
 
-unfoldable pub repairCall : Record → List ℕ → List ℕ → List ℕ → StoreOutcome
-repairCall s area fresh helpers =
-    settle (first storeOrder (repairLines s (length area) fresh helpers)) (refused s area []) (repairDone s area fresh helpers)
+unfoldable pub repairCall : Record → List ℕ → List ℕ → List ℕ → List ℕ → StoreOutcome
+repairCall s area fresh helpers standIns =
+    settle (first storeOrder (repairLines s (length area) fresh helpers standIns)) (refused s area []) (repairDone s area fresh helpers standIns)
 
 -- "Read: k boards; the file goes to the first L bytes of the output, the rest of it stays."
 abbrev pub readDone : Record → List ℕ → List ℕ → List ℕ → StoreOutcome

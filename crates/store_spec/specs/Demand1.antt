@@ -7,13 +7,13 @@ use mathlib.Core.Bool.{true, false}
 use mathlib.Core.Logic.{_≢_, _↔_, _⊎_}
 use mathlib.Core.Option.{none}
 use mathlib.Core.List.{List, [], _∷_, _++_}
-use Prim.Native.Nat.{ℕ, _+_, _*_, _≤_, _<_}
+use Prim.Native.Nat.{ℕ, _+_, _-_, _*_, _≤_, _<_}
 use lib.ListN.{length, take, drop, getD}
 use Rattle.lists.specs.Tests.{every, alls, below, among, different, apart}
 use Rattle.lists.specs.Lists.{All, Bytes, tabulate, piece, over}
 use Rattle.sizes.specs.declared.Sizes.{Sizes}
 use Rattle.sizes.specs.declared.Refusal.{Refusal}
-use Rattle.sizes.specs.declared.Refusal.the-variants.{Size, Area, Long, Count, Node, Repeat, Short, Empty, Down, Disagree}
+use Rattle.sizes.specs.declared.Refusal.the-variants.{Size, Area, Long, Count, Node, Repeat, Short, Empty, Down, Disagree, Serving}
 use Rattle.sizes.specs.declared.Answer.the-variants.{Refused}
 use Rattle.sizes.specs.Sizing.{maxStripes, legal, α, B, stripes}
 use Rattle.sizes.specs.Refusals.{said, Line, appliesIn, storeOrder}
@@ -21,7 +21,7 @@ use Rattle.sizes.specs.Laws.{First}
 use Rattle.mbcr.specs.Share.{pointed, stripe, kept, share}
 use Rattle.board_spec.specs.Claims.{Claim, _means_, LinesSay}
 use Rattle.store_spec.specs.Record.{Record, inService, sound, newRecord, writtenRecord, stripeCount, partLen, usedLen, held}
-use Rattle.store_spec.specs.Calls.{StoreOutcome, accepted, refused, fileHeld, recordLine, writeLines, loseLines, repairLines, readLines, setUpCall, writeDone, writeCall}
+use Rattle.store_spec.specs.Calls.{StoreOutcome, accepted, refused, fileHeld, recordLine, writeLines, loseLines, listLines, repairLines, readLines, setUpCall, writeDone, writeCall}
 use Rattle.store_spec.specs.Calls.{loseDone, loseCall, repairDone, repairCall, readDone, readCall}
 use Rattle.store_spec.specs.Ledger.{Call, write, lose, repair, read, Book, bookRecord, bookLines}
 
@@ -43,7 +43,7 @@ pub record Stays (s : Record) (boards old new : List ℕ) : Type 0 where
 unfoldable pub storeLines : Record → List ℕ → Call → List Line
 storeLines s area (write file) = writeLines s (length area) file
 storeLines s area (lose board) = loseLines s board
-storeLines s area (repair fresh helpers) = repairLines s (length area) fresh helpers
+storeLines s area (repair fresh helpers standIns) = repairLines s (length area) fresh helpers standIns
 storeLines s area (read boards output) = readLines s area boards output
 
 -- what the lines of each call say
@@ -58,16 +58,25 @@ module _ (s : Record) where
   abbrev pub loseClaims : ℕ → List Claim
   loseClaims board = Size means (sound s ≡ false) ∷ Node means (below (s .sizes .n) (board ∷ []) ≡ false) ∷ []
 
-  abbrev pub repairClaims : ℕ → List ℕ → List ℕ → List Claim
-  repairClaims m fresh helpers =
-      lentClaims m
-      ++ (Empty means (s .written ≡ false)
-      ∷ Count means ((length fresh ≡ s .sizes .r) × (length helpers ≡ s .sizes .r * s .sizes .d) → ⊥)
-      ∷ Node means (below (s .sizes .n) (fresh ++ helpers) ≡ false)
+  -- those of a repair's lists, with r − t where t is at most r
+  abbrev pub listClaims : List ℕ → List ℕ → List ℕ → List Claim
+  listClaims fresh helpers standIns =
+      Count means
+      ((1 ≤ length fresh) × (length fresh ≤ s .sizes .r) × (length helpers ≡ length fresh * s .sizes .d)
+      × (length standIns ≡ length fresh * (s .sizes .r - length fresh)) → ⊥)
+      ∷ Node means (below (s .sizes .n) (fresh ++ (helpers ++ standIns)) ≡ false)
       ∷ Repeat means
-      (alls (different fresh ∷ every different (tabulate (length fresh) (λ a. piece (s .sizes .d) a helpers)) ∷ apart fresh helpers ∷ []) ≡ false)
-      ∷ Down means (every (inService s) helpers ≡ false)
-      ∷ [])
+      (alls
+      (different fresh
+      ∷ every different (tabulate (length fresh) (λ a. piece (s .sizes .d) a helpers ++ piece (s .sizes .r - length fresh) a standIns))
+      ∷ apart fresh (helpers ++ standIns)
+      ∷ []) ≡ false)
+      ∷ Serving means ((i : ℕ) × (among fresh i ≡ true) × (inService s i ≡ true))
+      ∷ Down means (every (inService s) (helpers ++ standIns) ≡ false)
+      ∷ []
+
+  abbrev pub repairClaims : ℕ → List ℕ → List ℕ → List ℕ → List Claim
+  repairClaims m fresh helpers standIns = lentClaims m ++ (Empty means (s .written ≡ false) ∷ listClaims fresh helpers standIns)
 
   abbrev pub readClaims : List ℕ → List ℕ → List ℕ → List Claim
   readClaims area boards output =
@@ -85,7 +94,9 @@ pub record StoreCalls : Type 0 where
   -- the lines of each call say this, and it has no others
   pub write-lines : (s : Record) (m : ℕ) (file : List ℕ) → LinesSay (writeLines s m file) (writeClaims s m file)
   pub lose-lines : (s : Record) (board : ℕ) → LinesSay (loseLines s board) (loseClaims s board)
-  pub repair-lines : (s : Record) (m : ℕ) (fresh helpers : List ℕ) → LinesSay (repairLines s m fresh helpers) (repairClaims s m fresh helpers)
+  pub list-lines : (s : Record) (fresh helpers standIns : List ℕ) → LinesSay (listLines s fresh helpers standIns) (listClaims s fresh helpers standIns)
+  pub repair-lines : (s : Record) (m : ℕ) (fresh helpers standIns : List ℕ)
+      → LinesSay (repairLines s m fresh helpers standIns) (repairClaims s m fresh helpers standIns)
   pub read-lines : (s : Record) (area boards output : List ℕ)
       → LinesSay (readLines s area boards output) (readClaims s area boards output)
   pub set-up-ends : (old : Record) (z : Sizes) (xs : List ℕ) (c : ℕ)
@@ -93,8 +104,9 @@ pub record StoreCalls : Type 0 where
   pub write-ends : (s : Record) (area file : List ℕ)
       → StoreEnds (writeLines s (length area) file) s area [] (writeDone s area file) (writeCall s area file)
   pub lose-ends : (s : Record) (area : List ℕ) (board : ℕ) → StoreEnds (loseLines s board) s area [] (loseDone s area board) (loseCall s area board)
-  pub repair-ends : (s : Record) (area fresh helpers : List ℕ)
-      → StoreEnds (repairLines s (length area) fresh helpers) s area [] (repairDone s area fresh helpers) (repairCall s area fresh helpers)
+  pub repair-ends : (s : Record) (area fresh helpers standIns : List ℕ)
+      → StoreEnds (repairLines s (length area) fresh helpers standIns) s area [] (repairDone s area fresh helpers standIns)
+      (repairCall s area fresh helpers standIns)
   pub read-ends : (s : Record) (area boards output : List ℕ)
       → StoreEnds (readLines s area boards output) s area output (readDone s area boards output) (readCall s area boards output)
   -- when a set-up is accepted
@@ -114,8 +126,8 @@ pub record StoreCalls : Type 0 where
   -- "Other bytes stay." "Only the first S stripes of fresh boards change."
   pub write-stays : (s : Record) (area file : List ℕ) → writeCall s area file .answer .refusal ≡ 0
       → Stays (writtenRecord s (length file)) (tabulate (s .sizes .n) (λ i. i)) area (writeCall s area file .area)
-  pub repair-stays : (s : Record) (area fresh helpers : List ℕ) → repairCall s area fresh helpers .answer .refusal ≡ 0
-      → Stays s fresh area (repairCall s area fresh helpers .area)
+  pub repair-stays : (s : Record) (area fresh helpers standIns : List ℕ) → repairCall s area fresh helpers standIns .answer .refusal ≡ 0
+      → Stays s fresh area (repairCall s area fresh helpers standIns .area)
   -- a read over any area, where no line but DISAGREE holds: it gives f exactly when f has length L and the k boards hold its shares, and
   -- DISAGREE exactly when there is no such file
   pub read-exact : (s : Record) (area boards output : List ℕ) → Bytes area
@@ -128,4 +140,4 @@ pub record StoreCalls : Type 0 where
   -- the ledger's lines are the store's: for each refusal but 1 and 10, by any book that tells legal sizes and names boards below n
   pub lines-agree : (b : Book) (area : List ℕ) (call : Call) → legal (b .sizes) ≡ true → All (λ i. i < b .sizes .n) (b .service) → length area ≡ b .areaLength
       → All (λ x. appliesIn (storeLines (bookRecord b) area call) x ≡ appliesIn (bookLines b call) x)
-      (Area ∷ Long ∷ Empty ∷ Count ∷ Node ∷ Repeat ∷ Down ∷ Short ∷ [])
+      (Area ∷ Long ∷ Empty ∷ Count ∷ Node ∷ Repeat ∷ Serving ∷ Down ∷ Short ∷ [])

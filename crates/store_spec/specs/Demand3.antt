@@ -13,10 +13,10 @@ use Rattle.sizes.specs.Refusals.{said}
 use Rattle.sizes.specs.Sizing.{maxStripes, legal}
 use Rattle.mbcr.specs.Share.{standard, share}
 use Rattle.mbcr.specs.PointLaws.{firstSeries}
-use Rattle.mbcr.specs.Rebuild.{helperPacket, exchangePacket, finishedShare}
+use Rattle.mbcr.specs.Rebuild.{helperPacket, standInPacket, exchangePacket, finishedShare}
 use Rattle.board_spec.specs.Calls.{fileOf}
 use Rattle.store_spec.specs.Record.{Record, stripeCount, held}
-use Rattle.store_spec.specs.Packets.{sentTo, sendersOf, contents, total, helperPackets, exchangePackets, repairPackets, freshShare}
+use Rattle.store_spec.specs.Packets.{sentTo, sendersOf, contents, total, helperPackets, standInPackets, exchangePackets, repairPackets, freshShare}
 use Rattle.store_spec.specs.Calls.{StoreOutcome, accepted, setUpCall, repairCall, readCall}
 use Rattle.store_spec.specs.Ledger.{Call, Book, State, Step, Altered, Allowed, openBook, bookLength, bookRecord, replies, final, bookReplies, bookFinal}
 
@@ -39,23 +39,31 @@ pub record Intact (w : State) (b : Book) : Type 0 where
       ≡ accepted 0 (w .kept) now (over (fileOf (b .file)) output)
 
 -- An accepted repair, over any record and any area.
-pub record Repaired (s : Record) (area fresh helpers : List ℕ) : Type 0 where
-  -- "the bytes moved, the summed length of all packets: S × r × (2d + r − 1)"
-  pub moved : repairCall s area fresh helpers .answer ≡ said (Done (total (repairPackets s area fresh helpers)))
-  pub moved-is : total (repairPackets s area fresh helpers) ≡ stripeCount s * s .sizes .r * (2 * s .sizes .d + s .sizes .r - 1)
-  -- the packets are those of the helpers and those that fresh boards exchange, which the fresh shares are made of
-  pub packets-are : repairPackets s area fresh helpers ≡ helperPackets s area fresh helpers ++ exchangePackets s area fresh helpers
-  pub shares-are : (i : ℕ) → freshShare s area fresh helpers i
+pub record Repaired (s : Record) (area fresh helpers standIns : List ℕ) : Type 0 where
+  -- "the bytes moved, the summed length of all packets"; request A.3: "the report is S × t × (2d + r − 1)"
+  pub moved : repairCall s area fresh helpers standIns .answer ≡ said (Done (total (repairPackets s area fresh helpers standIns)))
+  pub moved-is : total (repairPackets s area fresh helpers standIns) ≡ stripeCount s * length fresh * (2 * s .sizes .d + s .sizes .r - 1)
+  -- the packets are those of the helpers, of the stand-ins, and those that fresh boards exchange, which the fresh shares are made of: stand-ins and
+  -- other fresh boards are the partners
+  pub packets-are : repairPackets s area fresh helpers standIns
+      ≡ helperPackets s area fresh helpers ++ (standInPackets s area fresh standIns ++ exchangePackets s area fresh helpers)
+  pub shares-are : (i : ℕ) → freshShare s area fresh helpers standIns i
       ≡ finishedShare (s .sizes) (s .points) (stripeCount s) i
       (sendersOf (sentTo i (helperPackets s area fresh helpers))) (contents (sentTo i (helperPackets s area fresh helpers)))
-      (sendersOf (sentTo i (exchangePackets s area fresh helpers))) (contents (sentTo i (exchangePackets s area fresh helpers)))
-  -- the a-th fresh board's helpers are the a-th run of d, its partners the other fresh boards
+      (sendersOf (sentTo i (standInPackets s area fresh standIns)) ++ sendersOf (sentTo i (exchangePackets s area fresh helpers)))
+      (contents (sentTo i (standInPackets s area fresh standIns)) ++ contents (sentTo i (exchangePackets s area fresh helpers)))
+  -- the a-th fresh board's helpers are the a-th run of d, its stand-ins the a-th run of r − t, its other partners the other fresh boards
   pub helpers-are : (a : ℕ) → a < length fresh
       → sendersOf (sentTo (getD fresh a 0) (helperPackets s area fresh helpers)) ≡ take (s .sizes .d) (drop (a * s .sizes .d) helpers)
+  pub stand-ins-are : (a : ℕ) → a < length fresh
+      → sendersOf (sentTo (getD fresh a 0) (standInPackets s area fresh standIns))
+      ≡ take (s .sizes .r - length fresh) (drop (a * (s .sizes .r - length fresh)) standIns)
   pub partners-are : (i : ℕ) → among fresh i ≡ true → sendersOf (sentTo i (exchangePackets s area fresh helpers)) ≡ without i fresh
-  -- "these are the board-level packets of its senders": a helper's from what it holds, a partner's from its own helper packets
+  -- "these are the board-level packets of its senders": a helper's and a stand-in's from what it holds, a fresh partner's from its own helper packets
   pub helpers-send : (i : ℕ) → among fresh i ≡ true → contents (sentTo i (helperPackets s area fresh helpers))
       ≡ joined (λ j. helperPacket (s .sizes) (s .points) (stripeCount s) j i (held s area j)) (sendersOf (sentTo i (helperPackets s area fresh helpers)))
+  pub stand-ins-send : (i : ℕ) → among fresh i ≡ true → contents (sentTo i (standInPackets s area fresh standIns))
+      ≡ joined (λ j. standInPacket (s .sizes) (s .points) (stripeCount s) j i (held s area j)) (sendersOf (sentTo i (standInPackets s area fresh standIns)))
   pub partners-send : (i : ℕ) → among fresh i ≡ true → contents (sentTo i (exchangePackets s area fresh helpers))
       ≡ joined
       (λ m. exchangePacket (s .sizes) (s .points) (stripeCount s) (sendersOf (sentTo m (helperPackets s area fresh helpers)))
@@ -63,9 +71,9 @@ pub record Repaired (s : Record) (area fresh helpers : List ℕ) : Type 0 where
       (without i fresh)
   -- "every fresh board gets exactly 2d + r − 1 bytes per stripe"
   pub gets : (i : ℕ) → among fresh i ≡ true
-      → total (sentTo i (repairPackets s area fresh helpers)) ≡ stripeCount s * (2 * s .sizes .d + s .sizes .r - 1)
+      → total (sentTo i (repairPackets s area fresh helpers standIns)) ≡ stripeCount s * (2 * s .sizes .d + s .sizes .r - 1)
   -- "and, over any area, then holds what document 01's steps make of them": the finished share of just the packets sent to it
-  pub has : (i : ℕ) → among fresh i ≡ true → held s (repairCall s area fresh helpers .area) i ≡ freshShare s area fresh helpers i
+  pub has : (i : ℕ) → among fresh i ≡ true → held s (repairCall s area fresh helpers standIns .area) i ≡ freshShare s area fresh helpers standIns i
 
 -- the store newly set up, whatever record was handed to it and whatever the area holds
 abbrev pub begun : Record → Sizes → List ℕ → ℕ → List ℕ → State
@@ -81,7 +89,8 @@ pub record Demand3 (old : Record) (z : Sizes) (xs : List ℕ) (c : ℕ) (area : 
   -- "After the list"
   pub after : Intact (final (begun old z xs c area) steps) (bookFinal (openBook z xs c (length area)) (calls steps))
   -- "In each accepted repair", in this list or not
-  pub repaired : (s : Record) (any fresh helpers : List ℕ) → repairCall s any fresh helpers .answer .refusal ≡ 0 → Repaired s any fresh helpers
+  pub repaired : (s : Record) (any fresh helpers standIns : List ℕ) → repairCall s any fresh helpers standIns .answer .refusal ≡ 0
+      → Repaired s any fresh helpers standIns
 
 -- Demand 3: for every accepted set-up, with whatever points, any first area and any list of calls that is allowed.
 abbrev pub Demand3Claim : Type 0

@@ -72,6 +72,33 @@ lost = withMarks written (false ∷ false ∷ true ∷ true ∷ true ∷ replica
 abbrev lost-three : Record
 lost-three = withMarks written (false ∷ false ∷ true ∷ true ∷ replicate 28 false)
 
+-- board 1 is lost alone, and its bytes spoiled
+abbrev lost-one : Record
+lost-one = withMarks written (true ∷ false ∷ true ∷ true ∷ true ∷ replicate 27 false)
+
+abbrev one-spoiled : List ℕ
+one-spoiled = replicate 7 0 ++ replicate 7 0x77 ++ boards234
+
+-- n=6, k=1, d=2, r=3, the file 01 .. 06: boards 0 and 1 are lost and spoiled
+abbrev six-sizes : Sizes
+six-sizes = record { n = 6; k = 1; d = 2; r = 3 }
+
+abbrev six : List Bool → Record
+six on = record { sizes = six-sizes; points = standard six-sizes; capacity = 1; written = true; length = 6; marks = take 32 (on ++ replicate 32 false) }
+
+abbrev six-lost : Record
+six-lost = six (false ∷ false ∷ true ∷ true ∷ true ∷ true ∷ [])
+
+abbrev boards2345 : List ℕ
+boards2345 =
+    0x75 ∷ 0x6D ∷ 0x41 ∷ 0x11 ∷ 0x0D ∷ 0x73
+    ∷ 0x6B ∷ 0x47 ∷ 0x17 ∷ 0x0B ∷ 0x0B ∷ 0x79
+    ∷ 0x55 ∷ 0x05 ∷ 0x19 ∷ 0x19 ∷ 0x61 ∷ 0x53
+    ∷ 0x03 ∷ 0x1F ∷ 0x1F ∷ 0x67 ∷ 0x7F ∷ 0x1D ∷ []
+
+abbrev six-spoiled : List ℕ
+six-spoiled = replicate 12 0x77 ++ boards2345
+
 -- n=4, k=1, d=1, r=2, the file 01 02 03, F = 1 + 2Y + 3Y²: boards 0 and 1 are lost and spoiled, and have different helpers
 abbrev four-sizes : Sizes
 four-sizes = record { n = 4; k = 1; d = 1; r = 2 }
@@ -136,7 +163,7 @@ pub record FurtherFigures : Type 0 where
       (setUpCall unsound four-sizes xs 1
       ∷ writeCall (pointed-record xs) (replicate 12 0) []
       ∷ loseCall (pointed-record xs) [] 0
-      ∷ repairCall (four-at xs (replicate 4 true)) points4-area (0 ∷ 1 ∷ []) (2 ∷ 3 ∷ [])
+      ∷ repairCall (four-at xs (replicate 4 true)) points4-area (0 ∷ 1 ∷ []) (2 ∷ 3 ∷ []) []
       ∷ readCall (four-at xs (replicate 4 true)) points4-area (0 ∷ []) (replicate 3 0)
       ∷ []))
       (set points4 1 0x05 ∷ set points4 3 0x80 ∷ set points4 4 0xFF ∷ set points4 31 1 ∷ take 31 points4 ∷ [])
@@ -147,10 +174,10 @@ pub record FurtherFigures : Type 0 where
   -- at these points: write, two losses, a repair of the two boards, whose bytes were spoiled, a read
   pub points-write : writeCall (pointed-record points4) (replicate 12 0xEE) (0x01 ∷ 0x02 ∷ 0x03 ∷ []) ≡ gives 0 0 (four-at points4 (replicate 4 true)) points4-area []
   pub points-losses : loseCall (loseCall (four-at points4 (replicate 4 true)) [] 0 .handed) [] 1 .handed ≡ four-at points4 (false ∷ false ∷ true ∷ true ∷ [])
-  pub points-repair : repairCall (four-at points4 (false ∷ false ∷ true ∷ true ∷ [])) (replicate 6 0x77 ++ drop 6 points4-area) (0 ∷ 1 ∷ []) (2 ∷ 3 ∷ [])
+  pub points-repair : repairCall (four-at points4 (false ∷ false ∷ true ∷ true ∷ [])) (replicate 6 0x77 ++ drop 6 points4-area) (0 ∷ 1 ∷ []) (2 ∷ 3 ∷ []) []
       ≡ gives 0 6 (four-at points4 (replicate 4 true)) points4-area []
   pub points-packets : map
-      (λ i. contents (sentTo i (repairPackets (four-at points4 (false ∷ false ∷ true ∷ true ∷ [])) (replicate 6 0x77 ++ drop 6 points4-area) (0 ∷ 1 ∷ []) (2 ∷ 3 ∷ []))))
+      (λ i. contents (sentTo i (repairPackets (four-at points4 (false ∷ false ∷ true ∷ true ∷ [])) (replicate 6 0x77 ++ drop 6 points4-area) (0 ∷ 1 ∷ []) (2 ∷ 3 ∷ []) [])))
       (0 ∷ 1 ∷ [])
       ≡ (0x38 ∷ 0x29 ∷ 0x01 ∷ []) ∷ (0x01 ∷ 0xEF ∷ 0x38 ∷ []) ∷ []
   pub points-read : readCall (four-at points4 (replicate 4 true)) points4-area (3 ∷ []) (replicate 4 0xEE)
@@ -173,7 +200,7 @@ pub record FurtherFigures : Type 0 where
   pub size-cases :
       map
       (λ s.
-      answers (writeCall s (replicate 35 0) [] ∷ loseCall s [] 0 ∷ repairCall s spoiled (0 ∷ 1 ∷ []) helpers ∷ readCall s spoiled (2 ∷ 3 ∷ []) [] ∷ []))
+      answers (writeCall s (replicate 35 0) [] ∷ loseCall s [] 0 ∷ repairCall s spoiled (0 ∷ 1 ∷ []) helpers [] ∷ readCall s spoiled (2 ∷ 3 ∷ []) [] ∷ []))
       (unsound
       ∷ five-record true 12 (false ∷ false ∷ false ∷ false ∷ false ∷ true ∷ [])
       ∷ five-record false 1 []
@@ -188,29 +215,43 @@ pub record FurtherFigures : Type 0 where
       answers (loseCall unsound [] 0 ∷ loseCall (newRecord five (standard five) 1) [] 5 ∷ loseCall unsound [] 5
       ∷ loseCall lost [] 4 ∷ loseCall (newRecord five (standard five) 1) [] 4 ∷ loseCall lost [] 0 ∷ [])
       ≡ 1 ∷ 5 ∷ 1 ∷ 0 ∷ 0 ∷ 0 ∷ []
-  -- repair: 1, 2, 8, 4 of the fresh and of the helpers, 5 of each, 6 of the fresh, of one list and of a fresh board as another's helper, 9; then
-  -- each before the next
+  -- repair: 1, 2, 8; 4 with no fresh board, with three where r is 2, with too few helpers, with a stand-in where t is r, with none where t is below r,
+  -- and with a list of each too long; 5 of a fresh board, of a helper, of a stand-in; 6 of the fresh, of one list of helpers, of a fresh board as
+  -- another's helper, of a fresh stand-in, of a helper that stands in for the same board; 14 of the first and of the
+  -- second; 9 of a helper, of a stand-in; then each before the next
   pub repair-refusals :
       answers
-      (repairCall unsound spoiled (0 ∷ 1 ∷ []) helpers
-      ∷ repairCall lost [] (0 ∷ 1 ∷ []) helpers
-      ∷ repairCall (newRecord five (standard five) 1) spoiled (0 ∷ 1 ∷ []) helpers
-      ∷ repairCall lost spoiled (0 ∷ []) helpers
-      ∷ repairCall lost spoiled (0 ∷ 1 ∷ []) (2 ∷ 3 ∷ 4 ∷ [])
-      ∷ repairCall lost spoiled (0 ∷ 5 ∷ []) helpers
-      ∷ repairCall lost spoiled (0 ∷ 1 ∷ []) (2 ∷ 3 ∷ 4 ∷ 2 ∷ 3 ∷ 5 ∷ [])
-      ∷ repairCall lost spoiled (0 ∷ 0 ∷ []) helpers
-      ∷ repairCall lost spoiled (0 ∷ 1 ∷ []) (2 ∷ 3 ∷ 4 ∷ 2 ∷ 3 ∷ 3 ∷ [])
-      ∷ repairCall lost spoiled (0 ∷ 1 ∷ []) (2 ∷ 3 ∷ 4 ∷ 2 ∷ 3 ∷ 0 ∷ [])
-      ∷ repairCall lost-three spoiled (0 ∷ 1 ∷ []) helpers
-      ∷ repairCall unsound [] (0 ∷ 1 ∷ []) helpers
-      ∷ repairCall (newRecord five (standard five) 1) [] (0 ∷ 1 ∷ []) helpers
-      ∷ repairCall (newRecord five (standard five) 1) spoiled [] helpers
-      ∷ repairCall lost spoiled (9 ∷ []) helpers
-      ∷ repairCall lost spoiled (9 ∷ 9 ∷ []) helpers
-      ∷ repairCall lost-three spoiled (0 ∷ 1 ∷ []) (2 ∷ 3 ∷ 4 ∷ 2 ∷ 4 ∷ 4 ∷ [])
+      (repairCall unsound spoiled (0 ∷ 1 ∷ []) helpers []
+      ∷ repairCall lost [] (0 ∷ 1 ∷ []) helpers []
+      ∷ repairCall (newRecord five (standard five) 1) spoiled (0 ∷ 1 ∷ []) helpers []
+      ∷ repairCall lost spoiled [] [] []
+      ∷ repairCall lost-three spoiled (0 ∷ 1 ∷ 4 ∷ []) (2 ∷ 3 ∷ 2 ∷ 3 ∷ 2 ∷ 3 ∷ 2 ∷ 3 ∷ 2 ∷ []) []
+      ∷ repairCall lost spoiled (0 ∷ 1 ∷ []) (2 ∷ 3 ∷ 4 ∷ []) []
+      ∷ repairCall lost spoiled (0 ∷ 1 ∷ []) helpers (2 ∷ [])
+      ∷ repairCall lost-one one-spoiled (1 ∷ []) (0 ∷ 2 ∷ 3 ∷ []) []
+      ∷ repairCall lost spoiled (0 ∷ []) helpers (1 ∷ [])
+      ∷ repairCall lost-one one-spoiled (1 ∷ []) (0 ∷ 2 ∷ 3 ∷ []) (4 ∷ 4 ∷ [])
+      ∷ repairCall lost spoiled (0 ∷ 5 ∷ []) helpers []
+      ∷ repairCall lost spoiled (0 ∷ 1 ∷ []) (2 ∷ 3 ∷ 4 ∷ 2 ∷ 3 ∷ 5 ∷ []) []
+      ∷ repairCall lost-one one-spoiled (1 ∷ []) (0 ∷ 2 ∷ 3 ∷ []) (5 ∷ [])
+      ∷ repairCall lost spoiled (0 ∷ 0 ∷ []) helpers []
+      ∷ repairCall lost spoiled (0 ∷ 1 ∷ []) (2 ∷ 3 ∷ 4 ∷ 2 ∷ 3 ∷ 3 ∷ []) []
+      ∷ repairCall lost spoiled (0 ∷ 1 ∷ []) (2 ∷ 3 ∷ 4 ∷ 2 ∷ 3 ∷ 0 ∷ []) []
+      ∷ repairCall lost-one one-spoiled (1 ∷ []) (0 ∷ 2 ∷ 3 ∷ []) (1 ∷ [])
+      ∷ repairCall lost-one one-spoiled (1 ∷ []) (0 ∷ 2 ∷ 3 ∷ []) (3 ∷ [])
+      ∷ repairCall lost-one one-spoiled (0 ∷ 1 ∷ []) helpers []
+      ∷ repairCall lost-one one-spoiled (1 ∷ 0 ∷ []) helpers []
+      ∷ repairCall lost-three spoiled (0 ∷ 1 ∷ []) helpers []
+      ∷ repairCall lost spoiled (1 ∷ []) (2 ∷ 3 ∷ 4 ∷ []) (0 ∷ [])
+      ∷ repairCall unsound [] (0 ∷ 1 ∷ []) helpers []
+      ∷ repairCall (newRecord five (standard five) 1) [] (0 ∷ 1 ∷ []) helpers []
+      ∷ repairCall (newRecord five (standard five) 1) spoiled [] helpers []
+      ∷ repairCall lost spoiled (9 ∷ []) helpers []
+      ∷ repairCall lost spoiled (9 ∷ 9 ∷ []) helpers []
+      ∷ repairCall written area (1 ∷ []) (0 ∷ 2 ∷ 3 ∷ []) (1 ∷ [])
+      ∷ repairCall lost-three spoiled (2 ∷ []) (0 ∷ 1 ∷ 3 ∷ []) (4 ∷ [])
       ∷ [])
-      ≡ 1 ∷ 2 ∷ 8 ∷ 4 ∷ 4 ∷ 5 ∷ 5 ∷ 6 ∷ 6 ∷ 6 ∷ 9 ∷ 1 ∷ 2 ∷ 8 ∷ 4 ∷ 5 ∷ 6 ∷ []
+      ≡ 1 ∷ 2 ∷ 8 ∷ 4 ∷ 4 ∷ 4 ∷ 4 ∷ 4 ∷ 4 ∷ 4 ∷ 5 ∷ 5 ∷ 5 ∷ 6 ∷ 6 ∷ 6 ∷ 6 ∷ 6 ∷ 14 ∷ 14 ∷ 9 ∷ 9 ∷ 1 ∷ 2 ∷ 8 ∷ 4 ∷ 5 ∷ 6 ∷ 14 ∷ []
   -- read: 1, 2, 8, 4 ("a read of k − 1 boards is COUNT"), 5, 6, 9, 7, 10; then each before the next
   pub read-refusals :
       answers
@@ -234,16 +275,24 @@ pub record FurtherFigures : Type 0 where
       ∷ [])
       ≡ 1 ∷ 2 ∷ 8 ∷ 4 ∷ 5 ∷ 6 ∷ 9 ∷ 7 ∷ 10 ∷ 1 ∷ 2 ∷ 8 ∷ 4 ∷ 5 ∷ 6 ∷ 9 ∷ 7 ∷ []
   -- the boards at whose points a repair interpolates: board 0 is fresh with helper 2 and partner 1, board 1 with helper 3 and partner 0
-  pub repair-runs : repairRuns four-lost (0 ∷ 1 ∷ []) (2 ∷ 3 ∷ [])
+  pub repair-runs : repairRuns four-lost (0 ∷ 1 ∷ []) (2 ∷ 3 ∷ []) []
       ≡ (2 ∷ 3 ∷ 0 ∷ []) ∷ (2 ∷ []) ∷ (2 ∷ []) ∷ (2 ∷ 1 ∷ 0 ∷ [])
       ∷ (3 ∷ 0 ∷ 1 ∷ []) ∷ (3 ∷ []) ∷ (3 ∷ []) ∷ (3 ∷ 0 ∷ 1 ∷ []) ∷ []
+  -- and with a stand-in: board 1 is fresh alone, with helpers 0, 2, 3 and stand-in 4
+  pub stand-in-runs : repairRuns lost-one (1 ∷ []) (0 ∷ 2 ∷ 3 ∷ []) (4 ∷ [])
+      ≡ (0 ∷ 1 ∷ 2 ∷ 3 ∷ 4 ∷ []) ∷ (0 ∷ 1 ∷ 2 ∷ [])
+      ∷ (2 ∷ 3 ∷ 4 ∷ 0 ∷ 1 ∷ []) ∷ (2 ∷ 3 ∷ 4 ∷ [])
+      ∷ (3 ∷ 4 ∷ 0 ∷ 1 ∷ 2 ∷ []) ∷ (3 ∷ 4 ∷ 0 ∷ [])
+      ∷ (4 ∷ 0 ∷ 1 ∷ 2 ∷ 3 ∷ []) ∷ (4 ∷ 0 ∷ 1 ∷ [])
+      ∷ (0 ∷ 2 ∷ 3 ∷ []) ∷ (0 ∷ 2 ∷ 3 ∷ 4 ∷ 1 ∷ []) ∷ []
   -- a refused write and a refused repair leave record and area
   pub refused-write : writeCall (newRecord five (standard five) 1) (replicate 35 0xAB) (replicate 13 0)
       ≡ gives 3 0 (newRecord five (standard five) 1) (replicate 35 0xAB) []
-  pub refused-repair : repairCall lost spoiled (0 ∷ []) helpers ≡ gives 4 0 lost spoiled []
+  pub refused-repair : repairCall lost spoiled (0 ∷ []) helpers [] ≡ gives 4 0 lost spoiled []
+  pub refused-serving : repairCall written area (1 ∷ []) (0 ∷ 2 ∷ 3 ∷ []) (4 ∷ []) ≡ gives 14 0 written area []
   -- two losses, then a repair: 6 bytes moved, and all boards hold their shares
   pub losses : loseCall (loseCall (four (replicate 4 true)) [] 0 .handed) [] 1 .handed ≡ four-lost
-  pub repaired : repairCall four-lost four-spoiled (0 ∷ 1 ∷ []) (2 ∷ 3 ∷ [])
+  pub repaired : repairCall four-lost four-spoiled (0 ∷ 1 ∷ []) (2 ∷ 3 ∷ []) []
       ≡ gives 0 6 (four (replicate 4 true)) ((0x01 ∷ 0x00 ∷ 0x09 ∷ 0x00 ∷ 0x09 ∷ 0x08 ∷ []) ++ boards23) []
   -- a read of the file 05 03 from board 1, past the end of which the output stays
   pub read-back : readCall (half-full 2) half-full-area (1 ∷ []) (replicate 3 0xEE)
@@ -251,9 +300,28 @@ pub record FurtherFigures : Type 0 where
   -- "for each, its own list of d helpers": boards 0 and 1 fresh, helpers 2 and 3; 01 goes from board 0 to board 1, 00 from board 1 to board 0
   pub own-helpers : map (λ i. sendersOf (sentTo i (helperPackets four-lost four-spoiled (0 ∷ 1 ∷ []) (2 ∷ 3 ∷ [])))) (0 ∷ 1 ∷ []) ≡ (2 ∷ []) ∷ (3 ∷ []) ∷ []
   pub own-partners : map (λ i. sendersOf (sentTo i (exchangePackets four-lost four-spoiled (0 ∷ 1 ∷ []) (2 ∷ 3 ∷ [])))) (0 ∷ 1 ∷ []) ≡ (1 ∷ []) ∷ (0 ∷ []) ∷ []
-  pub own-packets : map (λ i. contents (sentTo i (repairPackets four-lost four-spoiled (0 ∷ 1 ∷ []) (2 ∷ 3 ∷ [])))) (0 ∷ 1 ∷ [])
+  pub own-packets : map (λ i. contents (sentTo i (repairPackets four-lost four-spoiled (0 ∷ 1 ∷ []) (2 ∷ 3 ∷ []) []))) (0 ∷ 1 ∷ [])
       ≡ (0x01 ∷ 0x09 ∷ 0x00 ∷ []) ∷ (0x00 ∷ 0x08 ∷ 0x01 ∷ []) ∷ []
+  -- request A.3, n=5, k=2, d=3, r=2: board 1 is lost alone; helpers 0, 2 and 3 send 00 00, 04 02 and 05 03, stand-in 4 sends 04; 7 bytes moved, and
+  -- board 1 holds 01 02 03 04 00 04 05 again
+  pub stand-in-packets : map (λ p. p .bytes) (repairPackets lost-one one-spoiled (1 ∷ []) (0 ∷ 2 ∷ 3 ∷ []) (4 ∷ []))
+      ≡ (0x00 ∷ 0x00 ∷ []) ∷ (0x04 ∷ 0x02 ∷ []) ∷ (0x05 ∷ 0x03 ∷ []) ∷ (0x04 ∷ []) ∷ []
+  pub stand-in-senders : sendersOf (repairPackets lost-one one-spoiled (1 ∷ []) (0 ∷ 2 ∷ 3 ∷ []) (4 ∷ [])) ≡ 0 ∷ 2 ∷ 3 ∷ 4 ∷ []
+  pub stand-in-repair : repairCall lost-one one-spoiled (1 ∷ []) (0 ∷ 2 ∷ 3 ∷ []) (4 ∷ []) ≡ gives 0 7 written area []
+  -- n=6, k=1, d=2, r=3, the file 01 .. 06: two boards are lost, and helpers of one stand in for the other. To board 0 go 0D 79, 0B 61 from 2 and 3,
+  -- 4D from stand-in 4, 01 from board 1; to board 1 go 19 4B, 1F 1B from 4 and 5, 7F from stand-in 2, 07 from board 0
+  pub mixed-packets : map (λ i. contents (sentTo i (repairPackets six-lost six-spoiled (0 ∷ 1 ∷ []) (2 ∷ 3 ∷ 4 ∷ 5 ∷ []) (4 ∷ 2 ∷ [])))) (0 ∷ 1 ∷ [])
+      ≡ (0x0D ∷ 0x79 ∷ 0x0B ∷ 0x61 ∷ 0x4D ∷ 0x01 ∷ []) ∷ (0x19 ∷ 0x4B ∷ 0x1F ∷ 0x1B ∷ 0x7F ∷ 0x07 ∷ []) ∷ []
+  pub mixed-senders : map (λ i. sendersOf (sentTo i (repairPackets six-lost six-spoiled (0 ∷ 1 ∷ []) (2 ∷ 3 ∷ 4 ∷ 5 ∷ []) (4 ∷ 2 ∷ [])))) (0 ∷ 1 ∷ [])
+      ≡ (2 ∷ 3 ∷ 4 ∷ 1 ∷ []) ∷ (4 ∷ 5 ∷ 2 ∷ 0 ∷ []) ∷ []
+  pub mixed-repair : repairCall six-lost six-spoiled (0 ∷ 1 ∷ []) (2 ∷ 3 ∷ 4 ∷ 5 ∷ []) (4 ∷ 2 ∷ [])
+      ≡ gives 0 12 (six (replicate 6 true))
+      ((0x01 ∷ 0x01 ∷ 0x79 ∷ 0x61 ∷ 0x4D ∷ 0x07 ∷ 0x07 ∷ 0x7F ∷ 0x67 ∷ 0x4B ∷ 0x1B ∷ 0x0D ∷ []) ++ boards2345) []
+  -- one board stands in for both
+  pub stands-in-twice : repairCall six-lost six-spoiled (0 ∷ 1 ∷ []) (2 ∷ 3 ∷ 2 ∷ 3 ∷ []) (4 ∷ 4 ∷ [])
+      ≡ gives 0 12 (six (replicate 6 true))
+      ((0x01 ∷ 0x01 ∷ 0x79 ∷ 0x61 ∷ 0x4D ∷ 0x07 ∷ 0x07 ∷ 0x7F ∷ 0x67 ∷ 0x4B ∷ 0x1B ∷ 0x0D ∷ []) ++ boards2345) []
   -- C = 2, S = 1: stripe s of board i starts at (i × C + s) × α, and the second stripes stay
   pub write-places : writeCall (newRecord two (standard two) 2) (replicate 8 0xFF) twoFile .area ≡ half-full-area
-  pub repair-places : repairCall (half-full 2) (0x77 ∷ 0x77 ∷ 0x77 ∷ 0x77 ∷ 0x06 ∷ 0x05 ∷ 0xFF ∷ 0xFF ∷ []) (0 ∷ []) (1 ∷ []) .area
+  pub repair-places : repairCall (loseCall (half-full 2) [] 0 .handed) (0x77 ∷ 0x77 ∷ 0x77 ∷ 0x77 ∷ 0x06 ∷ 0x05 ∷ 0xFF ∷ 0xFF ∷ []) (0 ∷ []) (1 ∷ []) [] .area
       ≡ 0x05 ∷ 0x06 ∷ 0x77 ∷ 0x77 ∷ 0x06 ∷ 0x05 ∷ 0xFF ∷ 0xFF ∷ []

@@ -5,13 +5,13 @@ use mathlib.Core.Path.{_≡_}
 use mathlib.Core.Bool.{Bool, true, not}
 use mathlib.Core.List.{List, [], _∷_, _++_, map}
 use mathlib.Core.Option.{Option, some, none}
-use lib.Dec.{ltb, eqb}
+use lib.Dec.{leb, ltb, eqb}
 use lib.ListN.{length}
 use Rattle.lists.specs.Tests.{every, alls, below, among, different, apart, given}
 use Rattle.lists.specs.Lists.{All, Bytes, tabulate, piece, without, over}
 use Rattle.sizes.specs.declared.Sizes.{Sizes}
 use Rattle.sizes.specs.declared.Refusal.{Refusal}
-use Rattle.sizes.specs.declared.Refusal.the-variants.{Area, Long, Count, Node, Repeat, Short, Empty, Down}
+use Rattle.sizes.specs.declared.Refusal.the-variants.{Area, Long, Count, Node, Repeat, Short, Empty, Down, Serving}
 use Rattle.sizes.specs.declared.Answer.the-variants.{Done, Refused}
 use Rattle.sizes.specs.Sizing.{maxBoards, α, B, stripes}
 use Rattle.sizes.specs.Refusals.{Said, said, Line, _when_, first, storeOrder}
@@ -23,7 +23,7 @@ use Rattle.store_spec.specs.Calls.{StoreOutcome, settle, writeCall, lose
 pub data Call : Type 0 where
   write : (file : List ℕ) → Call
   lose : (board : ℕ) → Call
-  repair : (fresh helpers : List ℕ) → Call
+  repair : (fresh helpers standIns : List ℕ) → Call
   read : (boards output : List ℕ) → Call
 
 -- what store and ledger have to agree in: "refused or not, the number, the bytes moved, and all bytes of a read's output after it"
@@ -60,13 +60,24 @@ bookLines b (write file) =
     ∷ Long when ltb (b .capacity * B (b .sizes)) (length file)
     ∷ []
 bookLines b (lose board) = Node when not (ltb board (b .sizes .n)) ∷ []
-bookLines b (repair fresh helpers) =
+bookLines b (repair fresh helpers standIns) =
     Area when not (eqb (b .areaLength) (b .sizes .n * (b .capacity * α (b .sizes))))
     ∷ Empty when not (given (b .file))
-    ∷ Count when not (alls (eqb (length fresh) (b .sizes .r) ∷ eqb (length helpers) (b .sizes .r * b .sizes .d) ∷ []))
-    ∷ Node when not (alls (below (b .sizes .n) fresh ∷ below (b .sizes .n) helpers ∷ []))
-    ∷ Repeat when not (alls (different fresh ∷ every different (tabulate (length fresh) (λ a. piece (b .sizes .d) a helpers)) ∷ apart fresh helpers ∷ []))
-    ∷ Down when not (every (among (b .service)) helpers)
+    ∷ Count when not (alls
+    (leb 1 (length fresh)
+    ∷ leb (length fresh) (b .sizes .r)
+    ∷ eqb (length helpers) (length fresh * b .sizes .d)
+    ∷ eqb (length standIns) (length fresh * (b .sizes .r - length fresh))
+    ∷ []))
+    ∷ Node when not (alls (below (b .sizes .n) fresh ∷ below (b .sizes .n) helpers ∷ below (b .sizes .n) standIns ∷ []))
+    ∷ Repeat when not (alls
+    (different fresh
+    ∷ every different (tabulate (length fresh) (λ a. piece (b .sizes .d) a helpers ++ piece (b .sizes .r - length fresh) a standIns))
+    ∷ apart fresh helpers
+    ∷ apart fresh standIns
+    ∷ []))
+    ∷ Serving when not (apart (b .service) fresh)
+    ∷ Down when not (alls (every (among (b .service)) helpers ∷ every (among (b .service)) standIns ∷ []))
     ∷ []
 bookLines b (read boards output) =
     Area when not (eqb (b .areaLength) (b .sizes .n * (b .capacity * α (b .sizes))))
@@ -90,15 +101,15 @@ replied a output b = record { reply = record { answer = a; output = output }; bo
 abbrev pub outputOf : Call → List ℕ
 outputOf (write file) = []
 outputOf (lose board) = []
-outputOf (repair fresh helpers) = []
+outputOf (repair fresh helpers standIns) = []
 outputOf (read boards output) = output
 
 -- a call that is not refused
 unfoldable pub accept : Book → Call → Entry
 accept b (write file) = replied (said (Done 0)) [] (noted b (some file) (tabulate (b .sizes .n) (λ i. i)))
 accept b (lose board) = replied (said (Done 0)) [] (noted b (b .file) (without board (b .service)))
-accept b (repair fresh helpers) =
-    replied (said (Done (stripes (b .sizes) (bookLength b) * b .sizes .r * (2 * b .sizes .d + b .sizes .r - 1)))) []
+accept b (repair fresh helpers standIns) =
+    replied (said (Done (stripes (b .sizes) (bookLength b) * length fresh * (2 * b .sizes .d + b .sizes .r - 1)))) []
     (noted b (b .file) (fresh ++ b .service))
 accept b (read boards output) = replied (said (Done 0)) (over (fileOf (b .file)) output) b
 
@@ -116,7 +127,7 @@ pub record State : Type 0 where
 unfoldable pub act : State → Call → StoreOutcome
 act w (write file) = writeCall (w .kept) (w .area) file
 act w (lose board) = loseCall (w .kept) (w .area) board
-act w (repair fresh helpers) = repairCall (w .kept) (w .area) fresh helpers
+act w (repair fresh helpers standIns) = repairCall (w .kept) (w .area) fresh helpers standIns
 act w (read boards output) = readCall (w .kept) (w .area) boards output
 
 abbrev pub replyOf : StoreOutcome → Reply
@@ -145,7 +156,7 @@ pub record Altered (b : Book) (s : Record) (old new : List ℕ) : Type 0 where
 abbrev pub Fair : Call → Type 0
 Fair (write file) = Bytes file
 Fair (lose board) = Unit
-Fair (repair fresh helpers) = Unit
+Fair (repair fresh helpers standIns) = Unit
 Fair (read boards output) = Unit
 
 abbrev pub Allowed : State → Book → List Step → Type 0

@@ -19,8 +19,8 @@ reply refusal value output = record { answer = record { refusal = refusal; repor
 abbrev step : List ℕ → Call → Step
 step lent call = record { area = lent; call = call }
 
--- five boards of one stripe, at five points that are not their numbers. Boards 0 and 1 are lost and spoiled, rebuilt, and board 1 is lost again and
--- spoiled.
+-- five boards of one stripe, at five points that are not their numbers. Boards 0 and 1 are lost and spoiled, rebuilt; board 1 is lost again and
+-- spoiled, rebuilt alone with a stand-in, and lost and spoiled once more.
 abbrev points5 : List ℕ
 points5 = 0x05 ∷ 0xFF ∷ 0x80 ∷ 0x1D ∷ 0x02 ∷ replicate 27 0
 
@@ -60,8 +60,12 @@ steps =
     ∷ step area (lose 0)
     ∷ step area (lose 1)
     ∷ step spoiled (read (0 ∷ 2 ∷ []) (replicate 14 0x55))
-    ∷ step spoiled (repair (0 ∷ 1 ∷ []) (2 ∷ 3 ∷ 4 ∷ 2 ∷ 3 ∷ []))
-    ∷ step spoiled (repair (0 ∷ 1 ∷ []) helpers)
+    ∷ step spoiled (repair (0 ∷ 1 ∷ []) (2 ∷ 3 ∷ 4 ∷ 2 ∷ 3 ∷ []) [])
+    ∷ step spoiled (repair (0 ∷ 1 ∷ []) helpers [])
+    ∷ step area (lose 1)
+    ∷ step again (repair (0 ∷ []) (1 ∷ 2 ∷ 3 ∷ []) (4 ∷ []))
+    ∷ step again (repair (1 ∷ []) (0 ∷ 2 ∷ 3 ∷ []) (4 ∷ []))
+    ∷ step area (read (0 ∷ 1 ∷ []) (replicate 12 0x55))
     ∷ step area (lose 1)
     ∷ step again (read (4 ∷ 0 ∷ []) (replicate 14 0x55))
     ∷ step again (read (4 ∷ 0 ∷ []) (replicate 11 0x55))
@@ -78,6 +82,10 @@ told =
     ∷ reply 9 0 (replicate 14 0x55)
     ∷ reply 4 0 []
     ∷ reply 0 14 []
+    ∷ reply 0 0 []
+    ∷ reply 14 0 []
+    ∷ reply 0 7 []
+    ∷ reply 0 0 (0 ∷ 0 ∷ 0 ∷ 0 ∷ 0 ∷ 0 ∷ 0 ∷ 0 ∷ 0 ∷ 0 ∷ 0 ∷ 1 ∷ [])
     ∷ reply 0 0 []
     ∷ reply 0 0 (0 ∷ 0 ∷ 0 ∷ 0 ∷ 0 ∷ 0 ∷ 0 ∷ 0 ∷ 0 ∷ 0 ∷ 0 ∷ 1 ∷ 0x55 ∷ 0x55 ∷ [])
     ∷ reply 7 0 (replicate 11 0x55)

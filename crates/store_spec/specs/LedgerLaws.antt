@@ -28,8 +28,8 @@ pub record LedgerLaws : Type 0 where
       → (enter b (lose board) .book .file ≡ b .file)
       × ((i : ℕ) → among (enter b (lose board) .book .service) i ≡ pick (eqb board i) false (among (b .service) i))
   -- "Fresh boards .. come into service together"
-  pub repairs : (b : Book) (fresh helpers : List ℕ) → Accepted b (repair fresh helpers)
-      → (enter b (repair fresh helpers) .book .file ≡ b .file)
-      × ((i : ℕ) → among (enter b (repair fresh helpers) .book .service) i ≡ pick (among fresh i) true (among (b .service) i))
+  pub repairs : (b : Book) (fresh helpers standIns : List ℕ) → Accepted b (repair fresh helpers standIns)
+      → (enter b (repair fresh helpers standIns) .book .file ≡ b .file)
+      × ((i : ℕ) → among (enter b (repair fresh helpers standIns) .book .service) i ≡ pick (among fresh i) true (among (b .service) i))
   -- a read changes no book
   pub reads : (b : Book) (boards output : List ℕ) → enter b (read boards output) .book ≡ b

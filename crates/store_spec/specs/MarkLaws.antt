@@ -32,10 +32,10 @@ pub record MarkLaws : Type 0 where
       → ((i : ℕ) → inService (loseCall s area board .handed) i ≡ pick (eqb board i) false (inService s i))
       × SameStore (loseCall s area board .handed) s × SameFile (loseCall s area board .handed) s
   -- "Fresh boards .. come into service together"
-  pub repairs : (s : Record) (area fresh helpers : List ℕ) → length (s .marks) ≡ maxBoards
-      → repairCall s area fresh helpers .answer .refusal ≡ 0
-      → ((i : ℕ) → i < maxBoards → inService (repairCall s area fresh helpers .handed) i ≡ pick (among fresh i) true (inService s i))
-      × SameStore (repairCall s area fresh helpers .handed) s × SameFile (repairCall s area fresh helpers .handed) s
+  pub repairs : (s : Record) (area fresh helpers standIns : List ℕ) → length (s .marks) ≡ maxBoards
+      → repairCall s area fresh helpers standIns .answer .refusal ≡ 0
+      → ((i : ℕ) → i < maxBoards → inService (repairCall s area fresh helpers standIns .handed) i ≡ pick (among fresh i) true (inService s i))
+      × SameStore (repairCall s area fresh helpers standIns .handed) s × SameFile (repairCall s area fresh helpers standIns .handed) s
   -- whatever the call: a refused one leaves record, area and output as they came, and one on 32 marks hands on 32
   pub refused-keeps : (w : State) (call : Call) → (act w call .answer .refusal ≡ 0 → ⊥)
       → act w call ≡ record { answer = act w call .answer; handed = w .kept; area = w .area; output = outputOf call }

@@ -20,7 +20,7 @@ abbrev pub files : List Call → List (List ℕ)
 files [] = []
 files (write file ∷ cs) = file ∷ files cs
 files (lose board ∷ cs) = files cs
-files (repair fresh helpers ∷ cs) = files cs
+files (repair fresh helpers standIns ∷ cs) = files cs
 files (read boards output ∷ cs) = files cs
 
 -- the steps of these calls with nothing altered between them: each is given the area that the last one left

@@ -5,22 +5,27 @@ use mathlib.Core.Path.{_≡_}
 use mathlib.Core.Bool.{false}
 use mathlib.Core.List.{List, _++_, map}
 use Prim.Native.Nat.{ℕ}
-use Rattle.lists.specs.Lists.{concat, without}
+use lib.ListN.{length, getD}
+use Rattle.lists.specs.Lists.{tabulate, concat, piece, without}
 use Rattle.sizes.specs.declared.Check.the-variants.{Pass}
 use Rattle.sizes.specs.Refusals.{first, storeOrder}
 use Rattle.board_spec.specs.Runs.{equalPoints, ownRuns, finishRuns, readRuns}
 use Rattle.store_spec.specs.Record.{Record}
-use Rattle.store_spec.specs.Packets.{hearHelpers}
+use Rattle.store_spec.specs.Packets.{standInsEach}
 use Rattle.store_spec.specs.Calls.{repairLines, readLines}
 
--- the boards at whose points a repair interpolates: each helper for its f and g, each fresh board for its own
-abbrev pub repairRuns : Record → List ℕ → List ℕ → List (List ℕ)
-repairRuns s fresh helpers =
-    concat (map (λ h. concat (map (ownRuns (s .sizes)) (h .senders)) ++ finishRuns (h .receiver) (h .senders) (without (h .receiver) fresh))
-    (hearHelpers (s .sizes .d) fresh helpers))
+-- the boards at whose points a repair interpolates: each helper and each stand-in for its f and g, each fresh board for its own, where its partners are
+-- its stand-ins and the other fresh boards
+abbrev pub runsOf : Record → List ℕ → ℕ → List ℕ → List ℕ → List (List ℕ)
+runsOf s fresh i helpers standIns =
+    concat (map (ownRuns (s .sizes)) (helpers ++ standIns)) ++ finishRuns i helpers (standIns ++ without i fresh)
+
+abbrev pub repairRuns : Record → List ℕ → List ℕ → List ℕ → List (List ℕ)
+repairRuns s fresh helpers standIns =
+    concat (tabulate (length fresh) (λ a. runsOf s fresh (getD fresh a 0) (piece (s .sizes .d) a helpers) (piece (standInsEach s fresh) a standIns)))
 
 pub record StoreRuns : Type 0 where
-  pub repair-apart : (s : Record) (m : ℕ) (fresh helpers : List ℕ)
-      → first storeOrder (repairLines s m fresh helpers) ≡ Pass → equalPoints (s .points) (repairRuns s fresh helpers) ≡ false
+  pub repair-apart : (s : Record) (m : ℕ) (fresh helpers standIns : List ℕ)
+      → first storeOrder (repairLines s m fresh helpers standIns) ≡ Pass → equalPoints (s .points) (repairRuns s fresh helpers standIns) ≡ false
   pub read-apart : (s : Record) (area boards output : List ℕ)
       → first storeOrder (readLines s area boards output) ≡ Pass → equalPoints (s .points) (readRuns (s .sizes) boards) ≡ false

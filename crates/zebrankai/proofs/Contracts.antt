@@ -59,10 +59,10 @@ pub lose-gives : (κs : Lfts 1) (a : Dens κs lose-kinds.ps) (w : ℕ) (e : AtEx
     × (loses.Learnt κs a w e → (area : List ℕ) → lent w (now (e .0)) area [] ≡ zbk (now (a .0)) area (lose (a .1 .0)))
 lose-gives κs a w e = (tt, λ h. h)
 
-pub repair-gives : (κs : Lfts 4) (a : Dens κs repair-kinds.ps) (w : ℕ) (e : AtExit (endedOf 4 repair-kinds.ps repair-kinds.r) κs)
+pub repair-gives : (κs : Lfts 5) (a : Dens κs repair-kinds.ps) (w : ℕ) (e : AtExit (endedOf 5 repair-kinds.ps repair-kinds.r) κs)
     → repairs.Asked κs a
     × (repairs.Learnt κs a w e
-    → lent w (now (e .0)) (now (e .1 .0)) [] ≡ zbk (now (a .0)) (now (a .1 .0)) (repair (now (a .1 .1 .0)) (now (a .1 .1 .1 .0))))
+    → lent w (now (e .0)) (now (e .1 .0)) [] ≡ zbk (now (a .0)) (now (a .1 .0)) (repair (now (a .1 .1 .0)) (now (a .1 .1 .1 .0)) (now (a .1 .1 .1 .1 .0))))
 repair-gives κs a w e = (tt, λ h. h)
 
 pub read-gives : (κs : Lfts 4) (a : Dens κs read-kinds.ps) (w : ℕ) (e : AtExit (endedOf 4 read-kinds.ps read-kinds.r) κs)

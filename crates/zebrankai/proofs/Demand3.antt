@@ -193,17 +193,17 @@ none-refused v = omega arith
 
 pub archive-repairs : ArchiveRepairs
 unfolding act repairCall
-archive-repairs ws area fresh helpers v h =
+archive-repairs ws area fresh helpers standIns v h =
     let s = recordFrom ws in
-    let e = taken (λ s. repairCall s area fresh helpers) ws area [] v h in
-    let is = lent (λ s. repairCall s area fresh helpers) ws area [] e in
-    let ok = small (first storeOrder (repairLines s (length area) fresh helpers)) s area (repairDone s area fresh helpers) v refl
+    let e = taken (λ s. repairCall s area fresh helpers standIns) ws area [] v h in
+    let is = lent (λ s. repairCall s area fresh helpers standIns) ws area [] e in
+    let ok = small (first storeOrder (repairLines s (length area) fresh helpers standIns)) s area (repairDone s area fresh helpers standIns) v refl
     (ap (λ (o : Lent). o .answer) is ∙ h) in
-    let p = accepted-repair s area fresh helpers ok in
+    let p = accepted-repair s area fresh helpers standIns ok in
     record {
       is-record = e;
       repaired = p;
-      reports = rw e (ap wordOf (p .moved) ∙ none-refused (total (repairPackets s area fresh helpers)));
+      reports = rw e (ap wordOf (p .moved) ∙ none-refused (total (repairPackets s area fresh helpers standIns)));
       has = λ i k. rw e (p .has i k);
     }
 

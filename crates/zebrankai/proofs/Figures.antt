@@ -10,11 +10,11 @@ use Rattle.lists.specs.Lists.{piece, put}
 use Rattle.gf256.specs.Field.{add, product, reduce, mul, squares, inverse}
 use Rattle.sizes.specs.Sizing.{legal, B, stripes}
 use Rattle.mbcr.specs.Share.{pointed, stripe, grid, F, neighbours, symbols, kept, share, shares}
-use Rattle.mbcr.specs.Rebuild.{received, exchanged, ownF, ownG, helperPair, helperPacket, gFrom, exchangePacket, fFrom, finishedStripe, finishedShare}
+use Rattle.mbcr.specs.Rebuild.{seconds, standInPacket, received, exchanged, ownF, ownG, helperPair, helperPacket, gFrom, exchangePacket, fFrom, finishedStripe, finishedShare}
 use Rattle.mbcr.specs.Read.{through, bColumn, cRow, aColumn, decodedStripe, decodedFile, readFile}
 use Rattle.store_spec.specs.Record.{sound}
-use Rattle.store_spec.specs.Packets.{helperPackets, exchangePackets, repairPackets, freshShare}
-use Rattle.store_spec.specs.Calls.{writeLines, loseLines, repairLines, readLines, setUpCall, writeCall, loseCall, repairCall, readCall}
+use Rattle.store_spec.specs.Packets.{helperPackets, standInPackets, exchangePackets, partnerPackets, repairPackets, freshShare}
+use Rattle.store_spec.specs.Calls.{writeLines, loseLines, listLines, repairLines, readLines, setUpCall, writeCall, loseCall, repairCall, readCall}
 use Rattle.store_spec.specs.Ledger.{Book, Step, act, openBook, bookLines, accept, enter}
 use Rattle.store_spec.proofs.LedgerFigures.{bytes, agrees, agree, fair}
 use Rattle.record_words.specs.Words.{isRecord, recordFrom}
@@ -42,9 +42,9 @@ allow ws area b (t ∷ ts) e =
     )
 
 pub archive-figures : ArchiveFigures
-unfolding piece put pointed add product reduce mul squares inverse legal B stripes stripe grid F neighbours symbols kept share shares received
-    exchanged ownF ownG helperPair helperPacket gFrom exchangePacket fFrom finishedStripe finishedShare through bColumn cRow aColumn
-    decodedStripe decodedFile readFile sound helperPackets exchangePackets repairPackets freshShare writeLines loseLines repairLines
+unfolding piece put pointed seconds add product reduce mul squares inverse legal B stripes stripe grid F neighbours symbols kept share shares received
+    exchanged ownF ownG helperPair helperPacket standInPacket gFrom exchangePacket fFrom finishedStripe finishedShare through bColumn cRow aColumn
+    decodedStripe decodedFile readFile sound helperPackets standInPackets exchangePackets partnerPackets repairPackets freshShare writeLines loseLines listLines repairLines
     readLines setUpCall writeCall loseCall repairCall readCall isRecord zbkSetUp act bookLines accept enter
 archive-figures = record {
   set-up = refl;

@@ -168,19 +168,20 @@ unfolding readCall
 read-few s area boards output =
     settled-few s area output (readDone s area boards output) (first storeOrder (readLines s area boards output)) (λ _. omega arith)
 
-pub repair-few : (s : Record) (area fresh helpers : List ℕ) → repairCall s area fresh helpers .answer .reported < 72057594037927936
+pub repair-few : (s : Record) (area fresh helpers standIns : List ℕ) → repairCall s area fresh helpers standIns .answer .reported < 72057594037927936
 unfolding repairCall
-repair-few s area fresh helpers =
-    settled-few s area [] (repairDone s area fresh helpers) (first storeOrder (repairLines s (length area) fresh helpers))
+repair-few s area fresh helpers standIns =
+    settled-few s area [] (repairDone s area fresh helpers standIns) (first storeOrder (repairLines s (length area) fresh helpers standIns))
     (λ p.
-    let f = repair-facts s (length area) fresh helpers p in
+    let f = repair-facts s (length area) fresh helpers standIns p in
     let g = sound-facts s (f .is-sound) in
     let l = legal-facts (s .sizes) (g .is-legal) in
-    let e = moved-is s area fresh helpers (length area) (code-lengths (s .points) (s .sizes) (g .is-legal)) (l .some-fresh) f in
+    let e = moved-is s area fresh helpers standIns (length area) (code-lengths (s .points) (s .sizes) (g .is-legal)) f in
+    let t = length fresh in
     let few : stripeCount s ≤ 4096 = few-stripes s (g .cap-high) (stripes-least (s .sizes) l (s .length) (s .capacity) (g .fits)) in
-    let a : stripeCount s * s .sizes .r ≤ 4096 * s .sizes .r = mul-le-mul-right (s .sizes .r) few in
-    let b : stripeCount s * s .sizes .r ≤ 131072 = omega (arith, a, l .enough, l .few) in
-    let c : stripeCount s * s .sizes .r * (2 * s .sizes .d + s .sizes .r - 1) ≤ 131072 * 62 = mul-le-mul b (α-most (s .sizes) l) in
+    let a : stripeCount s * t ≤ 4096 * t = mul-le-mul-right t few in
+    let b : stripeCount s * t ≤ 131072 = omega (arith, a, f .few-fresh, l .enough, l .few) in
+    let c : stripeCount s * t * (2 * s .sizes .d + s .sizes .r - 1) ≤ 131072 * 62 = mul-le-mul b (α-most (s .sizes) l) in
     omega (arith, e, c))
   where
     few-stripes : (s : Record) → s .capacity ≤ 4096 → stripeCount s ≤ s .capacity → stripeCount s ≤ 4096

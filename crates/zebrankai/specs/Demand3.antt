@@ -98,15 +98,15 @@ ArchiveDemand3 =
 
 -- An accepted repair, over any words and any area: it is one of the definitions', over the record that the words tell; it reports the bytes
 -- moved, and fresh boards hold what the packets make.
-pub record ArchiveRepaired (ws area fresh helpers : List ℕ) : Type 0 where
+pub record ArchiveRepaired (ws area fresh helpers standIns : List ℕ) : Type 0 where
   pub is-record : isRecord ws ≡ true
-  pub repaired : Repaired (recordFrom ws) area fresh helpers
-  pub reports : zbk ws area (repair fresh helpers) .answer ≡ 256 * total (repairPackets (recordFrom ws) area fresh helpers)
+  pub repaired : Repaired (recordFrom ws) area fresh helpers standIns
+  pub reports : zbk ws area (repair fresh helpers standIns) .answer ≡ 256 * total (repairPackets (recordFrom ws) area fresh helpers standIns)
   pub has : (i : ℕ) → among fresh i ≡ true
-      → held (recordFrom ws) (zbk ws area (repair fresh helpers) .area) i ≡ freshShare (recordFrom ws) area fresh helpers i
+      → held (recordFrom ws) (zbk ws area (repair fresh helpers standIns) .area) i ≡ freshShare (recordFrom ws) area fresh helpers standIns i
 
 abbrev pub ArchiveRepairs : Type 0
-ArchiveRepairs = (ws area fresh helpers : List ℕ) (v : ℕ) → zbk ws area (repair fresh helpers) .answer ≡ 256 * v → ArchiveRepaired ws area fresh helpers
+ArchiveRepairs = (ws area fresh helpers standIns : List ℕ) (v : ℕ) → zbk ws area (repair fresh helpers standIns) .answer ≡ 256 * v → ArchiveRepaired ws area fresh helpers standIns
 
 -- the steps of these calls with nothing altered between them
 abbrev pub unalteredLents : List ℕ → List ℕ → List Call → List Step

@@ -41,7 +41,7 @@ steps =
     ∷ record { area = area; call = lose 0 }
     ∷ record { area = area; call = lose 1 }
     ∷ record { area = spoiled; call = read (1 ∷ []) (replicate 4 0x55) }
-    ∷ record { area = spoiled; call = repair (0 ∷ 1 ∷ []) (2 ∷ 3 ∷ []) }
+    ∷ record { area = spoiled; call = repair (0 ∷ 1 ∷ []) (2 ∷ 3 ∷ []) [] }
     ∷ record { area = area; call = read (1 ∷ []) (replicate 4 0x55) }
     ∷ []
 

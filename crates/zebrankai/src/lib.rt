@@ -191,7 +191,7 @@ pub extern "C" fn zbk_share_text(
 // The word of SIZE, for words that are no record.
 const NO_RECORD: u64 = 1;
 
-// A new store of these sizes and this capacity, in eight words.
+// A new store of these sizes, these points and this capacity, in twelve words.
 #[no_mangle]
 pub extern "C" fn zbk_set_up(
     ws: &mut [u64],
@@ -257,21 +257,22 @@ pub extern "C" fn zbk_lose(ws: &mut [u64], board: usize) -> u64
     words::hand_on(handed, ws)
 }
 
-// Rebuilds fresh boards together, each from its own run of d helpers.
+// Rebuilds one to r fresh boards together, t of them, each from its own run of d helpers and its own run of r − t stand-ins.
 #[no_mangle]
 pub extern "C" fn zbk_repair(
     ws: &mut [u64],
     area: &mut [u8],
     fresh: &[usize],
     helpers: &[usize],
+    standins: &[usize],
 ) -> u64
-    ensures { λ w. ⌜ record { answer = w; words = now (ws .exit); area = now (area .exit); output = [] } ≡ zbk (now (ws .entry)) (now (area .entry)) (repair (now (fresh .entry)) (now (helpers .entry))) ⌝ }
+    ensures { λ w. ⌜ record { answer = w; words = now (ws .exit); area = now (area .exit); output = [] } ≡ zbk (now (ws .entry)) (now (area .entry)) (repair (now (fresh .entry)) (now (helpers .entry)) (now (standins .entry))) ⌝ }
 {
     if !words::is_record(ws) {
         return NO_RECORD;
     }
     let store = words::store_of(ws);
-    let handed = store.repair(area, fresh, helpers);
+    let handed = store.repair(area, fresh, helpers, standins);
     words::hand_on(handed, ws)
 }
 

@@ -8,10 +8,19 @@ pub trait Coder {
     fn write(&mut self, file: &[u8], area: &mut [u8]);
     /// The file from k boards.
     fn read(&mut self, boards: &[usize], area: &[u8], out: &mut [u8]);
-    /// r fresh boards; the bytes moved.
-    fn repair(&mut self, fresh: &[usize], helpers: &[usize], area: &mut [u8]) -> usize;
+    /// Takes boards out of service for the repairs that follow, and for these alone.
+    fn lose(&mut self, boards: &[usize]);
+    /// The boards that were lost, with their helpers and stand-ins; the bytes moved. They are lost as before, however often it is called.
+    fn repair(&mut self, named: &Named, area: &mut [u8]) -> usize;
     /// One board's share of a file.
     fn share(&mut self, node: usize, file: &[u8], out: &mut [u8]);
+}
+
+/// The boards that a repair names.
+pub struct Named {
+    pub fresh: Vec<usize>,
+    pub helpers: Vec<usize>,
+    pub stand_ins: Vec<usize>,
 }
 
 /// The coders in the order of their turns, over a store of these sizes, at points 0 to n − 1, with room for so many stripes.
@@ -22,8 +31,8 @@ pub fn all(sizes: Sizes, stripes: usize) -> [Box<dyn Coder>; 3] {
     let plain_sizes = plain::Sizes { n, k, d, r };
     let words = record.words();
     [
-        Box::new(Archive { record }),
-        Box::new(Plain { sizes: plain_sizes, points: points.into(), words }),
+        Box::new(Archive { record, lost: record }),
+        Box::new(Plain { sizes: plain_sizes, points: points.into(), words, lost: words }),
         Box::new(Kernels { sizes: plain_sizes, points: points.into(), stripes }),
     ]
 }
@@ -31,6 +40,8 @@ pub fn all(sizes: Sizes, stripes: usize) -> [Box<dyn Coder>; 3] {
 /// The archive.
 struct Archive {
     record: Record,
+    /// the record with boards lost
+    lost: Record,
 }
 
 impl Coder for Archive {
@@ -42,8 +53,16 @@ impl Coder for Archive {
         self.record.read(area, boards, out).expect("a read is accepted");
     }
 
-    fn repair(&mut self, fresh: &[usize], helpers: &[usize], area: &mut [u8]) -> usize {
-        self.record.repair(area, fresh, helpers).expect("a repair is accepted")
+    fn lose(&mut self, boards: &[usize]) {
+        self.lost = self.record;
+        for &board in boards {
+            self.lost.lose(board).expect("a loss is accepted");
+        }
+    }
+
+    fn repair(&mut self, named: &Named, area: &mut [u8]) -> usize {
+        let mut record = self.lost;
+        record.repair(area, &named.fresh, &named.helpers, &named.stand_ins).expect("a repair is accepted")
     }
 
     fn share(&mut self, node: usize, file: &[u8], out: &mut [u8]) {
@@ -56,6 +75,8 @@ struct Plain {
     sizes: plain::Sizes,
     points: plain::Points,
     words: [u64; RECORD_WORDS],
+    /// the record with boards lost
+    lost: [u64; RECORD_WORDS],
 }
 
 impl Coder for Plain {
@@ -67,8 +88,17 @@ impl Coder for Plain {
         plain::store::read(&self.words, area, boards, out).expect("a read is accepted");
     }
 
-    fn repair(&mut self, fresh: &[usize], helpers: &[usize], area: &mut [u8]) -> usize {
-        plain::store::repair(&mut self.words, area, fresh, helpers).expect("a repair is accepted")
+    fn lose(&mut self, boards: &[usize]) {
+        self.lost = self.words;
+        for &board in boards {
+            plain::store::lose(&mut self.lost, board).expect("a loss is accepted");
+        }
+    }
+
+    fn repair(&mut self, named: &Named, area: &mut [u8]) -> usize {
+        let mut words = self.lost;
+        plain::store::repair(&mut words, area, &named.fresh, &named.helpers, &named.stand_ins)
+            .expect("a repair is accepted")
     }
 
     fn share(&mut self, node: usize, file: &[u8], out: &mut [u8]) {
@@ -92,8 +122,12 @@ impl Coder for Kernels {
         assert!(plain_kernels::read(self.sizes, &self.points, boards, area, out), "a read is accepted");
     }
 
-    fn repair(&mut self, fresh: &[usize], helpers: &[usize], area: &mut [u8]) -> usize {
-        plain_kernels::repair(self.sizes, &self.points, self.stripes, fresh, helpers, area)
+    /// It has no record.
+    fn lose(&mut self, _boards: &[usize]) {}
+
+    fn repair(&mut self, named: &Named, area: &mut [u8]) -> usize {
+        let Named { fresh, helpers, stand_ins } = named;
+        plain_kernels::repair(self.sizes, &self.points, self.stripes, fresh, helpers, stand_ins, area)
     }
 
     fn share(&mut self, node: usize, file: &[u8], out: &mut [u8]) {

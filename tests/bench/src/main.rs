@@ -1,5 +1,6 @@
-//! The bench: encode (a write to all boards), read (of k boards), repair (of r boards) and one share (the call of a single board) through the
-//! archive, beside two coders in plain Rust; and the bytes that a repair moves against the cut-set bound.
+//! The bench: encode (a write to all boards), read (of k boards), repair r (of r boards together), repair 1 (of one board, with r − 1 stand-ins) and
+//! one share (the call of a single board) through the archive, beside two coders in plain Rust; and the bytes that repairs move, those of r boards
+//! against the cut-set bound.
 //!
 //!     bench [--quick]
 //!
@@ -147,18 +148,23 @@ fn print(work: &Work, measured: &Measured) {
             kernels / plain
         );
     }
-    print_moved(work.sizes, work.file.len(), measured.moved);
+    print_moved(work.sizes, work.file.len(), measured);
 }
 
 /// The bytes moved beside the cut-set bound at the minimum bandwidth point: each fresh board needs at least (2d + r − 1) L / (k(2d + r − k))
 /// bytes for a file of L bytes.
-fn print_moved(sizes: Sizes, length: usize, moved: usize) {
+fn print_moved(sizes: Sizes, length: usize, measured: &Measured) {
     let Sizes { k, d, r, .. } = sizes;
+    let Measured { moved, moved_one, .. } = *measured;
     let bound = (r * (2 * d + r - 1) * length) as f64 / (k * (2 * d + r - k)) as f64;
     let whole = r * length;
     println!(
         "moved     {moved} bytes for {r} boards; cut-set bound {bound:.0}, {:.3} of it; {:.0} % of fetching the file {r} times",
         moved as f64 / bound,
         100.0 * moved as f64 / whole as f64
+    );
+    println!(
+        "          {moved_one} bytes for one board; {:.0} % of fetching the file",
+        100.0 * moved_one as f64 / length as f64
     );
 }

@@ -1,11 +1,11 @@
 //! The turns of the coders, and the times that are taken.
 
-use crate::coders::{self, Coder};
+use crate::coders::{self, Coder, Named};
 use std::time::{Duration, Instant};
 use zebrankai::Sizes;
 
 /// What is measured, in the order of a turn.
-pub const OPERATIONS: [&str; 4] = ["encode", "read", "repair", "one share"];
+pub const OPERATIONS: [&str; 5] = ["encode", "read", "repair r", "repair 1", "one share"];
 
 /// A short file is written, read and so on so often in one turn that the clock is no part of the time: at least for so many stripes.
 const STRIPES_A_TURN: usize = 64;
@@ -13,14 +13,15 @@ const STRIPES_A_TURN: usize = 64;
 /// At least so many turns are made.
 const FEWEST_TURNS: usize = 4;
 
-/// A file, and the boards that the calls name: the first r are fresh, each hears the d behind them, the file is read from the last k boards, and
-/// the one share is the last board's.
+/// A file, and the boards that the calls name. In the repair of r boards the first r are fresh, and each hears the d behind them; in that of one the
+/// first is fresh, hears the d behind it, and the r − 1 behind these stand in. The file is read from the last k boards, and the one share is the last
+/// board's.
 pub struct Work {
     pub sizes: Sizes,
     pub stripes: usize,
     pub file: Vec<u8>,
-    fresh: Vec<usize>,
-    helpers: Vec<usize>,
+    all: Named,
+    one: Named,
     readers: Vec<usize>,
     node: usize,
     /// how often each call is made in a turn
@@ -35,8 +36,12 @@ impl Work {
             sizes,
             stripes,
             file: some_bytes(length),
-            fresh: (0..r).collect(),
-            helpers: (r..r + d).collect::<Vec<usize>>().repeat(r),
+            all: Named {
+                fresh: (0..r).collect(),
+                helpers: (r..r + d).collect::<Vec<usize>>().repeat(r),
+                stand_ins: vec![],
+            },
+            one: Named { fresh: vec![0], helpers: (1..1 + d).collect(), stand_ins: (1 + d..d + r).collect() },
             readers: (n - k..n).collect(),
             node: n - 1,
             calls: STRIPES_A_TURN.div_ceil(stripes),
@@ -60,21 +65,25 @@ struct Left {
     written: Vec<u8>,
     read: Vec<u8>,
     repaired: Vec<u8>,
+    repaired_one: Vec<u8>,
     share: Vec<u8>,
     moved: usize,
+    moved_one: usize,
 }
 
 impl Left {
     fn new(work: &Work) -> Left {
         let area = vec![0; work.sizes.area_len(work.stripes)];
         let share = vec![0; work.stripes * work.sizes.share_len()];
-        Left { written: area.clone(), read: vec![0; work.file.len()], repaired: area, share, moved: 0 }
+        let read = vec![0; work.file.len()];
+        Left { written: area.clone(), read, repaired: area.clone(), repaired_one: area, share, moved: 0, moved_one: 0 }
     }
 
     /// Whether the file came back, the fresh boards hold what was written, and the share is the one that was written.
     fn is_right(&self, work: &Work) -> bool {
         let written = self.written.chunks(self.share.len()).nth(work.node);
-        self.read == work.file && self.repaired == self.written && written == Some(&self.share[..])
+        let rebuilt = self.repaired == self.written && self.repaired_one == self.written;
+        self.read == work.file && rebuilt && written == Some(&self.share[..])
     }
 }
 
@@ -86,7 +95,9 @@ pub struct Measured {
     pub turns: usize,
     /// of each coder
     pub best: [Best; 3],
+    /// by the repair of r boards, and by that of one
     pub moved: usize,
+    pub moved_one: usize,
     /// whether all coders left the same, and the right, bytes in every turn
     pub alike: bool,
 }
@@ -95,7 +106,8 @@ pub struct Measured {
 pub fn measure(work: &Work, time: Duration) -> Measured {
     let mut coders = coders::all(work.sizes, work.stripes);
     let mut left = [(); 3].map(|_| Left::new(work));
-    let mut measured = Measured { turns: 0, best: [[Duration::MAX; 4]; 3], moved: 0, alike: true };
+    let best = [[Duration::MAX; OPERATIONS.len()]; 3];
+    let mut measured = Measured { turns: 0, best, moved: 0, moved_one: 0, alike: true };
     let start = Instant::now();
     while measured.turns < FEWEST_TURNS || start.elapsed() < time {
         for ((coder, left), best) in coders.iter_mut().zip(&mut left).zip(&mut measured.best) {
@@ -108,21 +120,31 @@ pub fn measure(work: &Work, time: Duration) -> Measured {
         measured.turns += 1;
     }
     measured.moved = left[0].moved;
+    measured.moved_one = left[0].moved_one;
     measured
 }
 
-/// One turn of a coder. The buffers are filled with EE before each operation, outside of the time; the bytes of the fresh boards before a repair.
+/// One turn of a coder. The buffers are filled with EE before each operation, outside of the time; the bytes of the fresh boards before a repair, when
+/// they are also lost.
 fn turn(coder: &mut dyn Coder, work: &Work, left: &mut Left) -> Best {
     left.written.fill(0xEE);
     let write = timed(work, || coder.write(&work.file, &mut left.written));
     left.read.fill(0xEE);
     let read = timed(work, || coder.read(&work.readers, &left.written, &mut left.read));
-    left.repaired.copy_from_slice(&left.written);
-    left.repaired[..work.fresh.len() * left.share.len()].fill(0xEE);
-    let repair = timed(work, || left.moved = coder.repair(&work.fresh, &work.helpers, &mut left.repaired));
+    lose(coder, &work.all, work, &left.written, &mut left.repaired);
+    let repair = timed(work, || left.moved = coder.repair(&work.all, &mut left.repaired));
+    lose(coder, &work.one, work, &left.written, &mut left.repaired_one);
+    let repair_one = timed(work, || left.moved_one = coder.repair(&work.one, &mut left.repaired_one));
     left.share.fill(0xEE);
     let share = timed(work, || coder.share(work.node, &work.file, &mut left.share));
-    [write, read, repair, share]
+    [write, read, repair, repair_one, share]
+}
+
+/// Loses the boards that are fresh: what was written, their bytes EE, in the area of the repair. They are the first ones.
+fn lose(coder: &mut dyn Coder, named: &Named, work: &Work, written: &[u8], area: &mut [u8]) {
+    coder.lose(&named.fresh);
+    area.copy_from_slice(written);
+    area[..named.fresh.len() * work.stripes * work.sizes.share_len()].fill(0xEE);
 }
 
 /// The time of a call, as the mean of those of a turn.

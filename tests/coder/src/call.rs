@@ -4,7 +4,7 @@
 use crate::code::{self, Sizes};
 use std::fmt;
 
-/// Document 01's refusals, by number.
+/// The refusals, by number: document 01's, and those of later requests.
 pub mod refusal {
     pub const ACCEPTED: u8 = 0;
     pub const SIZE: u8 = 1;
@@ -17,8 +17,9 @@ pub mod refusal {
     pub const EMPTY: u8 = 8;
     pub const DOWN: u8 = 9;
     pub const DISAGREE: u8 = 10;
+    pub const SERVING: u8 = 14;
     /// One more than the highest number.
-    pub const COUNTED: usize = 11;
+    pub const COUNTED: usize = 15;
     /// The number that is not used, and that no call answers.
     pub const UNUSED: u64 = 11;
 }
@@ -87,6 +88,7 @@ pub enum Call {
     Repair {
         fresh: Vec<usize>,
         helpers: Vec<usize>,
+        stand_ins: Vec<usize>,
     },
     Read {
         boards: Vec<usize>,
@@ -104,7 +106,7 @@ pub const CALLS: [(&str, &[u8]); 11] = [
     ("zbk_set_up", &[1]),
     ("zbk_write", &[1, 2, 3]),
     ("zbk_lose", &[1, 5]),
-    ("zbk_repair", &[1, 2, 8, 4, 5, 6, 9]),
+    ("zbk_repair", &[1, 2, 8, 4, 5, 6, 14, 9]),
     ("zbk_read", &[1, 2, 8, 4, 5, 6, 9, 7, 10]),
 ];
 
@@ -164,7 +166,7 @@ impl Call {
             Call::SetUp { sizes, points, capacity } => zbk_set_up(record, *sizes, points, *capacity),
             Call::Write { file } => zbk_write(record, area, file),
             Call::Lose { board } => zbk_lose(record, *board),
-            Call::Repair { fresh, helpers } => zbk_repair(record, area, fresh, helpers),
+            Call::Repair { fresh, helpers, stand_ins } => zbk_repair(record, area, fresh, helpers, stand_ins),
             Call::Read { boards } => zbk_read(record, area, boards, out),
         }
     }
@@ -237,7 +239,7 @@ impl Call {
             }
             Call::Write { file } => Parts { slices: vec![file], ..none },
             Call::Lose { board } => Parts { numbers: vec![board], ..none },
-            Call::Repair { fresh, helpers } => Parts { lists: vec![fresh, helpers], ..none },
+            Call::Repair { fresh, helpers, stand_ins } => Parts { lists: vec![fresh, helpers, stand_ins], ..none },
             Call::Read { boards } => Parts { lists: vec![boards], ..none },
         }
     }
@@ -339,7 +341,9 @@ impl fmt::Display for Call {
             Call::SetUp { sizes, points, capacity } => write!(to, "({}, capacity={capacity}", given(sizes, points)),
             Call::Write { file } => write!(to, "(file[{}]", file.len()),
             Call::Lose { board } => write!(to, "(board={board}"),
-            Call::Repair { fresh, helpers } => write!(to, "(fresh={fresh:?}, helpers={helpers:?}"),
+            Call::Repair { fresh, helpers, stand_ins } => {
+                write!(to, "(fresh={fresh:?}, helpers={helpers:?}, stand_ins={stand_ins:?}")
+            }
             Call::Read { boards } => write!(to, "(boards={boards:?}"),
         }?;
         write!(to, ")")

@@ -8,7 +8,7 @@ use crate::matrix::Matrix;
 pub const MAX_BOARDS: usize = 32;
 pub const MAX_STRIPES: usize = 4096;
 
-/// n boards, k read, d helpers, r fresh boards; legal or not.
+/// n boards, k read, d helpers, at most r fresh boards; legal or not.
 #[derive(Clone, Copy, Debug, PartialEq, Eq)]
 pub struct Sizes {
     pub n: usize,
@@ -179,6 +179,11 @@ pub fn helper_packet(sizes: Sizes, points: &[u8], helper: usize, receiver: usize
         _ => 0,
     });
     joined(&sums.times(&columns_of(share, sizes.share_len())))
+}
+
+/// What a stand-in sends to `receiver`: "only F(x_i, y_s), the second bytes of its helper packet".
+pub fn stand_in_packet(sizes: Sizes, points: &[u8], stand_in: usize, receiver: usize, share: &[u8]) -> Vec<u8> {
+    helper_packet(sizes, points, stand_in, receiver, share).into_iter().skip(1).step_by(2).collect()
 }
 
 /// The packets of helpers, one after another, as a matrix: a row for each helper, `which` of each pair, a column for each stripe.

@@ -1,8 +1,8 @@
 //! The figures of document 01, as literal values: all that are not marked M, through the archive and by the coder itself. Those marked M are
 //! proved; they are run here too, since they also try the coder. Then the same for robots of the first series, whose figures were worked out by
-//! hand, and which points are refused (request A.9 of document 02).
+//! hand, and which points are refused (request A.9 of document 02); and a board rebuilt alone, with a stand-in (request A.3).
 
-use crate::call::refusal::{COUNT, LONG, SIZE};
+use crate::call::refusal::{COUNT, DOWN, LONG, NODE, REPEAT, SERVING, SIZE};
 use crate::call::{Call, Lent, Outcome};
 use crate::code::Sizes;
 use crate::field::FIELD;
@@ -16,7 +16,9 @@ pub fn run(trial: &mut Trial) {
     for series in [present(), first()] {
         shares(trial, &series);
         rebuilding(trial, &series);
+        alone(trial, &series);
     }
+    refused_repairs(trial);
     text(trial);
     legal_sizes(trial);
     refused_points(trial);
@@ -88,6 +90,8 @@ struct Series {
     packets_1: [[u8; 2]; 3],
     /// what board 0 sends board 1
     exchanged: u8,
+    /// and what it sends as a helper
+    packet_0_1: [u8; 2],
 }
 
 /// M7 to M12.
@@ -105,6 +109,7 @@ fn present() -> Series {
         packets_0: [[0x00, 0x00], [0x00, 0x00], [0x00, 0x00]],
         packets_1: [[0x04, 0x02], [0x05, 0x03], [0x10, 0x04]],
         exchanged: 0x00,
+        packet_0_1: [0x00, 0x00],
     }
 }
 
@@ -123,6 +128,7 @@ fn first() -> Series {
         packets_0: [[0x05, 0x03], [0x10, 0x04], [0x11, 0x05]],
         packets_1: [[0x0A, 0x0C], [0x20, 0x10], [0x22, 0x14]],
         exchanged: 0x04,
+        packet_0_1: [0x02, 0x04],
     }
 }
 
@@ -153,7 +159,7 @@ fn shares(trial: &mut Trial, series: &Series) {
 
 /// M12, at board level and in the store.
 fn rebuilding(trial: &mut Trial, series: &Series) {
-    let Series { name, points, shares, packets_0, packets_1, exchanged } = series;
+    let Series { name, points, shares, packets_0, packets_1, exchanged, .. } = series;
     let helpers = vec![2, 3, 4];
     for (receiver, packets) in [packets_0, packets_1].into_iter().enumerate() {
         for (&helper, packet) in helpers.iter().zip(packets) {
@@ -203,9 +209,77 @@ fn moved(trial: &mut Trial, series: &Series) {
     let mut area = shares.concat();
     area[..14].fill(0xEE);
     let lent = Lent { record: record_of(points, 0b11100), area, out: Vec::new() };
-    let call = Call::Repair { fresh: vec![0, 1], helpers: vec![2, 3, 4, 2, 3, 4] };
+    let call = Call::Repair { fresh: vec![0, 1], helpers: vec![2, 3, 4, 2, 3, 4], stand_ins: vec![] };
     let after = Lent { record: record_of(points, 0b11111), area: shares.concat(), out: Vec::new() };
     figure(trial, &format!("{name}: moved"), call, lent, Outcome::accepted(14, after));
+}
+
+/// Board 1 fresh alone, helpers 0, 2, 3, and board 4 stands in: it sends the second byte of its pair. 7 bytes moved.
+fn alone(trial: &mut Trial, series: &Series) {
+    let Series { name, points, shares, packets_1: [of_2, of_3, of_4], packet_0_1, .. } = series;
+    for (helper, packet) in [(0, packet_0_1), (2, of_2), (3, of_3), (4, of_4)] {
+        let share = shares[helper].to_vec();
+        let call = Call::Helper { sizes: FIVE, points: points.clone(), length: 12, helper, receiver: 1, share };
+        writes(trial, &format!("{name}: a helper packet for board 1 alone"), call, packet);
+    }
+    let call = Call::Finished {
+        sizes: FIVE,
+        points: points.clone(),
+        length: 12,
+        board: 1,
+        helpers: vec![0, 2, 3],
+        packets: [*packet_0_1, *of_2, *of_3].concat(),
+        partners: vec![4],
+        partner_packets: vec![of_4[1]],
+    };
+    writes(trial, &format!("{name}: board 1 finished with a stand-in"), call, &shares[1]);
+    let mut area = shares.concat();
+    area[7..14].fill(0xEE);
+    let lent = Lent { record: record_of(points, 0b11101), area, out: Vec::new() };
+    let call = Call::Repair { fresh: vec![1], helpers: vec![0, 2, 3], stand_ins: vec![4] };
+    let after = Lent { record: record_of(points, 0b11111), area: shares.concat(), out: Vec::new() };
+    figure(trial, &format!("{name}: moved for one board"), call, lent, Outcome::accepted(7, after));
+}
+
+/// The fresh boards of a repair, its helpers, its stand-ins, and the refusal.
+type Refused<'a> = (&'a [usize], &'a [usize], &'a [usize], u8);
+
+/// Boards 0 and 1 out of service: what is refused of a repair's lists, each line before those that follow.
+fn refused_repairs(trial: &mut Trial) {
+    let Series { points, shares, .. } = present();
+    let lent = Lent { record: record_of(&points, 0b11100), area: shares.concat(), out: Vec::new() };
+    let cases: [Refused; 22] = [
+        // "t outside 1 to r is COUNT"
+        (&[], &[], &[], COUNT),
+        (&[0, 1, 9], &[2, 3, 4, 2, 3, 4, 2, 3, 4], &[], COUNT),
+        (&[9], &[2, 3], &[4], COUNT),
+        (&[9], &[2, 3, 4, 2], &[4], COUNT),
+        (&[9], &[2, 3, 4], &[], COUNT),
+        (&[9], &[2, 3, 4], &[2, 2], COUNT),
+        // with t = r nobody stands in
+        (&[0, 9], &[2, 3, 4, 2, 3, 4], &[2], COUNT),
+        (&[5], &[2, 2, 3], &[4], NODE),
+        (&[0], &[2, 2, 5], &[4], NODE),
+        (&[0], &[2, 2, 3], &[5], NODE),
+        // "All boards named for one fresh board are different and none of them is fresh."
+        (&[2, 2], &[3, 4, 1, 3, 4, 1], &[], REPEAT),
+        (&[2], &[3, 4, 3], &[1], REPEAT),
+        (&[2], &[3, 4, 1], &[4], REPEAT),
+        (&[2], &[3, 4, 1], &[2], REPEAT),
+        (&[2], &[3, 4, 2], &[1], REPEAT),
+        (&[0, 2], &[1, 3, 4, 3, 4, 0], &[], REPEAT),
+        // "a fresh board that is in service, after 6 and before 9"
+        (&[2], &[0, 3, 4], &[1], SERVING),
+        (&[2], &[1, 3, 4], &[0], SERVING),
+        (&[0, 2], &[1, 3, 4, 1, 3, 4], &[], SERVING),
+        (&[2, 0], &[1, 3, 4, 1, 3, 4], &[], SERVING),
+        (&[0], &[1, 2, 3], &[4], DOWN),
+        (&[0], &[2, 3, 4], &[1], DOWN),
+    ];
+    for (fresh, helpers, stand_ins, number) in cases {
+        let call = Call::Repair { fresh: fresh.to_vec(), helpers: helpers.to_vec(), stand_ins: stand_ins.to_vec() };
+        refused(trial, "a repair that is refused", call, lent.clone(), number);
+    }
 }
 
 /// The whole text that document 01 prints; and texts whose points are not 0 to n − 1 in order.

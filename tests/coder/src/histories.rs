@@ -9,10 +9,12 @@ use crate::ledger::Book;
 use crate::matrix::Matrix;
 use crate::points;
 use crate::random::Random;
+use crate::repairs;
 use crate::spoil::spoil;
 use crate::store;
 use crate::store_draw;
 use crate::trial::Trial;
+use std::collections::BTreeSet;
 
 /// The store as the last call left it, and the book beside it.
 struct History {
@@ -20,6 +22,8 @@ struct History {
     lent: Lent,
     /// what makes each board's share
     generators: Vec<Matrix>,
+    /// the boards rebuilt since the last write
+    rebuilt: BTreeSet<usize>,
 }
 
 pub fn run(trial: &mut Trial, random: &mut Random, sizes: Sizes) {
@@ -60,7 +64,8 @@ impl History {
             lent = expected.lent;
         }
         let generators = (0..sizes.n).map(|board| code::generator(sizes, &points, board)).collect();
-        Some(History { book: Book::new(sizes, points, capacity, area_len), lent, generators })
+        let book = Book::new(sizes, points, capacity, area_len);
+        Some(History { book, lent, generators, rebuilt: BTreeSet::new() })
     }
 
     fn board_len(&self) -> usize {
@@ -87,6 +92,9 @@ impl History {
     fn step(&mut self, trial: &mut Trial, random: &mut Random) -> bool {
         let Book { sizes, capacity, .. } = self.book;
         let mut call = store_draw::next_call(random, sizes, capacity, &self.in_service());
+        if random.once_in(6) {
+            repairs::spoil(random, sizes, &self.in_service(), &mut call);
+        }
         if random.once_in(4) {
             // the record and the area are those that the last call left, so only the arguments are spoilt
             spoil(random, sizes, &mut call, &mut Lent::default());
@@ -105,8 +113,25 @@ impl History {
         self.put_shares(&mut after.area, &reply.made);
         let expected = Outcome { answer: reply.answer, lent: after };
         let alike = trial.check(call, &self.lent, &expected);
+        if alike && expected.answer & 255 == 0 {
+            self.note(trial, call);
+        }
         self.lent = expected.lent;
         alike
+    }
+
+    /// Notes the boards that an accepted call has rebuilt, and whether some that were rebuilt before stood in.
+    fn note(&mut self, trial: &mut Trial, call: &Call) {
+        match call {
+            Call::Repair { fresh, stand_ins, .. } => {
+                if stand_ins.iter().any(|board| self.rebuilt.contains(board)) {
+                    trial.repairs[repairs::REBUILT] += 1;
+                }
+                self.rebuilt.extend(fresh);
+            }
+            Call::Write { .. } => self.rebuilt.clear(),
+            _ => {}
+        }
     }
 
     /// Puts the shares of the last file accepted where boards keep them.

@@ -1,7 +1,7 @@
 //! The ledger of document 01: a plain book kept beside the store. It is fed the sizes, the points, the capacity, the area's length and each call's
 //! arguments other than record and area, and never an answer. It keeps the last file accepted and the boards in service.
 
-use crate::call::refusal::{AREA, COUNT, DOWN, EMPTY, LONG, NODE, REPEAT, SHORT};
+use crate::call::refusal::{AREA, COUNT, DOWN, EMPTY, LONG, NODE, REPEAT, SERVING, SHORT};
 use crate::call::Call;
 use crate::code::Sizes;
 use std::collections::BTreeSet;
@@ -27,7 +27,7 @@ impl Book {
         Book { sizes, points, capacity, area_len, file: None, in_service: BTreeSet::new() }
     }
 
-    /// The number of the first line that holds for a call, "1, 2, 3, 8, 4, 5, 6, 9, 7, 10"; 1 and 10 never hold in it.
+    /// The number of the first line that holds for a call, "1, 2, 3, 8, 4, 5, 6, 14, 9, 7, 10"; 1 and 10 never hold in it.
     fn refusal(&self, call: &Call, out: usize) -> Option<u8> {
         let Sizes { n, k, d, r } = self.sizes;
         let wrong_area = self.area_len != n * self.capacity * self.sizes.share_len();
@@ -39,16 +39,23 @@ impl Book {
                 vec![(AREA, wrong_area), (LONG, file.len() > self.capacity * self.sizes.stripe_len())]
             }
             Call::Lose { board } => vec![(NODE, !known(&[*board]))],
-            Call::Repair { fresh, helpers } => {
-                let own_list_differs = helpers.chunks(d).all(different);
-                let apart = fresh.iter().all(|board| !helpers.contains(board));
+            Call::Repair { fresh, helpers, stand_ins } => {
+                let t = fresh.len();
+                // the lists of each fresh board; none where COUNT holds
+                let right = (1..=r).contains(&t) && (helpers.len(), stand_ins.len()) == (t * d, t * (r - t));
+                let count = if right { t } else { 0 };
+                let run = |list: &[usize], a: usize| list[a * list.len() / t..(a + 1) * list.len() / t].to_vec();
+                let own = |a: usize| [run(helpers, a), run(stand_ins, a)].concat();
+                let named_differ = (0..count).all(|a| different(&own(a)));
+                let apart = (0..count).all(|a| own(a).iter().all(|board| !fresh.contains(board)));
                 vec![
                     (AREA, wrong_area),
                     (EMPTY, self.file.is_none()),
-                    (COUNT, (fresh.len(), helpers.len()) != (r, r * d)),
-                    (NODE, !known(fresh) || !known(helpers)),
-                    (REPEAT, !different(fresh) || !own_list_differs || !apart),
-                    (DOWN, !serving(helpers)),
+                    (COUNT, !right),
+                    (NODE, !known(fresh) || !known(helpers) || !known(stand_ins)),
+                    (REPEAT, !different(fresh) || !named_differ || !apart),
+                    (SERVING, fresh.iter().any(|board| self.in_service.contains(board))),
+                    (DOWN, !serving(helpers) || !serving(stand_ins)),
                 ]
             }
             Call::Read { boards } => vec![
@@ -69,9 +76,9 @@ impl Book {
         self.file.as_ref().map_or(0, Vec::len)
     }
 
-    /// S × r × (2d + r − 1).
-    fn moved(&self) -> usize {
-        self.sizes.stripes(self.file_len()) * self.sizes.r * (2 * self.sizes.d + self.sizes.r - 1)
+    /// S × t × (2d + r − 1).
+    fn moved(&self, t: usize) -> usize {
+        self.sizes.stripes(self.file_len()) * t * (2 * self.sizes.d + self.sizes.r - 1)
     }
 
     /// Enters a call: what the store must answer and make.
@@ -92,7 +99,7 @@ impl Book {
             }
             Call::Repair { fresh, .. } => {
                 self.in_service.extend(fresh);
-                reply.answer = (self.moved() as u64) << 8;
+                reply.answer = (self.moved(fresh.len()) as u64) << 8;
                 reply.made.clone_from(fresh);
             }
             Call::Read { .. } => {

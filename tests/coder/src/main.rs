@@ -9,16 +9,16 @@
 //! First the figures of document 01 are run, in a run of 20,000 calls or more all products of two bytes are tried, and then random cases until so
 //! many calls are made: single calls at board level, single calls of the store over made-up records and areas, long histories against a ledger,
 //! second files that k − 1 boards do not tell from the first (request A.13 of document 02), and shares with one byte altered where least shows it
-//! (request A.7); all of them at points 0 to n − 1, i + 1 and others (request A.9). Each case draws from its own seed, made of the run's seed and
-//! the case's number: `--only` repeats one case.
+//! (request A.7); all of them at points 0 to n − 1, i + 1 and others (request A.9), and repairs of 1 to r boards with stand-ins (request A.3). Each
+//! case draws from its own seed, made of the run's seed and the case's number: `--only` repeats one case.
 //! `--wrong` alters what the archive answers to one call, to show that this is reported. `--trace` prints each call before it is made,
-//! `--verbose` how often each call gave each refusal, with which points, and how often an altered byte was accepted and refused. `--multiply` tries
-//! all products and quotients through the archive and nothing else. `--products`, `--printer` and `--sizes` make no call: the first writes all products
+//! `--verbose` how often each call gave each refusal, with which points, how often an altered byte was accepted and refused, and how many boards
+//! repairs had. `--multiply` tries all products and quotients through the archive and nothing else. `--products`, `--printer` and `--sizes` make no call: the first writes all products
 //! and inverses of the coder's own field, the second reads standard input and writes what the share printer or the points printer must write for it,
 //! the third writes a line for each legal combination of sizes with at most N boards (request A.12).
 //!
 //! The last line counts calls and mismatches. The exit code is 1 where there is a mismatch, or where in a run of 20,000 calls or more some
-//! refusal that a call can give was never met, a kind of points, or DISAGREE for a kind of altered byte.
+//! refusal that a call can give was never met, a kind of points, DISAGREE for a kind of altered byte, or a kind of repair.
 
 mod altered;
 mod archive;
@@ -36,6 +36,7 @@ mod points;
 mod printer;
 mod products;
 mod random;
+mod repairs;
 mod size_list;
 mod spoil;
 mod store;

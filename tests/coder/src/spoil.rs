@@ -50,13 +50,10 @@ fn spoil_arguments(random: &mut Random, sizes: Sizes, mut parts: Parts) {
             let again = random.once_in(3);
             *parts.numbers[place] = if again { random.pick(&named) } else { draw::any_number(random, sizes.n) };
         }
-        5 if parts.lists.len() == 2 && random.once_in(3) => {
-            let [one, other] = &mut parts.lists[..] else { unreachable!("there are two") };
-            if random.once_in(2) {
-                share_a_board(random, one, other);
-            } else {
-                share_a_board(random, other, one);
-            }
+        5 if parts.lists.len() > 1 && random.once_in(3) => {
+            let two = random.choose((0..parts.lists.len()).collect(), 2);
+            let from = parts.lists[two[0]].clone();
+            share_a_board(random, &from, parts.lists[two[1]]);
         }
         5 => {
             let place = random.below(parts.lists.len());
@@ -141,7 +138,7 @@ fn spoil_list(random: &mut Random, n: usize, list: &mut Vec<usize>) {
     }
 }
 
-/// Puts a board of one list into another: a fresh board among the helpers, or a helper among the partners.
+/// Puts a board of one list into another: a fresh board among the helpers or the stand-ins, or a helper among the partners.
 fn share_a_board(random: &mut Random, from: &[usize], to: &mut [usize]) {
     if !from.is_empty() && !to.is_empty() {
         let place = random.below(to.len());

@@ -1,7 +1,7 @@
 //! The coder's own model of the five calls of the store, over any record and any area: what each answers and leaves, refusals in document
-//! 01's order.
+//! 01's order with those of later requests in their places.
 
-use crate::call::refusal::{AREA, COUNT, DISAGREE, DOWN, EMPTY, LONG, NODE, REPEAT, SHORT, SIZE};
+use crate::call::refusal::{AREA, COUNT, DISAGREE, DOWN, EMPTY, LONG, NODE, REPEAT, SERVING, SHORT, SIZE};
 use crate::call::{Call, Lent, Outcome};
 use crate::code::{self, Sizes, MAX_STRIPES};
 use crate::points;
@@ -116,7 +116,7 @@ pub fn expect(call: &Call, lent: &Lent) -> Outcome {
         Call::SetUp { sizes, points, capacity } => set_up(*sizes, points, *capacity, lent),
         Call::Write { file } => write(file, lent),
         Call::Lose { board } => lose(*board, lent),
-        Call::Repair { fresh, helpers } => repair(fresh, helpers, lent),
+        Call::Repair { fresh, helpers, stand_ins } => repair(fresh, helpers, stand_ins, lent),
         Call::Read { boards } => read(boards, lent),
         _ => unreachable!("a board-level call"),
     };
@@ -166,53 +166,69 @@ fn lose(board: usize, lent: &Lent) -> Result<Outcome, u8> {
     Ok(Outcome::accepted(0, Lent { record: record.words(), ..lent.clone() }))
 }
 
-/// "Store: 1, 2, 3, 8, 4, 5, 6, 9, 7, 10".
-fn check_repair(record: &Record, fresh: &[usize], helpers: &[usize]) -> Result<(), u8> {
-    let Sizes { n, d, r, .. } = record.sizes;
+/// A fresh board, its helpers, its stand-ins.
+type Run<'a> = (usize, &'a [usize], &'a [usize]);
+
+/// The boards that a repair names for each fresh board. None where some list is too long or too short.
+fn runs<'a>(sizes: Sizes, fresh: &[usize], helpers: &'a [usize], stand_ins: &'a [usize]) -> Option<Vec<Run<'a>>> {
+    let missing = sizes.r.checked_sub(fresh.len())?;
+    let (mut helpers, mut stand_ins, mut list) = (helpers, stand_ins, Vec::new());
+    for &board in fresh {
+        let (own_helpers, other_helpers) = helpers.split_at_checked(sizes.d)?;
+        let (own_stand_ins, other_stand_ins) = stand_ins.split_at_checked(missing)?;
+        list.push((board, own_helpers, own_stand_ins));
+        (helpers, stand_ins) = (other_helpers, other_stand_ins);
+    }
+    (!list.is_empty() && helpers.is_empty() && stand_ins.is_empty()).then_some(list)
+}
+
+/// "Store: 1, 2, 3, 8, 4, 5, 6, 9, 7, 10", with 14 "after 6 and before 9".
+fn check_repair(record: &Record, fresh: &[usize], helpers: &[usize], stand_ins: &[usize]) -> Result<(), u8> {
     if !record.written {
         return Err(EMPTY);
     }
-    if fresh.len() != r || helpers.len() != r * d {
-        return Err(COUNT);
-    }
-    if fresh.iter().chain(helpers).any(|&board| board >= n) {
+    let runs = runs(record.sizes, fresh, helpers, stand_ins).ok_or(COUNT)?;
+    let senders = [helpers, stand_ins].concat();
+    if fresh.iter().chain(&senders).any(|&board| board >= record.sizes.n) {
         return Err(NODE);
     }
-    let fresh_helps = helpers.iter().any(|helper| fresh.contains(helper));
-    if has_repeat(fresh) || fresh_helps || helpers.chunks(d).any(has_repeat) {
+    let twice = |&(_, helpers, stand_ins): &Run| has_repeat(&[helpers, stand_ins].concat());
+    if has_repeat(fresh) || senders.iter().any(|board| fresh.contains(board)) || runs.iter().any(twice) {
         return Err(REPEAT);
     }
-    if record.some_down(helpers) {
+    if fresh.iter().any(|&board| record.marks[board]) {
+        return Err(SERVING);
+    }
+    if record.some_down(&senders) {
         return Err(DOWN);
     }
     Ok(())
 }
 
-fn repair(fresh: &[usize], helpers: &[usize], lent: &Lent) -> Result<Outcome, u8> {
+fn repair(fresh: &[usize], helpers: &[usize], stand_ins: &[usize], lent: &Lent) -> Result<Outcome, u8> {
     let mut record = opened(lent)?;
-    check_repair(&record, fresh, helpers)?;
+    check_repair(&record, fresh, helpers, stand_ins)?;
     let (sizes, points) = (record.sizes, record.points.clone());
-    // the helper packets of each fresh board, one after another, all from the area before the call
-    let lists: Vec<&[usize]> = helpers.chunks(sizes.d).collect();
-    let packets: Vec<Vec<u8>> = fresh
-        .iter()
-        .zip(&lists)
-        .map(|(&board, list)| {
-            let sent =
-                |&helper: &usize| code::helper_packet(sizes, &points, helper, board, &lent.area[record.share(helper)]);
-            list.iter().flat_map(sent).collect()
-        })
-        .collect();
+    let runs = runs(sizes, fresh, helpers, stand_ins).expect("COUNT does not hold");
+    // all from the area before the call
+    let held = |board: usize| &lent.area[record.share(board)];
+    // the helper packets of each fresh board, one after another
+    let heard = |&(board, helpers, _): &Run| -> Vec<u8> {
+        helpers.iter().flat_map(|&helper| code::helper_packet(sizes, &points, helper, board, held(helper))).collect()
+    };
+    let packets: Vec<Vec<u8>> = runs.iter().map(heard).collect();
     let mut after = lent.clone();
     let mut moved = 0;
-    for (a, &board) in fresh.iter().enumerate() {
-        let others = || (0..fresh.len()).filter(|&b| b != a);
-        let partners: Vec<usize> = others().map(|b| fresh[b]).collect();
-        let exchanged: Vec<u8> =
-            others().flat_map(|b| code::exchange_packet(&points, lists[b], &packets[b], board)).collect();
-        let share = code::finished_share(sizes, &points, board, lists[a], &packets[a], &partners, &exchanged);
+    for (a, &(board, helpers, stand_ins)) in runs.iter().enumerate() {
+        let others = || (0..runs.len()).filter(|&b| b != a);
+        // the order of partners does not matter: here the other fresh boards are first
+        let partners: Vec<usize> = others().map(|b| fresh[b]).chain(stand_ins.iter().copied()).collect();
+        let exchanged = others().flat_map(|b| code::exchange_packet(&points, runs[b].1, &packets[b], board));
+        let stood_in = stand_ins.iter().flat_map(|&s| code::stand_in_packet(sizes, &points, s, board, held(s)));
+        let sent: Vec<u8> = exchanged.chain(stood_in).collect();
+        let share = code::finished_share(sizes, &points, board, helpers, &packets[a], &partners, &sent);
         after.area[record.share(board)].copy_from_slice(&share);
-        moved += packets[a].len() + exchanged.len();
+        moved += packets[a].len() + sent.len();
     }
     for &board in fresh {
         record.marks[board] = true;

@@ -5,6 +5,7 @@ use crate::code::{self, Sizes};
 use crate::draw;
 use crate::points;
 use crate::random::Random;
+use crate::repairs;
 use crate::spoil::spoil;
 use crate::store;
 use crate::store_draw;
@@ -21,10 +22,13 @@ pub fn run(trial: &mut Trial, random: &mut Random, sizes: Sizes) {
     let area = area(random, sizes, &points, capacity, &file);
     for _ in 0..CALLS {
         // sometimes all boards are in service, else some
-        let out_of_service = random.pick(&[0, 0, 1, sizes.r, sizes.n]);
+        let out_of_service = random.pick(&[0, 1, 1, 2, 2, sizes.r, sizes.n]);
         let in_service = random.choose((0..sizes.n).collect(), sizes.n - out_of_service.min(sizes.n));
         let record = store::words(sizes, &points, capacity, Some(length), &in_service);
         let mut call = store_draw::call(random, sizes, &points, capacity, &in_service);
+        if random.once_in(3) {
+            repairs::spoil(random, sizes, &in_service, &mut call);
+        }
         let out = store_draw::output(random, &call, length);
         let mut lent = Lent { record, area: area.clone(), out };
         spoil(random, sizes, &mut call, &mut lent);

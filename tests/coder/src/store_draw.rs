@@ -4,6 +4,7 @@ use crate::call::Call;
 use crate::code::Sizes;
 use crate::draw;
 use crate::random::Random;
+use crate::repairs;
 
 /// A single call of any kind; sometimes any boards are taken.
 pub fn call(random: &mut Random, sizes: Sizes, points: &[u8], capacity: usize, in_service: &[usize]) -> Call {
@@ -13,27 +14,30 @@ pub fn call(random: &mut Random, sizes: Sizes, points: &[u8], capacity: usize, i
         0 => Call::SetUp { sizes, points: points.to_vec(), capacity },
         1 => lose(random, sizes),
         2 => write(random, sizes, capacity),
-        3..=4 => repair(random, sizes, boards),
+        3..=4 => repairs::draw(random, sizes, boards),
         _ => read(random, sizes, boards),
     }
 }
 
-/// The next call of a history: mostly losses, repairs and reads, so that boards are rebuilt from rebuilt boards; writes are few. Boards are mostly
-/// lost only as far as those in service can still rebuild them.
+/// The next call of a history: mostly losses, repairs and reads, so that boards are rebuilt from rebuilt boards; writes are few. A board that is lost
+/// is mostly rebuilt before the next one is lost, and boards are mostly lost only as far as those in service can still rebuild them.
 pub fn next_call(random: &mut Random, sizes: Sizes, capacity: usize, in_service: &[usize]) -> Call {
-    let Sizes { n, d, r, .. } = sizes;
-    let lost = n - in_service.len();
-    let all: Vec<usize> = (0..n).collect();
-    // d helpers are left beside the boards that are lost or fresh
-    let can_repair = lost.max(r) + d <= n;
-    let can_lose = (lost + 1).max(r) + d <= n;
+    let lost = sizes.n - in_service.len();
+    let all: Vec<usize> = (0..sizes.n).collect();
     match random.below(20) {
         0 => write(random, sizes, capacity),
-        1 => repair(random, sizes, &all),
+        1 => repairs::draw(random, sizes, &all),
         2 => read(random, sizes, &all),
-        3..=9 if can_lose || random.once_in(10) => lose(random, sizes),
-        3..=14 if can_repair => repair(random, sizes, in_service),
-        3..=14 => write(random, sizes, capacity),
+        3..=14 => {
+            let can_lose = repairs::possible(sizes, lost + 1) || random.once_in(10);
+            if can_lose && (lost == 0 || random.once_in(3)) {
+                lose(random, sizes)
+            } else if repairs::possible(sizes, lost) {
+                repairs::draw(random, sizes, in_service)
+            } else {
+                write(random, sizes, capacity)
+            }
+        }
         _ => read(random, sizes, in_service),
     }
 }
@@ -55,17 +59,6 @@ fn write(random: &mut Random, sizes: Sizes, capacity: usize) -> Call {
 
 fn lose(random: &mut Random, sizes: Sizes) -> Call {
     Call::Lose { board: random.below(sizes.n) }
-}
-
-/// A repair: boards out of service first, each with helpers of its own out of those in service.
-fn repair(random: &mut Random, sizes: Sizes, in_service: &[usize]) -> Call {
-    let out_of_service = (0..sizes.n).filter(|board| !in_service.contains(board)).collect();
-    let mut fresh = random.choose(out_of_service, sizes.r);
-    let others = random.choose(in_service.to_vec(), sizes.r - fresh.len());
-    fresh.extend(others);
-    let left: Vec<usize> = in_service.iter().copied().filter(|board| !fresh.contains(board)).collect();
-    let helpers = (0..sizes.r).flat_map(|_| random.choose(left.clone(), sizes.d)).collect();
-    Call::Repair { fresh, helpers }
 }
 
 /// A read from k of these boards.

@@ -4,7 +4,7 @@ use crate::altered;
 use crate::archive::{self, Performed};
 use crate::call::{refusal, Call, Lent, Outcome, CALLS};
 use crate::code::Sizes;
-use crate::{points, store};
+use crate::{points, repairs, store};
 use std::fmt;
 use std::time::{Duration, Instant};
 
@@ -86,6 +86,8 @@ pub struct Trial {
     pub second_calls: u64,
     /// what calls with an altered byte gave, by its kind
     pub altered: [altered::Met; altered::KINDS.len()],
+    /// how many repairs were accepted, by their kinds
+    pub repairs: [u64; repairs::KINDS.len()],
     pub place: Place,
     /// whether each call is printed before it is made, to find one that does not come back
     pub trace: bool,
@@ -108,6 +110,7 @@ impl Trial {
             second_files: 0,
             second_calls: 0,
             altered: Default::default(),
+            repairs: Default::default(),
             place: Place::Figure(String::new()),
             trace: false,
             wrong,
@@ -135,6 +138,7 @@ impl Trial {
                 let number = (expected.answer & 255) as u8;
                 self.met[call.place()][usize::from(number)] += 1;
                 self.count_points(call, lent, number);
+                self.count_repair(call, lent, number);
                 true
             }
             Some(what) => {
@@ -151,6 +155,17 @@ impl Trial {
         let answer = if kind < points::REFUSED { refusal::ACCEPTED } else { refusal::SIZE };
         if number == answer {
             self.points[call.place()][kind] += 1;
+        }
+    }
+
+    /// Counts an accepted repair.
+    fn count_repair(&mut self, call: &Call, lent: &Lent, number: u8) {
+        let Call::Repair { fresh, helpers, stand_ins } = call else { return };
+        if number == refusal::ACCEPTED {
+            let (sizes, _) = store::given(&lent.record).expect("it was accepted");
+            for kind in repairs::kinds(sizes, fresh, helpers, stand_ins) {
+                self.repairs[kind] += 1;
+            }
         }
     }
 
@@ -227,6 +242,11 @@ impl Trial {
                 missing.push(format!("DISAGREE for a byte altered, {kind}"));
             }
         }
+        for (kind, &met) in repairs::KINDS.iter().zip(&self.repairs) {
+            if met == 0 {
+                missing.push(format!("a repair, {kind}"));
+            }
+        }
         missing
     }
 
@@ -247,6 +267,10 @@ impl Trial {
         println!("{:24} accepted DISAGREE, of the calls of zbk_file and zbk_read", "one byte altered");
         for (kind, met) in altered::KINDS.iter().zip(&self.altered) {
             println!("{kind:24} {:>8} {:>8}", met.accepted, met.disagree);
+        }
+        println!("{:38} of the calls of zbk_repair, each of one or more kinds", "accepted repairs of t boards");
+        for (kind, met) in repairs::KINDS.iter().zip(&self.repairs) {
+            println!("{kind:38} {met:>8}");
         }
     }
 }

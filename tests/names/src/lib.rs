@@ -31,7 +31,9 @@ macro_rules! archive {
             set_up as zbk_set_up(record: &mut [u64], sizes: Sizes, points: &[u8], capacity: usize,);
             write as zbk_write(record: &mut [u64], area: &mut [u8], file: &[u8],);
             lose as zbk_lose(record: &mut [u64], board: usize,);
-            repair as zbk_repair(record: &mut [u64], area: &mut [u8], fresh: &[usize], helpers: &[usize],);
+            repair as zbk_repair(
+                record: &mut [u64], area: &mut [u8], fresh: &[usize], helpers: &[usize], stand_ins: &[usize],
+            );
             read as zbk_read(record: &mut [u64], area: &[u8], boards: &[usize], out: &mut [u8],);
         });
     };

@@ -85,6 +85,14 @@ pub fn help(sizes: Sizes, points: &Points, helper: usize, receiver: usize, share
     }
 }
 
+/// A stand-in's packet, with no checks: `out` has its length.
+pub fn stand_in(sizes: Sizes, points: &Points, stand_in: usize, receiver: usize, share: &[u8], out: &mut [u8]) {
+    let near = neighbours(sizes, points, stand_in);
+    for (held, byte) in share.chunks(sizes.share_len()).zip(out) {
+        *byte = stripe::stand_in(sizes, &near, held, points[receiver]);
+    }
+}
+
 /// A helper packet for another board.
 pub fn helper_packet(
     sizes: Sizes,

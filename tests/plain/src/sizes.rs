@@ -1,6 +1,6 @@
 //! Sizes, points, refusals, and the checks on lists that both levels share.
 
-/// n boards, k read, d helpers, r fresh boards.
+/// n boards, k read, d helpers, up to r fresh boards.
 #[derive(Clone, Copy)]
 pub struct Sizes {
     pub n: usize,
@@ -9,7 +9,7 @@ pub struct Sizes {
     pub r: usize,
 }
 
-/// Document 01's refusals, with their numbers.
+/// The refusals, with their numbers; 11 is not used.
 #[derive(Clone, Copy, Debug, PartialEq, Eq)]
 #[repr(u8)]
 pub enum Refusal {
@@ -23,6 +23,7 @@ pub enum Refusal {
     Empty = 8,
     Down = 9,
     Disagree = 10,
+    Serving = 14,
 }
 
 pub const MAX_BOARDS: usize = 32;

@@ -129,45 +129,90 @@ pub fn lose(words: &mut [u64], board: usize) -> Result<usize, Refusal> {
     Ok(0)
 }
 
-fn check_repair(record: &Record, fresh: &[usize], helpers: &[usize]) -> Result<(), Refusal> {
-    let Sizes { n, d, r, .. } = record.sizes;
-    refuse_if(!record.written, Refusal::Empty)?;
-    refuse_if(fresh.len() != r || helpers.len() != r * d, Refusal::Count)?;
-    refuse_if(fresh.iter().chain(helpers).any(|&b| b >= n), Refusal::Node)?;
-    let twice = helpers.chunks(d).any(|list| repeats(fresh.iter().chain(list).copied()));
-    refuse_if(twice || repeats(fresh.iter().copied()), Refusal::Repeat)?;
-    refuse_if(record.down(helpers), Refusal::Down)
+/// What a repair names: t fresh boards, and for each of them in turn d helpers and r − t stand-ins.
+#[derive(Clone, Copy)]
+struct Named<'a> {
+    fresh: &'a [usize],
+    helpers: &'a [usize],
+    stand_ins: &'a [usize],
 }
 
-/// Rebuilds r fresh boards together.
-pub fn repair(words: &mut [u64], area: &mut [u8], fresh: &[usize], helpers: &[usize]) -> Result<usize, Refusal> {
+impl<'a> Named<'a> {
+    fn all(self) -> impl Iterator<Item = usize> + 'a {
+        self.fresh.iter().chain(self.helpers).chain(self.stand_ins).copied()
+    }
+
+    /// The helpers of the a-th fresh board.
+    fn helpers_of(self, sizes: Sizes, a: usize) -> &'a [usize] {
+        &self.helpers[a * sizes.d..][..sizes.d]
+    }
+
+    /// Its stand-ins.
+    fn stand_ins_of(self, sizes: Sizes, a: usize) -> &'a [usize] {
+        let count = sizes.r - self.fresh.len();
+        &self.stand_ins[a * count..][..count]
+    }
+}
+
+fn check_repair(record: &Record, named: Named) -> Result<(), Refusal> {
+    let Record { sizes, written, .. } = *record;
+    let Sizes { n, d, r, .. } = sizes;
+    let Named { fresh, helpers, stand_ins } = named;
+    let t = fresh.len();
+    refuse_if(!written, Refusal::Empty)?;
+    refuse_if(t < 1 || t > r, Refusal::Count)?;
+    refuse_if(helpers.len() != t * d, Refusal::Count)?;
+    refuse_if(stand_ins.len() != t * (r - t), Refusal::Count)?;
+    refuse_if(named.all().any(|b| b >= n), Refusal::Node)?;
+    let heard = |a: usize| named.helpers_of(sizes, a).iter().chain(named.stand_ins_of(sizes, a));
+    let twice = (0..t).any(|a| repeats(fresh.iter().chain(heard(a)).copied()));
+    refuse_if(twice, Refusal::Repeat)?;
+    refuse_if(fresh.iter().any(|&b| record.marks >> b & 1 == 1), Refusal::Serving)?;
+    refuse_if(record.down(helpers) || record.down(stand_ins), Refusal::Down)
+}
+
+/// Rebuilds t fresh boards together, each from its own d helpers, its own r − t stand-ins and the other fresh boards.
+pub fn repair(
+    words: &mut [u64],
+    area: &mut [u8],
+    fresh: &[usize],
+    helpers: &[usize],
+    stand_ins: &[usize],
+) -> Result<usize, Refusal> {
     let record = Record::with_area(words, area)?;
-    check_repair(&record, fresh, helpers)?;
+    let named = Named { fresh, helpers, stand_ins };
+    check_repair(&record, named)?;
     let Record { sizes, ref points, .. } = record;
     let Sizes { d, r, .. } = sizes;
+    let t = fresh.len();
     let stripes = sizes.stripes(record.length);
-    let mut packets = vec![0; r * d * 2 * stripes];
+    let mut packets = vec![0; t * d * 2 * stripes];
     for (a, &board) in fresh.iter().enumerate() {
-        for (h, &helper) in helpers[a * d..][..d].iter().enumerate() {
+        for (h, &helper) in named.helpers_of(sizes, a).iter().enumerate() {
             let packet = &mut packets[(a * d + h) * 2 * stripes..][..2 * stripes];
             board::help(sizes, points, helper, board, record.share(area, helper), packet);
         }
     }
     let received = |a: usize| &packets[a * d * 2 * stripes..][..d * 2 * stripes];
-    let list = |a: usize| &helpers[a * d..][..d];
-    let gs: Vec<_> = (0..r).map(|a| board::all_g(sizes, points, list(a), received(a), stripes)).collect();
+    let list = |a: usize| named.helpers_of(sizes, a);
+    let gs: Vec<_> = (0..t).map(|a| board::all_g(sizes, points, list(a), received(a), stripes)).collect();
     let mut moved = packets.len();
     for (a, &board) in fresh.iter().enumerate() {
-        let mut partners = Vec::with_capacity(r - 1);
-        let mut exchanged = vec![0; (r - 1) * stripes];
+        // what its partners send it: its stand-ins, then the other fresh boards
+        let mut partners = named.stand_ins_of(sizes, a).to_vec();
+        let mut sent = vec![0; (r - 1) * stripes];
+        for (p, &partner) in partners.iter().enumerate() {
+            let packet = &mut sent[p * stripes..][..stripes];
+            board::stand_in(sizes, points, partner, board, record.share(area, partner), packet);
+        }
         for (b, &partner) in fresh.iter().enumerate().filter(|&(b, _)| b != a) {
-            let packet = &mut exchanged[partners.len() * stripes..][..stripes];
+            let packet = &mut sent[partners.len() * stripes..][..stripes];
             board::exchange(sizes, points, &gs[b], board, packet);
             partners.push(partner);
         }
         let out = record.share_mut(area, board);
-        board::finish(sizes, points, board, &gs[a], list(a), received(a), &partners, &exchanged, out);
-        moved += exchanged.len();
+        board::finish(sizes, points, board, &gs[a], list(a), received(a), &partners, &sent, out);
+        moved += sent.len();
     }
     for &board in fresh {
         words[MARKS] |= 1 << board;

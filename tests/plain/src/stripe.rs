@@ -54,15 +54,21 @@ fn own_from_grid(sizes: Sizes, grid: &Grid, point: u8) -> (Row, Row) {
 
 /// f and g of a board, from the symbols that it keeps.
 pub fn own_from_symbols(sizes: Sizes, points: &Row, symbols: &[u8]) -> (Row, Row) {
-    let Sizes { d, r, .. } = sizes;
+    let width = sizes.d + sizes.r;
     let mut f = [0; MAX_BOARDS];
+    f[..width].copy_from_slice(&symbols[..width]);
+    interpolate(&points[..width], &mut f[..width]);
+    (f, g_from_symbols(sizes, points, symbols))
+}
+
+/// g alone.
+fn g_from_symbols(sizes: Sizes, points: &Row, symbols: &[u8]) -> Row {
+    let Sizes { d, r, .. } = sizes;
     let mut g = [0; MAX_BOARDS];
-    f[..d + r].copy_from_slice(&symbols[..d + r]);
     g[0] = symbols[0];
     g[1..d].copy_from_slice(&symbols[d + r..]);
-    interpolate(&points[..d + r], &mut f[..d + r]);
     interpolate(&points[..d], &mut g[..d]);
-    (f, g)
+    g
 }
 
 /// The symbols that a board with this f and g keeps.
@@ -87,6 +93,11 @@ pub fn encode(sizes: Sizes, grid: &Grid, points: &Row, out: &mut [u8]) {
 pub fn help(sizes: Sizes, points: &Row, held: &[u8], receiver: u8) -> [u8; 2] {
     let (f, g) = own_from_symbols(sizes, points, held);
     [value(&f[..sizes.d + sizes.r], receiver), value(&g[..sizes.d], receiver)]
+}
+
+/// The one byte that a stand-in sends to the board at a point: the second of those that it would send as a helper.
+pub fn stand_in(sizes: Sizes, points: &Row, held: &[u8], receiver: u8) -> u8 {
+    value(&g_from_symbols(sizes, points, held)[..sizes.d], receiver)
 }
 
 /// g of a fresh board, from the first bytes of its helpers.

@@ -108,11 +108,25 @@ fn one(sizes: Sizes, stripes: usize, length: usize, damaged: bool, numbers: &mut
     assert_eq!(given, plain_kernels::read(sizes, &points, &readers, &other, &mut other_out));
     assert!(out == other_out, "a read at n={n} k={k} d={d} r={r}, {length} bytes, boards {readers:?}");
 
-    let fresh = numbers.choose(&boards, r);
-    let left: Vec<usize> = boards.into_iter().filter(|board| !fresh.contains(board)).collect();
-    let helpers: Vec<usize> = (0..r).flat_map(|_| numbers.choose(&left, d)).collect();
-    let moved = store::repair(&mut words, &mut area, &fresh, &helpers).expect("a repair is accepted");
-    assert_eq!(moved, plain_kernels::repair(sizes, &points, stripes, &fresh, &helpers, &mut other));
-    assert!(area == other, "a repair at n={n} k={k} d={d} r={r}, {length} bytes, boards {fresh:?} by {helpers:?}");
+    for fresh_count in [r, 1, 1 + numbers.below(r)] {
+        let fresh = numbers.choose(&boards, fresh_count);
+        for &board in &fresh {
+            store::lose(&mut words, board).expect("a loss is accepted");
+        }
+        let left: Vec<usize> = boards.iter().copied().filter(|board| !fresh.contains(board)).collect();
+        let (mut helpers, mut stand_ins) = (Vec::new(), Vec::new());
+        for _ in &fresh {
+            let heard = numbers.choose(&left, d + r - fresh_count);
+            helpers.extend(&heard[..d]);
+            stand_ins.extend(&heard[d..]);
+        }
+        let moved = store::repair(&mut words, &mut area, &fresh, &helpers, &stand_ins).expect("a repair is accepted");
+        assert_eq!(moved, stripes * fresh_count * (2 * d + r - 1));
+        assert_eq!(moved, plain_kernels::repair(sizes, &points, stripes, &fresh, &helpers, &stand_ins, &mut other));
+        assert!(
+            area == other,
+            "a repair at n={n} k={k} d={d} r={r}, {length} bytes, boards {fresh:?} by {helpers:?} and {stand_ins:?}"
+        );
+    }
     given
 }

@@ -1,6 +1,5 @@
 -- `decode::pairs_meet` meets its contract: what it calls, with parts of arrays.
 -- Assumes nothing.
-use native.Mathlib.Nat.{mul-le-mul}
 use Rattle.sizes.proofs.Legal.{Legal, legal-facts}
 use Rattle.decode_stripe.proofs.Made.{part-long}
 use Rattle.decode_setup.proofs.Placed.{f-few, g-few}
@@ -31,13 +30,6 @@ st-gs c = st-struct-known3 (c .before .before .before .before)
 facts : (c : tie.Start) → Legal (c .args .sizes)
 facts c = legal-facts _ (c .pre .0 .sized)
 
--- k is at most 31
-squares : (c : tie.Start) → c .args .sizes .k * c .args .sizes .k ≤ 992
-squares c =
-    let h : c .args .sizes .k ≤ 31 = omega (arith, facts c) in
-    let p : c .args .sizes .k * c .args .sizes .k ≤ 31 * 31 = mul-le-mul h h in
-    omega arith
-
 add-w : tie.Need-add-w
 add-w c = omega (arith, facts (st-struct-known c))
 
@@ -64,9 +56,6 @@ add-g-end c = omega (arith, g-few _ (facts (st-struct-known3 c)))
 
 mul-kept : tie.Need-mul-kept
 mul-kept c = omega (arith, facts (st-struct-known3 c))
-
-mul-square : tie.Need-mul-square
-mul-square c = omega (arith, squares (st-struct-known3 c))
 
 sub-stripes-meet : tie.Need-sub-stripes-meet
 sub-stripes-meet c = search needs
@@ -104,27 +93,9 @@ part-gs-start c = search needs
 part-gs-end : tie.Need-part-gs-end
 part-gs-end c = omega (arith, facts (st-struct-known3 (c .before .before .before)))
 
-sub-stripes-meet-5 : tie.Need-sub-stripes-meet-5
-sub-stripes-meet-5 c = search needs
-
-part-fv-start : tie.Need-part-fv-start
-part-fv-start c = search needs
-
-part-fv-end : tie.Need-part-fv-end
-part-fv-end c = squares (st-gs c)
-
-sub-stripes-meet-6 : tie.Need-sub-stripes-meet-6
-sub-stripes-meet-6 c = search needs
-
-part-gv-start : tie.Need-part-gv-start
-part-gv-start c = search needs
-
-part-gv-end : tie.Need-part-gv-end
-part-gv-end c = squares (st-gs (c .before))
-
 stripes-meet-requires : tie.Need-stripes-meet-requires
 stripes-meet-requires c κs =
-    let g = st-gs (c .before .before) in
+    let g = st-gs c in
     let a = g .args in
     let p = g .pre in
     let f = facts g in
@@ -140,8 +111,6 @@ stripes-meet-requires c κs =
       t .g-factors,
       part-long _ _ (omega (arith, f)),
       part-long _ _ (omega (arith, f)),
-      part-long _ _ (squares g),
-      part-long _ _ (squares g),
     )
 
 returns : tie.Need-returns
@@ -160,7 +129,6 @@ pairs-meet-spec =
     mul-g-end-2
     add-g-end
     mul-kept
-    mul-square
     sub-stripes-meet
     part-stripes-meet-start
     part-stripes-meet-end
@@ -173,11 +141,5 @@ pairs-meet-spec =
     sub-stripes-meet-4
     part-gs-start
     part-gs-end
-    sub-stripes-meet-5
-    part-fv-start
-    part-fv-end
-    sub-stripes-meet-6
-    part-gv-start
-    part-gv-end
     stripes-meet-requires
     returns)

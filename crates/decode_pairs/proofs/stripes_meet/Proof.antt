@@ -17,32 +17,32 @@ use Rattle.decode_pairs.proofs.stripes_meet.Statement.{statement}
 use Rattle.decode_pairs.proofs.stripes_meet.Tie as tie
 
 abbrev Inv-loop : tie.InvT-loop
-Inv-loop sizes points boards starts bytes stripes ff gf fs₀ gs₀ fv₀ gv₀ s₀ fs gs fv gv s =
+Inv-loop sizes points boards starts bytes stripes ff gf fs₀ gs₀ s₀ fs gs s =
     let q : ℕ → Bool = λ s. pairsMeet sizes points boards (heldAt sizes starts bytes s) in
     (alls (drop s (tabulate stripes q)) ≡ alls (tabulate stripes q)) × (s ≤ stripes)
-    × (length fs ≡ length fs₀) × (length gs ≡ length gs₀) × (length fv ≡ length fv₀) × (length gv ≡ length gv₀)
+    × (length fs ≡ length fs₀) × (length gs ≡ length gs₀)
 
 abbrev μ-loop : tie.MeasureT-loop
-μ-loop sizes points boards starts bytes stripes ff gf fs₀ gs₀ fv₀ gv₀ s₀ fs gs fv gv s = stripes - s
+μ-loop sizes points boards starts bytes stripes ff gf fs₀ gs₀ s₀ fs gs s = stripes - s
 
 -- places in the code
 abbrev st-loop : tie.At-loop Inv-loop μ-loop → tie.Start Inv-loop μ-loop
-st-loop c = c .before .before .before .before .before .before .before .before .before .before .before
+st-loop c = c .before .before .before .before .before .before .before .before .before
 
-abbrev loop-at-stripe-meets-arg4 : tie.After-stripe-meets-arg4 Inv-loop μ-loop → tie.At-loop Inv-loop μ-loop
-loop-at-stripe-meets-arg4 c = c .before .before .before .before .before
+abbrev loop-at-stripe-meets-arg2 : tie.After-stripe-meets-arg2 Inv-loop μ-loop → tie.At-loop Inv-loop μ-loop
+loop-at-stripe-meets-arg2 c = c .before .before .before
 
-abbrev st-stripe-meets-arg4 : tie.After-stripe-meets-arg4 Inv-loop μ-loop → tie.Start Inv-loop μ-loop
-st-stripe-meets-arg4 c = st-loop (loop-at-stripe-meets-arg4 c)
+abbrev st-stripe-meets-arg2 : tie.After-stripe-meets-arg2 Inv-loop μ-loop → tie.Start Inv-loop μ-loop
+st-stripe-meets-arg2 c = st-loop (loop-at-stripe-meets-arg2 c)
 
 abbrev turn-at-stripe-meets : tie.After-stripe-meets Inv-loop μ-loop → tie.In-loop Inv-loop μ-loop
-turn-at-stripe-meets c = c .before .before .before .before .before
+turn-at-stripe-meets c = c .before .before .before
 
 abbrev stripe-meets-at-then1 : tie.Then1 Inv-loop μ-loop → tie.After-stripe-meets Inv-loop μ-loop
-stripe-meets-at-then1 c = c .before .before .before .before .before .before .before .before .before
+stripe-meets-at-then1 c = c .before .before .before .before .before
 
 abbrev stripe-meets-at-else1 : tie.Else1 Inv-loop μ-loop → tie.After-stripe-meets Inv-loop μ-loop
-stripe-meets-at-else1 c = c .before .before .before .before .before .before .before .before .before
+stripe-meets-at-else1 c = c .before .before .before .before .before
 
 abbrev turn-at-then1 : tie.Then1 Inv-loop μ-loop → tie.In-loop Inv-loop μ-loop
 turn-at-then1 c = turn-at-stripe-meets (stripe-meets-at-then1 c)
@@ -51,23 +51,23 @@ abbrev turn-at-else1 : tie.Else1 Inv-loop μ-loop → tie.In-loop Inv-loop μ-lo
 turn-at-else1 c = turn-at-stripe-meets (stripe-meets-at-else1 c)
 
 abbrev st-then1 : tie.Then1 Inv-loop μ-loop → tie.Start Inv-loop μ-loop
-st-then1 c = st-stripe-meets-arg4 (stripe-meets-at-then1 c .before)
+st-then1 c = st-stripe-meets-arg2 (stripe-meets-at-then1 c .before)
 
 abbrev st-else1 : tie.Else1 Inv-loop μ-loop → tie.Start Inv-loop μ-loop
-st-else1 c = st-stripe-meets-arg4 (stripe-meets-at-else1 c .before)
+st-else1 c = st-stripe-meets-arg2 (stripe-meets-at-else1 c .before)
 
 -- the tests
 abbrev tests : tie.Start Inv-loop μ-loop → ℕ → Bool
 tests g = let a = g .args in λ s. pairsMeet (a .sizes) (a .points .now) (a .boards .now) (heldAt (a .sizes) (a .starts .now) (a .bytes .now) s)
 
 loop-holds : tie.Need-loop-holds Inv-loop μ-loop
-loop-holds c = (refl, omega arith, refl, refl, refl, refl)
+loop-holds c = (refl, omega arith, refl, refl)
 
 stripe-meets-requires : tie.Need-stripe-meets-requires Inv-loop μ-loop
 stripe-meets-requires c κs =
-    let g = st-stripe-meets-arg4 c in
+    let g = st-stripe-meets-arg2 c in
     let a = g .args in
-    let l = loop-at-stripe-meets-arg4 c .loop in (
+    let l = loop-at-stripe-meets-arg2 c .loop in (
       g .pre .0,
       g .pre .1,
       g .pre .2,
@@ -79,8 +79,6 @@ stripe-meets-requires c κs =
       g .pre .8,
       l .inv .2 ∙ g .pre .9,
       l .inv .3 ∙ g .pre .10,
-      l .inv .4 ∙ g .pre .11,
-      l .inv .5 ∙ g .pre .12,
     )
 
 same-length : tie.Need-same-length Inv-loop μ-loop
@@ -113,24 +111,9 @@ loop-again c =
       alls-next (tests (st-else1 c)) (st-else1 c .args .stripes) (l .s) (turn-at-else1 c .loop-test .taken)
           (sym (stripe-meets-at-else1 c .stripe-meets .ensures) ∙ not-false (stripe-meets-at-else1 c .stripe-meets .result) (c .if1 .left)) ∙ l .inv .0,
       omega arith,
-      search
-          needs,
-      search needs,
       search needs,
       search needs,
     )
-
-same-length-5 : tie.Need-same-length-5 Inv-loop μ-loop
-same-length-5 c = search needs
-
-same-length-6 : tie.Need-same-length-6 Inv-loop μ-loop
-same-length-6 c = search needs
-
-same-length-7 : tie.Need-same-length-7 Inv-loop μ-loop
-same-length-7 c = search needs
-
-same-length-8 : tie.Need-same-length-8 Inv-loop μ-loop
-same-length-8 c = search needs
 
 returns-2 : tie.Need-returns-2 Inv-loop μ-loop
 returns-2 c =
@@ -147,14 +130,10 @@ stripes-meet-spec =
     stripe-meets-requires
     same-length
     same-length-2
-    same-length-3
-    same-length-4
     returns
     add-s
     loop-less
     loop-again
-    same-length-5
-    same-length-6
-    same-length-7
-    same-length-8
+    same-length-3
+    same-length-4
     returns-2)

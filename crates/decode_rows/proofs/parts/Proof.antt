@@ -44,7 +44,8 @@ end : (c : tie.In-loop Inv-loop μ-loop) → let a = (start-from-in-loop c) .arg
 end c = row-fits _ _ _ (c .loop-test .taken)
 
 -- and how long it is
-long : (c : tie.In-loop Inv-loop μ-loop) → let a = (start-from-in-loop c) .args in let l = (c .before) .loop in length (take (l .i * a .m + a .m - l .i * a .m) (drop (l .i * a .m) (l .out))) ≡ a .m
+long : (c : tie.In-loop Inv-loop μ-loop) → let a = (start-from-in-loop c) .args in let l = (c .before) .loop in
+    length (take (l .i * a .m + a .m - l .i * a .m) (drop (l .i * a .m) (l .out))) ≡ a .m
 long c = simp (length-take, length-drop) (omega (arith, end c))
 
 loop-holds : tie.Need-loop-holds Inv-loop μ-loop

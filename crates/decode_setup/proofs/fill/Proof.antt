@@ -295,7 +295,8 @@ factor-rows-requires-2 c κs =
       omega (arith, f),
       omega (arith, f, g .pre .0 .counted),
       g .pre .0 .known,
-      part-there 7680 (g-long z) (t₀ (c .before .before .before)) (omega (arith, g-few z f, long₀ (c .before .before .before))) ∙ ap (λ (k : ℕ). k * ((z .n - z .d) * 32)) (sym (g .pre .0 .counted)),
+      part-there 7680 (g-long z) (t₀ (c .before .before .before)) (omega (arith, g-few z f, long₀ (c .before .before .before)))
+          ∙ ap (λ (k : ℕ). k * ((z .n - z .d) * 32)) (sym (g .pre .0 .counted)),
     )
 
 sub-row-tables : tie.Need-sub-row-tables

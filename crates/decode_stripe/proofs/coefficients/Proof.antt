@@ -26,74 +26,47 @@ use Rattle.decode_stripe.proofs.coefficients.Tie as tie
 abbrev st-lent-bytes : tie.After-shared-slice-known5 → tie.Start
 st-lent-bytes c = c .before .before .before .before .before
 
-abbrev st-struct-known : tie.After-struct-known → tie.Start
-st-struct-known c = st-lent-bytes (c .before .before .before .before .before .before .before .before .before .before .before)
+abbrev lent-bytes-at-struct-known : tie.After-struct-known → tie.After-shared-slice-known5
+lent-bytes-at-struct-known c = c .before .before .before .before .before .before .before .before .before .before .before
 
-abbrev st-whole-vectors : tie.After-whole-vectors → tie.Start
-st-whole-vectors c = st-struct-known (c .before)
+abbrev st-struct-known : tie.After-struct-known → tie.Start
+st-struct-known c = st-lent-bytes (lent-bytes-at-struct-known c)
+
+abbrev st-whole-vectors2 : tie.After-whole-vectors2 → tie.Start
+st-whole-vectors2 c = st-struct-known (c .before .before)
 
 abbrev whole-vectors2-at-rows-of : tie.After-rows-of → tie.After-whole-vectors2
 whole-vectors2-at-rows-of c = c .before .before .before
 
-abbrev rows-of-at-values-arg2 : tie.After-values-arg2 → tie.After-rows-of
-rows-of-at-values-arg2 c = c .before .before .before .before .before .before
+abbrev rows-of-at-slice-known8 : tie.After-slice-known8 → tie.After-rows-of
+rows-of-at-slice-known8 c = c .before .before .before .before
 
-abbrev whole-vectors-at-values-arg2 : tie.After-values-arg2 → tie.After-whole-vectors
-whole-vectors-at-values-arg2 c = whole-vectors2-at-rows-of (rows-of-at-values-arg2 c) .before
+abbrev st-rows-of : tie.After-rows-of → tie.Start
+st-rows-of c = st-whole-vectors2 (whole-vectors2-at-rows-of c)
 
-abbrev st-values-arg2 : tie.After-values-arg2 → tie.Start
-st-values-arg2 c = st-whole-vectors (whole-vectors-at-values-arg2 c)
+abbrev st-slice-known8 : tie.After-slice-known8 → tie.Start
+st-slice-known8 c = st-rows-of (rows-of-at-slice-known8 c)
 
 abbrev rows-of-at-values : tie.After-values → tie.After-rows-of
-rows-of-at-values c = rows-of-at-values-arg2 (c .before)
+rows-of-at-values c = rows-of-at-slice-known8 (c .before .before .before .before)
 
-abbrev values-at-by-rows-arg2 : tie.After-by-rows-arg2 → tie.After-values
-values-at-by-rows-arg2 c = c .before .before .before .before
+abbrev values-at-values2 : tie.After-values2 → tie.After-values
+values-at-values2 c = c .before .before .before .before .before
 
-abbrev st-by-rows-arg2 : tie.After-by-rows-arg2 → tie.Start
-st-by-rows-arg2 c = st-values-arg2 (values-at-by-rows-arg2 c .before)
+abbrev rows-of-at-values2 : tie.After-values2 → tie.After-rows-of
+rows-of-at-values2 c = rows-of-at-values (values-at-values2 c)
 
-abbrev values-at-by-rows : tie.After-by-rows → tie.After-values
-values-at-by-rows c = values-at-by-rows-arg2 (c .before)
+abbrev values2-at-slice-known10 : tie.After-slice-known10 → tie.After-values2
+values2-at-slice-known10 c = c .before .before
 
-abbrev st-values-arg4 : tie.After-values-arg4 → tie.Start
-st-values-arg4 c = st-by-rows-arg2 (c .before .before .before .before .before)
+abbrev st-slice-known10 : tie.After-slice-known10 → tie.Start
+st-slice-known10 c = st-rows-of (rows-of-at-values2 (values2-at-slice-known10 c))
 
-abbrev rows-of-at-values-arg5 : tie.After-values-arg5 → tie.After-rows-of
-rows-of-at-values-arg5 c = rows-of-at-values (values-at-by-rows (c .before .before .before .before .before))
+abbrev values2-at-tops : tie.After-tops → tie.After-values2
+values2-at-tops c = values2-at-slice-known10 (c .before .before .before)
 
-abbrev whole-vectors2-at-values-arg5 : tie.After-values-arg5 → tie.After-whole-vectors2
-whole-vectors2-at-values-arg5 c = whole-vectors2-at-rows-of (rows-of-at-values-arg5 c)
-
-abbrev st-slice-known11 : tie.After-slice-known11 → tie.Start
-st-slice-known11 c = st-values-arg4 (c .before .before .before .before)
-
-abbrev values2-at-tops-arg2 : tie.After-tops-arg2 → tie.After-values2
-values2-at-tops-arg2 c = c .before .before .before .before
-
-abbrev whole-vectors2-at-tops-arg2 : tie.After-tops-arg2 → tie.After-whole-vectors2
-whole-vectors2-at-tops-arg2 c = whole-vectors2-at-values-arg5 (values2-at-tops-arg2 c .before)
-
-abbrev by-rows-at-end : tie.After-slice-known12 → tie.After-by-rows
-by-rows-at-end c = values2-at-tops-arg2 (c .before .before .before) .before .before .before .before .before .before
-
-abbrev values-at-end : tie.After-slice-known12 → tie.After-values
-values-at-end c = values-at-by-rows (by-rows-at-end c)
-
-abbrev rows-of-at-end : tie.After-slice-known12 → tie.After-rows-of
-rows-of-at-end c = rows-of-at-values (values-at-end c)
-
-abbrev whole-vectors2-at-end : tie.After-slice-known12 → tie.After-whole-vectors2
-whole-vectors2-at-end c = whole-vectors2-at-rows-of (rows-of-at-end c)
-
-abbrev whole-vectors-at-end : tie.After-slice-known12 → tie.After-whole-vectors
-whole-vectors-at-end c = whole-vectors2-at-end c .before
-
-abbrev lent-bytes-at-end : tie.After-slice-known12 → tie.After-shared-slice-known5
-lent-bytes-at-end c = whole-vectors-at-end c .before .before .before .before .before .before .before .before .before .before .before .before
-
-abbrev st-end : tie.After-slice-known12 → tie.Start
-st-end c = st-whole-vectors (whole-vectors-at-end c)
+abbrev tops-at-by-rows : tie.After-by-rows → tie.After-tops
+tops-at-by-rows c = c .before .before .before .before .before
 
 -- the sizes are legal
 facts : (c : tie.Start) → Legal (c .args .sizes)
@@ -143,11 +116,11 @@ whole-vectors-requires : tie.Need-whole-vectors-requires
 whole-vectors-requires c κs = omega (arith, facts (st-struct-known c))
 
 whole-vectors-requires-2 : tie.Need-whole-vectors-requires-2
-whole-vectors-requires-2 c κs = omega (arith, facts (st-whole-vectors c))
+whole-vectors-requires-2 c κs = omega (arith, facts (st-struct-known (c .before)))
 
 rows-of-requires : tie.Need-rows-of-requires
 rows-of-requires c κs =
-    let g = st-whole-vectors (c .before .before .before) in
+    let g = st-whole-vectors2 (c .before .before) in
     let f = facts g in (
       omega (arith, f),
       omega (arith, f),
@@ -159,32 +132,6 @@ rows-of-requires c κs =
       g .pre .16 ∙ ap (λ (m : ℕ). m * 32) (sym (g .pre .7)),
     )
 
-values-requires : tie.Need-values-requires
-values-requires c κs =
-    let g = st-values-arg2 c in
-    let z = g .args .sizes in
-    let f = facts g in
-    let lb = g .pre .2 in (
-      omega (arith, f),
-      omega (arith, f),
-      whole-vectors-at-values-arg2 c .whole-vectors .ensures .1,
-      omega (arith, f, lb),
-      g .pre .3,
-      omega (arith, f, g .pre .4),
-      g .pre .5,
-      omega (arith, ap length (g .pre .10), length-factor-rows z (g .args .points .now) (z .d + z .r) (g .args .boards .now)),
-      f-long (g .args .starts .now) (g .args .bytes .now) (z .d + z .r) (z .d + z .r + (z .d - 1)) (g .args .s * (z .d + z .r + (z .d - 1))) _ (rows-of-at-values-arg2 c .rows-of .ensures .0)
-          ∙ ap (λ (m : ℕ). m * 32) (g .pre .7 ∙ sym lb),
-      g .pre .17 ∙ ap₂ _*_ (sym lb) (sym (g .pre .4)),
-    )
-
-by-rows-requires : tie.Need-by-rows-requires
-by-rows-requires c κs =
-    let g = st-by-rows-arg2 c in
-    let f = facts g in
-    let l = ap length (values-at-by-rows-arg2 c .values .ensures) ∙ length-values _ _ _ _ _ _ _ ∙ ap₂ _*_ (g .pre .2) (g .pre .4) in
-    (omega (arith, f), omega (arith, f), omega (arith, l), omega (arith, g .pre .12), g .pre .19)
-
 sub-values : tie.Need-sub-values
 sub-values c = search needs
 
@@ -192,7 +139,7 @@ part-values-start : tie.Need-part-values-start
 part-values-start c = search needs
 
 part-values-end : tie.Need-part-values-end
-part-values-end c = omega (arith, st-by-rows-arg2 (c .before .before .before) .pre .4)
+part-values-end c = omega (arith, st-slice-known8 c .pre .4)
 
 sub-values-2 : tie.Need-sub-values-2
 sub-values-2 c = search needs
@@ -201,42 +148,73 @@ part-values-start-2 : tie.Need-part-values-start-2
 part-values-start-2 c = search needs
 
 part-values-end-2 : tie.Need-part-values-end-2
-part-values-end-2 c = omega (arith, square (st-values-arg4 c), st-values-arg4 c .pre .18)
+part-values-end-2 c = let g = st-slice-known8 (c .before .before) in omega (arith, square g, g .pre .18)
 
-values-requires-2 : tie.Need-values-requires-2
-values-requires-2 c κs =
-    let g = st-values-arg4 (c .before) in
+values-requires : tie.Need-values-requires
+values-requires c κs =
+    let o = rows-of-at-slice-known8 (c .before .before .before) in
+    let g = st-rows-of o in
     let z = g .args .sizes in
     let f = facts g in
     let lb = g .pre .2 in
     let ld : length (take (z .d - 0) (g .args .targets .now)) ≡ z .d = ap (λ (m : ℕ). length (take m (g .args .targets .now))) (sub-zero (z .d)) ∙ length-few g in (
       omega (arith, f),
       omega (arith, f),
-      whole-vectors2-at-values-arg5 c .whole-vectors2 .ensures .1,
+      whole-vectors2-at-rows-of o .whole-vectors2 .ensures .1,
       omega (arith, f, lb),
       g .pre .3,
       omega (arith, f, ld),
       ap (λ (m : ℕ). below (z .n) (take m (g .args .targets .now))) (sub-zero (z .d)) ∙ all-below (z .n) (take (z .d) (g .args .targets .now)) (few-targets g .known),
       omega (arith, ap length (g .pre .11), length-factor-rows z (g .args .points .now) (z .d) (g .args .boards .now)),
-      g-long (g .args .starts .now) (g .args .bytes .now) (z .d + z .r) (z .d + z .r + (z .d - 1)) (g .args .s * (z .d + z .r + (z .d - 1))) _ (rows-of-at-values-arg5 c .rows-of .ensures .1)
+      g-long (g .args .starts .now) (g .args .bytes .now) (z .d + z .r) (z .d + z .r + (z .d - 1)) (g .args .s * (z .d + z .r + (z .d - 1))) _ (o .rows-of .ensures .1)
           ∙ ap (λ (m : ℕ). m * 32) (g .pre .7 ∙ sym lb),
       part-long (z .k * z .d) (g .args .vg .now) (omega (arith, square g, g .pre .18)) ∙ ap₂ _*_ (sym lb) (sym ld),
     )
 
+values-requires-2 : tie.Need-values-requires-2
+values-requires-2 c κs =
+    let o = rows-of-at-values (c .before .before .before .before) in
+    let g = st-rows-of o in
+    let z = g .args .sizes in
+    let f = facts g in
+    let lb = g .pre .2 in (
+      omega (arith, f),
+      omega (arith, f),
+      whole-vectors2-at-rows-of o .before .whole-vectors .ensures .1,
+      omega (arith, f, lb),
+      g .pre .3,
+      omega (arith, f, g .pre .4),
+      g .pre .5,
+      omega (arith, ap length (g .pre .10), length-factor-rows z (g .args .points .now) (z .d + z .r) (g .args .boards .now)),
+      f-long (g .args .starts .now) (g .args .bytes .now) (z .d + z .r) (z .d + z .r + (z .d - 1)) (g .args .s * (z .d + z .r + (z .d - 1))) _ (o .rows-of .ensures .0)
+          ∙ ap (λ (m : ℕ). m * 32) (g .pre .7 ∙ sym lb),
+      g .pre .17 ∙ ap₂ _*_ (sym lb) (sym (g .pre .4)),
+    )
+
 sub-tops : tie.Need-sub-tops
-sub-tops c = omega (arith, facts (st-slice-known11 c))
+sub-tops c = omega (arith, facts (st-slice-known10 c))
 
 tops-requires : tie.Need-tops-requires
 tops-requires c κs =
-    let g = st-slice-known11 (c .before .before) in
+    let v2 = values2-at-slice-known10 (c .before .before) in
+    let o = rows-of-at-values2 v2 in
+    let g = st-rows-of o in
     let z = g .args .sizes in
     let f = facts g in
     let ld : length (take (z .d - 0) (g .args .targets .now)) ≡ z .d = ap (λ (m : ℕ). length (take m (g .args .targets .now))) (sub-zero (z .d)) ∙ length-few g in
     let lp : length (points (g .args .points .now) (take (z .d) (g .args .targets .now))) ≡ z .d = length-points (g .args .points .now) (take (z .d) (g .args .targets .now)) ∙ length-few g in
     let lt = ap length (g .pre .14) ∙ length-tops (z .k) (points (g .args .points .now) (take (z .d) (g .args .targets .now))) ∙ ap (λ (m : ℕ). (m - z .k) * 32) lp in
-    let v = values2-at-tops-arg2 c .values2 .ensures in
+    let v = values-at-values2 v2 .values .ensures in
     let lg = values-long (z .k * z .d) (g .args .vg .now) _ _ (g .pre .18) (omega (arith, square g)) v (length-values _ _ _ _ _ _ _ ∙ ap₂ _*_ (g .pre .2) ld) in
-    (omega (arith, f), omega (arith, f), omega (arith, f), whole-vectors2-at-tops-arg2 c .whole-vectors2 .ensures .1, omega (arith, lt), omega (arith, square g, lg), g .pre .20)
+    (omega (arith, f), omega (arith, f), omega (arith, f), whole-vectors2-at-rows-of o .whole-vectors2 .ensures .1, omega (arith, lt), omega (arith, square g, lg), g .pre .20)
+
+by-rows-requires : tie.Need-by-rows-requires
+by-rows-requires c κs =
+    let v2 = values2-at-tops (c .before .before .before .before) in
+    let g = st-rows-of (rows-of-at-values2 v2) in
+    let f = facts g in
+    let l = ap length (v2 .values2 .ensures) ∙ length-values _ _ _ _ _ _ _ ∙ ap₂ _*_ (g .pre .2) (g .pre .4) in
+    (omega (arith, f), omega (arith, f), omega (arith, l), omega (arith, g .pre .12), g .pre .19)
 
 same-length : tie.Need-same-length
 same-length c = search needs
@@ -258,24 +236,30 @@ same-length-6 c = search needs
 
 returns : tie.Need-returns
 returns c =
-    let g = st-end c in
+    let y = c .before .before in
+    let t = tops-at-by-rows y in
+    let v2 = values2-at-tops t in
+    let v = values-at-values2 v2 in
+    let o = rows-of-at-values v in
+    let e = whole-vectors2-at-rows-of o in
+    let g = st-whole-vectors2 e in
     let a = g .args in
     let z = a .sizes in
     let xs = a .points .now in
     let lb = g .pre .2 in
-    let b = bytes (lent-bytes-at-end c) in
-    let w = whole-vectors-at-end c .whole-vectors in
-    let w2 = whole-vectors2-at-end c .whole-vectors2 in
-    let rows = rows-of-at-end c .rows-of .ensures in
+    let b = bytes (lent-bytes-at-struct-known (e .before .before)) in
+    let w = e .before .whole-vectors in
+    let w2 = e .whole-vectors2 in
+    let rows = o .rows-of .ensures in
     let C : List ℕ = a .targets .now in (
-      by-rows-at-end c .by-rows .ensures (unitRows (points xs C)) (omega (arith, length-units (points xs C), length-points xs C, g .pre .4)) (g .pre .13)
-          ∙ ap₂ (λ (q : ℕ) (l : List ℕ). byRows q (z .d + z .r) l (unitRows (points xs C))) (sym lb) (values-at-end c .values .ensures)
+      y .by-rows .ensures (unitRows (points xs C)) (omega (arith, length-units (points xs C), length-points xs C, g .pre .4)) (g .pre .13)
+          ∙ ap₂ (λ (q : ℕ) (l : List ℕ). byRows q (z .d + z .r) l (unitRows (points xs C))) (sym lb) (v2 .values2 .ensures)
           ∙ f-coefs z xs (facts g) (g .pre .1) (a .boards .now) (known g) lb (a .starts .now) (a .bytes .now) (g .pre .7) (a .s) (g .pre .8) b (a .ff .now) _ (g .pre .10) (rows .0)
           (w .result) (w .ensures .0) (w .ensures .1) C (all-targets g) (g .pre .4)
           ∙ ap (λ (q : ℕ). join q (λ t. fit 32 (ownF z xs (getD (a .boards .now) t 0) (heldAt z (a .starts .now) (a .bytes .now) (a .s) t)))) lb,
       tops-part z xs (facts g) (g .pre .1) (a .boards .now) (known g) lb (a .starts .now) (a .bytes .now) (g .pre .7) (a .s) (g .pre .8) b (a .gf .now) _ (g .pre .11) (rows .1)
           (w2 .result) (w2 .ensures .0) (w2 .ensures .1) C (few-targets g) (length-few g)
-          (z .k * z .d) (a .tr .now) (a .vg .now) _ _ (g .pre .14) (values2-at-tops-arg2 (c .before .before .before) .values2 .ensures) (c .before .before .tops .ensures),
+          (z .k * z .d) (a .tr .now) (a .vg .now) _ _ (g .pre .14) (v .values .ensures) (t .tops .ensures),
     )
 
 pub coefficients-spec : {M : Type 1} → statement M
@@ -290,17 +274,17 @@ coefficients-spec =
     whole-vectors-requires
     whole-vectors-requires-2
     rows-of-requires
-    values-requires
-    by-rows-requires
     sub-values
     part-values-start
     part-values-end
     sub-values-2
     part-values-start-2
     part-values-end-2
+    values-requires
     values-requires-2
     sub-tops
     tops-requires
+    by-rows-requires
     same-length
     same-length-2
     same-length-3

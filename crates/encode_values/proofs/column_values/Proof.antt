@@ -27,7 +27,8 @@ length-column xs d rows l h = length-values (tabulate d (λ i. getD rows (i * 32
 
 abbrev Inv-loop : tie.InvT-loop
 Inv-loop tables d n rows values₀ l₀ values l =
-    ((xs : List ℕ) → length xs ≡ 32 → Tabled (powerRows xs d) tables → values ≡ join l (columnValues xs d rows) ++ drop (l * 32) values₀) × (l ≤ n) × (length values ≡ length values₀)
+    ((xs : List ℕ) → length xs ≡ 32 → Tabled (powerRows xs d) tables → values ≡ join l (columnValues xs d rows) ++ drop (l * 32) values₀)
+    × (l ≤ n) × (length values ≡ length values₀)
 
 abbrev μ-loop : tie.MeasureT-loop
 μ-loop tables d n rows values₀ l₀ values l = n - l

@@ -126,7 +126,8 @@ returns c =
       window-made row (s .args .t .now) (rowBytes ((row-at c) .row-at .result)) (rowBytes ((row-at2 c) .row-at2 .result)) _ _ _ _
           (all-of (λ b. b < 256) 0 row (λ i h. omega (arith, (slice-known c) .slice-known .given i))) (s .pre .0) (s .pre .1)
           ((row-at c) .row-at .ensures) ((row-at2 c) .row-at2 .ensures ∙ ap (take 32) ((double-all c) .double-all .ensures))
-          ((put-row c) .put-row .ensures) ((put-row2 c) .put-row2 .ensures) ((put-row3 c) .put-row3 .ensures) (c .before .before .put-row4 .ensures ∙ c .before .before .before .before .plus .ensures),
+          ((put-row c) .put-row .ensures) ((put-row2 c) .put-row2 .ensures) ((put-row3 c) .put-row3 .ensures)
+          (c .before .before .put-row4 .ensures ∙ c .before .before .before .before .plus .ensures),
       (double-all2 c) .double-all2 .ensures ∙ ap (scale 2) ((double-all c) .double-all .ensures) ∙ doubled-twice row,
     )
 

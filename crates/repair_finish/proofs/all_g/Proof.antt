@@ -7,7 +7,6 @@ use native.Mathlib.Nat.{zero-mul}
 use lib.ListN.{length, take, drop, length-take, length-drop}
 use Rattle.lists.specs.Lists.{join}
 use Rattle.lists.proofs.Put.{part-end}
-use Rattle.lists.proofs.Pieces.{part-piece}
 use Rattle.sizes.proofs.Legal.{Legal, legal-facts}
 use Rattle.row_dots.proofs.Rows.{join-loop, join-end}
 use Rattle.repair_hear.proofs.Heard.{cut-long, few-runs}
@@ -21,18 +20,18 @@ use Rattle.repair_finish.proofs.all_g.Statement.{statement}
 use Rattle.repair_finish.proofs.all_g.Tie as tie
 
 abbrev Inv-loop : tie.InvT-loop
-Inv-loop lanes rows firsts gs₀ d r one a₀ gs a =
-    (gs ≡ join a (gRow d r lanes rows firsts) ++ drop (a * lanes) gs₀) × (a ≤ r) × (length gs ≡ length gs₀)
+Inv-loop lanes t run rows firsts gs₀ d one a₀ gs a =
+    (gs ≡ join a (gRow d one run lanes rows firsts) ++ drop (a * lanes) gs₀) × (a ≤ t) × (length gs ≡ length gs₀)
 
 abbrev μ-loop : tie.MeasureT-loop
-μ-loop lanes rows firsts gs₀ d r one a₀ gs a = r - a
+μ-loop lanes t run rows firsts gs₀ d one a₀ gs a = t - a
 
 -- the places
-abbrev st-at-entry : tie.After-slice-known Inv-loop μ-loop → tie.Start Inv-loop μ-loop
-st-at-entry c = c .before .before .before
+abbrev st-at-entry : tie.After-struct-known Inv-loop μ-loop → tie.Start Inv-loop μ-loop
+st-at-entry c = c .before .before .before .before
 
 abbrev st-at-turn : tie.In-loop Inv-loop μ-loop → tie.Start Inv-loop μ-loop
-st-at-turn c = c .before .before .before .before .before
+st-at-turn c = c .before .before .before .before .before .before
 
 abbrev turn-at-first : tie.After-row-sums-arg Inv-loop μ-loop → tie.In-loop Inv-loop μ-loop
 turn-at-first c = c .before
@@ -50,7 +49,7 @@ abbrev sums-at-end : tie.After-slice-known2 Inv-loop μ-loop → tie.After-row-s
 sums-at-end c = c .before .before
 
 abbrev st-at-loop : tie.After-loop Inv-loop μ-loop → tie.Start Inv-loop μ-loop
-st-at-loop c = c .before .before .before .before .before
+st-at-loop c = c .before .before .before .before .before .before
 
 facts : (c : tie.Start Inv-loop μ-loop) → Legal (c .args .sizes)
 facts c = legal-facts _ (c .pre .0)
@@ -60,22 +59,25 @@ abbrev one : tie.Start Inv-loop μ-loop → ℕ
 one c = (c .args .sizes .d + (c .args .sizes .d + c .args .sizes .r)) * 32
 
 few : (c : tie.Start Inv-loop μ-loop)
-    → let z = c .args .sizes in (z .r * one c ≤ 32768) × (z .r * z .d ≤ 256) × (z .r * c .args .lanes ≤ 1024)
+    → let a = c .args in (a .t * one c ≤ 32768) × (a .t * a .c ≤ 256) × (a .t * a .lanes ≤ 1024) × (a .sizes .d ≤ a .c)
 few c =
-    let z = c .args .sizes in
+    let a = c .args in
     let f = facts c in
-    (few-rows z f, few-runs z f, mul-few (z .r) (c .args .lanes) (omega arith) (c .pre .1) refl)
+    let h = c .pre .5 in
+    let w = h .whole in
+    let q = h .helps in
+    (few-rows (a .sizes) f (a .t) (a .c) h, few-runs (a .sizes) f (a .t) (a .c) h, mul-few (a .t) (a .lanes) (omega arith) (c .pre .1) refl, q)
 
 -- where those of a turn end: of the rows, of the run, of the row that is made
 ends : (c : tie.In-loop Inv-loop μ-loop)
     → let a = st-at-turn c .args in let t = c .before .loop .a in
-    (t * one (st-at-turn c) + one (st-at-turn c) ≤ a .sizes .r * one (st-at-turn c)) × (t * a .sizes .d + a .sizes .d ≤ a .sizes .r * a .sizes .d)
-    × (t * a .lanes + a .lanes ≤ a .sizes .r * a .lanes)
+    (t * one (st-at-turn c) + one (st-at-turn c) ≤ a .t * one (st-at-turn c)) × (t * a .c + a .c ≤ a .t * a .c)
+    × (t * a .lanes + a .lanes ≤ a .t * a .lanes)
 ends c =
     let a = st-at-turn c .args in
     let t = c .before .loop .a in
     let h = c .loop-test .taken in
-    (part-end t (one (st-at-turn c)) (a .sizes .r) h, part-end t (a .sizes .d) (a .sizes .r) h, part-end t (a .lanes) (a .sizes .r) h)
+    (part-end t (one (st-at-turn c)) (a .t) h, part-end t (a .c) (a .t) h, part-end t (a .lanes) (a .t) h)
 
 loop-holds : tie.Need-loop-holds Inv-loop μ-loop
 loop-holds c = (ap (λ (m : ℕ). drop m (st-at-entry c .args .gs .now)) (sym (zero-mul (st-at-entry c .args .lanes))), omega arith, refl)
@@ -88,8 +90,10 @@ row-sums-requires c κs =
     let f = facts (st-at-turn t) in
     let e = ends t in
     let l = t .before .loop in
-    let lf = cut-long (a .sizes .d) (l .a) (a .sizes .r) (a .firsts .now) (t .loop-test .taken) (p .3) in
-    let lg = cut-long (a .lanes) (l .a) (a .sizes .r) (l .gs) (t .loop-test .taken) (l .inv .2 ∙ p .4) in
+    let q = few (st-at-turn t) in
+    let from : ℕ = l .a * a .c in
+    let lf : length (take (from + a .sizes .d - from) (drop from (a .firsts .now))) ≡ a .sizes .d = simp (length-take, length-drop) (omega arith) in
+    let lg = cut-long (a .lanes) (l .a) (a .t) (l .gs) (t .loop-test .taken) (l .inv .2 ∙ p .4) in
     let at : ℕ = l .a * one (st-at-turn t) in
     let lr : length (take (at + a .sizes .d * 32 - at) (drop at (a .rows .now))) ≡ a .sizes .d * 32 = simp (length-take, length-drop) (omega arith) in
     (omega arith, omega arith, omega arith)
@@ -101,10 +105,10 @@ loop-again c =
     let p = st-at-turn t .pre in
     let l = t .before .loop in
     let z = a .sizes in
-    let lg = cut-long (a .lanes) (l .a) (z .r) (l .gs) (t .loop-test .taken) (l .inv .2 ∙ p .4) in (
-      join-loop (gRow (z .d) (z .r) (a .lanes) (a .rows .now) (a .firsts .now)) (a .lanes) (l .a) (a .gs .now) (l .gs) _
-          (λ i k. length-g (z .d) (z .r) (a .lanes) (a .rows .now) (a .firsts .now) i)
-          (g-made (z .d) (z .r) (a .lanes) (l .a) _ (a .rows .now) (a .firsts .now) _ _ _ lg (part-piece (z .d) (l .a) (a .firsts .now))
+    let lg = cut-long (a .lanes) (l .a) (a .t) (l .gs) (t .loop-test .taken) (l .inv .2 ∙ p .4) in (
+      join-loop (gRow (z .d) (one (st-at-turn t)) (a .c) (a .lanes) (a .rows .now) (a .firsts .now)) (a .lanes) (l .a) (a .gs .now) (l .gs) _
+          (λ i k. length-g (z .d) (one (st-at-turn t)) (a .c) (a .lanes) (a .rows .now) (a .firsts .now) i)
+          (g-made (z .d) (one (st-at-turn t)) (a .c) (a .lanes) (l .a) _ (a .rows .now) (a .firsts .now) _ _ _ lg (row-part (a .c) (l .a) (z .d) (a .firsts .now) (p .5 .helps))
           (row-part (one (st-at-turn t)) (l .a) (z .d * 32) (a .rows .now) (omega arith)) (sums-at-end c .row-sums .ensures))
           (l .inv .0),
       omega arith,
@@ -115,7 +119,7 @@ returns : tie.Need-returns Inv-loop μ-loop
 returns c =
     let l = c .before .loop in
     let a = st-at-loop c .args in
-    join-end _ (a .lanes) (l .a) (a .sizes .r) (a .gs .now) (l .gs) (omega arith) (omega (arith, st-at-loop c .pre .4)) (l .inv .0)
+    join-end _ (a .lanes) (l .a) (a .t) (a .gs .now) (l .gs) (omega arith) (omega (arith, st-at-loop c .pre .4)) (l .inv .0)
 
 pub all-g-spec : {M : Type 1} → statement M
 all-g-spec =
@@ -136,7 +140,7 @@ all-g-spec =
     (λ c. omega (arith, ends c, few (st-at-turn c)))
     (λ c. search needs)
     (λ c. search needs)
-    (λ c. omega (arith, ends c, st-at-turn c .pre .3))
+    (λ c. omega (arith, ends c, few (st-at-turn c), st-at-turn c .pre .3))
     (λ c. search needs)
     (λ c. search needs)
     (λ c. omega (arith, ends (turn-at-first c), st-at-turn (turn-at-first c) .pre .2))

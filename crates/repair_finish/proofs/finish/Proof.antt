@@ -9,8 +9,9 @@ use Rattle.sizes.specs.Sizing.{α}
 use Rattle.sizes.proofs.Legal.{Legal, legal-facts}
 use Rattle.factors.proofs.Values.{board-below}
 use Rattle.repair_hear.proofs.Heard.{cut-long}
+use Rattle.repair_hear.proofs.Sent.{row-rest}
 use Rattle.repair_rows.proofs.Others.{few-rows}
-use Rattle.repair_finish.proofs.Finished.{mul-few, row-rest, stripe-made}
+use Rattle.repair_finish.proofs.Finished.{mul-few, stripe-made}
 use borrow.Author.Needs.{needs}
 use native.Mathlib.Omega.{arith}
 use Rattle.repair_finish.proofs.finish.Statement.{statement}
@@ -65,22 +66,25 @@ one c = (c .args .sizes .d + (c .args .sizes .d + c .args .sizes .r)) * 32
 
 -- where its own rows end, and its row of g
 ends : (c : tie.Start)
-    → let a = c .args in let r = a .sizes .r in
-    (a .a * one c + one c ≤ r * one c) × (r * one c ≤ 32768) × (a .a * a .lanes + a .lanes ≤ r * a .lanes) × (r * a .lanes ≤ 1024)
+    → let a = c .args in let t = length (a .fresh .now) in
+    (a .a * one c + one c ≤ t * one c) × (t * one c ≤ 32768) × (a .a * a .lanes + a .lanes ≤ t * a .lanes) × (t * a .lanes ≤ 1024)
 ends c =
     let a = c .args in
     let z = a .sizes in
     let f = facts c in
-    (part-end (a .a) (one c) (z .r) (c .pre .8), few-rows z f, part-end (a .a) (a .lanes) (z .r) (c .pre .8), mul-few (z .r) (a .lanes) (omega arith) (c .pre .2) refl)
+    let t = length (a .fresh .now) in
+    let w = c .pre .4 .whole in
+    let q = c .pre .4 .helps in
+    (part-end (a .a) (one c) t (c .pre .8), few-rows z f t (a .c) (c .pre .4), part-end (a .a) (a .lanes) t (c .pre .8), mul-few t (a .lanes) (omega arith) (c .pre .2) refl)
 
 -- it is one of the boards
 known : (c : tie.Start) → getD (c .args .fresh .now) (c .args .a) 0 < c .args .sizes .n
-known c = board-below (c .args .sizes .n) (c .args .fresh .now) (c .args .a) (c .pre .5) (omega (arith, c .pre .4, c .pre .8))
+known c = board-below (c .args .sizes .n) (c .args .fresh .now) (c .args .a) (c .pre .5) (c .pre .8)
 
 gather-requires : tie.Need-gather-requires
 gather-requires c κs =
     let p = st-at-gather c .pre in
-    (p .0, p .2, omega (arith, known (st-at-gather c), p .1), p .8, p .6, p .7, p .9)
+    (p .0, p .2, omega (arith, known (st-at-gather c), p .1), p .8, p .6, p .7, p .9, p .4)
 
 finish-requires : tie.Need-finish-requires
 finish-requires c κs =
@@ -91,7 +95,7 @@ finish-requires c κs =
     let e = ends (st-at-finish c) in
     let at : ℕ = a .a * one (st-at-finish c) in
     let l = got-at-finish c .got .given in
-    let lg = cut-long (a .lanes) (a .a) (z .r) (a .gs .now) (p .8) (p .7) in
+    let lg = cut-long (a .lanes) (a .a) (length (a .fresh .now)) (a .gs .now) (p .8) (p .7) in
     let lr : length (take (at + one (st-at-finish c) - (at + z .d * 32)) (drop (at + z .d * 32) (a .rows .now))) ≡ (z .d + z .r) * 32 =
     simp (length-take, length-drop) (omega arith) in
     (known (st-at-finish c), f .few, omega arith, omega arith, omega arith, omega arith, omega arith, omega arith, omega arith)
@@ -102,7 +106,7 @@ returns c =
     let p = st-at-end c .pre in
     let z = a .sizes in
     let f = facts (st-at-end c) in
-    stripe-made z (a .lanes) _ (a .a) _ _ (length (a .got .now)) _ (a .rows .now) (a .fresh .now) (a .seconds .now) (a .gs .now) _ _ _ _ refl
+    stripe-made z (a .c) (a .lanes) _ (a .a) _ _ (length (a .got .now)) _ (a .rows .now) (a .fresh .now) (a .seconds .now) (a .gs .now) _ _ _ _ refl
     (finish-at-end c .finish .ensures) (row-rest (one (st-at-end c)) (a .a) (z .d * 32) (a .rows .now) (omega arith)) (part-piece (a .lanes) (a .a) (a .gs .now))
     (gather-at-end c .gather .ensures) (p .10) (omega (arith, got-at-end c .got .given)) (got-at-end c .got .given)
 

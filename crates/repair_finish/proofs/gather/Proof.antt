@@ -45,39 +45,42 @@ sent-at-end c = c .before .before
 facts : (c : tie.Start) → Legal (c .args .sizes)
 facts c = legal-facts _ (c .pre .0)
 
--- where the run of its helpers ends
-ends : (c : tie.Start) → let a = c .args in (a .a * a .sizes .d + a .sizes .d ≤ a .sizes .r * a .sizes .d) × (a .sizes .r * a .sizes .d ≤ 256)
-ends c = (part-end (c .args .a) (c .args .sizes .d) (c .args .sizes .r) (c .pre .3), few-runs (c .args .sizes) (facts c))
+-- where the run of the boards that it names ends
+ends : (c : tie.Start) → let a = c .args in (a .a * a .c + a .c ≤ a .t * a .c) × (a .t * a .c ≤ 256) × (a .c + a .t ≡ a .sizes .d + a .sizes .r) × (1 ≤ a .t)
+ends c =
+    let a = c .args in
+    (part-end (a .a) (a .c) (a .t) (c .pre .3), few-runs (a .sizes) (facts c) (a .t) (a .c) (c .pre .7), c .pre .7 .whole, c .pre .7 .some)
 
 copy-requires : tie.Need-copy-requires
 copy-requires c κs =
     let a = st-at-copy c .args in
     let p = st-at-copy c .pre in
-    let l = cut-long (a .sizes .d) (a .a) (a .sizes .r) (a .seconds .now) (p .3) (p .4) in
-    let g : length (take (a .sizes .d - 0) (drop 0 (a .got .now))) ≡ a .sizes .d = simp length-take (omega arith) in
+    let e = ends (st-at-copy c) in
+    let l = cut-long (a .c) (a .a) (a .t) (a .seconds .now) (p .3) (p .4) in
+    let g : length (take (a .c - 0) (drop 0 (a .got .now))) ≡ a .c = simp length-take (omega arith) in
     omega arith
 
--- the run of its helpers, cut out
-run-long : (c : tie.Start) → let a = c .args in length (piece (a .sizes .d) (a .a) (a .seconds .now)) ≡ a .sizes .d
-run-long c = length-piece (c .args .sizes .d) (c .args .a) (c .args .seconds .now) (omega (arith, ends c, c .pre .4))
+-- that run, cut out
+run-long : (c : tie.Start) → let a = c .args in length (piece (a .c) (a .a) (a .seconds .now)) ≡ a .c
+run-long c = length-piece (c .args .c) (c .args .a) (c .args .seconds .now) (omega (arith, ends c, c .pre .4))
 
 sent-requires : tie.Need-sent-requires
 sent-requires c κs =
     let a = st-at-sent c .args in
     let p = st-at-sent c .pre in
-    let z = a .sizes in
     let f = facts (st-at-sent c) in
-    let m = partners-room (z .d) (z .r) (a .a) (a .seconds .now) (a .got .now) _ _ (f .some-fresh) (p .6) (run-long (st-at-sent c))
-    (part-piece (z .d) (a .a) (a .seconds .now)) (copy-at-sent c .copy .ensures) in
+    let e = ends (st-at-sent c) in
+    let m = partners-room (a .c) (a .t) (a .a) (a .seconds .now) (a .got .now) _ _ (e .3) (p .6 ∙ sym (e .2)) (run-long (st-at-sent c))
+    (part-piece (a .c) (a .a) (a .seconds .now)) (copy-at-sent c .copy .ensures) in
     (p .1, p .2, omega arith, p .5 ∙ ap (λ (n : ℕ). n * a .lanes) (sym m))
 
 returns : tie.Need-returns
 returns c =
     let a = st-at-end c .args in
     let p = st-at-end c .pre in
-    let z = a .sizes in
-    gather-made (z .d) (z .r) (a .a) (a .seconds .now) (a .got .now) _ _ (facts (st-at-end c) .some-fresh) (p .6) (run-long (st-at-end c))
-    (part-piece (z .d) (a .a) (a .seconds .now)) (copy-at-end c .copy .ensures) (a .lanes) (a .i) (a .gs .now) _ (sent-at-end c .sent .ensures)
+    let e = ends (st-at-end c) in
+    gather-made (a .c) (a .t) (a .a) (a .seconds .now) (a .got .now) _ _ (e .3) (p .6 ∙ sym (e .2)) (run-long (st-at-end c))
+    (part-piece (a .c) (a .a) (a .seconds .now)) (copy-at-end c .copy .ensures) (a .lanes) (a .i) (a .gs .now) _ (sent-at-end c .sent .ensures)
 
 pub gather-spec : {M : Type 1} → statement M
 gather-spec =

@@ -1,69 +1,120 @@
 -- `repair_rows::fresh_rows` meets its contract: the callees' contracts, put together.
 -- Assumes nothing.
-use mathlib.Core.Path.{_≡_, ap, _∙_}
+use mathlib.Core.Path.{_≡_, ap, ap₂, _∙_}
 use mathlib.Core.Bool.{true}
+use mathlib.Core.List.{List, _++_}
 use Prim.Native.Nat.{ℕ, _+_, _*_, _-_, _≤_}
-use lib.ListN.{length, getD, take, drop}
+use lib.ListN.{length, getD, take, drop, length-append, length-drop}
 use Rattle.lists.specs.Tests.{below}
+use Rattle.lists.specs.Lists.{piece}
 use Rattle.lists.proofs.Put.{part-end}
-use Rattle.lists.proofs.Pieces.{part-piece}
 use Rattle.sizes.proofs.Legal.{Legal, legal-facts}
 use Rattle.factors.proofs.Values.{board-below, below-more}
-use Rattle.repair_rows.specs.Steps.{partnersAt}
-use Rattle.repair_hear.proofs.Heard.{below-part, cut-long, few-runs}
-use Rattle.repair_rows.proofs.Others.{partners-below, length-partners, rows-are}
+use Rattle.repair_hear.proofs.Heard.{below-part, few-runs}
+use Rattle.repair_hear.proofs.Sent.{row-part, row-rest}
+use Rattle.repair_rows.specs.Steps.{othersAt, helpersAt}
+use Rattle.repair_rows.proofs.Others.{others-below, length-others, both-below, run-long, helpers-long, rows-are}
 use borrow.Author.Needs.{needs}
 use native.Mathlib.Omega.{arith}
 use Rattle.repair_rows.proofs.fresh_rows.Statement.{statement}
 use Rattle.repair_rows.proofs.fresh_rows.Tie as tie
 
 -- the places
-abbrev st-at-slice-known3 : tie.After-slice-known3 → tie.Start
-st-at-slice-known3 c = c .before .before .before .before .before .before .before
+abbrev st-at-entry : tie.After-slice-known3 → tie.Start
+st-at-entry c = c .before .before .before .before .before .before .before
 
-abbrev st-at-slice-known4 : tie.After-slice-known4 → tie.Start
-st-at-slice-known4 c = c .before .before .before .before .before .before .before .before .before .before .before
+abbrev st-at-runs : tie.After-struct-known → tie.Start
+st-at-runs c = st-at-entry (c .before)
 
-abbrev st-at-board-rows-arg4 : tie.After-board-rows-arg4 → tie.Start
-st-at-board-rows-arg4 c = c .before .before .before .before .before .before .before .before .before .before .before .before .before .before .before .before
+abbrev st-at-partners : tie.After-partners-arg2 → tie.Start
+st-at-partners c = st-at-runs (c .before .before)
 
-abbrev partners-at-board-rows-arg4 : tie.After-board-rows-arg4 → tie.After-partners
-partners-at-board-rows-arg4 c = c .before .before .before .before .before .before .before
+abbrev st-at-boards : tie.After-slice-known4 → tie.Start
+st-at-boards c = st-at-partners (c .before .before .before)
 
-abbrev st-at-slice-known6 : tie.After-slice-known6 → tie.Start
-st-at-slice-known6 c = c .before .before .before .before .before .before .before .before .before .before .before .before .before .before .before .before .before .before .before .before .before
+abbrev st-at-fresh : tie.After-board-rows-arg2 → tie.Start
+st-at-fresh c = st-at-boards (c .before .before)
 
-abbrev partners-at-slice-known6 : tie.After-slice-known6 → tie.After-partners
-partners-at-slice-known6 c = c .before .before .before .before .before .before .before .before .before .before .before .before
+abbrev st-at-rows : tie.After-board-rows-arg4 → tie.Start
+st-at-rows c = st-at-fresh (c .before .before .before)
+
+abbrev partners-at-rows : tie.After-board-rows-arg4 → tie.After-partners
+partners-at-rows c = c .before .before .before .before .before .before .before
+
+abbrev st-at-end : tie.After-slice-known6 → tie.Start
+st-at-end c = st-at-rows (c .before .before .before .before .before)
+
+abbrev partners-at-end : tie.After-slice-known6 → tie.After-partners
+partners-at-end c = partners-at-rows (c .before .before .before .before .before)
 
 facts : (c : tie.Start) → Legal (c .args .sizes)
 facts c = legal-facts _ (c .pre .0)
 
--- where the board's run of helpers ends
-run-end : (c : tie.Start) → let z = c .args .sizes in c .args .a * z .d + z .d ≤ z .r * z .d
-run-end c = part-end (c .args .a) (c .args .sizes .d) (c .args .sizes .r) (c .pre .7)
+-- where the board's run ends, and that all are few
+ends : (c : tie.Start)
+    → let a = c .args in (a .a * a .c + a .c ≤ length (a .named .now)) × (length (a .named .now) ≤ 256) × (a .sizes .d ≤ a .c) × (a .c ≤ 32) × (length (a .fresh .now) ≤ 32)
+ends c =
+    let a = c .args in
+    let p = c .pre in
+    let f = facts c in
+    let q = part-end (a .a) (a .c) (length (a .fresh .now)) (p .7) in
+    let m = few-runs (a .sizes) f (length (a .fresh .now)) (a .c) (p .3) in
+    let w = p .3 .whole in
+    let h = p .3 .helps in
+    let o = p .3 .some in
+    (omega arith, omega arith, h, omega arith, omega arith)
 
-few : (c : tie.Start) → c .args .sizes .r * c .args .sizes .d ≤ 256
-few c = few-runs (c .args .sizes) (facts c)
+-- its helpers and its stand-ins as they are cut out, and how many they are
+abbrev hs : tie.Start → List ℕ
+hs c = let a = c .args in take (a .a * a .c + a .sizes .d - a .a * a .c) (drop (a .a * a .c) (a .named .now))
 
-part-board-rows-end : tie.Need-part-board-rows-end
-part-board-rows-end c = omega (arith, run-end (st-at-slice-known4 c), few (st-at-slice-known4 c))
+abbrev ss : tie.Start → List ℕ
+ss c = let a = c .args in take (a .a * a .c + a .c - (a .a * a .c + a .sizes .d)) (drop (a .a * a .c + a .sizes .d) (a .named .now))
+
+helpers-are : (c : tie.Start) → hs c ≡ helpersAt (c .args .sizes) (c .args .c) (c .args .named .now) (c .args .a)
+helpers-are c = let a = c .args in row-part (a .c) (a .a) (a .sizes .d) (a .named .now) (c .pre .3 .helps)
+
+standins-are : (c : tie.Start) → ss c ≡ drop (c .args .sizes .d) (piece (c .args .c) (c .args .a) (c .args .named .now))
+standins-are c = let a = c .args in row-rest (a .c) (a .a) (a .sizes .d) (a .named .now) (c .pre .3 .helps)
+
+counts : (c : tie.Start) → (length (hs c) ≡ c .args .sizes .d) × (length (ss c) ≡ c .args .c - c .args .sizes .d)
+counts c =
+    let a = c .args in
+    let p = c .pre in (
+      ap length (helpers-are c) ∙ helpers-long (a .sizes) (a .c) (a .fresh .now) (a .named .now) (p .3) (p .5) (a .a) (p .7),
+      ap length (standins-are c) ∙ length-drop (a .sizes .d) (piece (a .c) (a .a) (a .named .now))
+          ∙ ap (λ (m : ℕ). m - a .sizes .d) (run-long (a .sizes) (a .c) (a .fresh .now) (a .named .now) (p .3) (p .5) (a .a) (p .7)),
+    )
+
+partners-requires : tie.Need-partners-requires
+partners-requires c κs =
+    let g = st-at-partners c in
+    let p = g .pre in
+    let e = ends g in
+    let k = counts g .1 in
+    let w = p .3 .whole in
+    (e .4, p .3 .some, omega arith, omega arith)
 
 board-rows-requires : tie.Need-board-rows-requires
 board-rows-requires c κs =
-    let a = st-at-board-rows-arg4 c .args in
-    let p = st-at-board-rows-arg4 c .pre in
-    let f = facts (st-at-board-rows-arg4 c) in
+    let g = st-at-rows c in
+    let a = g .args in
+    let p = g .pre in
+    let f = facts g in
     let z = a .sizes in
-    let e = partners-at-board-rows-arg4 c .partners .ensures in
-    let n = cut-long (z .d) (a .a) (z .r) (a .helpers .now) (p .7) (p .5) in
-    let m = ap length e ∙ length-partners z (a .fresh .now) (a .a) in
-    let b = board-below (z .n) (a .fresh .now) (a .a) (p .4) (omega arith) in (
+    let w = p .3 .whole in
+    let q = p .3 .helps in
+    let e = partners-at-rows c .partners .ensures in
+    let n = counts g in
+    let m = ap length e ∙ length-append (ss g) (othersAt (a .fresh .now) (a .a)) ∙ ap₂ _+_ (n .1) (length-others (a .fresh .now) (a .a)) in
+    let b = board-below (z .n) (a .fresh .now) (a .a) (p .4) (p .7) in (
       p .2,
       p .1,
-      below-more (z .n) 32 (take (a .a * z .d + z .d - a .a * z .d) (drop (a .a * z .d) (a .helpers .now))) (f .few)
-          (below-part (z .n) (a .a * z .d + z .d - a .a * z .d) (a .a * z .d) (a .helpers .now) (p .6)),
-      rw e (below-more (z .n) 32 (partnersAt z (a .fresh .now) (a .a)) (f .few) (partners-below (z .n) (z .r) (a .a) (a .fresh .now) (p .3) (p .4))),
+      below-more (z .n) 32 (hs g) (f .few) (below-part (z .n) (a .a * a .c + z .d - a .a * a .c) (a .a * a .c) (a .named .now) (p .6)),
+      rw e (below-more (z .n) 32 (ss g ++ othersAt (a .fresh .now) (a .a)) (f .few)
+          (both-below (z .n) (ss g) (othersAt (a .fresh .now) (a .a))
+          (below-part (z .n) (a .a * a .c + a .c - (a .a * a .c + z .d)) (a .a * a .c + z .d) (a .named .now) (p .6))
+          (others-below (z .n) (a .a) (a .fresh .now) (p .4)))),
       omega arith,
       omega arith,
       omega arith,
@@ -72,23 +123,29 @@ board-rows-requires c κs =
 
 returns : tie.Need-returns
 returns c =
-    let a = st-at-slice-known6 c .args in
-    rows-are (a .sizes) (a .points .now) (a .fresh .now) (a .helpers .now) _ _ _ (a .a) (partners-at-slice-known6 c .partners .ensures)
-    (part-piece (a .sizes .d) (a .a) (a .helpers .now)) (c .before .before .before .before .board-rows .ensures)
+    let g = st-at-end c in
+    let a = g .args in
+    rows-are (a .sizes) (a .c) (a .points .now) (a .fresh .now) (a .named .now) _ _ _ _ (a .a) (partners-at-end c .partners .ensures)
+    (standins-are g) (helpers-are g) (c .before .before .before .before .board-rows .ensures)
 
 pub fresh-rows-spec : {M : Type 1} → statement M
 fresh-rows-spec =
     tie.close
     (tie.spec
-    (λ c. omega (arith, run-end (st-at-slice-known3 c), few (st-at-slice-known3 c)))
-    (λ c. omega (arith, run-end (st-at-slice-known3 c), few (st-at-slice-known3 c)))
-    (λ c κs. search needs)
-    (λ c. omega (arith, run-end (st-at-slice-known4 c), few (st-at-slice-known4 c)))
+    (λ c. omega (arith, ends (st-at-entry c)))
+    (λ c. omega (arith, ends (st-at-runs c)))
+    (λ c. omega (arith, ends (st-at-runs c)))
+    (λ c. omega (arith, ends (st-at-runs c)))
+    (λ c. omega (arith, ends (st-at-runs c)))
+    (λ c. omega (arith, ends (st-at-runs c)))
+    (λ c. omega (arith, ends (st-at-runs c)))
+    partners-requires
+    (λ c. omega (arith, ends (st-at-boards c)))
     (λ c. search needs)
     (λ c. search needs)
-    part-board-rows-end
-    (λ c. search needs)
-    (λ c. search needs)
+    (λ c. omega (arith, ends (st-at-boards c)))
+    (λ c. let p = st-at-fresh c .pre in search needs)
+    (λ c. let p = st-at-fresh (c .before) .pre in search needs)
     board-rows-requires
     (λ c. search needs)
     (λ c. search needs)

@@ -1,69 +1,57 @@
--- `repair_rows::partners` meets its contract: the partners so far, before what was there.
+-- `repair_rows::partners` meets its contract: the callees' contracts, put together.
 -- Assumes nothing.
-use mathlib.Core.Path.{_≡_, refl, ap, _∙_}
-use mathlib.Core.List.{_++_}
-use Prim.Native.Nat.{ℕ, _≤_, _-_, _<_}
-use lib.ListN.{length, getD, drop, length-set}
-use Rattle.lists.specs.Lists.{tabulate}
-use Rattle.lists.proofs.Pieces.{fill-loop, fill-end, fill-all}
-use Rattle.sizes.proofs.Legal.{legal-facts}
-use Rattle.repair_rows.specs.Steps.{past}
-use Rattle.repair_rows.proofs.Others.{past-below}
+use mathlib.Core.Path.{_≡_, _∙_}
+use Prim.Native.Nat.{ℕ, _+_, _-_, _≤_}
+use lib.ListN.{length, length-take, length-drop}
+use Rattle.repair_rows.specs.Steps.{othersAt}
+use Rattle.repair_rows.proofs.Others.{length-others, partners-made}
 use borrow.Author.Needs.{needs}
 use native.Mathlib.Omega.{arith}
 use Rattle.repair_rows.proofs.partners.Statement.{statement}
 use Rattle.repair_rows.proofs.partners.Tie as tie
 
-abbrev Inv-loop : tie.InvT-loop
-Inv-loop fresh a out₀ m u₀ out u = (out ≡ tabulate u (λ u. getD fresh (past a u) 0) ++ drop u out₀) × (u ≤ m) × (length out ≡ length out₀)
-
-abbrev μ-loop : tie.MeasureT-loop
-μ-loop fresh a out₀ m u₀ out u = m - u
-
 -- the places
-abbrev st-at-shared-slice-known2 : tie.After-shared-slice-known2 Inv-loop μ-loop → tie.Start Inv-loop μ-loop
-st-at-shared-slice-known2 c = c .before .before .before .before .before .before
+abbrev st-at-copy : tie.After-slice-known → tie.Start
+st-at-copy c = c .before .before .before
 
-abbrev st-at-past : tie.After-past Inv-loop μ-loop → tie.Start Inv-loop μ-loop
-st-at-past c = c .before .before .before .before .before
+abbrev st-at-others : tie.After-other-boards-arg → tie.Start
+st-at-others c = st-at-copy (c .before .before .before .before .before)
 
--- the place of a turn is within the fresh boards
-within : (c : tie.After-past Inv-loop μ-loop) → c .past .result < length (st-at-past c .args .fresh .now)
-within c =
-    let a = st-at-past c .args in
-    let l = c .before .before .loop in
-    omega (arith, c .past .ensures, past-below (a .a) (l .u) (a .sizes .r) (omega arith))
+abbrev st-at-end : tie.After-slice-known3 → tie.Start
+st-at-end c = st-at-others (c .before .before .before)
 
-past-requires : tie.Need-past-requires Inv-loop μ-loop
-past-requires c κs = let f = legal-facts _ (c .before .before .before .before .pre .0) in omega arith
+abbrev copy-at-end : tie.After-slice-known3 → tie.After-copy-boards
+copy-at-end c = c .before .before .before .before .before .before
 
-loop-again : tie.Need-loop-again Inv-loop μ-loop
-loop-again c =
-    let l = c .before .before .before .loop in
-    let a = st-at-shared-slice-known2 c .args in
-    (fill-loop _ (a .out .now) (l .out) (l .u) _ (omega arith) (ap (λ (b : ℕ). getD (a .fresh .now) b 0) (c .before .past .ensures)) (l .inv .0), omega arith, length-set (l .out) (l .u) _ ∙ l .inv .2)
+abbrev out-at-end : tie.After-slice-known3 → tie.After-out
+out-at-end c = c .before .before .before .before .before
 
-returns : tie.Need-returns Inv-loop μ-loop
+others-requires : tie.Need-other-boards-requires
+others-requires c κs =
+    let p = st-at-others c .pre in
+    let g = c .before .before .out .given .1 in
+    (p .0, simp (length-take, length-drop) (omega arith), p .1)
+
+returns : tie.Need-returns
 returns c =
-    let l = c .before .loop in
-    let a = c .before .before .before .before .args in
-    let p = c .before .before .before .before .pre in
-    fill-end _ (a .out .now) (l .out) (l .u) (a .sizes .r - 1) (omega arith) (l .inv .0) ∙ fill-all _ (a .out .now) (a .sizes .r - 1) (omega arith)
+    let a = st-at-end c .args in
+    let p = st-at-end c .pre in
+    let n = length-others (a .fresh .now) (a .a) in
+    partners-made (a .standins .now) (othersAt (a .fresh .now) (a .a)) (a .out .now) _ _ (omega arith) (copy-at-end c .copy-boards .ensures)
+    (c .before .before .other-boards .ensures)
 
 pub partners-spec : {M : Type 1} → statement M
 partners-spec =
     tie.close
     (tie.spec
-    Inv-loop
-    μ-loop
-    (λ c. (refl, omega arith, refl))
-    past-requires
-    (λ c. omega (arith, within c))
-    (λ c. within (c .before))
     (λ c. search needs)
     (λ c. search needs)
+    (λ c. let p = st-at-copy c .pre in omega arith)
+    (λ c κs. search needs)
     (λ c. search needs)
+    (λ c. let p = st-at-copy (c .before .before .before .before) .pre in let g = c .before .out .given .1 in omega arith)
+    (λ c. let p = st-at-copy (c .before .before .before .before) .pre in let g = c .before .out .given .1 in omega arith)
     (λ c. search needs)
-    loop-again
-    (λ c. search needs)
+    others-requires
+    (λ c. c .before .out2 .given .1 ∙ out-at-end c .out .given .1)
     returns)

@@ -18,12 +18,12 @@ use Rattle.repair_rows.proofs.rows_in.Statement.{statement}
 use Rattle.repair_rows.proofs.rows_in.Tie as tie
 
 abbrev Inv-loop : tie.InvT-loop
-Inv-loop sizes points inverses fresh helpers boards₀ all₀ rows₀ r one a₀ boards all rows a =
-    (rows ≡ join a (freshRows sizes points fresh helpers) ++ drop (a * one) rows₀) × (a ≤ r) × (length rows ≡ length rows₀)
+Inv-loop sizes points inverses fresh run named boards₀ all₀ rows₀ t one a₀ boards all rows a =
+    (rows ≡ join a (freshRows sizes run points fresh named) ++ drop (a * one) rows₀) × (a ≤ t) × (length rows ≡ length rows₀)
     × (length boards ≡ length boards₀) × (length all ≡ length all₀)
 
 abbrev μ-loop : tie.MeasureT-loop
-μ-loop sizes points inverses fresh helpers boards₀ all₀ rows₀ r one a₀ boards all rows a = r - a
+μ-loop sizes points inverses fresh run named boards₀ all₀ rows₀ t one a₀ boards all rows a = t - a
 
 -- the places
 abbrev st-at-struct-known : tie.After-struct-known Inv-loop μ-loop → tie.Start Inv-loop μ-loop
@@ -63,12 +63,12 @@ facts c = legal-facts _ (c .pre .0)
 abbrev one : tie.Start Inv-loop μ-loop → ℕ
 one c = (c .args .sizes .d + (c .args .sizes .d + c .args .sizes .r)) * 32
 
-few : (c : tie.Start Inv-loop μ-loop) → c .args .sizes .r * one c ≤ 32768
-few c = few-rows (c .args .sizes) (facts c)
+few : (c : tie.Start Inv-loop μ-loop) → length (c .args .fresh .now) * one c ≤ 32768
+few c = few-rows (c .args .sizes) (facts c) (length (c .args .fresh .now)) (c .args .c) (c .pre .3)
 
 -- where those of a turn end
-its-end : (c : tie.In-loop Inv-loop μ-loop) → c .before .loop .a * one (st-at-turn c) + one (st-at-turn c) ≤ st-at-turn c .args .sizes .r * one (st-at-turn c)
-its-end c = part-end (c .before .loop .a) (one (st-at-turn c)) (st-at-turn c .args .sizes .r) (c .loop-test .taken)
+its-end : (c : tie.In-loop Inv-loop μ-loop) → c .before .loop .a * one (st-at-turn c) + one (st-at-turn c) ≤ length (st-at-turn c .args .fresh .now) * one (st-at-turn c)
+its-end c = part-end (c .before .loop .a) (one (st-at-turn c)) (length (st-at-turn c .args .fresh .now)) (c .loop-test .taken)
 
 loop-holds : tie.Need-loop-holds Inv-loop μ-loop
 loop-holds c = (ap (λ (m : ℕ). drop m (st-at-struct-known2 c .args .rows .now)) (sym (zero-mul (one (st-at-struct-known2 c)))), omega arith, refl, refl, refl)
@@ -81,15 +81,16 @@ fresh-rows-requires c κs =
     let p = st-at-fresh-rows-arg3 c .pre in
     let l = c .before .before .before .before .loop in
     let h = c .before .before .before .loop-test .taken in
-    let lr = cut-long (one (st-at-fresh-rows-arg3 c)) (l .a) (st-at-fresh-rows-arg3 c .args .sizes .r) (l .rows) h (l .inv .2 ∙ p .9) in
+    let lr = cut-long (one (st-at-fresh-rows-arg3 c)) (l .a) (length (st-at-fresh-rows-arg3 c .args .fresh .now)) (l .rows) h (l .inv .2 ∙ p .9) in
     (p .0, p .1, p .2, p .3, p .4, p .5, p .6, h, l .inv .3 ∙ p .7, l .inv .4 ∙ p .8, lr)
 
 loop-again : tie.Need-loop-again Inv-loop μ-loop
 loop-again c =
     let a = st-at-slice-known6 c .args in
+    let p = st-at-slice-known6 c .pre in
     let l = loop-at-slice-known6 c .loop in (
-      join-loop (freshRows (a .sizes) (a .points .now) (a .fresh .now) (a .helpers .now)) (one (st-at-slice-known6 c)) (l .a) (a .rows .now) (l .rows) _
-          (λ i k. length-fresh-rows (a .sizes) (facts (st-at-slice-known6 c)) (a .points .now) (a .fresh .now) (a .helpers .now) i (st-at-slice-known6 c .pre .5) (omega arith))
+      join-loop (freshRows (a .sizes) (a .c) (a .points .now) (a .fresh .now) (a .named .now)) (one (st-at-slice-known6 c)) (l .a) (a .rows .now) (l .rows) _
+          (λ i k. length-fresh-rows (a .sizes) (facts (st-at-slice-known6 c)) (a .c) (a .points .now) (a .fresh .now) (a .named .now) i (p .3) (p .5) (omega arith))
           (fresh-rows-at-slice-known6 c .fresh-rows .ensures) (l .inv .0),
       omega arith,
       c .before .rows .given .1 ∙ l .inv .2,
@@ -101,7 +102,7 @@ returns : tie.Need-returns Inv-loop μ-loop
 returns c =
     let a = st-at-loop c .args in
     let l = c .before .loop in
-    join-end _ (one (st-at-loop c)) (l .a) (a .sizes .r) (a .rows .now) (l .rows) (omega arith) (omega (arith, st-at-loop c .pre .9)) (l .inv .0)
+    join-end _ (one (st-at-loop c)) (l .a) (length (a .fresh .now)) (a .rows .now) (l .rows) (omega arith) (omega (arith, st-at-loop c .pre .9)) (l .inv .0)
 
 pub rows-in-spec : {M : Type 1} → statement M
 rows-in-spec =

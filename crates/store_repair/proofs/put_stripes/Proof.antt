@@ -19,19 +19,22 @@ use Rattle.store_repair.proofs.put_stripes.Statement.{statement}
 use Rattle.store_repair.proofs.put_stripes.Tie as tie
 
 abbrev Inv-loop : tie.InvT-loop
-Inv-loop sizes lanes rows part s fresh seconds gs got₀ f₀ area₀ r w a₀ got f area a =
-    (area ≡ puts (λ b. getD fresh b 0 * part + s * α sizes) (stripeBy sizes lanes rows fresh seconds gs) a area₀) × (a ≤ r)
+Inv-loop sizes lanes rows part s fresh run seconds gs got₀ f₀ area₀ t w a₀ got f area a =
+    (area ≡ puts (λ b. getD fresh b 0 * part + s * α sizes) (stripeBy sizes run lanes rows fresh seconds gs) a area₀) × (a ≤ t)
     × (length area ≡ length area₀) × (length got ≡ length got₀) × (length f ≡ length f₀)
 
 abbrev μ-loop : tie.MeasureT-loop
-μ-loop sizes lanes rows part s fresh seconds gs got₀ f₀ area₀ r w a₀ got f area a = r - a
+μ-loop sizes lanes rows part s fresh run seconds gs got₀ f₀ area₀ t w a₀ got f area a = t - a
 
 -- the places
 abbrev st-at-entry : tie.After-struct-known Inv-loop μ-loop → tie.Start Inv-loop μ-loop
 st-at-entry c = c .before .before .before .before .before .before .before .before
 
+abbrev st-at-sizes : tie.After-struct-known2 Inv-loop μ-loop → tie.Start Inv-loop μ-loop
+st-at-sizes c = st-at-entry (c .before)
+
 abbrev st-at-turn : tie.In-loop Inv-loop μ-loop → tie.Start Inv-loop μ-loop
-st-at-turn c = st-at-entry (c .before .before)
+st-at-turn c = st-at-sizes (c .before .before)
 
 abbrev turn-at-part : tie.After-finish-arg2 Inv-loop μ-loop → tie.In-loop Inv-loop μ-loop
 turn-at-part c = c .before .before .before
@@ -52,7 +55,7 @@ abbrev f-at-end : tie.After-slice-known6 Inv-loop μ-loop → tie.After-f Inv-lo
 f-at-end c = c .before .before .before
 
 abbrev st-at-loop : tie.After-loop Inv-loop μ-loop → tie.Start Inv-loop μ-loop
-st-at-loop c = st-at-entry (c .before .before)
+st-at-loop c = st-at-sizes (c .before .before)
 
 facts : (c : tie.Start Inv-loop μ-loop) → Legal (c .args .sizes)
 facts c = legal-facts _ (c .pre .0)
@@ -63,7 +66,7 @@ ends : (c : tie.In-loop Inv-loop μ-loop)
 ends c =
     let a = st-at-turn c .args in
     let p = st-at-turn c .pre in
-    let b = board-below (a .sizes .n) (a .fresh .now) (c .before .loop .a) (p .7) (omega (arith, c .loop-test .taken, p .6)) in
+    let b = board-below (a .sizes .n) (a .fresh .now) (c .before .loop .a) (p .7) (c .loop-test .taken) in
     let m : a .sizes .n * a .part ≤ 32 * a .part = mul-le-mul-right (a .part) (facts (st-at-turn c) .few) in
     (part-end (getD (a .fresh .now) (c .before .loop .a) 0) (a .part) (a .sizes .n) b, omega (arith, p .4))
 
@@ -96,10 +99,10 @@ loop-again c =
     let l = t .before .loop in
     let z = a .sizes in
     let k = finish-at-end c .finish .ensures in
-    let run = length-piece (z .d) (l .a) (a .seconds .now) (omega (arith, part-end (l .a) (z .d) (z .r) (t .loop-test .taken), p .8)) in (
-      puts-turn (λ b. getD (a .fresh .now) b 0 * a .part + a .s * α z) (stripeBy z (a .lanes) (a .rows .now) (a .fresh .now) (a .seconds .now) (a .gs .now))
+    let run = length-piece (a .c) (l .a) (a .seconds .now) (omega (arith, part-end (l .a) (a .c) (length (a .fresh .now)) (t .loop-test .taken), p .8)) in (
+      puts-turn (λ b. getD (a .fresh .now) b 0 * a .part + a .s * α z) (stripeBy z (a .c) (a .lanes) (a .rows .now) (a .fresh .now) (a .seconds .now) (a .gs .now))
           (α z) (l .a) (getD (a .fresh .now) (l .a) 0 * a .part + a .s * α z) (a .area .now) (l .area) _ refl
-          (ap length k ∙ length-stripe z (facts (st-at-turn t)) (a .lanes) (a .rows .now) (a .fresh .now) (a .seconds .now) (a .gs .now) (l .a) run) k (l .inv .0),
+          (ap length k ∙ length-stripe z (facts (st-at-turn t)) (a .c) (a .lanes) (a .rows .now) (a .fresh .now) (a .seconds .now) (a .gs .now) (l .a) (p .6) run) k (l .inv .0),
       omega arith,
       c .before .area .given .1 ∙ l .inv .2,
       got-at-end c .got .given ∙ l .inv .3,
@@ -110,10 +113,10 @@ returns : tie.Need-returns Inv-loop μ-loop
 returns c =
     let l = c .before .loop in
     let a = st-at-loop c .args in
-    let e : l .a ≡ a .sizes .r = omega arith in
+    let e : l .a ≡ length (a .fresh .now) = omega arith in
     l .inv .0
     ∙ ap (λ (m : ℕ). puts (λ b. getD (a .fresh .now) b 0 * a .part + a .s * α (a .sizes))
-    (stripeBy (a .sizes) (a .lanes) (a .rows .now) (a .fresh .now) (a .seconds .now) (a .gs .now)) m (a .area .now)) e
+    (stripeBy (a .sizes) (a .c) (a .lanes) (a .rows .now) (a .fresh .now) (a .seconds .now) (a .gs .now)) m (a .area .now)) e
 
 pub put-stripes-spec : {M : Type 1} → statement M
 put-stripes-spec =
@@ -122,11 +125,11 @@ put-stripes-spec =
     Inv-loop
     μ-loop
     (λ c. let f = facts (st-at-entry c) in search needs)
-    (λ c. let f = facts (st-at-entry c) in search needs)
-    (λ c. let f = facts (st-at-entry c) in search needs)
+    (λ c. let f = facts (st-at-sizes c) in search needs)
+    (λ c. let f = facts (st-at-sizes c) in search needs)
     (λ c. (refl, omega arith, refl, refl, refl))
     (λ c. search needs)
-    (λ c. omega (arith, c .before .loop-test .taken, st-at-turn (c .before) .pre .6))
+    (λ c. c .before .loop-test .taken)
     (λ c. omega (arith, ends (c .before), st-at-turn (c .before) .pre .5))
     (λ c. omega (arith, ends (c .before), st-at-turn (c .before) .pre .4, st-at-turn (c .before) .pre .5))
     (λ c. omega (arith, ends (c .before), st-at-turn (c .before) .pre .5))

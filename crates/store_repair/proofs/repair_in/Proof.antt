@@ -88,28 +88,26 @@ widths c =
     let a = c .whole-vectors3 .ensures in
     (f .0, f .1, g .0, g .1, a .0, a .1)
 
--- the helpers are r runs of d, and few; a row of factors for each
-helpers-are : (c : tie.Start) → let a = c .args in (length (a .helpers .now) ≡ length (a .fresh .now) * a .sizes .d) × (length (a .helpers .now) ≤ 256)
-helpers-are c =
-    let z = c .args .sizes in
-    (c .pre .9 ∙ ap (λ (m : ℕ). m * z .d) (sym (c .pre .7)), omega (arith, c .pre .9, few-runs z (facts c)))
+-- the boards named are few; a row of factors for each
+few : (c : tie.Start) → length (c .args .named .now) ≤ 256
+few c = let a = c .args in omega (arith, c .pre .9, few-runs (a .sizes) (facts c) (length (a .fresh .now)) (a .c) (c .pre .7))
 
-rows-long : (c : tie.Start) (m : ℕ) → m ≡ c .args .sizes .r * c .args .sizes .d * 32 → m ≡ length (c .args .helpers .now) * 32
+rows-long : (c : tie.Start) (m : ℕ) → m ≡ length (c .args .fresh .now) * c .args .c * 32 → m ≡ length (c .args .named .now) * 32
 rows-long c m e = e ∙ ap (λ (k : ℕ). k * 32) (sym (c .pre .9))
 
 all-pair-rows-requires : tie.Need-all-pair-rows-requires
 all-pair-rows-requires c κs =
     let p = st-at-ff c .pre in
     let f = facts (st-at-ff c) in
-    let h = helpers-are (st-at-ff c) in
-    (p .3, p .1, f .few, omega arith, omega arith, p .8, p .10, h .0, h .1, rows-long (st-at-ff c) _ (p .14))
+    let q = p .7 .helps in
+    (p .3, p .1, f .few, omega arith, omega arith, p .8, p .10, p .9, few (st-at-ff c), rows-long (st-at-ff c) _ (p .14))
 
 all-pair-rows-requires-2 : tie.Need-all-pair-rows-requires-2
 all-pair-rows-requires-2 c κs =
     let p = st-at-gf c .pre in
     let f = facts (st-at-gf c) in
-    let h = helpers-are (st-at-gf c) in
-    (p .3, p .1, f .few, omega arith, omega arith, p .8, p .10, h .0, h .1, rows-long (st-at-gf c) _ (p .15))
+    let q = p .7 .helps in
+    (p .3, p .1, f .few, omega arith, omega arith, p .8, p .10, p .9, few (st-at-gf c), rows-long (st-at-gf c) _ (p .15))
 
 all-rows-requires : tie.Need-all-rows-requires
 all-rows-requires c κs =
@@ -146,7 +144,7 @@ returns c =
     let p = st-at-end c .pre in
     let w = widths (widths-at-end c) in
     let bytes = all-of (λ x. x < 256) 0 (a .area .now) (λ i l. omega (arith, area-at-end c .slice-known4 .given i)) in
-    shares-are (a .sizes) (facts (st-at-end c)) _ _ _ _ _ _ (a .fresh .now) (a .helpers .now) (p .9) (a .points .now) (p .2) (p .7) (p .8) (p .10) (p .11) (p .12) (p .13)
+    shares-are (a .sizes) (facts (st-at-end c)) _ _ _ _ _ _ (a .fresh .now) (a .c) (a .named .now) (p .7) (p .9) (a .points .now) (p .2) (p .8) (p .10) (p .11) (p .12) (p .13)
     (w .0) (w .1) (w .2) (w .3) (w .4) (w .5) (ff-at-end c .all-pair-rows .ensures) (gf-at-end c .all-pair-rows2 .ensures) (rows-at-end c .all-rows .ensures)
     (a .area .now) _ (a .part) (a .stripes) bytes (p .17) (p .5) (work-at-end c .repair-work .ensures)
 

@@ -26,14 +26,8 @@ st-3 c = c .before .before .before .before .before .before .before .before
 abbrev st-4 : tie.After-struct-known4 → tie.Start
 st-4 c = st-3 (c .before)
 
-abbrev st-5 : tie.After-struct-known5 → tie.Start
-st-5 c = st-4 (c .before)
-
-abbrev st-6 : tie.After-struct-known6 → tie.Start
-st-6 c = st-5 (c .before)
-
 abbrev st-at-ff : tie.After-ff → tie.Start
-st-at-ff c = st-6 (c .before)
+st-at-ff c = st-4 (c .before)
 
 abbrev st-at-gf : tie.After-gf → tie.Start
 st-at-gf c = st-at-ff (c .before)
@@ -46,11 +40,13 @@ facts c = legal-facts _ (c .pre .0)
 
 -- what is lent fits, and a board's part is of at most 4,096 stripes of 62 bytes
 few : (c : tie.Start)
-    → let z = c .args .sizes in (z .r * z .d ≤ 256) × (z .r * ((z .d + (z .d + z .r)) * 32) ≤ 32768) × (c .args .capacity * α z ≤ 253952)
+    → let z = c .args .sizes in let t = length (c .args .fresh .now) in
+    (t * c .args .c ≤ 256) × (t * ((z .d + (z .d + z .r)) * 32) ≤ 32768) × (c .args .capacity * α z ≤ 253952)
 few c =
     let z = c .args .sizes in
     let f = facts c in
-    (few-runs z f, few-rows z f, mul-le-mul (c .pre .11) (α-most z f))
+    let t = length (c .args .fresh .now) in
+    (few-runs z f t (c .args .c) (c .pre .4), few-rows z f t (c .args .c) (c .pre .4), mul-le-mul (c .pre .11) (α-most z f))
 
 repair-in-requires : tie.Need-repair-in-requires
 repair-in-requires c κs =
@@ -85,18 +81,17 @@ repair-shares-spec =
     (λ c. let f = facts (st-2 c) in search needs)
     (λ c. let f = facts (st-2 c) in search needs)
     (λ c. omega (arith, few (st-2 c)))
-    (λ c. let m = few (st-3 c) in search needs)
-    (λ c. omega (arith, few (st-3 c)))
+    (λ c. omega (arith, few (st-2 c), st-2 c .pre .6))
+    (λ c. let f = facts (st-3 c) in search needs)
     (λ c. let f = facts (st-4 c) in search needs)
-    (λ c. let f = facts (st-5 c) in search needs)
-    (λ c. let f = facts (st-5 c) in search needs)
-    (λ c. omega (arith, few (st-6 c)))
+    (λ c. let f = facts (st-4 c) in search needs)
+    (λ c. omega (arith, few (st-4 c)))
     (λ c. search needs)
     (λ c. search needs)
-    (λ c. omega (arith, few (st-6 c)))
+    (λ c. omega (arith, few (st-4 c), st-4 c .pre .6))
     (λ c. search needs)
     (λ c. search needs)
-    (λ c. omega (arith, few (st-at-ff c)))
+    (λ c. omega (arith, few (st-at-ff c), st-at-ff c .pre .6))
     (λ c. search needs)
     (λ c. search needs)
     (λ c. omega (arith, few (st-at-gf c)))

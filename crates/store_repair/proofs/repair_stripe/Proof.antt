@@ -47,13 +47,14 @@ put-at-end c = c .before .before .before .before .before .before
 hear-requires : tie.Need-hear-requires
 hear-requires c κs =
     let p = st-at-hear c .pre in
-    let few = few-runs (st-at-hear c .args .sizes) (legal-facts _ (p .0)) in
+    let a = st-at-hear c .args in
+    let few = few-runs (a .sizes) (legal-facts _ (p .0)) (length (a .fresh .now)) (a .c) (p .10) in
     (p .0, p .1, p .2, omega arith, omega arith, omega arith, p .8, p .9, p .19, p .13, p .14 ∙ sym (p .12), p .15 ∙ sym (p .12))
 
 all-g-requires : tie.Need-all-g-requires
 all-g-requires c κs =
     let p = st-at-g c .pre in
-    (p .0, p .4, p .7, firsts-at-g c .firsts .given ∙ p .14, p .16)
+    (p .0, p .4, p .7, firsts-at-g c .firsts .given ∙ p .14, p .16, p .10)
 
 put-stripes-requires : tie.Need-put-stripes-requires
 put-stripes-requires c κs =
@@ -64,8 +65,8 @@ returns : tie.Need-returns
 returns c =
     let a = st-at-end c .args in
     let w = α (a .sizes) in
-    stripes-put (a .sizes) (a .fl) (a .gl) (a .lanes) (a .ff .now) (a .gf .now) (a .rows .now) (a .fresh .now) (a .helpers .now)
-    (λ j. piece w (a .s) (drop (j * a .part) (a .area .now))) (λ b. getD (a .fresh .now) b 0 * a .part + a .s * w) (a .sizes .r) (a .area .now) _ _ _ _
+    stripes-put (a .sizes) (a .fl) (a .gl) (a .lanes) (a .ff .now) (a .gf .now) (a .rows .now) (a .fresh .now) (a .c) (a .named .now)
+    (λ j. piece w (a .s) (drop (j * a .part) (a .area .now))) (λ b. getD (a .fresh .now) b 0 * a .part + a .s * w) (length (a .fresh .now)) (a .area .now) _ _ _ _
     (hear-at-end c .hear .ensures .0) (hear-at-end c .hear .ensures .1) (g-at-end c .all-g .ensures) (put-at-end c .put-stripes .ensures)
 
 pub repair-stripe-spec : {M : Type 1} → statement M

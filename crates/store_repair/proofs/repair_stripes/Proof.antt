@@ -19,14 +19,14 @@ use Rattle.store_repair.proofs.repair_stripes.Statement.{statement}
 use Rattle.store_repair.proofs.repair_stripes.Tie as tie
 
 abbrev Inv-loop : tie.InvT-loop
-Inv-loop sizes fl gl lanes ff gf rows part stripes fresh helpers firsts₀ seconds₀ gs₀ got₀ f₀ area₀ s₀ firsts seconds gs got f area s =
+Inv-loop sizes fl gl lanes ff gf rows part stripes fresh run named firsts₀ seconds₀ gs₀ got₀ f₀ area₀ s₀ firsts seconds gs got f area s =
     (area ≡ puts (λ a. getD fresh a 0 * part)
-    (λ a. join s (λ t. rebuiltBy sizes fl gl lanes ff gf rows (λ j. piece (α sizes) t (drop (j * part) area₀)) fresh helpers a)) (sizes .r) area₀)
+    (λ a. join s (λ t. rebuiltBy sizes fl gl lanes ff gf rows (λ j. piece (α sizes) t (drop (j * part) area₀)) fresh run named a)) (length fresh) area₀)
     × (s ≤ stripes) × (length area ≡ length area₀) × (length firsts ≡ length firsts₀) × (length seconds ≡ length seconds₀) × (length gs ≡ length gs₀)
     × (length got ≡ length got₀) × (length f ≡ length f₀)
 
 abbrev μ-loop : tie.MeasureT-loop
-μ-loop sizes fl gl lanes ff gf rows part stripes fresh helpers firsts₀ seconds₀ gs₀ got₀ f₀ area₀ s₀ firsts seconds gs got f area s = stripes - s
+μ-loop sizes fl gl lanes ff gf rows part stripes fresh run named firsts₀ seconds₀ gs₀ got₀ f₀ area₀ s₀ firsts seconds gs got f area s = stripes - s
 
 -- the places
 abbrev st-at-entry : tie.After-slice-known6 Inv-loop μ-loop → tie.Start Inv-loop μ-loop
@@ -71,7 +71,7 @@ stripe-end c =
 loop-holds : tie.Need-loop-holds Inv-loop μ-loop
 loop-holds c =
     let a = st-at-entry c .args in
-    (puts-none (λ b. getD (a .fresh .now) b 0 * a .part) (a .sizes .r) (a .area .now), omega arith, refl, refl, refl, refl, refl, refl)
+    (puts-none (λ b. getD (a .fresh .now) b 0 * a .part) (length (a .fresh .now)) (a .area .now), omega arith, refl, refl, refl, refl, refl, refl)
 
 repair-stripe-requires : tie.Need-repair-stripe-requires Inv-loop μ-loop
 repair-stripe-requires c κs =
@@ -108,10 +108,10 @@ loop-again c =
     let l = t .before .loop in
     let z = a .sizes in
     let f = facts (st-at-turn t) in
-    let by : (ℕ → List ℕ) → ℕ → List ℕ = λ own b. rebuiltBy z (a .fl) (a .gl) (a .lanes) (a .ff .now) (a .gf .now) (a .rows .now) own (a .fresh .now) (a .helpers .now) b in (
-      turn z (a .fresh .now) (a .helpers .now) (a .area .now) (a .part) (p .11) (p .12) (p .15) (p .16) (p .22) by
-          (length-by z f (a .fl) (a .gl) (a .lanes) (a .ff .now) (a .gf .now) (a .rows .now) (a .fresh .now) (a .helpers .now) (p .13))
-          (by-same z f (a .fl) (a .gl) (a .lanes) (a .ff .now) (a .gf .now) (a .rows .now) (a .fresh .now) (a .helpers .now) (p .13))
+    let by : (ℕ → List ℕ) → ℕ → List ℕ = λ own b. rebuiltBy z (a .fl) (a .gl) (a .lanes) (a .ff .now) (a .gf .now) (a .rows .now) own (a .fresh .now) (a .c) (a .named .now) b in (
+      turn z (a .fresh .now) (a .named .now) (a .area .now) (a .part) (p .12) (p .15) (p .16) (p .22) by
+          (length-by z f (a .fl) (a .gl) (a .lanes) (a .ff .now) (a .gf .now) (a .rows .now) (a .fresh .now) (a .c) (a .named .now) (p .11) (p .13))
+          (by-same z f (a .fl) (a .gl) (a .lanes) (a .ff .now) (a .gf .now) (a .rows .now) (a .fresh .now) (a .c) (a .named .now) (p .11) (p .13))
           (l .s) (l .area) _ (stripe-end t) (l .inv .0) (stripe-at-end c .repair-stripe .ensures),
       omega arith,
       c .before .area .given ∙ l .inv .2,
@@ -131,7 +131,7 @@ returns c =
     l .inv .0
     ∙ ap (λ (s : ℕ). puts (λ b. getD (a .fresh .now) b 0 * a .part)
     (λ b. join s (λ t. rebuiltBy z (a .fl) (a .gl) (a .lanes) (a .ff .now) (a .gf .now) (a .rows .now)
-    (λ j. piece (α z) t (drop (j * a .part) (a .area .now))) (a .fresh .now) (a .helpers .now) b)) (z .r) (a .area .now)) e
+    (λ j. piece (α z) t (drop (j * a .part) (a .area .now))) (a .fresh .now) (a .c) (a .named .now) b)) (length (a .fresh .now)) (a .area .now)) e
 
 pub repair-stripes-spec : {M : Type 1} → statement M
 repair-stripes-spec =

@@ -12,13 +12,10 @@ use Rattle.store_repair.proofs.repair_work.Statement.{statement}
 use Rattle.store_repair.proofs.repair_work.Tie as tie
 
 -- the places
-abbrev st-at-runs : tie.After-struct-known → tie.Start
-st-at-runs c = c .before .before .before .before .before .before .before
+abbrev st-at-rows : tie.After-slice-known → tie.Start
+st-at-rows c = c .before .before .before .before .before .before
 
-abbrev st-at-rows : tie.After-struct-known2 → tie.Start
-st-at-rows c = c .before .before .before .before .before .before .before .before
-
-abbrev st-at-sum : tie.After-struct-known3 → tie.Start
+abbrev st-at-sum : tie.After-struct-known → tie.Start
 st-at-sum c = st-at-rows (c .before)
 
 abbrev st-at-firsts : tie.After-firsts → tie.Start
@@ -40,11 +37,14 @@ facts : (c : tie.Start) → Legal (c .args .sizes)
 facts c = legal-facts _ (c .pre .0)
 
 -- what is lent fits
-few : (c : tie.Start) → let z = c .args .sizes in (z .r * z .d ≤ 256) × (z .r * c .args .lanes ≤ 1024) × (z .d + z .r ≤ 32)
+few : (c : tie.Start) → let a = c .args in let t = length (a .fresh .now) in (t * a .c ≤ 256) × (t * a .lanes ≤ 1024) × (a .sizes .d + a .sizes .r ≤ 32)
 few c =
-    let z = c .args .sizes in
+    let a = c .args in
     let f = facts c in
-    (few-runs z f, mul-few (z .r) (c .args .lanes) (omega arith) (c .pre .4) refl, omega arith)
+    let t = length (a .fresh .now) in
+    let w = c .pre .11 .whole in
+    let q = c .pre .11 .helps in
+    (few-runs (a .sizes) f t (a .c) (c .pre .11), mul-few t (a .lanes) (omega arith) (c .pre .4) refl, omega arith)
 
 repair-stripes-requires : tie.Need-repair-stripes-requires
 repair-stripes-requires c κs =
@@ -56,15 +56,14 @@ pub repair-work-spec : {M : Type 1} → statement M
 repair-work-spec =
     tie.close
     (tie.spec
-    (λ c. let m = few (st-at-runs c) in search needs)
     (λ c. omega (arith, few (st-at-rows c)))
     (λ c. let m = few (st-at-sum c) in search needs)
     (λ c. search needs)
     (λ c. search needs)
-    (λ c. omega (arith, few (st-at-sum c)))
+    (λ c. omega (arith, few (st-at-sum c), st-at-sum c .pre .13))
     (λ c. search needs)
     (λ c. search needs)
-    (λ c. omega (arith, few (st-at-firsts c)))
+    (λ c. omega (arith, few (st-at-firsts c), st-at-firsts c .pre .13))
     (λ c. search needs)
     (λ c. search needs)
     (λ c. omega (arith, few (st-at-seconds c)))

@@ -115,7 +115,8 @@ returns c =
     let l = c .before .loop in
     let a = (st-4 c) .args in
     let e : l .i ≡ a .sizes .n = omega arith in
-    l .inv .0 ∙ ap (λ (m : ℕ). puts (λ i. i * a .part + a .at) (λ i. keptOf (a .sizes) (λ b. getD (a .values .now) (b * 32 + i) 0) (λ b. getD (a .values .now) (i * 32 + b) 0) i) m (a .area .now)) e
+    l .inv .0 ∙ ap (λ (m : ℕ). puts (λ i. i * a .part + a .at)
+    (λ i. keptOf (a .sizes) (λ b. getD (a .values .now) (b * 32 + i) 0) (λ b. getD (a .values .now) (i * 32 + b) 0) i) m (a .area .now)) e
 
 pub put-boards-spec : {M : Type 1} → statement M
 put-boards-spec =

@@ -76,8 +76,16 @@ write-stripes-requires : tie.Need-write-stripes-requires
 write-stripes-requires c κs =
     let s = st-4 c in
     let a = s .args in
-    let f = legal-facts _ (s .pre .0) in
-    (s .pre .0, search needs, part-most (α (a .sizes)) (a .capacity) (s .pre .1) (α-most _ f), omega (arith, s .pre .1, s .pre .4), mul-le-mul-right (α (a .sizes)) (s .pre .4), refl, refl, s .pre .5)
+    let f = legal-facts _ (s .pre .0) in (
+      s .pre .0,
+      search needs,
+      part-most (α (a .sizes)) (a .capacity) (s .pre .1) (α-most _ f),
+      omega (arith, s .pre .1, s .pre .4),
+      mul-le-mul-right (α (a .sizes)) (s .pre .4),
+      refl,
+      refl,
+      s .pre .5,
+    )
 
 same-length : tie.Need-same-length
 same-length c = search needs

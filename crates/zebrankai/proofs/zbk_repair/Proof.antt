@@ -14,7 +14,7 @@ use Rattle.zebrankai.proofs.zbk_repair.Tie as tie
 
 -- the places
 abbrev st : tie.After-is-record → tie.Start
-st c = c .before .before .before .before .before .before
+st c = c .before .before .before .before .before .before .before
 
 abbrev at-store : tie.After-repair → tie.After-store-of
 at-store c = c .before .before
@@ -30,7 +30,7 @@ st-call c = st (at-else c .before)
 
 -- the store's call
 abbrev call : tie.Start → Record → StoreOutcome
-call g s = act (record { kept = s; area = g .args .area .now }) (repair (g .args .fresh .now) (g .args .helpers .now))
+call g s = act (record { kept = s; area = g .args .area .now }) (repair (g .args .fresh .now) (g .args .helpers .now) (g .args .standins .now))
 
 -- the words are a record's
 is-one : (c : tie.Else1) → isRecord (st (c .before) .args .ws .now) ≡ true
@@ -47,7 +47,7 @@ unfolding act
 asks c κs =
     let k = at-call c in
     let g = st-call k in
-    handed-asks (call g) (g .args .ws .now) (λ s. repair-few s (g .args .area .now) (g .args .fresh .now) (g .args .helpers .now))
+    handed-asks (call g) (g .args .ws .now) (λ s. repair-few s (g .args .area .now) (g .args .fresh .now) (g .args .helpers .now) (g .args .standins .now))
     _ (k .repair .result) _ _ (is-one (at-else k)) (k .repair .ensures)
 
 hands-on : tie.Need-returns-2

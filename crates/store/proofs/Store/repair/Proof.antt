@@ -13,13 +13,13 @@ use Rattle.store_spec.specs.Calls.{refused, repairCall}
 use Rattle.store_spec.proofs.Records.{repair-facts}
 use Rattle.repair_check.proofs.Repairable.{Repairable, repairable}
 use Rattle.store.specs.Handing.{recordIn}
-use Rattle.store.proofs.RepairCall.{checked, repair-refuses, repair-works}
+use Rattle.store.proofs.RepairCall.{checked, runs-named, repair-refuses, repair-works}
 use Rattle.store.proofs.Store.repair.Statement.{statement}
 use Rattle.store.proofs.Store.repair.Tie as tie
 
 -- the places
 abbrev st : tie.After-check-repair → tie.Start
-st c = c .before .before .before .before .before .before .before .before .before
+st c = c .before .before .before .before .before .before .before .before .before .before
 
 abbrev R : tie.After-check-repair → Record
 R c = recordIn (st c .args .self)
@@ -35,14 +35,14 @@ at-shares c = c .before .before .before
 
 -- what the check told
 passed : (c : tie.After-enum-told)
-    → let k = c .before .before in let a = st k .args in checked (R k) (a .area .now) (a .fresh .now) (a .helpers .now) ≡ Pass
+    → let k = c .before .before in let a = st k .args in checked (R k) (a .area .now) (a .fresh .now) (a .helpers .now) (a .standins .now) ≡ Pass
 passed c = sym (c .before .before .check-repair .ensures) ∙ c .enum-told .given .1
 
-asks : (c : tie.After-enum-told) → let k = c .before .before in let a = st k .args in Repairable (R k) (length (a .area .now)) (a .fresh .now) (a .helpers .now)
+asks : (c : tie.After-enum-told) → let k = c .before .before in let a = st k .args in Repairable (R k) (length (a .area .now)) (a .fresh .now) (a .helpers .now) (a .standins .now)
 asks c =
     let k = c .before .before in
     let a = st k .args in
-    repairable (R k) _ (a .fresh .now) (a .helpers .now) (repair-facts (R k) _ (a .fresh .now) (a .helpers .now) (passed c))
+    repairable (R k) _ (a .fresh .now) (a .helpers .now) (a .standins .now) (repair-facts (R k) _ (a .fresh .now) (a .helpers .now) (a .standins .now) (passed c))
 
 -- the work
 shares-ask : tie.Need-repair-shares-requires
@@ -55,19 +55,26 @@ shares-ask c κs =
       r .points-taken .long,
       r .points-taken .differ,
       n .before .before .fill-inverses .ensures,
-      f .fresh-count,
+      f .some-fresh,
+      f .few-fresh,
       f .fresh-known,
       f .helper-count,
       f .helpers-known,
+      f .stand-in-count,
+      f .stand-ins-known,
       f .fresh-different,
-      f .none-fresh,
-      record { each = f .runs-different },
+      f .none-helps,
+      f .none-stands-in,
+      runs-named _ _ _ _ _ f,
       r .cap-high,
       rw e (r .few-stripes),
       f .area-is,
     )
 
--- there are 32 marks
+-- there are 32 points, and 32 marks
+points-long : tie.Need-slice-aggregate-check-repair
+points-long c = search needs
+
 marks-long : tie.Need-slice-aggregate-check-repair-2
 marks-long c = search needs
 
@@ -85,21 +92,21 @@ repair-done c =
     let n = at-count (w .before) in
     let k = at-told n .before .before in
     let a = st k .args in
-    repair-works (R k) (a .area .now) (a .fresh .now) (a .helpers .now) _ _ _ _ (passed (at-told n)) (n .stripe-count .ensures .0)
+    repair-works (R k) (a .area .now) (a .fresh .now) (a .helpers .now) (a .standins .now) _ _ _ _ (passed (at-told n)) (n .stripe-count .ensures .0)
     (w .before .before .before .before .bytes-moved .ensures) (m .marks-on .ensures) (w .repair-shares .ensures)
 
 repair-refused : (c : tie.After-x)
-    → let k = c .before .before in let a = st k .args in refused (R k) (a .area .now) [] (c .x .given .0 .0) ≡ repairCall (R k) (a .area .now) (a .fresh .now) (a .helpers .now)
+    → let k = c .before .before in let a = st k .args in refused (R k) (a .area .now) [] (c .x .given .0 .0) ≡ repairCall (R k) (a .area .now) (a .fresh .now) (a .helpers .now) (a .standins .now)
 repair-refused c =
     let k = c .before .before in
     let a = st k .args in
-    repair-refuses (R k) (a .area .now) (a .fresh .now) (a .helpers .now) (k .check-repair .ensures) (c .x .given .1)
+    repair-refuses (R k) (a .area .now) (a .fresh .now) (a .helpers .now) (a .standins .now) (k .check-repair .ensures) (c .x .given .1)
 
 pub repair-spec : {M : Type 1} → statement M
 repair-spec =
     tie.close
     (tie.spec
-    (λ c. search needs)
+    points-long
     marks-long
     (λ c κs. search needs)
     (λ c. search needs)
@@ -109,8 +116,8 @@ repair-spec =
     (λ c. search needs)
     (λ c κs. search needs)
     (λ c κs. asks (c .before .before .before) .is-ready .stated)
-    (λ c κs. record { is-legal = asks (at-told c) .is-ready .stated .is-legal; few = c .stripe-count .ensures .1 })
-    (λ c. search needs)
+    (λ c κs. let f = asks (at-told c) in (record { is-legal = f .is-ready .stated .is-legal; few = c .stripe-count .ensures .1 }, f .few-fresh))
+    (λ c. points-long (at-told (c .before .before) .before .before .before .before))
     (λ c. search needs)
     shares-ask
     (λ c. marks-long (at-told (at-count (at-shares c .before)) .before .before .before))

@@ -1,0 +1,47 @@
+-- `list_check::all_out` meets its contract. The loop's invariant: the test of what is left is the test of the whole.
+-- Assumes nothing.
+use Prim.Native.Nat.{ℕ, _-_}
+use mathlib.Core.Path.{_≡_, refl, sym, ap, _∙_}
+use mathlib.Core.Bool.{false, not}
+use native.Mathlib.Omega.{arith}
+use borrow.Author.Needs.{needs}
+use lib.ListN.{length, getD, drop, drop-of-length-le}
+use Rattle.lists.specs.Tests.{every}
+use Rattle.store_checks.proofs.Walks.{every-no, every-next}
+use Rattle.list_check.proofs.all_out.Statement.{statement}
+use Rattle.list_check.proofs.all_out.Tie as tie
+
+abbrev Inv-loop : tie.InvT-loop
+Inv-loop marks boards t₀ t = every (λ i. not (getD marks i false)) (drop t boards) ≡ every (λ i. not (getD marks i false)) boards
+
+abbrev μ-loop : tie.MeasureT-loop
+μ-loop marks boards t₀ t = length boards - t
+
+loop-again : tie.Need-loop-again Inv-loop μ-loop
+loop-again c =
+    every-next _ _ _ (c .before .before .before .loop-test .taken) (ap not (sym (c .before .mark-of .ensures) ∙ c .if1 .left))
+    ∙ c .before .before .before .before .loop .inv
+
+returns : tie.Need-returns Inv-loop μ-loop
+returns c =
+    sym (every-no _ _ _ (c .before .before .before .loop-test .taken) (ap not (sym (c .before .mark-of .ensures) ∙ c .if1 .taken)))
+    ∙ c .before .before .before .before .loop .inv
+
+returns-2 : tie.Need-returns-2 Inv-loop μ-loop
+returns-2 c = sym (ap (every _) (drop-of-length-le _ (c .loop-test .left))) ∙ c .before .loop .inv
+
+pub all-out-spec : {M : Type 1} → statement M
+all-out-spec =
+    tie.close
+    (tie.spec
+    Inv-loop
+    μ-loop
+    (λ c. refl)
+    (λ c. search needs)
+    (λ c. search needs)
+    (λ c κs. search needs)
+    returns
+    (λ c. search needs)
+    (λ c. search needs)
+    loop-again
+    returns-2)
