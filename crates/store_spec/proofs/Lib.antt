@@ -17,5 +17,5 @@ pub mod MarkLaws
 pub mod Exact
 pub mod Demand1
 pub mod Figures
-pub mod LedgerFigures
+pub mod Tested
 pub mod Stripes

@@ -9,5 +9,4 @@ pub mod Premises
 pub mod LedgerLaws
 pub mod MarkLaws
 pub mod FurtherFigures
-pub mod LedgerFigures
 pub mod Stripes

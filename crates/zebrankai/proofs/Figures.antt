@@ -16,7 +16,7 @@ use Rattle.store_spec.specs.Record.{sound}
 use Rattle.store_spec.specs.Packets.{helperPackets, standInPackets, exchangePackets, partnerPackets, repairPackets, freshShare}
 use Rattle.store_spec.specs.Calls.{writeLines, loseLines, listLines, repairLines, readLines, setUpCall, writeCall, loseCall, repairCall, readCall}
 use Rattle.store_spec.specs.Ledger.{Book, Step, act, openBook, bookLines, accept, enter}
-use Rattle.store_spec.proofs.LedgerFigures.{bytes, agrees, agree, fair}
+use Rattle.store_spec.proofs.Tested.{bytes, agrees, agree, fair}
 use Rattle.record_words.specs.Words.{isRecord, recordFrom}
 use Rattle.zebrankai.specs.Lent.{zbkSetUp, zbk}
 use Rattle.zebrankai.specs.Demand3.{AllowedLents}
