@@ -19,10 +19,10 @@
  * - It keeps nothing between calls and allocates nothing.
  *
  * What the caller owes: a pointer is followed by the number of its elements, and points to that many, aligned as their type asks; it is not
- * NULL, also where that number is 0; and what a call may change (record, area, out) does not overlap anything else that the call is lent, and
- * no other thread uses it meanwhile. The record must be writable in every call that takes it, a read and a refusal included: such a call may
- * write words again as they are. A call takes less than 64 kB of stack, as measured. size_t
- * has 64 bits.
+ * NULL, also where that number is 0; and what a call may change (record, area, out; head and points of zbk_read_text) does not overlap anything
+ * else that the call is lent, and no other thread uses it meanwhile. The record must be writable in every call that takes it, a read and a
+ * refusal included: such a call may write words again as they are. A call takes less than 64 kB of stack, as measured; where
+ * the C library's functions are bound late, the dynamic linker takes 3 kB more in the first call. size_t has 64 bits.
  *
  * Lists of shares and packets are one buffer each, the pieces one after another in the order of their list of boards.
  */
@@ -40,31 +40,32 @@
 extern "C" {
 #endif
 
-/* Limits of the sizes, and the words of a record. */
+/* Limits of the sizes, and the words of a record and of a text's head. */
 enum {
     ZBK_MAX_BOARDS = 32,
     ZBK_MAX_STRIPES = 4096,
-    ZBK_RECORD_WORDS = 12
+    ZBK_RECORD_WORDS = 12,
+    ZBK_HEAD_WORDS = 6
 };
 
 /* Why a call was refused. Where several hold, the first is given: of the store in the order 1, 2, 3, 8, 4, 5, 6, 14, 9, 7, 10, at board level
- * in the order 1, 3, 4, 5, 6, 2, 7, 10. 11 is not used: no call answers it. */
+ * in the order 12, 1, 3, 13, 4, 5, 6, 2, 7, 10. 11 is not used: no call answers it. */
 enum zbk_refusal_number {
     /* The call was accepted. */
     ZBK_ACCEPTED = 0,
     /* The sizes are not legal, the capacity is not 1 to 4,096 stripes, the record is one that no call hands out, the points repeat, or one from
-     * n up is not 00. A record of another number of words than 12 and a list of points of another length than 32 are refused with it before
-     * all else. */
+     * n up is not 00. A record of another number of words than 12, a text's head of another than 6 and a list of points of another length than
+     * 32 are refused with it before all else. */
     ZBK_SIZE = 1,
     /* The area, or a slice of shares or packets, has another length than the sizes give. */
     ZBK_AREA = 2,
     /* The file is longer than the store's capacity, or than 4,096 stripes at board level. */
     ZBK_LONG = 3,
-    /* A list has the wrong number of boards, or there are not 1 to r fresh boards. */
+    /* A list has the wrong number of boards, there are not 1 to r fresh boards, or the texts to gather are not k. */
     ZBK_COUNT = 4,
     /* A board number is n or more. */
     ZBK_NODE = 5,
-    /* A board is named twice where each must be another one. */
+    /* A board is named twice where each must be another one, or two texts to gather are of one board. */
     ZBK_REPEAT = 6,
     /* The output is shorter than what is to be written. */
     ZBK_SHORT = 7,
@@ -74,6 +75,10 @@ enum zbk_refusal_number {
     ZBK_DOWN = 9,
     /* No file of this length has these shares. */
     ZBK_DISAGREE = 10,
+    /* The text is none that zbk_share_text writes. */
+    ZBK_TEXT = 12,
+    /* The texts differ in sizes, points or length. */
+    ZBK_MIXED = 13,
     /* A fresh board is in service. */
     ZBK_SERVING = 14
 };
@@ -96,6 +101,16 @@ enum zbk_record_word {
     ZBK_WORD_MARKS = 7,
     /* four words, 8 to 11: word 8 + q has the points of boards 8q to 8q + 7, the lowest byte first */
     ZBK_WORD_POINTS = 8
+};
+
+/* The words of a text's head, by place: its sizes, its board, and the length of the file. */
+enum zbk_head_word {
+    ZBK_HEAD_N = 0,
+    ZBK_HEAD_K = 1,
+    ZBK_HEAD_D = 2,
+    ZBK_HEAD_R = 3,
+    ZBK_HEAD_NODE = 4,
+    ZBK_HEAD_LENGTH = 5
 };
 
 /* The refusal's number in an answer: 0 where the call was accepted. */
@@ -145,6 +160,18 @@ uint64_t zbk_finished_share(size_t n, size_t k, size_t d, size_t r, const uint8_
  * the n boards where they are not 0 to n - 1 in order: two bytes for each byte of the share and at most 200 more. */
 uint64_t zbk_share_text(size_t n, size_t k, size_t d, size_t r, const uint8_t *points, size_t points_len, size_t length, size_t node,
                         const uint8_t *share, size_t share_len, uint8_t *out, size_t out_len);
+
+/* Reads one text of zbk_share_text: the six words of its head, its 32 points, whether a line has them or not, and its share, S(2d + r - 1) bytes, to
+ * the first bytes of out; half as many bytes as the text are always enough. Only the bytes that zbk_share_text can write are a text, all of them
+ * and nothing behind. Refused with ZBK_SIZE where the head has not 6 words or the points not 32 bytes, then with ZBK_TEXT, then with ZBK_SHORT;
+ * head, points and out are then as they were. */
+uint64_t zbk_read_text(const uint8_t *text, size_t text_len, uint64_t *head, size_t head_words, uint8_t *points, size_t points_len,
+                       uint8_t *out, size_t out_len);
+
+/* The file of k texts that stand one after another in one buffer, in any order, with nothing between or behind them, to the first bytes of out;
+ * reports its length. Half as many bytes as the texts are always enough. Refused in the order 12, 13, 4, 6, 7, 10: ZBK_TEXT is asked of all bytes
+ * before ZBK_MIXED of any text, and that before ZBK_COUNT; no text at all is ZBK_COUNT. */
+uint64_t zbk_gather(const uint8_t *text, size_t text_len, uint8_t *out, size_t out_len);
 
 /* The store: a record of twelve words, and an area of n * capacity * (2d + r - 1) bytes that holds the boards one after another. Each call is
  * given the record and the area as the last call left them. */

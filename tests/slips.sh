@@ -60,7 +60,7 @@ failed=0
 for edit; do
     name=$(basename "$edit" .edit)
     if reported "tests/slips/$name.edit"; then
-        echo "ok $name: $(grep -m 1 '^MISMATCH' "$work/log" | cut -c 1-100)"
+        printf "ok %s: %s\n" "$name" "$(grep -m 1 "^MISMATCH" "$work/log" | cut -c 1-100)"
     else
         echo "FAIL $name: it was not reported"
         failed=$((failed + 1))

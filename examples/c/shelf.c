@@ -4,6 +4,9 @@
  * only; and the share of one of them is printed. Every answer is checked; the program ends with 0 only where the file came back as it was written,
  * on both robots.
  *
+ * Three of its shares are also written as texts, as before boards are pulled for the workshop, and loaded again: one for its share, all three for
+ * the file.
+ *
  * Build, from the top folder:  cc -std=c11 -Iinclude examples/c/shelf.c target/staticlib/libzebrankai.a -o shelf
  */
 #include "zebrankai.h"
@@ -76,6 +79,47 @@ static int print_text(const uint64_t *record, const uint8_t *points, const uint8
     return strstr(text, "points=") != NULL;
 }
 
+/* bytes that are enough for the text of a share */
+enum { TEXT = 2 * CAPACITY * SHARE + 200 };
+
+/* Loads a text again; gives whether it says what it was written from. */
+static int load_share(const uint8_t *text, size_t text_len, const uint8_t *points, const uint8_t *area, size_t board, size_t length) {
+    uint64_t head[ZBK_HEAD_WORDS];
+    uint8_t said[ZBK_MAX_BOARDS], share[TEXT / 2];
+    const uint64_t share_len =
+        accepted("a text", zbk_read_text(text, text_len, head, ZBK_HEAD_WORDS, said, sizeof said, share, sizeof share));
+    refused("no text", zbk_read_text(text, 0, head, ZBK_HEAD_WORDS, said, sizeof said, share, sizeof share), ZBK_TEXT);
+    return head[ZBK_HEAD_N] == N && head[ZBK_HEAD_K] == K && head[ZBK_HEAD_D] == D && head[ZBK_HEAD_R] == R &&
+           head[ZBK_HEAD_NODE] == board && head[ZBK_HEAD_LENGTH] == length && memcmp(said, points, sizeof said) == 0 &&
+           share_len == (length + STRIPE - 1) / STRIPE * SHARE && memcmp(share, area + board * CAPACITY * SHARE, share_len) == 0;
+}
+
+/* Writes the shares of K boards as texts, one after another, and loads them again; gives whether the file came back. */
+static int write_and_load(const uint8_t *points, const uint8_t *area, const size_t *boards, uint8_t *out, size_t length) {
+    static uint8_t texts[K * TEXT];
+    const size_t share_len = (length + STRIPE - 1) / STRIPE * SHARE;
+    size_t texts_len = 0, last_len = 0;
+    int same = 1;
+    for (size_t i = 0; i < K; i++) {
+        uint8_t *text = texts + texts_len;
+        last_len = accepted("a share as text", zbk_share_text(N, K, D, R, points, ZBK_MAX_BOARDS, length, boards[i],
+                                                              area + boards[i] * CAPACITY * SHARE, share_len, text, TEXT));
+        same &= load_share(text, last_len, points, area, boards[i], length);
+        texts_len += last_len;
+    }
+    memset(out, 0, length);
+    const uint64_t gathered = accepted("gathering", zbk_gather(texts, texts_len, out, length));
+    same &= gathered == length && memcmp(out, stock, length) == 0;
+    printf("loaded from the texts of boards %zu, %zu and %zu: %s\n", boards[0], boards[1], boards[2],
+           same ? "the file as it was written" : "ANOTHER FILE");
+
+    /* a text too few, a text that is cut, and none */
+    refused("two texts", zbk_gather(texts, texts_len - last_len, out, length), ZBK_COUNT);
+    refused("a text that is cut", zbk_gather(texts, texts_len - 1, out, length), ZBK_TEXT);
+    refused("no texts", zbk_gather(texts, 0, out, length), ZBK_COUNT);
+    return same;
+}
+
 /* The stock file on one robot, over an area and an output that are lent; gives whether all was as it must be. */
 static int robot(const uint8_t *points, uint8_t *area, uint8_t *out, size_t length) {
     uint64_t record[ZBK_RECORD_WORDS] = {0};
@@ -105,6 +149,8 @@ static int robot(const uint8_t *points, uint8_t *area, uint8_t *out, size_t leng
     accepted("read", zbk_read(record, ZBK_RECORD_WORDS, area, AREA, readers, K, out, length));
     const int same = memcmp(out, stock, length) == 0;
     printf("read from boards 4, 1 and 6: %s\n", same ? "the file as it was written" : "ANOTHER FILE");
+
+    if (!write_and_load(points, area, readers, out, length)) return 0;
 
     /* the text says the points where board i has another one than i */
     const int said = print_text(record, points, area, 4) == (points[0] != 0);

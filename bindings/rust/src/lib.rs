@@ -46,6 +46,7 @@ mod points;
 mod record;
 mod refusal;
 mod sizes;
+mod text;
 
 pub use points::Points;
 pub use record::{Record, RECORD_WORDS};

@@ -4,7 +4,7 @@ use std::error::Error;
 use std::fmt;
 
 /// Why a call was refused. Where several hold, the first is given: of the store in the order 1, 2, 3, 8, 4, 5, 6, 14, 9, 7, 10, at board
-/// level in the order 1, 3, 4, 5, 6, 2, 7, 10. 11 is not used: no call answers it.
+/// level in the order 12, 1, 3, 13, 4, 5, 6, 2, 7, 10. 11 is not used: no call answers it.
 #[derive(Clone, Copy, Debug, PartialEq, Eq, Hash)]
 #[repr(u8)]
 pub enum Refusal {
@@ -15,7 +15,7 @@ pub enum Refusal {
     Area = 2,
     /// The file is too long.
     Long = 3,
-    /// A list has the wrong number of boards, or there are not 1 to r fresh boards.
+    /// A list has the wrong number of boards, or there are not 1 to r fresh boards, or the texts to gather are not k.
     Count = 4,
     /// A board number is n or more.
     Node = 5,
@@ -29,13 +29,17 @@ pub enum Refusal {
     Down = 9,
     /// The shares belong to no file of this length.
     Disagree = 10,
+    /// The text is none that [`share_text`](crate::board::share_text) writes.
+    Text = 12,
+    /// The texts differ in sizes, points or length.
+    Mixed = 13,
     /// A fresh board is in service.
     Serving = 14,
 }
 
 impl Refusal {
     /// All refusals, in the order of their numbers.
-    pub const ALL: [Refusal; 11] = [
+    pub const ALL: [Refusal; 13] = [
         Refusal::Size,
         Refusal::Area,
         Refusal::Long,
@@ -46,6 +50,8 @@ impl Refusal {
         Refusal::Empty,
         Refusal::Down,
         Refusal::Disagree,
+        Refusal::Text,
+        Refusal::Mixed,
         Refusal::Serving,
     ];
 
@@ -72,6 +78,8 @@ impl Refusal {
             Refusal::Empty => "EMPTY",
             Refusal::Down => "DOWN",
             Refusal::Disagree => "DISAGREE",
+            Refusal::Text => "TEXT",
+            Refusal::Mixed => "MIXED",
             Refusal::Serving => "SERVING",
         }
     }
@@ -85,13 +93,17 @@ impl Refusal {
             }
             Refusal::Area => "The area, or a slice of shares or packets, has another length than the sizes give.",
             Refusal::Long => "The file is longer than the store's capacity, or than 4,096 stripes at board level.",
-            Refusal::Count => "A list has the wrong number of boards, or there are not 1 to r fresh boards.",
+            Refusal::Count => "A list has the wrong number of boards, or there are not 1 to r fresh boards, or the texts to gather are not k.",
             Refusal::Node => "A board number is n or more.",
-            Refusal::Repeat => "A board is named twice where each must be another one.",
+            Refusal::Repeat => {
+                "A board is named twice where each must be another one, or two texts to gather are of one board."
+            }
             Refusal::Short => "The output is shorter than what is to be written.",
             Refusal::Empty => "A repair or a read before any file was written.",
             Refusal::Down => "A board to read from, a helper or a stand-in is out of service.",
             Refusal::Disagree => "No file of this length has these shares.",
+            Refusal::Text => "The text is none that zbk_share_text writes.",
+            Refusal::Mixed => "The texts differ in sizes, points or length.",
             Refusal::Serving => "A fresh board is in service.",
         }
     }

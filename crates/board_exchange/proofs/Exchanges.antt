@@ -43,11 +43,11 @@ module _ (z : Sizes) (xs : List ℕ) (L board : ℕ) (helpers packets : List ℕ
   unfolding exchangeLines
   exchanges h =
       let e = first-clear (exchangeLines z xs L board helpers packets receiver output) boardOrder h in
-      let k = e .1 .1 in
+      let k = e .1 .1 .1 .1 in
       let known = below-all (z .n) (board ∷ receiver ∷ helpers) (not-no _ (k .1 .0)) in
       record {
-        stated = stated-of z xs L (e .0) (e .1 .0);
-        points-taken = taken-of z xs (e .0);
+        stated = stated-of z xs L (e .1 .0) (e .1 .1 .0);
+        points-taken = taken-of z xs (e .1 .0);
         enough = eqb-true _ _ (alls-hold (eqb (length helpers) (z .d) ∷ []) (not-no _ (k .0)) .0);
         known = all-below (z .n) helpers (known .1 .1);
         once = different-cons receiver helpers (different-cons board (receiver ∷ helpers) (not-no _ (k .1 .1 .0)) .1) .1;

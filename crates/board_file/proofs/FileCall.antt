@@ -80,17 +80,17 @@ module _ (z : Sizes) (xs : List ℕ) (L : ℕ) (boards held output : List ℕ) w
   unfolding fileLines
   file-readable h =
       let e = first-clear (fileLines z xs L boards held output) boardOrder h in
-      let f = e .1 .1 in
-      readable z xs L boards (length held) (stated-of z xs L (e .0) (e .1 .0)) (taken-of z xs (e .0))
+      let f = e .1 .1 .1 .1 in
+      readable z xs L boards (length held) (stated-of z xs L (e .1 .0) (e .1 .1 .0)) (taken-of z xs (e .1 .0))
       (rw (f .0)) (rw (f .1 .0)) (rw (f .1 .1 .0)) (rw (f .1 .1 .1 .0))
 
   pub file-room : checked ≡ Pass → L ≤ length output
   unfolding fileLines
-  file-room h = ltb-false _ _ (first-clear (fileLines z xs L boards held output) boardOrder h .1 .1 .1 .1 .1 .1 .0)
+  file-room h = ltb-false _ _ (first-clear (fileLines z xs L boards held output) boardOrder h .1 .1 .1 .1 .1 .1 .1 .1 .0)
 
   file-agrees : checked ≡ Pass → given (readFile z xs L boards held) ≡ true
   unfolding fileLines
-  file-agrees h = not-no _ (first-clear (fileLines z xs L boards held output) boardOrder h .1 .1 .1 .1 .1 .1 .1 .0)
+  file-agrees h = not-no _ (first-clear (fileLines z xs L boards held output) boardOrder h .1 .1 .1 .1 .1 .1 .1 .1 .1 .0)
 
   pub file-refuses : {x : Refusal} → checked ≡ Refuse x → outcome (Refused x) output ≡ fileCall z xs L boards held output
   unfolding fileCall

@@ -44,13 +44,13 @@ module _ (z : Sizes) (xs : List ℕ) (L board : ℕ) (helpers packets partners e
   unfolding finishedLines
   finishes h =
       let e = first-clear (finishedLines z xs L board helpers packets partners exchanges output) boardOrder h in
-      let k = e .1 .1 in
+      let k = e .1 .1 .1 .1 in
       let counts = alls-hold (eqb (length helpers) (z .d) ∷ eqb (length partners) (z .r - 1) ∷ []) (not-no _ (k .0)) in
       let lents = eqb (length packets) (z .d * (2 * stripes z L)) ∷ eqb (length exchanges) ((z .r - 1) * stripes z L) ∷ [] in
       let lengths = alls-hold lents (not-no _ (k .1 .1 .1 .0)) in
       record {
-        stated = stated-of z xs L (e .0) (e .1 .0);
-        points-taken = taken-of z xs (e .0);
+        stated = stated-of z xs L (e .1 .0) (e .1 .1 .0);
+        points-taken = taken-of z xs (e .1 .0);
         helpers-enough = eqb-true _ _ (counts .0);
         partners-enough = eqb-true _ _ (counts .1 .0);
         known = not-no _ (k .1 .0);

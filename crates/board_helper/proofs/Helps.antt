@@ -39,11 +39,11 @@ module _ (z : Sizes) (xs : List ℕ) (L helper receiver : ℕ) (held output : Li
   unfolding helperLines
   helps h =
       let e = first-clear (helperLines z xs L helper receiver held output) boardOrder h in
-      let k = e .1 .1 .1 in
+      let k = e .1 .1 .1 .1 .1 in
       let known = below-all (z .n) (helper ∷ receiver ∷ []) (not-no _ (k .0)) in
       record {
-        stated = stated-of z xs L (e .0) (e .1 .0);
-        points-taken = taken-of z xs (e .0);
+        stated = stated-of z xs L (e .1 .0) (e .1 .1 .0);
+        points-taken = taken-of z xs (e .1 .0);
         helper-known = known .0;
         receiver-known = known .1 .0;
         held-is = eqb-true _ _ (alls-hold (eqb (length held) (stripes z L * α z) ∷ []) (not-no _ (k .1 .1 .0)) .0);

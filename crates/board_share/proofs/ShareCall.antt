@@ -38,10 +38,10 @@ module _ (z : Sizes) (xs : List ℕ) (node : ℕ) (file output : List ℕ) where
   share-facts h =
       let e = first-clear (shareLines z xs node file output) boardOrder h in
       record {
-        stated = stated-of z xs (length file) (e .0) (e .1 .0);
-        points-taken = taken-of z xs (e .0);
-        known = below-all (z .n) (node ∷ []) (not-no _ (e .1 .1 .1 .0)) .0;
-        room = ltb-false _ _ (e .1 .1 .1 .1 .1 .1 .0);
+        stated = stated-of z xs (length file) (e .1 .0) (e .1 .1 .0);
+        points-taken = taken-of z xs (e .1 .0);
+        known = below-all (z .n) (node ∷ []) (not-no _ (e .1 .1 .1 .1 .1 .0)) .0;
+        room = ltb-false _ _ (e .1 .1 .1 .1 .1 .1 .1 .1 .0);
       }
 
   pub share-refuses : {x : Refusal} → checked ≡ Refuse x → outcome (Refused x) output ≡ shareCall z xs node file output

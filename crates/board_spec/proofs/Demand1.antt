@@ -21,7 +21,7 @@ use Rattle.sizes.specs.declared.Answer.the-variants.{Done, Refused}
 use Rattle.sizes.specs.declared.Check.{Check}
 use Rattle.sizes.specs.declared.Check.the-variants.{Pass, Refuse}
 use Rattle.sizes.specs.declared.Refusal.{Refusal}
-use Rattle.sizes.specs.declared.Refusal.the-variants.{Size, Area, Long, Count, Node, Repeat, Short, Disagree}
+use Rattle.sizes.specs.declared.Refusal.the-variants.{Size, Area, Long, Count, Node, Repeat, Short, Disagree, Text, Mixed}
 use Rattle.sizes.specs.declared.Sizes.{Sizes}
 use Rattle.sizes.proofs.Legal.{Legal, legal-facts}
 use Rattle.sizes.proofs.Lines.{Clear, clear-first, refuse-first, one-or-none, says-not, says-less, says-one, says-two, says-no-file}
@@ -44,8 +44,8 @@ use Rattle.board_spec.proofs.Runs.{legal-of, points-of, named}
 -- ---- lines that do not hold
 
 -- the order up to SHORT
-abbrev seven : List Refusal → List Refusal
-seven rest = Size ∷ Long ∷ Count ∷ Node ∷ Repeat ∷ Area ∷ Short ∷ rest
+abbrev nine : List Refusal → List Refusal
+nine rest = Text ∷ Size ∷ Long ∷ Mixed ∷ Count ∷ Node ∷ Repeat ∷ Area ∷ Short ∷ rest
 
 -- the lines that the proofs ask
 record Passed (lines : List Line) : Type 0 where
@@ -55,13 +55,13 @@ record Passed (lines : List Line) : Type 0 where
   repeat : appliesIn lines Repeat ≡ false
   short : appliesIn lines Short ≡ false
 
-passed : (lines : List Line) (rest : List Refusal) → Clear lines (seven rest) → Passed lines
+passed : (lines : List Line) (rest : List Refusal) → Clear lines (nine rest) → Passed lines
 passed lines rest h = record {
-  size = h .0;
-  count = h .1 .1 .0;
-  node = h .1 .1 .1 .0;
-  repeat = h .1 .1 .1 .1 .0;
-  short = h .1 .1 .1 .1 .1 .1 .0;
+  size = h .1 .0;
+  count = h .1 .1 .1 .1 .0;
+  node = h .1 .1 .1 .1 .1 .0;
+  repeat = h .1 .1 .1 .1 .1 .1 .0;
+  short = h .1 .1 .1 .1 .1 .1 .1 .1 .0;
 }
 
 -- what COUNT asks
@@ -134,23 +134,25 @@ clear lines x h (inr e) = e
 module _ (lines : List Line) (h : Only lines) where
   only-passed : Passed lines
   only-passed = record {
-    size = clear lines Size (omega arith) (h .0);
-    count = clear lines Count (omega arith) (h .1 .1 .0);
-    node = clear lines Node (omega arith) (h .1 .1 .1 .0);
-    repeat = clear lines Repeat (omega arith) (h .1 .1 .1 .1 .0);
-    short = clear lines Short (omega arith) (h .1 .1 .1 .1 .1 .1 .0);
+    size = clear lines Size (omega arith) (h .1 .0);
+    count = clear lines Count (omega arith) (h .1 .1 .1 .1 .0);
+    node = clear lines Node (omega arith) (h .1 .1 .1 .1 .1 .0);
+    repeat = clear lines Repeat (omega arith) (h .1 .1 .1 .1 .1 .1 .0);
+    short = clear lines Short (omega arith) (h .1 .1 .1 .1 .1 .1 .1 .1 .0);
   }
 
   only-first : first boardOrder lines ≡ pick (appliesIn lines Disagree) (Refuse Disagree) Pass
   only-first =
       let p1 = only-passed .size in
-      let p2 = clear lines Long (omega arith) (h .1 .0) in
+      let p2 = clear lines Long (omega arith) (h .1 .1 .0) in
       let p3 = only-passed .count in
       let p4 = only-passed .node in
       let p5 = only-passed .repeat in
-      let p6 = clear lines Area (omega arith) (h .1 .1 .1 .1 .1 .0) in
+      let p6 = clear lines Area (omega arith) (h .1 .1 .1 .1 .1 .1 .1 .0) in
       let p7 = only-passed .short in
-      rw (p1, p2, p3, p4, p5, p6, p7)
+      let p8 = clear lines Text (omega arith) (h .0) in
+      let p9 = clear lines Mixed (omega arith) (h .1 .1 .1 .0) in
+      rw (p8, p1, p2, p9, p3, p4, p5, p6, p7)
 
 -- the outcome of a call that found this file, or none
 abbrev outcome : Option (List ℕ) → List ℕ → BoardOutcome
@@ -335,18 +337,24 @@ module _ (z : Sizes) (xs file boards output : List ℕ) (ok : legal z ≡ true) 
   reader-gives =
       let held : List ℕ = shares z xs file boards in
       let c : first boardOrder (fileLines z xs (length file) boards held output) ≡ Pass = clear-first (fileLines z xs (length file) boards held output) boardOrder (
-        ap not (hold-alls (legal z ∷ pointed z xs ∷ []) (ok, (taken, tt))),
+        refl,
         (
-          le-ltb _ _ few,
+          ap not (hold-alls (legal z ∷ pointed z xs ∷ []) (ok, (taken, tt))),
           (
-            ap not (hold-alls (eqb (length boards) (z .k) ∷ []) (eq-eqb _ _ (h .0), tt)),
+            le-ltb _ _ few,
             (
-              ap not (h .1),
+              refl,
               (
-                ap not (h .2),
+                ap not (hold-alls (eqb (length boards) (z .k) ∷ []) (eq-eqb _ _ (h .0), tt)),
                 (
-                  ap not (hold-alls (eqb (length held) (z .k * (stripes z (length file) * α z)) ∷ []) (eq-eqb _ _ shares-long, tt)),
-                  (le-ltb _ _ room, (ap (λ (o : Option (List ℕ)). not (given o)) found-file, tt)),
+                  ap not (h .1),
+                  (
+                    ap not (h .2),
+                    (
+                      ap not (hold-alls (eqb (length held) (z .k * (stripes z (length file) * α z)) ∷ []) (eq-eqb _ _ shares-long, tt)),
+                      (le-ltb _ _ room, (ap (λ (o : Option (List ℕ)). not (given o)) found-file, tt)),
+                    ),
+                  ),
                 ),
               ),
             ),

@@ -93,7 +93,7 @@ record Passed (lines : List Line) : Type 0 where
   repeat : appliesIn lines Repeat ≡ false
 
 passed : (lines : List Line) → first boardOrder lines ≡ Pass → Passed lines
-passed lines h = let e = first-clear lines boardOrder h in record { size = e .0; node = e .1 .1 .1 .0; repeat = e .1 .1 .1 .1 .0 }
+passed lines h = let e = first-clear lines boardOrder h in record { size = e .1 .0; node = e .1 .1 .1 .1 .1 .0; repeat = e .1 .1 .1 .1 .1 .1 .0 }
 
 module _ (z : Sizes) (xs : List ℕ) (L : ℕ) where
   file-apart : (boards held output : List ℕ)

@@ -52,13 +52,13 @@ module _ (z : Sizes) (xs : List ℕ) (L node : ℕ) (held output : List ℕ) whe
   unfolding textLines
   text-writes h =
       let e = first-clear (textLines z xs L node held output) boardOrder h in
-      writes z xs L node (length held) (stated-of z xs L (e .0) (e .1 .0)) (taken-of z xs (e .0) .long) (rw (e .1 .1 .1 .0)) (rw (e .1 .1 .1 .1 .1 .0))
+      writes z xs L node (length held) (stated-of z xs L (e .1 .0) (e .1 .1 .0)) (taken-of z xs (e .1 .0) .long) (rw (e .1 .1 .1 .1 .1 .0)) (rw (e .1 .1 .1 .1 .1 .1 .1 .0))
 
   pub text-fits : checked ≡ Pass → Fits z xs L node held output
   unfolding textLines
   text-fits h =
       let e = first-clear (textLines z xs L node held output) boardOrder h in
-      record { has-points = text-writes h .has-points; has-room = ltb-false _ _ (e .1 .1 .1 .1 .1 .1 .0) }
+      record { has-points = text-writes h .has-points; has-room = ltb-false _ _ (e .1 .1 .1 .1 .1 .1 .1 .1 .0) }
 
   pub text-refuses : {x : Refusal} → checked ≡ Refuse x → outcome (Refused x) output ≡ textCall z xs L node held output
   unfolding textCall

@@ -28,7 +28,7 @@ module _ (z : Sizes) (xs : List ℕ) where
   stated-of L e l = record { is-legal = size-facts z xs e .0; not-long = ltb-false _ _ l }
 
   pub stated-facts : (L : ℕ) → first boardOrder (statedLines z xs L) ≡ Pass → Stated z L
-  stated-facts L h = let e = first-clear (statedLines z xs L) boardOrder h in stated-of L (e .0) (e .1 .0)
+  stated-facts L h = let e = first-clear (statedLines z xs L) boardOrder h in stated-of L (e .1 .0) (e .1 .1 .0)
 
 -- what kernels ask of points
 pub record Taken (z : Sizes) (xs : List ℕ) : Type 0 where
@@ -43,7 +43,7 @@ module _ (z : Sizes) (xs : List ℕ) where
   taken-of e = let f = size-facts z xs e in taken (f .0) (f .1)
 
   pub taken-facts : (L : ℕ) → first boardOrder (statedLines z xs L) ≡ Pass → Taken z xs
-  taken-facts L h = taken-of (first-clear (statedLines z xs L) boardOrder h .0)
+  taken-facts L h = taken-of (first-clear (statedLines z xs L) boardOrder h .1 .0)
 
 -- a call whose check refuses answers so and leaves its output
 pub refused-by : {c : Check} {x : Refusal} (bytes output : List ℕ) → c ≡ Refuse x → outcome (Refused x) output ≡ settled c bytes output

@@ -1,4 +1,4 @@
--- The ledger's figures: antt computes them.
+-- The ledger's figures, and those of repairs with stand-ins: antt computes them.
 -- Assumes nothing.
 use mathlib.Core.Path.{refl}
 use Rattle.lists.specs.Lists.{piece, put}
@@ -13,6 +13,7 @@ use Rattle.store_spec.specs.Calls.{writeLines, loseLines, listLines, repairLine
 use Rattle.store_spec.specs.Ledger.{bookLines, accept, enter, act}
 use Rattle.store_spec.proofs.Tested.{allow}
 use Rattle.ledger_figures.specs.LedgerFigures.{start, opened, steps, LedgerFigures}
+use Rattle.ledger_figures.specs.RepairFigures.{RepairFigures}
 
 pub ledger-figures : LedgerFigures
 unfolding piece put add product reduce mul squares inverse legal B stripes pointed stripe grid F neighbours symbols kept share shares seconds received exchanged ownF
@@ -24,4 +25,19 @@ ledger-figures = record {
   book-replies = refl;
   store-replies = refl;
   book-after = refl;
+}
+
+pub repair-figures : RepairFigures
+unfolding piece put add product reduce mul squares inverse legal B stripes pointed stripe grid F neighbours symbols kept share shares seconds received exchanged ownF
+    ownG helperPair helperPacket standInPacket gFrom exchangePacket fFrom finishedStripe finishedShare through bColumn cRow aColumn decodedStripe decodedFile
+    readFile sound helperPackets standInPackets exchangePackets partnerPackets repairPackets freshShare writeLines loseLines listLines repairLines readLines setUpCall writeCall loseCall
+    repairCall readCall
+repair-figures = record {
+  stand-in-packets = refl;
+  stand-in-senders = refl;
+  stand-in-repair = refl;
+  mixed-packets = refl;
+  mixed-senders = refl;
+  mixed-repair = refl;
+  stands-in-twice = refl;
 }

@@ -31,7 +31,8 @@ pub fn start() -> PointReader
     }
 }
 
-fn is_hexadecimal(b: u8) -> bool
+// Whether a byte is one of 0 to 9 and a to f.
+pub fn is_hexadecimal(b: u8) -> bool
     ensures { λ r. ⌜ r ≡ hexadecimal b ⌝ }
 {
     if b < 48 {
@@ -46,7 +47,8 @@ fn is_hexadecimal(b: u8) -> bool
     b < 103
 }
 
-fn digit_value(b: u8) -> u8
+// The value of such a digit.
+pub fn digit_value(b: u8) -> u8
     requires { ⌜ hexadecimal b ≡ true ⌝ }
     ensures { λ r. ⌜ r ≡ digitValue b ⌝ }
 {

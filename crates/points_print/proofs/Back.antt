@@ -15,35 +15,10 @@ use Rattle.lists.specs.Lists.{Bytes, joined}
 use Rattle.number_lines.proofs.Picks.{yes, no}
 use Rattle.board_spec.specs.Text.{hexDigit, hexPair}
 use Rattle.point_lines.specs.Lines.{hexadecimal, digitValue, readDigit, readName, readPairs, readPoints}
+use Rattle.text_spec.proofs.Back.{digit-back, pair-spelled}
 use Rattle.points_print.specs.Laws.{pointsText, PointsStart}
 
 -- ---- digits
-
--- a digit is what is written for its value
-digit-back : (b : ℕ) → hexadecimal b ≡ true → (digitValue b < 16) × (b ≡ hexDigit (digitValue b))
-digit-back b h = go (ltb b 0x30) refl (ltb b 0x3A) refl (ltb b 0x61) refl (ltb b 0x67) refl h
-  where
-    go : (s : Bool) → ltb b 0x30 ≡ s → (t : Bool) → ltb b 0x3A ≡ t → (u : Bool) → ltb b 0x61 ≡ u → (v : Bool) → ltb b 0x67 ≡ v
-        → pick s false (pick t true (pick u false v)) ≡ true → (digitValue b < 16) × (b ≡ hexDigit (digitValue b))
-    go true e t f u g v k q = let z : _≡_ {A = ℕ} 0 1 = cc in absurd (omega arith)
-    go false e true f u g v k q =
-        let low = ltb-false b 0x30 e in
-        let high = ltb-true b 0x3A f in
-        rw f (omega arith, rw (lt-ltb (b - 0x30) 10 (omega arith)) (omega arith))
-    go false e false f true g v k q = let z : _≡_ {A = ℕ} 0 1 = cc in absurd (omega arith)
-    go false e false f false g false k q = let z : _≡_ {A = ℕ} 0 1 = cc in absurd (omega arith)
-    go false e false f false g true k q =
-        let low = ltb-false b 0x61 g in
-        let high = ltb-true b 0x67 k in
-        rw f (omega arith, rw (le-ltb (b - 0x57) 10 (omega arith)) (omega arith))
-
-pair-spelled : (h l : ℕ) → h < 16 → l < 16 → hexPair (16 * h + l) ≡ hexDigit h ∷ hexDigit l ∷ []
-pair-spelled h l p q =
-    let e = div-add-mod' (16 * h + l) 16 in
-    let r : (16 * h + l) % 16 < 16 = mod-lt (16 * h + l) (omega arith) in
-    let dv : (16 * h + l) / 16 ≡ h = omega (arith, e, r, p, q) in
-    let md : (16 * h + l) % 16 ≡ l = omega (arith, e, r, p, q) in
-    ap₂ {C = List ℕ} (λ (a b : ℕ). hexDigit a ∷ hexDigit b ∷ []) dv md
 
 two-digits : (a b : ℕ) → hexadecimal a ≡ true → hexadecimal b ≡ true → a ∷ b ∷ [] ≡ hexPair (16 * digitValue a + digitValue b)
 two-digits a b e f =

@@ -15,14 +15,10 @@ use Rattle.number_lines.proofs.Picks.{yes, no, if-lt, if-le, if-ne}
 use Rattle.board_spec.specs.Text.{hexDigit, hexPair, textLine}
 use Rattle.board_spec.proofs.Text.{text-laws}
 use Rattle.point_lines.specs.Lines.{hexadecimal, digitValue, readDigit, readPairs, readPoints}
+use Rattle.text_spec.proofs.Forms.{digit-yes}
 use Rattle.points_print.specs.Laws.{pointsText}
 
 -- ---- digits
-
-digit-yes : (c : ℕ) → ((0x30 ≤ c) × (c ≤ 0x39)) ⊎ ((0x61 ≤ c) × (c ≤ 0x66)) → hexadecimal c ≡ true
-digit-yes c (inl h) = if-le c 0x30 _ _ (h .0) ∙ if-lt c 0x3A _ _ (omega (arith, h .1))
-digit-yes c (inr h) =
-    if-le c 0x30 _ _ (omega (arith, h .0)) ∙ if-le c 0x3A _ _ (omega (arith, h .0)) ∙ if-le c 0x61 _ _ (h .0) ∙ lt-ltb c 0x67 (omega (arith, h .1))
 
 record Spelled (b : ℕ) : Type 0 where
   high : hexadecimal (hexDigit (b / 16)) ≡ true

@@ -101,10 +101,10 @@ module _ (z : Sizes) (xs : List ℕ) (node : ℕ) (file area : List ℕ) where
     passing Pass p e =
         let d = done-taken v (share z xs file node) area after e in
         let h = first-clear (shareLines z xs node file area) boardOrder p in
-        let ok = size-facts z xs (h .0) in
-        let known = lt-ltb node (z .n) (below-all (z .n) (node ∷ []) (not-no _ (h .1 .1 .1 .0)) .0) in
+        let ok = size-facts z xs (h .1 .0) in
+        let known = lt-ltb node (z .n) (below-all (z .n) (node ∷ []) (not-no _ (h .1 .1 .1 .1 .1 .0)) .0) in
         let whole = eq-eqb _ _ (ap length (d .0) ∙ length-share z xs (legal-facts z (ok .0)) file node) in
-        (d .1, λ l. text-written z xs (length file) node (take v after) l (text-first z xs (length file) node (take v after) l (ok .0) (ok .1) (h .1 .0) known whole))
+        (d .1, λ l. text-written z xs (length file) node (take v after) l (text-first z xs (length file) node (take v after) l (ok .0) (ok .1) (h .1 .1 .0) known whole))
 
     -- that it is done leaves only room to ask of the text
     pub share-done : outcome (Done v) after ≡ shareCall z xs node file area

@@ -18,7 +18,7 @@ use sizes::Refusal;
 use sizes::Sizes;
 
 // Where shares of so many bytes start.
-fn starts(share: usize, out: &mut [usize])
+pub fn starts(share: usize, out: &mut [usize])
     requires { ⌜ (share ≤ 253952) × (length (now out) ≤ 32) ⌝ }
     ensures { λ _. ⌜ now (out .exit) ≡ tabulate (length (now (out .entry))) (λ t. t * share) ⌝ }
 {

@@ -8,7 +8,7 @@ use Prim.Native.Nat.{ℕ, _≤_}
 use native.Mathlib.Omega.{arith}
 use Rattle.sizes.specs.declared.Sizes.{Sizes}
 use Rattle.sizes.specs.declared.Refusal.{Refusal}
-use Rattle.sizes.specs.declared.Refusal.the-variants.{Size, Area, Long, Count, Node, Repeat, Short, Empty, Down, Disagree, Serving}
+use Rattle.sizes.specs.declared.Refusal.the-variants.{Size, Area, Long, Count, Node, Repeat, Short, Empty, Down, Disagree, Text, Mixed, Serving}
 use Rattle.sizes.specs.declared.Answer.{Answer}
 use Rattle.sizes.specs.declared.Answer.the-variants.{Done, Refused}
 use Rattle.sizes.specs.Refusals.{number, Said, said}
@@ -18,7 +18,7 @@ use Rattle.sizes.proofs.Lines.{first-clear, clear-first, first-refuse, 
 
 -- a refusal by its number
 named : ℕ → Refusal
-named n = lib.ListN.getD (Size ∷ Area ∷ Long ∷ Count ∷ Node ∷ Repeat ∷ Short ∷ Empty ∷ Down ∷ Disagree ∷ Size ∷ Size ∷ Size ∷ Serving ∷ []) (Prim.Native.Nat._-_ n 1) Size
+named n = lib.ListN.getD (Size ∷ Area ∷ Long ∷ Count ∷ Node ∷ Repeat ∷ Short ∷ Empty ∷ Down ∷ Disagree ∷ Size ∷ Text ∷ Mixed ∷ Serving ∷ []) (Prim.Native.Nat._-_ n 1) Size
 
 named-number : (x : Refusal) → named (number x) ≡ x
 unfolding named
@@ -32,6 +32,8 @@ named-number Short = refl
 named-number Empty = refl
 named-number Down = refl
 named-number Disagree = refl
+named-number Text = refl
+named-number Mixed = refl
 named-number Serving = refl
 
 pub numbers-differ : (x y : Refusal) → number x ≡ number y → x ≡ y
@@ -48,6 +50,8 @@ number-low Short = omega arith
 number-low Empty = omega arith
 number-low Down = omega arith
 number-low Disagree = omega arith
+number-low Text = omega arith
+number-low Mixed = omega arith
 number-low Serving = omega arith
 
 pub never-eleven : (x : Refusal) → number x ≢ 11
@@ -61,6 +65,8 @@ never-eleven Short e = omega (arith, e)
 never-eleven Empty e = omega (arith, e)
 never-eleven Down e = omega (arith, e)
 never-eleven Disagree e = omega (arith, e)
+never-eleven Text e = omega (arith, e)
+never-eleven Mixed e = omega (arith, e)
 never-eleven Serving e = omega (arith, e)
 
 answers-differ : (a b : Answer) → said a ≡ said b → a ≡ b

@@ -36,7 +36,7 @@ pub record SizesAndRefusals : Type 0 where
   pub answers-differ : (a b : Answer) → said a ≡ said b → a ≡ b
   -- the two orders, by number
   pub store-order : map number storeOrder ≡ 1 ∷ 2 ∷ 3 ∷ 8 ∷ 4 ∷ 5 ∷ 6 ∷ 14 ∷ 9 ∷ 7 ∷ 10 ∷ []
-  pub board-order : map number boardOrder ≡ 1 ∷ 3 ∷ 4 ∷ 5 ∷ 6 ∷ 2 ∷ 7 ∷ 10 ∷ []
+  pub board-order : map number boardOrder ≡ 12 ∷ 1 ∷ 3 ∷ 13 ∷ 4 ∷ 5 ∷ 6 ∷ 2 ∷ 7 ∷ 10 ∷ []
   -- "The first that applies is given." "A number is given only where its line holds; otherwise the call does its work."
   pub refuse-is : (order : List Refusal) (lines : List Line) (x : Refusal) → (first order lines ≡ Refuse x) ↔ First order lines x
   pub pass-is : (order : List Refusal) (lines : List Line) → (first order lines ≡ Pass) ↔ All (λ y. appliesIn lines y ≡ false) order

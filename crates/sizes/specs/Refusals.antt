@@ -6,7 +6,7 @@ use Prim.Native.Nat.{ℕ}
 use lib.Dec.{eqb}
 use Rattle.lists.specs.Tests.{pick}
 use Rattle.sizes.specs.declared.Refusal.{Refusal}
-use Rattle.sizes.specs.declared.Refusal.the-variants.{Size, Area, Long, Count, Node, Repeat, Short, Empty, Down, Disagree, Serving}
+use Rattle.sizes.specs.declared.Refusal.the-variants.{Size, Area, Long, Count, Node, Repeat, Short, Empty, Down, Disagree, Text, Mixed, Serving}
 use Rattle.sizes.specs.declared.Check.{Check}
 use Rattle.sizes.specs.declared.Check.the-variants.{Pass, Refuse}
 use Rattle.sizes.specs.declared.Answer.{Answer}
@@ -24,6 +24,8 @@ number Short = 7
 number Empty = 8
 number Down = 9
 number Disagree = 10
+number Text = 12
+number Mixed = 13
 number Serving = 14
 
 -- what an answer says: the refusal's number, 0 where it is accepted; and the number reported, 0 where it is refused
@@ -58,6 +60,6 @@ first (x ∷ order) lines = pick (appliesIn lines x) (Refuse x) (first order lin
 abbrev pub storeOrder : List Refusal
 storeOrder = Size ∷ Area ∷ Long ∷ Empty ∷ Count ∷ Node ∷ Repeat ∷ Serving ∷ Down ∷ Short ∷ Disagree ∷ []
 
--- "Board level: 1, 3, 4, 5, 6, 2, 7, 10"
+-- "Board level: 1, 3, 4, 5, 6, 2, 7, 10"; request A.1: "12 TEXT .. before all else; 13 MIXED .. after 12 and before 4"
 abbrev pub boardOrder : List Refusal
-boardOrder = Size ∷ Long ∷ Count ∷ Node ∷ Repeat ∷ Area ∷ Short ∷ Disagree ∷ []
+boardOrder = Text ∷ Size ∷ Long ∷ Mixed ∷ Count ∷ Node ∷ Repeat ∷ Area ∷ Short ∷ Disagree ∷ []

@@ -16,6 +16,8 @@ pub enum Refusal {
     Empty,
     Down,
     Disagree,
+    Text,
+    Mixed,
     Serving,
 }
 
@@ -55,6 +57,8 @@ impl Refusal {
             Refusal::Empty => 8,
             Refusal::Down => 9,
             Refusal::Disagree => 10,
+            Refusal::Text => 12,
+            Refusal::Mixed => 13,
             Refusal::Serving => 14,
         }
     }

@@ -47,13 +47,6 @@ further-figures = record {
   own-helpers = refl;
   own-partners = refl;
   own-packets = refl;
-  stand-in-packets = refl;
-  stand-in-senders = refl;
-  stand-in-repair = refl;
-  mixed-packets = refl;
-  mixed-senders = refl;
-  mixed-repair = refl;
-  stands-in-twice = refl;
   write-places = refl;
   repair-places = refl;
 }

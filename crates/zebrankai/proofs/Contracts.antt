@@ -1,5 +1,5 @@
--- The contracts of the archive's eleven calls are what the definitions say: `zbk` and `zbkSetUp` for the store, and board level's calls. A contract is
--- taken as the checker hands it to a caller: `Asked` is its `requires`, `Learnt` its `ensures`. So a call that ensures less, or requires
+-- The contracts of the archive's thirteen calls are what the definitions say: `zbk` and `zbkSetUp` for the store, `zbkReadText`, and board level's calls.
+-- A contract is taken as the checker hands it to a caller: `Asked` is its `requires`, `Learnt` its `ensures`. So a call that ensures less, or requires
 -- something, is refused here.
 -- Assumes nothing.
 use mathlib.Core.Path.{_≡_}
@@ -11,9 +11,11 @@ use denote.Triple.Clauses.{AtExit}
 use borrow.Fn.Kinds.{Dens, endedOf}
 use Rattle.board_spec.specs.Calls.{BoardOutcome, shareCall, fileCall, helperCall, exchangeCall, finishedCall, textCall}
 use Rattle.store_spec.specs.Ledger.{write, lose, repair, read}
+use Rattle.text_spec.specs.Calls.{gatherCall}
 use Rattle.answer_word.specs.Answers.{wordOf}
-use Rattle.zebrankai.specs.Archive.{sizesOf}
-use Rattle.zebrankai.specs.Lent.{Lent, zbkSetUp, zbk}
+use Rattle.archive_spec.specs.Archive.{sizesOf}
+use Rattle.archive_spec.specs.Lent.{Lent, zbkSetUp, zbk}
+use Rattle.archive_spec.specs.Texts.{TextLent, zbkReadText}
 use Rattle.zebrankai.proofs.zbk_set_up.Reads as set-ups
 use Rattle.zebrankai.proofs.zbk_set_up.Kinds as set-up-kinds
 use Rattle.zebrankai.proofs.zbk_write.Reads as writes
@@ -36,6 +38,10 @@ use Rattle.zebrankai.proofs.zbk_finished_share.Reads as finished-reads
 use Rattle.zebrankai.proofs.zbk_finished_share.Kinds as finished-kinds
 use Rattle.zebrankai.proofs.zbk_share_text.Reads as text-reads
 use Rattle.zebrankai.proofs.zbk_share_text.Kinds as text-kinds
+use Rattle.zebrankai.proofs.zbk_read_text.Reads as read-text-reads
+use Rattle.zebrankai.proofs.zbk_read_text.Kinds as read-text-kinds
+use Rattle.zebrankai.proofs.zbk_gather.Reads as gather-reads
+use Rattle.zebrankai.proofs.zbk_gather.Kinds as gather-kinds
 
 -- ---- the store
 
@@ -125,3 +131,19 @@ pub text-gives : (κs : Lfts 3) (a : Dens κs text-kinds.ps) (w : ℕ) (e : AtEx
     Gives w (now (e .1 .1 .1 .1 .1 .1 .1 .1 .0))
     (textCall (sizesOf (a .0) (a .1 .0) (a .1 .1 .0) (a .1 .1 .1 .0)) (now (a .1 .1 .1 .1 .0)) (b .0) (b .1 .0) (now (b .1 .1 .0)) (now (b .1 .1 .1 .0))))
 text-gives κs a w e = (tt, λ h. h)
+
+-- ---- texts, which tell their sizes and points
+
+abbrev text-lent : ℕ → List ℕ → List ℕ → List ℕ → TextLent
+text-lent w head points output = record { answer = w; head = head; points = points; output = output }
+
+pub read-text-gives : (κs : Lfts 4) (a : Dens κs read-text-kinds.ps) (w : ℕ) (e : AtExit (endedOf 4 read-text-kinds.ps read-text-kinds.r) κs)
+    → read-text-reads.Asked κs a
+    × (read-text-reads.Learnt κs a w e
+    → text-lent w (now (e .1 .0)) (now (e .1 .1 .0)) (now (e .1 .1 .1 .0)) ≡ zbkReadText (now (a .0)) (now (a .1 .0)) (now (a .1 .1 .0)) (now (a .1 .1 .1 .0)))
+read-text-gives κs a w e = (tt, λ h. h)
+
+pub gather-gives : (κs : Lfts 2) (a : Dens κs gather-kinds.ps) (w : ℕ) (e : AtExit (endedOf 2 gather-kinds.ps gather-kinds.r) κs)
+    → gather-reads.Asked κs a
+    × (gather-reads.Learnt κs a w e → Gives w (now (e .1 .0)) (gatherCall (now (a .0)) (now (a .1 .0))))
+gather-gives κs a w e = (tt, λ h. h)

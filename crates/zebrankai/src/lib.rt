@@ -1,16 +1,19 @@
 //! The archive for C and Rust: every call of the board level and of the store under a C name, for all input, without `requires`.
-//! Each meets its definition in the crates `board_spec` and `store_spec`: the answer as one word, and every word and byte that it was lent.
+//! Each meets its definition in the crates `board_spec`, `text_spec` and `store_spec`: the answer as one word, and every word and byte that it was lent.
 //! A slice is a pointer and a length. A record is a lent slice of twelve words: n, k, d, r, capacity, written, length, marks, and four words
-//! with the points of eight boards each. Points are a lent slice of 32 bytes; another number of them is SIZE. An answer has the refusal's number
-//! in its low eight bits, 0 where there is none, and the number reported above them.
+//! with the points of eight boards each. The head of a text is a lent slice of six words: n, k, d, r, board number, length. Points are a lent slice
+//! of 32 bytes. Another number of them than these is SIZE. An answer has the refusal's number in its low eight bits, 0 where there is none, and the
+//! number reported above them.
 ghost use mathlib.Core.Path.{_≡_};
 ghost use mathlib.Core.List.{List, []};
 ghost use Prim.Native.Nat.{ℕ};
 ghost use Rattle.board_spec.specs.Calls.{shareCall, fileCall, helperCall, exchangeCall, finishedCall, textCall};
+ghost use Rattle.text_spec.specs.Calls.{gatherCall};
 ghost use Rattle.store_spec.specs.Ledger.{write, lose, repair, read};
 ghost use Rattle.answer_word.specs.Answers.{wordOf};
-ghost use Rattle.zebrankai.specs.Archive.{sizesOf};
-ghost use Rattle.zebrankai.specs.Lent.{zbkSetUp, zbk};
+ghost use Rattle.archive_spec.specs.Archive.{sizesOf};
+ghost use Rattle.archive_spec.specs.Lent.{zbkSetUp, zbk};
+ghost use Rattle.archive_spec.specs.Texts.{zbkReadText};
 use sizes::Sizes;
 use store::Store;
 
@@ -188,8 +191,37 @@ pub extern "C" fn zbk_share_text(
     answer_word::word_of(board_text::text(sizes, xs, len, node, share, out))
 }
 
-// The word of SIZE, for words that are no record.
-const NO_RECORD: u64 = 1;
+// The word of SIZE, for words that are no record, and for a head or points of another length than theirs.
+const SIZE: u64 = 1;
+
+// What a share text tells: sizes, board number and length to six words, points to 32 bytes, and the share to the first bytes of the output. Reports
+// the number of bytes written. Another text than `zbk_share_text` writes is TEXT.
+#[no_mangle]
+pub extern "C" fn zbk_read_text(
+    text: &[u8],
+    head: &mut [u64],
+    points: &mut [u8],
+    out: &mut [u8],
+) -> u64
+    ensures { λ w. ⌜ record { answer = w; head = now (head .exit); points = now (points .exit); output = now (out .exit) } ≡ zbkReadText (now (text .entry)) (now (head .entry)) (now (points .entry)) (now (out .entry)) ⌝ }
+{
+    if head.len() != 6 {
+        return SIZE;
+    }
+    if points.len() != 32 {
+        return SIZE;
+    }
+    let read = board_read_text::read_text(text, out);
+    text_words::tell(read, head, points)
+}
+
+// The file of k share texts, one after another in one slice. Reports the number of bytes written, which is the file's length.
+#[no_mangle]
+pub extern "C" fn zbk_gather(text: &[u8], out: &mut [u8]) -> u64
+    ensures { λ w. ⌜ (w ≡ wordOf (gatherCall (now (text .entry)) (now (out .entry)) .answer)) × (now (out .exit) ≡ gatherCall (now (text .entry)) (now (out .entry)) .output) ⌝ }
+{
+    answer_word::word_of(board_gather::gather(text, out))
+}
 
 // A new store of these sizes, these points and this capacity, in twelve words.
 #[no_mangle]
@@ -205,7 +237,7 @@ pub extern "C" fn zbk_set_up(
     ensures { λ w. ⌜ record { answer = w; words = now (ws .exit); area = []; output = [] } ≡ zbkSetUp (now (ws .entry)) (sizesOf n k d r) (now (points .entry)) capacity ⌝ }
 {
     if ws.len() != 12 {
-        return NO_RECORD;
+        return SIZE;
     }
     let sizes = Sizes {
         n: n,
@@ -237,7 +269,7 @@ pub extern "C" fn zbk_write(ws: &mut [u64], area: &mut [u8], file: &[u8]) -> u64
     ensures { λ w. ⌜ record { answer = w; words = now (ws .exit); area = now (area .exit); output = [] } ≡ zbk (now (ws .entry)) (now (area .entry)) (write (now (file .entry))) ⌝ }
 {
     if !words::is_record(ws) {
-        return NO_RECORD;
+        return SIZE;
     }
     let store = words::store_of(ws);
     let handed = store.write(area, file);
@@ -250,7 +282,7 @@ pub extern "C" fn zbk_lose(ws: &mut [u64], board: usize) -> u64
     ensures { λ w. ⌜ ((area : List ℕ) → record { answer = w; words = now (ws .exit); area = area; output = [] } ≡ zbk (now (ws .entry)) area (lose board)) ⌝ }
 {
     if !words::is_record(ws) {
-        return NO_RECORD;
+        return SIZE;
     }
     let store = words::store_of(ws);
     let handed = store.lose(board);
@@ -269,7 +301,7 @@ pub extern "C" fn zbk_repair(
     ensures { λ w. ⌜ record { answer = w; words = now (ws .exit); area = now (area .exit); output = [] } ≡ zbk (now (ws .entry)) (now (area .entry)) (repair (now (fresh .entry)) (now (helpers .entry)) (now (standins .entry))) ⌝ }
 {
     if !words::is_record(ws) {
-        return NO_RECORD;
+        return SIZE;
     }
     let store = words::store_of(ws);
     let handed = store.repair(area, fresh, helpers, standins);
@@ -282,7 +314,7 @@ pub extern "C" fn zbk_read(ws: &mut [u64], area: &[u8], boards: &[usize], out: &
     ensures { λ w. ⌜ record { answer = w; words = now (ws .exit); area = now (area .entry); output = now (out .exit) } ≡ zbk (now (ws .entry)) (now (area .entry)) (read (now (boards .entry)) (now (out .entry))) ⌝ }
 {
     if !words::is_record(ws) {
-        return NO_RECORD;
+        return SIZE;
     }
     let store = words::store_of(ws);
     let handed = store.read(area, boards, out);

@@ -1,4 +1,4 @@
-//! The eleven calls with their arguments: how each is passed to the archive, what of it may be spoilt, how it is shown. And the memory that they
+//! The thirteen calls with their arguments: how each is passed to the archive, what of it may be spoilt, how it is shown. And the memory that they
 //! are lent to change.
 
 use crate::code::{self, Sizes};
@@ -17,6 +17,8 @@ pub mod refusal {
     pub const EMPTY: u8 = 8;
     pub const DOWN: u8 = 9;
     pub const DISAGREE: u8 = 10;
+    pub const TEXT: u8 = 12;
+    pub const MIXED: u8 = 13;
     pub const SERVING: u8 = 14;
     /// One more than the highest number.
     pub const COUNTED: usize = 15;
@@ -93,10 +95,16 @@ pub enum Call {
     Read {
         boards: Vec<usize>,
     },
+    ReadText {
+        text: Vec<u8>,
+    },
+    Gather {
+        text: Vec<u8>,
+    },
 }
 
 /// The C names of the calls, in the order of `Call::place`, each with the refusals that it can give.
-pub const CALLS: [(&str, &[u8]); 11] = [
+pub const CALLS: [(&str, &[u8]); 13] = [
     ("zbk_share", &[1, 3, 5, 7]),
     ("zbk_file", &[1, 3, 4, 5, 6, 2, 7, 10]),
     ("zbk_helper_packet", &[1, 3, 5, 6, 2, 7]),
@@ -108,7 +116,12 @@ pub const CALLS: [(&str, &[u8]); 11] = [
     ("zbk_lose", &[1, 5]),
     ("zbk_repair", &[1, 2, 8, 4, 5, 6, 14, 9]),
     ("zbk_read", &[1, 2, 8, 4, 5, 6, 9, 7, 10]),
+    ("zbk_read_text", &[1, 12, 7]),
+    ("zbk_gather", &[12, 13, 4, 6, 7, 10]),
 ];
+
+/// The place in `CALLS` of the first of the two calls that are given texts.
+pub const READ_TEXT: usize = 11;
 
 // The archive's names, as include/zebrankai.h declares them (`tests/names`).
 macro_rules! asked {
@@ -141,6 +154,8 @@ impl Call {
             Call::Lose { .. } => 8,
             Call::Repair { .. } => 9,
             Call::Read { .. } => 10,
+            Call::ReadText { .. } => READ_TEXT,
+            Call::Gather { .. } => READ_TEXT + 1,
         }
     }
 
@@ -168,6 +183,8 @@ impl Call {
             Call::Lose { board } => zbk_lose(record, *board),
             Call::Repair { fresh, helpers, stand_ins } => zbk_repair(record, area, fresh, helpers, stand_ins),
             Call::Read { boards } => zbk_read(record, area, boards, out),
+            Call::ReadText { text } => zbk_read_text(text, record, area, out),
+            Call::Gather { text } => zbk_gather(text, out),
         }
     }
 
@@ -241,6 +258,7 @@ impl Call {
             Call::Lose { board } => Parts { numbers: vec![board], ..none },
             Call::Repair { fresh, helpers, stand_ins } => Parts { lists: vec![fresh, helpers, stand_ins], ..none },
             Call::Read { boards } => Parts { lists: vec![boards], ..none },
+            Call::ReadText { text } | Call::Gather { text } => Parts { slices: vec![text], ..none },
         }
     }
 }
@@ -268,7 +286,8 @@ impl Parts<'_> {
     }
 }
 
-/// The memory that a call is lent to change. A call that does not take one of the three leaves it empty.
+/// The memory that a call is lent to change. A call that does not take one of the three leaves it empty. A reading of a text is lent the words of the
+/// head as the record, and the points to write as the area.
 #[derive(Clone, Debug, Default, PartialEq, Eq)]
 pub struct Lent {
     pub record: Vec<u64>,
@@ -301,7 +320,17 @@ impl Outcome {
     }
 }
 
-/// The call in short form: slices of bytes by their length; lists, numbers and points whole.
+/// A text, cut where it is long.
+fn shown(text: &[u8]) -> String {
+    let begin = String::from_utf8_lossy(&text[..text.len().min(400)]).into_owned();
+    if text.len() > 400 {
+        format!("{begin}.. {} bytes", text.len())
+    } else {
+        begin
+    }
+}
+
+/// The call in short form: slices of bytes by their length; lists, numbers and points whole; texts up to 400 bytes.
 impl fmt::Display for Call {
     fn fmt(&self, to: &mut fmt::Formatter) -> fmt::Result {
         write!(to, "{}", CALLS[self.place()].0)?;
@@ -345,6 +374,7 @@ impl fmt::Display for Call {
                 write!(to, "(fresh={fresh:?}, helpers={helpers:?}, stand_ins={stand_ins:?}")
             }
             Call::Read { boards } => write!(to, "(boards={boards:?}"),
+            Call::ReadText { text } | Call::Gather { text } => write!(to, "(text={:?}", shown(text)),
         }?;
         write!(to, ")")
     }

@@ -8,7 +8,7 @@ use crate::code::Sizes;
 use crate::field::FIELD;
 use crate::points::{filled_up, first_series, standard};
 use crate::trial::{Place, Trial};
-use crate::{board, store};
+use crate::{board, store, text_figures, texts};
 
 pub fn run(trial: &mut Trial) {
     field(trial);
@@ -20,6 +20,7 @@ pub fn run(trial: &mut Trial) {
     }
     refused_repairs(trial);
     text(trial);
+    text_figures::run(trial);
     legal_sizes(trial);
     refused_points(trial);
     eight_words(trial);
@@ -31,13 +32,15 @@ pub fn run(trial: &mut Trial) {
 fn model(call: &Call, lent: &Lent) -> Outcome {
     if call.place() < 6 {
         board::expect(call, lent)
-    } else {
+    } else if call.place() < crate::call::READ_TEXT {
         store::expect(call, lent)
+    } else {
+        texts::expect(call, lent)
     }
 }
 
 /// Holds the archive and the coder to a figure.
-fn figure(trial: &mut Trial, name: &str, call: Call, lent: Lent, expected: Outcome) -> Lent {
+pub fn figure(trial: &mut Trial, name: &str, call: Call, lent: Lent, expected: Outcome) -> Lent {
     trial.place = Place::Figure(name.to_string());
     trial.check(&call, &lent, &expected);
     if model(&call, &lent) != expected {
@@ -54,7 +57,7 @@ fn writes(trial: &mut Trial, name: &str, call: Call, bytes: &[u8]) {
 }
 
 /// A call that is refused.
-fn refused(trial: &mut Trial, name: &str, call: Call, lent: Lent, number: u8) {
+pub fn refused(trial: &mut Trial, name: &str, call: Call, lent: Lent, number: u8) {
     let expected = Outcome::refused(number, &lent);
     figure(trial, name, call, lent, expected);
 }

@@ -17,6 +17,8 @@
 //! and inverses of the coder's own field, the second reads standard input and writes what the share printer or the points printer must write for it,
 //! the third writes a line for each legal combination of sizes with at most N boards (request A.12).
 //!
+//! Texts of shares are read and gathered in cases of their own (request A.1), of which every kind must have been met, too.
+//!
 //! The last line counts calls and mismatches. The exit code is 1 where there is a mismatch, or where in a run of 20,000 calls or more some
 //! refusal that a call can give was never met, a kind of points, DISAGREE for a kind of altered byte, or a kind of repair.
 
@@ -42,6 +44,10 @@ mod spoil;
 mod store;
 mod store_cases;
 mod store_draw;
+mod text_cases;
+mod text_figures;
+mod text_spoil;
+mod texts;
 mod tight;
 mod trial;
 
@@ -165,6 +171,7 @@ fn run_case(trial: &mut Trial, case: u64) {
         histories::run(trial, &mut random, sizes);
         tight::run(trial, &mut random, sizes);
         altered::run(trial, &mut random, sizes);
+        text_cases::run(trial, &mut random, sizes);
         return;
     }
     let sizes = draw::sizes(&mut random);
@@ -176,6 +183,7 @@ fn run_case(trial: &mut Trial, case: u64) {
             let sizes = altered::sizes(&mut random, sizes);
             altered::run(trial, &mut random, sizes);
         }
+        13 => text_cases::run(trial, &mut random, sizes),
         _ => board_cases::run(trial, &mut random, sizes),
     }
 }

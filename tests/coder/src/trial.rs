@@ -2,7 +2,7 @@
 
 use crate::altered;
 use crate::archive::{self, Performed};
-use crate::call::{refusal, Call, Lent, Outcome, CALLS};
+use crate::call::{refusal, Call, Lent, Outcome, CALLS, READ_TEXT};
 use crate::code::Sizes;
 use crate::{points, repairs, store};
 use std::fmt;
@@ -81,6 +81,8 @@ pub struct Trial {
     pub met: [[u64; refusal::COUNTED]; CALLS.len()],
     /// how often each call was accepted, or refused for its points alone, with points of each kind
     pub points: [[u64; points::KINDS.len()]; CALLS.len()],
+    /// how often texts of each kind were answered as some of them must be
+    pub texts: [u64; crate::text_cases::KINDS.len()],
     /// how many second files were found for k − 1 boards, and the calls made with them
     pub second_files: u64,
     pub second_calls: u64,
@@ -107,6 +109,7 @@ impl Trial {
             mismatches: 0,
             met: [[0; refusal::COUNTED]; CALLS.len()],
             points: [[0; points::KINDS.len()]; CALLS.len()],
+            texts: [0; crate::text_cases::KINDS.len()],
             second_files: 0,
             second_calls: 0,
             altered: Default::default(),
@@ -179,6 +182,13 @@ impl Trial {
         }
     }
 
+    /// Counts a text of some kind, by what it was answered.
+    pub fn count_text(&mut self, kind: &str, number: u8) {
+        for (count, due) in self.texts.iter_mut().zip(crate::text_cases::KINDS) {
+            *count += u64::from(due == (kind, number));
+        }
+    }
+
     /// Reports something that is not as it must be.
     pub fn report(&mut self, what: &str) {
         self.mismatches += 1;
@@ -228,10 +238,17 @@ impl Trial {
         }
         for (place, (name, _)) in CALLS.iter().enumerate() {
             for (kind, what) in points::KINDS.iter().enumerate() {
-                let can_be = kind != points::NOT_32 || place <= SET_UP;
+                // points that are refused make a text none, which is TEXT
+                let can_be =
+                    if place < READ_TEXT { kind != points::NOT_32 || place <= SET_UP } else { kind < points::REFUSED };
                 if can_be && self.points[place][kind] == 0 {
                     missing.push(format!("{name} with points {what}"));
                 }
+            }
+        }
+        for ((kind, number), count) in crate::text_cases::KINDS.iter().zip(self.texts) {
+            if count == 0 {
+                missing.push(format!("texts: {kind}, answered with {number}"));
             }
         }
         if self.second_files == 0 {
@@ -260,6 +277,10 @@ impl Trial {
         for ((name, _), met) in CALLS.iter().zip(&self.points) {
             println!("{name:20} {}", met.iter().map(|count| format!("{count:>11}")).collect::<String>());
         }
+        println!("{:24} refusal    times, of the calls of zbk_read_text and zbk_gather", "texts");
+        for ((kind, number), count) in crate::text_cases::KINDS.iter().zip(self.texts) {
+            println!("{kind:24} {number:>7} {count:>8}");
+        }
         println!(
             "second files for k − 1 boards: {}, in {} of the calls of zbk_share",
             self.second_files, self.second_calls
@@ -280,6 +301,9 @@ const SET_UP: usize = 6;
 
 /// The sizes and the points that a call goes by; none where something else than the points makes it SIZE.
 fn points_asked(call: &Call, lent: &Lent) -> Option<(Sizes, Vec<u8>)> {
+    if let Call::ReadText { text } | Call::Gather { text } = call {
+        return crate::texts::points_of(text);
+    }
     let Some((sizes, points)) = call.given() else { return store::given(&lent.record) };
     let legal = match call {
         Call::SetUp { capacity, .. } => store::in_range(*capacity) && lent.record.len() == store::word::COUNT,

@@ -15,5 +15,6 @@ pub mod polynomial;
 pub mod sizes;
 pub mod store;
 pub mod stripe;
+pub mod text;
 
 pub use sizes::{Points, Refusal, Sizes};

@@ -23,6 +23,8 @@ pub enum Refusal {
     Empty = 8,
     Down = 9,
     Disagree = 10,
+    Text = 12,
+    Mixed = 13,
     Serving = 14,
 }
 

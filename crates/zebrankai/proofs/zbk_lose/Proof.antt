@@ -9,7 +9,7 @@ use Rattle.store_spec.specs.Record.{Record}
 use Rattle.store_spec.specs.Calls.{StoreOutcome}
 use Rattle.store_spec.specs.Ledger.{lose, act}
 use Rattle.record_words.specs.Words.{isRecord}
-use Rattle.zebrankai.proofs.Worded.{is-record, none-lent, lent-on, handed-asks, lose-few}
+use Rattle.archive_spec.proofs.Worded.{is-record, none-lent, lent-on, handed-asks, lose-few}
 use Rattle.zebrankai.proofs.zbk_lose.Statement.{statement}
 use Rattle.zebrankai.proofs.zbk_lose.Tie as tie
 

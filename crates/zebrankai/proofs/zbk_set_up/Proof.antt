@@ -11,9 +11,9 @@ use Rattle.store.specs.declared.Store.{Store}
 use Rattle.store.specs.declared.Handed.{Handed}
 use Rattle.store.specs.Handing.{recordIn, outcomeIn}
 use Rattle.words.specs.Steps.{arrayOf}
-use Rattle.zebrankai.specs.Archive.{sizesOf}
-use Rattle.zebrankai.proofs.Given.{set-up-given}
-use Rattle.zebrankai.proofs.Worded.{no-set-up, did-set-up, not-set-up, as-told, set-up-few}
+use Rattle.archive_spec.specs.Archive.{sizesOf}
+use Rattle.archive_spec.proofs.Given.{set-up-given}
+use Rattle.archive_spec.proofs.Worded.{no-set-up, did-set-up, not-set-up, as-told, set-up-few}
 use Rattle.zebrankai.proofs.zbk_set_up.Statement.{statement}
 use Rattle.zebrankai.proofs.zbk_set_up.Tie as tie
 

@@ -8,7 +8,7 @@ use Rattle.store_spec.specs.Record.{Record}
 use Rattle.store_spec.specs.Calls.{StoreOutcome}
 use Rattle.store_spec.specs.Ledger.{write, act}
 use Rattle.record_words.specs.Words.{isRecord}
-use Rattle.zebrankai.proofs.Worded.{is-record, none-lent, lent-on, handed-asks, write-few}
+use Rattle.archive_spec.proofs.Worded.{is-record, none-lent, lent-on, handed-asks, write-few}
 use Rattle.zebrankai.proofs.zbk_write.Statement.{statement}
 use Rattle.zebrankai.proofs.zbk_write.Tie as tie
 

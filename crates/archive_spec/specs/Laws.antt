@@ -1,0 +1,39 @@
+-- "On a refusal no word and no byte changes", for all thirteen calls. An answer that is no multiple of 256 is a refusal.
+-- proofs/Laws.antt has `archive-laws : ArchiveLaws`.
+-- Assumes nothing.
+use mathlib.Core.Path.{_≡_}
+use mathlib.Core.List.{List, []}
+use Prim.Native.Nat.{ℕ, _*_}
+use Rattle.sizes.specs.declared.Sizes.{Sizes}
+use Rattle.board_spec.specs.Calls.{BoardOutcome, shareCall, fileCall, helperCall, exchangeCall, finishedCall, textCall}
+use Rattle.store_spec.specs.Ledger.{Call, outputOf}
+use Rattle.text_spec.specs.Calls.{gatherCall}
+use Rattle.answer_word.specs.Answers.{wordOf}
+use Rattle.archive_spec.specs.Lent.{Lent, zbkSetUp, zbk}
+use Rattle.archive_spec.specs.Texts.{TextLent, zbkReadText}
+
+-- where it answers a refusal, words, area and output are these
+abbrev pub Keeps : Lent → List ℕ → List ℕ → List ℕ → Type 0
+Keeps o ws area output = ((v : ℕ) → o .answer ≡ 256 * v → ⊥) → o ≡ record { answer = o .answer; words = ws; area = area; output = output }
+
+-- the same at board level, whose calls take no record
+abbrev pub Leaves : BoardOutcome → List ℕ → Type 0
+Leaves o output = ((v : ℕ) → wordOf (o .answer) ≡ 256 * v → ⊥) → o .output ≡ output
+
+-- and of the text reader: head, points and output are these
+abbrev pub KeepsText : TextLent → List ℕ → List ℕ → List ℕ → Type 0
+KeepsText o head points output = ((v : ℕ) → o .answer ≡ 256 * v → ⊥) → o ≡ record { answer = o .answer; head = head; points = points; output = output }
+
+pub record ArchiveLaws : Type 0 where
+  pub share-leaves : (z : Sizes) (xs : List ℕ) (node : ℕ) (file out : List ℕ) → Leaves (shareCall z xs node file out) out
+  pub file-leaves : (z : Sizes) (xs : List ℕ) (L : ℕ) (boards shares out : List ℕ) → Leaves (fileCall z xs L boards shares out) out
+  pub helper-leaves : (z : Sizes) (xs : List ℕ) (L helper receiver : ℕ) (share out : List ℕ) → Leaves (helperCall z xs L helper receiver share out) out
+  pub exchange-leaves : (z : Sizes) (xs : List ℕ) (L board : ℕ) (helpers packets : List ℕ) (receiver : ℕ) (out : List ℕ)
+      → Leaves (exchangeCall z xs L board helpers packets receiver out) out
+  pub finished-leaves : (z : Sizes) (xs : List ℕ) (L board : ℕ) (helpers packets partners exchanges out : List ℕ)
+      → Leaves (finishedCall z xs L board helpers packets partners exchanges out) out
+  pub text-leaves : (z : Sizes) (xs : List ℕ) (L node : ℕ) (share out : List ℕ) → Leaves (textCall z xs L node share out) out
+  pub read-text-keeps : (text head points out : List ℕ) → KeepsText (zbkReadText text head points out) head points out
+  pub gather-leaves : (text out : List ℕ) → Leaves (gatherCall text out) out
+  pub set-up-keeps : (ws : List ℕ) (z : Sizes) (xs : List ℕ) (c : ℕ) → Keeps (zbkSetUp ws z xs c) ws [] []
+  pub keeps : (ws area : List ℕ) (call : Call) → Keeps (zbk ws area call) ws area (outputOf call)

@@ -1,0 +1,6 @@
+pub mod Archive
+pub mod Lent
+pub mod Texts
+pub mod Laws
+pub mod Demand3
+pub mod Figures

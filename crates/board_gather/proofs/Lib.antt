@@ -1,0 +1,2 @@
+pub mod GatherCall
+pub mod ToldCall

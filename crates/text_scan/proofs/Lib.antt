@@ -1,0 +1,3 @@
+pub mod Prefix
+pub mod Compared
+pub mod Walk

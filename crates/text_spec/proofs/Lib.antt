@@ -1,0 +1,10 @@
+pub mod Decimals
+pub mod Back
+pub mod Forms
+pub mod Points
+pub mod Laws
+pub mod Written
+pub mod Alike
+pub mod Gather
+pub mod Demand1
+pub mod Figures

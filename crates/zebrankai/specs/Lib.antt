@@ -1,5 +1,0 @@
-pub mod Archive
-pub mod Lent
-pub mod Laws
-pub mod Demand3
-pub mod Figures
