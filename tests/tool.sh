@@ -1,0 +1,834 @@
+#!/bin/sh
+# The service bench's tool (tools/zbk), as a person uses it: files spread, texts deleted, gathered, boards rebuilt; texts damaged at each kind of
+# place; pipes, help, exit codes, files that are there and files that cannot be written; and its printers against the unrelated coder's answers.
+# Builds the tool with the archive that is proved, or with the one that ZBK_ARCHIVE names. Ends with exit code 1 where something is not as it must be.
+set -eu
+cd "$(dirname "$0")/.."
+top=$PWD
+sh tests/prove_archive.sh
+CARGO_TARGET_DIR=$top/target/cargo
+export CARGO_TARGET_DIR
+cargo build --offline --quiet --release -j1 --manifest-path tools/zbk/Cargo.toml
+cargo build --offline --quiet --release -j1 --manifest-path tests/coder/Cargo.toml
+cargo test --offline --quiet --release -j1 --manifest-path tools/zbk/Cargo.toml >/dev/null
+zbk=$top/target/cargo/release/zbk
+coder=$top/target/cargo/release/coder
+own=$(mktemp -d)
+reader=
+trap '[ -z "$reader" ] || kill "$reader" 2>/dev/null || true; rm -rf "$own"' EXIT
+mkdir "$own/work"
+cd "$own/work"
+LC_ALL=C
+export LC_ALL
+
+passed=0
+fail() {
+    echo "FAIL tool: $*"
+    cat "$own/said"
+    exit 1
+}
+# try STATUS WORDS..: the tool ends with this exit code; what it wrote is in out and said
+try() {
+    due=$1
+    shift
+    what="zbk $*"
+    status=0
+    "$zbk" "$@" >"$own/out" 2>"$own/said" || status=$?
+    [ "$status" -eq "$due" ] || fail "$what: exit code $status, not $due"
+    # errors are on standard error, and only there
+    if [ "$due" -eq 2 ] && [ -s "$own/out" ]; then fail "$what: it wrote to standard output"; fi
+    if [ "$due" -ne 0 ] && [ "${1:-}" != look ] && [ ! -s "$own/said" ]; then fail "$what: it said nothing"; fi
+    passed=$((passed + 1))
+}
+# said TEXT: this stands in what was said; out TEXT: in what was written
+said() { grep -qF -- "$1" "$own/said" || fail "$what: it did not say: $1"; }
+out() { grep -qF -- "$1" "$own/out" || fail "$what: it did not write: $1"; }
+unsaid() { if grep -qF -- "$1" "$own/said"; then fail "$what: it said: $1"; fi; }
+# whole FILE DUE: both have the same bytes
+whole() { cmp -s "$1" "$2" || fail "$what: $1 is not $2"; }
+# is NAME..: the folder has just these files
+is() {
+    folder=$1
+    shift
+    printf '%s\n' "$@" | sort >"$own/due"
+    find "$folder" -mindepth 1 | sed "s,^$folder/,," | sort | diff "$own/due" - >&2 || fail "$what: other files in $folder"
+}
+# alter TEXT: the first digit of its share is another one
+alter() {
+    sed -e 's/^data=f/data=0/' -e t -e 's/^data=./data=f/' "$1" >"$own/altered"
+    cat "$own/altered" >"$1"
+}
+eight='board-0.txt board-1.txt board-2.txt board-3.txt board-4.txt board-5.txt board-6.txt board-7.txt'
+
+# a file of a few thousand bytes, the same on all machines
+awk 'BEGIN { for (i = 0; i < 300; i++) printf "article %d: %d boxes\n", i * 7919 % 1000, i * i % 97 }' >stock
+sizes='--boards 8 --read 4 --helpers 6 --fresh 2'
+
+# ---- help and words that make no sense
+try 0 --help
+out 'zbk rebuild DIR --fresh 2,5'
+out 'name is not in UTF-8 goes through such a pipe: zbk gather - <NAME'
+try 0 -h
+try 0 help
+mv "$own/out" "$own/help"
+for again in help -h --help; do
+    try 0 help $again
+    whole "$own/out" "$own/help"
+done
+try 0 --version
+for command in spread gather rebuild look share sizes print; do
+    try 0 "$command" --help
+    out "zbk $command"
+    [ ! -s "$own/said" ] || fail "$what: it said something"
+    mv "$own/out" "$own/help"
+    try 0 help "$command"
+    whole "$own/out" "$own/help"
+    try 0 "$command" -h
+done
+try 2
+said 'which command?'
+try 2 turn
+said 'no command turn'
+try 2 help turn
+try 2 gather
+said "'zbk gather --help'"
+try 2 gather --quietly stock
+said 'no option --quietly'
+try 2 gather - -
+said 'twice'
+try 2 gather stock -o
+said '--output wants a value'
+try 2 look --force stock
+try 2 spread stock
+try 2 spread stock shelf more
+try 2 spread stock shelf --boards 8 --read 4 --helpers 6
+said '--fresh is missing'
+try 2 spread stock shelf --boards eight --read 4 --helpers 6 --fresh 2
+said 'eight: not a number'
+try 2 spread stock shelf --boards -8 --read 4 --helpers 6 --fresh 2
+# shellcheck disable=SC2086 # the options are words
+try 2 spread stock shelf $sizes --boards 9
+said 'twice'
+# shellcheck disable=SC2086
+try 2 spread stock shelf $sizes --points 0102
+said 'for each of the 8 boards'
+# an option is no value, and neither is nothing
+try 2 spread stock shelf --boards --read 4 --helpers 6 --fresh 2
+said '--boards wants a value'
+try 2 gather stock -o ''
+said '--output wants a value'
+try 2 gather stock --output=
+said '--output wants a value'
+# shellcheck disable=SC2086
+try 2 spread stock '' $sizes
+said "the folder's name is empty"
+try 2 rebuild '' --fresh 2
+said "the folder's name is empty"
+try 2 rebuild shelf
+said '--fresh is missing'
+try 2 gather "$(printf 'b\377ck')"
+said 'not in UTF-8; use a pipe, with -'
+try 2 sizes
+try 2 print stock
+is . stock
+
+# ---- spread
+# shellcheck disable=SC2086
+try 0 spread stock shelf $sizes
+out '8 texts in shelf; any 4 of them give the'
+[ ! -s "$own/said" ] || fail "$what: it said something"
+# shellcheck disable=SC2086
+is shelf $eight
+for board in 0 1 2 3 4 5 6 7; do
+    # shellcheck disable=SC2086
+    try 0 share stock $sizes --board $board
+    whole "$own/out" shelf/board-$board.txt
+done
+cp -r shelf kept
+# shellcheck disable=SC2086
+try 1 spread stock shelf $sizes
+said 'shelf/board-0.txt is there already; --force replaces it'
+# nothing is written where one file is there
+mkdir part
+echo mine >part/board-7.txt
+# shellcheck disable=SC2086
+try 1 spread stock part $sizes
+is part board-7.txt
+# shellcheck disable=SC2086
+try 0 spread stock part $sizes --force
+# shellcheck disable=SC2086
+is part $eight
+whole part/board-7.txt kept/board-7.txt
+# --name=value, short names, deeper folders, no report
+try 0 spread stock new/deep -n8 -k 4 -d 6 -r2
+try 0 spread stock new/joined --boards=8 --read=4 --helpers=6 --fresh=2 -q
+[ ! -s "$own/out" ] || fail "$what: it reported"
+diff -r new/deep new/joined >&2 || fail "$what: other texts"
+
+# ---- the session of the README, line by line
+mkdir session
+cp stock session
+# shellcheck disable=SC2016 # the marks are the page's
+sed -n '/A session, with a file/,/^`zbk look`/s/^    //p' "$top/README.md" >"$own/due"
+grep -q '^\$ zbk' "$own/due" || fail "the README has no session"
+grep '^\$ ' "$own/due" | while IFS= read -r line; do
+    printf '%s\n' "$line"
+    (cd session && PATH=$(dirname "$zbk"):$PATH && export PATH && sh -c "${line#??}" 2>&1) || true
+done >"$own/session"
+diff "$own/due" "$own/session" >&2 || fail "the README's session is another one"
+cmp -s session/back stock || fail "the README's session gives another file"
+passed=$((passed + 1))
+
+# ---- gather: from every four boards, in rising and in falling order
+a=0
+while [ $a -lt 5 ]; do
+    b=$((a + 1))
+    while [ $b -lt 6 ]; do
+        c=$((b + 1))
+        while [ $c -lt 7 ]; do
+            d=$((c + 1))
+            while [ $d -lt 8 ]; do
+                try 0 gather shelf/board-$d.txt shelf/board-$c.txt shelf/board-$b.txt shelf/board-$a.txt
+                whole "$own/out" stock
+                d=$((d + 1))
+            done
+            c=$((c + 1))
+        done
+        b=$((b + 1))
+    done
+    a=$((a + 1))
+done
+rm shelf/board-0.txt shelf/board-3.txt shelf/board-4.txt shelf/board-7.txt
+try 0 gather shelf -o back
+whole back stock
+try 1 gather shelf -o back
+said 'back is there already'
+echo other >back
+try 0 gather shelf -o back --force
+whole back stock
+chmod 640 back
+try 0 gather shelf -o back -f
+[ "$(find back -perm 640)" = back ] || fail "$what: other permissions"
+try 1 gather shelf -o new
+said 'it is a folder'
+# too few: which boards are missing
+try 1 gather shelf/board-1.txt shelf/board-2.txt shelf/board-6.txt -o none
+said 'COUNT (4): 3 texts of boards 1, 2 and 6, and k = 4 are needed: 1 more of boards 0, 3, 4, 5 and 7'
+try 1 gather shelf/board-1.txt -o none
+said '3 more of boards 0, 2, 3, 4, 5, 6 and 7'
+# twice
+try 1 gather shelf/board-1.txt shelf/board-2.txt shelf/board-6.txt shelf/board-1.txt -o none
+said 'REPEAT (6): two texts are of board 1'
+# an option is no name of a file
+try 2 gather kept -o --force
+said '--output wants a value'
+[ ! -e ./--force ] || fail "$what: it wrote a file"
+# more than four: all must agree
+try 0 gather kept
+whole "$own/out" stock
+try 1 gather nothing -o none
+said 'cannot read nothing: no such file'
+mkdir empty
+try 1 gather empty -o none
+said 'has no texts'
+: >nothing
+try 1 gather nothing -o none
+said 'COUNT (4): no text at all: nothing is empty'
+: >hollow
+try 1 gather hollow nothing -o none
+said 'COUNT (4): no text at all: hollow; nothing are empty'
+rm hollow
+try 1 gather nothing shelf -o none
+said 'nothing: it is empty'
+[ ! -e none ] || fail "$what: it wrote a file"
+
+# ---- texts that are damaged: the line and place, what was expected, what was found
+try 0 spread stock first -n 8 -k 4 -d 6 -r 2 --points first-series
+# damaged SED LINE PLACE SAID [TEXT]: a text edited by sed is refused at a place
+damaged() {
+    sed "$1" "${5:-kept/board-2.txt}" >broken
+    try 1 gather broken kept/board-1.txt kept/board-3.txt kept/board-4.txt -o none
+    said "TEXT (12): of 4 texts given, one is no text"
+    said "broken: line $2, place $3: expected $4"
+    try 1 look broken
+    out "not readable: line $2, place $3: expected $4"
+    [ ! -e none ] || fail "$what: it wrote a file"
+}
+of_first=first/board-2.txt
+damaged 's/^n=8/n=08/' 1 3 "a number without leading zeros, found '08'"
+damaged 's/^n=8/n=33/' 1 3 "n from 2 to 32 (2 to 32 boards), found '33'"
+damaged 's/^n=8/N=8/' 1 1 "the line n=, found 'N=8'"
+damaged 's/^n=8/n=/' 1 3 'a digit, found the end of the line'
+damaged 's/^n=8/n=8 /' 1 4 "a digit or the end of the line, found ' '"
+damaged 's/$/\r/' 1 4 'a digit or the end of the line, found a carriage return (byte 0D)'
+damaged '2d' 2 1 "the line k=, found 'd=6'"
+damaged 's/^k=4/k=7/' 3 3 "d from 7 to 7 (k <= d < n), found '6'"
+damaged 's/^d=6/d=8/' 3 3 "d from 4 to 7 (k <= d < n), found '8'"
+damaged 's/^r=2/r=3/' 4 3 "r from 1 to 2 (1 <= r, d + r <= n), found '3'"
+damaged 's/^node=2/node=8/' 5 6 "node from 0 to 7 (a board below n), found '8'"
+damaged 's/^node=2/nose=2/' 5 3 "the line node=, found 'se=2'"
+damaged 's/^length=.*/length=163841/' 6 8 "length from 0 to 163840 (4096 stripes at most), found '163841'"
+damaged 's/^length=.*/length=99999999999999999999999/' 6 8 'length from 0 to 163840'
+damaged 's/^length=.*/length=0/' 7 6 'the end of the line behind 0 pairs of the share'
+damaged '6a points=0001020304050607' 7 1 "no line points=, since the points are 0 to n - 1 in order"
+damaged 's/^points=01020304/points=01020301/' 7 14 "a point that no board before has, found '01" $of_first
+damaged 's/^points=0102/points=0A02/' 7 9 "a digit 0 to 9 or a to f, found 'A'" $of_first
+damaged 's/^points=0102/points=02/' 7 22 '8 pairs, one for each board, 16 digits, not 14, found the end of the line' $of_first
+damaged 's/^points=/points=00/' 7 24 'the end of the line behind 8 pairs, one for each board' $of_first
+damaged 's/^points=.*/size=3/' 7 1 "the line points= or data=, found 'size=3'" $of_first
+damaged 's/^data=..../data=00G0/' 7 8 "a digit 0 to 9 or a to f, found 'G'"
+damaged 's/^data=/data:/' 7 5 "the line data=, found ':"
+digits=$(sed -n 's/^data=//p' kept/board-2.txt | tr -d '\n' | wc -c)
+pairs=$((digits / 2))
+damaged 's/^data=../data=/' 7 $((6 + digits - 2)) "$pairs pairs of the share, $digits digits, not $((digits - 2)), found the end of the line"
+damaged 's/^data=/data=00/' 7 $((6 + digits)) "the end of the line behind $pairs pairs of the share, found "
+damaged 's/^\(length=.*\)/\1\n/' 7 1 'the line points= or data=, found the end of the line'
+# cut: at the end of each line, within the data, before the last byte, and behind the last line
+for line in 1 2 3 4 5 6; do
+    head -n $line kept/board-2.txt >broken
+    try 1 gather broken kept/board-1.txt kept/board-3.txt kept/board-4.txt -o none
+    said "broken: line $((line + 1)), place 1: expected the line "
+    said 'found the end of the text'
+done
+for bytes in 1 3 20 60 $(($(wc -c <kept/board-2.txt) - 1)); do
+    head -c "$bytes" kept/board-2.txt >broken
+    try 1 gather broken kept/board-1.txt kept/board-3.txt kept/board-4.txt -o none
+    said 'found the end of the text'
+    try 1 look broken
+done
+for more in '\n' ' ' 'x' '\000' 'end\n'; do
+    # shellcheck disable=SC2059 # the format is the bytes
+    { cat kept/board-2.txt && printf "$more"; } >broken
+    try 1 gather broken kept/board-1.txt kept/board-3.txt kept/board-4.txt -o none
+    said 'TEXT (12)'
+    said 'broken: line 8, place 1: expected the end of the text'
+done
+printf '\357\273\277' | cat - kept/board-2.txt >broken
+try 1 look broken
+out 'line 1, place 1: expected the line n=, found byte EF'
+# two are no texts; the others would be enough
+head -c 9 kept/board-2.txt >broken
+head -c 5 kept/board-3.txt >shattered
+try 1 gather broken shattered kept/board-1.txt kept/board-4.txt kept/board-5.txt kept/board-6.txt -o none
+said 'of 6 texts given, 2 are no texts'
+said 'broken: line 3'
+said 'shattered: line 2'
+said 'the other 4 are enough, since k = 4'
+# four others that are of two boards, or of two files, are not enough
+try 1 gather broken kept/board-1.txt kept/board-1.txt kept/board-3.txt kept/board-3.txt -o none
+said 'of 5 texts given, one is no text'
+unsaid 'are enough'
+try 1 gather broken kept/board-1.txt kept/board-3.txt kept/board-4.txt first/board-5.txt -o none
+unsaid 'are enough'
+# every text with one byte of its first lines altered is refused, or is another text: no row of the table is that of the text itself
+mkdir bytes
+awk '{ text = text $0 "\n" }
+    NR == 6 { first = length(text) }
+    END {
+        split("0 1 2 3 4 5 6 7 8 9 a n = - x", others, " ")
+        others[16] = " "
+        others[17] = "\n"
+        for (place = 1; place <= first; place++)
+            for (i = 1; i <= 17; i++)
+                if (substr(text, place, 1) != others[i]) {
+                    name = "bytes/board-" count++ ".txt"
+                    printf "%s%s%s", substr(text, 1, place - 1), others[i], substr(text, place + 1) >name
+                    close(name)
+                }
+    }' kept/board-5.txt
+try 0 look kept/board-5.txt
+sed -n '2s/^[^ ]* *//p' "$own/out" | tr -s ' ' >"$own/row"
+try 1 look bytes
+sed -n 's/^bytes[^ ]* *//p' "$own/out" | tr -s ' ' >"$own/rows"
+[ "$(wc -l <"$own/rows")" -eq "$(find bytes -type f | wc -l)" ] || fail "$what: rows are missing"
+[ "$(wc -l <"$own/rows")" -gt 500 ] || fail "$what: too few texts"
+if grep -qxF -f "$own/row" "$own/rows"; then fail "$what: an altered text is taken as the text itself"; fi
+grep -q '^not readable: line 1, place 3: ' "$own/rows" || fail "$what: no place is told"
+grep -q '^5 9 4 6 2 ' "$own/rows" || fail "$what: no other text is told"
+
+# ---- texts of several files
+awk 'BEGIN { for (i = 0; i < 300; i++) printf "article %d: none\n", i }' >other
+try 0 spread other others -n 8 -k 4 -d 6 -r 2
+try 0 spread stock wider -n 9 -k 4 -d 6 -r 2
+for mixed in others/board-2.txt wider/board-2.txt first/board-2.txt; do
+    try 1 gather kept/board-1.txt $mixed kept/board-3.txt kept/board-4.txt -o none
+    said 'MIXED (13): the texts are of 2 files'
+    said ": kept/board-1.txt; kept/board-3.txt; kept/board-4.txt"
+    said ": $mixed"
+    # before COUNT and REPEAT, after TEXT
+    try 1 gather kept/board-2.txt $mixed -o none
+    said 'MIXED (13)'
+    try 1 gather kept/board-2.txt $mixed broken -o none
+    said 'TEXT (12)'
+    try 0 look kept/board-1.txt $mixed
+    out 'the texts are of several files'
+done
+
+# ---- texts that disagree: a digit is another one
+cp kept/board-2.txt altered
+alter altered
+try 0 look altered
+try 1 gather altered kept/board-1.txt kept/board-3.txt kept/board-4.txt -o none
+said 'DISAGREE (10): no file has the shares of boards 2, 1, 3 and 4'
+said 'with two texts more it can be told which'
+# the first byte of board 2's share is seen by board 1 alone of these
+try 1 gather altered kept/board-1.txt kept/board-3.txt kept/board-4.txt kept/board-7.txt -o none
+said 'DISAGREE (10): the texts of boards 2, 1, 3, 4 and 7 agree if one of these is left out; with a text more it can be told which'
+for order in 'altered kept/board-1.txt kept/board-3.txt kept/board-4.txt kept/board-7.txt kept/board-5.txt' \
+    'kept/board-1.txt kept/board-3.txt kept/board-4.txt kept/board-7.txt altered kept/board-0.txt'; do
+    # shellcheck disable=SC2086
+    try 1 gather $order -o none
+    said 'DISAGREE (10): altered disagrees with all others, which agree: leave it out'
+done
+cp kept/board-6.txt altered6
+alter altered6
+try 1 gather altered altered6 kept/board-0.txt kept/board-1.txt kept/board-3.txt kept/board-4.txt -o none
+said 'DISAGREE (10): the texts of boards 2, 6, 0, 1, 3 and 4 do not agree, whichever one of them is left out'
+# where there are not so many boards, no more texts are asked for
+try 0 spread stock three -n 3 -k 2 -d 2 -r 1
+alter three/board-0.txt
+try 1 gather three -o none
+said 'DISAGREE (10): the texts of boards 0 to 2 agree if one of these is left out'
+unsaid 'it can be told which'
+# of just k texts one at fault shows at some places of its share, as at its second byte here
+sed -e 's/^\(data=..\)f/\10/' -e t -e 's/^\(data=..\)./\1f/' three/board-1.txt >second
+try 1 gather second three/board-2.txt -o none
+said 'DISAGREE (10): no file has the shares of boards 1 and 2'
+unsaid 'it can be told which'
+[ ! -e none ] || fail "$what: it wrote a file"
+
+# ---- look
+try 0 look kept
+out 'text              board  n  k  d  r  points  length  stripes  share'
+out "kept/board-7.txt      7  8  4  6  2  0 to 7    $(wc -c <stock)      $((pairs / 13))   $pairs"
+out 'boards 0 to 7 of one file, as far as they say: 4 are enough'
+try 0 look first/board-0.txt first/board-5.txt
+out '1 to 8'
+out 'boards 0 and 5 of one file: 2 more of its 8 boards are needed'
+try 1 look kept/board-0.txt broken kept/board-1.txt
+out 'broken            not readable: line 3'
+out '1 text not readable'
+# a file that cannot be read has a row, and the others have theirs
+try 1 look kept/board-0.txt absent empty kept/board-1.txt
+out 'kept/board-0.txt      0  8'
+out 'absent            not readable: no such file'
+out 'empty             not readable: it has no texts board-0.txt and so on'
+out 'kept/board-1.txt      1  8'
+out '2 texts not readable'
+out 'boards 0 and 1 of one file: 2 more of its 8 boards are needed'
+[ ! -s "$own/said" ] || fail "$what: it said something"
+mkdir odd odd/board-1.txt
+cp kept/board-0.txt kept/board-2.txt odd
+try 1 look odd
+out 'odd/board-0.txt      0  8'
+out 'odd/board-1.txt  not readable: is a directory'
+out 'odd/board-2.txt      2  8'
+head -c 17000000 /dev/zero >huge
+try 1 look huge
+out 'huge  not readable: it is longer than all texts of a file'
+try 1 gather huge kept -o none
+said 'TEXT (12): of 9 texts given, one is no text'
+said 'huge: it is longer than all texts of a file'
+rm huge
+
+# ---- rebuild
+stripes=$((pairs / 13))
+cp -r kept robot
+rm robot/board-2.txt robot/board-5.txt
+try 0 rebuild robot --fresh 2,5
+out 'board 2 rebuilt: helpers 0, 1, 3, 4, 6 and 7; exchanges with 5'
+out 'board 5 rebuilt: helpers 0, 1, 3, 4, 6 and 7; exchanges with 2'
+out "$((stripes * 2 * 13)) bytes over the bus: $stripes stripes x 2 boards x 13 bytes"
+diff -r robot kept >&2 || fail "$what: other texts"
+# one board, with a stand-in; its text is there, so that it must be wanted
+try 1 rebuild robot --fresh 3
+said 'robot/board-3.txt is there already; --force replaces it'
+rm robot/board-3.txt
+try 0 rebuild robot --fresh 3
+out 'board 3 rebuilt: helpers 0, 1, 2, 4, 5 and 6; stand-ins 7'
+out "$((stripes * 13)) bytes over the bus: $stripes stripes x 1 board x 13 bytes"
+try 0 rebuild robot --fresh 4 --helpers 7,6,5,3,2,1 --stand-ins 0 --force
+out 'board 4 rebuilt: helpers 7, 6, 5, 3, 2 and 1; stand-ins 0'
+try 0 rebuild robot --fresh 4 --stand-ins 1 --force
+out 'board 4 rebuilt: helpers 0, 2, 3, 5, 6 and 7; stand-ins 1'
+try 0 rebuild robot --fresh 1,0 --helpers 2,3,4,5,6,7 --helpers 7,6,5,4,3,2 -f
+out 'board 0 rebuilt: helpers 7, 6, 5, 4, 3 and 2; exchanges with 1'
+diff -r robot kept >&2 || fail "$what: other texts"
+# boards 0 to 3 one after another, then the file from these alone
+for two in 0,1 2,3; do
+    rm "robot/board-${two%,*}.txt" "robot/board-${two#*,}.txt"
+    try 0 rebuild robot --fresh $two
+done
+rm robot/board-4.txt robot/board-5.txt robot/board-6.txt robot/board-7.txt
+try 0 gather robot
+whole "$own/out" stock
+try 1 rebuild robot --fresh 7
+said 'DOWN (9): 6 helpers and 1 stand-in are needed beside the fresh boards, and there are texts of boards 0 to 3'
+said "these are enough for 'zbk gather'"
+# two are missing, and one is named: both can be
+cp -r kept both
+rm both/board-2.txt both/board-5.txt
+try 1 rebuild both --fresh 2
+said 'DOWN (9): 6 helpers and 1 stand-in are needed beside the fresh boards, and there are texts of boards 0, 1, 3, 4, 6 and 7; '
+said 'all that are missing can be named together, --fresh 2,5'
+try 0 rebuild both --fresh 2,5
+diff -r both kept >&2 || fail "$what: other texts"
+# three are missing, which is more than r
+rm both/board-2.txt both/board-5.txt both/board-6.txt
+try 1 rebuild both --fresh 2,5
+said "these are enough for 'zbk gather'"
+# robots of the first series, and of other points
+for points in first-series 0a0b0c0d0e0f1011 FF00807f55aa1203; do
+    rm -rf old
+    try 0 spread stock old -n 8 -k 4 -d 6 -r 2 --points $points
+    cp -r old new/old
+    rm old/board-6.txt old/board-7.txt
+    try 0 rebuild old --fresh 7,6
+    diff -r old new/old >&2 || fail "$what: other texts"
+    rm -rf new/old old/board-6.txt
+    try 0 rebuild old --fresh 6
+    try 0 gather old/board-7.txt old/board-6.txt old/board-0.txt old/board-1.txt
+    whole "$own/out" stock
+done
+# refused, and nothing is written
+rm -rf robot
+cp -r kept robot
+rm robot/board-2.txt
+refused() {
+    number=$1
+    shift
+    try 1 rebuild robot "$@"
+    said "$number"
+    [ ! -e robot/board-2.txt ] || fail "$what: it wrote a text"
+}
+refused 'COUNT (4): 3 fresh boards, and at most r = 2' --fresh 2,3,4
+refused 'NODE (5): fresh board 8: there are boards 0 to 7' --fresh 2,8
+refused 'REPEAT (6): board 2 is named fresh twice' --fresh 2,2
+refused 'COUNT (4): 5 helpers are named, and 6 are needed' --fresh 2 --helpers 0,1,3,4,5
+refused 'NODE (5): board 9 of the helpers' --fresh 2 --helpers 0,1,3,4,5,9
+refused 'REPEAT (6): board 1 of the helpers' --fresh 2 --helpers 0,1,3,4,5,1
+refused 'REPEAT (6): board 2 of the helpers' --fresh 2 --helpers 0,1,3,4,5,2
+refused 'REPEAT (6): board 0 of the stand-ins' --fresh 2 --helpers 0,1,3,4,5,6 --stand-ins 0
+refused 'COUNT (4): 2 stand-ins are named, and 1 are needed' --fresh 2 --stand-ins 6,7
+refused 'DOWN (9): board 2 of the helpers has no text' --fresh 3 --helpers 0,1,2,4,5,6 --force
+try 2 rebuild robot --fresh two
+try 2 rebuild robot --fresh 2 --helpers 0,1,3,4,5,6 --helpers 0,1,3,4,5,6
+try 1 rebuild nowhere --fresh 2
+said 'cannot read the folder nowhere'
+# a text that is none, or of another board, is not used; one that disagrees is named
+cp -r wider robot9
+rm robot9/board-2.txt
+cp broken robot9/board-0.txt
+try 0 rebuild robot9 --fresh 2
+said 'robot9/board-0.txt is not used: line 3'
+out 'board 2 rebuilt: helpers 1, 3, 4, 5, 6 and 7; stand-ins 8'
+whole robot9/board-2.txt wider/board-2.txt
+cp wider/board-4.txt robot9/board-0.txt
+try 0 rebuild robot9 --fresh 2,1 -f
+said 'robot9/board-0.txt is not used: it is the text of board 4'
+cat wider/board-0.txt wider/board-3.txt >robot9/board-0.txt
+try 0 rebuild robot9 --fresh 2,1 -f
+said 'robot9/board-0.txt is not used: more than one text'
+whole robot9/board-1.txt wider/board-1.txt
+# one that cannot be read is not used either
+cp wider/board-0.txt robot9/board-0.txt
+rm robot9/board-3.txt
+mkdir robot9/board-3.txt
+try 0 rebuild robot9 --fresh 2 -f
+said 'robot9/board-3.txt is not used: is a directory'
+out 'board 2 rebuilt: helpers 0, 1, 4, 5, 6 and 7; stand-ins 8'
+whole robot9/board-2.txt wider/board-2.txt
+# where nothing can be said, exit codes are as ever, and what can be done is done
+if [ -e /dev/full ]; then
+    for mute in '1 gather absent' '2 turn' '0 rebuild robot9 --fresh 2 -f'; do
+        what="zbk ${mute#??}, and nothing can be said"
+        status=0
+        rm -f robot9/board-2.txt
+        # shellcheck disable=SC2086 # the options are words
+        "$zbk" ${mute#??} >"$own/out" 2>/dev/full || status=$?
+        [ $status -eq "${mute%% *}" ] || fail "$what: exit code $status"
+        passed=$((passed + 1))
+    done
+    whole robot9/board-2.txt wider/board-2.txt
+fi
+# with d = k the packets of those that send do not show a text at fault: the others do
+try 0 spread stock lone -n 5 -k 1 -d 1 -r 1
+rm lone/board-4.txt
+alter lone/board-0.txt
+try 1 rebuild lone --fresh 4
+said 'DISAGREE (10): lone/board-0.txt disagrees with all others, which agree: name it with --fresh, or move it away'
+is lone board-0.txt board-1.txt board-2.txt board-3.txt
+cp altered6 robot/board-6.txt
+refused 'DISAGREE (10): robot/board-6.txt disagrees with all others, which agree: name it with --fresh, or move it away' --fresh 2
+cp others/board-6.txt robot/board-6.txt
+refused 'MIXED (13)' --fresh 2
+
+# ---- pipes
+# shellcheck disable=SC2086
+"$zbk" spread - - $sizes <stock >all 2>"$own/said" || fail 'spread to a pipe'
+cat kept/board-?.txt | cmp -s - all || fail 'spread to a pipe: other texts'
+"$zbk" gather - <all | cmp -s - stock || fail 'gather from a pipe'
+cat kept/board-6.txt kept/board-1.txt | "$zbk" gather - kept/board-0.txt kept/board-3.txt | cmp -s - stock || fail 'gather from a pipe and files'
+"$zbk" look - <all >"$own/out" || fail 'look at a pipe'
+what='look -'
+out 'standard input, text 8      7'
+{ cat kept/board-6.txt && echo x; } | "$zbk" gather - 2>"$own/said" >"$own/out" && fail 'gather from a pipe: it ended with 0'
+what='gather -'
+said 'standard input: line 8, place 1'
+"$zbk" sizes 32 2>"$own/said" | head -n 1 >"$own/out"
+out 'n=2 k=1 d=1 r=1 share=2 stripe=2'
+[ ! -s "$own/said" ] || fail 'an output that nobody reads: it said something'
+# a report that nobody reads is no failure: the texts are written
+for command in "spread stock unread $sizes" 'rebuild unread --fresh 2,5 --force'; do
+    what="$command, and nobody reads the report"
+    {
+        # until the reader has gone
+        trap '' PIPE
+        while echo 2>/dev/null; do :; done
+        status=0
+        # shellcheck disable=SC2086 # the options are words
+        "$zbk" $command 2>"$own/said" || status=$?
+        echo $status >"$own/status"
+    } | true
+    [ "$(cat "$own/status")" -eq 0 ] || fail "$what: exit code $(cat "$own/status")"
+    [ ! -s "$own/said" ] || fail "$what: it said something"
+    diff -r unread kept >&2 || fail "$what: other texts"
+done
+passed=$((passed + 8))
+
+# ---- lengths: none, the longest, one more
+: >none
+try 0 spread none hollow -n 2 -k 1 -d 1 -r 1
+out 'the 0 bytes back'
+try 0 gather hollow/board-1.txt -o hollow/back
+whole hollow/back none
+rm hollow/board-0.txt
+try 0 rebuild hollow --fresh 0
+out '0 bytes over the bus: 0 stripes x 1 board x 2 bytes'
+head -c 8192 /dev/zero | tr '\000' 'z' >longest
+try 0 spread longest full -n 2 -k 1 -d 1 -r 1
+try 0 gather full/board-0.txt
+whole "$own/out" longest
+echo >>longest
+try 1 spread longest over -n 2 -k 1 -d 1 -r 1
+said 'LONG (3): longest has 8193 bytes; the longest file for these sizes has 8192, 4096 stripes of 2 bytes'
+status=0
+"$zbk" spread - over -n 2 -k 1 -d 1 -r 1 <longest 2>"$own/said" || status=$?
+what='spread - over'
+said 'LONG (3): standard input has more than 8192 bytes'
+if [ $status -ne 1 ] || [ -e over ]; then fail 'a file that is too long: exit code, or a folder was made'; fi
+# where work takes its time, how far it is is said: here a pipe takes no text before it is
+mkdir slow
+mkfifo slow/board-0.txt
+: >"$own/said"
+(
+    tries=0
+    until grep -q 'of 8 done' "$own/said" || [ $tries -eq 10 ]; do
+        sleep 1
+        tries=$((tries + 1))
+    done
+    exec cat slow/board-0.txt >"$own/slow"
+) &
+reader=$!
+# shellcheck disable=SC2086
+try 0 spread stock slow $sizes
+said 'zbk: shares worked out, 8 of 8 done'
+wait $reader
+reader=
+whole "$own/slow" kept/board-0.txt
+whole slow/board-7.txt kept/board-7.txt
+# the longest file of all, in one piece
+awk 'BEGIN { for (i = 0; i < 507904; i++) printf "%07d\n", i * 7919 % 9999991 }' >longest
+try 0 spread longest most -n 32 -k 31 -d 31 -r 1
+try 0 gather most --quiet -o back -f
+[ ! -s "$own/said" ] || fail "$what: it said something"
+whole back longest
+try 0 rebuild most --fresh 17 -f -q
+[ ! -s "$own/said" ] || fail "$what: it said something"
+rm most/board-0.txt
+try 0 gather most -o back -f
+whole back longest
+echo >>longest
+try 1 spread longest most -n 32 -k 31 -d 31 -r 1 -f
+said 'the longest file for these sizes has 4063232, 4096 stripes of 992 bytes'
+rm -rf most
+# sizes and points that are not legal
+for wrong in '33 4 6 2:33 boards are more than 32' '8 0 6 2:at least 1 board must be read' '8 4 6 0:at least 1 board is fresh' \
+    '8 7 6 2:7 boards read are more than 6 helpers' '8 4 6 3:6 helpers and 3 fresh boards are more than 8 boards'; do
+    # shellcheck disable=SC2086
+    set -- ${wrong%%:*}
+    try 1 spread stock over -n "$1" -k "$2" -d "$3" -r "$4"
+    said "SIZE (1): ${wrong#*:}"
+done
+# numbers with more digits than a number holds are too great, like others
+great=99999999999999999999999
+try 1 spread stock over -n $great -k 4 -d 6 -r 2
+said 'SIZE (1): 18446744073709551615 or more boards are more than 32'
+try 1 spread stock over -n 8 -k $great -d 6 -r 2
+said 'SIZE (1): 18446744073709551615 or more boards read are more than 6 helpers'
+try 1 spread stock over -n 8 -k 4 -d $great -r $great
+said 'SIZE (1): 18446744073709551615 or more helpers and'
+try 1 share stock -n 8 -k 4 -d 6 -r 2 --board $great
+said 'NODE (5): board 18446744073709551615 or more, but there are boards 0 to 7'
+try 1 rebuild kept --fresh $great
+said 'NODE (5): fresh board 18446744073709551615 or more: there are boards 0 to 7'
+try 1 spread stock over -n 3 -k 1 -d 1 -r 1 --points 010201
+said 'SIZE (1): a point stands twice'
+[ ! -e over ] || fail "$what: a folder was made"
+
+# ---- a whole round with 32 boards
+awk 'BEGIN { for (i = 0; i < 4000; i++) printf "%d %d\n", i * 7919 % 10007, i }' >long
+try 0 spread long wide -n 32 -k 16 -d 24 -r 8
+cp -r wide wide.kept
+for board in 0 2 4 6 8 10 12 14; do rm wide/board-$board.txt; done
+try 0 rebuild wide --fresh 0,2,4,6,8,10,12,14
+stripes=$((($(wc -c <long) + 639) / 640))
+out "$((stripes * 8 * 55)) bytes over the bus: $stripes stripes x 8 boards x 55 bytes"
+diff -r wide wide.kept >&2 || fail "$what: other texts"
+for board in 16 18 20 22 24 26 28 30; do rm wide/board-$board.txt; done
+try 0 rebuild wide --fresh 30,28,26,24,22,20,18,16
+rm wide/board-?[13579].txt wide/board-[13579].txt
+try 0 gather wide
+whole "$own/out" long
+is wide board-0.txt board-2.txt board-4.txt board-6.txt board-8.txt board-10.txt board-12.txt board-14.txt board-16.txt board-18.txt board-20.txt \
+    board-22.txt board-24.txt board-26.txt board-28.txt board-30.txt
+rm wide/board-30.txt
+try 1 gather wide -o absent
+said 'COUNT (4): 15 texts of'
+# texts of an earlier, wider file are told
+# shellcheck disable=SC2086
+try 0 spread stock wide $sizes --force
+said 'wide also has texts of another file: boards 8, 10, 12, 14, 16, 18, 20, 22, 24, 26 and 28'
+
+# ---- files that cannot be written: whole or not at all
+# shellcheck disable=SC2086
+try 1 spread stock stock/shelf $sizes
+said 'cannot make the folder stock/shelf'
+# shellcheck disable=SC2086
+try 1 spread stock stock $sizes
+said 'stock'
+mkdir -p blocked/board-5.txt
+# shellcheck disable=SC2086
+try 1 spread stock blocked $sizes --force
+said 'cannot write blocked/board-5.txt: it is a folder'
+is blocked board-5.txt
+try 1 gather kept -o absent/back
+said 'cannot write absent/back'
+if [ -e /dev/full ]; then
+    try 1 gather kept -o /dev/full
+    said 'cannot write /dev/full: no space left'
+    status=0
+    "$zbk" gather kept >/dev/full 2>"$own/said" || status=$?
+    what='gather to a full device'
+    [ $status -eq 1 ] || fail "$what: exit code $status"
+    said 'cannot write to standard output: no space left'
+fi
+# a file that grows too long for the limit
+mkdir limited
+status=0
+# shellcheck disable=SC2086
+(trap '' XFSZ && ulimit -f 1 && exec "$zbk" spread stock limited $sizes) >"$own/out" 2>"$own/said" || status=$?
+what='spread with a limit on files'
+[ $status -eq 1 ] || fail "$what: exit code $status"
+said 'cannot write limited/board-0.txt: file too large'
+[ -z "$(find limited -mindepth 1)" ] || fail "$what: something is left"
+# folders that were made for it go again, and no others
+mkdir mine
+status=0
+# shellcheck disable=SC2086
+(trap '' XFSZ && ulimit -f 1 && exec "$zbk" spread stock mine/new/deep $sizes) >"$own/out" 2>"$own/said" || status=$?
+what='spread to a new folder with a limit on files'
+[ $status -eq 1 ] || fail "$what: exit code $status"
+said 'cannot write mine/new/deep/board-0.txt: file too large'
+[ -z "$(find mine -mindepth 1)" ] || fail "$what: a folder is left"
+[ -d mine ] || fail "$what: a folder is gone"
+# a folder that others may not write to
+mkdir locked
+cp stock locked
+chmod 555 locked
+locked="$zbk spread locked/stock locked $sizes"
+if [ "$(id -u)" -ne 0 ]; then
+    :
+elif command -v setpriv >/dev/null && chmod 755 "$own" "$own/work" && cp "$zbk" "$own/zbk" && chmod 755 "$own/zbk"; then
+    locked="setpriv --reuid 65534 --regid 65534 --clear-groups $own/zbk spread locked/stock locked $sizes"
+else
+    locked=
+fi
+if [ -n "$locked" ]; then
+    status=0
+    $locked >"$own/out" 2>"$own/said" || status=$?
+    what='spread to a locked folder'
+    [ $status -eq 1 ] || fail "$what: exit code $status"
+    said 'cannot write locked/board-0.txt: permission denied'
+    is locked stock
+else
+    echo "skipped a locked folder: the tests run as root"
+fi
+chmod 755 locked
+passed=$((passed + 5))
+# a link: what it leads to is replaced
+echo old >real
+ln -s real link
+try 0 gather kept -o link --force
+[ -L link ] || fail "$what: the link is gone"
+whole real stock
+# a link that leads nowhere stays as it is
+ln -s nowhere dangling
+for force in --quiet --force; do
+    try 1 gather kept -o dangling $force
+    said 'cannot write dangling: it is a link that leads nowhere'
+    [ "$(readlink dangling)" = nowhere ] || fail "$what: the link is another one"
+    [ ! -e nowhere ] || fail "$what: it wrote a file"
+done
+# a temporary name that is there, as a tool that was stopped leaves it, does not matter and is left alone
+mkdir stopped
+what='gather beside a temporary name'
+sh -c 'echo mine >stopped/.zbk-$$-0 && exec "$1" gather kept -o stopped/back' sh "$zbk" >"$own/out" 2>"$own/said" || fail "$what: exit code $?"
+whole stopped/back stock
+[ "$(cat stopped/.zbk-*)" = mine ] || fail "$what: the temporary name is not as it was"
+rm stopped/.zbk-*
+passed=$((passed + 1))
+# no temporary file is left anywhere
+[ -z "$(find . -name '.*zbk*')" ] || fail "a temporary file is left"
+
+# ---- the printers
+for limit in 2 3 9 32; do
+    "$coder" --sizes $limit >"$own/due"
+    try 0 sizes $limit
+    whole "$own/out" "$own/due"
+done
+echo refused=1 >"$own/due"
+for limit in 0 1 33 02 '' two 2x; do
+    try 1 sizes "$limit"
+    whole "$own/out" "$own/due"
+done
+# printed NAME INPUT DUE [OPTION]
+printed() {
+    status=0
+    what="print: $1"
+    "$zbk" print ${4:+"$4"} <"$2" >"$own/out" 2>"$own/said" || status=$?
+    whole "$own/out" "$3"
+    if grep -q '^refused=' "$3"; then due=1; else due=0; fi
+    [ $status -eq $due ] || fail "$what: exit code $status"
+    passed=$((passed + 1))
+}
+for input in "$top"/tests/share_printer/*.in; do
+    printed "$input" "$input" "${input%.in}.out"
+done
+for input in "$top"/tests/points_printer/*.in; do
+    "$coder" --printer points <"$input" >"$own/due"
+    printed "$input" "$input" "$own/due" --points-line
+done
+status=0
+echo n=8 | "$zbk" print >"$own/out" 2>"$own/said" || status=$?
+what='print: lines are missing'
+[ $status -eq 1 ] || fail "$what: exit code $status"
+said 'SIZE (1): a line is missing or malformed, or the sizes or points are not legal'
+passed=$((passed + 1))
+try 1 share stock -n 8 -k 4 -d 6 -r 2 --board 8
+said 'NODE (5): board 8, but there are boards 0 to 7'
+[ "$(cat "$own/out")" = refused=5 ] || fail "$what: another answer"
+try 0 share stock -n 8 -k 4 -d 6 -r 2 --board 3 -p first-series -o text
+whole text first/board-3.txt
+
+echo "tool: $passed passed, 0 failed"

@@ -1,0 +1,155 @@
+//! The help texts.
+
+use crate::files;
+use crate::trouble::Outcome;
+
+const ALL: &str = "\
+zbk: share texts of a file on shelf boards, by the proved archive
+
+  zbk spread FILE DIR --boards 8 --read 4 --helpers 6 --fresh 2
+                                 a text for each board, DIR/board-0.txt and so on
+  zbk gather TEXT.. [-o FILE]    the file from k texts
+  zbk rebuild DIR --fresh 2,5    the texts of fresh boards from those of others
+  zbk look TEXT..                what texts are
+  zbk share FILE --boards 8 --read 4 --helpers 6 --fresh 2 --board 3
+                                 the text of one board
+  zbk sizes N                    all legal sizes with at most N boards
+  zbk print                      what the share printer writes for its input
+
+'zbk COMMAND --help' says more. - stands for standard input where a file or
+texts are read, and for standard output where they are written. A file whose
+name is not in UTF-8 goes through such a pipe: zbk gather - <NAME.
+
+Exit codes: 0 done; 1 refused, or a file cannot be read or written; 2 the
+command line makes no sense.
+";
+
+const SIZES: &str = "  -n, --boards N         boards, at most 32
+  -k, --read K           boards that give the file back
+  -d, --helpers D        helpers of each fresh board, at least K
+  -r, --fresh R          boards rebuilt together, at least 1; D + R is at most N
+  -p, --points POINTS    standard: board i has the point i, as where nothing is
+                         said; first-series: i + 1, as on robots of the first
+                         series; or a pair of hexadecimal digits for each board
+";
+
+const COMMON: &str = "  -q, --quiet            no progress and no report
+  -h, --help             this text
+";
+
+const SPREAD: &str = "\
+zbk spread FILE DIR --boards N --read K --helpers D --fresh R
+           [--points POINTS] [--force]
+
+Writes the text of each board's share: DIR/board-0.txt and so on. Any K of them
+give the file back. FILE - is standard input; DIR - writes all texts to standard
+output, one after another. DIR is made where it is missing. A file has at most
+4096 stripes of K(2D + R - K) bytes; a longer one is LONG (3).
+
+@SIZES  -f, --force            replaces texts that are there
+@COMMON";
+
+const GATHER: &str = "\
+zbk gather TEXT.. [-o FILE] [--force]
+
+Writes the file that k texts give, to standard output or to FILE. Texts are
+named in any order; - is standard input; a file may have several texts, one
+after another; a folder stands for its texts board-0.txt and so on. Where more
+than k are named, all of them must agree.
+
+Refused, in this order:
+  TEXT (12)      bytes that are no text: line and place, what was expected there
+                 and what was found
+  MIXED (13)     texts that differ in sizes, points or length
+  COUNT (4)      fewer than k texts, and which boards are missing
+  REPEAT (6)     two texts of one board
+  DISAGREE (10)  texts that no file has; which one is at fault is said where
+                 k + 2 are named or more, and often with k + 1
+
+  -o, --output FILE      where the file is written
+  -f, --force            replaces FILE where it is there
+@COMMON";
+
+const REBUILD: &str = "\
+zbk rebuild DIR --fresh BOARDS [--helpers BOARDS] [--stand-ins BOARDS] [--force]
+
+Writes the texts of t fresh boards, 1 to r of them, from the texts of other
+boards in DIR, by the packets that these would send over the bus: d helpers send
+each fresh board two bytes a stripe, fresh boards send each other one, and where
+t is below r, r - t stand-ins send one each. Reports who sent, and the bytes
+carried: stripes x t x (2d + r - 1). BOARDS are numbers with commas between.
+
+  -r, --fresh BOARDS     the boards to rebuild; texts of theirs in DIR are not
+                         looked at
+  -d, --helpers BOARDS   d helpers; once for all fresh boards, or once for each
+      --stand-ins BOARDS r - t stand-ins, likewise. Where none are named, the
+                         first boards with a text are taken. All texts in DIR but
+                         those of fresh boards must agree.
+  -f, --force            replaces texts of the fresh boards
+@COMMON";
+
+const LOOK: &str = "\
+zbk look TEXT..
+
+Prints a table of texts: board, sizes, points, the file's length, its stripes,
+the bytes of a share; or why a text is not readable, and where. Texts are named
+as for 'zbk gather'. Exit code 1 where a text or a file is not readable.
+
+@COMMON";
+
+const SHARE: &str = "\
+zbk share FILE --boards N --read K --helpers D --fresh R --board I
+          [--points POINTS] [-o TEXT] [--force]
+
+Writes the text of board I's share, as the share printer and the points printer
+do, for files up to 4096 stripes. A refusal is also one line refused= with its
+number on standard output.
+
+@SIZES      --board I          whose share
+  -o, --output TEXT      where the text is written
+  -f, --force            replaces TEXT where it is there
+@COMMON";
+
+const SIZE_LINES: &str = "\
+zbk sizes N
+
+Prints all legal sizes with at most N boards, 2 to 32, as the size printer does:
+a line n= k= d= r= share= stripe= for each. For another N the line refused=1.
+
+@COMMON";
+
+const PRINT: &str = "\
+zbk print [--points-line] <INPUT
+
+Writes what the share printer writes for its input, lines n= k= d= r= node= and
+then the file's bytes, at most 16384: the text of the share, or one line
+refused= with the number.
+
+      --points-line      what the points printer writes, which takes a line
+                         points= after node=
+@COMMON";
+
+/// The help of a command; none where there is no such command.
+fn of(command: &str) -> Option<&'static str> {
+    Some(match command {
+        "spread" => SPREAD,
+        "gather" => GATHER,
+        "rebuild" => REBUILD,
+        "look" => LOOK,
+        "share" => SHARE,
+        "sizes" => SIZE_LINES,
+        "print" => PRINT,
+        _ => return None,
+    })
+}
+
+/// The help of all, or of a command.
+pub fn words(command: Option<&str>) -> Option<String> {
+    let words = command.map_or(Some(ALL), of)?;
+    Some(words.replace("@SIZES", SIZES).replace("@COMMON", COMMON))
+}
+
+/// Prints it; the command is one.
+pub fn print(command: Option<&str>) -> Outcome {
+    files::print(words(command).unwrap_or_default().as_bytes())
+}
