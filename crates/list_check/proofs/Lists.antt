@@ -23,7 +23,7 @@ use Rattle.sizes.specs.Refusals.{_when_}
 use Rattle.sizes.specs.Sizing.{legal}
 use Rattle.sizes.proofs.Legal.{legal-facts}
 use Rattle.store_spec.specs.Packets.{hearNamed}
-use Rattle.store_spec.proofs.Step.{every-append}
+use Rattle.store_spec.proofs.Agree.{every-append}
 use Rattle.checks.specs.Steps.{asked}
 use Rattle.checks.proofs.Answers.{passed}
 use Rattle.list_check.specs.Steps.{countTests}

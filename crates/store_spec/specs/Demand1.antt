@@ -152,5 +152,4 @@ pub record StoreCalls : Type 0 where
       ↔ ((file : List ℕ) → length file ≡ s .length → Bytes file → All (λ i. held s area i ≡ share (s .sizes) (s .points) file i) boards → ⊥))
   -- the ledger's lines are the store's: for each refusal but 1 and 10, by any book that tells legal sizes and names boards below n
   pub lines-agree : (b : Book) (area : List ℕ) (call : Call) → legal (b .sizes) ≡ true → All (λ i. i < b .sizes .n) (b .service) → length area ≡ b .areaLength
-      → All (λ x. appliesIn (storeLines (bookRecord b) area call) x ≡ appliesIn (bookLines b call) x)
-      (Area ∷ Long ∷ Empty ∷ Count ∷ Node ∷ Repeat ∷ Serving ∷ Down ∷ Short ∷ [])
+      → (x : Refusal) → x ≢ Size → x ≢ Disagree → appliesIn (storeLines (bookRecord b) area call) x ≡ appliesIn (bookLines b call) x
