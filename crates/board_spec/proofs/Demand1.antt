@@ -2,7 +2,7 @@
 -- Assumes nothing.
 use mathlib.Core.Path.{_≡_, refl, sym, ap, _∙_}
 use mathlib.Core.Bool.{Bool, true, false, not}
-use mathlib.Core.Logic.{_≢_, _↔_, _⊎_, inl, inr}
+use mathlib.Core.Logic.{_↔_}
 use mathlib.Core.Option.{Option, none, some}
 use mathlib.Core.List.{List, [], _∷_}
 use Prim.Native.Nat.{ℕ, _*_, _≤_}
@@ -114,10 +114,6 @@ module _ (z : Sizes) (xs : List ℕ) where
   text-ends L node held output = ends _ output _ (λ p. ltb-false (length output) (length (shareText z xs L node held)) (p .short))
 
 -- ---- a file is given just where there is one
-
-pub clear : (lines : List Line) (x : Refusal) → number x ≢ 10 → (x ≡ Disagree) ⊎ (appliesIn lines x ≡ false) → appliesIn lines x ≡ false
-clear lines x h (inl e) = absurd (h (ap number e))
-clear lines x h (inr e) = e
 
 -- the outcome of a call that found this file, or none
 abbrev outcome : Option (List ℕ) → List ℕ → BoardOutcome

@@ -53,5 +53,5 @@ pub alike-first : (order : List Refusal) {l m : List Line} → Alike l m → app
     → (((y : Refusal) → ahead order y Disagree ≡ true → appliesIn m y ≡ false) → appliesIn l Disagree ≡ appliesIn m Disagree)
     → first order l ≡ first order m
 alike-first order {l} {m} a s d =
-    first-same l m order (by-three (λ x. ((y : Refusal) → ahead order y x ≡ true → appliesIn m y ≡ false) → appliesIn l x ≡ appliesIn m x)
-    (λ _. s) d (λ x p q _. alike-at a x p q))
+    first-same l m order (λ z _. by-three (λ x. ((y : Refusal) → ahead order y x ≡ true → appliesIn m y ≡ false) → appliesIn l x ≡ appliesIn m x)
+    (λ _. s) d (λ x p q _. alike-at a x p q) z)

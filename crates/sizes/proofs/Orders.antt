@@ -102,22 +102,29 @@ module _ (lines : List Line) (x : Refusal) where
 
 -- ---- two lists of lines
 
--- they give the same where each refusal is alike in both once those ahead of it are off
+-- they give the same where each refusal of the order is alike in both once those ahead of it are off
 module _ (l m : List Line) where
   pub first-same : (order : List Refusal)
-      → ((x : Refusal) → ((y : Refusal) → ahead order y x ≡ true → appliesIn m y ≡ false) → appliesIn l x ≡ appliesIn m x)
+      → ((x : Refusal) → stands order x ≡ true → ((y : Refusal) → ahead order y x ≡ true → appliesIn m y ≡ false) → appliesIn l x ≡ appliesIn m x)
       → first order l ≡ first order m
   first-same [] h = refl
-  first-same (z ∷ order) h = go (appliesIn l z) (appliesIn m z) (h z none) refl (λ f. first-same order (later f))
+  first-same (z ∷ order) h = go (appliesIn l z) (appliesIn m z) (h z (stands-first (eq-eqb (number z) (number z) refl)) none) refl (λ f. first-same order (later f))
     where
+      stands-first : {t : Bool} → t ≡ true → pick t true (stands order z) ≡ true
+      stands-first e = rw e refl
+
+      stands-later : (t : Bool) (x : Refusal) → stands order x ≡ true → pick t true (stands order x) ≡ true
+      stands-later true x s = refl
+      stands-later false x s = s
+
       none : (y : Refusal) → ahead (z ∷ order) y z ≡ true → appliesIn m y ≡ false
       none y e =
           let r : eqb (number z) (number z) ≡ true = eq-eqb (number z) (number z) refl in
           let k : false ≡ true = rw r at e in
           absurd (true-false refl (sym k))
 
-      later : appliesIn m z ≡ false → (x : Refusal) → ((y : Refusal) → ahead order y x ≡ true → appliesIn m y ≡ false) → appliesIn l x ≡ appliesIn m x
-      later f x k = h x (λ y e. by y (eqb (number z) (number x)) (eqb (number z) (number y)) refl e)
+      later : appliesIn m z ≡ false → (x : Refusal) → stands order x ≡ true → ((y : Refusal) → ahead order y x ≡ true → appliesIn m y ≡ false) → appliesIn l x ≡ appliesIn m x
+      later f x s k = h x (stands-later (eqb (number z) (number x)) x s) (λ y e. by y (eqb (number z) (number x)) (eqb (number z) (number y)) refl e)
         where
           by : (y : Refusal) (t u : Bool) → eqb (number z) (number y) ≡ u → pick t false (pick u true (ahead order y x)) ≡ true → appliesIn m y ≡ false
           by y true u q e = absurd (true-false refl (sym e))

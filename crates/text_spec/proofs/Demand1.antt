@@ -26,6 +26,7 @@ use Rattle.sizes.specs.Sizing.{legal, α, B, stripes}
 use Rattle.sizes.specs.Refusals.{said, Line, _when_, appliesIn, first, boardOrder}
 use Rattle.sizes.proofs.Legal.{legal-facts}
 use Rattle.sizes.proofs.Lines.{clear-first, refuse-first, one-or-none}
+use Rattle.sizes.proofs.Orders.{Only}
 use Rattle.mbcr.specs.Share.{pointed, share, shares}
 use Rattle.mbcr.specs.Demand2.{Named}
 use Rattle.mbcr.specs.Read.{decodedFile, readFile}
@@ -40,7 +41,7 @@ use Rattle.text_spec.specs.Laws.{Writable}
 use Rattle.text_spec.specs.Demand1.{ReadEnds, Like, shareOf, TextCalls}
 use Rattle.text_spec.proofs.Laws.{Facts, facts-of, of-facts, text-told}
 use Rattle.text_spec.proofs.Alike.{like-is, read-lines, gather-lines}
-use Rattle.text_spec.proofs.Gather.{shares-bytes, width, is-file, Only, all-like, only-file, shares-wide}
+use Rattle.text_spec.proofs.Gather.{shares-bytes, width, is-file, all-like, only-file, shares-wide}
 
 -- ---- the reader
 
@@ -155,7 +156,7 @@ itself : {A : Type 0} → A ↔ A
 itself = ((λ a. a), (λ a. a))
 
 module _ (t : ShareTold) (us : List ShareTold) (output : List ℕ) (w : All Writable (t ∷ us))
-    (h : Only (gatherLines (textsJoined (t ∷ us)) output)) where
+    (h : Only (gatherLines (textsJoined (t ∷ us)) output) Disagree boardOrder) where
   abbrev z : Sizes
   z = t .sizes
 
