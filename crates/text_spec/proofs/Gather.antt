@@ -119,11 +119,11 @@ module _ (t : ShareTold) (us : List ShareTold) (output : List ℕ) (w : All Writ
     counted e = sym length-nodes ∙ eqb-true _ _ (alls-hold (eqb (length (nodesOf ts)) (t .sizes .k) ∷ []) (not-no _ e) .0)
 
     -- once the lines ahead of it are off in the call of a file, a line is the same in both
-    Same : Refusal → Type 0
+    abbrev Same : Refusal → Type 0
     Same x = ((y : Refusal) → ahead boardOrder y x ≡ true → appliesIn asFile y ≡ false) → appliesIn (linesBy (some ts)) x ≡ appliesIn asFile x
 
     agree : (x : Refusal) → stands boardOrder x ≡ true → Same x
-    unfolding fileLines gathered Same
+    unfolding fileLines gathered
     agree x s =
         let f = facts-of t (w .0 .0) in
         let text : Same Text = λ off. refl in
