@@ -1,4 +1,4 @@
--- `decode_stripes::stripes_in` meets its contract: the stripes so far, the last of them cut to the length, over what was there.
+-- `stripes_cut::stripes_in` meets its contract: the stripes so far, the last of them cut to the length, over what was there.
 -- Assumes nothing.
 use mathlib.Core.Path.{_≡_, refl, sym, ap, ap₂, _∙_}
 use mathlib.Core.List.{List, _++_}
@@ -12,10 +12,10 @@ use Rattle.lists.specs.Lists.{join, over}
 use Rattle.sizes.proofs.Legal.{legal-facts}
 use Rattle.mbcr.proofs.Decode.{length-decoded}
 use Rattle.decode_laws.proofs.Held.{placed-before}
-use Rattle.decode_stripes.specs.Steps.{stripeAt}
-use Rattle.decode_stripes.proofs.Made.{Kept, work-kept, stripes-turn, stripes-end, starts-in}
-use Rattle.decode_stripes.proofs.stripes_in.Statement.{statement}
-use Rattle.decode_stripes.proofs.stripes_in.Tie as tie
+use Rattle.stripes_cut.specs.Steps.{stripeAt}
+use Rattle.stripes_cut.proofs.Made.{Kept, work-kept, stripes-turn, stripes-end, starts-in}
+use Rattle.stripes_cut.proofs.stripes_in.Statement.{statement}
+use Rattle.stripes_cut.proofs.stripes_in.Tie as tie
 
 abbrev Inv-loop : tie.InvT-loop
 Inv-loop sizes points boards targets starts bytes first count ff gf vc tr et fs₀ gs₀ vf₀ vg₀ tp₀ rows₀ columns₀ u₀ out₀ b len s₀ fs gs vf vg tp rows columns u out s =
