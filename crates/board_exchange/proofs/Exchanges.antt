@@ -22,7 +22,7 @@ use Rattle.sizes.proofs.Orders.{clear-off}
 use Rattle.mbcr.specs.Rebuild.{exchangePacket}
 use Rattle.mbcr.proofs.Repair.{length-exchange}
 use Rattle.board_spec.specs.Calls.{exchangeLines, exchangeCall}
-use Rattle.checks.specs.Steps.{Stated}
+use Rattle.line_checks.specs.Steps.{Stated}
 use Rattle.checks.specs.Outcomes.{outcome}
 use Rattle.checks.proofs.Facts.{stated-of, Taken, taken-of, refused-by, done-by}
 

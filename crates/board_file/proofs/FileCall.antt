@@ -24,9 +24,9 @@ use Rattle.mbcr.specs.Read.{decodedFile, readFile}
 use Rattle.mbcr.proofs.Read.{length-decoded-file}
 use Rattle.board_spec.specs.Calls.{fileOf, countLine, nodeLine, repeatLine, areaLine, fileLines, fileCall}
 use Rattle.board_spec.proofs.Files.{file-is}
-use Rattle.checks.specs.Steps.{asked, Stated}
+use Rattle.line_checks.specs.Steps.{asked, Stated}
 use Rattle.checks.specs.Outcomes.{outcome}
-use Rattle.checks.proofs.Answers.{passed}
+use Rattle.line_checks.proofs.Answers.{passed}
 use Rattle.checks.proofs.Facts.{stated-of, Taken, taken-of, refused-by, done-by}
 use Rattle.decode_stripe.specs.Steps.{Asked}
 

@@ -22,7 +22,7 @@ use Rattle.sizes.proofs.Legal.{legal-facts}
 use Rattle.mbcr.specs.Rebuild.{finishedShare}
 use Rattle.mbcr.proofs.Repair.{length-finished}
 use Rattle.board_spec.specs.Calls.{finishedLines, finishedCall}
-use Rattle.checks.specs.Steps.{Stated}
+use Rattle.line_checks.specs.Steps.{Stated}
 use Rattle.checks.specs.Outcomes.{outcome}
 use Rattle.checks.proofs.Facts.{stated-of, Taken, taken-of, refused-by, done-by}
 

@@ -23,7 +23,7 @@ use Rattle.sizes.specs.Sizing.{α, stripes}
 use Rattle.sizes.specs.Refusals.{_when_, first, boardOrder}
 use Rattle.sizes.proofs.Legal.{Legal, legal-facts}
 use Rattle.board_spec.specs.Calls.{BoardOutcome, settled, fileOf, fileCall, countLine, repeatLine, shortLine}
-use Rattle.checks.specs.Steps.{Stated}
+use Rattle.line_checks.specs.Steps.{Stated}
 use Rattle.checks.specs.Outcomes.{outcome}
 use Rattle.text_spec.specs.Texts.{ShareTold, textOf, textsJoined, Found, textAt, textsOf}
 use Rattle.text_spec.specs.Calls.{textsTold, firstOf, like, nodesOf, sharesOf, gathered, gatherLines, gatherCall}

@@ -10,7 +10,7 @@ use Rattle.sizes.specs.declared.Sizes.{Sizes}
 use Rattle.sizes.specs.Sizing.{α, stripes}
 use Rattle.mbcr.specs.Share.{pointed}
 use Rattle.board_spec.specs.Calls.{BoardOutcome, fileCall}
-use Rattle.checks.specs.Steps.{Stated}
+use Rattle.line_checks.specs.Steps.{Stated}
 use Rattle.text_stripes.specs.Steps.{spelled, Spelled}
 
 pub record Ready (text : List ℕ) (z : Sizes) (xs : List ℕ) (L : ℕ) (boards places : List ℕ) : Type 0 where

@@ -23,9 +23,9 @@ use Rattle.sizes.proofs.Legal.{legal-facts, α-most, B-most, stripes-least}
 use Rattle.sizes.proofs.Orders.{clear-off}
 use Rattle.board_spec.specs.Text.{shareText}
 use Rattle.board_spec.specs.Calls.{nodeLine, areaLine, textLines, textCall}
-use Rattle.checks.specs.Steps.{asked, Stated}
+use Rattle.line_checks.specs.Steps.{asked, Stated}
 use Rattle.checks.specs.Outcomes.{outcome}
-use Rattle.checks.proofs.Answers.{passed}
+use Rattle.line_checks.proofs.Answers.{passed}
 use Rattle.checks.proofs.Facts.{stated-of, taken-of, refused-by, done-by}
 use Rattle.text_writer.specs.Steps.{Writes, Fits}
 

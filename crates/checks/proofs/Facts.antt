@@ -20,7 +20,7 @@ use Rattle.mbcr.specs.Share.{pointed, DifferentPoints}
 use Rattle.mbcr.proofs.PointLaws.{pointed-facts, pointed-differ}
 use Rattle.board_spec.specs.Calls.{sizeLine, longLine, settled}
 use Rattle.board_spec.proofs.Runs.{size-facts}
-use Rattle.checks.specs.Steps.{statedLines, Stated}
+use Rattle.line_checks.specs.Steps.{statedLines, Stated}
 use Rattle.checks.specs.Outcomes.{outcome}
 
 -- what the first two lines leave of the sizes and the length, and of the points

@@ -24,8 +24,8 @@ use Rattle.sizes.specs.Sizing.{legal}
 use Rattle.sizes.proofs.Legal.{legal-facts}
 use Rattle.store_spec.specs.Packets.{hearNamed}
 use Rattle.store_spec.proofs.Agree.{every-append}
-use Rattle.checks.specs.Steps.{asked}
-use Rattle.checks.proofs.Answers.{passed}
+use Rattle.line_checks.specs.Steps.{asked}
+use Rattle.line_checks.proofs.Answers.{passed}
 use Rattle.list_check.specs.Steps.{countTests}
 
 -- ---- tests of two lists

@@ -13,7 +13,7 @@ ghost use Rattle.sizes.specs.Refusals.{_when_, first, storeOrder};
 ghost use Rattle.board_spec.specs.Calls.{nodeLine};
 ghost use Rattle.store_spec.specs.Packets.{Hearing, hearNamed};
 ghost use Rattle.store_spec.specs.Calls.{listLines};
-ghost use Rattle.checks.specs.Steps.{asked};
+ghost use Rattle.line_checks.specs.Steps.{asked};
 ghost use Rattle.store_checks.specs.Steps.{recordOf};
 ghost use Rattle.list_check.specs.Steps.{Runs, countTests, named, repeatTests};
 use sizes::Check;

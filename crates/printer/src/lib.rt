@@ -199,7 +199,7 @@ fn is_accepted(p: Parser) -> bool
     let z = sizes(p);
     if z.legal() {
         let xs = points(p);
-        return checks::points_taken(z, &xs);
+        return line_checks::points_taken(z, &xs);
     }
     false
 }

@@ -19,7 +19,7 @@ use Rattle.sizes.proofs.Legal.{legal-facts, stripes-least}
 use Rattle.sizes.proofs.Orders.{clear-off}
 use Rattle.store_spec.specs.Record.{Record, sound, areaLen}
 use Rattle.store_spec.proofs.Records.{sound-facts}
-use Rattle.checks.specs.Steps.{Stated}
+use Rattle.line_checks.specs.Steps.{Stated}
 use Rattle.checks.proofs.Facts.{Taken, taken}
 use Rattle.shared_checks.specs.Steps.{areaLines, boardLines}
 

@@ -13,8 +13,8 @@ use Rattle.sizes.specs.declared.Refusal.the-variants.{Count}
 use Rattle.sizes.specs.declared.Check.the-variants.{Refuse}
 use Rattle.sizes.specs.Refusals.{_when_}
 use Rattle.sizes.specs.Sizing.{legal}
-use Rattle.checks.specs.Steps.{asked}
-use Rattle.checks.proofs.Answers.{refuses}
+use Rattle.line_checks.specs.Steps.{asked}
+use Rattle.line_checks.proofs.Answers.{refuses}
 use Rattle.list_check.specs.Steps.{countTests}
 use Rattle.list_check.proofs.Lists.{few-named, none-fails, most-fails, counts-hold}
 use Rattle.list_check.proofs.check_named_counts.Statement.{statement}

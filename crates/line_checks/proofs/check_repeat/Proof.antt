@@ -1,9 +1,9 @@
--- `checks::check_repeat` meets its contract.
+-- `line_checks::check_repeat` meets its contract.
 -- Assumes nothing.
 use borrow.Author.Needs.{needs}
 use mathlib.Core.Path.{refl, sym, _∙_}
-use Rattle.checks.proofs.check_repeat.Statement.{statement}
-use Rattle.checks.proofs.check_repeat.Tie as tie
+use Rattle.line_checks.proofs.check_repeat.Statement.{statement}
+use Rattle.line_checks.proofs.check_repeat.Tie as tie
 
 returns : tie.Need-returns
 returns c = rw (sym (c .before .different .ensures) ∙ c .if1 .taken) refl

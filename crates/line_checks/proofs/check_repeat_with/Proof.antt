@@ -1,4 +1,4 @@
--- `checks::check_repeat_with` meets its contract.
+-- `line_checks::check_repeat_with` meets its contract.
 -- Assumes nothing.
 use mathlib.Core.Path.{_≡_, refl, sym, _∙_}
 use mathlib.Core.Bool.{false}
@@ -6,8 +6,8 @@ use lib.Dec.{eqb}
 use borrow.Author.Needs.{needs}
 use borrow.Author.Tests.{eq-eqb, ne-eqb}
 use Rattle.lists.specs.Tests.{among}
-use Rattle.checks.proofs.check_repeat_with.Statement.{statement}
-use Rattle.checks.proofs.check_repeat_with.Tie as tie
+use Rattle.line_checks.proofs.check_repeat_with.Statement.{statement}
+use Rattle.line_checks.proofs.check_repeat_with.Tie as tie
 
 -- the places
 abbrev st : tie.After-among-from → tie.Start

@@ -12,7 +12,7 @@ use Rattle.sizes.specs.declared.Refusal.{Refusal}
 use Rattle.sizes.specs.declared.Check.the-variants.{Pass, Refuse}
 use Rattle.sizes.specs.Refusals.{Line}
 use Rattle.sizes.proofs.Lines.{refuse-pass}
-use Rattle.checks.specs.Steps.{asked}
+use Rattle.line_checks.specs.Steps.{asked}
 
 pub passes : (l : Line) → l .applies ≡ false → Pass ≡ asked l
 passes l h = rw h refl

@@ -1,4 +1,4 @@
--- `checks::check_repeat_joined` meets its contract.
+-- `line_checks::check_repeat_joined` meets its contract.
 -- Assumes nothing.
 use Prim.Native.Nat.{ℕ}
 use mathlib.Core.Path.{_≡_, sym, ap, _∙_}
@@ -9,11 +9,11 @@ use Rattle.lists.specs.Tests.{different}
 use Rattle.sizes.specs.declared.Refusal.the-variants.{Repeat}
 use Rattle.sizes.specs.declared.Check.the-variants.{Refuse}
 use Rattle.board_spec.specs.Calls.{repeatLine}
-use Rattle.checks.specs.Steps.{asked}
-use Rattle.checks.proofs.Answers.{passes, refuses}
-use Rattle.checks.proofs.Joined.{twice-left, twice-mid, shared, last-left, last-mid, all-apart}
-use Rattle.checks.proofs.check_repeat_joined.Statement.{statement}
-use Rattle.checks.proofs.check_repeat_joined.Tie as tie
+use Rattle.line_checks.specs.Steps.{asked}
+use Rattle.line_checks.proofs.Answers.{passes, refuses}
+use Rattle.line_checks.proofs.Joined.{twice-left, twice-mid, shared, last-left, last-mid, all-apart}
+use Rattle.line_checks.proofs.check_repeat_joined.Statement.{statement}
+use Rattle.line_checks.proofs.check_repeat_joined.Tie as tie
 
 -- the places
 abbrev st : tie.After-different → tie.Start

@@ -1,4 +1,4 @@
--- `checks::points_taken` meets its contract: the tests in their order; that each point is a byte holds of all.
+-- `line_checks::points_taken` meets its contract: the tests in their order; that each point is a byte holds of all.
 -- Assumes nothing.
 use Prim.Native.Nat.{_<_}
 use mathlib.Core.Path.{sym, _∙_}
@@ -7,9 +7,9 @@ use borrow.Author.Needs.{needs}
 use Rattle.lists.specs.Lists.{Bytes}
 use Rattle.lists.proofs.Alls.{all-of}
 use Rattle.sizes.proofs.Legal.{legal-facts}
-use Rattle.checks.proofs.Points.{not-32, repeated, by-rest}
-use Rattle.checks.proofs.points_taken.Statement.{statement}
-use Rattle.checks.proofs.points_taken.Tie as tie
+use Rattle.line_checks.proofs.Points.{not-32, repeated, by-rest}
+use Rattle.line_checks.proofs.points_taken.Statement.{statement}
+use Rattle.line_checks.proofs.points_taken.Tie as tie
 
 -- the places
 abbrev known : tie.Else1 → tie.After-shared-slice-known

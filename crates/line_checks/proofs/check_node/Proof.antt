@@ -1,9 +1,9 @@
--- `checks::check_node` meets its contract.
+-- `line_checks::check_node` meets its contract.
 -- Assumes nothing.
 use mathlib.Core.Path.{refl}
 use borrow.Author.Tests.{lt-ltb, le-ltb}
-use Rattle.checks.proofs.check_node.Statement.{statement}
-use Rattle.checks.proofs.check_node.Tie as tie
+use Rattle.line_checks.proofs.check_node.Statement.{statement}
+use Rattle.line_checks.proofs.check_node.Tie as tie
 
 returns : tie.Need-returns
 returns c = rw (lt-ltb _ _ (c .if1 .taken)) refl
