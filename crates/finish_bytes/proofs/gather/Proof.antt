@@ -1,9 +1,9 @@
--- `finish::gather` meets its contract: the callees' contracts, put together.
+-- `finish_bytes::gather` meets its contract: the callees' contracts, put together.
 -- Assumes nothing.
-use Rattle.finish.proofs.Shares.{gather-made}
+use Rattle.finish_bytes.proofs.Shares.{gather-made}
 use borrow.Author.Needs.{needs}
-use Rattle.finish.proofs.gather.Statement.{statement}
-use Rattle.finish.proofs.gather.Tie as tie
+use Rattle.finish_bytes.proofs.gather.Statement.{statement}
+use Rattle.finish_bytes.proofs.gather.Tie as tie
 
 sub-last : tie.Need-sub-last
 sub-last c = search needs

@@ -23,7 +23,7 @@ use Rattle.exchange.proofs.Packets.{length-received, length-exchanged, received
 use Rattle.row_values.specs.Steps.{rowSums}
 use Rattle.finish_rows.specs.Steps.{finishedBy, boardRows}
 use Rattle.finish_rows.proofs.Finished.{back-next, finished-is, length-finished, rows-g, rows-f}
-use Rattle.finish.specs.Steps.{stripeBy}
+use Rattle.finish_bytes.specs.Steps.{stripeBy}
 
 -- the second bytes of the helpers and those of the partners, put in one after another
 pub gather-made : (z : Sizes) (S s : ℕ) (packets exchanges f a b : List ℕ) → 1 ≤ z .r → length f ≡ z .d + z .r
