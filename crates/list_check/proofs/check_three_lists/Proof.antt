@@ -11,7 +11,7 @@ use Rattle.sizes.specs.Refusals.{_when_}
 use Rattle.board_spec.specs.Calls.{nodeLine}
 use Rattle.line_checks.specs.Steps.{asked}
 use Rattle.line_checks.proofs.Answers.{refuses}
-use Rattle.list_check.proofs.Lists.{left-fails, left-holds}
+use Rattle.list_tests.proofs.Lists.{left-fails, left-holds}
 use Rattle.list_check.proofs.check_three_lists.Statement.{statement}
 use Rattle.list_check.proofs.check_three_lists.Tie as tie
 

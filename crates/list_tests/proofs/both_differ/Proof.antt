@@ -1,10 +1,10 @@
--- `list_check::both_differ` meets its contract.
+-- `list_tests::both_differ` meets its contract.
 -- Assumes nothing.
 use mathlib.Core.Path.{_≡_, sym, _∙_}
 use borrow.Author.Needs.{needs}
-use Rattle.list_check.proofs.Lists.{twice-left, twice-right, both-different}
-use Rattle.list_check.proofs.both_differ.Statement.{statement}
-use Rattle.list_check.proofs.both_differ.Tie as tie
+use Rattle.list_tests.proofs.Lists.{twice-left, twice-right, both-different}
+use Rattle.list_tests.proofs.both_differ.Statement.{statement}
+use Rattle.list_tests.proofs.both_differ.Tie as tie
 
 -- the places
 abbrev st : tie.After-different → tie.Start

@@ -1,4 +1,4 @@
--- `list_check::check_named_counts` meets its contract: the tests in their order, r − t only where t is at most r.
+-- `list_tests::check_named_counts` meets its contract: the tests in their order, r − t only where t is at most r.
 -- Assumes nothing.
 use Prim.Native.Nat.{ℕ, _-_, _*_, _≤_, _<_}
 use mathlib.Core.Path.{_≡_, refl, sym, ap, _∙_}
@@ -15,10 +15,10 @@ use Rattle.sizes.specs.Refusals.{_when_}
 use Rattle.sizes.specs.Sizing.{legal}
 use Rattle.line_checks.specs.Steps.{asked}
 use Rattle.line_checks.proofs.Answers.{refuses}
-use Rattle.list_check.specs.Steps.{countTests}
-use Rattle.list_check.proofs.Lists.{few-named, none-fails, most-fails, counts-hold}
-use Rattle.list_check.proofs.check_named_counts.Statement.{statement}
-use Rattle.list_check.proofs.check_named_counts.Tie as tie
+use Rattle.list_tests.specs.Steps.{countTests}
+use Rattle.list_tests.proofs.Lists.{few-named, none-fails, most-fails, counts-hold}
+use Rattle.list_tests.proofs.check_named_counts.Statement.{statement}
+use Rattle.list_tests.proofs.check_named_counts.Tie as tie
 
 returns : tie.Need-returns
 returns c =

@@ -26,7 +26,7 @@ use Rattle.store_spec.specs.Packets.{hearNamed}
 use Rattle.store_spec.proofs.Agree.{every-append}
 use Rattle.line_checks.specs.Steps.{asked}
 use Rattle.line_checks.proofs.Answers.{passed}
-use Rattle.list_check.specs.Steps.{countTests}
+use Rattle.list_tests.specs.Steps.{countTests}
 
 -- ---- tests of two lists
 
