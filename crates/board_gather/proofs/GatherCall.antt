@@ -39,7 +39,7 @@ use Rattle.text_scan.specs.Steps.{likeHead, Inside, Heads}
 use Rattle.text_scan.proofs.Prefix.{none-behind}
 use Rattle.text_in.specs.Steps.{bytesAt}
 use Rattle.text_stripes.specs.Steps.{spelled, Spelled}
-use Rattle.board_gather.specs.Steps.{Ready, fileTold}
+use Rattle.gather_told.specs.Steps.{Ready, fileTold}
 
 -- what heads tell, in lists
 abbrev pub nodesBy : List Head → List ℕ

@@ -28,7 +28,7 @@ use Rattle.decode_stripe.specs.Steps.{Asked}
 use Rattle.board_file.proofs.FileCall.{checked, file-refuses, file-works}
 use Rattle.text_in.specs.Steps.{pairAt, bytesAt}
 use Rattle.text_stripes.specs.Steps.{spelled}
-use Rattle.board_gather.specs.Steps.{Ready, fileTold}
+use Rattle.gather_told.specs.Steps.{Ready, fileTold}
 
 module _ (text : List ℕ) (z : Sizes) (xs : List ℕ) (L : ℕ) (boards places output : List ℕ) (ready : Ready text z xs L boards places) where
   abbrev pub shares : List ℕ

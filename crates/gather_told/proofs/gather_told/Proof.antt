@@ -1,4 +1,4 @@
--- `board_gather::gather_told` meets its contract: each test is taken apart, and a refusal returned early; DISAGREE is asked before a byte is written.
+-- `gather_told::gather_told` meets its contract: each test is taken apart, and a refusal returned early; DISAGREE is asked before a byte is written.
 -- Assumes nothing.
 use mathlib.Core.Path.{_≡_, sym, ap, subst, _∙_}
 use mathlib.Core.Bool.{Bool, true, false}
@@ -12,10 +12,10 @@ use Rattle.sizes.specs.Sizing.{α, stripes}
 use Rattle.mbcr.specs.Read.{decodedFile, readFile}
 use Rattle.decode_stripe.specs.Steps.{Asked}
 use Rattle.text_stripes.specs.Steps.{spelled, Spelled}
-use Rattle.board_gather.specs.Steps.{Ready}
-use Rattle.board_gather.proofs.ToldCall as law
-use Rattle.board_gather.proofs.gather_told.Statement.{statement}
-use Rattle.board_gather.proofs.gather_told.Tie as tie
+use Rattle.gather_told.specs.Steps.{Ready}
+use Rattle.gather_told.proofs.ToldCall as law
+use Rattle.gather_told.proofs.gather_told.Statement.{statement}
+use Rattle.gather_told.proofs.gather_told.Tie as tie
 
 -- places in the code
 abbrev st : tie.After-different → tie.Start
