@@ -7,7 +7,7 @@ use native.Mathlib.Omega.{arith}
 use lib.ListN.{set}
 use Rattle.lists.specs.Lists.{tabulate}
 use Rattle.gf256.specs.Field.{add, product, reduce, mul, squares, inverse}
-use Rattle.inverses.specs.Steps.{halved, walk}
+use Rattle.inverse_walk.specs.Steps.{halved, walk}
 
 pub walked : walk 255 1 1 (tabulate 256 (λ j. 0)) ≡ tabulate 256 inverse
 unfolding add product reduce mul squares inverse halved walk
