@@ -8,7 +8,14 @@ ghost use lib.ListN.{length, take};
 ghost use Rattle.mbcr.specs.Rebuild.{received, exchanged};
 
 // The second bytes of the helpers for stripe s and those of the partners, in all places of f but the last.
-pub fn gather(sizes: Sizes, stripes: usize, s: usize, packets: &[u8], exchanges: &[u8], f: &mut [u8])
+pub fn gather(
+    sizes: Sizes,
+    stripes: usize,
+    s: usize,
+    packets: &[u8],
+    exchanges: &[u8],
+    f: &mut [u8],
+)
     requires { ⌜ (1 ≤ sizes .r) × (s < stripes) × (stripes ≤ 4096) × (length (now packets) ≡ sizes .d * (2 * stripes)) × (length (now exchanges) ≡ (sizes .r - 1) * stripes) × (length (now f) ≡ sizes .d + sizes .r) ⌝ }
     ensures { λ _. ⌜ take (length (now (f .entry)) - 1) (now (f .exit)) ≡ received sizes stripes 1 s (now (packets .entry)) ++ exchanged sizes stripes s (now (exchanges .entry)) ⌝ }
 {
