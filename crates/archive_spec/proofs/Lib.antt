@@ -7,4 +7,3 @@ pub mod Laws
 pub mod Demand1
 pub mod Demand3
 pub mod ListLaws
-pub mod Figures

@@ -20,10 +20,10 @@ use Rattle.store_spec.proofs.Tested.{bytes, agrees, agree, fair}
 use Rattle.text_spec.specs.Texts.{admitted, somePoints, textAt, readText}
 use Rattle.text_spec.specs.Calls.{readTextLines, readTextCall}
 use Rattle.record_words.specs.Words.{isRecord, recordFrom}
 use Rattle.archive_spec.specs.Lent.{zbkSetUp, zbk}
 use Rattle.archive_spec.specs.Texts.{zbkReadText}
 use Rattle.archive_spec.specs.Demand3.{AllowedLents}
-use Rattle.archive_spec.specs.Figures.{blank, four, points, any, steps, ArchiveFigures}
+use Rattle.call_figures.specs.ArchiveFigures.{blank, four, points, any, steps, ArchiveFigures}
 
 -- the premises of a list, tested
 abbrev allows : List ℕ → List ℕ → Book → List Step → Bool

@@ -1,5 +1,5 @@
 -- Figures of the board-level calls over the definitions: for each call each refusal that it has, then each adjacent pair of the order, where
--- both lines hold and the first is given; and figures with two stripes. proofs/Figures.antt has `figures`.
+-- both lines hold and the first is given; and figures with two stripes. proofs/BoardFigures.antt has `figures`.
 -- Assumes nothing.
 use mathlib.Core.Path.{_≡_}
 use mathlib.Core.Bool.{true, false}

@@ -1,6 +1,6 @@
 -- Figures of the archive's store calls, with words, answers and outputs written out: single calls, and a list of them, each on what the last
 -- one left, with what demand 3 of the archive says of it: that it is allowed, what is compared, and where it ends. And of the text reader: a text
--- that is read, and each refusal. proofs/Figures.antt has `archive-figures`.
+-- that is read, and each refusal. proofs/ArchiveFigures.antt has `archive-figures`.
 -- Assumes nothing.
 use mathlib.Core.Path.{_≡_}
 use mathlib.Core.List.{List, [], _∷_, _++_, map}

@@ -1,4 +1,4 @@
--- Figures of the code over the definitions, in their order. proofs/Figures.antt has `figures`.
+-- Figures of the code over the definitions, in their order. proofs/CodeFigures.antt has `figures`.
 -- Assumes nothing.
 use mathlib.Core.Path.{_≡_}
 use mathlib.Core.Bool.{true, false}
