@@ -12,7 +12,7 @@ use Rattle.sizes.specs.declared.Sizes.{Sizes}
 -- the decimal digits of x, of which there are at most m + 1
 abbrev pub digits : ℕ → ℕ → List ℕ
 digits zero x = (0x30 + x) ∷ []
-digits (suc m) x = elim (ltb x 10) [ true ↦ 0x30 ∷ (0x30 + x) ∷ [] | false ↦ digits m (x / 10) ++ ((0x30 + x % 10) ∷ []) ]
+digits (suc m) x = elim (ltb x 10) [ true ↦ (0x30 + x) ∷ [] | false ↦ digits m (x / 10) ++ ((0x30 + x % 10) ∷ []) ]
 
 -- "decimals with no leading zero"
 unfoldable pub decimal : ℕ → List ℕ

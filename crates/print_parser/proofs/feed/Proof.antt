@@ -1,13 +1,13 @@
--- `printer::feed` meets its contract, case by case.
+-- `print_parser::feed` meets its contract, case by case.
 -- Assumes nothing.
 use mathlib.Core.Path.{_≡_, refl, sym, ap, _∙_}
 use Rattle.number_lines.specs.declared.Read.{Read}
 use Rattle.printer.specs.declared.Parser.{Parser}
 use Rattle.printer.specs.Steps.{taken, fed}
 use Rattle.printer.proofs.Fed.{fed-bad, fed-behind, fed-line}
 use borrow.Author.Needs.{needs}
-use Rattle.printer.proofs.feed.Statement.{statement}
-use Rattle.printer.proofs.feed.Tie as tie
+use Rattle.print_parser.proofs.feed.Statement.{statement}
+use Rattle.print_parser.proofs.feed.Tie as tie
 
 abbrev st : tie.After-struct-known → tie.Start
 st c = c .before .before

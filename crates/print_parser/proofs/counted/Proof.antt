@@ -1,11 +1,11 @@
--- `printer::counted` meets its contract, by the test.
+-- `print_parser::counted` meets its contract, by the test.
 -- Assumes nothing.
 use borrow.Author.Tests.{lt-ltb, le-ltb}
 use native.Mathlib.Omega.{arith}
 use Rattle.printer.specs.Printer.{maxFile}
 use borrow.Author.Needs.{needs}
-use Rattle.printer.proofs.counted.Statement.{statement}
-use Rattle.printer.proofs.counted.Tie as tie
+use Rattle.print_parser.proofs.counted.Statement.{statement}
+use Rattle.print_parser.proofs.counted.Tie as tie
 
 returns : tie.Need-returns
 returns c = rw (lt-ltb maxFile (c .before .before .args .p .count) (c .if1 .taken))

@@ -1,4 +1,4 @@
--- `printer::start` meets its contract, by those of the readers'.
+-- `print_parser::start` meets its contract, by those of the readers'.
 -- Assumes nothing.
 use mathlib.Core.Path.{ap, ap₂, _∙_}
 use mathlib.Core.Bool.{false}
@@ -6,11 +6,11 @@ use Prim.Native.Nat.{ℕ}
 use Rattle.number_lines.specs.declared.Reader.{Reader}
 use Rattle.point_lines.specs.declared.PointReader.{PointReader}
 use Rattle.point_lines.specs.Steps as points
 use Rattle.printer.specs.declared.Parser.{Parser}
 use Rattle.printer.specs.Steps.{begin, moved, pointsMoved}
 use borrow.Author.Needs.{needs}
-use Rattle.printer.proofs.start.Statement.{statement}
-use Rattle.printer.proofs.start.Tie as tie
+use Rattle.print_parser.proofs.start.Statement.{statement}
+use Rattle.print_parser.proofs.start.Tie as tie
 
 returns : tie.Need-returns
 returns c =

@@ -1,11 +1,11 @@
--- `printer::feed_behind` meets its contract, by the reader's place.
+-- `print_parser::feed_behind` meets its contract, by the reader's place.
 -- Assumes nothing.
 use mathlib.Core.Path.{sym, ap, _∙_}
 use Rattle.number_lines.proofs.Picks.{if-eq, if-ne}
 use Rattle.printer.specs.Steps.{pointsMoved}
 use borrow.Author.Needs.{needs}
-use Rattle.printer.proofs.feed_behind.Statement.{statement}
-use Rattle.printer.proofs.feed_behind.Tie as tie
+use Rattle.print_parser.proofs.feed_behind.Statement.{statement}
+use Rattle.print_parser.proofs.feed_behind.Tie as tie
 
 -- where the call began
 abbrev st : tie.After-struct-known → tie.Start

@@ -1,15 +1,15 @@
--- `printer::refusal` meets its contract, by the tests.
+-- `print_parser::refusal` meets its contract, by the tests.
 -- Assumes nothing.
 use mathlib.Core.Path.{_≡_, sym, _∙_}
 use borrow.Author.Tests.{not-true, not-false}
 use lib.Dec.{ltb}
 use Rattle.lists.specs.Tests.{pick}
 use Rattle.printer.specs.Printer.{maxFile}
 use Rattle.printer.specs.Steps.{accepted, sizesRead, pointsRead, refusalOf}
 use Rattle.number_lines.proofs.Picks.{yes, no, if-lt, if-le}
 use borrow.Author.Needs.{needs}
-use Rattle.printer.proofs.refusal.Statement.{statement}
-use Rattle.printer.proofs.refusal.Tie as tie
+use Rattle.print_parser.proofs.refusal.Statement.{statement}
+use Rattle.print_parser.proofs.refusal.Tie as tie
 
 -- the places
 abbrev st : tie.After-in-file → tie.Start

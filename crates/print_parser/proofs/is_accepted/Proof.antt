@@ -1,4 +1,4 @@
--- `printer::is_accepted` meets its contract, by the tests.
+-- `print_parser::is_accepted` meets its contract, by the tests.
 -- Assumes nothing.
 use mathlib.Core.Path.{_≡_, sym, ap, ap₂, _∙_}
 use mathlib.Core.Bool.{Bool, true, false}
@@ -7,10 +7,10 @@ use Rattle.lists.specs.Tests.{pick, alls}
 use Rattle.sizes.specs.Sizing.{legal}
 use Rattle.mbcr.specs.Share.{pointed}
 use Rattle.number_lines.proofs.Picks.{yes, no}
 use Rattle.printer.specs.Steps.{sizesRead}
 use borrow.Author.Needs.{needs}
-use Rattle.printer.proofs.is_accepted.Statement.{statement}
-use Rattle.printer.proofs.is_accepted.Tie as tie
+use Rattle.print_parser.proofs.is_accepted.Statement.{statement}
+use Rattle.print_parser.proofs.is_accepted.Tie as tie
 
 -- two tests, the first of which holds
 second : (t u : Bool) → t ≡ true → u ≡ alls (t ∷ u ∷ [])

@@ -1,14 +1,14 @@
--- `printer::feed_line` meets its contract: each arm has its name.
+-- `print_parser::feed_line` meets its contract: each arm has its name.
 -- Assumes nothing.
 use mathlib.Core.Path.{sym, ap, _∙_}
 use mathlib.Core.List.{List}
 use Prim.Native.Nat.{ℕ}
 use Rattle.number_lines.specs.Steps as steps
 use Rattle.printer.specs.Steps.{maxNumber}
 use Rattle.printer.proofs.Fed.{name-rest}
 use borrow.Author.Needs.{needs}
-use Rattle.printer.proofs.feed_line.Statement.{statement}
-use Rattle.printer.proofs.feed_line.Tie as tie
+use Rattle.print_parser.proofs.feed_line.Statement.{statement}
+use Rattle.print_parser.proofs.feed_line.Tie as tie
 
 returns : tie.Need-returns
 returns c = c .feed .ensures ∙ (rw (c .before .before .match .keys1))

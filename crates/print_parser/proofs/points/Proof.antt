@@ -1,11 +1,11 @@
--- `printer::points` meets its contract, by the test.
+-- `print_parser::points` meets its contract, by the test.
 -- Assumes nothing.
 use mathlib.Core.Path.{sym, ap, _∙_}
 use Rattle.mbcr.specs.Share.{standard}
 use Rattle.number_lines.proofs.Picks.{yes, no}
 use borrow.Author.Needs.{needs}
-use Rattle.printer.proofs.points.Statement.{statement}
-use Rattle.printer.proofs.points.Tie as tie
+use Rattle.print_parser.proofs.points.Statement.{statement}
+use Rattle.print_parser.proofs.points.Tie as tie
 
 returns : tie.Need-returns
 returns c = let at = c .before .before in sym (yes (at .before .args .p .asked) _ _ (at .if1 .taken))

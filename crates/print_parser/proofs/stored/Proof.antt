@@ -1,9 +1,9 @@
--- `printer::stored` meets its contract, by those of `choose` and the reader's start.
+-- `print_parser::stored` meets its contract, by those of `choose` and the reader's start.
 -- Assumes nothing.
 use Rattle.printer.proofs.Fed.{stored-by}
 use borrow.Author.Needs.{needs}
-use Rattle.printer.proofs.stored.Statement.{statement}
-use Rattle.printer.proofs.stored.Tie as tie
+use Rattle.print_parser.proofs.stored.Statement.{statement}
+use Rattle.print_parser.proofs.stored.Tie as tie
 
 -- the places
 abbrev at-r : tie.After-choose5 → tie.After-choose4

@@ -1,9 +1,9 @@
--- `printer::in_file` meets its contract, by the test.
+-- `print_parser::in_file` meets its contract, by the test.
 -- Assumes nothing.
 use mathlib.Core.Path.{sym}
 use Rattle.number_lines.proofs.Picks.{if-eq, if-ne}
-use Rattle.printer.proofs.in_file.Statement.{statement}
-use Rattle.printer.proofs.in_file.Tie as tie
+use Rattle.print_parser.proofs.in_file.Statement.{statement}
+use Rattle.print_parser.proofs.in_file.Tie as tie
 
 returns : tie.Need-returns
 returns c = sym (if-ne (c .before .before .args .p .left) 0 _ _ (c .if1 .taken))
