@@ -133,7 +133,7 @@ module _ (z : Sizes) (xs : List ℕ) where
       sizeLine z xs
       ∷ longLine z L
       ∷ countLine (eqb (length helpers) d ∷ eqb (length partners) (r - 1) ∷ [])
-      ∷ nodeLine z (helpers ++ (board ∷ []))
+      ∷ nodeLine z (helpers ++ partners ++ (board ∷ []))
       ∷ repeatLine (helpers ++ partners ++ (board ∷ []))
       ∷ areaLine (eqb (length packets) (d * (2 * stripes z L)) ∷ eqb (length exchanges) ((r - 1) * stripes z L) ∷ [])
       ∷ shortLine output (stripes z L * α z)
