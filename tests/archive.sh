@@ -1,8 +1,8 @@
 #!/bin/sh
 # All that stands on the archive: the C header and the C example, the Rust bindings, the demo, ./install, and the unrelated coder, which runs the
-# figures of document 01 and random calls through the archive and must report no mismatch, and must report one that is made on purpose. Proves
-# and builds the archive first; ZBK_ARCHIVE names another one to use instead, seen from the top folder. One line for each step; ends with exit
-# code 1 where a step fails.
+# figures of document 01 and random calls through the archive, small ones and at real sizes, and must report no mismatch, and must report one that
+# is made on purpose. Proves and builds the archive first; ZBK_ARCHIVE names another one to use instead, seen from the top folder. One line for each
+# step; ends with exit code 1 where a step fails.
 set -eu
 cd "$(dirname "$0")/.."
 CARGO_TARGET_DIR=$PWD/target/cargo
@@ -44,30 +44,8 @@ else
     echo "skipped valgrind: it is not on this machine"
 fi
 
-# the header in C++: its points are right, and a set up is accepted
-cat >"$work/header.cc" <<'END'
-#include "zebrankai.h"
-static bool right(const uint8_t *points, size_t n, size_t first) {
-    for (size_t i = 0; i < ZBK_MAX_BOARDS; i++) if (points[i] != (i < n ? i + first : 0)) return false;
-    return true;
-}
-int main() {
-    uint64_t record[ZBK_RECORD_WORDS] = {0};
-    uint8_t points[ZBK_MAX_BOARDS];
-    const size_t counts[] = {0, 1, 5, 31, 32, 33, SIZE_MAX};
-    for (size_t c = 0; c < sizeof counts / sizeof *counts; c++) {
-        zbk_first_series_points(points, counts[c]);
-        if (!right(points, counts[c], 1)) return 100;
-        zbk_standard_points(points, counts[c]);
-        if (!right(points, counts[c], 0)) return 100;
-    }
-    zbk_first_series_points(points, 5);
-    return static_cast<int>(zbk_refusal(zbk_set_up(record, ZBK_RECORD_WORDS, 5, 2, 3, 2, points, ZBK_MAX_BOARDS, 1)));
-}
-END
-# shellcheck disable=SC2086
-step "the header compiles as C++" g++ -std=c++11 $strict "$work/header.cc" "$archive" -o "$work/header"
-step "and links" "$work/header"
+# the header against the archive: names, parameters, constants, and each call from C and from C++
+sh tests/header.sh || { echo "FAIL the header"; exit 1; }
 
 step "the Rust bindings' tests" cargo test --offline --quiet -j1 --manifest-path bindings/rust/Cargo.toml
 step "the demo compiles" cargo build --offline --quiet --release -j1 --manifest-path bindings/rust/Cargo.toml --example demo

@@ -1,8 +1,8 @@
 #!/bin/sh
 # The points printer on every case of tests/points_printer, at once and in parts, and where reads fail (tests/printer.sh). What it must write is
-# worked out by the unrelated coder (`coder --printer points`), which is first held to the share printer's stored answers. With points 0 to n − 1 it
-# must write what the share printer writes. Proves and builds program and archive where they are not built; POINTS_PRINTER names another program to
-# try instead. Ends with exit code 1 where a case failed, or where there is no program.
+# worked out by the unrelated coder (`coder --printer points`), which is first held to the share printer's stored answers, and to the outputs of both
+# programs' own checks. With points 0 to n − 1 it must write what the share printer writes. Proves and builds program and archive where they are not
+# built; POINTS_PRINTER names another program to try instead. Ends with exit code 1 where a case failed, or where there is no program.
 set -eu
 cd "$(dirname "$0")/.."
 program=${POINTS_PRINTER:-target/bin/points_printer}
@@ -19,6 +19,12 @@ coder=target/cargo/release/coder
 for input in tests/share_printer/*.in; do
     if ! "$coder" --printer share <"$input" | cmp - "${input%.in}.out"; then
         echo "FAIL the coder on the share printer's case $input"
+        exit 1
+    fi
+done
+for printer in share points; do
+    if ! "$coder" --printer "$printer" <"crates/${printer}_printer/stdin" | cmp - "crates/${printer}_printer/stdout"; then
+        echo "FAIL the coder on the $printer printer's own input"
         exit 1
     fi
 done
@@ -41,6 +47,8 @@ for input in tests/points_printer/*.in; do
     "$coder" --printer points <"$input" >"$work/due"
     tried "$(basename "$input" .in)" "$input" "$work/due"
 done
+own=crates/points_printer/stdin
+tried "the program's own input" $own crates/points_printer/stdout
 
 # the share printer's cases with the line of the points 0 to n − 1 behind node=; where a line is malformed there is no such place
 for input in tests/share_printer/*.in; do
@@ -69,4 +77,9 @@ cut $example 1 4096
 cut $long 1 4096
 cut $long 4 4096
 cut $long 5 4096
+cut $own 1 4096
+cut $own 2 4096
+cut $own 3 4096
+cut $own 4 4096
+cut $own 1500 7
 ended "points printer"

@@ -1,8 +1,8 @@
 #!/bin/sh
 # Tries the unrelated coder itself: each edit of tests/slips turns the plain Rust coder into one that is wrong in a way that document 01 or the
 # buyer names, and the unrelated coder, linked with it in the place of the archive, must report mismatches. An edit says which file of
-# tests/plain/src it changes, the old text, which stands there once, and the new one. Not in the gate: it takes some
-# minutes. Names of edits may be given.
+# tests/plain/src it changes, the old text, which stands there once, and the new one; it may make several changes, one after another, each with its
+# three lines. Not in the gate: it takes some minutes. Names of edits may be given.
 set -eu
 cd "$(dirname "$0")/.."
 work=$PWD/target/slips
@@ -11,22 +11,31 @@ mkdir -p "$work/tests"
 cp -r tests/names tests/plain tests/standin "$work/tests"
 CARGO_TARGET_DIR=$work/cargo
 ZBK_ARCHIVE=$work/cargo/release/libstandin.a
-# no speed is needed here
+# no speed is needed here; the coder itself stays as it is, and is only linked again
 CARGO_PROFILE_RELEASE_OPT_LEVEL=1
-export CARGO_TARGET_DIR ZBK_ARCHIVE CARGO_PROFILE_RELEASE_OPT_LEVEL
+CARGO_INCREMENTAL=1
+export CARGO_TARGET_DIR ZBK_ARCHIVE CARGO_PROFILE_RELEASE_OPT_LEVEL CARGO_INCREMENTAL
 
-# field NAME EDIT: what stands after 'NAME: '
-field() { sed -n "s/^$1: //p" "$2"; }
+# field NAME EDIT TURN: what stands after 'NAME: ', in the first change, the second, and so on
+field() { sed -n "s/^$1: //p" "$2" | sed -n "$3p"; }
 
-# slip EDIT: puts the edit's new text in the place of its old one, in the copy
-slip() {
-    from=tests/plain/src/$(field file "$1")
-    old=$(field old "$1") new=$(field new "$1") awk '
+# change EDIT TURN: puts the new text of one change in the place of its old one, in the copy
+change() {
+    to=$work/tests/plain/src/$(field file "$1" "$2")
+    old=$(field old "$1" "$2") new=$(field new "$1" "$2") awk '
         { at = index($0, ENVIRON["old"]) }
         at { $0 = substr($0, 1, at - 1) ENVIRON["new"] substr($0, at + length(ENVIRON["old"])); found++ }
         { print }
         END { if (found != 1) { print "the old text stands there " found + 0 " times" >"/dev/stderr"; exit 1 } }
-    ' "$from" >"$work/$from"
+    ' "$to" >"$work/changed" && cp "$work/changed" "$to"
+}
+
+# slip EDIT: makes all changes of an edit, in the copy
+slip() {
+    changes=$(grep -c '^file: ' "$1")
+    for turn in $(seq "$changes"); do
+        change "$1" "$turn" || return 1
+    done
 }
 
 build() { cargo build --offline --quiet --release -j1 --manifest-path "$1" 2>"$work/log"; }
@@ -38,14 +47,14 @@ run() {
         exit 1
     fi
     # a coder that is wrong may also break off
-    "$work/cargo/release/coder" --calls 20000 >"$work/log" 2>&1 || true
+    "$work/cargo/release/coder" --calls 20000 --first >"$work/log" 2>&1 || true
 }
 
 # reported EDIT: the coder reports a mismatch
 reported() {
     slip "$1" || exit 1
     run
-    cp "tests/plain/src/$(field file "$1")" "$work/tests/plain/src/"
+    cp tests/plain/src/*.rs "$work/tests/plain/src/"
     grep -q '^MISMATCH' "$work/log"
 }
 

@@ -1,7 +1,7 @@
 #!/bin/sh
 # docs/STATEMENTS.md is true to the tree: each file that it names is there, each name that it cites in `file: name` stands in that file, each
-# must-fail edit that it names exists and each edit of the tree is named; and the definitions a buyer reads are at most 745 lines. Then that
-# docs/ARCHITECTURE.md is true to crates.txt.
+# must-fail edit that it names exists and each edit of the tree is named; the definitions a buyer reads are at most 745 lines, none of them is left
+# out of the table of definitions and laws, and each row of it cites a law. Then that docs/ARCHITECTURE.md is true to crates.txt.
 set -eu
 cd "$(dirname "$0")/.."
 page=docs/STATEMENTS.md
@@ -46,9 +46,24 @@ later=$(for f in $requests; do echo "${f%:*}"; done)
 for f in $tables $claims $inner $archive $later; do definitions=$(printf '%s\n' $definitions | grep -vxF "$f"); done
 for f in $inner; do
     crate=${f#crates/} name=$(basename "$f" .antt)
-    ! grep -l "·${crate%%/*}.*specs\.$name\." $(ls crates/board_*/specs/*.antt crates/store_spec/specs/*.antt crates/mbcr/specs/*.antt | grep -v '/Steps.antt$') >/dev/null 2>&1 \
+    ! grep -l "·${crate%%/*}.*specs\.$name\." $(ls crates/board_*/specs/*.antt crates/store_spec/specs/*.antt crates/mbcr/specs/*.antt crates/text_spec/specs/*.antt \
+        crates/record_words/specs/*.antt crates/store/specs/*.antt crates/archive_spec/specs/*.antt | grep -v '/Steps.antt$') >/dev/null 2>&1 \
         || complain "a definition rests on the inner $f"
 done
+# the table of definitions and laws: each definition stands in the first column of a row, and each row's second column cites a file of laws
+table=$(sed -n '/^## Definitions and the laws that hold them/,$p' "$page" | grep '^| `')
+named=$(printf '%s\n' "$table" | awk -F'|' '{ print $2 }' | tr '`' '\n' | grep -E '^[a-z0-9_]+/specs/' | sed 's/: /, /; s/$/,/')
+for f in $definitions $archive $later; do
+    for name in $(sed -nE 's/^ *(abbrev pub|unfoldable pub|pub record|pub data) ([^ :{(]+).*/\2/p' "$f"); do
+        printf '%s\n' "$named" | grep -F "${f#crates/}, " | grep -qF -- " $name," || complain "no law is named for $name of $f"
+    done
+done
+printf '%s\n' "$table" | awk -F'|' '$3 !~ /`[a-z0-9_]+\/specs\/[A-Za-z]*(Laws|Demand[0-9]|Premises|Gives|Runs|Stripes|Tight)\.antt: / { print $2 }' | while IFS= read -r row; do
+    echo "$page: no law in the row of$row"
+done | tee "${TMPDIR:-/tmp}/rows.$$"
+[ ! -s "${TMPDIR:-/tmp}/rows.$$" ] || bad=1
+rm -f "${TMPDIR:-/tmp}/rows.$$"
+
 d=$(lines $definitions) c=$(lines $claims) t=$(lines $tables) i=$(lines $inner) a=$(lines $archive)
 echo "definitions: $d lines, theorem statements: $c lines, tables of figures: $t lines, inner definitions: $i lines, the archive: $a lines"
 for f in $requests; do

@@ -58,7 +58,21 @@ const POINTS: usize = 8;
 /// The record of a store: its sizes, its boards' points, its capacity, whether a file was written and how long it is, and which boards are in service. It
 /// belongs to one area of [`Sizes::area_len`] bytes, in which the boards stand one after another; give each call the area as the last call
 /// left it. A record can be kept as its [`words`](Record::words).
-#[derive(Clone, Copy, Debug, PartialEq, Eq, Hash)]
+///
+/// A clone goes with a copy of the area: the two are one store, and a record as it was before a call, used with the area as that call left it, is no
+/// store that any call handed on. What it then reads or rebuilds may be no file that was written. So a record is moved, and cloned only where that
+/// is said; it is never copied on the side:
+///
+/// ```compile_fail,E0382
+/// use zebrankai::{Points, Record, Sizes};
+///
+/// let sizes = Sizes { n: 5, k: 2, d: 3, r: 2 };
+/// let record = Record::set_up(sizes, Points::standard(5), 1).unwrap();
+/// let mut moved = record;
+/// moved.lose(0).unwrap();
+/// println!("{}", record.in_service(0));
+/// ```
+#[derive(Clone, Debug, PartialEq, Eq, Hash)]
 pub struct Record {
     words: [u64; RECORD_WORDS],
 }
@@ -132,9 +146,9 @@ impl Record {
         self.words[6] as usize
     }
 
-    /// Whether a board is in service.
+    /// Whether a board is in service. No board from n up is, nor one from 32 up, whatever words that no call hands out say of it.
     pub fn in_service(&self, board: usize) -> bool {
-        board < 64 && self.words[7] >> board & 1 == 1
+        board < self.sizes().n.min(MAX_BOARDS) && self.words[7] >> board & 1 == 1
     }
 
     /// Writes a file: every board gets its share and comes into service.

@@ -264,6 +264,35 @@ fn a_record_says_what_it_holds() {
 }
 
 #[test]
+fn no_board_from_n_or_32_up_is_in_service() {
+    // made-up words with all 64 marks on
+    for (n, boards) in [(0, 0), (5, 5), (32, 32), (33, 32), (64, 32), (u64::MAX, 32)] {
+        let record = Record::from_words([n, 2, 3, 2, 1, 1, 12, u64::MAX, 0, 0, 0, 0]);
+        let serving: Vec<usize> = (0..130).filter(|&board| record.in_service(board)).collect();
+        assert_eq!(serving, (0..boards).collect::<Vec<_>>(), "n = {n}");
+        assert!(!record.in_service(1 << 32) && !record.in_service(usize::MAX));
+    }
+    // one mark, on each of the 64 places
+    for place in 0..64 {
+        let record = Record::from_words([32, 16, 24, 8, 1, 1, 0, 1 << place, 0, 0, 0, 0]);
+        assert!((0..130).all(|board| record.in_service(board) == (board == place && board < 32)), "the mark {place}");
+    }
+}
+
+#[test]
+fn a_clone_goes_with_a_copy_of_the_area() {
+    let (mut record, mut area) = written(present());
+    let (before, area_before) = (record.clone(), area.clone());
+    record.write(&mut area, &[7; 5]).unwrap();
+    record.lose(3).unwrap();
+    let mut out = [0xEE; 12];
+    assert_eq!((before.in_service(3), before.read(&area_before, &[3, 0], &mut out)), (true, Ok(())));
+    assert_eq!(out, FILE);
+    assert_eq!(record.read(&area, &[3, 0], &mut out), Err(Refusal::Down));
+    assert_eq!((record.read(&area, &[4, 0], &mut out), &out[..5]), (Ok(()), &[7; 5][..]));
+}
+
+#[test]
 fn a_record_keeps_the_points_of_32_boards() {
     let sizes = Sizes { n: 32, k: 1, d: 1, r: 1 };
     let points = Points::from(std::array::from_fn(|board| 0xFF - 3 * board as u8));
@@ -375,10 +404,10 @@ fn a_repair_is_refused_by_the_first_line_that_holds() {
     for lost in [0, 1] {
         record.lose(lost).unwrap();
     }
-    let before = (record, area.clone());
+    let before = (record.clone(), area.clone());
     let mut refusal = |fresh: &[usize], helpers: &[usize], stand_ins: &[usize]| {
         let refused = record.repair(&mut area, fresh, helpers, stand_ins).unwrap_err();
-        assert_eq!((record, &area), (before.0, &before.1));
+        assert_eq!((&record, &area), (&before.0, &before.1));
         refused
     };
     // before all else in the lists: not 1 to r fresh boards, and not t × d helpers or t × (r − t) stand-ins
@@ -412,7 +441,7 @@ fn a_repair_is_refused_by_the_first_line_that_holds() {
 fn a_store_refuses_and_stays() {
     let mut area = vec![0xEE; FIVE.area_len(1)];
     let mut record = Record::set_up(FIVE, present(), 1).unwrap();
-    let before = record;
+    let before = record.clone();
     assert_eq!(record.read(&area, &[0, 1], &mut []), Err(Refusal::Empty));
     assert_eq!(record.repair(&mut area, &[], &[], &[]), Err(Refusal::Empty));
     assert_eq!(record.repair(&mut area[1..], &[], &[], &[]), Err(Refusal::Area));

@@ -59,6 +59,7 @@ archive-figures = record {
   lost = refl;
   not-lost = refl;
   no-records = refl;
+  disagrees = refl;
   calls-say = refl;
   ledger-says = refl;
   allowed = allow (zbkSetUp any four points 1 .words) blank (openBook four points 1 12) steps refl;

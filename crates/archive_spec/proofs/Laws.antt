@@ -31,9 +31,9 @@ use Rattle.answer_word.specs.Answers.{wordOf}
 use Rattle.record_words.specs.Words.{isRecord, recordFrom, wordsOf}
 use Rattle.text_words.specs.Words.{headOf}
 use Rattle.record_words.proofs.Laws.{word-laws}
-use Rattle.archive_spec.specs.Lent.{noRecord, inWords, zbkSetUp, zbk}
+use Rattle.archive_spec.specs.Lent.{Lent, noRecord, inWords, zbkSetUp, zbk}
 use Rattle.archive_spec.specs.Texts.{noRoom, readInWords, zbkReadText}
-use Rattle.archive_spec.specs.Laws.{Keeps, Leaves, KeepsText, ArchiveLaws}
+use Rattle.archive_spec.specs.Laws.{AsStore, Keeps, Leaves, KeepsText, ArchiveLaws}
 
 set-up-keeps : (ws : List ℕ) (z : Sizes) (xs : List ℕ) (c : ℕ) → Keeps (zbkSetUp ws z xs c) ws [] []
 unfolding zbkSetUp
@@ -117,8 +117,25 @@ read-text-keeps text head points out =
         })
         (ne-eqb (number x) 0 (λ e. omega (arith, number-low x, e)))
 
+as-store : (ws area : List ℕ) (call : Call) → isRecord ws ≡ true → AsStore (zbk ws area call) (act (record { kept = recordFrom ws; area = area }) call)
+as-store ws area call e =
+    record {
+      answer-is = ap (λ (b : Bool). by b .answer) e;
+      words-are = ap (λ (b : Bool). by b .words) e;
+      area-is = ap (λ (b : Bool). by b .area) e;
+      output-is = ap (λ (b : Bool). by b .output) e;
+    }
+  where
+    by : Bool → Lent
+    by b = pick b (inWords (act (record { kept = recordFrom ws; area = area }) call)) (noRecord ws area (outputOf call))
+
+no-record : (ws area : List ℕ) (call : Call) → isRecord ws ≡ false → zbk ws area call ≡ record { answer = 1; words = ws; area = area; output = outputOf call }
+no-record ws area call e = ap (λ (b : Bool). pick b (inWords (act (record { kept = recordFrom ws; area = area }) call)) (noRecord ws area (outputOf call))) e
+
 pub archive-laws : ArchiveLaws
 archive-laws = record {
+  as-store = as-store;
+  no-record = no-record;
   share-leaves = share-leaves;
   file-leaves = file-leaves;
   helper-leaves = helper-leaves;

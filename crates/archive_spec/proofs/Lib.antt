@@ -4,5 +4,7 @@ pub mod Given
 pub mod Worded
 pub mod Told
 pub mod Laws
+pub mod Demand1
 pub mod Demand3
+pub mod ListLaws
 pub mod Figures

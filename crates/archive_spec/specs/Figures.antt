@@ -124,6 +124,9 @@ pub record ArchiveFigures : Type 0 where
   pub lost : zbk (seven 1 6 25) [] (lose 3) ≡ record { answer = 0; words = seven 1 6 17; area = []; output = [] }
   pub not-lost : zbk (seven 1 6 25) [] (lose 7) ≡ record { answer = 5; words = seven 1 6 25; area = []; output = [] }
   pub no-records : map (λ ws. zbk ws [] (lose 3) .answer) (take 8 (seven 1 6 25) ∷ set (seven 1 6 25) 8 0x11161514131211 ∷ set (seven 1 6 25) 11 1 ∷ []) ≡ replicate 3 1
+  -- shares of 01 02 03 with a record that says two bytes: no file of two bytes, padding included, has the share of board 0. DISAGREE, and all stays
+  pub disagrees : zbk (4 ∷ 1 ∷ 1 ∷ 2 ∷ 1 ∷ 1 ∷ 2 ∷ 15 ∷ 0x1D800005 ∷ 0 ∷ 0 ∷ 0 ∷ []) area (read (0 ∷ []) (replicate 4 0x55))
+      ≡ record { answer = 10; words = 4 ∷ 1 ∷ 1 ∷ 2 ∷ 1 ∷ 1 ∷ 2 ∷ 15 ∷ 0x1D800005 ∷ 0 ∷ 0 ∷ 0 ∷ []; area = area; output = replicate 4 0x55 }
   -- what is compared: the calls' words and outputs, and the ledger's
   pub calls-say : map told (lents (zbkSetUp any four points 1 .words) steps) ≡ answers
   pub ledger-says : map inWord (bookReplies (openBook four points 1 12) (calls steps)) ≡ answers

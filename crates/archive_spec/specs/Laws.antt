@@ -2,13 +2,16 @@
 -- proofs/Laws.antt has `archive-laws : ArchiveLaws`.
 -- Assumes nothing.
 use mathlib.Core.Path.{_≡_}
+use mathlib.Core.Bool.{true, false}
 use mathlib.Core.List.{List, []}
-use Prim.Native.Nat.{ℕ, _*_}
+use Prim.Native.Nat.{ℕ, _+_, _*_}
 use Rattle.sizes.specs.declared.Sizes.{Sizes}
 use Rattle.board_spec.specs.Calls.{BoardOutcome, shareCall, fileCall, helperCall, exchangeCall, finishedCall, textCall}
-use Rattle.store_spec.specs.Ledger.{Call, outputOf}
+use Rattle.store_spec.specs.Calls.{StoreOutcome}
+use Rattle.store_spec.specs.Ledger.{Call, act, outputOf}
 use Rattle.text_spec.specs.Calls.{gatherCall}
 use Rattle.answer_word.specs.Answers.{wordOf}
+use Rattle.record_words.specs.Words.{isRecord, recordFrom, wordsOf}
 use Rattle.archive_spec.specs.Lent.{Lent, zbkSetUp, zbk}
 use Rattle.archive_spec.specs.Texts.{TextLent, zbkReadText}
 
@@ -24,7 +27,17 @@ Leaves o output = ((v : ℕ) → wordOf (o .answer) ≡ 256 * v → ⊥) → o .
 abbrev pub KeepsText : TextLent → List ℕ → List ℕ → List ℕ → Type 0
 KeepsText o head points output = ((v : ℕ) → o .answer ≡ 256 * v → ⊥) → o ≡ record { answer = o .answer; head = head; points = points; output = output }
 
+-- a store's call as it stands in words and bytes: the answer by its two parts, every word, every byte
+pub record AsStore (o : Lent) (p : StoreOutcome) : Type 0 where
+  pub answer-is : o .answer ≡ p .answer .refusal + 256 * p .answer .reported
+  pub words-are : o .words ≡ wordsOf (p .handed)
+  pub area-is : o .area ≡ p .area
+  pub output-is : o .output ≡ p .output
+
 pub record ArchiveLaws : Type 0 where
+  -- over any words and any area: what the store's call gives on the record that the words tell; SIZE, and nothing changed, where they tell none
+  pub as-store : (ws area : List ℕ) (call : Call) → isRecord ws ≡ true → AsStore (zbk ws area call) (act (record { kept = recordFrom ws; area = area }) call)
+  pub no-record : (ws area : List ℕ) (call : Call) → isRecord ws ≡ false → zbk ws area call ≡ record { answer = 1; words = ws; area = area; output = outputOf call }
   pub share-leaves : (z : Sizes) (xs : List ℕ) (node : ℕ) (file out : List ℕ) → Leaves (shareCall z xs node file out) out
   pub file-leaves : (z : Sizes) (xs : List ℕ) (L : ℕ) (boards shares out : List ℕ) → Leaves (fileCall z xs L boards shares out) out
   pub helper-leaves : (z : Sizes) (xs : List ℕ) (L helper receiver : ℕ) (share out : List ℕ) → Leaves (helperCall z xs L helper receiver share out) out

@@ -2,5 +2,7 @@ pub mod Archive
 pub mod Lent
 pub mod Texts
 pub mod Laws
+pub mod Demand1
 pub mod Demand3
+pub mod ListLaws
 pub mod Figures

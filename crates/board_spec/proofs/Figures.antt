@@ -42,6 +42,7 @@ figures = record {
   finish-runs = refl;
   exchange-runs = refl;
   read-runs = refl;
+  read-runs-of-three = refl;
   equal-points = refl;
   two-stripes = refl;
   two-pairs = refl;

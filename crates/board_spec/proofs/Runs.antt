@@ -1,15 +1,16 @@
 -- Interpolations at the points of different boards: no two points of one of them are equal. So a call that is not refused meets none.
 -- Assumes nothing.
-use mathlib.Core.Path.{_≡_, refl, ap}
+use mathlib.Core.Path.{_≡_, refl, sym, ap, subst}
 use mathlib.Core.Bool.{true, false, not}
+use mathlib.Core.Logic.{_⊎_, inl, inr, ⊎-elim}
 use mathlib.Core.List.{List, [], _∷_, _++_, map}
 use Prim.Native.Nat.{ℕ, _+_, _<_}
 use native.Mathlib.Omega.{arith}
-use Rattle.lists.specs.Tests.{alls, different, below}
+use Rattle.lists.specs.Tests.{alls, among, different, below}
 use Rattle.lists.specs.Lists.{All, concat}
-use Rattle.lists.proofs.Tests.{all-every, every-all, not-no, alls-hold}
+use Rattle.lists.proofs.Tests.{true-false, all-every, every-all, not-no, alls-hold}
 use Rattle.lists.proofs.Alls.{append-all, all-imp}
-use Rattle.lists.proofs.Boards.{distinct-different}
+use Rattle.lists.proofs.Boards.{among-cons, distinct-different}
 use Rattle.sizes.specs.declared.Sizes.{Sizes}
 use Rattle.sizes.specs.declared.Check.the-variants.{Pass}
 use Rattle.sizes.specs.Refusals.{Line, appliesIn, first, boardOrder}
@@ -17,11 +18,13 @@ use Rattle.sizes.specs.declared.Refusal.the-variants.{Size, Node, Repeat}
 use Rattle.sizes.specs.Sizing.{legal}
 use Rattle.sizes.proofs.Legal.{Legal, legal-facts}
 use Rattle.sizes.proofs.Lines.{first-clear}
-use Rattle.mbcr.specs.Share.{DifferentPoints, points, pointed}
+use Rattle.mbcr.specs.Share.{DifferentPoints, points, neighbours, pointed}
+use Rattle.mbcr.specs.Rebuild.{ownF, ownG, gFrom, fFrom}
+use Rattle.mbcr.specs.Read.{through}
 use Rattle.mbcr.proofs.PointLaws.{pointed-differ}
 use Rattle.mbcr.proofs.Points.{Boards, boards-of, neighbours-boards, points-distinct, boards-left}
 use Rattle.board_spec.specs.Calls.{fileLines, helperLines, exchangeLines, finishedLines}
-use Rattle.board_spec.specs.Runs.{equalPoints, ownRuns, exchangeRuns, finishRuns, readRuns, BoardRuns}
+use Rattle.board_spec.specs.Runs.{equalPoints, ownRuns, exchangeRuns, finishRuns, readRuns, In, Within, OwnAre, ExchangeAre, FinishAre, ReadAre, BoardRuns}
 
 -- ---- any points
 
@@ -126,5 +129,64 @@ module _ (z : Sizes) (xs : List ℕ) (L : ℕ) where
       let p = passed (finishedLines z xs L board helpers packets partners exchanges output) h in
       finish-runs z xs (points-of z xs (p .size)) board helpers partners (named z (helpers ++ partners ++ (board ∷ [])) (p .node) (p .repeat))
 
+-- ---- the interpolations of the definitions
+
+-- of one group, of two
+pub in-left : (run : List ℕ) (some others : List (List ℕ)) → In run some → In run (some ++ others)
+in-left run [] others h = absurd h
+in-left run (r ∷ some) others h = ⊎-elim (λ e. inl e) (λ k. inr (in-left run some others k)) h
+
+pub in-right : (run : List ℕ) (others some : List (List ℕ)) → In run some → In run (others ++ some)
+in-right run [] some h = h
+in-right run (r ∷ others) some h = inr (in-right run others some h)
+
+-- a group of one element, of all elements
+pub in-groups : (run : List ℕ) (f : ℕ → List (List ℕ)) (l : List ℕ) (j : ℕ) → among l j ≡ true → In run (f j) → In run (concat (map f l))
+in-groups run f [] j e h = absurd (true-false e refl)
+in-groups run f (y ∷ l) j e h =
+    ⊎-elim (λ q. in-left run (f y) (concat (map f l)) (subst (λ (x : ℕ). In run (f x)) (sym q) h))
+    (λ k. in-right run (f y) (concat (map f l)) (in-groups run f l j k h)) (among-cons y j l e)
+
+-- f and g of a board
+pub own-within : (z : Sizes) (j : ℕ) (runs : List (List ℕ)) → ((run : List ℕ) → In run (ownRuns z j) → In run runs) → Within (ownRuns z j) runs
+own-within z j runs h = (h (neighbours z j (z .d + z .r)) (inl refl), (h (neighbours z j (z .d)) (inr (inl refl)), tt))
+
+own-are : (z : Sizes) (xs : List ℕ) (j : ℕ) → OwnAre z xs j
+unfolding ownF ownG
+own-are z xs j = record { f = neighbours z j (z .d + z .r); g = neighbours z j (z .d); runs = refl; f-is = λ w. refl; g-is = λ w. refl }
+
+exchange-are : (z : Sizes) (xs helpers : List ℕ) → ExchangeAre z xs helpers
+unfolding gFrom
+exchange-are z xs helpers = record { g = helpers; runs = refl; g-is = λ firsts. refl }
+
+finish-are : (z : Sizes) (xs : List ℕ) (i : ℕ) (helpers partners : List ℕ) → FinishAre z xs i helpers partners
+unfolding gFrom fFrom
+finish-are z xs i helpers partners = record {
+  g = helpers;
+  f = helpers ++ partners ++ (i ∷ []);
+  runs = refl;
+  g-is = λ firsts. refl;
+  f-is = λ seconds sent own. refl;
+}
+
+read-are : (z : Sizes) (xs boards : List ℕ) → ReadAre z xs boards
+unfolding through
+read-are z xs boards = record {
+  all = boards;
+  all-in = inl refl;
+  through-is = λ v. refl;
+  own-in = λ j h. own-within z j (readRuns z boards) (λ run k. inr (in-groups run (ownRuns z) boards j h k));
+}
+
 pub board-runs : BoardRuns
-board-runs = record { file-apart = file-apart; helper-apart = helper-apart; exchange-apart = exchange-apart; finished-apart = finished-apart }
+board-runs = record {
+  equal-is = λ xs runs. (unequal-apart xs runs, apart-unequal xs runs);
+  own-are = own-are;
+  exchange-are = exchange-are;
+  finish-are = finish-are;
+  read-are = read-are;
+  file-apart = file-apart;
+  helper-apart = helper-apart;
+  exchange-apart = exchange-apart;
+  finished-apart = finished-apart;
+}

@@ -4,7 +4,7 @@
 use mathlib.Core.Path.{_≡_, refl, sym, ap, _∙_}
 use mathlib.Core.Bool.{Bool, true, false}
 use mathlib.Core.Logic.{_≢_, _⊎_, inl, inr}
-use mathlib.Core.List.{List, [], _∷_, _++_}
+use mathlib.Core.List.{List, [], _∷_, _++_, append-assoc, append-nil}
 use Prim.Native.Nat.{ℕ, zero, suc, _+_, _*_, _-_, _/_, _%_, _≤_, _<_}
 use native.Mathlib.Nat.{div-add-mod', mod-lt}
 use native.Mathlib.Omega.{arith}
@@ -13,7 +13,7 @@ use lib.ListN.{length, getD, take}
 use lib.Seq.{length-take-le, getD-take, ext-getD}
 use borrow.Author.Tests.{ltb-true, ltb-false, lt-ltb, le-ltb}
 use Rattle.lists.specs.Tests.{pick, same}
-use Rattle.lists.specs.Lists.{All, tabulate, joined}
+use Rattle.lists.specs.Lists.{All, concat, tabulate, joined}
 use Rattle.lists.proofs.Alls.{append-all}
 use Rattle.lists.proofs.Pieces.{length-tabulate, tabulate-at}
 use Rattle.lists.proofs.Tests.{same-eq, same-refl, is-false}
@@ -23,7 +23,7 @@ use Rattle.sizes.proofs.Legal.{legal-facts}
 use Rattle.mbcr.specs.Share.{point, standard}
 use Rattle.mbcr.proofs.Points.{standard-point}
 use Rattle.board_spec.specs.Demand1.{value, TextLaws, hexValue}
-use Rattle.board_spec.specs.Text.{digits, decimal, hexDigit, hexPair, textLine, pointsLine}
+use Rattle.board_spec.specs.Text.{digits, decimal, hexDigit, hexPair, textLine, pointsLine, shareText}
 
 -- ---- decimals
 
@@ -127,8 +127,24 @@ standard-unsaid z ok =
     let few = legal-facts z ok .few in
     points-unsaid z (standard z) (omega (arith, length-tabulate 32 (λ i. pick (ltb i (z .n)) i 0))) (standard-point z few)
 
+eight : (a b c d e f p q : List ℕ) → a ++ b ++ c ++ d ++ e ++ f ++ p ++ q ≡ concat (a ∷ b ∷ c ∷ d ∷ e ∷ f ∷ p ∷ q ∷ [])
+eight a b c d e f p q = simp (append-assoc, append-nil)
+
+text-is : (z : Sizes) (xs : List ℕ) (L node : ℕ) (share : List ℕ) → shareText z xs L node share ≡ concat
+    (textLine (0x6E ∷ []) (decimal (z .n)) ∷ textLine (0x6B ∷ []) (decimal (z .k)) ∷ textLine (0x64 ∷ []) (decimal (z .d)) ∷ textLine (0x72 ∷ []) (decimal (z .r))
+    ∷ textLine (0x6E ∷ 0x6F ∷ 0x64 ∷ 0x65 ∷ []) (decimal node) ∷ textLine (0x6C ∷ 0x65 ∷ 0x6E ∷ 0x67 ∷ 0x74 ∷ 0x68 ∷ []) (decimal L)
+    ∷ pointsLine z xs ∷ textLine (0x64 ∷ 0x61 ∷ 0x74 ∷ 0x61 ∷ []) (joined hexPair share) ∷ [])
+unfolding shareText
+text-is z xs L node share =
+    eight (textLine (0x6E ∷ []) (decimal (z .n))) (textLine (0x6B ∷ []) (decimal (z .k))) (textLine (0x64 ∷ []) (decimal (z .d))) (textLine (0x72 ∷ []) (decimal (z .r)))
+    (textLine (0x6E ∷ 0x6F ∷ 0x64 ∷ 0x65 ∷ []) (decimal node)) (textLine (0x6C ∷ 0x65 ∷ 0x6E ∷ 0x67 ∷ 0x74 ∷ 0x68 ∷ []) (decimal L))
+    (pointsLine z xs) (textLine (0x64 ∷ 0x61 ∷ 0x74 ∷ 0x61 ∷ []) (joined hexPair share))
+
 pub text-laws : TextLaws
 text-laws = record {
+  line-is = λ name value. simp (append-assoc, append-nil);
+  hex-length = λ b. refl;
+  text-is = text-is;
   decimal-value = λ x. decimal-written x .whole;
   decimal-digits = λ x. decimal-written x .each;
   decimal-first = λ x. decimal-written x .leads;

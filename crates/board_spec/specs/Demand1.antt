@@ -10,7 +10,7 @@ use Prim.Native.Nat.{ℕ, _+_, _*_, _-_, _≤_, _<_}
 use lib.Dec.{ltb}
 use lib.ListN.{length, getD, take}
 use Rattle.lists.specs.Tests.{pick, below, different}
-use Rattle.lists.specs.Lists.{All, Bytes, joined, over}
+use Rattle.lists.specs.Lists.{All, Bytes, concat, joined, over}
 use Rattle.sizes.specs.declared.Sizes.{Sizes}
 use Rattle.sizes.specs.declared.Refusal.{Refusal}
 use Rattle.sizes.specs.declared.Refusal.the-variants.{Size, Area, Long, Count, Node, Repeat, Short, Disagree}
@@ -159,6 +159,20 @@ pub record TextLaws : Type 0 where
   pub decimal-digits : (x : ℕ) → All (λ c. (0x30 ≤ c) × (c ≤ 0x39)) (decimal x)
   pub decimal-first : (x : ℕ) → 1 ≤ x → 0x31 ≤ getD (decimal x) 0 0
   pub decimal-zero : decimal 0 ≡ 0x30 ∷ []
+  -- a name, =, a value and byte 0A
+  pub line-is : (name value : List ℕ) → textLine name value ≡ concat (name ∷ (0x3D ∷ []) ∷ value ∷ (0x0A ∷ []) ∷ [])
+  -- "Seven lines, each ended by byte 0A: n, k, d, r, node, length .., then data", and points= after length= (request A.9): for all numbers
+  pub text-is : (z : Sizes) (xs : List ℕ) (L node : ℕ) (share : List ℕ) → shareText z xs L node share ≡ concat
+      (textLine (0x6E ∷ []) (decimal (z .n))
+      ∷ textLine (0x6B ∷ []) (decimal (z .k))
+      ∷ textLine (0x64 ∷ []) (decimal (z .d))
+      ∷ textLine (0x72 ∷ []) (decimal (z .r))
+      ∷ textLine (0x6E ∷ 0x6F ∷ 0x64 ∷ 0x65 ∷ []) (decimal node)
+      ∷ textLine (0x6C ∷ 0x65 ∷ 0x6E ∷ 0x67 ∷ 0x74 ∷ 0x68 ∷ []) (decimal L)
+      ∷ pointsLine z xs
+      ∷ textLine (0x64 ∷ 0x61 ∷ 0x74 ∷ 0x61 ∷ []) (joined hexPair share)
+      ∷ [])
+  pub hex-length : (b : ℕ) → length (hexPair b) ≡ 2
   pub hex-value : (b : ℕ) → 16 * hexValue (getD (hexPair b) 0 0) + hexValue (getD (hexPair b) 1 0) ≡ b
   pub hex-digits : (b : ℕ) → b < 256 → All (λ c. ((0x30 ≤ c) × (c ≤ 0x39)) ⊎ ((0x61 ≤ c) × (c ≤ 0x66))) (hexPair b)
   -- request A.9: no line where each board has its number for a point, and one line where some board has not

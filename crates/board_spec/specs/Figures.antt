@@ -244,6 +244,9 @@ pub record BoardFigures : Type 0 where
   pub exchange-runs : exchangeRuns (6 ∷ 4 ∷ 2 ∷ []) ≡ (6 ∷ 4 ∷ 2 ∷ []) ∷ []
   pub read-runs : readRuns seven (6 ∷ 3 ∷ [])
       ≡ (6 ∷ 3 ∷ []) ∷ (6 ∷ 0 ∷ 1 ∷ 2 ∷ 3 ∷ []) ∷ (6 ∷ 0 ∷ 1 ∷ []) ∷ (3 ∷ 4 ∷ 5 ∷ 6 ∷ 0 ∷ []) ∷ (3 ∷ 4 ∷ 5 ∷ []) ∷ []
+  pub read-runs-of-three : readRuns seven (6 ∷ 3 ∷ 5 ∷ [])
+      ≡ (6 ∷ 3 ∷ 5 ∷ []) ∷ (6 ∷ 0 ∷ 1 ∷ 2 ∷ 3 ∷ []) ∷ (6 ∷ 0 ∷ 1 ∷ []) ∷ (3 ∷ 4 ∷ 5 ∷ 6 ∷ 0 ∷ []) ∷ (3 ∷ 4 ∷ 5 ∷ [])
+      ∷ (5 ∷ 6 ∷ 0 ∷ 1 ∷ 2 ∷ []) ∷ (5 ∷ 6 ∷ 0 ∷ []) ∷ []
   -- two of these boards with one point are equal points, two others are not
   pub equal-points :
       equalPoints (alike 1 2) (ownRuns seven 5)

@@ -4,3 +4,4 @@ pub mod Joined
 pub mod Given
 pub mod Chain
 pub mod Facts
+pub mod Laws

@@ -1,13 +1,14 @@
 -- The field's laws: products respect sums in each factor, so that an equation of products is a test at 1, 2, 4 .. 128.
 -- Assumes nothing.
-use mathlib.Core.Path.{_≡_, refl, sym, ap, _∙_, subst}
+use mathlib.Core.Path.{_≡_, refl, sym, ap, ap₂, _∙_, subst}
 use mathlib.Core.Bool.{Bool, true, false}
-use Prim.Native.Nat.{ℕ, zero, suc, _+_, _*_, _/_, _%_, _^_, _<_}
-use native.Mathlib.Nat.{mod-lt, mod-mod, not-suc-le-zero, eq-or-lt-of-le, le-of-suc-le-suc}
+use Prim.Native.Nat.{ℕ, zero, suc, _+_, _*_, _/_, _%_, _^_, _≤_, _<_}
+use native.Mathlib.Nat.{mod-lt, mod-mod, not-suc-le-zero, eq-or-lt-of-le, le-of-suc-le-suc, pow-suc, pow-succ', mul-mod-left, mul-div-cancel}
+use native.Mathlib.Nat as nat
 use mathlib.Core.Logic.{⊎-elim}
 use lib.Dec.{T, eqb, eqb→eq, lit<}
 use Rattle.gf256.specs.Field.{add, product, reduce, mul}
-use Rattle.gf256.proofs.Sums.{add-self, add-mod, add-div, Additive, at-zero, sum-additive, twice-additive, odd-additive, bit-additive, scale-additive, agree}
+use Rattle.gf256.proofs.Sums.{add-self, add-zero-l, add-zero-r, add-mod, add-div, Additive, at-zero, sum-additive, twice-additive, odd-additive, bit-additive, scale-additive, agree}
 
 pub product-right : (k a : ℕ) → Additive (product k a)
 unfolding product
@@ -22,6 +23,30 @@ product-left zero b x y = sym (add-self 0)
 product-left (suc k) b x y =
     sum-additive (λ a. b % 2 * a) (λ a. product k (a * 2) (b / 2)) (scale-additive b)
     (λ x y. ap (λ (a : ℕ). product k a (b / 2)) (twice-additive x y) ∙ product-left k (b / 2) (x * 2) (y * 2)) x y
+
+-- at z to the i, which is the number 2 ^ i
+shift-next : (k a i : ℕ) → product (suc k) a (2 ^ suc i) ≡ product k (a * 2) (2 ^ i)
+unfolding product
+shift-next k a i =
+    ap₂ (λ (x y : ℕ). add (x * a) (product k (a * 2) y))
+    (ap (λ (n : ℕ). n % 2) (pow-suc 2 i) ∙ mul-mod-left (2 ^ i) 2)
+    (ap (λ (n : ℕ). n / 2) (pow-suc 2 i) ∙ mul-div-cancel (2 ^ i) (lit< tt))
+    ∙ ap (λ (n : ℕ). add n (product k (a * 2) (2 ^ i))) (nat.zero-mul a) ∙ add-zero-l _
+
+pub product-shift : (k a i : ℕ) → i < k → product k a (2 ^ i) ≡ a * 2 ^ i
+unfolding product
+product-shift zero a i h = absurd (not-suc-le-zero h)
+product-shift (suc k) a zero h =
+    ap (add (1 * a)) (at-zero (product k (a * 2)) (product-right k (a * 2))) ∙ add-zero-r (1 * a) ∙ nat.mul-comm 1 a
+product-shift (suc k) a (suc i) h =
+    shift-next k a i ∙ product-shift k (a * 2) i (le-of-suc-le-suc h)
+    ∙ nat.mul-assoc a 2 (2 ^ i) ∙ ap (λ (n : ℕ). a * n) (sym (pow-succ' 2 i))
+
+pub product-beyond : (k a i : ℕ) → k ≤ i → product k a (2 ^ i) ≡ 0
+unfolding product
+product-beyond zero a i h = refl
+product-beyond (suc k) a zero h = absurd (not-suc-le-zero h)
+product-beyond (suc k) a (suc i) h = shift-next k a i ∙ product-beyond k (a * 2) i (le-of-suc-le-suc h)
 
 reduce-additive : (k : ℕ) → Additive (reduce k)
 unfolding reduce

@@ -1,10 +1,10 @@
 -- Every byte but 0 has one inverse: 1 and z have theirs, the inverse of a product is the product of the inverses, and each byte but 0 is
 -- a power of z. Assumes nothing.
 use mathlib.Core.Path.{_≡_, refl, sym, ap, ap₂, _∙_}
-use Prim.Native.Nat.{ℕ, zero, suc, _<_}
+use Prim.Native.Nat.{ℕ, zero, suc, _%_, _<_}
 use lib.Dec.{lit<}
 use Rattle.gf256.specs.Field.{add, product, reduce, mul, squares, inverse}
-use Rattle.gf256.proofs.Field.{mul-comm, mul-assoc, one-mul, mul-one, mul-lt}
+use Rattle.gf256.proofs.Field.{mul-comm, mul-assoc, one-mul, mul-one, mul-lt, mul-low}
 use Rattle.gf256.proofs.Powers.{each-byte}
 use Rattle.gf256.proofs.Ring.{ring}
 
@@ -37,6 +37,15 @@ mul-inverse = each-byte (λ a. mul a (inverse a) ≡ 1) inverse-of-double invers
 pub inverse-lt : (a : ℕ) → inverse a < 256
 unfolding inverse squares
 inverse-lt a = mul-lt _ _
+
+pub inverse-none : inverse 0 ≡ 0
+unfolding add product reduce mul squares inverse
+inverse-none = refl
+
+-- of other numbers than bytes only the low 8 bits count
+pub inverse-low : (a : ℕ) → inverse (a % 256) ≡ inverse a
+unfolding inverse squares
+inverse-low a = ap (λ (s : ℕ). mul s (squares 6 s)) (mul-low a a)
 
 pub inverse-unique : (a x : ℕ) → 0 < a → a < 256 → x < 256 → mul a x ≡ 1 → x ≡ inverse a
 inverse-unique a x h l lx e =

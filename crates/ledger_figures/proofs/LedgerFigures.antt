@@ -39,5 +39,7 @@ repair-figures = record {
   mixed-packets = refl;
   mixed-senders = refl;
   mixed-repair = refl;
+  mixed-runs = refl;
   stands-in-twice = refl;
+  second-refused = refl;
 }

@@ -9,6 +9,7 @@ use Rattle.sizes.specs.declared.Sizes.{Sizes}
 use Rattle.mbcr.specs.Share.{standard}
 use Rattle.store_spec.specs.Record.{Record}
 use Rattle.store_spec.specs.Packets.{sentTo, sendersOf, contents, repairPackets}
+use Rattle.store_spec.specs.Runs.{repairRuns}
 use Rattle.store_spec.specs.Calls.{repairCall}
 use Rattle.store_spec.specs.FurtherFigures.{written, area, lost-one, one-spoiled, gives}
 
@@ -48,7 +49,22 @@ pub record RepairFigures : Type 0 where
   pub mixed-repair : repairCall six-lost six-spoiled (0 ∷ 1 ∷ []) (2 ∷ 3 ∷ 4 ∷ 5 ∷ []) (4 ∷ 2 ∷ [])
       ≡ gives 0 12 (six (replicate 6 true))
       ((0x01 ∷ 0x01 ∷ 0x79 ∷ 0x61 ∷ 0x4D ∷ 0x07 ∷ 0x07 ∷ 0x7F ∷ 0x67 ∷ 0x4B ∷ 0x1B ∷ 0x0D ∷ []) ++ boards2345) []
+  -- the boards at whose points it interpolates: of board 0, helpers 2 and 3, stand-in 4, partner 1; of board 1, helpers 4 and 5, stand-in 2, partner 0
+  pub mixed-runs : repairRuns six-lost (0 ∷ 1 ∷ []) (2 ∷ 3 ∷ 4 ∷ 5 ∷ []) (4 ∷ 2 ∷ [])
+      ≡ (2 ∷ 3 ∷ 4 ∷ 5 ∷ 0 ∷ []) ∷ (2 ∷ 3 ∷ []) ∷ (3 ∷ 4 ∷ 5 ∷ 0 ∷ 1 ∷ []) ∷ (3 ∷ 4 ∷ []) ∷ (4 ∷ 5 ∷ 0 ∷ 1 ∷ 2 ∷ []) ∷ (4 ∷ 5 ∷ [])
+      ∷ (2 ∷ 3 ∷ []) ∷ (2 ∷ 3 ∷ 4 ∷ 1 ∷ 0 ∷ [])
+      ∷ (4 ∷ 5 ∷ 0 ∷ 1 ∷ 2 ∷ []) ∷ (4 ∷ 5 ∷ []) ∷ (5 ∷ 0 ∷ 1 ∷ 2 ∷ 3 ∷ []) ∷ (5 ∷ 0 ∷ []) ∷ (2 ∷ 3 ∷ 4 ∷ 5 ∷ 0 ∷ []) ∷ (2 ∷ 3 ∷ [])
+      ∷ (4 ∷ 5 ∷ []) ∷ (4 ∷ 5 ∷ 2 ∷ 0 ∷ 1 ∷ []) ∷ []
   -- one board stands in for both
   pub stands-in-twice : repairCall six-lost six-spoiled (0 ∷ 1 ∷ []) (2 ∷ 3 ∷ 2 ∷ 3 ∷ []) (4 ∷ 4 ∷ [])
       ≡ gives 0 12 (six (replicate 6 true))
       ((0x01 ∷ 0x01 ∷ 0x79 ∷ 0x61 ∷ 0x4D ∷ 0x07 ∷ 0x07 ∷ 0x7F ∷ 0x67 ∷ 0x4B ∷ 0x1B ∷ 0x0D ∷ []) ++ boards2345) []
+  -- two of three fresh boards: the stand-in of the second is board 6 of six, one of its helpers, a fresh board, and one that is lost too; no stand-in of it
+  pub second-refused : map (λ o. o .answer .refusal)
+      (repairCall six-lost six-spoiled (0 ∷ 1 ∷ []) (2 ∷ 3 ∷ 4 ∷ 5 ∷ []) (4 ∷ 6 ∷ [])
+      ∷ repairCall six-lost six-spoiled (0 ∷ 1 ∷ []) (2 ∷ 3 ∷ 4 ∷ 5 ∷ []) (4 ∷ 5 ∷ [])
+      ∷ repairCall six-lost six-spoiled (0 ∷ 1 ∷ []) (2 ∷ 3 ∷ 4 ∷ 5 ∷ []) (4 ∷ 0 ∷ [])
+      ∷ repairCall (six (false ∷ false ∷ true ∷ false ∷ true ∷ true ∷ [])) six-spoiled (0 ∷ 1 ∷ []) (2 ∷ 4 ∷ 4 ∷ 5 ∷ []) (5 ∷ 3 ∷ [])
+      ∷ repairCall six-lost six-spoiled (0 ∷ 1 ∷ []) (2 ∷ 3 ∷ 4 ∷ 5 ∷ []) (4 ∷ [])
+      ∷ [])
+      ≡ 5 ∷ 6 ∷ 6 ∷ 9 ∷ 4 ∷ []

@@ -175,7 +175,7 @@ pub alone : (i x : ℕ) (l : List ℕ) → among l i ≡ true → among l x ≡ 
 alone i x l h n =
     ap (λ (t : Bool). pick t true false) (ne-eqb i x (λ e. true-false h (subst (λ (y : ℕ). among l y ≡ false) (sym e) n)))
 
-without-none : (x : ℕ) (l : List ℕ) → among l x ≡ false → without x l ≡ l
+pub without-none : (x : ℕ) (l : List ℕ) → among l x ≡ false → without x l ≡ l
 without-none x [] h = refl
 without-none x (y ∷ l) h =
     let p = not-among-cons y x l h in

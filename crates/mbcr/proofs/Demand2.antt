@@ -3,28 +3,28 @@
 use mathlib.Core.Path.{_≡_, refl, sym, ap, ap₂, subst, _∙_}
 use mathlib.Core.Bool.{true}
 use mathlib.Core.List.{List, [], _∷_, _++_}
-use Prim.Native.Nat.{ℕ, _+_, _*_, _-_, _<_, _≤_}
+use Prim.Native.Nat.{ℕ, _+_, _*_, _-_, _%_, _<_, _≤_}
 use native.Mathlib.Nat.{mul-comm, mul-assoc, add-mul}
 use native.Mathlib.Decide.{decLt}
 use native.Mathlib.Omega.{arith}
-use lib.ListN.{length, getD, length-append}
+use lib.ListN.{length, getD, take, drop, length-append}
 use Rattle.mbcr.proofs.Shape as shape
 use Rattle.mbcr.proofs.Repair as repair
 use Rattle.mbcr.proofs.Read as reading
 use Rattle.mbcr.proofs.Places as places
-use Rattle.lists.specs.Lists.{Bytes, All, joined, join}
+use Rattle.lists.specs.Lists.{Bytes, All, tabulate, joined, join, piece}
 use Rattle.lists.proofs.Alls.{all-imp, all-of, all-at}
-use Rattle.lists.proofs.Pieces.{length-joined, join-joined, length-fit}
+use Rattle.lists.proofs.Pieces.{length-joined, join-joined, piece-join, length-fit}
 use Rattle.gf256.specs.Field.{mul}
 use Rattle.sizes.specs.Sizing.{legal, B, α}
 use Rattle.sizes.specs.declared.Sizes.{Sizes}
 use Rattle.sizes.proofs.Legal.{Legal, legal-facts, α-moved}
-use Rattle.polynomial.specs.Polynomial.{entry, sum, power, eval}
+use Rattle.polynomial.specs.Polynomial.{entry, sum, power, eval, interpolate}
 use Rattle.polynomial.proofs.Grid.{Shape}
 use Rattle.polynomial.proofs.Sums.{grid-sum}
 use Rattle.mbcr.specs.Demand2.{Named, packetsFromShares, exchangesFromShares, S, symbol, Demand2, Demand2Claim, Standard}
-use Rattle.mbcr.specs.Rebuild.{helperPacket, exchangePacket, finishedShare}
-use Rattle.mbcr.specs.Share.{DifferentPoints, grid, F, share, point}
+use Rattle.mbcr.specs.Rebuild.{ownF, ownG, helperPacket, exchangePacket, finishedShare}
+use Rattle.mbcr.specs.Share.{DifferentPoints, grid, F, neighbours, share, shares, point, points}
 use Rattle.mbcr.proofs.Linear.{shares-add}
 use Rattle.mbcr.proofs.Points.{Boards, boards-of, standard-points, standard-point}
 use Rattle.mbcr.proofs.Stripe.{f-kept, g-kept, f-value, g-value}
@@ -102,6 +102,24 @@ module _ (z : Sizes) (xs : List ℕ) (ok : legal z ≡ true) (pts : DifferentPoi
         finished-by-symbols i helpers partners (λ m. exchangePacket z xs (S z file) (theirs m) (packetsFromShares z xs file (theirs m) m) i) h lh
         (all-imp (λ m. Named z d (theirs m)) _ (λ m k. exchange-true (theirs m) k m i) partners ht)
 
+  own-f-any : (j : ℕ) (w : List ℕ) → ownF z xs j w ≡ interpolate (points xs (tabulate (d + r) (λ t. (j + t) % n))) (take (d + r) w)
+  unfolding ownF neighbours
+  own-f-any j w = refl
+
+  own-g-any : (j : ℕ) (w : List ℕ) → ownG z xs j w ≡ interpolate (points xs (tabulate d (λ t. (j + t) % n))) (take 1 w ++ drop (d + r) w)
+  unfolding ownG neighbours
+  own-g-any j w = refl
+
+  shares-length : (file boards : List ℕ) → length (shares z xs file boards) ≡ length boards * (S z file * α z)
+  unfolding shares
+  shares-length file boards = length-joined (S z file * α z) (share z xs file) (repair.length-share z xs facts file) boards
+
+  shares-place : (file boards : List ℕ) (t : ℕ) → t < length boards → piece (S z file * α z) t (shares z xs file boards) ≡ share z xs file (getD boards t 0)
+  unfolding shares
+  shares-place file boards t h =
+      ap (piece (S z file * α z) t) (sym (join-joined (share z xs file) boards))
+      ∙ piece-join (length boards) (S z file * α z) (λ t. share z xs file (getD boards t 0)) (λ t l. repair.length-share z xs facts file (getD boards t 0)) t h
+
   all : Demand2 z xs
   all = record {
     coefficient-a = λ u l. shape.entry-a z facts u l;
@@ -135,12 +153,20 @@ module _ (z : Sizes) (xs : List ℕ) (ok : legal z ≡ true) (pts : DifferentPoi
     finished-bytes = places.finished-bytes z xs facts;
     received-place = places.received-place z;
     exchanged-place = places.exchanged-place z;
+    own-f-any = own-f-any;
+    own-g-any = own-g-any;
+    packet-any = places.packet-any z xs;
+    exchange-any = places.exchange-any z xs;
+    finished-f-any = places.finished-f-any z xs facts;
+    finished-g-any = places.finished-g-any z xs facts;
     packet-true = λ file bf. repair.packet-true z xs facts pts file bf;
     stand-in-place = places.stand-in-place z xs;
     stand-in-true = λ file bf. repair.stand-in-true z xs facts pts file bf;
     exchange-true = exchange-true;
     finished-true = finished-true;
     finished-by-symbols = finished-by-symbols;
+    shares-length = shares-length;
+    shares-place = shares-place;
     decodes = λ file boards bf h. reading.decoded-file-true z xs facts pts boards (named k boards h) (h .0) file bf;
     shares-fix = λ file file′ boards b b′ h. reading.shares-injective z xs facts pts boards (named k boards h) (h .0) file file′ b b′;
     read-file = λ L boards held file b h. (

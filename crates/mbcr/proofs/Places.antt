@@ -9,7 +9,7 @@ use lib.ListN.{length, getD, take, drop, length-append, length-map, length-drop,
 use lib.Seq.{getD-drop, getD-append-add}
 use Rattle.lists.specs.Lists.{Bytes, piece}
 use Rattle.lists.proofs.Alls.{append-all, take-alls, drop-alls, byte-at}
-use Rattle.lists.proofs.Pieces.{fit-at, tabulate-at, piece-piece-at, piece-at, map-at, piece-join, map-bytes, join-bytes, piece-bytes, tabulate-all}
+use Rattle.lists.proofs.Pieces.{fit-at, tabulate-at, piece-piece-at, piece-at, map-at, piece-join, join-ones, map-bytes, join-bytes, piece-bytes, tabulate-all}
 use Rattle.sizes.specs.Sizing.{B, α, stripes}
 use Rattle.sizes.specs.declared.Sizes.{Sizes}
 use Rattle.sizes.proofs.Legal.{row-fits, Legal, α-parts}
@@ -17,10 +17,11 @@ use Rattle.polynomial.specs.Polynomial.{atY, interpolate, eval}
 use Rattle.polynomial.proofs.Poly.{eval-byte, interpolate-bytes}
 use Rattle.mbcr.specs.Rebuild.{seconds, received, exchanged, ownF, ownG, helperPacket, standInPacket, helperPair, gFrom, exchangePacket, finishedShare, finishedStripe, fFrom}
 use Rattle.mbcr.specs.Share.{stripe, neighbours, symbols, point, points, share, kept, F, grid}
+use Rattle.mbcr.specs.Demand2.{gHeard, fHeard}
 use Rattle.mbcr.proofs.Points.{length-points, length-neighbours}
 use Rattle.mbcr.proofs.Repair.{length-kept}
 use Rattle.mbcr.proofs.Shape.{shape, length-stripe, stripe-bytes}
-use Rattle.mbcr.proofs.Stripe.{atY-bytes}
+use Rattle.mbcr.proofs.Stripe.{atY-bytes, length-symbols}
 
 module _ (z : Sizes) where
   open Sizes z using (n, k, d, r)
@@ -54,6 +55,27 @@ pub stand-in-place : (z : Sizes) (xs : List ℕ) (S j i : ℕ) (held : List ℕ)
 unfolding standInPacket seconds
 stand-in-place z xs S j i held s h =
     tabulate-at S (λ s. getD (piece 2 s (helperPacket z xs S j i held)) 1 0) 0 s h ∙ piece-at 2 s (helperPacket z xs S j i held) 1 0 (omega arith)
+
+module _ (z : Sizes) (xs : List ℕ) where
+  pub packet-any : (S j i s : ℕ) (held : List ℕ) → s < S
+      → (getD (helperPacket z xs S j i held) (s * 2) 0 ≡ eval (ownF z xs j (piece (α z) s held)) (point xs i))
+      × (getD (helperPacket z xs S j i held) (s * 2 + 1) 0 ≡ eval (ownG z xs j (piece (α z) s held)) (point xs i))
+  unfolding helperPacket helperPair
+  packet-any S j i s held h =
+      let pair : piece 2 s (helperPacket z xs S j i held) ≡ helperPair z xs j i (piece (α z) s held) =
+      piece-join S 2 (λ s. helperPair z xs j i (piece (α z) s held)) (λ s l. refl) s h in
+      let even : s * 2 + 0 ≡ s * 2 = omega arith in (
+        ap (λ (m : ℕ). getD (helperPacket z xs S j i held) m 0) (sym even) ∙ sym (piece-at 2 s (helperPacket z xs S j i held) 0 0 (omega arith))
+            ∙ ap (λ (w : List ℕ). getD w 0 0) pair,
+        sym (piece-at 2 s (helperPacket z xs S j i held) 1 0 (omega arith)) ∙ ap (λ (w : List ℕ). getD w 1 0) pair,
+      )
+
+  pub exchange-any : (S : ℕ) (helpers packets : List ℕ) (m s : ℕ) → s < S
+      → getD (exchangePacket z xs S helpers packets m) s 0 ≡ eval (gHeard z xs S helpers packets s) (point xs m)
+  unfolding exchangePacket gFrom
+  exchange-any S helpers packets m s h =
+      ap (λ (l : List ℕ). getD l s 0) (join-ones S (λ s. eval (gHeard z xs S helpers packets s) (point xs m)))
+      ∙ tabulate-at S (λ s. eval (gHeard z xs S helpers packets s) (point xs m)) 0 s h
 
 module _ (z : Sizes) (xs : List ℕ) (legal : Legal z) where
   open Sizes z using (n, k, d, r)
@@ -101,6 +123,33 @@ module _ (z : Sizes) (xs : List ℕ) (legal : Legal z) where
       let e : suc (t - 1) ≡ t = omega arith in
       share-at file i s (d + r + (t - 1)) hs (omega (arith, α-parts z legal)) ∙ symbols-g-at i (t - 1) _ _ (omega arith)
       ∙ ap (λ (m : ℕ). F z (stripe z file s) (point xs ((i + m) % n)) (point xs i)) e
+
+  -- ---- over any bytes
+
+  finished-at : (S i : ℕ) (helpers packets partners exchanges : List ℕ) (s t : ℕ) → s < S → t < α z
+      → getD (finishedShare z xs S i helpers packets partners exchanges) (s * α z + t) 0
+      ≡ getD (symbols z xs i (eval (fHeard z xs S i helpers packets partners exchanges s)) (eval (gHeard z xs S helpers packets s))) t 0
+  unfolding finishedShare finishedStripe gFrom fFrom
+  finished-at S i helpers packets partners exchanges s t hs ht =
+      sym (piece-at (α z) s (finishedShare z xs S i helpers packets partners exchanges) t 0 ht)
+      ∙ ap (λ (w : List ℕ). getD w t 0)
+      (piece-join S (α z)
+      (λ s. symbols z xs i (eval (fHeard z xs S i helpers packets partners exchanges s)) (eval (gHeard z xs S helpers packets s)))
+      (λ s l. length-symbols z xs legal i _ _) s hs)
+
+  pub finished-f-any : (S i : ℕ) (helpers packets partners exchanges : List ℕ) (s t : ℕ) → s < S → t < d + r
+      → getD (finishedShare z xs S i helpers packets partners exchanges) (s * α z + t) 0
+      ≡ eval (fHeard z xs S i helpers packets partners exchanges s) (point xs ((i + t) % n))
+  finished-f-any S i helpers packets partners exchanges s t hs ht =
+      finished-at S i helpers packets partners exchanges s t hs (omega (arith, α-parts z legal)) ∙ symbols-f-at i t _ _ ht
+
+  pub finished-g-any : (S i : ℕ) (helpers packets partners exchanges : List ℕ) (s t : ℕ) → s < S → 1 ≤ t → t < d
+      → getD (finishedShare z xs S i helpers packets partners exchanges) (s * α z + (d + r + (t - 1))) 0
+      ≡ eval (gHeard z xs S helpers packets s) (point xs ((i + t) % n))
+  finished-g-any S i helpers packets partners exchanges s t hs lt ht =
+      let e : suc (t - 1) ≡ t = omega arith in
+      finished-at S i helpers packets partners exchanges s (d + r + (t - 1)) hs (omega (arith, α-parts z legal)) ∙ symbols-g-at i (t - 1) _ _ (omega arith)
+      ∙ ap (λ (m : ℕ). eval (gHeard z xs S helpers packets s) (point xs ((i + m) % n))) e
 
   -- ---- bytes make bytes
 

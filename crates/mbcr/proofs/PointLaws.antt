@@ -15,14 +15,14 @@ use Rattle.lists.specs.Tests.{pick, every, below, different}
 use Rattle.lists.specs.Lists.{All, Bytes, tabulate}
 use Rattle.lists.proofs.Alls.{all-at, all-atD, all-of, byte-at, Distinct, distinct-of, distinct-at}
 use Rattle.lists.proofs.Boards.{below-all, all-below, distinct, distinct-different}
-use Rattle.lists.proofs.Pieces.{length-tabulate, tabulate-at, tabulate-all}
+use Rattle.lists.proofs.Pieces.{length-tabulate, tabulate-at, tabulate-all, map-at}
 use Rattle.lists.proofs.Tests.{alls-hold, hold-alls, every-all, all-every}
 use Rattle.sizes.specs.declared.Sizes.{Sizes}
 use Rattle.sizes.specs.Sizing.{legal}
 use Rattle.sizes.proofs.Legal.{legal-facts}
 use Rattle.mbcr.specs.Share.{point, standard, pointed, DifferentPoints}
 use Rattle.mbcr.specs.PointLaws.{firstSeries, PointLaws}
-use Rattle.mbcr.proofs.Points.{listed, listed-point}
+use Rattle.mbcr.proofs.Points.{listed, listed-point, length-points}
 
 -- ---- the test in propositions
 
@@ -115,6 +115,9 @@ first-series-pointed z ok =
 
 pub point-laws : PointLaws
 point-laws = record {
+  point-is = λ xs i. refl;
+  points-are = λ xs boards t h. map-at (point xs) boards t h;
+  points-length = length-points;
   pointed-is = λ z xs ok. (
     λ h. let f = pointed-facts z xs (legal-facts z ok .few) h in (f .long, f .bytes, f .differ, f .rest),
     λ h. facts-pointed z xs (legal-facts z ok .few) (record { long = h .0; bytes = h .1; differ = h .2; rest = h .3 }),

@@ -6,14 +6,14 @@ use mathlib.Core.Logic.{_↔_, _⊎_}
 use mathlib.Core.Option.{none, some}
 use mathlib.Core.List.{List, [], _∷_, _++_}
 use Prim.Native.Nat.{ℕ, _+_, _*_, _-_, _%_, _≤_, _<_}
-use lib.ListN.{length, getD}
+use lib.ListN.{length, getD, take, drop}
 use Rattle.lists.specs.Tests.{below, different}
-use Rattle.lists.specs.Lists.{All, Bytes, join, joined}
+use Rattle.lists.specs.Lists.{All, Bytes, tabulate, join, joined, piece}
 use Rattle.gf256.specs.Field.{mul}
 use Rattle.sizes.specs.declared.Sizes.{Sizes}
 use Rattle.sizes.specs.Sizing.{legal, α, B, stripes}
-use Rattle.polynomial.specs.Polynomial.{eval, entry, plus, sum, power}
-use Rattle.mbcr.specs.Share.{point, standard, DifferentPoints, stripe, grid, F, kept, share, shares}
+use Rattle.polynomial.specs.Polynomial.{eval, interpolate, entry, plus, sum, power}
+use Rattle.mbcr.specs.Share.{point, points, standard, DifferentPoints, stripe, grid, F, kept, share, shares}
 use Rattle.mbcr.specs.Rebuild.{received, exchanged, ownF, ownG, helperPacket, standInPacket, exchangePacket, finishedShare}
 use Rattle.mbcr.specs.Read.{decodedFile, readFile}
 
@@ -36,6 +36,15 @@ packetsFromShares z xs file helpers i = joined (λ j. helperPacket z xs (S z fil
 -- the packets to board i of partners, each of which had helpers of its own that hold their shares
 unfoldable pub exchangesFromShares : Sizes → List ℕ → List ℕ → List ℕ → (ℕ → List ℕ) → ℕ → List ℕ
 exchangesFromShares z xs file partners theirs i = joined (λ m. exchangePacket z xs (S z file) (theirs m) (packetsFromShares z xs file (theirs m) m) i) partners
+
+-- g and f of a fresh board for stripe s, over any packets: "from the d first bytes"; "from d second bytes, r − 1 exchanged bytes and its own g_i(x_i)"
+abbrev pub gHeard : Sizes → List ℕ → ℕ → List ℕ → List ℕ → ℕ → List ℕ
+gHeard z xs S helpers packets s = interpolate (points xs helpers) (received z S 0 s packets)
+
+abbrev pub fHeard : Sizes → List ℕ → ℕ → ℕ → List ℕ → List ℕ → List ℕ → List ℕ → ℕ → List ℕ
+fHeard z xs S i helpers packets partners exchanges s =
+    interpolate (points xs (helpers ++ partners ++ (i ∷ [])))
+    (received z S 1 s packets ++ exchanged z S s exchanges ++ (eval (gHeard z xs S helpers packets s) (point xs i) ∷ []))
 
 pub record Demand2 (z : Sizes) (xs : List ℕ) : Type 0 where
   -- "The stripe's bytes are, in this order, coefficients of F(X, Y) .. each group by i, then by j. All other coefficients are zero."
@@ -85,6 +94,22 @@ pub record Demand2 (z : Sizes) (xs : List ℕ) : Type 0 where
       → (t * (2 * S) + (s * 2 + b) < length packets) × (getD (received z S b s packets) t 0 ≡ getD packets (t * (2 * S) + (s * 2 + b)) 0)
   pub exchanged-place : (S s t : ℕ) (packets : List ℕ) → length packets ≡ (z .r - 1) * S → s < S → t < z .r - 1
       → (t * S + s < length packets) × (getD (exchanged z S s packets) t 0 ≡ getD packets (t * S + s) 0)
+  -- over any bytes, also such as no file could cause, every byte is that of the steps: f and g of a board through what it keeps at its neighbours
+  pub own-f-any : (j : ℕ) (w : List ℕ) → ownF z xs j w ≡ interpolate (points xs (tabulate (z .d + z .r) (λ t. (j + t) % z .n))) (take (z .d + z .r) w)
+  pub own-g-any : (j : ℕ) (w : List ℕ) → ownG z xs j w ≡ interpolate (points xs (tabulate (z .d) (λ t. (j + t) % z .n))) (take 1 w ++ drop (z .d + z .r) w)
+  -- a helper's pair: its f, then its g, at the receiver's point
+  pub packet-any : (S j i s : ℕ) (held : List ℕ) → s < S
+      → (getD (helperPacket z xs S j i held) (s * 2) 0 ≡ eval (ownF z xs j (piece (α z) s held)) (point xs i))
+      × (getD (helperPacket z xs S j i held) (s * 2 + 1) 0 ≡ eval (ownG z xs j (piece (α z) s held)) (point xs i))
+  -- what fresh boards exchange: g at the receiver's point; and what a fresh board keeps of f and g
+  pub exchange-any : (S : ℕ) (helpers packets : List ℕ) (m s : ℕ) → s < S
+      → getD (exchangePacket z xs S helpers packets m) s 0 ≡ eval (gHeard z xs S helpers packets s) (point xs m)
+  pub finished-f-any : (S i : ℕ) (helpers packets partners exchanges : List ℕ) (s t : ℕ) → s < S → t < z .d + z .r
+      → getD (finishedShare z xs S i helpers packets partners exchanges) (s * α z + t) 0
+      ≡ eval (fHeard z xs S i helpers packets partners exchanges s) (point xs ((i + t) % z .n))
+  pub finished-g-any : (S i : ℕ) (helpers packets partners exchanges : List ℕ) (s t : ℕ) → s < S → 1 ≤ t → t < z .d
+      → getD (finishedShare z xs S i helpers packets partners exchanges) (s * α z + (z .d + z .r + (t - 1))) 0
+      ≡ eval (gHeard z xs S helpers packets s) (point xs ((i + t) % z .n))
   -- a helper that holds its share sends F(x_j, y_i), then F(x_i, y_j)
   pub packet-true : (file : List ℕ) → Bytes file → (i j : ℕ) → j < z .n
       → helperPacket z xs (S z file) j i (share z xs file j) ≡ join (S z file) (λ s. symbol z xs file s j i ∷ symbol z xs file s i j ∷ [])
@@ -105,6 +130,9 @@ pub record Demand2 (z : Sizes) (xs : List ℕ) : Type 0 where
       → Named z (z .d + z .r) (helpers ++ partners ++ (i ∷ [])) → length helpers ≡ z .d
       → All (λ m. sent m ≡ join (S z file) (λ s. symbol z xs file s i m ∷ [])) partners
       → finishedShare z xs (S z file) i helpers (packetsFromShares z xs file helpers i) partners (joined sent partners) ≡ share z xs file i
+  -- "shares in the order of their list": the t-th is the share of the t-th board
+  pub shares-length : (file boards : List ℕ) → length (shares z xs file boards) ≡ length boards * (S z file * α z)
+  pub shares-place : (file boards : List ℕ) (t : ℕ) → t < length boards → piece (S z file * α z) t (shares z xs file boards) ≡ share z xs file (getD boards t 0)
   -- the shares of any k different boards decode to the file, and no two files of one length have the same
   pub decodes : (file boards : List ℕ) → Bytes file → Named z (z .k) boards → decodedFile z xs (length file) boards (shares z xs file boards) ≡ file
   pub shares-fix : (file file′ boards : List ℕ) → Bytes file → Bytes file′ → Named z (z .k) boards

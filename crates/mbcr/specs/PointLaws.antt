@@ -6,18 +6,22 @@ use mathlib.Core.Logic.{_≢_, _↔_}
 use mathlib.Core.List.{List}
 use Prim.Native.Nat.{ℕ, _+_, _≤_, _<_}
 use lib.Dec.{ltb}
-use lib.ListN.{length}
+use lib.ListN.{length, getD}
 use Rattle.lists.specs.Tests.{pick}
 use Rattle.lists.specs.Lists.{Bytes, tabulate}
 use Rattle.sizes.specs.declared.Sizes.{Sizes}
 use Rattle.sizes.specs.Sizing.{maxBoards, legal}
-use Rattle.mbcr.specs.Share.{point, standard, pointed, DifferentPoints}
+use Rattle.mbcr.specs.Share.{point, points, standard, pointed, DifferentPoints}
 
 -- "Robots of the first series gave board i the point i + 1"
 abbrev pub firstSeries : Sizes → List ℕ
 firstSeries z = tabulate maxBoards (λ i. pick (ltb i (z .n)) (i + 1) 0)
 
 pub record PointLaws : Type 0 where
+  -- the point of board i is the i-th of the list, and those of boards stand in the order of the boards
+  pub point-is : (xs : List ℕ) (i : ℕ) → point xs i ≡ getD xs i 0
+  pub points-are : (xs boards : List ℕ) (t : ℕ) → t < length boards → getD (points xs boards) t 0 ≡ getD xs (getD boards t 0) 0
+  pub points-length : (xs boards : List ℕ) → length (points xs boards) ≡ length boards
   -- 32 bytes, those of n boards different, "00 kept for a number from n up"
   pub pointed-is : (z : Sizes) (xs : List ℕ) → legal z ≡ true
       → (pointed z xs ≡ true)

@@ -30,7 +30,7 @@ abbrev pub quot : ℕ → List ℕ → List ℕ
 quot a [] = []
 quot a (c ∷ q) = eval (c ∷ q) a ∷ quot a q
 
-add-none : (c a : ℕ) → add c (mul a 0) ≡ c
+pub add-none : (c a : ℕ) → add c (mul a 0) ≡ c
 add-none c a = simp ring
 
 add-back : (c e : ℕ) → add (add c e) e ≡ c
@@ -73,11 +73,11 @@ length-quot : (a : ℕ) (q : List ℕ) → length (quot a q) ≡ length q
 length-quot a [] = refl
 length-quot a (c ∷ q) = ap suc (length-quot a q)
 
-length-step : (a v : ℕ) (q : List ℕ) → length (step a v q) ≡ suc (length q)
+pub length-step : (a v : ℕ) (q : List ℕ) → length (step a v q) ≡ suc (length q)
 length-step a v [] = refl
 length-step a v (c ∷ q) = ap suc (length-step a c q)
 
-length-slopes : (a v : ℕ) (ys ws : List ℕ) → length ys ≡ length ws → length ys ≡ length (slopes a v ys ws)
+pub length-slopes : (a v : ℕ) (ys ws : List ℕ) → length ys ≡ length ws → length ys ≡ length (slopes a v ys ws)
 length-slopes a v [] ws h = refl
 length-slopes a v (y ∷ ys) [] h = absurd (omega arith)
 length-slopes a v (y ∷ ys) (w ∷ ws) h = ap suc (length-slopes a v ys ws (omega arith))
@@ -102,10 +102,15 @@ over y a e h hy ha he =
     over-law : (d n e : ℕ) → mul d n ≡ 1 → mul (mul d e) n ≡ mul 1 e
     over-law d n e i = cc (mul-assoc d e n, mul-comm e n, mul-assoc d n e)
 
+-- (y - a) ((w - v) / (y - a)) = w - v
+pub slope-back : (a v y w : ℕ) → y ≢ a → y < 256 → a < 256 → w < 256 → v < 256 → mul (add y a) (slope a v y w) ≡ add w v
+slope-back a v y w h hy ha hw hv =
+    sym (mul-assoc (add y a) (add w v) (inverse (add y a))) ∙ over y a (add w v) h hy ha (add-byte w v hw hv)
+
 -- an interpolated point: v + (y - a) ((w - v) / (y - a)) = w
 back : (a v y w : ℕ) → y ≢ a → y < 256 → a < 256 → w < 256 → v < 256 → add v (mul (add y a) (slope a v y w)) ≡ w
 back a v y w h hy ha hw hv =
-    ap (add v) (sym (mul-assoc (add y a) (add w v) (inverse (add y a))) ∙ over y a (add w v) h hy ha (add-byte w v hw hv)) ∙ back-law v w
+    ap (add v) (slope-back a v y w h hy ha hw hv) ∙ back-law v w
   where
     back-law : (v w : ℕ) → add v (add w v) ≡ w
     back-law v w = simp ring

@@ -12,13 +12,15 @@ use Rattle.board_spec.specs.Demand1.{value}
 use Rattle.board_spec.specs.Text.{decimal, textLine}
 use Rattle.board_spec.proofs.Text.{text-laws}
 use Rattle.printer.specs.Printer.{refusedLine}
-use Rattle.printer.specs.Laws.{Begins}
+use Rattle.printer.specs.Laws.{Begins, asks, Asked}
+use Rattle.printer.specs.Printer.{fiveLines}
+use Rattle.sizes.specs.declared.Sizes.{Sizes}
 
 whole-line : (name l input : List ℕ) → textLine name l ++ input ≡ name ++ (0x3D ∷ []) ++ (l ++ (0x0A ∷ input))
 whole-line name l input =
     append-assoc (name ++ (0x3D ∷ []) ++ l) (0x0A ∷ []) input ∙ append-assoc (name ++ (0x3D ∷ [])) l (0x0A ∷ input)
 
-spelled-value : (l : List ℕ) (v : ℕ) → spelled l v ≡ value l v
+pub spelled-value : (l : List ℕ) (v : ℕ) → spelled l v ≡ value l v
 spelled-value [] v = refl
 spelled-value (c ∷ l) v = spelled-value l (10 * v + (c - 0x30))
 
@@ -44,3 +46,29 @@ module _ {A : Type 0} (bad : A) where
       → line bad (name ++ (0x3D ∷ [])) (textLine name (decimal x) ++ input) go ≡ go x input
   decimal-taken name x input go =
       line-taken name (decimal x) (decimal-number x) input go ∙ ap (λ (v : ℕ). go v input) (text-laws .decimal-value x)
+
+  -- a line in its form and then something else, or malformed
+  step : {P : Type 0} (name input : List ℕ) (go : ℕ → List ℕ → A) → ((s : Begins name input) → P ⊎ (go (value (s .figures) 0) (s .behind) ≡ bad))
+      → P ⊎ (line bad (name ++ (0x3D ∷ [])) input go ≡ bad)
+  step name input go f =
+      ⊎-elim
+      (λ s. ⊎-elim inl (λ e. inr (ap (λ (m : List ℕ). line bad (name ++ (0x3D ∷ [])) m go) (s .whole) ∙ line-taken name (s .figures) (s .is-number) (s .behind) go ∙ e)) (f s))
+      (λ g. inr (g go)) (line-else name input)
+
+  pub five-else : (input : List ℕ) (go : Sizes → ℕ → List ℕ → A) → Asked input ⊎ (fiveLines bad input go ≡ bad)
+  five-else input go =
+      step (0x6E ∷ []) input _ (λ a.
+      step (0x6B ∷ []) (a .behind) _ (λ b.
+      step (0x64 ∷ []) (b .behind) _ (λ c.
+      step (0x72 ∷ []) (c .behind) _ (λ d.
+      step (0x6E ∷ 0x6F ∷ 0x64 ∷ 0x65 ∷ []) (d .behind) _ (λ e. inl (record {
+        n = a .figures;
+        k = b .figures;
+        d = c .figures;
+        r = d .figures;
+        node = e .figures;
+        file = e .behind;
+        numbers = (a .is-number, b .is-number, c .is-number, d .is-number, e .is-number);
+        whole = a .whole ∙ ap (λ (l : List ℕ). textLine (0x6E ∷ []) (a .figures) ++ l) (b .whole ∙ ap (λ (l : List ℕ). textLine (0x6B ∷ []) (b .figures) ++ l)
+            (c .whole ∙ ap (λ (l : List ℕ). textLine (0x64 ∷ []) (c .figures) ++ l) (d .whole ∙ ap (λ (l : List ℕ). textLine (0x72 ∷ []) (d .figures) ++ l) (e .whole))));
+      }))))))

@@ -11,12 +11,13 @@ use Rattle.number_lines.proofs.Laws.{line-laws}
 use Rattle.sizes.specs.declared.Sizes.{Sizes}
 use Rattle.mbcr.specs.Share.{standard}
 use Rattle.printer.specs.declared.Parser.{Parser}
-use Rattle.printer.specs.Laws.{PrinterLaws}
+use Rattle.printer.specs.Laws.{PrinterLaws, Asked}
+use mathlib.Core.Logic.{_⊎_}
 use Rattle.printer.specs.Printer.{refusedLine, answered, fiveLines, printed}
 use Rattle.printer.specs.Steps.{nameOf, maxNumber, beginPoints, begin, wrong, fed, keep, runs}
-use Rattle.printer.proofs.Forms.{line-taken, line-else, decimal-taken}
+use Rattle.printer.proofs.Forms.{five-else, line-taken, line-else, decimal-taken}
 use Rattle.printer.proofs.Near.{held, heldSizes, answered-held}
-use Rattle.printer.proofs.Whole.{printed-for}
+use Rattle.printer.proofs.Whole.{printed-for, asked-for}
 use Rattle.printer.proofs.Room.{any-room}
 use Rattle.printer.proofs.Rest.{filing, behindLines, rest, rest-bad, step, at-end}
 
@@ -67,8 +68,15 @@ pub runs-rest : (input : List ℕ) (p : Parser) (kept : List ℕ) → runs p kep
 runs-rest [] p kept = sym (at-end p kept)
 runs-rest (b ∷ input) p kept = runs-rest input (fed p b) (keep p kept b) ∙ sym (step p kept b input)
 
+else-one : (input : List ℕ) → Asked input ⊎ (printed input ≡ refusedLine 1)
+unfolding printed
+else-one input = five-else (refusedLine 1) input (λ z node file. answered z (standard z) node file)
+
 pub printer-laws : PrinterLaws
 printer-laws = record {
+  all-else = else-one;
+  asked-for = asked-for;
+  refused-is = λ x. refl;
   taken = line-taken (refusedLine 1);
   else-refused = line-else (refusedLine 1);
   decimals = decimal-taken (refusedLine 1);

@@ -18,13 +18,15 @@ use Rattle.sizes.specs.Sizing.{legal, α, B, stripes}
 use Rattle.mbcr.specs.Share.{standard, pointed, share}
 use Rattle.mbcr.proofs.PointLaws.{standard-pointed}
 use Rattle.board_spec.proofs.Text.{standard-unsaid}
+use Rattle.board_spec.specs.Demand1.{value}
 use Rattle.board_spec.specs.Text.{decimal, hexPair, textLine, shareText}
 use Rattle.board_spec.specs.Calls.{shareCall, shareLines}
 use Rattle.printer.specs.Printer.{refusedLine, maxFile, shared, answered, fiveLines, printed}
 use Rattle.printer.specs.Steps.{accepted}
 use Rattle.printer.specs.Laws.{asks, sevenLines, PrintedFor}
+use Rattle.number_lines.specs.Laws.{Number}
 use Rattle.number_lines.proofs.Picks.{yes, if-lt, if-le}
-use Rattle.printer.proofs.Forms.{decimal-taken}
+use Rattle.printer.proofs.Forms.{line-taken, decimal-taken}
 use Rattle.printer.proofs.Near.{shared-far, refused-sizes, not-legal}
 
 -- what is written of sizes and points that are taken
@@ -77,6 +79,17 @@ five-taken bad z node input go =
     ∙ decimal-taken bad (0x72 ∷ []) (z .r) _ _
     ∙ decimal-taken bad (0x6E ∷ 0x6F ∷ 0x64 ∷ 0x65 ∷ []) node input _
 
+-- five lines of numbers in any digits
+pub five-numbers : {A : Type 0} (bad : A) (n k d r node input : List ℕ) → Number n × Number k × Number d × Number r × Number node
+    → (go : Sizes → ℕ → List ℕ → A)
+    → fiveLines bad (asks n k d r node input) go ≡ go (record { n = value n 0; k = value k 0; d = value d 0; r = value r 0 }) (value node 0) input
+five-numbers bad n k d r node input (a, b, c, e, f) go =
+    line-taken bad (0x6E ∷ []) n a _ _
+    ∙ line-taken bad (0x6B ∷ []) k b _ _
+    ∙ line-taken bad (0x64 ∷ []) d c _ _
+    ∙ line-taken bad (0x72 ∷ []) r e _ _
+    ∙ line-taken bad (0x6E ∷ 0x6F ∷ 0x64 ∷ 0x65 ∷ []) node f input _
+
 -- lines, one behind the other
 rightwards : (a b c d e f g : List ℕ) → a ++ b ++ c ++ d ++ e ++ f ++ g ≡ a ++ (b ++ (c ++ (d ++ (e ++ (f ++ g)))))
 rightwards a b c d e f g = simp append-assoc
@@ -96,16 +109,10 @@ seven z ok L node held =
     ∙ ap (λ (l : List ℕ). l ++ g) (append-nil (a ++ b ++ c ++ d ++ e ++ f))
     ∙ rightwards a b c d e f g
 
-module _ (z : Sizes) (node : ℕ) (file : List ℕ) where
-  abbrev asked : List ℕ
-  asked = asks (decimal (z .n)) (decimal (z .k)) (decimal (z .d)) (decimal (z .r)) (decimal node) file
-
-  taken : printed asked ≡ answered z (standard z) node file
-  unfolding printed
-  taken = five-taken (refusedLine 1) z node file (λ z node file. answered z (standard z) node file)
-
-  pub printed-for : PrintedFor z node file (printed asked)
-  printed-for = record {
+-- whatever the input is of which this is read
+module _ (z : Sizes) (node : ℕ) (file written : List ℕ) (taken : written ≡ answered z (standard z) node file) where
+  said : PrintedFor z node file written
+  said = record {
     illegal = λ bad. taken ∙ refused-sizes z (standard z) node file (not-legal z (standard z) bad);
     over-16384 = λ ok h. taken ∙ answered-over z (standard z) node file ok (standard-pointed z ok) h;
     over-stripes = λ ok h. taken ∙ answered-long z (standard z) node file ok (standard-pointed z ok) h;
@@ -115,3 +122,15 @@ module _ (z : Sizes) (node : ℕ) (file : List ℕ) where
         taken ∙ answered-called z (standard z) node file ok o h ∙ shared-text z (standard z) node file ok o s b
         ∙ seven z ok (length file) node (share z (standard z) file node);
   }
+
+pub printed-for : (z : Sizes) (node : ℕ) (file : List ℕ)
+    → PrintedFor z node file (printed (asks (decimal (z .n)) (decimal (z .k)) (decimal (z .d)) (decimal (z .r)) (decimal node) file))
+unfolding printed
+printed-for z node file = said z node file _ (five-taken (refusedLine 1) z node file (λ z node file. answered z (standard z) node file))
+
+pub asked-for : (n k d r node file : List ℕ) → Number n × Number k × Number d × Number r × Number node
+    → PrintedFor (record { n = value n 0; k = value k 0; d = value d 0; r = value r 0 }) (value node 0) file (printed (asks n k d r node file))
+unfolding printed
+asked-for n k d r node file h =
+    said (record { n = value n 0; k = value k 0; d = value d 0; r = value r 0 }) (value node 0) file _
+    (five-numbers (refusedLine 1) n k d r node file h (λ z node file. answered z (standard z) node file))

@@ -52,7 +52,25 @@ pub record PrintedFor (z : Sizes) (node : ℕ) (file written : List ℕ) : Type 
   pub text : legal z ≡ true → length file ≤ 16384 → length file ≤ 4096 * B z → node < z .n
       → written ≡ sevenLines z (length file) node (share z (standard z) file node)
 
+-- the input is five lines in their form, and a file
+pub record Asked (input : List ℕ) : Type 0 where
+  pub n : List ℕ
+  pub k : List ℕ
+  pub d : List ℕ
+  pub r : List ℕ
+  pub node : List ℕ
+  pub file : List ℕ
+  pub numbers : Number n × Number k × Number d × Number r × Number node
+  pub whole : input ≡ asks n k d r node file
+
 pub record PrinterLaws : Type 0 where
+  -- "a malformed line gives 1", whichever it is
+  pub all-else : (input : List ℕ) → Asked input ⊎ (printed input ≡ refusedLine 1)
+  -- and of every input that has its form it is said what is written, in whatever digits it has its numbers
+  pub asked-for : (n k d r node file : List ℕ) → Number n × Number k × Number d × Number r × Number node
+      → PrintedFor (record { n = value n 0; k = value k 0; d = value d 0; r = value r 0 }) (value node 0) file (printed (asks n k d r node file))
+  -- "one line `refused=` with the number"
+  pub refused-is : (x : ℕ) → refusedLine x ≡ (0x72 ∷ 0x65 ∷ 0x66 ∷ 0x75 ∷ 0x73 ∷ 0x65 ∷ 0x64 ∷ 0x3D ∷ []) ++ (decimal x ++ (0x0A ∷ []))
   pub taken : (name l : List ℕ) → Number l → (input : List ℕ) (go : ℕ → List ℕ → List ℕ)
       → line (refusedLine 1) (name ++ (0x3D ∷ [])) (textLine name l ++ input) go ≡ go (value l 0) input
   pub else-refused : (name input : List ℕ)

@@ -8,16 +8,17 @@ use native.Mathlib.Nat.{mod-lt, div-add-mod'}
 use native.Mathlib.Omega.{arith}
 use lib.Dec.{eqb, ltb}
 use lib.ListN.{length, getD, drop, length-drop, take-append-drop}
-use borrow.Author.Tests.{lt-ltb}
+use borrow.Author.Tests.{lt-ltb, eq-eqb}
 use Rattle.lists.specs.Tests.{pick, every}
-use Rattle.lists.specs.Lists.{tabulate, joined, piece}
+use Rattle.lists.specs.Lists.{All, tabulate, joined, piece}
 use Rattle.lists.proofs.Tests.{hold-alls}
 use Rattle.lists.proofs.Pieces.{tabulate-take}
 use Rattle.store_spec.specs.Record.{Record}
 use Rattle.record_words.specs.Words.{bits, fromBits, bytes, fromBytes, word, isRecord, recordFrom, wordsOf}
 use Rattle.record_words.specs.Laws.{Whole, WordLaws}
 use Rattle.record_words.proofs.Bits.{power, bit-few, number-few, all-words, words-facts}
-use Rattle.record_words.proofs.Points.{words-points, points-words, point-words, length-points, points-bytes}
+use Rattle.record_words.proofs.Points.{words-points, points-words, point-words, length-points, points-bytes, length-bytes}
+use Rattle.record_words.proofs.Places.{bit-at, bits-at, byte-at, bytes-at, words-length, first-words, mark-at, point-at}
 
 -- ---- bits
 
@@ -111,5 +112,30 @@ record-back s f =
     ∙ ap (λ (xs : List ℕ). record { sizes = s .sizes; points = xs; capacity = s .capacity; written = s .written; length = s .length; marks = s .marks })
     (points-words (s .points) (f .points-bytes) (f .points))
 
+are-record : (ws : List ℕ) → length ws ≡ 12 → getD ws 5 0 < 2 → getD ws 7 0 < 4294967296 → All (λ w. w < 18446744073709551616) (drop 8 ws) → isRecord ws ≡ true
+unfolding isRecord
+are-record ws l w m p =
+    hold-alls (eqb (length ws) 12 ∷ ltb (getD ws 5 0) 2 ∷ ltb (getD ws 7 0) 4294967296 ∷ every word (drop 8 ws) ∷ [])
+    (eq-eqb (length ws) 12 l, (lt-ltb _ 2 w, (lt-ltb _ 4294967296 m, (all-words (drop 8 ws) p, tt))))
+
 pub word-laws : WordLaws
-word-laws = record { words-back = words-back; is-whole = is-whole; are-words = are-words; record-back = record-back }
+word-laws = record {
+  words-back = words-back;
+  is-whole = is-whole;
+  are-words = are-words;
+  record-back = record-back;
+  is-record-is = λ ws. (
+    (λ h. let f = words-facts ws h in (f .twelve, f .flag, f .marks-few, f .point-words)),
+    (λ p. are-record ws (p .0) (p .1) (p .2) (p .3)),
+  );
+  words-length = words-length;
+  first-words = first-words;
+  marks-at = mark-at;
+  points-at = point-at;
+  bits-length = length-bits;
+  bits-at = bits-at;
+  from-bits-at = bit-at;
+  bytes-length = length-bytes;
+  bytes-at = bytes-at;
+  from-bytes-at = byte-at;
+}

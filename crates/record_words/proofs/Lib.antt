@@ -1,4 +1,5 @@
 pub mod Bits
 pub mod Points
+pub mod Places
 pub mod Laws
 pub mod Figures

@@ -83,6 +83,16 @@ module _ (z : Sizes) (legal : Legal z) where
       sym (ap (λ (m : ℕ). k * m) e ∙ mul-add k (k + (d + r - k)) (d - k)
       ∙ ap₂ _+_ (mul-add k k (d + r - k)) (mul-comm k (d - k)))
 
+  -- the two lengths, with no difference
+  pub share-bytes : α z + 1 ≡ 2 * d + r
+  share-bytes = omega (arith, legal .some-fresh)
+
+  pub stripe-bytes : B z + k * k ≡ k * (2 * d + r)
+  unfolding B
+  stripe-bytes =
+      let e : 2 * d + r - k + k ≡ 2 * d + r = omega (arith, legal .read-helpers) in
+      sym (mul-add k (2 * d + r - k) k) ∙ ap (λ (m : ℕ). k * m) e
+
   pub B-pos : 0 < B z
   unfolding B
   B-pos =

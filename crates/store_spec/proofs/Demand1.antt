@@ -18,7 +18,8 @@ use Rattle.lists.proofs.Tests.{true-false, is-false, alls-hold, hold-alls, ever
 use Rattle.sizes.specs.Refusals.{Line, first, storeOrder, appliesIn}
 use Rattle.sizes.specs.Sizing.{legal, maxStripes, maxBoards, B, α, stripes}
 use Rattle.sizes.specs.declared.Check.{Check}
-use Rattle.sizes.specs.declared.Check.the-variants.{Pass}
+use Rattle.sizes.specs.declared.Check.the-variants.{Pass, Refuse}
+use Rattle.sizes.specs.declared.Refusal.{Refusal}
 use Rattle.sizes.specs.declared.Refusal.the-variants.{Area, Long, Empty, Count, Node, Repeat, Serving, Down, Short}
 use Rattle.sizes.specs.declared.Sizes.{Sizes}
 use Rattle.sizes.proofs.Legal.{legal-facts}
@@ -344,8 +345,44 @@ read-lines s area boards output =
       ),
     )
 
+-- ---- what is reported, and what losing and reading leave
+
+-- what holds of a refusal and of the work holds of the call
+either : (P : StoreOutcome → Type 0) (check : Check) (s : Record) (area output : List ℕ) (done : StoreOutcome)
+    → ((x : Refusal) → P (refused s area output x)) → P done → P (settle check (refused s area output) done)
+either P Pass s area output done f g = g
+either P (Refuse x) s area output done f g = f x
+
+abbrev Reports0 : StoreOutcome → Type 0
+Reports0 o = o .answer .reported ≡ 0
+
+set-up-reports : (old : Record) (z : Sizes) (xs : List ℕ) (c : ℕ) → setUpCall old z xs c .answer .reported ≡ 0
+unfolding setUpCall
+set-up-reports old z xs c = either Reports0 (first storeOrder (recordLine (newRecord z xs c) ∷ [])) old [] [] _ (λ x. refl) refl
+
+write-reports : (s : Record) (area file : List ℕ) → writeCall s area file .answer .reported ≡ 0
+unfolding writeCall
+write-reports s area file = either Reports0 (first storeOrder (writeLines s (length area) file)) s area [] _ (λ x. refl) refl
+
+lose-reports : (s : Record) (area : List ℕ) (board : ℕ) → (loseCall s area board .answer .reported ≡ 0) × (loseCall s area board .area ≡ area)
+unfolding loseCall
+lose-reports s area board = either (λ o. Reports0 o × (o .area ≡ area)) (first storeOrder (loseLines s board)) s area [] _ (λ x. (refl, refl)) (refl, refl)
+
+read-reports : (s : Record) (area boards output : List ℕ) → (readCall s area boards output .answer .reported ≡ 0) × (readCall s area boards output .area ≡ area)
+unfolding readCall
+read-reports s area boards output =
+    either (λ o. Reports0 o × (o .area ≡ area)) (first storeOrder (readLines s area boards output)) s area output _ (λ x. (refl, refl)) (refl, refl)
+
 pub demand-1 : StoreCalls
 demand-1 = record {
+  accepted-is = λ v s area output. refl;
+  refused-is = λ s area output x. refl;
+  set-up-reports = set-up-reports;
+  write-reports = write-reports;
+  lose-reports = lose-reports;
+  read-reports = read-reports;
+  new-is = λ z xs c. refl;
+  in-service-is = λ s i. refl;
   write-lines = write-lines;
   lose-lines = lose-lines;
   list-lines = list-lines;

@@ -13,6 +13,7 @@ pub mod StepRead
 pub mod Demand3
 pub mod Premises
 pub mod LedgerLaws
+pub mod ListLaws
 pub mod MarkLaws
 pub mod Exact
 pub mod Demand1

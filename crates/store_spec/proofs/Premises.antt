@@ -12,7 +12,7 @@ use lib.Seq.{getD-take, getD-drop, ext-getD}
 use Rattle.lists.specs.Tests.{among}
 use Rattle.lists.specs.Lists.{All, Bytes}
 use Rattle.store_spec.specs.Record.{Record, part, partLen}
-use Rattle.store_spec.specs.Ledger.{Call, write, lose, repair, read, Book, State, Step, Altered, Fair, Allowed, left, act, enter, openBook}
+use Rattle.store_spec.specs.Ledger.{Call, write, lose, repair, read, Book, State, Step, Altered, Fair, Allowed, left, act, stepOutcome, enter, openBook}
 use Rattle.store_spec.specs.Demand3.{begun, calls}
 use Rattle.store_spec.specs.Premises.{files, unaltered, AgreeInService, Premises}
 
@@ -73,9 +73,15 @@ altered-is b s old new = (there, back)
           part-at s new i q w ∙ h .1 i (i * partLen s + q) e (omega arith) (omega arith) ∙ sym (part-at s old i q w));
     }
 
+more-allowed : (w : State) (b : Book) (t : Step) (ts : List Step) → length (t .area) ≡ length (w .area) → AgreeInService b (w .kept) (w .area) (t .area)
+    → All Bytes (files (t .call ∷ [])) → Allowed (left (stepOutcome w t)) (enter b (t .call) .book) ts → Allowed w b (t ∷ ts)
+more-allowed w b t ts e h f a = (altered-is b (w .kept) (w .area) (t .area) .1 (e, h), fair (t .call) [] f .0, a)
+
 pub premises : Premises
 premises = record {
   all-allowed = λ old z xs c area cs h. all-allowed (begun old z xs c area) (openBook z xs c (length area)) cs h;
+  none-allowed = λ w b. tt;
+  more-allowed = more-allowed;
   same-calls = same-calls;
   altered-is = altered-is;
 }

@@ -1,8 +1,10 @@
 -- Interpolations of a repair and of a read: where no check refuses, no two points of one of them are equal.
 -- Assumes nothing.
-use Prim.Native.Nat.{ℕ, _*_, _<_}
+use Prim.Native.Nat.{ℕ, zero, suc, _-_, _*_, _<_}
+use native.Mathlib.Omega.{arith}
 use mathlib.Core.Path.{_≡_, refl, subst}
 use mathlib.Core.Bool.{true, false, not}
+use mathlib.Core.Logic.{inl, inr}
 use mathlib.Core.List.{List, [], _∷_, _++_, map, append-assoc}
 use lib.ListN.{length, getD, take, drop}
 use Rattle.lists.specs.Lists.{All, tabulate, concat, piece, without}
@@ -13,14 +15,15 @@ use Rattle.lists.proofs.Pieces.{tabulate-all}
 use Rattle.lists.proofs.Tests.{every-all, all-every}
 use Rattle.sizes.specs.Refusals.{first, storeOrder}
 use Rattle.sizes.specs.declared.Check.the-variants.{Pass}
+use Rattle.sizes.specs.declared.Sizes.{Sizes}
 use Rattle.sizes.proofs.Legal.{legal-facts}
 use Rattle.mbcr.proofs.Points.{Boards, boards-of}
-use Rattle.board_spec.specs.Runs.{equalPoints, ownRuns, finishRuns, readRuns}
-use Rattle.board_spec.proofs.Runs.{unequal-append, unequal-concat, own-runs, finish-runs, read-runs}
+use Rattle.board_spec.specs.Runs.{equalPoints, ownRuns, finishRuns, readRuns, In}
+use Rattle.board_spec.proofs.Runs.{unequal-append, unequal-concat, own-runs, finish-runs, read-runs, in-left, in-right, in-groups, own-within}
 use Rattle.store_spec.specs.Calls.{repairLines, readLines}
 use Rattle.store_spec.specs.Packets.{standInsEach}
 use Rattle.store_spec.specs.Record.{Record}
-use Rattle.store_spec.specs.Runs.{runsOf, repairRuns, StoreRuns}
+use Rattle.store_spec.specs.Runs.{runsOf, repairRuns, RepairAre, StoreRuns}
 use Rattle.store_spec.proofs.Named.{named-boards}
 use Rattle.store_spec.proofs.Packets.{run-different}
 use Rattle.store_spec.proofs.Records.{Sound, Repairs, sound-facts, sound-points, repair-facts, read-facts}
@@ -88,5 +91,40 @@ read-apart s area boards output h =
     read-runs (s .sizes) (s .points) (legal-facts (s .sizes) (g .is-legal)) (sound-points s g) boards
     (boards-of (s .sizes) boards (f .named-below) (f .all-different))
 
+-- ---- the interpolations of the definitions
+
+-- a group of one place, of all places
+in-places : (run : List ℕ) (m : ℕ) (f : ℕ → List (List ℕ)) (a : ℕ) → a < m → In run (f a) → In run (concat (tabulate m f))
+in-places run zero f a h k = absurd (omega arith)
+in-places run (suc m) f zero h k = in-left run (f 0) (concat (tabulate m (λ i. f (suc i)))) k
+in-places run (suc m) f (suc a) h k =
+    in-right run (f 0) (concat (tabulate m (λ i. f (suc i)))) (in-places run m (λ i. f (suc i)) a (omega arith) k)
+
+repair-are : (s : Record) (fresh helpers standIns : List ℕ) (a : ℕ) → a < length fresh → RepairAre s fresh helpers standIns a
+repair-are s fresh helpers standIns a h = record {
+  own-in = λ j e. own-within z j (repairRuns s fresh helpers standIns) (λ run k.
+      in-places run (length fresh) runs a h (in-left run (concat (map (ownRuns z) (hs ++ ss))) (finishRuns i hs (ss ++ without i fresh))
+      (in-groups run (ownRuns z) (hs ++ ss) j e k)));
+  finish-in = (finishing hs (inl refl), (finishing (hs ++ (ss ++ without i fresh) ++ (i ∷ [])) (inr (inl refl)), tt));
+}
+  where
+    z : Sizes
+    z = s .sizes
+
+    i : ℕ
+    i = getD fresh a 0
+
+    hs : List ℕ
+    hs = piece (s .sizes .d) a helpers
+
+    ss : List ℕ
+    ss = piece (s .sizes .r - length fresh) a standIns
+
+    runs : ℕ → List (List ℕ)
+    runs b = runsOf s fresh (getD fresh b 0) (piece (s .sizes .d) b helpers) (piece (standInsEach s fresh) b standIns)
+
+    finishing : (run : List ℕ) → In run (finishRuns i hs (ss ++ without i fresh)) → In run (repairRuns s fresh helpers standIns)
+    finishing run k = in-places run (length fresh) runs a h (in-right run (concat (map (ownRuns z) (hs ++ ss))) (finishRuns i hs (ss ++ without i fresh)) k)
+
 pub store-runs : StoreRuns
-store-runs = record { repair-apart = repair-apart; read-apart = read-apart }
+store-runs = record { repair-are = repair-are; repair-apart = repair-apart; read-apart = read-apart }

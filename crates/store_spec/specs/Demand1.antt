@@ -8,7 +8,7 @@ use mathlib.Core.Logic.{_≢_, _↔_, _⊎_}
 use mathlib.Core.Option.{none}
 use mathlib.Core.List.{List, [], _∷_, _++_}
 use Prim.Native.Nat.{ℕ, _+_, _-_, _*_, _≤_, _<_}
-use lib.ListN.{length, take, drop, getD}
+use lib.ListN.{length, take, drop, getD, replicate}
 use Rattle.lists.specs.Tests.{every, alls, below, among, different, apart}
 use Rattle.lists.specs.Lists.{All, Bytes, tabulate, piece, over}
 use Rattle.sizes.specs.declared.Sizes.{Sizes}
@@ -16,7 +16,7 @@ use Rattle.sizes.specs.declared.Refusal.{Refusal}
 use Rattle.sizes.specs.declared.Refusal.the-variants.{Size, Area, Long, Count, Node, Repeat, Short, Empty, Down, Disagree, Serving}
 use Rattle.sizes.specs.declared.Answer.the-variants.{Refused}
 use Rattle.sizes.specs.Sizing.{maxStripes, legal, α, B, stripes}
-use Rattle.sizes.specs.Refusals.{said, Line, appliesIn, storeOrder}
+use Rattle.sizes.specs.Refusals.{number, said, Line, appliesIn, storeOrder}
 use Rattle.sizes.specs.Laws.{First}
 use Rattle.mbcr.specs.Share.{pointed, stripe, kept, share}
 use Rattle.board_spec.specs.Claims.{Claim, _means_, LinesSay}
@@ -109,9 +109,22 @@ pub record StoreCalls : Type 0 where
       (repairCall s area fresh helpers standIns)
   pub read-ends : (s : Record) (area boards output : List ℕ)
       → StoreEnds (readLines s area boards output) s area output (readDone s area boards output) (readCall s area boards output)
+  -- an outcome by its parts
+  pub accepted-is : (v : ℕ) (s : Record) (area output : List ℕ)
+      → accepted v s area output ≡ record { answer = record { refusal = 0; reported = v }; handed = s; area = area; output = output }
+  pub refused-is : (s : Record) (area output : List ℕ) (x : Refusal)
+      → refused s area output x ≡ record { answer = record { refusal = number x; reported = 0 }; handed = s; area = area; output = output }
+  -- all but a repair report 0; losing and reading leave the area, whatever they answer
+  pub set-up-reports : (old : Record) (z : Sizes) (xs : List ℕ) (c : ℕ) → setUpCall old z xs c .answer .reported ≡ 0
+  pub write-reports : (s : Record) (area file : List ℕ) → writeCall s area file .answer .reported ≡ 0
+  pub lose-reports : (s : Record) (area : List ℕ) (board : ℕ) → (loseCall s area board .answer .reported ≡ 0) × (loseCall s area board .area ≡ area)
+  pub read-reports : (s : Record) (area boards output : List ℕ) → (readCall s area boards output .answer .reported ≡ 0) × (readCall s area boards output .area ≡ area)
   -- when a set-up is accepted
   pub set-up-accepted : (old : Record) (z : Sizes) (xs : List ℕ) (c : ℕ)
       → (setUpCall old z xs c .answer .refusal ≡ 0) ↔ ((legal z ≡ true) × (pointed z xs ≡ true) × (1 ≤ c) × (c ≤ maxStripes))
+  -- a new record, and the mark of a board
+  pub new-is : (z : Sizes) (xs : List ℕ) (c : ℕ) → newRecord z xs c ≡ record { sizes = z; points = xs; capacity = c; written = false; length = 0; marks = replicate 32 false }
+  pub in-service-is : (s : Record) (i : ℕ) → inService s i ≡ getD (s .marks) i false
   -- the records that are not SIZE, in propositions
   pub sound-is : (s : Record) → (sound s ≡ true)
       ↔ ((legal (s .sizes) ≡ true) × (pointed (s .sizes) (s .points) ≡ true) × (1 ≤ s .capacity) × (s .capacity ≤ maxStripes) × (s .length ≤ s .capacity * B (s .sizes))

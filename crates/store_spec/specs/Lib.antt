@@ -7,6 +7,7 @@ pub mod Runs
 pub mod Demand3
 pub mod Premises
 pub mod LedgerLaws
+pub mod ListLaws
 pub mod MarkLaws
 pub mod FurtherFigures
 pub mod Stripes

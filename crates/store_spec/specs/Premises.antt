@@ -12,7 +12,7 @@ use Rattle.lists.specs.Lists.{All, Bytes}
 use Rattle.sizes.specs.declared.Sizes.{Sizes}
 use Rattle.sizes.specs.Sizing.{α}
 use Rattle.store_spec.specs.Record.{Record}
-use Rattle.store_spec.specs.Ledger.{Call, write, lose, repair, read, Book, State, Step, Altered, Allowed, left, act, openBook}
+use Rattle.store_spec.specs.Ledger.{Call, write, lose, repair, read, Book, State, Step, Altered, Allowed, left, act, stepOutcome, enter, openBook}
 use Rattle.store_spec.specs.Demand3.{begun, calls}
 
 -- the files that a list of calls writes
@@ -39,6 +39,10 @@ pub record Premises : Type 0 where
   -- every list of calls whose files are of bytes is allowed, with nothing altered, after a set-up of any sizes and points over any area
   pub all-allowed : (old : Record) (z : Sizes) (xs : List ℕ) (c : ℕ) (area : List ℕ) (cs : List Call) → All Bytes (files cs)
       → Allowed (begun old z xs c area) (openBook z xs c (length area)) (unaltered (begun old z xs c area) cs)
+  -- and every longer list: nothing but this is asked of a call that stands before an allowed list, whatever was altered in boards out of service
+  pub none-allowed : (w : State) (b : Book) → Allowed w b []
+  pub more-allowed : (w : State) (b : Book) (t : Step) (ts : List Step) → length (t .area) ≡ length (w .area) → AgreeInService b (w .kept) (w .area) (t .area)
+      → All Bytes (files (t .call ∷ [])) → Allowed (left (stepOutcome w t)) (enter b (t .call) .book) ts → Allowed w b (t ∷ ts)
   -- these steps are of these calls
   pub same-calls : (w : State) (cs : List Call) → calls (unaltered w cs) ≡ cs
   -- altered is an area exactly where it is as long and agrees in each byte of a board in service

@@ -2,14 +2,15 @@
 -- proofs/Runs.antt has `store-runs : StoreRuns`.
 -- Assumes nothing.
 use mathlib.Core.Path.{_≡_}
-use mathlib.Core.Bool.{false}
+use mathlib.Core.Bool.{true, false}
 use mathlib.Core.List.{List, _++_, map}
-use Prim.Native.Nat.{ℕ}
+use Prim.Native.Nat.{ℕ, _-_, _<_}
 use lib.ListN.{length, getD}
+use Rattle.lists.specs.Tests.{among}
 use Rattle.lists.specs.Lists.{tabulate, concat, piece, without}
 use Rattle.sizes.specs.declared.Check.the-variants.{Pass}
 use Rattle.sizes.specs.Refusals.{first, storeOrder}
-use Rattle.board_spec.specs.Runs.{equalPoints, ownRuns, finishRuns, readRuns}
+use Rattle.board_spec.specs.Runs.{equalPoints, ownRuns, finishRuns, readRuns, Within}
 use Rattle.store_spec.specs.Record.{Record}
 use Rattle.store_spec.specs.Packets.{standInsEach}
 use Rattle.store_spec.specs.Calls.{repairLines, readLines}
@@ -24,7 +25,16 @@ abbrev pub repairRuns : Record → List ℕ → List ℕ → List ℕ → List (
 repairRuns s fresh helpers standIns =
     concat (tabulate (length fresh) (λ a. runsOf s fresh (getD fresh a 0) (piece (s .sizes .d) a helpers) (piece (standInsEach s fresh) a standIns)))
 
+-- the interpolations for the a-th fresh board are among those of the repair: f and g of each of its helpers and stand-ins, its own g and f
+pub record RepairAre (s : Record) (fresh helpers standIns : List ℕ) (a : ℕ) : Type 0 where
+  pub own-in : (j : ℕ) → among (piece (s .sizes .d) a helpers ++ piece (s .sizes .r - length fresh) a standIns) j ≡ true
+      → Within (ownRuns (s .sizes) j) (repairRuns s fresh helpers standIns)
+  pub finish-in : Within
+      (finishRuns (getD fresh a 0) (piece (s .sizes .d) a helpers) (piece (s .sizes .r - length fresh) a standIns ++ without (getD fresh a 0) fresh))
+      (repairRuns s fresh helpers standIns)
+
 pub record StoreRuns : Type 0 where
+  pub repair-are : (s : Record) (fresh helpers standIns : List ℕ) (a : ℕ) → a < length fresh → RepairAre s fresh helpers standIns a
   pub repair-apart : (s : Record) (m : ℕ) (fresh helpers standIns : List ℕ)
       → first storeOrder (repairLines s m fresh helpers standIns) ≡ Pass → equalPoints (s .points) (repairRuns s fresh helpers standIns) ≡ false
   pub read-apart : (s : Record) (area boards output : List ℕ)

@@ -8,7 +8,7 @@ use mathlib.Core.Logic.{_≢_, _↔_, _⊎_}
 use mathlib.Core.Option.{none}
 use mathlib.Core.List.{List, [], _∷_, map}
 use Prim.Native.Nat.{ℕ, _*_, _≤_, _<_}
-use lib.ListN.{length}
+use lib.ListN.{length, replicate}
 use Rattle.lists.specs.Tests.{different}
 use Rattle.lists.specs.Lists.{All, Bytes, over}
 use Rattle.sizes.specs.declared.Sizes.{Sizes}
@@ -24,16 +24,22 @@ use Rattle.board_spec.specs.Claims.{Claim, _means_, LinesSay}
 use Rattle.board_spec.specs.Calls.{fileOf, fileCall}
 use Rattle.board_spec.specs.Demand1.{BoardEnds}
 use Rattle.text_spec.specs.Texts.{ShareTold, textOf, textsJoined, readText, textsOf}
-use Rattle.text_spec.specs.Calls.{blank, toldOf, ReadOutcome, readTextLines, readTextCall, textsTold, firstOf, nodesOf, sharesOf, gathered, gatherLines, gatherCall}
+use Rattle.text_spec.specs.Calls.{toldOf, ReadOutcome, readTextLines, readTextCall, textsTold, firstOf, nodesOf, sharesOf, gathered, gatherLines, gatherCall}
 use Rattle.text_spec.specs.Laws.{Writable}
 
 -- one call of the reader: its lines, its output as it came, what the text tells, and its outcome
 pub record ReadEnds (lines : List Line) (output : List ℕ) (t : ShareTold) (o : ReadOutcome) : Type 0 where
   -- some line is the first that holds, or none holds
   pub one : ((x : Refusal) × First boardOrder lines x) ⊎ All (λ x. appliesIn lines x ≡ false) boardOrder
-  -- "The first that applies is given", nothing is told, and the output is as it came
-  pub refuses : (x : Refusal) → First boardOrder lines x
-      → o ≡ record { answer = said (Refused x); sizes = blank .sizes; points = blank .points; node = 0; length = 0; output = output }
+  -- "The first that applies is given", nothing is told but zeros, and the output is as it came
+  pub refuses : (x : Refusal) → First boardOrder lines x → o ≡ record {
+    answer = said (Refused x);
+    sizes = record { n = 0; k = 0; d = 0; r = 0 };
+    points = replicate 32 0;
+    node = 0;
+    length = 0;
+    output = output;
+  }
   -- else sizes, points, board and length are told, the share's bytes are written and their number answered, and output beyond them stays
   pub works : All (λ x. appliesIn lines x ≡ false) boardOrder
       → (o ≡ record { answer = said (Done (length (t .share))); sizes = t .sizes; points = t .points; node = t .node; length = t .length; output = over (t .share) output })

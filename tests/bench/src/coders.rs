@@ -31,7 +31,7 @@ pub fn all(sizes: Sizes, stripes: usize) -> [Box<dyn Coder>; 3] {
     let plain_sizes = plain::Sizes { n, k, d, r };
     let words = record.words();
     [
-        Box::new(Archive { record, lost: record }),
+        Box::new(Archive { lost: record.clone(), record }),
         Box::new(Plain { sizes: plain_sizes, points: points.into(), words, lost: words }),
         Box::new(Kernels { sizes: plain_sizes, points: points.into(), stripes }),
     ]
@@ -54,14 +54,14 @@ impl Coder for Archive {
     }
 
     fn lose(&mut self, boards: &[usize]) {
-        self.lost = self.record;
+        self.lost = self.record.clone();
         for &board in boards {
             self.lost.lose(board).expect("a loss is accepted");
         }
     }
 
     fn repair(&mut self, named: &Named, area: &mut [u8]) -> usize {
-        let mut record = self.lost;
+        let mut record = self.lost.clone();
         record.repair(area, &named.fresh, &named.helpers, &named.stand_ins).expect("a repair is accepted")
     }
 

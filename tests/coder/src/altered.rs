@@ -68,11 +68,11 @@ pub fn run(trial: &mut Trial, random: &mut Random, sizes: Sizes) {
 }
 
 /// What a call over these shares must answer and leave, by the file that they have.
-fn expected(call: &Call, lent: &Lent, file: Option<&[u8]>) -> Outcome {
+pub fn expected(call: &Call, lent: &Lent, file: Option<&[u8]>) -> Outcome {
     let Some(file) = file else { return Outcome::refused(DISAGREE, lent) };
     let mut after = lent.clone();
     after.out[..file.len()].copy_from_slice(file);
-    let reported = if matches!(call, Call::File { .. }) { file.len() } else { 0 };
+    let reported = if matches!(call, Call::Read { .. }) { 0 } else { file.len() };
     Outcome::accepted(reported, after)
 }
 

@@ -4,6 +4,7 @@
 
 use crate::field::FIELD;
 use crate::matrix::Matrix;
+use std::collections::HashMap;
 
 pub const MAX_BOARDS: usize = 32;
 pub const MAX_STRIPES: usize = 4096;
@@ -130,21 +131,30 @@ pub fn files(sizes: Sizes, points: &[u8], length: usize, boards: &[usize], lists
         return vec![Some(Vec::new()); lists.len()];
     }
     let width = sizes.share_len();
-    // a column for each stripe of each list, the boards' bytes one below another
-    let values = Matrix::new(boards.len() * width, lists.len() * stripes, |e, column| {
-        let (list, s) = (lists[column / stripes], column % stripes);
-        list[(e / width * stripes + s) * width + e % width]
-    });
+    // for each stripe of each list the boards' bytes one below another, as columns; those that are alike are solved once
+    let mut places = HashMap::new();
+    let mut columns: Vec<Vec<u8>> = Vec::new();
+    let mut place_of = |list: &[u8], s: usize| {
+        let held = |board: usize| &list[(board * stripes + s) * width..][..width];
+        let column: Vec<u8> = (0..boards.len()).flat_map(held).copied().collect();
+        *places.entry(column).or_insert_with_key(|column| {
+            columns.push(column.clone());
+            columns.len() - 1
+        })
+    };
+    let asked: Vec<usize> =
+        lists.iter().flat_map(|list| (0..stripes).map(|s| place_of(list, s)).collect::<Vec<usize>>()).collect();
+    let values = Matrix::new(boards.len() * width, columns.len(), |e, column| columns[column][e]);
     let Some(solved) = equations(sizes, points, boards).solve_each(&values) else {
         panic!("{sizes:?}: the shares of boards {boards:?} do not settle a stripe")
     };
-    let whole = |stripes: &[Option<Vec<u8>>]| {
-        let stripes: Option<Vec<Vec<u8>>> = stripes.iter().cloned().collect();
+    let whole = |stripes: &[usize]| {
+        let stripes: Option<Vec<&[u8]>> = stripes.iter().map(|&place| solved[place].as_deref()).collect();
         let mut bytes = stripes?.concat();
         let padding = bytes.split_off(length);
         padding.iter().all(|&byte| byte == 0).then_some(bytes)
     };
-    solved.chunks(stripes).map(whole).collect()
+    asked.chunks(stripes).map(whole).collect()
 }
 
 /// For each target, the factors by which a polynomial of degree below the number of points has its value there as a sum of its values at the
@@ -232,7 +242,8 @@ pub fn finished_share(
 
 /// "lower-case hexadecimal pairs".
 pub fn pairs(bytes: &[u8]) -> String {
-    bytes.iter().map(|byte| format!("{byte:02x}")).collect()
+    let digit = |value: u8| char::from(b"0123456789abcdef"[usize::from(value)]);
+    bytes.iter().flat_map(|byte| [digit(byte / 16), digit(byte % 16)]).collect()
 }
 
 /// A share as text: "Seven lines, each ended by byte 0A", and "the line points=, n lower-case pairs, after length= just where the points are not 0 to

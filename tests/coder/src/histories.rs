@@ -10,6 +10,7 @@ use crate::matrix::Matrix;
 use crate::points;
 use crate::random::Random;
 use crate::repairs;
+use crate::scene::Scene;
 use crate::spoil::spoil;
 use crate::store;
 use crate::store_draw;
@@ -24,31 +25,61 @@ struct History {
     generators: Vec<Matrix>,
     /// the boards rebuilt since the last write
     rebuilt: BTreeSet<usize>,
+    /// which of PARTS it has had
+    had: BTreeSet<usize>,
 }
+
+/// What a whole history has had, beside its set-up: accepted calls, and bytes altered of boards out of service.
+const PARTS: [&str; 6] = ["write", "loss", "repair of r boards", "repair with stand-ins", "read", "bytes altered"];
+
+/// The place of the last of them.
+const ALTERED: usize = 5;
 
 pub fn run(trial: &mut Trial, random: &mut Random, sizes: Sizes) {
     let capacity = draw::stripes(random, sizes);
-    let Some(mut history) = History::new(trial, random, sizes, capacity) else { return };
+    let right = sizes.n * capacity * sizes.share_len();
+    let area_len = if random.once_in(20) { random.pick(&[0, right - 1, right + 1]) } else { right };
+    let points = points::draw(random, sizes.n);
+    let Some(mut history) = History::new(trial, random, sizes, points, capacity, area_len) else { return };
     let calls = random.within(20, 80);
-    for _ in 0..calls {
-        history.alter(random);
-        if !history.step(trial, random) {
-            return;
-        }
-    }
-    history.alter(random);
-    history.read_any(trial, random);
+    history.go_on(trial, random, calls, None);
+}
+
+/// A history that has all parts: a file of some length after others, r boards lost and rebuilt, fewer of them lost and rebuilt with stand-ins, reads, and then so
+/// many calls as they are drawn. True where it had them all and the archive answered each call as the book.
+pub fn whole(trial: &mut Trial, random: &mut Random, scene: &Scene, capacity: usize, calls: usize) -> bool {
+    let sizes = scene.sizes;
+    let area_len = sizes.n * capacity * sizes.share_len();
+    let points = scene.points.clone();
+    let Some(mut history) = History::new(trial, random, sizes, points, capacity, area_len) else { return false };
+    let room = capacity * sizes.stripe_len();
+    // too long by a byte, all that there is room for, and its own
+    let files = [random.bytes(room + 1), random.bytes(room), scene.file.clone()];
+    let written = files.into_iter().all(|file| history.check(trial, &Call::Write { file }));
+    // where r is 1 there are no stand-ins
+    let fewer = if sizes.r > 1 { random.within(1, sizes.r - 1) } else { 1 };
+    let alike = written
+        && history.read_any(trial, random)
+        && history.rebuild(trial, random, sizes.r)
+        && history.rebuild(trial, random, fewer)
+        && history.go_on(trial, random, calls, Some(scene.length()));
+    let parts = PARTS.len() - usize::from(sizes.r == 1);
+    alike && history.had.len() == parts
 }
 
 impl History {
     /// A store newly set up over any words, with any bytes in its area, whose length may be wrong.
-    fn new(trial: &mut Trial, random: &mut Random, sizes: Sizes, capacity: usize) -> Option<History> {
-        let right = sizes.n * capacity * sizes.share_len();
-        let area_len = if random.once_in(20) { random.pick(&[0, right - 1, right + 1]) } else { right };
+    fn new(
+        trial: &mut Trial,
+        random: &mut Random,
+        sizes: Sizes,
+        points: Vec<u8>,
+        capacity: usize,
+        area_len: usize,
+    ) -> Option<History> {
         let area = random.bytes(area_len);
         let record = (0..store::word::COUNT).map(|_| random.next()).collect();
         let mut lent = Lent { record, area, out: Vec::new() };
-        let points = points::draw(random, sizes.n);
         // sometimes it is first tried with other points, mostly such as are refused
         let mut tries = vec![points.clone()];
         if random.once_in(2) {
@@ -65,7 +96,32 @@ impl History {
         }
         let generators = (0..sizes.n).map(|board| code::generator(sizes, &points, board)).collect();
         let book = Book::new(sizes, points, capacity, area_len);
-        Some(History { book, lent, generators, rebuilt: BTreeSet::new() })
+        Some(History { book, lent, generators, rebuilt: BTreeSet::new(), had: BTreeSet::new() })
+    }
+
+    /// So many calls as they are drawn, with bytes altered between, and a read at their end; false where the archive answered otherwise.
+    fn go_on(&mut self, trial: &mut Trial, random: &mut Random, calls: usize, length: Option<usize>) -> bool {
+        for _ in 0..calls {
+            self.alter(random);
+            if !self.step(trial, random, length) {
+                return false;
+            }
+        }
+        self.alter(random);
+        self.read_any(trial, random)
+    }
+
+    /// Loses so many boards, alters them, rebuilds them together, and reads.
+    fn rebuild(&mut self, trial: &mut Trial, random: &mut Random, count: usize) -> bool {
+        self.lent.out.clear();
+        for board in random.choose(self.in_service(), count) {
+            if !self.check(trial, &Call::Lose { board }) {
+                return false;
+            }
+            self.alter_board(random, board);
+        }
+        let repair = repairs::of(random, self.book.sizes, &self.in_service(), count);
+        self.check(trial, &repair) && self.read_any(trial, random)
     }
 
     fn board_len(&self) -> usize {
@@ -78,20 +134,31 @@ impl History {
 
     /// Alters bytes of boards out of service.
     fn alter(&mut self, random: &mut Random) {
-        let board_len = self.board_len();
         for board in 0..self.book.sizes.n {
-            let end = (board + 1) * board_len;
+            let end = (board + 1) * self.board_len();
             if !self.book.in_service.contains(&board) && end <= self.lent.area.len() && random.once_in(3) {
-                let bytes = random.bytes(board_len);
-                self.lent.area[board * board_len..end].copy_from_slice(&bytes);
+                self.alter_board(random, board);
             }
         }
     }
 
-    /// One call, mostly a right one; false where the archive answered otherwise.
-    fn step(&mut self, trial: &mut Trial, random: &mut Random) -> bool {
+    /// Alters the bytes of a board out of service.
+    fn alter_board(&mut self, random: &mut Random, board: usize) {
+        let board_len = self.board_len();
+        let bytes = random.bytes(board_len);
+        self.lent.area[board * board_len..][..board_len].copy_from_slice(&bytes);
+        self.had.insert(ALTERED);
+    }
+
+    /// One call, mostly a right one; false where the archive answered otherwise. Where a length is given, most files that are written have it.
+    fn step(&mut self, trial: &mut Trial, random: &mut Random, length: Option<usize>) -> bool {
         let Book { sizes, capacity, .. } = self.book;
         let mut call = store_draw::next_call(random, sizes, capacity, &self.in_service());
+        if let (Call::Write { file }, Some(length)) = (&mut call, length) {
+            if !random.once_in(3) {
+                *file = random.bytes(length);
+            }
+        }
         if random.once_in(6) {
             repairs::spoil(random, sizes, &self.in_service(), &mut call);
         }
@@ -122,6 +189,14 @@ impl History {
 
     /// Notes the boards that an accepted call has rebuilt, and whether some that were rebuilt before stood in.
     fn note(&mut self, trial: &mut Trial, call: &Call) {
+        let part = match call {
+            Call::Write { .. } => 0,
+            Call::Lose { .. } => 1,
+            Call::Repair { stand_ins, .. } if stand_ins.is_empty() => 2,
+            Call::Repair { .. } => 3,
+            _ => 4,
+        };
+        self.had.insert(part);
         match call {
             Call::Repair { fresh, stand_ins, .. } => {
                 if stand_ins.iter().any(|board| self.rebuilt.contains(board)) {
@@ -143,14 +218,15 @@ impl History {
         }
     }
 
-    /// "After the list, a read of any k different boards in service".
-    fn read_any(&mut self, trial: &mut Trial, random: &mut Random) {
+    /// "After the list, a read of any k different boards in service"; false where the archive answered otherwise.
+    fn read_any(&mut self, trial: &mut Trial, random: &mut Random) -> bool {
         let in_service = self.in_service();
-        if in_service.len() >= self.book.sizes.k {
-            let length = self.book.file.as_ref().map_or(0, Vec::len);
-            self.lent.out = random.bytes(length);
-            let boards = random.choose(in_service, self.book.sizes.k);
-            self.check(trial, &Call::Read { boards });
+        if in_service.len() < self.book.sizes.k {
+            return true;
         }
+        let length = self.book.file.as_ref().map_or(0, Vec::len);
+        self.lent.out = random.bytes(length);
+        let boards = random.choose(in_service, self.book.sizes.k);
+        self.check(trial, &Call::Read { boards })
     }
 }

@@ -1,6 +1,6 @@
 //! The unrelated coder: holds the archive to a coder that shares no method with it, and reports each mismatch with what repeats it.
 //!
-//!     coder [--seed N] [--calls N] [--only CASE] [--wrong answer|eleven|byte|word] [--trace] [--verbose]
+//!     coder [--seed N] [--calls N] [--only CASE] [--wrong answer|eleven|byte|word] [--first] [--trace] [--verbose]
 //!     coder --multiply
 //!     coder --products
 //!     coder --printer share|points
@@ -11,16 +11,23 @@
 //! second files that k − 1 boards do not tell from the first (request A.13 of document 02), and shares with one byte altered where least shows it
 //! (request A.7); all of them at points 0 to n − 1, i + 1 and others (request A.9), and repairs of 1 to r boards with stand-ins (request A.3). Each
 //! case draws from its own seed, made of the run's seed and the case's number: `--only` repeats one case.
-//! `--wrong` alters what the archive answers to one call, to show that this is reported. `--trace` prints each call before it is made,
-//! `--verbose` how often each call gave each refusal, with which points, how often an altered byte was accepted and refused, and how many boards
-//! repairs had. `--multiply` tries all products and quotients through the archive and nothing else. `--products`, `--printer` and `--sizes` make no call: the first writes all products
-//! and inverses of the coder's own field, the second reads standard input and writes what the share printer or the points printer must write for it,
-//! the third writes a line for each legal combination of sizes with at most N boards (request A.12).
+//! `--wrong` alters what the archive answers to one call, to show that this is reported. `--first` ends the run at the first case with a mismatch.
+//! `--trace` prints each call before it is made, `--verbose` how often each call gave each refusal, with which points, how often an altered byte was
+//! accepted and refused, how many boards repairs had, and what was met at real sizes. `--multiply` tries all products and quotients through the
+//! archive and nothing else. `--products`, `--printer` and `--sizes` make no call: the first writes all products and inverses of the coder's own
+//! field, the second reads standard input and writes what the share printer or the points printer must write for it, the third writes a line for
+//! each legal combination of sizes with at most N boards (request A.12).
 //!
 //! Texts of shares are read and gathered in cases of their own (request A.1), of which every kind must have been met, too.
 //!
+//! Most cases are small, of at most 100 stripes. Thirteen cases of each run, and one in a thousand of the others, are of real sizes (`real_cases`):
+//! 32,768 bytes on 12 boards, 163,840 bytes and more on 32, 101 to 4,096 stripes on any. There every call is made, areas are read of which a byte,
+//! several bytes or the padding are altered in any stripe, texts of such files are written, read and gathered, and whole histories are kept. Runs of
+//! at most 4,000 calls leave them out.
+//!
 //! The last line counts calls and mismatches. The exit code is 1 where there is a mismatch, or where in a run of 20,000 calls or more some
-//! refusal that a call can give was never met, a kind of points, DISAGREE for a kind of altered byte, or a kind of repair.
+//! refusal that a call can give was never met, a kind of points, DISAGREE for a kind of altered byte, a kind of repair, or a call at a kind of real
+//! sizes.
 
 mod altered;
 mod archive;
@@ -38,7 +45,11 @@ mod points;
 mod printer;
 mod products;
 mod random;
+mod real;
+mod real_cases;
+mod real_reads;
 mod repairs;
+mod scene;
 mod size_list;
 mod spoil;
 mod store;
@@ -61,11 +72,15 @@ use trial::{Place, Trial, Wrong, WrongKind};
 /// From how many calls on every refusal of every call must have been met.
 const ENOUGH: u64 = 20_000;
 
+/// Up to how many calls a run leaves real sizes out, so that it is quick.
+const FEW: u64 = 4_000;
+
 struct Options {
     seed: u64,
     calls: u64,
     only: Option<u64>,
     wrong: Option<WrongKind>,
+    first: bool,
     trace: bool,
     verbose: bool,
     multiply: bool,
@@ -80,6 +95,7 @@ fn options() -> Result<Options, String> {
         calls: 300_000,
         only: None,
         wrong: None,
+        first: false,
         trace: false,
         verbose: false,
         multiply: false,
@@ -97,6 +113,7 @@ fn options() -> Result<Options, String> {
             "--seed" => options.seed = number()?,
             "--calls" => options.calls = number()?,
             "--only" => options.only = Some(number()?),
+            "--first" => options.first = true,
             "--trace" => options.trace = true,
             "--verbose" => options.verbose = true,
             "--multiply" => options.multiply = true,
@@ -160,7 +177,8 @@ fn tell_where(seed: u64) {
     }));
 }
 
-/// Runs one case by its own numbers. The first ones are all kinds at extreme sizes, the others one kind at drawn sizes.
+/// Runs one case by its own numbers. The first ones are all kinds at extreme sizes, those that follow them, and some others, all kinds at real
+/// sizes, the rest one kind at drawn sizes.
 fn run_case(trial: &mut Trial, case: u64) {
     let mut random = Random::of_case(trial.seed, case);
     trial.place = Place::Case(case);
@@ -173,6 +191,9 @@ fn run_case(trial: &mut Trial, case: u64) {
         altered::run(trial, &mut random, sizes);
         text_cases::run(trial, &mut random, sizes);
         return;
+    }
+    if let Some(turn) = real_cases::turn(case) {
+        return real_cases::run(trial, &mut random, turn);
     }
     let sizes = draw::sizes(&mut random);
     match random.below(20) {
@@ -216,17 +237,25 @@ fn main() -> ExitCode {
     } else if options.multiply {
         products::run(&mut trial);
     } else {
-        figures::run(&mut trial);
-        if options.calls >= ENOUGH {
-            products::run(&mut trial);
-        }
-        let mut case = 0;
-        while trial.calls < options.calls {
-            run_case(&mut trial, case);
-            case += 1;
-        }
+        run_all(&mut trial, &options);
     }
     finish(&trial, &options)
+}
+
+/// The figures, the products, and cases until so many calls are made, or until there is a mismatch where the first one is asked for.
+fn run_all(trial: &mut Trial, options: &Options) {
+    let enough = |trial: &Trial| trial.calls >= options.calls || (options.first && trial.mismatches > 0);
+    figures::run(trial);
+    if options.calls >= ENOUGH && !enough(trial) {
+        products::run(trial);
+    }
+    let mut case = 0;
+    while !enough(trial) {
+        if options.calls > FEW || real_cases::turn(case).is_none() {
+            run_case(trial, case);
+        }
+        case += 1;
+    }
 }
 
 /// The table, what was never met, and the last line.

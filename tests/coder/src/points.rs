@@ -70,6 +70,16 @@ pub fn draw(random: &mut Random, n: usize) -> Vec<u8> {
     }
 }
 
+/// Points that are legal, and neither 0 to n − 1 in order nor i + 1.
+pub fn others(random: &mut Random, n: usize) -> Vec<u8> {
+    loop {
+        let points = draw(random, n);
+        if points != standard(n) && points != first_series(n) {
+            return points;
+        }
+    }
+}
+
 /// Spoils points of n boards: mostly so that they are not legal, sometimes to other legal ones.
 pub fn spoil(random: &mut Random, n: usize, points: &mut Vec<u8>) {
     let (one, other) = (random.below(n), random.below(n));

@@ -41,9 +41,9 @@ pub fn possible(sizes: Sizes, lost: usize) -> bool {
 /// A repair of boards out of service, each with helpers and stand-ins of its own in service. Where there are too few of either, as sometimes by the
 /// number of fresh boards alone, others take their places, and it is refused.
 pub fn draw(random: &mut Random, sizes: Sizes, in_service: &[usize]) -> Call {
-    let Sizes { n, d, r, .. } = sizes;
-    let lost: Vec<usize> = (0..n).filter(|board| !in_service.contains(board)).collect();
-    let (fewest, most) = numbers(sizes, lost.len()).into_inner();
+    let Sizes { n, r, .. } = sizes;
+    let lost = (0..n).filter(|board| !in_service.contains(board)).count();
+    let (fewest, most) = numbers(sizes, lost).into_inner();
     let t = if fewest > most || random.once_in(8) {
         random.within(1, r)
     } else if random.once_in(6) {
@@ -51,6 +51,13 @@ pub fn draw(random: &mut Random, sizes: Sizes, in_service: &[usize]) -> Call {
     } else {
         random.within(fewest, most)
     };
+    of(random, sizes, in_service, t)
+}
+
+/// A repair of t boards, out of service as far as there are such.
+pub fn of(random: &mut Random, sizes: Sizes, in_service: &[usize], t: usize) -> Call {
+    let Sizes { n, d, r, .. } = sizes;
+    let lost: Vec<usize> = (0..n).filter(|board| !in_service.contains(board)).collect();
     let fresh = first_of(random, &lost, in_service, t);
     let left = |from: &[usize]| from.iter().copied().filter(|board| !fresh.contains(board)).collect::<Vec<usize>>();
     let (first, then) = (left(in_service), left(&lost));

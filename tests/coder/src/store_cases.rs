@@ -1,11 +1,12 @@
 //! Cases of single store calls: points, a record and an area are made up, true, damaged or arbitrary, and calls are made over them.
 
 use crate::call::Lent;
-use crate::code::{self, Sizes};
+use crate::code::Sizes;
 use crate::draw;
 use crate::points;
 use crate::random::Random;
 use crate::repairs;
+use crate::scene::Scene;
 use crate::spoil::spoil;
 use crate::store;
 use crate::store_draw;
@@ -18,14 +19,20 @@ pub fn run(trial: &mut Trial, random: &mut Random, sizes: Sizes) {
     let capacity = draw::stripes(random, sizes);
     let length = draw::length(random, sizes, capacity);
     let file = random.bytes(length);
-    let points = points::draw(random, sizes.n);
-    let area = area(random, sizes, &points, capacity, &file);
-    for _ in 0..CALLS {
+    let scene = Scene::new(sizes, points::draw(random, sizes.n), file);
+    over(trial, random, &scene, capacity, CALLS);
+}
+
+/// So many calls over a file's area.
+pub fn over(trial: &mut Trial, random: &mut Random, scene: &Scene, capacity: usize, calls: usize) {
+    let (sizes, points, length) = (scene.sizes, &scene.points, scene.length());
+    let area = area(random, scene, capacity);
+    for _ in 0..calls {
         // sometimes all boards are in service, else some
         let out_of_service = random.pick(&[0, 1, 1, 2, 2, sizes.r, sizes.n]);
         let in_service = random.choose((0..sizes.n).collect(), sizes.n - out_of_service.min(sizes.n));
-        let record = store::words(sizes, &points, capacity, Some(length), &in_service);
-        let mut call = store_draw::call(random, sizes, &points, capacity, &in_service);
+        let record = store::words(sizes, points, capacity, Some(length), &in_service);
+        let mut call = store_draw::call(random, sizes, points, capacity, &in_service);
         if random.once_in(3) {
             repairs::spoil(random, sizes, &in_service, &mut call);
         }
@@ -37,19 +44,27 @@ pub fn run(trial: &mut Trial, random: &mut Random, sizes: Sizes) {
 }
 
 /// An area with a file's shares, true, damaged or arbitrary; its other bytes are arbitrary.
-fn area(random: &mut Random, sizes: Sizes, points: &[u8], capacity: usize, file: &[u8]) -> Vec<u8> {
+fn area(random: &mut Random, scene: &Scene, capacity: usize) -> Vec<u8> {
+    let sizes = scene.sizes;
     let board_len = capacity * sizes.share_len();
-    let mut area = random.bytes(sizes.n * board_len);
-    for board in 0..sizes.n {
-        let share = code::share(sizes, points, board, file);
-        area[board * board_len..][..share.len()].copy_from_slice(&share);
-    }
+    let area = true_area(random, scene, capacity);
     let mut area = draw::damaged(random, area);
     // some boards hold arbitrary bytes
     if random.once_in(3) {
         let board = random.below(sizes.n);
         let bytes = random.bytes(board_len);
         area[board * board_len..][..board_len].copy_from_slice(&bytes);
+    }
+    area
+}
+
+/// An area with a file's shares, all true; its other bytes are arbitrary.
+pub fn true_area(random: &mut Random, scene: &Scene, capacity: usize) -> Vec<u8> {
+    let board_len = capacity * scene.sizes.share_len();
+    let mut area = random.bytes(scene.sizes.n * board_len);
+    for board in 0..scene.sizes.n {
+        let share = scene.share(board);
+        area[board * board_len..][..share.len()].copy_from_slice(share);
     }
     area
 }

@@ -1,12 +1,14 @@
 //! Cases of texts: those of a file's shares, whole, cut, altered in a byte, and written otherwise than the share-as-text call writes them; and
 //! texts one after another, k of them in any order, too few and too many, of another file, of one board, disagreeing, broken.
 
+use crate::board;
 use crate::call::refusal::{ACCEPTED, COUNT, DISAGREE, MIXED, REPEAT, SIZE, TEXT};
 use crate::call::{Call, Lent};
-use crate::code::{self, Sizes, MAX_BOARDS};
+use crate::code::{Sizes, MAX_BOARDS};
 use crate::draw;
 use crate::points;
 use crate::random::Random;
+use crate::scene::Scene;
 use crate::text_spoil::{other_byte, otherwise};
 use crate::texts::{self, Told, HEAD};
 use crate::trial::Trial;
@@ -48,21 +50,41 @@ pub const KINDS: [(&str, u8); 30] = [
 /// The longest text that is cut, and altered, at every byte.
 const SHORT_TEXT: usize = 130;
 
-struct Scene {
-    sizes: Sizes,
-    points: Vec<u8>,
-    file: Vec<u8>,
-}
-
 pub fn run(trial: &mut Trial, random: &mut Random, sizes: Sizes) {
     let most = match random.below(40) {
         0 => draw::stripes(random, sizes),
         _ => random.pick(&[1, 1, 1, 2, 3]),
     };
     let length = draw::length(random, sizes, most);
-    let scene = Scene { sizes, points: points::draw(random, sizes.n), file: random.bytes(length) };
+    let scene = Scene::new(sizes, points::draw(random, sizes.n), random.bytes(length));
+    over(trial, random, &scene);
+}
+
+/// The texts of one file.
+pub fn over(trial: &mut Trial, random: &mut Random, scene: &Scene) {
     scene.read_one(trial, random);
     scene.gather(trial, random);
+}
+
+/// The text of a board's true share, written and read back; one that names another board; and k texts of which each names the board of the next.
+pub fn named(trial: &mut Trial, random: &mut Random, scene: &Scene) {
+    let Scene { sizes, ref points, .. } = *scene;
+    let length = scene.length();
+    let boards = random.choose((0..sizes.n).collect(), sizes.k);
+    let told =
+        |node: usize, of: usize| Told { sizes, points: points.clone(), length, node, share: scene.share(of).to_vec() };
+    for (node, of) in [(boards[0], boards[0]), ((boards[0] + 1) % sizes.n, boards[0])] {
+        let told = told(node, of);
+        let (text, out) = (told.text(), random.bytes(told.share.len()));
+        let written = Call::Text { sizes, points: told.points, length, node, share: told.share };
+        let lent = Lent::output(random.bytes(text.len()));
+        trial.check(&written, &lent, &board::expect(&written, &lent));
+        let lent = Lent { record: vec![random.next(); HEAD], area: random.bytes(MAX_BOARDS), out };
+        check(trial, "whole", Call::ReadText { text }, lent);
+    }
+    let next = |place: usize| boards[(place + 1) % boards.len()];
+    let texts = boards.iter().enumerate().flat_map(|(place, &of)| told(next(place), of).text()).collect();
+    check(trial, "k texts", Call::Gather { text: texts }, Lent::output(random.bytes(length)));
 }
 
 /// Reads a text, over any bytes in head, points and output.
@@ -96,7 +118,7 @@ fn any_place(random: &mut Random, count: usize) -> usize {
 impl Scene {
     /// What the text of a board says, its share true, damaged or any bytes.
     fn told(&self, random: &mut Random, node: usize) -> Told {
-        let share = draw::damaged(random, code::share(self.sizes, &self.points, node, &self.file));
+        let share = draw::damaged(random, self.share(node).to_vec());
         Told { sizes: self.sizes, points: self.points.clone(), length: self.file.len(), node, share }
     }
 
@@ -243,7 +265,7 @@ impl Scene {
             .map(|node| {
                 let mut told = self.told(random, node);
                 if truly {
-                    told.share = code::share(self.sizes, &self.points, node, &self.file);
+                    told.share = self.share(node).to_vec();
                 }
                 told.text()
             })

@@ -84,10 +84,10 @@ fn read_all(text: &[u8]) -> Option<Vec<Told>> {
     pieces.into_iter().map(&mut piece).collect()
 }
 
-/// The sizes and the points of the first of some texts.
-pub fn points_of(text: &[u8]) -> Option<(Sizes, Vec<u8>)> {
+/// The sizes, the points and the length of the first of some texts; none where one of them is no text.
+pub fn of_first(text: &[u8]) -> Option<(Sizes, Vec<u8>, usize)> {
     let first = read_all(text)?.into_iter().next()?;
-    Some((first.sizes, first.points))
+    Some((first.sizes, first.points, first.length))
 }
 
 /// What the file of some texts is, or the refusal: "12 TEXT for any other text, before all else; 13 MIXED .. after 12 and before 4", "No text at all

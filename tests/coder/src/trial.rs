@@ -4,7 +4,7 @@ use crate::altered;
 use crate::archive::{self, Performed};
 use crate::call::{refusal, Call, Lent, Outcome, CALLS, READ_TEXT};
 use crate::code::Sizes;
-use crate::{points, repairs, store};
+use crate::{points, real, repairs, store, texts};
 use std::fmt;
 use std::time::{Duration, Instant};
 
@@ -90,6 +90,8 @@ pub struct Trial {
     pub altered: [altered::Met; altered::KINDS.len()],
     /// how many repairs were accepted, by their kinds
     pub repairs: [u64; repairs::KINDS.len()],
+    /// what was met at real sizes
+    pub real: real::Met,
     pub place: Place,
     /// whether each call is printed before it is made, to find one that does not come back
     pub trace: bool,
@@ -114,6 +116,7 @@ impl Trial {
             second_calls: 0,
             altered: Default::default(),
             repairs: Default::default(),
+            real: Default::default(),
             place: Place::Figure(String::new()),
             trace: false,
             wrong,
@@ -142,6 +145,7 @@ impl Trial {
                 self.met[call.place()][usize::from(number)] += 1;
                 self.count_points(call, lent, number);
                 self.count_repair(call, lent, number);
+                self.real.count(call, lent, number);
                 true
             }
             Some(what) => {
@@ -264,6 +268,7 @@ impl Trial {
                 missing.push(format!("a repair, {kind}"));
             }
         }
+        missing.extend(self.real.never());
         missing
     }
 
@@ -293,6 +298,7 @@ impl Trial {
         for (kind, met) in repairs::KINDS.iter().zip(&self.repairs) {
             println!("{kind:38} {met:>8}");
         }
+        self.real.print();
     }
 }
 
@@ -300,9 +306,9 @@ impl Trial {
 const SET_UP: usize = 6;
 
 /// The sizes and the points that a call goes by; none where something else than the points makes it SIZE.
-fn points_asked(call: &Call, lent: &Lent) -> Option<(Sizes, Vec<u8>)> {
+pub fn points_asked(call: &Call, lent: &Lent) -> Option<(Sizes, Vec<u8>)> {
     if let Call::ReadText { text } | Call::Gather { text } = call {
-        return crate::texts::points_of(text);
+        return texts::of_first(text).map(|(sizes, points, _)| (sizes, points));
     }
     let Some((sizes, points)) = call.given() else { return store::given(&lent.record) };
     let legal = match call {

@@ -6,7 +6,7 @@ use Prim.Native.Nat.{_≤_}
 use native.Mathlib.Omega.{arith}
 use lib.ListN.{length}
 use lib.Seq.{length-take-le}
-use Rattle.size_list.proofs.Limits.{limit-range}
+use Rattle.size_list.proofs.Inputs.{limit-range}
 use borrow.Author.Needs.{needs}
 use Rattle.size_printer.proofs.main.Statement.{statement}
 use Rattle.size_printer.proofs.main.Tie as tie

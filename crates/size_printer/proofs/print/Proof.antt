@@ -1,5 +1,5 @@
--- `size_printer::print` meets its contract. The loop's invariant: the place is that behind 1,024 steps for each block written, and so many bytes were
--- written as the blocks have.
+-- `size_printer::print` meets its contract. The loop's invariant: the place is that behind 1,024 steps for each block, and so many bytes are counted as
+-- the blocks have.
 -- Assumes nothing.
 use mathlib.Core.Path.{_≡_, refl, sym, ap, subst, _∙_}
 use mathlib.Core.Bool.{true}
@@ -28,11 +28,11 @@ abbrev blocks : ℕ → ℕ → List ℕ
 blocks most t = join t (λ s. rows (met most 1024 (after most (s * 1024) start)))
 
 abbrev Inv-loop : tie.InvT-loop
-Inv-loop most out₀ place₀ total₀ t₀ out place total t =
+Inv-loop most out₀ place₀ total₀ good₀ t₀ out place total good t =
     (place ≡ after most (t * 1024) start) × (t ≤ 46) × (length out ≡ 40960) × (total ≡ length (blocks most t)) × (total ≤ t * 40960)
 
 abbrev μ-loop : tie.MeasureT-loop
-μ-loop most out₀ place₀ total₀ t₀ out place total t = 46 - t
+μ-loop most out₀ place₀ total₀ good₀ t₀ out place total good t = 46 - t
 
 first-legal : LegalPlace start
 unfolding legal

@@ -1,0 +1,132 @@
+//! Cases of real sizes: files of hundreds and thousands of stripes on few boards and on many, in areas with room for 101 to 4,096 stripes. Each case
+//! makes every call, true, damaged and spoilt; reads areas of which something is altered, so that DISAGREE is met in any stripe; and keeps a whole
+//! history.
+
+use crate::board_cases;
+use crate::code::{Sizes, MAX_STRIPES};
+use crate::draw;
+use crate::histories;
+use crate::points;
+use crate::random::Random;
+use crate::real::{Measure, THIRTY_TWO, THIRTY_TWO_LEN, TWELVE, TWELVE_LEN};
+use crate::real_reads;
+use crate::scene::Scene;
+use crate::store_cases;
+use crate::text_cases;
+use crate::trial::Trial;
+use std::ops::RangeInclusive;
+
+/// How many cases stand behind those of extreme sizes in each run.
+const FIRST: u64 = 13;
+
+/// After how many cases there is one more.
+const EVERY: u64 = 1000;
+
+/// The most products of a byte that the shares of all boards may take, where sizes are drawn.
+const WORK: usize = 60_000_000;
+
+/// Which of the cases of real sizes a case is; none where it is none.
+pub fn turn(case: u64) -> Option<u64> {
+    let first = draw::EXTREMES.len() as u64;
+    match case.checked_sub(first)? {
+        turn if turn < FIRST => Some(turn),
+        behind => (behind % EVERY == 0).then_some(FIRST + behind / EVERY),
+    }
+}
+
+/// What a case is about: so many stripes fit in, and the file has this length.
+struct Plan {
+    sizes: Sizes,
+    capacity: usize,
+    length: usize,
+    /// how many spoilt calls are made at board level and over the store, and how many drawn ones end the history
+    calls: usize,
+}
+
+impl Plan {
+    fn of(random: &mut Random, turn: u64) -> Plan {
+        match turn {
+            0..=2 => {
+                let capacity = TWELVE.stripes(TWELVE_LEN);
+                Plan { sizes: TWELVE, capacity, length: TWELVE_LEN, calls: 20 }
+            }
+            3 => {
+                let capacity = THIRTY_TWO.stripes(THIRTY_TWO_LEN) + random.within(1, 8);
+                let length = random.within(THIRTY_TWO_LEN + 1, capacity * THIRTY_TWO.stripe_len() - 1);
+                Plan { sizes: THIRTY_TWO, capacity, length, calls: 5 }
+            }
+            4 => Plan::full(random, 5..=8),
+            5 => Plan::full(random, 9..=16),
+            6 => Plan::full(random, 17..=32),
+            // a short file in much room
+            7 => {
+                let sizes = sizes(random, 5..=12, 100);
+                let length = random.within(1, 100 * sizes.stripe_len());
+                Plan { sizes, capacity: random.within(101, MAX_STRIPES), length, calls: 10 }
+            }
+            8 => Plan::drawn(random, 5..=8, 1001),
+            9 => Plan::drawn(random, 9..=16, 1001),
+            10 => Plan::drawn(random, 17..=32, 101),
+            11 => Plan::drawn(random, 2..=4, 101),
+            _ if random.once_in(4) => Plan::full(random, 5..=32),
+            _ => Plan::drawn(random, 2..=32, 101),
+        }
+    }
+
+    /// All 4,096 stripes, the last of them mostly not full.
+    fn full(random: &mut Random, boards: RangeInclusive<usize>) -> Plan {
+        let sizes = sizes(random, boards, MAX_STRIPES);
+        let length = sizes.longest() - random.below(sizes.stripe_len());
+        Plan { sizes, capacity: MAX_STRIPES, length, calls: 8 }
+    }
+
+    /// So many stripes or more.
+    fn drawn(random: &mut Random, boards: RangeInclusive<usize>, fewest: usize) -> Plan {
+        let sizes = sizes(random, boards, fewest);
+        let capacity = random.within(fewest, MAX_STRIPES);
+        let most = capacity.min(WORK / work(sizes));
+        let stripe = sizes.stripe_len();
+        let length = random.within((fewest - 1) * stripe + 1, most * stripe);
+        Plan { sizes, capacity, length, calls: 10 }
+    }
+}
+
+/// The products that the shares of a stripe take.
+fn work(sizes: Sizes) -> usize {
+    sizes.n * sizes.share_len() * sizes.stripe_len()
+}
+
+/// Sizes with boards of a number in a range, of which so many stripes are no more work than there may be. From five boards on more than one is read,
+/// and more than one can be rebuilt.
+fn sizes(random: &mut Random, boards: RangeInclusive<usize>, stripes: usize) -> Sizes {
+    loop {
+        let drawn = draw::sizes(random);
+        let wanted = drawn.n < 5 || (drawn.k > 1 && drawn.r > 1);
+        if wanted && boards.contains(&drawn.n) && work(drawn) * stripes <= WORK {
+            return drawn;
+        }
+    }
+}
+
+/// Points of each kind in turn.
+fn points_in_turn(random: &mut Random, turn: u64, n: usize) -> Vec<u8> {
+    match turn % 3 {
+        0 => points::standard(n),
+        1 => points::first_series(n),
+        _ => points::others(random, n),
+    }
+}
+
+pub fn run(trial: &mut Trial, random: &mut Random, turn: u64) {
+    let Plan { sizes, capacity, length, calls } = Plan::of(random, turn);
+    let scene = Scene::new(sizes, points_in_turn(random, turn, sizes.n), random.bytes(length));
+    board_cases::each(trial, random, &scene);
+    board_cases::spoilt(trial, random, &scene, calls);
+    real_reads::run(trial, random, &scene, capacity);
+    store_cases::over(trial, random, &scene, capacity, calls);
+    text_cases::named(trial, random, &scene);
+    text_cases::over(trial, random, &scene);
+    if histories::whole(trial, random, &scene, capacity, calls) {
+        trial.real.count_history(Measure { sizes, room: capacity, length });
+    }
+}

@@ -1,0 +1,448 @@
+/*
+ * header.c: include/zebrankai.h held to the archive, in C11 and in C++11. Each constant is held to its number, written out here; each of the thirteen
+ * calls is made with arguments that differ, and its whole answer, every word and every byte that it was lent, and those behind, are held to what must
+ * stand there; and each refusal is brought about and held to its name.
+ *
+ * The numbers are those of document 01: its figures M7 to M12 for n = 5, k = 2, d = 3, r = 2, and, for n = 9, k = 2, d = 4, r = 3 with points in no
+ * order, figures that were worked out from its formulas apart from this repository's coders. Built and run by tests/header.sh. Prints each check that
+ * fails with its line, then how many there were; ends with exit code 1 where one failed.
+ */
+#include "zebrankai.h"
+
+#include <assert.h>
+#include <stdio.h>
+#include <string.h>
+
+/* ---- each constant of the header; tests/header.sh sees that none is left out */
+
+#define IS(name, number) static_assert(name == number, #name " is not " #number)
+
+IS(ZBK_MAX_BOARDS, 32);
+IS(ZBK_MAX_STRIPES, 4096);
+IS(ZBK_RECORD_WORDS, 12);
+IS(ZBK_HEAD_WORDS, 6);
+
+IS(ZBK_ACCEPTED, 0);
+IS(ZBK_SIZE, 1);
+IS(ZBK_AREA, 2);
+IS(ZBK_LONG, 3);
+IS(ZBK_COUNT, 4);
+IS(ZBK_NODE, 5);
+IS(ZBK_REPEAT, 6);
+IS(ZBK_SHORT, 7);
+IS(ZBK_EMPTY, 8);
+IS(ZBK_DOWN, 9);
+IS(ZBK_DISAGREE, 10);
+IS(ZBK_TEXT, 12);
+IS(ZBK_MIXED, 13);
+IS(ZBK_SERVING, 14);
+
+IS(ZBK_WORD_N, 0);
+IS(ZBK_WORD_K, 1);
+IS(ZBK_WORD_D, 2);
+IS(ZBK_WORD_R, 3);
+IS(ZBK_WORD_CAPACITY, 4);
+IS(ZBK_WORD_WRITTEN, 5);
+IS(ZBK_WORD_LENGTH, 6);
+IS(ZBK_WORD_MARKS, 7);
+IS(ZBK_WORD_POINTS, 8);
+
+IS(ZBK_HEAD_N, 0);
+IS(ZBK_HEAD_K, 1);
+IS(ZBK_HEAD_D, 2);
+IS(ZBK_HEAD_R, 3);
+IS(ZBK_HEAD_NODE, 4);
+IS(ZBK_HEAD_LENGTH, 5);
+
+/* ---- checks */
+
+static unsigned checks, failed;
+
+static void check(int line, int holds, const char *what) {
+    checks++;
+    if (holds) return;
+    failed++;
+    printf("FAIL header.c, line %d: %s\n", line, what);
+}
+
+/* The answer, as a whole word. */
+static void answers(int line, uint64_t answer, uint64_t due) {
+    check(line, answer == due, "another answer");
+    if (answer != due) printf("  it is %#llx, and %#llx was due\n", (unsigned long long)answer, (unsigned long long)due);
+}
+
+/* Bytes against others, and the rest of the buffer against one byte. */
+static void bytes_are(int line, const char *what, const uint8_t *got, const uint8_t *due, size_t count, uint8_t rest, size_t all) {
+    size_t i = 0;
+    while (i < all && got[i] == (i < count ? due[i] : rest)) i++;
+    check(line, i == all, what);
+    if (i < all) printf("  byte %zu of %zu, the first %zu written, is %02X, and %02X was due\n", i, all, count, got[i], i < count ? due[i] : rest);
+}
+
+/* The bytes of hexadecimal pairs; gives how many. */
+static size_t from_pairs(const char *pairs, uint8_t *to) {
+    static const char digits[] = "0123456789abcdef";
+    const size_t count = strlen(pairs) / 2;
+    for (size_t i = 0; i < count; i++)
+        to[i] = (uint8_t)(16 * (strchr(digits, pairs[2 * i]) - digits) + (strchr(digits, pairs[2 * i + 1]) - digits));
+    return count;
+}
+
+/* An output: a call is lent the first some bytes of it. BLANK stands where nothing was written. */
+enum { ROOM = 512, BLANK = 0xEE };
+static uint8_t out[ROOM];
+
+/* The call was accepted and wrote just these bytes to the output; gives the output back blank. */
+static void wrote(int line, uint64_t answer, const uint8_t *due, size_t count) {
+    answers(line, answer, (uint64_t)count << 8);
+    bytes_are(line, "another output", out, due, count, BLANK, ROOM);
+    memset(out, BLANK, ROOM);
+}
+
+static void wrote_text(int line, uint64_t answer, const char *due) { wrote(line, answer, (const uint8_t *)due, strlen(due)); }
+
+static void wrote_pairs(int line, uint64_t answer, const char *pairs) {
+    uint8_t due[ROOM];
+    wrote(line, answer, due, from_pairs(pairs, due));
+}
+
+/* The call was refused with this number and wrote nothing to the output. */
+static void refused(int line, uint64_t answer, uint64_t number) {
+    answers(line, answer, number);
+    bytes_are(line, "a refusal wrote to the output", out, out, 0, BLANK, ROOM);
+    memset(out, BLANK, ROOM);
+}
+
+/* ---- the two codes that are tried */
+
+/* F = X^2 Y: n = 5, k = 2, d = 3, r = 2 and the points 0 to 4; a share has 7 bytes for a stripe of 12 */
+static const uint8_t square[12] = {0, 0, 0, 0, 0, 0, 0, 0, 0, 0, 0, 1};
+/* M7 to M11 */
+static const char *const square_shares[5] = {"00000000000000", "01020304000405", "080c1000040a20", "0f1400050a3000", "40001020300004"};
+static const char square_text[] = "n=5\nk=2\nd=3\nr=2\nnode=1\nlength=12\ndata=01020304000405\n";
+static const char other_square_text[] = "n=5\nk=2\nd=3\nr=2\nnode=4\nlength=12\ndata=40001020300004\n";
+/* the same share, of a file that is a byte shorter */
+static const char shorter_text[] = "n=5\nk=2\nd=3\nr=2\nnode=4\nlength=11\ndata=40001020300004\n";
+
+/* n = 9, k = 2, d = 4, r = 3 and points in no order; a share has 10 bytes for a stripe of 18, and the file, of 39 bytes, 3 stripes */
+static const uint8_t odd[ZBK_MAX_BOARDS] = {0x2A, 0x00, 0xFF, 0x1D, 0x80, 0x07, 0x53, 0xC4, 0x09};
+static const char stock[] = "saline 0.9 %: 120 bags\ngauze: 17 boxes\n";
+enum { STOCK = sizeof stock - 1, STOCK_SHARE = 30 };
+static const char *const stock_shares[9] = {
+    "84a88b026b708af0430a24766688305d23750010e37c8c0243381bfab228", "73929d10ac4ab43fde1662dd352abbddcf0d060665951b5a21021a2db70c",
+    "fd74a48e246049c848ef20d5056a5646f48e16e6dd5312694a52e147fca3", "f2b5ed927be30aaa0eb5746d26189f9110629f1ec988f3d0c87b28722d1f",
+    "e60602218f20166a9b5f08b00d291c6a06de0a8833486b73c0930c6c5ea1", "c798fb8875b7ef69297de736200b0e9de656adad17342c9fcc53a325da7b",
+    "db542c0b6ef8b5016b8a29970b01578a1edab823061eadfe61911ff9581b", "3ab8e20b43705ff79cb40870971f1b5088e488cfe152019e6ee0a140031a",
+    "71431004ae767db212495e2d7e3e1fc1ad9624f4f3a03fcf41007bb0a9e1"};
+static const char stock_text[] = "n=9\nk=2\nd=4\nr=3\nnode=6\nlength=39\npoints=2a00ff1d800753c409\n"
+                                 "data=db542c0b6ef8b5016b8a29970b01578a1edab823061eadfe61911ff9581b\n";
+static const char other_stock_text[] = "n=9\nk=2\nd=4\nr=3\nnode=3\nlength=39\npoints=2a00ff1d800753c409\n"
+                                       "data=f2b5ed927be30aaa0eb5746d26189f9110629f1ec988f3d0c87b28722d1f\n";
+/* what the helpers 8, 0, 5 and 6 send to board 3, and what the boards 7 and 1 send it as partners */
+static const char to_board_3[] = "aee31f91417b020a881002280eed9f262df3b5921e181fd0";
+static const char partners_to_board_3[] = "7b9fc8de06b7";
+
+/* ---- board level */
+
+static void shares_and_files(const uint8_t *points) {
+    uint8_t held[ROOM];
+    for (size_t board = 0; board < 5; board++)
+        wrote_pairs(__LINE__, zbk_share(5, 2, 3, 2, points, 32, board, square, 12, out, 7 + 3), square_shares[board]);
+    wrote_pairs(__LINE__, zbk_share(9, 2, 4, 3, odd, 32, 6, (const uint8_t *)stock, STOCK, out, STOCK_SHARE + 11), stock_shares[6]);
+    refused(__LINE__, zbk_share(9, 2, 4, 3, odd, 32, 9, (const uint8_t *)stock, STOCK, out, STOCK_SHARE), ZBK_NODE);
+    refused(__LINE__, zbk_share(9, 2, 4, 3, odd, 32, 6, (const uint8_t *)stock, STOCK, out, STOCK_SHARE - 1), ZBK_SHORT);
+    refused(__LINE__, zbk_share(9, 2, 4, 3, odd, 31, 6, (const uint8_t *)stock, STOCK, out, STOCK_SHARE), ZBK_SIZE);
+
+    const size_t two[2] = {3, 1}, others[2] = {7, 4};
+    size_t count = from_pairs(square_shares[3], held);
+    count += from_pairs(square_shares[1], held + count);
+    wrote(__LINE__, zbk_file(5, 2, 3, 2, points, 32, 12, two, 2, held, count, out, 12 + 5), square, 12);
+    refused(__LINE__, zbk_file(5, 2, 3, 2, points, 32, 11, two, 2, held, count, out, 12), ZBK_DISAGREE);
+    refused(__LINE__, zbk_file(5, 2, 3, 2, points, 32, 12, two, 1, held, count, out, 12), ZBK_COUNT);
+    refused(__LINE__, zbk_file(5, 2, 3, 2, points, 32, 12, two, 2, held, count - 1, out, 12), ZBK_AREA);
+    refused(__LINE__, zbk_file(5, 2, 3, 2, points, 32, ZBK_MAX_STRIPES * 12 + 1, two, 2, held, count, out, 12), ZBK_LONG);
+    count = from_pairs(stock_shares[7], held);
+    count += from_pairs(stock_shares[4], held + count);
+    wrote_text(__LINE__, zbk_file(9, 2, 4, 3, odd, 32, STOCK, others, 2, held, count, out, STOCK + 1), stock);
+}
+
+static void packets(const uint8_t *points) {
+    uint8_t held[ROOM], partners_held[ROOM];
+    size_t count, partners_count;
+
+    /* M12: board 1 gets 04 02, 05 03 and 10 04 from its helpers, then 00 from board 0 */
+    static const char *const to_board_1[5] = {"", "", "0402", "0503", "1004"};
+    for (size_t helper = 2; helper < 5; helper++) {
+        count = from_pairs(square_shares[helper], held);
+        wrote_pairs(__LINE__, zbk_helper_packet(5, 2, 3, 2, points, 32, 12, helper, 1, held, count, out, 2 + helper), to_board_1[helper]);
+    }
+    const size_t three[3] = {2, 3, 4}, zero[1] = {0};
+    memset(held, 0, 6);
+    wrote_pairs(__LINE__, zbk_exchange_packet(5, 2, 3, 2, points, 32, 12, 0, three, 3, held, 6, 1, out, 1 + 4), "00");
+    count = from_pairs("040205031004", held);
+    wrote_pairs(__LINE__, zbk_exchange_packet(5, 2, 3, 2, points, 32, 12, 1, three, 3, held, count, 0, out, 1 + 4), "00");
+    partners_count = from_pairs("00", partners_held);
+    wrote_pairs(__LINE__,
+                zbk_finished_share(5, 2, 3, 2, points, 32, 12, 1, three, 3, held, count, zero, 1, partners_held, partners_count, out, 7 + 2),
+                square_shares[1]);
+
+    /* helper 8 to board 3, board 3 to board 1, and board 3 with its partners 7 and 1; helpers and partners in no order */
+    const size_t four[4] = {8, 0, 5, 6}, both[2] = {7, 1};
+    count = from_pairs(stock_shares[8], held);
+    wrote_pairs(__LINE__, zbk_helper_packet(9, 2, 4, 3, odd, 32, STOCK, 8, 3, held, count, out, 6 + 7), "aee31f91417b");
+    refused(__LINE__, zbk_helper_packet(9, 2, 4, 3, odd, 32, STOCK, 8, 8, held, count, out, 6), ZBK_REPEAT);
+    count = from_pairs(to_board_3, held);
+    wrote_pairs(__LINE__, zbk_exchange_packet(9, 2, 4, 3, odd, 32, STOCK, 3, four, 4, held, count, 1, out, 3 + 1), "9d351b");
+    refused(__LINE__, zbk_exchange_packet(9, 2, 4, 3, odd, 32, STOCK, 3, four, 4, held, count, 5, out, 3), ZBK_REPEAT);
+    partners_count = from_pairs(partners_to_board_3, partners_held);
+    wrote_pairs(__LINE__,
+                zbk_finished_share(9, 2, 4, 3, odd, 32, STOCK, 3, four, 4, held, count, both, 2, partners_held, partners_count, out,
+                                   STOCK_SHARE + 8),
+                stock_shares[3]);
+    refused(__LINE__,
+            zbk_finished_share(9, 2, 4, 3, odd, 32, STOCK, 3, four, 4, held, count, both, 2, partners_held, partners_count - 1, out, STOCK_SHARE),
+            ZBK_AREA);
+}
+
+/* The head, each word by its name, and the points; and the two words behind the head and the bytes behind the points as they were. */
+static void told(int line, const uint64_t *head, const uint8_t *said, const uint8_t *points, size_t n, size_t k, size_t d, size_t r, size_t node,
+                 size_t length) {
+    check(line, head[ZBK_HEAD_N] == n, "ZBK_HEAD_N");
+    check(line, head[ZBK_HEAD_K] == k, "ZBK_HEAD_K");
+    check(line, head[ZBK_HEAD_D] == d, "ZBK_HEAD_D");
+    check(line, head[ZBK_HEAD_R] == r, "ZBK_HEAD_R");
+    check(line, head[ZBK_HEAD_NODE] == node, "ZBK_HEAD_NODE");
+    check(line, head[ZBK_HEAD_LENGTH] == length, "ZBK_HEAD_LENGTH");
+    check(line, head[ZBK_HEAD_WORDS] == 77 && head[ZBK_HEAD_WORDS + 1] == 78, "the words behind the head");
+    bytes_are(line, "the points that a text says", said, points, 32, BLANK, 40);
+}
+
+static void texts(const uint8_t *points) {
+    const uint8_t *const text = (const uint8_t *)square_text, *const odd_text = (const uint8_t *)stock_text;
+    const size_t text_len = strlen(square_text), odd_text_len = strlen(stock_text);
+    uint64_t head[ZBK_HEAD_WORDS + 2] = {71, 72, 73, 74, 75, 76, 77, 78};
+    uint8_t held[ROOM], said[40];
+    memset(said, BLANK, sizeof said);
+
+    size_t count = from_pairs(square_shares[1], held);
+    wrote_text(__LINE__, zbk_share_text(5, 2, 3, 2, points, 32, 12, 1, held, count, out, text_len + 6), square_text);
+    count = from_pairs(stock_shares[6], held);
+    wrote_text(__LINE__, zbk_share_text(9, 2, 4, 3, odd, 32, STOCK, 6, held, count, out, odd_text_len + 9), stock_text);
+    refused(__LINE__, zbk_share_text(9, 2, 4, 3, odd, 32, STOCK, 6, held, count, out, odd_text_len - 1), ZBK_SHORT);
+
+    refused(__LINE__, zbk_read_text(text, text_len - 1, head, ZBK_HEAD_WORDS, said, 32, out, 7), ZBK_TEXT);
+    refused(__LINE__, zbk_read_text(text, text_len, head, ZBK_HEAD_WORDS - 1, said, 32, out, 7), ZBK_SIZE);
+    refused(__LINE__, zbk_read_text(text, text_len, head, ZBK_HEAD_WORDS + 1, said, 32, out, 7), ZBK_SIZE);
+    refused(__LINE__, zbk_read_text(text, text_len, head, ZBK_HEAD_WORDS, said, 31, out, 7), ZBK_SIZE);
+    refused(__LINE__, zbk_read_text(text, text_len, head, ZBK_HEAD_WORDS, said, 32, out, 6), ZBK_SHORT);
+    for (size_t i = 0; i < ZBK_HEAD_WORDS + 2; i++) check(__LINE__, head[i] == 71 + i, "a refusal changed the head");
+    bytes_are(__LINE__, "a refusal changed the points", said, said, 0, BLANK, sizeof said);
+
+    wrote_pairs(__LINE__, zbk_read_text(text, text_len, head, ZBK_HEAD_WORDS, said, 32, out, 7 + 4), square_shares[1]);
+    told(__LINE__, head, said, points, 5, 2, 3, 2, 1, 12);
+    wrote_pairs(__LINE__, zbk_read_text(odd_text, odd_text_len, head, ZBK_HEAD_WORDS, said, 32, out, STOCK_SHARE + 5), stock_shares[6]);
+    told(__LINE__, head, said, odd, 9, 2, 4, 3, 6, STOCK);
+
+    char gathered[ROOM];
+    strcpy(gathered, other_square_text);
+    strcat(gathered, square_text);
+    const size_t first_len = strlen(other_square_text), all_len = strlen(gathered);
+    wrote(__LINE__, zbk_gather((const uint8_t *)gathered, all_len, out, 12 + 3), square, 12);
+    refused(__LINE__, zbk_gather((const uint8_t *)gathered, all_len, out, 11), ZBK_SHORT);
+    refused(__LINE__, zbk_gather((const uint8_t *)gathered, first_len, out, 12), ZBK_COUNT);
+    refused(__LINE__, zbk_gather((const uint8_t *)gathered, all_len - 1, out, 12), ZBK_TEXT);
+    strcpy(gathered, shorter_text);
+    strcat(gathered, square_text);
+    refused(__LINE__, zbk_gather((const uint8_t *)gathered, strlen(gathered), out, 12), ZBK_MIXED);
+    strcpy(gathered, square_text);
+    strcat(gathered, square_text);
+    refused(__LINE__, zbk_gather((const uint8_t *)gathered, strlen(gathered), out, 12), ZBK_REPEAT);
+    strcpy(gathered, stock_text);
+    strcat(gathered, other_stock_text);
+    wrote_text(__LINE__, zbk_gather((const uint8_t *)gathered, strlen(gathered), out, STOCK + 2), stock);
+}
+
+/* ---- the store */
+
+/* What a record must say: each word by its name, and the two words behind it as they were. */
+struct due {
+    uint64_t n, k, d, r, capacity, written, length, marks, points[4];
+};
+
+static void record_is(int line, const uint64_t *record, const struct due *due) {
+    check(line, record[ZBK_WORD_N] == due->n, "ZBK_WORD_N");
+    check(line, record[ZBK_WORD_K] == due->k, "ZBK_WORD_K");
+    check(line, record[ZBK_WORD_D] == due->d, "ZBK_WORD_D");
+    check(line, record[ZBK_WORD_R] == due->r, "ZBK_WORD_R");
+    check(line, record[ZBK_WORD_CAPACITY] == due->capacity, "ZBK_WORD_CAPACITY");
+    check(line, record[ZBK_WORD_WRITTEN] == due->written, "ZBK_WORD_WRITTEN");
+    check(line, record[ZBK_WORD_LENGTH] == due->length, "ZBK_WORD_LENGTH");
+    check(line, record[ZBK_WORD_MARKS] == due->marks, "ZBK_WORD_MARKS");
+    for (size_t q = 0; q < 4; q++) check(line, record[ZBK_WORD_POINTS + q] == due->points[q], "ZBK_WORD_POINTS");
+    check(line, record[ZBK_RECORD_WORDS] == 88 && record[ZBK_RECORD_WORDS + 1] == 89, "the words behind the record");
+}
+
+/* A record that holds nothing yet, and the two words behind it. */
+static void made_up(uint64_t *record) {
+    for (size_t i = 0; i < ZBK_RECORD_WORDS + 2; i++) record[i] = i + 88 - ZBK_RECORD_WORDS;
+}
+
+/* The area of stock: 9 boards, 5 stripes of 10 bytes each, of which the first 3 hold the file; and bytes behind it. */
+enum { CAPACITY = 5, BOARD = CAPACITY * 10, AREA = 9 * BOARD, SPOILT = 0x5A };
+
+static void store(void) {
+    uint64_t record[ZBK_RECORD_WORDS + 2];
+    uint8_t area[AREA + 16], area_due[AREA + 16];
+    const uint8_t *const file = (const uint8_t *)stock;
+    static const uint8_t too_long[CAPACITY * 18 + 1] = {1};
+    const size_t none[1] = {0}, two[2] = {7, 3};
+    struct due due = {9, 2, 4, 3, CAPACITY, 0, 0, 0, {0xC45307801DFF002A, 0x09, 0, 0}};
+    memset(area, BLANK, sizeof area);
+    memset(area_due, BLANK, sizeof area_due);
+    made_up(record);
+
+    answers(__LINE__, zbk_set_up(record, ZBK_RECORD_WORDS - 1, 9, 2, 4, 3, odd, 32, CAPACITY), ZBK_SIZE);
+    answers(__LINE__, zbk_set_up(record, ZBK_RECORD_WORDS + 1, 9, 2, 4, 3, odd, 32, CAPACITY), ZBK_SIZE);
+    answers(__LINE__, zbk_set_up(record, ZBK_RECORD_WORDS, 9, 2, 4, 3, odd, 31, CAPACITY), ZBK_SIZE);
+    answers(__LINE__, zbk_set_up(record, ZBK_RECORD_WORDS, 9, 2, 4, 3, odd, 32, 0), ZBK_SIZE);
+    for (size_t i = 0; i < ZBK_RECORD_WORDS + 2; i++) check(__LINE__, record[i] == i + 88 - ZBK_RECORD_WORDS, "a refusal changed the record");
+    answers(__LINE__, zbk_set_up(record, ZBK_RECORD_WORDS, 9, 2, 4, 3, odd, 32, CAPACITY), 0);
+    record_is(__LINE__, record, &due);
+
+    refused(__LINE__, zbk_read(record, ZBK_RECORD_WORDS, area, AREA, two, 2, out, STOCK), ZBK_EMPTY);
+    answers(__LINE__, zbk_write(record, ZBK_RECORD_WORDS, area, AREA - 1, file, STOCK), ZBK_AREA);
+    answers(__LINE__, zbk_write(record, ZBK_RECORD_WORDS, area, AREA, too_long, sizeof too_long), ZBK_LONG);
+    record_is(__LINE__, record, &due);
+    bytes_are(__LINE__, "a refusal changed the area", area, area_due, sizeof area, 0, sizeof area);
+
+    answers(__LINE__, zbk_write(record, ZBK_RECORD_WORDS, area, AREA, file, STOCK), 0);
+    for (size_t board = 0; board < 9; board++) from_pairs(stock_shares[board], area_due + board * BOARD);
+    bytes_are(__LINE__, "another area after a write", area, area_due, sizeof area, 0, sizeof area);
+    due.written = 1;
+    due.length = STOCK;
+    due.marks = 0x1FF;
+    record_is(__LINE__, record, &due);
+
+    /* boards 3 and 7 are lost, and come back with other bytes */
+    const size_t fresh[2] = {3, 7}, helpers[8] = {8, 0, 5, 6, 2, 4, 8, 0}, stand_ins[2] = {1, 6};
+    answers(__LINE__, zbk_repair(record, ZBK_RECORD_WORDS, area, AREA, fresh, 2, helpers, 8, stand_ins, 2), ZBK_SERVING);
+    answers(__LINE__, zbk_lose(record, ZBK_RECORD_WORDS, 9), ZBK_NODE);
+    record_is(__LINE__, record, &due);
+    answers(__LINE__, zbk_lose(record, ZBK_RECORD_WORDS, 3), 0);
+    due.marks = 0x1F7;
+    record_is(__LINE__, record, &due);
+    answers(__LINE__, zbk_lose(record, ZBK_RECORD_WORDS, 7), 0);
+    due.marks = 0x177;
+    record_is(__LINE__, record, &due);
+    for (size_t i = 0; i < 2; i++) {
+        memset(area + fresh[i] * BOARD, SPOILT, BOARD);
+        memset(area_due + fresh[i] * BOARD, SPOILT, BOARD);
+    }
+    refused(__LINE__, zbk_read(record, ZBK_RECORD_WORDS, area, AREA, two, 2, out, STOCK), ZBK_DOWN);
+    answers(__LINE__, zbk_repair(record, ZBK_RECORD_WORDS, area, AREA, fresh, 2, helpers, 8, none, 0), ZBK_COUNT);
+    record_is(__LINE__, record, &due);
+    bytes_are(__LINE__, "a refusal changed the area", area, area_due, sizeof area, 0, sizeof area);
+
+    /* 3 stripes x 2 boards x 10 bytes are moved */
+    answers(__LINE__, zbk_repair(record, ZBK_RECORD_WORDS, area, AREA, fresh, 2, helpers, 8, stand_ins, 2), 60 << 8);
+    for (size_t i = 0; i < 2; i++) from_pairs(stock_shares[fresh[i]], area_due + fresh[i] * BOARD);
+    bytes_are(__LINE__, "another area after a repair", area, area_due, sizeof area, 0, sizeof area);
+    due.marks = 0x1FF;
+    record_is(__LINE__, record, &due);
+
+    answers(__LINE__, zbk_lose(record, ZBK_RECORD_WORDS, 4), 0);
+    due.marks = 0x1EF;
+    answers(__LINE__, zbk_read(record, ZBK_RECORD_WORDS, area, AREA, two, 2, out, STOCK + 6), 0);
+    bytes_are(__LINE__, "another output of a read", out, file, STOCK, BLANK, ROOM);
+    memset(out, BLANK, ROOM);
+    const size_t repeated[2] = {7, 7};
+    refused(__LINE__, zbk_read(record, ZBK_RECORD_WORDS, area, AREA, two, 1, out, STOCK), ZBK_COUNT);
+    refused(__LINE__, zbk_read(record, ZBK_RECORD_WORDS, area, AREA, repeated, 2, out, STOCK), ZBK_REPEAT);
+    refused(__LINE__, zbk_read(record, ZBK_RECORD_WORDS, area, AREA, two, 2, out, STOCK - 1), ZBK_SHORT);
+    record_is(__LINE__, record, &due);
+    bytes_are(__LINE__, "a read changed the area", area, area_due, sizeof area, 0, sizeof area);
+}
+
+/* M12 in a store with room for one stripe: boards 0 and 1 fresh, helpers 2, 3 and 4, and 14 bytes moved. */
+static void both_lost(const uint8_t *points) {
+    uint64_t record[ZBK_RECORD_WORDS + 2];
+    uint8_t area[5 * 7 + 1], area_due[5 * 7 + 1];
+    const size_t fresh[2] = {0, 1}, helpers[6] = {2, 3, 4, 4, 2, 3}, none[1] = {0};
+    const struct due due = {5, 2, 3, 2, 1, 1, 12, 0x1F, {0x0403020100, 0, 0, 0}};
+    memset(area, SPOILT, sizeof area);
+    memset(area_due, SPOILT, sizeof area_due);
+    made_up(record);
+    answers(__LINE__, zbk_set_up(record, ZBK_RECORD_WORDS, 5, 2, 3, 2, points, 32, 1), 0);
+    answers(__LINE__, zbk_write(record, ZBK_RECORD_WORDS, area, 35, square, 12), 0);
+    for (size_t i = 0; i < 2; i++) {
+        answers(__LINE__, zbk_lose(record, ZBK_RECORD_WORDS, fresh[i]), 0);
+        memset(area + fresh[i] * 7, SPOILT, 7);
+    }
+    answers(__LINE__, zbk_repair(record, ZBK_RECORD_WORDS, area, 35, fresh, 2, helpers, 6, none, 0), 14 << 8);
+    for (size_t board = 0; board < 5; board++) from_pairs(square_shares[board], area_due + board * 7);
+    bytes_are(__LINE__, "another area", area, area_due, sizeof area, 0, sizeof area);
+    record_is(__LINE__, record, &due);
+}
+
+/* The limits, with a record in which all words differ where they can: n boards have points from F1 down by 7. */
+static void limits(void) {
+    uint64_t record[ZBK_RECORD_WORDS + 2];
+    uint8_t points[ZBK_MAX_BOARDS];
+    const struct due due = {32, 15, 22, 9, 4096, 0, 0, 0, {0xC0C7CED5DCE3EAF1, 0x888F969DA4ABB2B9, 0x50575E656C737A81, 0x181F262D343B4249}};
+    for (size_t i = 0; i < ZBK_MAX_BOARDS; i++) points[i] = (uint8_t)(0xF1 - 7 * i);
+    made_up(record);
+    answers(__LINE__, zbk_set_up(record, ZBK_RECORD_WORDS, ZBK_MAX_BOARDS + 1, 15, 22, 9, points, ZBK_MAX_BOARDS, ZBK_MAX_STRIPES), ZBK_SIZE);
+    answers(__LINE__, zbk_set_up(record, ZBK_RECORD_WORDS, ZBK_MAX_BOARDS, 15, 22, 9, points, ZBK_MAX_BOARDS, ZBK_MAX_STRIPES + 1), ZBK_SIZE);
+    answers(__LINE__, zbk_set_up(record, ZBK_RECORD_WORDS, ZBK_MAX_BOARDS, 15, 22, 9, points, ZBK_MAX_BOARDS, ZBK_MAX_STRIPES), 0);
+    record_is(__LINE__, record, &due);
+}
+
+/* ---- what the header has itself: answers taken apart, and points */
+
+static void answers_apart(void) {
+    const struct {
+        uint64_t answer, value;
+        unsigned refusal;
+    } made_up_answers[] = {{0, 0, 0},
+                           {14, 0, 14},
+                           {255, 0, 255},
+                           {256, 1, 0},
+                           {(uint64_t)14 << 8, 14, 0},
+                           {0x0123456789ABCDEF, 0x0123456789ABCD, 0xEF},
+                           {(uint64_t)1 << 63 | 3, (uint64_t)1 << 55, 3},
+                           {UINT64_MAX, UINT64_MAX >> 8, 255}};
+    for (size_t i = 0; i < sizeof made_up_answers / sizeof *made_up_answers; i++) {
+        check(__LINE__, zbk_refusal(made_up_answers[i].answer) == made_up_answers[i].refusal, "zbk_refusal of a made-up answer");
+        check(__LINE__, zbk_value(made_up_answers[i].answer) == made_up_answers[i].value, "zbk_value of a made-up answer");
+    }
+}
+
+static void points_of_robots(void) {
+    const size_t counts[] = {0, 1, 5, 31, 32, 33, SIZE_MAX};
+    uint8_t points[ZBK_MAX_BOARDS + 8], due[ZBK_MAX_BOARDS];
+    for (size_t c = 0; c < sizeof counts / sizeof *counts; c++) {
+        for (size_t first = 0; first < 2; first++) {
+            for (size_t i = 0; i < 32; i++) due[i] = (uint8_t)(i < counts[c] ? i + first : 0);
+            memset(points, BLANK, sizeof points);
+            if (first) zbk_first_series_points(points, counts[c]);
+            else zbk_standard_points(points, counts[c]);
+            bytes_are(__LINE__, first ? "zbk_first_series_points" : "zbk_standard_points", points, due, 32, BLANK, sizeof points);
+        }
+    }
+}
+
+int main(void) {
+    uint8_t points[ZBK_MAX_BOARDS];
+    zbk_standard_points(points, 5);
+    memset(out, BLANK, ROOM);
+    answers_apart();
+    points_of_robots();
+    shares_and_files(points);
+    packets(points);
+    texts(points);
+    store();
+    both_lost(points);
+    limits();
+    printf("header: %u checks, %u failed\n", checks, failed);
+    return failed != 0;
+}
