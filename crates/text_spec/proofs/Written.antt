@@ -90,5 +90,7 @@ text-laws = record {
   reads-writes = reads-writes;
   one-text = one-text;
   text-told = text-told;
+  none-joined = refl;
+  texts-joined = λ t ts. refl;
   texts-told = texts-told;
 }
