@@ -23,7 +23,7 @@ use Rattle.record_words.specs.Words.{isRecord, recordFrom}
 use Rattle.archive_spec.specs.Lent.{zbkSetUp, zbk}
 use Rattle.archive_spec.specs.Texts.{zbkReadText}
 use Rattle.archive_spec.specs.Demand3.{AllowedLents}
-use Rattle.call_figures.specs.ArchiveFigures.{blank, four, points, any, steps, ArchiveFigures}
+use Rattle.archive_figures.specs.ArchiveFigures.{blank, four, points, any, steps, ArchiveFigures}
 
 -- the premises of a list, tested
 abbrev allows : List ℕ → List ℕ → Book → List Step → Bool

@@ -8,7 +8,7 @@ use Rattle.sizes.specs.Sizing.{legal, B, stripes}
 use Rattle.mbcr.specs.Share.{pointed, stripe, grid, F, neighbours, symbols, kept, share, shares}
 use Rattle.mbcr.specs.Rebuild.{seconds, received, exchanged, ownF, ownG, helperPair, helperPacket, standInPacket, gFrom, exchangePacket, fFrom, finishedStripe, finishedShare}
 use Rattle.mbcr.specs.Read.{through, bColumn, cRow, aColumn, decodedStripe, decodedFile, readFile}
-use Rattle.call_figures.specs.CodeFigures.{CodeFigures}
+use Rattle.code_figures.specs.CodeFigures.{CodeFigures}
 
 pub figures : CodeFigures
 unfolding piece add product reduce mul squares inverse legal B stripes pointed stripe grid F neighbours symbols kept share shares seconds received exchanged ownF ownG

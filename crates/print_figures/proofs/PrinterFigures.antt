@@ -8,7 +8,7 @@ use Rattle.mbcr.specs.Share.{pointed, stripe, grid, F, neighbours, symbols, kep
 use Rattle.board_spec.specs.Text.{decimal, pointsLine, shareText}
 use Rattle.board_spec.specs.Calls.{shareLines, shareCall}
 use Rattle.printer.specs.Printer.{shared, printed}
-use Rattle.call_figures.specs.PrinterFigures.{PrinterFigures}
+use Rattle.print_figures.specs.PrinterFigures.{PrinterFigures}
 
 pub figures : PrinterFigures
 unfolding piece add product reduce mul squares inverse legal B stripes stripe grid F neighbours symbols kept share shares pointed decimal pointsLine shareText shareLines shareCall shared printed

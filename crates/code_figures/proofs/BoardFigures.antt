@@ -9,7 +9,7 @@ use Rattle.mbcr.specs.Rebuild.{received, exchanged, ownF, ownG, helperPair, hel
 use Rattle.mbcr.specs.Read.{through, bColumn, cRow, aColumn, decodedStripe, decodedFile, readFile}
 use Rattle.board_spec.specs.Text.{decimal, pointsLine, shareText}
 use Rattle.board_spec.specs.Calls.{shareLines, shareCall, fileLines, fileCall, helperLines, helperCall, exchangeLines, exchangeCall, finishedLines, finishedCall, textLines, textCall}
-use Rattle.call_figures.specs.BoardFigures.{BoardFigures}
+use Rattle.code_figures.specs.BoardFigures.{BoardFigures}
 
 pub figures : BoardFigures
 unfolding piece add product reduce mul squares inverse legal B stripes pointed stripe grid F neighbours symbols kept share shares received exchanged ownF ownG

@@ -1,4 +1,0 @@
-pub mod CodeFigures
-pub mod BoardFigures
-pub mod PrinterFigures
-pub mod ArchiveFigures
