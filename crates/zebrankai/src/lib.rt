@@ -268,7 +268,7 @@ pub extern "C" fn zbk_set_up(
 pub extern "C" fn zbk_write(ws: &mut [u64], area: &mut [u8], file: &[u8]) -> u64
     ensures { λ w. ⌜ record { answer = w; words = now (ws .exit); area = now (area .exit); output = [] } ≡ zbk (now (ws .entry)) (now (area .entry)) (write (now (file .entry))) ⌝ }
 {
-    if !word_parts::is_record(ws) {
+    if !words::is_record(ws) {
         return SIZE;
     }
     let store = words::store_of(ws);
@@ -281,7 +281,7 @@ pub extern "C" fn zbk_write(ws: &mut [u64], area: &mut [u8], file: &[u8]) -> u64
 pub extern "C" fn zbk_lose(ws: &mut [u64], board: usize) -> u64
     ensures { λ w. ⌜ ((area : List ℕ) → record { answer = w; words = now (ws .exit); area = area; output = [] } ≡ zbk (now (ws .entry)) area (lose board)) ⌝ }
 {
-    if !word_parts::is_record(ws) {
+    if !words::is_record(ws) {
         return SIZE;
     }
     let store = words::store_of(ws);
@@ -300,7 +300,7 @@ pub extern "C" fn zbk_repair(
 ) -> u64
     ensures { λ w. ⌜ record { answer = w; words = now (ws .exit); area = now (area .exit); output = [] } ≡ zbk (now (ws .entry)) (now (area .entry)) (repair (now (fresh .entry)) (now (helpers .entry)) (now (standins .entry))) ⌝ }
 {
-    if !word_parts::is_record(ws) {
+    if !words::is_record(ws) {
         return SIZE;
     }
     let store = words::store_of(ws);
@@ -313,7 +313,7 @@ pub extern "C" fn zbk_repair(
 pub extern "C" fn zbk_read(ws: &mut [u64], area: &[u8], boards: &[usize], out: &mut [u8]) -> u64
     ensures { λ w. ⌜ record { answer = w; words = now (ws .exit); area = now (area .entry); output = now (out .exit) } ≡ zbk (now (ws .entry)) (now (area .entry)) (read (now (boards .entry)) (now (out .entry))) ⌝ }
 {
-    if !word_parts::is_record(ws) {
+    if !words::is_record(ws) {
         return SIZE;
     }
     let store = words::store_of(ws);

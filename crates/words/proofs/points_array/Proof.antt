@@ -4,7 +4,7 @@ use Prim.Native.Nat.{_-_}
 use mathlib.Core.Path.{_≡_, sym, _∙_}
 use native.Mathlib.Omega.{arith}
 use borrow.Author.Needs.{needs}
-use Rattle.word_parts.proofs.Twelve.{array-is, array-not}
+use Rattle.words.proofs.Twelve.{array-is, array-not}
 use Rattle.words.proofs.points_array.Statement.{statement}
 use Rattle.words.proofs.points_array.Tie as tie
 

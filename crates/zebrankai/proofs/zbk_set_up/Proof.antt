@@ -10,7 +10,7 @@ use Rattle.store_spec.specs.Calls.{setUpCall}
 use Rattle.store.specs.declared.Store.{Store}
 use Rattle.store.specs.declared.Handed.{Handed}
 use Rattle.store.specs.Handing.{recordIn, outcomeIn}
-use Rattle.word_parts.specs.Steps.{arrayOf}
+use Rattle.words.specs.Steps.{arrayOf}
 use Rattle.archive_spec.specs.Archive.{sizesOf}
 use Rattle.archive_spec.proofs.Given.{set-up-given}
 use Rattle.archive_spec.proofs.Worded.{no-set-up, did-set-up, not-set-up, as-told, set-up-few}

@@ -17,7 +17,7 @@ use Rattle.row_sums.specs.Steps.{rowBytes}
 use Rattle.store_spec.specs.Record.{Record}
 use Rattle.record_words.specs.Words.{bits, fromBits, bytes, fromBytes, recordFrom, wordsOf}
 use Rattle.record_words.proofs.Points.{word-back}
-use Rattle.word_parts.specs.Steps.{arrayOf}
+use Rattle.words.specs.Steps.{arrayOf}
 
 -- the first eight words, each in its place
 pub all-set : (ws : List ℕ) (a b c d e f g h : ℕ) → 8 ≤ length ws
