@@ -1,7 +1,7 @@
 pub mod Bounds
 pub mod Words
 pub mod Given
-pub mod Worded
+pub mod InWords
 pub mod Told
 pub mod Laws
 pub mod Demand1

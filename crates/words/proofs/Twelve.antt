@@ -7,17 +7,15 @@ use mathlib.Core.List.{List, [], _∷_, _++_, append-nil}
 use native.Mathlib.Omega.{arith}
 use mir.Val.{boolByte}
 use lib.Dec.{eqb}
-use lib.ListN.{length, getD, set, take, drop, replicate, length-append, drop-of-length-le}
+use lib.ListN.{length, getD, set, take, drop, length-append, drop-of-length-le}
 use lib.Seq.{sets-eq, drop-cons, take-all, drop-at, length-take-le}
 use Rattle.lists.specs.Tests.{pick}
 use Rattle.lists.specs.Lists.{tabulate, joined, piece}
-use borrow.Author.Tests.{eq-eqb, ne-eqb}
 use Rattle.row_sums.specs.declared.Row.{Row}
 use Rattle.row_sums.specs.Steps.{rowBytes}
 use Rattle.store_spec.specs.Record.{Record}
 use Rattle.record_words.specs.Words.{bits, fromBits, bytes, fromBytes, recordFrom, wordsOf}
 use Rattle.record_words.proofs.Points.{word-back}
-use Rattle.words.specs.Steps.{arrayOf}
 
 -- the first eight words, each in its place
 pub all-set : (ws : List ℕ) (a b c d e f g h : ℕ) → 8 ≤ length ws
@@ -67,13 +65,6 @@ row-words xs x l e ha hb hc hd =
     ∙ ap₂ {C = List ℕ} (λ w r. w ∷ r) (word-back (x .a) ha)
     (ap₂ {C = List ℕ} (λ w r. w ∷ r) (word-back (x .b) hb)
     (ap₂ {C = List ℕ} (λ w r. w ∷ r) (word-back (x .c) hc) (ap {B = List ℕ} (λ w. w ∷ []) (word-back (x .d) hd)))))
-
--- lent points as an array
-pub array-is : (xs : List ℕ) (l : List ℕ) → length xs ≡ 32 → l ≡ take 32 (drop 0 xs) → l ≡ arrayOf xs
-array-is xs l e h = h ∙ take-all 32 xs (omega arith) ∙ sym (ap (λ b. pick b xs (replicate 32 0)) (eq-eqb (length xs) 32 e))
-
-pub array-not : (xs : List ℕ) → (length xs ≡ 32 → ⊥) → replicate 32 0 ≡ arrayOf xs
-array-not xs h = sym (ap (λ b. pick b xs (replicate 32 0)) (ne-eqb (length xs) 32 h))
 
 -- ---- the record
 

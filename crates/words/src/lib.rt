@@ -9,7 +9,6 @@ ghost use Rattle.sizes.specs.Refusals.{said};
 ghost use Rattle.store.specs.Handing.{recordIn};
 ghost use Rattle.answer_word.specs.Answers.{wordOf};
 ghost use Rattle.record_words.specs.Words.{bits, fromBits, bytes, fromBytes, isRecord, recordFrom, wordsOf};
-ghost use Rattle.words.specs.Steps.{arrayOf};
 use row_sums::Row;
 use sizes::Sizes;
 use store::Handed;
@@ -72,18 +71,6 @@ fn points_of(words: &[u64]) -> [u8; 32]
     let mut points = [0u8; 32];
     row_sums::put_row(row, &mut points);
     points
-}
-
-// Points that are lent, as an array; another number of them than 32 gives 32 times 00, which no boards have.
-pub fn points_array(points: &[u8]) -> [u8; 32]
-    ensures { λ r. ⌜ r ≡ arrayOf (now (points .entry)) ⌝ }
-{
-    let mut given = [0u8; 32];
-    if points.len() == 32 {
-        let row = row_sums::row_at(points, 0);
-        row_sums::put_row(row, &mut given);
-    }
-    given
 }
 
 // The words of points, from the eighth on.
