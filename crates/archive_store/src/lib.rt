@@ -55,7 +55,7 @@ pub fn set_up(
 pub fn write(ws: &mut [u64], area: &mut [u8], file: &[u8]) -> u64
     ensures { λ w. ⌜ record { answer = w; words = now (ws .exit); area = now (area .exit); output = [] } ≡ zbk (now (ws .entry)) (now (area .entry)) (write (now (file .entry))) ⌝ }
 {
-    if !words::is_record(ws) {
+    if !word_parts::is_record(ws) {
         return SIZE;
     }
     let store = words::store_of(ws);
@@ -67,7 +67,7 @@ pub fn write(ws: &mut [u64], area: &mut [u8], file: &[u8]) -> u64
 pub fn lose(ws: &mut [u64], board: usize) -> u64
     ensures { λ w. ⌜ ((area : List ℕ) → record { answer = w; words = now (ws .exit); area = area; output = [] } ≡ zbk (now (ws .entry)) area (lose board)) ⌝ }
 {
-    if !words::is_record(ws) {
+    if !word_parts::is_record(ws) {
         return SIZE;
     }
     let store = words::store_of(ws);
@@ -85,7 +85,7 @@ pub fn repair(
 ) -> u64
     ensures { λ w. ⌜ record { answer = w; words = now (ws .exit); area = now (area .exit); output = [] } ≡ zbk (now (ws .entry)) (now (area .entry)) (repair (now (fresh .entry)) (now (helpers .entry)) (now (standins .entry))) ⌝ }
 {
-    if !words::is_record(ws) {
+    if !word_parts::is_record(ws) {
         return SIZE;
     }
     let store = words::store_of(ws);
@@ -97,7 +97,7 @@ pub fn repair(
 pub fn read(ws: &mut [u64], area: &[u8], boards: &[usize], out: &mut [u8]) -> u64
     ensures { λ w. ⌜ record { answer = w; words = now (ws .exit); area = now (area .entry); output = now (out .exit) } ≡ zbk (now (ws .entry)) (now (area .entry)) (read (now (boards .entry)) (now (out .entry))) ⌝ }
 {
-    if !words::is_record(ws) {
+    if !word_parts::is_record(ws) {
         return SIZE;
     }
     let store = words::store_of(ws);

@@ -1,4 +1,4 @@
--- `words::fill_marks` meets its contract. The loop's invariant: the bits so far, before what was there, and what is left of the word.
+-- `word_parts::fill_marks` meets its contract. The loop's invariant: the bits so far, before what was there, and what is left of the word.
 -- Assumes nothing.
 use Prim.Native.Nat.{ℕ, _+_, _-_, _≤_}
 use mathlib.Core.Path.{_≡_, refl, ap, _∙_}
@@ -12,8 +12,8 @@ use lib.ListN.{length, drop, length-set, drop-of-length-le}
 use mathlib.Core.List.{append-nil}
 use Rattle.record_words.specs.Words.{bits}
 use Rattle.record_words.proofs.Bits.{rest as left, fill-next, half-next}
-use Rattle.words.proofs.fill_marks.Statement.{statement}
-use Rattle.words.proofs.fill_marks.Tie as tie
+use Rattle.word_parts.proofs.fill_marks.Statement.{statement}
+use Rattle.word_parts.proofs.fill_marks.Tie as tie
 
 abbrev Inv-loop : tie.InvT-loop
 Inv-loop word marks₀ rest₀ i₀ marks rest i = (marks ≡ bits i word ++ drop i marks₀) × (rest ≡ left i word) × (i ≤ length marks₀) × (length marks ≡ length marks₀)

@@ -1,11 +1,11 @@
--- `words::is_record` meets its contract.
+-- `word_parts::is_record` meets its contract.
 -- Assumes nothing.
 use Prim.Native.Nat.{_-_}
 use native.Mathlib.Omega.{arith}
 use borrow.Author.Needs.{needs}
 use Rattle.record_words.proofs.Bits.{not-twelve, not-written, by-marks, last-words}
-use Rattle.words.proofs.is_record.Statement.{statement}
-use Rattle.words.proofs.is_record.Tie as tie
+use Rattle.word_parts.proofs.is_record.Statement.{statement}
+use Rattle.word_parts.proofs.is_record.Tie as tie
 
 pub is-record-spec : {M : Type 1} → statement M
 is-record-spec =

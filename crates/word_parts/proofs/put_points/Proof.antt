@@ -1,13 +1,13 @@
--- `words::put_points` meets its contract: a row of points, a word each.
+-- `word_parts::put_points` meets its contract: a row of points, a word each.
 -- Assumes nothing.
 use mathlib.Core.Path.{ap, _∙_}
 use mathlib.Core.List.{_++_}
 use native.Mathlib.Omega.{arith}
 use lib.ListN.{take}
 use borrow.Author.Needs.{needs}
-use Rattle.words.proofs.Twelve.{four-set, row-words}
-use Rattle.words.proofs.put_points.Statement.{statement}
-use Rattle.words.proofs.put_points.Tie as tie
+use Rattle.word_parts.proofs.Twelve.{four-set, row-words}
+use Rattle.word_parts.proofs.put_points.Statement.{statement}
+use Rattle.word_parts.proofs.put_points.Tie as tie
 
 returns : tie.Need-returns
 returns c =
