@@ -1,139 +1,37 @@
--- Parts of one list that are filled in one after another, each behind the others; how long the tables of a read are at most.
+-- How long the tables of a read are at most, and where each stands in what was made of three parts.
 -- Assumes nothing.
-use mathlib.Core.Path.{_≡_, refl, sym, ap, ap₂, _∙_}
+use mathlib.Core.Path.{_≡_, refl, sym, ap, _∙_}
 use mathlib.Core.Bool.{true}
-use mathlib.Core.List.{List, [], _∷_, _++_}
-use Prim.Native.Nat.{ℕ, _+_, _*_, _-_, _%_, _<_, _≤_}
+use mathlib.Core.List.{List, _++_, append-assoc}
+use Prim.Native.Nat.{ℕ, _+_, _*_, _-_, _<_, _≤_}
 use native.Mathlib.Nat.{mul-le-mul, mul-le-mul-right}
 use native.Mathlib.Omega.{arith}
 use lib.Dec.{leb}
-use lib.ListN.{length, getD, take, drop, length-take, length-drop}
-use lib.Seq.{take-at, drop-at, take-append-le, drop-append-le, length-take-le}
+use lib.ListN.{length, getD, take, drop, length-append, length-drop}
+use lib.Seq.{drop-at, drop-drop, take-append-le, drop-append-le, length-take-le}
 use borrow.Author.Tests.{leb-true}
 use borrow.Rule.Slice.PartMut.{putMid, same-len-mid}
-use Rattle.lists.specs.Tests.{every, below}
-use Rattle.lists.specs.Lists.{All, tabulate, join, piece, fit}
+use Rattle.lists.specs.Tests.{every}
+use Rattle.lists.specs.Lists.{tabulate, piece, put}
 use Rattle.lists.proofs.Tests.{every-all}
-use Rattle.lists.proofs.Alls.{all-at, all-imp}
-use Rattle.lists.proofs.Boards.{all-below}
-use Rattle.lists.proofs.Pieces.{length-tabulate, tabulate-at, piece-join, length-piece}
-use Rattle.lists.proofs.Put.{within}
+use Rattle.lists.proofs.Alls.{all-at}
+use Rattle.lists.proofs.Pieces.{length-tabulate, tabulate-at, length-join, piece-join, length-piece}
+use Rattle.lists.proofs.Put.{length-put, put-same, put-before}
 use Rattle.sizes.specs.declared.Sizes.{Sizes}
 use Rattle.sizes.proofs.Legal.{Legal, row-fits}
-use Rattle.mbcr.specs.Share.{points, neighbours}
+use Rattle.mbcr.specs.Share.{points}
 use Rattle.mbcr.proofs.Points.{length-points, length-neighbours}
 use Rattle.row_sums.specs.Steps.{multiples}
 use Rattle.row_sums.proofs.Tables.{length-multiples}
-use Rattle.decode_laws.specs.Steps.{cell, seedRows, unitRows, topRows, factorRows}
-use Rattle.decode_laws.proofs.Loops.{back-part}
+use Rattle.decode_laws.specs.Steps.{seedRows, unitRows, topRows, factorRows}
+use Rattle.decode_laws.proofs.Loops.{three-parts}
 use Rattle.decode_laws.proofs.Held.{length-factor-rows}
-use Rattle.decode_tables.proofs.Made.{units-are, tops-made}
 use Rattle.decode_rows.specs.Steps.{TabledRows}
 use Rattle.decode_stripe.specs.Steps.{Tables}
-use Rattle.decode_stripe.proofs.Made.{length-seed-rows, length-tops, part-long}
+use Rattle.decode_stripe.proofs.Made.{length-units, length-seed-rows, length-tops}
+use Rattle.setup_rows.specs.Steps.{tablesOf}
+use Rattle.setup_rows.proofs.Parts.{part-there}
 use Rattle.decode_setup.specs.Steps.{targetsOf, Made}
-
--- ---- one part
-
-module _ (b m : ℕ) (l y : List ℕ) (fits : b + m ≤ length l) (ly : length y ≡ m) where
-  -- the list with y from b on
-  abbrev pub placed : List ℕ
-  placed = putMid b (b + m - b) l y
-
-  as-long : b + m - b ≡ m
-  as-long = omega arith
-
-  pub placed-long : length placed ≡ length l
-  placed-long = same-len-mid {X = ℕ} b (b + m - b) l y (ly ∙ sym (length-take-le (b + m - b) (drop b l) (omega (arith, length-drop b l)) ∙ as-long))
-
-  lb : length (take b l) ≡ b
-  lb = length-take-le b l (omega arith)
-
-  -- what stands before it stays
-  pub before : (a n : ℕ) → a + n ≤ b → take n (drop a placed) ≡ take n (drop a l)
-  before a n h =
-      ap (take n) (drop-append-le a (take b l) _ (omega (arith, lb)))
-      ∙ take-append-le n (drop a (take b l)) _ (omega (arith, lb, length-drop a (take b l)))
-      ∙ within n b a l h
-
-  -- and there it is
-  pub there : take m (drop b placed) ≡ y
-  there = ap (take m) (drop-at (take b l) _ b lb) ∙ take-at y _ m ly
-
--- as much of a list as is lent
-pub part-there : (b m : ℕ) (l : List ℕ) → b + m ≤ length l → length (take (b + m - b) (drop b l)) ≡ m
-part-there b m l h = length-take-le (b + m - b) (drop b l) (omega (arith, length-drop b l)) ∙ omega arith
-
--- boards are at most 32
-pub below-32 : (z : Sizes) (bs : List ℕ) → z .n ≤ 32 → All (λ i. i < z .n) bs → below 32 bs ≡ true
-below-32 z bs h k = all-below 32 bs (all-imp (λ i. i < z .n) (λ i. i < 32) (λ i l. omega arith) bs k)
-
--- ---- five parts
-
-module _ (m₀ m₁ m₂ m₃ m₄ : ℕ) (l y₀ y₁ y₂ y₃ y₄ : List ℕ) (ll : length l ≡ 49152)
-    (h₀ : m₀ ≤ 7680) (h₁ : m₁ ≤ 8192) (h₂ : m₂ ≤ 16384) (h₃ : m₃ ≤ 15872) (h₄ : m₄ ≤ 1024)
-    (l₀ : length y₀ ≡ m₀) (l₁ : length y₁ ≡ m₁) (l₂ : length y₂ ≡ m₂) (l₃ : length y₃ ≡ m₃) (l₄ : length y₄ ≡ m₄) where
-  abbrev pub first : List ℕ
-  first = putMid 0 (m₀ - 0) l y₀
-
-  abbrev pub second : List ℕ
-  second = putMid 7680 (7680 + m₁ - 7680) first y₁
-
-  abbrev pub third : List ℕ
-  third = putMid 15872 (15872 + m₂ - 15872) second y₂
-
-  abbrev pub fourth : List ℕ
-  fourth = putMid 32256 (32256 + m₃ - 32256) third y₃
-
-  abbrev pub fifth : List ℕ
-  fifth = putMid 48128 (48128 + m₄ - 48128) fourth y₄
-
-  first-is : first ≡ placed 0 m₀ l y₀ (omega arith) l₀
-  first-is = let e : m₀ - 0 ≡ 0 + m₀ - 0 = omega arith in ap (λ (v : ℕ). putMid 0 v l y₀) e
-
-  pub first-long : length first ≡ 49152
-  first-long = ap length first-is ∙ placed-long 0 m₀ l y₀ (omega arith) l₀ ∙ ll
-
-  pub second-long : length second ≡ 49152
-  second-long = placed-long 7680 m₁ first y₁ (omega (arith, first-long)) l₁ ∙ first-long
-
-  pub third-long : length third ≡ 49152
-  third-long = placed-long 15872 m₂ second y₂ (omega (arith, second-long)) l₂ ∙ second-long
-
-  pub fourth-long : length fourth ≡ 49152
-  fourth-long = placed-long 32256 m₃ third y₃ (omega (arith, third-long)) l₃ ∙ third-long
-
-  pub fifth-long : length fifth ≡ 49152
-  fifth-long = placed-long 48128 m₄ fourth y₄ (omega (arith, fourth-long)) l₄ ∙ fourth-long
-
-  -- each part stays as the later ones come
-  on₁ : (a n : ℕ) → a + n ≤ 7680 → take n (drop a second) ≡ take n (drop a first)
-  on₁ = before 7680 m₁ first y₁ (omega (arith, first-long)) l₁
-
-  on₂ : (a n : ℕ) → a + n ≤ 15872 → take n (drop a third) ≡ take n (drop a second)
-  on₂ = before 15872 m₂ second y₂ (omega (arith, second-long)) l₂
-
-  on₃ : (a n : ℕ) → a + n ≤ 32256 → take n (drop a fourth) ≡ take n (drop a third)
-  on₃ = before 32256 m₃ third y₃ (omega (arith, third-long)) l₃
-
-  on₄ : (a n : ℕ) → a + n ≤ 48128 → take n (drop a fifth) ≡ take n (drop a fourth)
-  on₄ = before 48128 m₄ fourth y₄ (omega (arith, fourth-long)) l₄
-
-  pub part₀ : take m₀ fifth ≡ y₀
-  part₀ =
-      on₄ 0 m₀ (omega arith) ∙ on₃ 0 m₀ (omega arith) ∙ on₂ 0 m₀ (omega arith) ∙ on₁ 0 m₀ (omega arith) ∙ ap (take m₀) first-is ∙ there 0 m₀ l y₀ (omega arith) l₀
-
-  pub part₁ : take m₁ (drop 7680 fifth) ≡ y₁
-  part₁ = on₄ 7680 m₁ (omega arith) ∙ on₃ 7680 m₁ (omega arith) ∙ on₂ 7680 m₁ (omega arith) ∙ there 7680 m₁ first y₁ (omega (arith, first-long)) l₁
-
-  pub part₂ : take m₂ (drop 15872 fifth) ≡ y₂
-  part₂ = on₄ 15872 m₂ (omega arith) ∙ on₃ 15872 m₂ (omega arith) ∙ there 15872 m₂ second y₂ (omega (arith, second-long)) l₂
-
-  pub part₃ : take m₃ (drop 32256 fifth) ≡ y₃
-  part₃ = on₄ 32256 m₃ (omega arith) ∙ there 32256 m₃ third y₃ (omega (arith, third-long)) l₃
-
-  pub part₄ : take m₄ (drop 48128 fifth) ≡ y₄
-  part₄ = there 48128 m₄ fourth y₄ (omega (arith, fourth-long)) l₄
 
 -- ---- how long they are
 
@@ -175,125 +73,172 @@ module _ (z : Sizes) (legal : Legal z) where
       mul-le-mul (legal .read-helpers) (mul-le-mul-right 32 (omega (arith, legal .few))) in
       omega (arith, p, g-most d (omega (arith, legal .some-fresh, legal .enough, legal .few)))
 
--- ---- what is made of rows
+  -- for boards that are k
+  pub f-room : (bs : List ℕ) → length bs ≡ k → length bs * ((n - (d + r)) * 32) ≤ 7680
+  f-room bs lb = omega (arith, ap (λ (m : ℕ). m * ((n - (d + r)) * 32)) lb, f-few)
 
--- the tables of their multiples
-pub tabled : (d : ℕ) (xs zs rows out : List ℕ) → d ≤ 32 → rows ≡ seedRows d xs
-    → out ≡ join d (λ s. multiples (piece 32 s (take (d * 32 - 0) (drop 0 (putMid 0 (d * 32 - 0) zs rows))))) → TabledRows d (seedRows d xs) out
-tabled d xs zs rows out few er eo s h =
-    let lr : length rows ≡ d * 32 = ap length er ∙ length-seed-rows d xs in
-    let e : out ≡ join d (λ s. multiples (piece 32 s (seedRows d xs))) =
-    eo ∙ ap (λ (l : List ℕ). join d (λ s. multiples (piece 32 s l))) (back-part (d * 32) zs rows lr ∙ er) in
-    ap (piece 512 s) e
-    ∙ piece-join d 512 (λ s. multiples (piece 32 s (seedRows d xs)))
-    (λ s l. length-multiples (piece 32 s (seedRows d xs)) (length-piece 32 s (seedRows d xs) (omega (arith, length-seed-rows d xs, row-fits s d 32 l)))) s h
+  pub g-room : (bs : List ℕ) → length bs ≡ k → length bs * ((n - d) * 32) ≤ 8192
+  g-room bs lb = omega (arith, ap (λ (m : ℕ). m * ((n - d) * 32)) lb, g-few)
 
--- the coefficients of the highest powers
-pub tops-are : (k : ℕ) (xs bs zs rows out : List ℕ) → length bs ≤ 32 → rows ≡ seedRows (length bs) (points xs bs)
-    → out ≡ join (length bs - k) (λ i. fit 32 (tabulate (length bs) (λ s. cell (take (length bs * 32 - 0) (drop 0 (putMid 0 (length bs * 32 - 0) zs rows))) s (k + i))))
-    → out ≡ topRows k (points xs bs)
-tops-are k xs bs zs rows out few er eo =
-    let ps : List ℕ = points xs bs in
-    let lp : length ps ≡ length bs = length-points xs bs in
-    let lr : length rows ≡ length bs * 32 = ap length er ∙ length-seed-rows (length bs) ps in
-    let e : rows ≡ unitRows ps = er ∙ ap (λ (m : ℕ). seedRows m ps) (sym lp) ∙ units-are ps in
-    eo ∙ ap (λ (l : List ℕ). join (length bs - k) (λ i. fit 32 (tabulate (length bs) (λ s. cell l s (k + i))))) (back-part (length bs * 32) zs rows lr ∙ e)
-    ∙ ap (λ (m : ℕ). join (m - k) (λ i. fit 32 (tabulate m (λ s. cell (unitRows ps) s (k + i))))) (sym lp)
-    ∙ tops-made k ps (omega arith)
+-- ---- tables of rows
 
--- ---- the boards at which values are taken
+module _ (m : ℕ) (rows : List ℕ) (lr : length rows ≡ m * 32) where
+  each : (s : ℕ) → s < m → length (multiples (piece 32 s rows)) ≡ 512
+  each s h = length-multiples (piece 32 s rows) (length-piece 32 s rows (omega (arith, lr, row-fits s m 32 h)))
 
-module _ (z : Sizes) (legal : Legal z) (b : ℕ) (zs y : List ℕ) (lz : length zs ≡ 32)
-    (ey : y ≡ tabulate (length (take (z .d + z .r - 0) (drop 0 zs))) (λ t. (b + t) % z .n)) where
-  open Sizes z using (n, k, d, r)
+  length-tables : length (tablesOf m rows) ≡ m * 512
+  length-tables = length-join m 512 (λ s. multiples (piece 32 s rows)) each
 
-  pub near-is : y ≡ neighbours z b (d + r)
-  unfolding neighbours
-  near-is = ey ∙ ap (λ (m : ℕ). tabulate m (λ t. (b + t) % n)) (part-long (d + r) zs (omega (arith, legal .enough, legal .few)))
+  tabled : TabledRows m rows (tablesOf m rows)
+  tabled = piece-join m 512 (λ s. multiples (piece 32 s rows)) each
 
-  pub near-long : length y ≡ d + r
-  near-long = ap length near-is ∙ length-neighbours z b (d + r)
+-- ---- parts of a list
 
-  pub near-again : take (d + r - 0) (drop 0 (putMid 0 (d + r - 0) zs y)) ≡ neighbours z b (d + r)
-  near-again = back-part (d + r) zs y near-long ∙ near-is
+in-first : (p w : ℕ) (xs ys : List ℕ) → p + w ≤ length xs → take w (drop p (xs ++ ys)) ≡ take w (drop p xs)
+in-first p w xs ys h = ap (take w) (drop-append-le p xs ys (omega (arith, h))) ∙ take-append-le w (drop p xs) ys (omega (arith, h, length-drop p xs))
 
-  pub few-again : take (d - 0) (drop 0 (putMid 0 (d + r - 0) zs y)) ≡ take d (neighbours z b (d + r))
-  few-again =
-      let e : d - 0 ≡ d = omega arith in
-      ap (λ (m : ℕ). take m (putMid 0 (d + r - 0) zs y)) e ∙ take-append-le d y _ (omega (arith, near-long)) ∙ ap (take d) near-is
+in-second : (a p w : ℕ) (xs ys : List ℕ) → length xs ≡ a → take w (drop (a + p) (xs ++ ys)) ≡ take w (drop p ys)
+in-second a p w xs ys e = ap (take w) (sym (drop-drop p a (xs ++ ys)) ∙ ap (drop p) (drop-at xs ys a e))
+
+-- bytes put at the beginning and at a place behind
+module _ (l a b : List ℕ) (at : ℕ) (apart : length a ≤ at) (fits : at + length b ≤ length l) where
+  first-fits : 0 + length a ≤ length l
+  first-fits = omega (arith, apart, fits)
+
+  second-fits : at + length b ≤ length (put l 0 a)
+  second-fits = omega (arith, fits, length-put l 0 a first-fits)
+
+  put-one : (m : ℕ) → length a ≡ m → take m (put (put l 0 a) at b) ≡ a
+  put-one m e =
+      ap (λ (v : ℕ). take v (put (put l 0 a) at b)) (sym e) ∙ put-before (put l 0 a) at b second-fits 0 (length a) (omega (arith, apart)) ∙ put-same l 0 a first-fits
+
+  put-two : (m : ℕ) → length b ≡ m → take m (drop at (put (put l 0 a) at b)) ≡ b
+  put-two m e = ap (λ (v : ℕ). take v (drop at (put (put l 0 a) at b))) (sym e) ∙ put-same (put l 0 a) at b second-fits
 
 -- ---- all of them
 
-units-placed : (w : ℕ) (xs targets T y out : List ℕ) → targets ≡ T → length T ≡ w → out ≡ y
-    → TabledRows w (seedRows w (points xs targets)) y → TabledRows w (unitRows (points xs T)) out
-units-placed w xs targets T y out et lT eo h s l =
-    let e : seedRows w (points xs targets) ≡ unitRows (points xs T) =
-    ap (λ (l : List ℕ). seedRows w (points xs l)) et ∙ ap (λ (m : ℕ). seedRows m (points xs T)) (sym (length-points xs T ∙ lT)) ∙ units-are (points xs T) in
-    ap (piece 512 s) eo ∙ h s l ∙ ap (λ (l : List ℕ). multiples (piece 32 s l)) e
-
-module _ (z : Sizes) (legal : Legal z) (xs bs l zs y y₀ y₁ y₂ y₃ y₄ : List ℕ) (ll : length l ≡ 49152) (lb : length bs ≡ z .k) (lz : length zs ≡ 32)
-    (ey : y ≡ tabulate (length (take (z .d + z .r - 0) (drop 0 zs))) (λ t. (getD bs 0 0 + t) % z .n))
-    (e₀ : y₀ ≡ factorRows z xs (z .d + z .r) bs) (e₁ : y₁ ≡ factorRows z xs (z .d) bs)
-    (l₂ : length y₂ ≡ (z .d + z .r) * 512)
-    (t₂ : TabledRows (z .d + z .r) (seedRows (z .d + z .r) (points xs (take (z .d + z .r - 0) (drop 0 (putMid 0 (z .d + z .r - 0) zs y))))) y₂)
-    (l₃ : length y₃ ≡ z .d * 512) (t₃ : TabledRows (z .d) (seedRows (z .d) (points xs bs)) y₃)
-    (e₄ : y₄ ≡ topRows (z .k) (points xs (take (z .d - 0) (drop 0 (putMid 0 (z .d + z .r - 0) zs y))))) where
+module _ (z : Sizes) (legal : Legal z) (xs bs l F R T : List ℕ) (ll : length l ≡ 49152) (lb : length bs ≡ z .k)
+    (nF : length F ≡ length (take 15872 (drop 0 l)))
+    (nR : length R ≡ length (take 32256 (drop 15872 (putMid 0 15872 l F))))
+    (nT : length T ≡ length (take 1024 (drop 48128 (putMid 15872 32256 (putMid 0 15872 l F) R))))
+    (eF : F ≡ put (put (take 15872 (drop 0 l)) 0 (factorRows z xs (z .d + z .r) bs)) 7680 (factorRows z xs (z .d) bs))
+    (eR : R ≡ put (put (take 32256 (drop 15872 (putMid 0 15872 l F))) 0 (tablesOf (z .d + z .r) (unitRows (points xs (targetsOf z bs))))) 16384 (tablesOf (z .d) (seedRows (z .d) (points xs bs))))
+    (eT : T ≡ put (take 1024 (drop 48128 (putMid 15872 32256 (putMid 0 15872 l F) R))) 0 (topRows (z .k) (points xs (take (z .d) (targetsOf z bs))))) where
   open Sizes z using (n, k, d, r)
 
-  pub l₀ : length y₀ ≡ k * ((n - (d + r)) * 32)
-  l₀ = ap length e₀ ∙ length-factor-rows z xs (d + r) bs ∙ ap (λ (m : ℕ). m * ((n - (d + r)) * 32)) lb
+  long₁ : length (putMid 0 15872 l F) ≡ 49152
+  long₁ = same-len-mid {X = ℕ} 0 15872 l F nF ∙ ll
 
-  pub l₁ : length y₁ ≡ k * ((n - d) * 32)
-  l₁ = ap length e₁ ∙ length-factor-rows z xs d bs ∙ ap (λ (m : ℕ). m * ((n - d) * 32)) lb
+  long₂ : length (putMid 15872 32256 (putMid 0 15872 l F) R) ≡ 49152
+  long₂ = same-len-mid {X = ℕ} 15872 32256 (putMid 0 15872 l F) R nR ∙ long₁
 
-  ld : length (take d (targetsOf z bs)) ≡ d
-  ld = length-take-le d (targetsOf z bs) (omega (arith, length-neighbours z (getD bs 0 0) (d + r)))
+  lent₀ : length (take 15872 (drop 0 l)) ≡ 15872
+  lent₀ = part-there 0 15872 l (omega (arith, ll))
 
-  e₄′ : y₄ ≡ topRows k (points xs (take d (targetsOf z bs)))
-  e₄′ = e₄ ∙ ap (λ (l : List ℕ). topRows k (points xs l)) (few-again z legal (getD bs 0 0) zs y lz ey)
+  lent₁ : length (take 32256 (drop 15872 (putMid 0 15872 l F))) ≡ 32256
+  lent₁ = part-there 15872 32256 (putMid 0 15872 l F) (omega (arith, long₁))
 
-  pub l₄ : length y₄ ≡ (d - k) * 32
+  lent₂ : length (take 1024 (drop 48128 (putMid 15872 32256 (putMid 0 15872 l F) R))) ≡ 1024
+  lent₂ = part-there 48128 1024 (putMid 15872 32256 (putMid 0 15872 l F) R) (omega (arith, long₂))
+
+  abbrev all : List ℕ
+  all = putMid 48128 1024 (putMid 15872 32256 (putMid 0 15872 l F) R) T
+
+  -- the three parts, one after another
+  all-is : all ≡ F ++ (R ++ T)
+  all-is =
+      let e : 1024 ≡ length l - 48128 = omega (arith, ll) in
+      ap (λ (v : ℕ). putMid 48128 v (putMid 15872 32256 (putMid 0 15872 l F) R) T) e
+      ∙ three-parts 15872 48128 l F R T (omega arith) (nF ∙ lent₀) (nR ∙ lent₁) ∙ append-assoc F R T
+
+  -- how long each table is
+  l₀ : length (factorRows z xs (d + r) bs) ≡ k * ((n - (d + r)) * 32)
+  l₀ = length-factor-rows z xs (d + r) bs ∙ ap (λ (m : ℕ). m * ((n - (d + r)) * 32)) lb
+
+  l₁ : length (factorRows z xs d bs) ≡ k * ((n - d) * 32)
+  l₁ = length-factor-rows z xs d bs ∙ ap (λ (m : ℕ). m * ((n - d) * 32)) lb
+
+  unit-rows : length (unitRows (points xs (targetsOf z bs))) ≡ (d + r) * 32
+  unit-rows =
+      length-units (points xs (targetsOf z bs))
+      ∙ ap (λ (m : ℕ). m * 32) (length-points xs (targetsOf z bs) ∙ length-neighbours z (getD bs 0 0) (d + r))
+
+  l₂ : length (tablesOf (d + r) (unitRows (points xs (targetsOf z bs)))) ≡ (d + r) * 512
+  l₂ = length-tables (d + r) (unitRows (points xs (targetsOf z bs))) unit-rows
+
+  l₃ : length (tablesOf d (seedRows d (points xs bs))) ≡ d * 512
+  l₃ = length-tables d (seedRows d (points xs bs)) (length-seed-rows d (points xs bs))
+
+  l₄ : length (topRows k (points xs (take d (targetsOf z bs)))) ≡ (d - k) * 32
   l₄ =
-      ap length e₄′ ∙ length-tops k (points xs (take d (targetsOf z bs)))
-      ∙ ap (λ (m : ℕ). (m - k) * 32) (length-points xs (take d (targetsOf z bs)) ∙ ld)
+      length-tops k (points xs (take d (targetsOf z bs)))
+      ∙ ap (λ (m : ℕ). (m - k) * 32)
+      (length-points xs (take d (targetsOf z bs)) ∙ length-take-le d (targetsOf z bs) (omega (arith, length-neighbours z (getD bs 0 0) (d + r))))
 
-  pub h₂ : (d + r) * 512 ≤ 16384
+  h₂ : (d + r) * 512 ≤ 16384
   h₂ = omega (arith, legal .enough, legal .few)
 
-  pub h₃ : d * 512 ≤ 15872
+  h₃ : d * 512 ≤ 15872
   h₃ = omega (arith, legal .some-fresh, legal .enough, legal .few)
 
-  pub h₄ : (d - k) * 32 ≤ 1024
-  h₄ = omega (arith, legal .some-fresh, legal .enough, legal .few)
+  h₄ : (d - k) * 32 ≤ 1024
+  h₄ = omega (arith, legal .enough, legal .few)
 
-  abbrev pub all-made : List ℕ
-  all-made =
-      fifth (k * ((n - (d + r)) * 32)) (k * ((n - d) * 32)) ((d + r) * 512) (d * 512) ((d - k) * 32) l y₀ y₁ y₂ y₃ y₄
-      ll (f-few z legal) (g-few z legal) h₂ h₃ h₄ l₀ l₁ l₂ l₃ l₄
+  apart₁ : length (factorRows z xs (d + r) bs) ≤ 7680
+  apart₁ = omega (arith, l₀, f-few z legal)
 
-  pub tables-made : Made z xs bs all-made
-  tables-made =
-      let m₀ : ℕ = k * ((n - (d + r)) * 32) in
-      let m₁ : ℕ = k * ((n - d) * 32) in
-      let m₂ : ℕ = (d + r) * 512 in
-      let m₃ : ℕ = d * 512 in
-      let m₄ : ℕ = (d - k) * 32 in
-      let p₂ = part₂ m₀ m₁ m₂ m₃ m₄ l y₀ y₁ y₂ y₃ y₄
-      ll (f-few z legal) (g-few z legal) h₂ h₃ h₄ l₀ l₁ l₂ l₃ l₄ in
-      let p₃ = part₃ m₀ m₁ m₂ m₃ m₄ l y₀ y₁ y₂ y₃ y₄
-      ll (f-few z legal) (g-few z legal) h₂ h₃ h₄ l₀ l₁ l₂ l₃ l₄ in
-      record {
-        long = fifth-long m₀ m₁ m₂ m₃ m₄ l y₀ y₁ y₂ y₃ y₄
-            ll (f-few z legal) (g-few z legal) h₂ h₃ h₄ l₀ l₁ l₂ l₃ l₄;
-        are = record {
-          f-factors = part₀ m₀ m₁ m₂ m₃ m₄ l y₀ y₁ y₂ y₃ y₄
-              ll (f-few z legal) (g-few z legal) h₂ h₃ h₄ l₀ l₁ l₂ l₃ l₄ ∙ e₀;
-          g-factors = part₁ m₀ m₁ m₂ m₃ m₄ l y₀ y₁ y₂ y₃ y₄
-              ll (f-few z legal) (g-few z legal) h₂ h₃ h₄ l₀ l₁ l₂ l₃ l₄ ∙ e₁;
-          units-long = ap length p₂ ∙ l₂;
-          units = units-placed (d + r) xs _ (targetsOf z bs) y₂ _ (near-again z legal (getD bs 0 0) zs y lz ey) (length-neighbours z (getD bs 0 0) (d + r)) p₂ t₂;
-          tops = part₄ m₀ m₁ m₂ m₃ m₄ l y₀ y₁ y₂ y₃ y₄ ll (f-few z legal) (g-few z legal) h₂ h₃ h₄ l₀ l₁ l₂ l₃ l₄ ∙ e₄′;
-          seeds-long = ap length p₃ ∙ l₃;
-          seeds = λ s h. ap (piece 512 s) p₃ ∙ t₃ s h;
-        };
-      }
+  fits₁ : 7680 + length (factorRows z xs d bs) ≤ length (take 15872 (drop 0 l))
+  fits₁ = omega (arith, l₁, g-few z legal, lent₀)
+
+  apart₂ : length (tablesOf (d + r) (unitRows (points xs (targetsOf z bs)))) ≤ 16384
+  apart₂ = omega (arith, l₂, h₂)
+
+  fits₂ : 16384 + length (tablesOf d (seedRows d (points xs bs))) ≤ length (take 32256 (drop 15872 (putMid 0 15872 l F)))
+  fits₂ = omega (arith, l₃, h₃, lent₁)
+
+  part₀ : take (k * ((n - (d + r)) * 32)) all ≡ factorRows z xs (d + r) bs
+  part₀ =
+      let m : ℕ = k * ((n - (d + r)) * 32) in
+      ap (take m) all-is ∙ in-first 0 m F (R ++ T) (omega (arith, f-few z legal, nF, lent₀))
+      ∙ ap (take m) eF ∙ put-one _ (factorRows z xs (d + r) bs) (factorRows z xs d bs) 7680 apart₁ fits₁ m l₀
+
+  part₁ : take (k * ((n - d) * 32)) (drop 7680 all) ≡ factorRows z xs d bs
+  part₁ =
+      let m : ℕ = k * ((n - d) * 32) in
+      ap (λ (v : List ℕ). take m (drop 7680 v)) all-is ∙ in-first 7680 m F (R ++ T) (omega (arith, g-few z legal, nF, lent₀))
+      ∙ ap (λ (v : List ℕ). take m (drop 7680 v)) eF ∙ put-two _ (factorRows z xs (d + r) bs) (factorRows z xs d bs) 7680 apart₁ fits₁ m l₁
+
+  part₂ : take ((d + r) * 512) (drop 15872 all) ≡ tablesOf (d + r) (unitRows (points xs (targetsOf z bs)))
+  part₂ =
+      let m : ℕ = (d + r) * 512 in
+      ap (λ (v : List ℕ). take m (drop 15872 v)) all-is ∙ in-second 15872 0 m F (R ++ T) (nF ∙ lent₀) ∙ in-first 0 m R T (omega (arith, h₂, nR, lent₁))
+      ∙ ap (take m) eR ∙ put-one _ (tablesOf (d + r) (unitRows (points xs (targetsOf z bs)))) (tablesOf d (seedRows d (points xs bs))) 16384 apart₂ fits₂ m l₂
+
+  part₃ : take (d * 512) (drop 32256 all) ≡ tablesOf d (seedRows d (points xs bs))
+  part₃ =
+      let m : ℕ = d * 512 in
+      ap (λ (v : List ℕ). take m (drop 32256 v)) all-is ∙ in-second 15872 16384 m F (R ++ T) (nF ∙ lent₀) ∙ in-first 16384 m R T (omega (arith, h₃, nR, lent₁))
+      ∙ ap (λ (v : List ℕ). take m (drop 16384 v)) eR
+      ∙ put-two _ (tablesOf (d + r) (unitRows (points xs (targetsOf z bs)))) (tablesOf d (seedRows d (points xs bs))) 16384 apart₂ fits₂ m l₃
+
+  part₄ : take ((d - k) * 32) (drop 48128 all) ≡ topRows k (points xs (take d (targetsOf z bs)))
+  part₄ =
+      let m : ℕ = (d - k) * 32 in
+      let t : List ℕ = topRows k (points xs (take d (targetsOf z bs))) in
+      ap (λ (v : List ℕ). take m (drop 48128 v)) all-is ∙ in-second 15872 32256 m F (R ++ T) (nF ∙ lent₀) ∙ in-second 32256 0 m R T (nR ∙ lent₁)
+      ∙ ap (take m) eT ∙ ap (λ (v : ℕ). take v (put (take 1024 (drop 48128 (putMid 15872 32256 (putMid 0 15872 l F) R))) 0 t)) (sym l₄)
+      ∙ put-same (take 1024 (drop 48128 (putMid 15872 32256 (putMid 0 15872 l F) R))) 0 t (omega (arith, l₄, h₄, lent₂))
+
+  pub tables-made : Made z xs bs all
+  tables-made = record {
+    long = same-len-mid {X = ℕ} 48128 1024 (putMid 15872 32256 (putMid 0 15872 l F) R) T nT ∙ long₂;
+    are = record {
+      f-factors = part₀;
+      g-factors = part₁;
+      units-long = ap length part₂ ∙ l₂;
+      units = λ s h. ap (piece 512 s) part₂ ∙ tabled (d + r) (unitRows (points xs (targetsOf z bs))) unit-rows s h;
+      tops = part₄;
+      seeds-long = ap length part₃ ∙ l₃;
+      seeds = λ s h. ap (piece 512 s) part₃ ∙ tabled d (seedRows d (points xs bs)) (length-seed-rows d (points xs bs)) s h;
+    };
+  }

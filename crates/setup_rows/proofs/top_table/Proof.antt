@@ -1,17 +1,15 @@
--- `decode_setup::top_table` meets its contract: the callees' contracts, put together.
+-- `setup_rows::top_table` meets its contract: the callees' contracts, put together.
 -- Assumes nothing.
-use Rattle.mbcr.specs.Share.{points}
-use Rattle.decode_laws.specs.Steps.{seedRows}
-use Rattle.decode_stripe.proofs.Made.{part-long, length-seed-rows}
-use Rattle.decode_setup.proofs.Placed.{tops-are}
-use mathlib.Core.Path.{_≡_, refl, sym, ap, ap₂, _∙_}
-use mathlib.Core.List.{List, _++_}
-use Prim.Native.Nat.{ℕ, _≤_, _<_, _-_, _+_, _*_}
+use Rattle.setup_rows.proofs.Rows.{tops-put}
+use mathlib.Core.Path.{_≡_, _∙_}
+use Prim.Native.Nat.{ℕ, _*_}
+use native.Mathlib.Nat.{sub-zero}
 use native.Mathlib.Omega.{arith}
-use lib.ListN.{length, getD, take, drop, length-take, length-drop, length-append}
+use lib.ListN.{length, length-take, length-append}
+use borrow.Rule.Slice.PartMut.{mid-len}
 use borrow.Author.Needs.{needs}
-use Rattle.decode_setup.proofs.top_table.Statement.{statement}
-use Rattle.decode_setup.proofs.top_table.Tie as tie
+use Rattle.setup_rows.proofs.top_table.Statement.{statement}
+use Rattle.setup_rows.proofs.top_table.Tie as tie
 
 -- places in the code
 abbrev st-rows : tie.After-rows → tie.Start
@@ -31,10 +29,16 @@ st-end c = st-rows-at (rows-at-at-end c)
 
 -- the rows
 made-long : (c : tie.After-rows-at) → length (c .rows-at .last .1 .1 .1 .1 .0) ≡ length (st-rows-at c .args .boards .now) * 32
-made-long c = ap length (c .rows-at .ensures) ∙ length-seed-rows (length (st-rows-at c .args .boards .now)) (points (st-rows-at c .args .points .now) (st-rows-at c .args .boards .now))
+made-long c = c .rows-at .kept .1 .1 .1 .1 .0 ∙ (mid-len {X = ℕ} 0 _ _ (omega (arith, st-rows-at c .pre .3)) ∙ sub-zero _)
 
 mul-q : tie.Need-mul-q
 mul-q c = search needs
+
+sub-m : tie.Need-sub-m
+sub-m c = search needs
+
+mul-end : tie.Need-mul-end
+mul-end c = search needs
 
 sub-rows-at : tie.Need-sub-rows-at
 sub-rows-at c = search needs
@@ -48,13 +52,10 @@ part-rows-end c = search needs
 rows-at-requires : tie.Need-rows-at-requires
 rows-at-requires c κs =
     let g = st-rows c in
-    (g .pre .0, g .pre .1, g .pre .2, g .pre .3, g .pre .3, part-long _ _ (omega (arith, g .pre .3)))
+    (g .pre .0, g .pre .1, g .pre .2, g .pre .3, g .pre .3, mid-len {X = ℕ} 0 _ _ (omega (arith, g .pre .3)) ∙ sub-zero _)
 
 sub-top-rows : tie.Need-sub-top-rows
 sub-top-rows c = search needs
-
-sub-top-rows-2 : tie.Need-sub-top-rows-2
-sub-top-rows-2 c = search needs
 
 part-top-rows-start : tie.Need-part-top-rows-start
 part-top-rows-start c = search needs
@@ -62,10 +63,23 @@ part-top-rows-start c = search needs
 part-top-rows-end : tie.Need-part-top-rows-end
 part-top-rows-end c = simp length-append (omega (arith, made-long (c .before .before), st-rows-at (c .before .before) .pre .3))
 
+sub-top-rows-2 : tie.Need-sub-top-rows-2
+sub-top-rows-2 c = search needs
+
+part-top-rows-start-2 : tie.Need-part-top-rows-start-2
+part-top-rows-start-2 c = search needs
+
+part-top-rows-end-2 : tie.Need-part-top-rows-end-2
+part-top-rows-end-2 c = search needs
+
 top-rows-requires : tie.Need-top-rows-requires
 top-rows-requires c κs =
-    let g = st-top-rows-arg2 c in
-    (omega (arith, g .pre .3, g .pre .4), g .pre .3, simp (length-take, length-append) (omega (arith, made-long (c .before .before .before .before))), g .pre .5)
+    let g = st-top-rows-arg2 c in (
+      omega (arith, g .pre .3, g .pre .4),
+      g .pre .3,
+      simp (length-take, length-append) (omega (arith, made-long (c .before .before .before .before))),
+      mid-len {X = ℕ} 0 _ _ (g .pre .5) ∙ sub-zero _,
+    )
 
 same-length : tie.Need-same-length
 same-length c = search needs
@@ -73,21 +87,27 @@ same-length c = search needs
 returns : tie.Need-returns
 returns c =
     let g = st-end c in
-    tops-are (g .args .k) (g .args .points .now) (g .args .boards .now) _ _ _ (g .pre .3) (rows-at-at-end c .rows-at .ensures) (c .before .before .top-rows .ensures)
+    let y = c .before .before .top-rows in
+    tops-put (g .args .k) (g .args .points .now) (g .args .boards .now) _ _ (g .args .out .now) _ (g .pre .3)
+    (rows-at-at-end c .rows-at .ensures) (made-long (rows-at-at-end c)) (y .ensures) (y .kept .1 .1 .1 .1 .0 ∙ (mid-len {X = ℕ} 0 _ _ (g .pre .5) ∙ sub-zero _))
 
 pub top-table-spec : {M : Type 1} → statement M
 top-table-spec =
     tie.close
     (tie.spec
     mul-q
+    sub-m
+    mul-end
     sub-rows-at
     part-rows-start
     part-rows-end
     rows-at-requires
     sub-top-rows
-    sub-top-rows-2
     part-top-rows-start
     part-top-rows-end
+    sub-top-rows-2
+    part-top-rows-start-2
+    part-top-rows-end-2
     top-rows-requires
     same-length
     returns)

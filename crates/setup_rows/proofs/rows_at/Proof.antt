@@ -1,19 +1,20 @@
--- `decode_setup::rows_at` meets its contract: the callees' contracts, put together.
+-- `setup_rows::rows_at` meets its contract: the callees' contracts, put together.
 -- Assumes nothing.
 use Rattle.lists.specs.Tests.{below}
 use Rattle.mbcr.specs.Share.{points}
 use Rattle.mbcr.proofs.Points.{length-points}
 use Rattle.decode_laws.specs.Steps.{seedRows}
 use Rattle.decode_laws.proofs.Loops.{back-part}
-use Rattle.decode_stripe.proofs.Made.{part-long}
+use native.Mathlib.Nat.{sub-zero}
+use borrow.Rule.Slice.PartMut.{mid-len}
 use mathlib.Core.Path.{_≡_, refl, sym, ap, ap₂, _∙_}
 use mathlib.Core.List.{List, _++_}
 use Prim.Native.Nat.{ℕ, _≤_, _<_, _-_, _+_, _*_}
 use native.Mathlib.Omega.{arith}
 use lib.ListN.{length, getD, take, drop, length-take, length-drop, length-append}
 use borrow.Author.Needs.{needs}
-use Rattle.decode_setup.proofs.rows_at.Statement.{statement}
-use Rattle.decode_setup.proofs.rows_at.Tie as tie
+use Rattle.setup_rows.proofs.rows_at.Statement.{statement}
+use Rattle.setup_rows.proofs.rows_at.Tie as tie
 
 -- places in the code
 abbrev st-xs : tie.After-xs → tie.Start
@@ -50,7 +51,7 @@ part-xs-end c = search needs
 points-of-requires : tie.Need-points-of-requires
 points-of-requires c κs =
     let g = st-xs c in
-    (ap (λ (m : ℕ). below m (g .args .boards .now)) (g .pre .1) ∙ g .pre .2, part-long _ _ (omega (arith, g .pre .3)))
+    (ap (λ (m : ℕ). below m (g .args .boards .now)) (g .pre .1) ∙ g .pre .2, mid-len {X = ℕ} 0 _ _ (omega (arith, g .pre .3)) ∙ sub-zero _)
 
 sub-seed-rows : tie.Need-sub-seed-rows
 sub-seed-rows c = search needs
