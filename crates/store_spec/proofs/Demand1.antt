@@ -322,6 +322,7 @@ demand-1 = record {
   read-reports = read-reports;
   new-is = λ z xs c. refl;
   in-service-is = λ s i. refl;
+  written-is = λ s L. refl;
   lengths-are = λ s. (refl, refl, refl);
   held-is = λ s area i. refl;
   write-lines = write-lines;

@@ -8,6 +8,7 @@ use mathlib.Core.Logic.{_≢_, _↔_, _⊎_}
 use mathlib.Core.Option.{none}
 use mathlib.Core.List.{List, [], _∷_, _++_}
 use Prim.Native.Nat.{ℕ, _+_, _-_, _*_, _≤_, _<_}
+use lib.Dec.{ltb}
 use lib.ListN.{length, take, drop, getD, replicate}
 use Rattle.lists.specs.Tests.{every, alls, below, among, different, apart}
 use Rattle.lists.specs.Lists.{All, Bytes, tabulate, piece, over}
@@ -125,6 +126,9 @@ pub record StoreCalls : Type 0 where
   -- a new record, and the mark of a board
   pub new-is : (z : Sizes) (xs : List ℕ) (c : ℕ) → newRecord z xs c ≡ record { sizes = z; points = xs; capacity = c; written = false; length = 0; marks = replicate 32 false }
   pub in-service-is : (s : Record) (i : ℕ) → inService s i ≡ getD (s .marks) i false
+  -- the record that a write hands on
+  pub written-is : (s : Record) (L : ℕ) → writtenRecord s L
+      ≡ record { sizes = s .sizes; points = s .points; capacity = s .capacity; written = true; length = L; marks = tabulate 32 (λ i. ltb i (s .sizes .n)) }
   -- a board's part of the area has C stripes, of which the first S are used: lengths and places by the sizes
   pub lengths-are : (s : Record) → (partLen s ≡ s .capacity * α (s .sizes))
       × (usedLen s ≡ stripes (s .sizes) (s .length) * α (s .sizes))
