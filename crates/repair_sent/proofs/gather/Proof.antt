@@ -19,13 +19,13 @@ abbrev st-at-entry : tie.After-slice-known → tie.Start
 st-at-entry c = c .before .before .before
 
 abbrev st-at-copy-arg : tie.After-copy-arg → tie.Start
-st-at-copy-arg c = c .before .before .before .before
+st-at-copy-arg c = st-at-entry (c .before)
 
 abbrev st-at-copy : tie.After-copy-arg2 → tie.Start
-st-at-copy c = c .before .before .before .before .before
+st-at-copy c = st-at-copy-arg (c .before)
 
 abbrev st-at-got : tie.After-slice-known2 → tie.Start
-st-at-got c = c .before .before .before .before .before .before .before .before
+st-at-got c = st-at-copy (c .before .before .before)
 
 abbrev st-at-sent : tie.After-sent-arg → tie.Start
 st-at-sent c = st-at-got (c .before)
@@ -37,7 +37,7 @@ abbrev st-at-end : tie.After-slice-known3 → tie.Start
 st-at-end c = st-at-sent (c .before .before .before)
 
 abbrev copy-at-end : tie.After-slice-known3 → tie.After-copy
-copy-at-end c = c .before .before .before .before .before .before
+copy-at-end c = copy-at-sent (c .before .before .before)
 
 abbrev sent-at-end : tie.After-slice-known3 → tie.After-sent
 sent-at-end c = c .before .before

@@ -27,7 +27,7 @@ abbrev boards-from-at-top-table-arg2 : tie.After-top-table-arg2 → tie.After-bo
 boards-from-at-top-table-arg2 c = c .before .before .before .before
 
 abbrev boards-from-at-end : tie.After-slice-known2 → tie.After-boards-from
-boards-from-at-end c = c .before .before .before .before .before .before .before
+boards-from-at-end c = boards-from-at-top-table-arg2 (c .before .before .before)
 
 -- the sizes are legal
 facts : (c : tie.Start) → Legal (c .args .sizes)

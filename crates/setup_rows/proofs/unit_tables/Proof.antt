@@ -25,7 +25,7 @@ abbrev boards-from-at-row-tables-arg2 : tie.After-row-tables-arg2 → tie.After-
 boards-from-at-row-tables-arg2 c = c .before .before .before .before
 
 abbrev boards-from-at-end : tie.After-slice-known2 → tie.After-boards-from
-boards-from-at-end c = c .before .before .before .before .before .before .before
+boards-from-at-end c = boards-from-at-row-tables-arg2 (c .before .before .before)
 
 -- the sizes are legal
 facts : (c : tie.Start) → Legal (c .args .sizes)
