@@ -45,7 +45,7 @@ took() { t=$(($(date +%s) - began)) && printf '%d:%02d' $((t / 60)) $((t % 60));
 mkdir -p target/log
 rm -f "$archive.of"
 : >"$log"
-say "proving and building the archive, $all crates: from nothing about MINUTES minutes on two cores"
+say "proving and building the archive, $all crates: from nothing about 8 minutes on two cores"
 
 # the crates that are done, and those being proved: each has an empty file in target/log until it ends
 ended() { sed -n 's/^rt: \([A-Za-z0-9_]*\) proved (.*/\1/p' "$log" | sort -u | wc -l | tr -d ' '; }
@@ -111,11 +111,13 @@ quiet() {
     printf "$clear" >&2
     rm -f "$log.began" "$log.bytes"
 }
-trap quiet EXIT
+memory=
+trap 'quiet; [ -z "$memory" ] || rm -rf "$memory"' EXIT
 trap 'exit 130' INT
 trap 'exit 143' TERM HUP
 
 first=$(made_of)
+. tests/memory.sh
 # shellcheck disable=SC2086 # the crates are words
 if ! { RT_JOBS=$(sh tests/jobs.sh) rt check $below && rt staticlib zebrankai; } >"$log" 2>&1; then
     quiet
