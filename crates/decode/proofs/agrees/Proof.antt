@@ -33,7 +33,7 @@ abbrev lent-bytes-at-else2 : tie.Else2 → tie.After-shared-slice-known4
 lent-bytes-at-else2 c = c .before .before .before .before .before
 
 abbrev lent-bytes-at-padding : tie.After-padding → tie.After-shared-slice-known4
-lent-bytes-at-padding c = lent-bytes-at-else2 (c .before)
+lent-bytes-at-padding c = c .before .before .before .before .before .before
 
 abbrev st-padding : tie.After-padding → tie.Start
 st-padding c = st-lent-bytes (lent-bytes-at-padding c)
