@@ -1,6 +1,6 @@
 -- How long the tables of a read are at most, and that each is in its place when all five are.
 -- Assumes nothing.
-use mathlib.Core.Path.{_≡_, refl, sym, ap, subst, _∙_}
+use mathlib.Core.Path.{_≡_, refl, sym, ap, ap₂, subst, _∙_}
 use mathlib.Core.Bool.{true}
 use mathlib.Core.List.{List}
 use Prim.Native.Nat.{ℕ, _+_, _*_, _-_, _<_, _≤_}
@@ -232,11 +232,12 @@ module _ (z : Sizes) (legal : Legal z) (xs bs l : List ℕ) (ll : length l ≡ 4
         };
       }
 
-  -- one call after another
-  pub tables-made : (y₀ y₁ y₂ y₃ y₄ : List ℕ) → y₀ ≡ put l 0 A → y₁ ≡ put y₀ 7680 B → y₂ ≡ put y₁ 15872 C → y₃ ≡ put y₂ 32256 D → y₄ ≡ put y₃ 48128 E
-      → Made z xs bs y₄
-  tables-made y₀ y₁ y₂ y₃ y₄ e₀ e₁ e₂ e₃ e₄ =
-      let p₁ = e₁ ∙ ap (λ (v : List ℕ). put v 7680 B) e₀ in
-      let p₂ = e₂ ∙ ap (λ (v : List ℕ). put v 15872 C) p₁ in
-      let p₃ = e₃ ∙ ap (λ (v : List ℕ). put v 32256 D) p₂ in
-      subst (Made z xs bs) (sym (e₄ ∙ ap (λ (v : List ℕ). put v 48128 E) p₃)) put-made
+  -- one call after another, at these places
+  pub tables-made : (p₁ p₂ p₃ p₄ : ℕ) (y₀ y₁ y₂ y₃ y₄ : List ℕ)
+      → y₀ ≡ put l 0 A → y₁ ≡ put y₀ p₁ B → y₂ ≡ put y₁ p₂ C → y₃ ≡ put y₂ p₃ D → y₄ ≡ put y₃ p₄ E
+      → p₁ ≡ 7680 → p₂ ≡ 15872 → p₃ ≡ 32256 → p₄ ≡ 48128 → Made z xs bs y₄
+  tables-made p₁ p₂ p₃ p₄ y₀ y₁ y₂ y₃ y₄ e₀ e₁ e₂ e₃ e₄ h₁ h₂ h₃ h₄ =
+      let q₁ = e₁ ∙ ap₂ {C = List ℕ} (λ (v : List ℕ) (p : ℕ). put v p B) e₀ h₁ in
+      let q₂ = e₂ ∙ ap₂ {C = List ℕ} (λ (v : List ℕ) (p : ℕ). put v p C) q₁ h₂ in
+      let q₃ = e₃ ∙ ap₂ {C = List ℕ} (λ (v : List ℕ) (p : ℕ). put v p D) q₂ h₃ in
+      subst (Made z xs bs) (sym (e₄ ∙ ap₂ {C = List ℕ} (λ (v : List ℕ) (p : ℕ). put v p E) q₃ h₄)) put-made

@@ -4,7 +4,7 @@ use Rattle.lists.proofs.Boards.{below-all}
 use Rattle.sizes.proofs.Legal.{Legal, legal-facts}
 use Rattle.setup_rows.proofs.Near.{below-32}
 use Rattle.decode_setup.proofs.Placed.{f-room, g-room, tables-made}
-use mathlib.Core.Path.{_≡_, _∙_}
+use mathlib.Core.Path.{_≡_, refl, _∙_}
 use mathlib.Core.List.{List}
 use Prim.Native.Nat.{ℕ}
 use native.Mathlib.Omega.{arith}
@@ -140,8 +140,8 @@ returns c =
     let c₀ = at₀ (c₁ .before) in
     let g = st₀ c₀ in
     tables-made (g .args .sizes) (facts g) (g .args .points .now) (g .args .boards .now) (g .args .tables .now) (g .pre .3) (g .pre .0 .counted)
-    (y₀ c₀) (y₁ c₁) (y₂ c₂) (y₃ c₃) (y₄ c₄)
-    (c₀ .factors-at .ensures) (c₁ .factors-at2 .ensures) (c₂ .unit-tables .ensures) (c₃ .row-tables .ensures) (c₄ .tops-at .ensures)
+    _ _ _ _ (y₀ c₀) (y₁ c₁) (y₂ c₂) (y₃ c₃) (y₄ c₄)
+    (c₀ .factors-at .ensures) (c₁ .factors-at2 .ensures) (c₂ .unit-tables .ensures) (c₃ .row-tables .ensures) (c₄ .tops-at .ensures) refl refl refl refl
 
 pub fill-spec : {M : Type 1} → statement M
 fill-spec =
