@@ -1,16 +1,15 @@
--- How long the tables of a read are at most, and where each stands in what was made of three parts.
+-- How long the tables of a read are at most, and that each is in its place when all five are.
 -- Assumes nothing.
-use mathlib.Core.Path.{_≡_, refl, sym, ap, _∙_}
+use mathlib.Core.Path.{_≡_, refl, sym, ap, ap₂, subst, _∙_}
 use mathlib.Core.Bool.{true}
-use mathlib.Core.List.{List, _++_, append-assoc}
+use mathlib.Core.List.{List}
 use Prim.Native.Nat.{ℕ, _+_, _*_, _-_, _<_, _≤_}
 use native.Mathlib.Nat.{mul-le-mul, mul-le-mul-right}
 use native.Mathlib.Omega.{arith}
 use lib.Dec.{leb}
-use lib.ListN.{length, getD, take, drop, length-append, length-drop}
-use lib.Seq.{drop-at, drop-drop, take-append-le, drop-append-le, length-take-le}
+use lib.ListN.{length, getD, take, drop}
+use lib.Seq.{length-take-le}
 use borrow.Author.Tests.{leb-true}
-use borrow.Rule.Slice.PartMut.{putMid, same-len-mid}
 use Rattle.lists.specs.Tests.{every}
 use Rattle.lists.specs.Lists.{tabulate, piece, put}
 use Rattle.lists.proofs.Tests.{every-all}
@@ -24,13 +23,10 @@ use Rattle.mbcr.proofs.Points.{length-points, length-neighbours}
 use Rattle.row_sums.specs.Steps.{multiples}
 use Rattle.row_sums.proofs.Tables.{length-multiples}
 use Rattle.decode_laws.specs.Steps.{seedRows, unitRows, topRows, factorRows}
-use Rattle.decode_laws.proofs.Loops.{three-parts}
 use Rattle.decode_laws.proofs.Held.{length-factor-rows}
 use Rattle.decode_rows.specs.Steps.{TabledRows}
-use Rattle.decode_stripe.specs.Steps.{Tables}
 use Rattle.decode_stripe.proofs.Made.{length-units, length-seed-rows, length-tops}
 use Rattle.setup_rows.specs.Steps.{tablesOf}
-use Rattle.setup_rows.proofs.Parts.{part-there}
 use Rattle.decode_setup.specs.Steps.{targetsOf, Made}
 
 -- ---- how long they are
@@ -92,153 +88,156 @@ module _ (m : ℕ) (rows : List ℕ) (lr : length rows ≡ m * 32) where
   tabled : TabledRows m rows (tablesOf m rows)
   tabled = piece-join m 512 (λ s. multiples (piece 32 s rows)) each
 
--- ---- parts of a list
+-- ---- five pieces put in one after another
 
-in-first : (p w : ℕ) (xs ys : List ℕ) → p + w ≤ length xs → take w (drop p (xs ++ ys)) ≡ take w (drop p xs)
-in-first p w xs ys h = ap (take w) (drop-append-le p xs ys (omega (arith, h))) ∙ take-append-le w (drop p xs) ys (omega (arith, h, length-drop p xs))
+module _ (l a b c d e : List ℕ) (ll : length l ≡ 49152) (ha : length a ≤ 7680) (hb : length b ≤ 8192) (hc : length c ≤ 16384) (hd : length d ≤ 15872) (he : length e ≤ 1024) where
+  abbrev l₀ : List ℕ
+  l₀ = put l 0 a
 
-in-second : (a p w : ℕ) (xs ys : List ℕ) → length xs ≡ a → take w (drop (a + p) (xs ++ ys)) ≡ take w (drop p ys)
-in-second a p w xs ys e = ap (take w) (sym (drop-drop p a (xs ++ ys)) ∙ ap (drop p) (drop-at xs ys a e))
+  abbrev l₁ : List ℕ
+  l₁ = put l₀ 7680 b
 
--- bytes put at the beginning and at a place behind
-module _ (l a b : List ℕ) (at : ℕ) (apart : length a ≤ at) (fits : at + length b ≤ length l) where
-  first-fits : 0 + length a ≤ length l
-  first-fits = omega (arith, apart, fits)
+  abbrev l₂ : List ℕ
+  l₂ = put l₁ 15872 c
 
-  second-fits : at + length b ≤ length (put l 0 a)
-  second-fits = omega (arith, fits, length-put l 0 a first-fits)
+  abbrev l₃ : List ℕ
+  l₃ = put l₂ 32256 d
 
-  put-one : (m : ℕ) → length a ≡ m → take m (put (put l 0 a) at b) ≡ a
-  put-one m e =
-      ap (λ (v : ℕ). take v (put (put l 0 a) at b)) (sym e) ∙ put-before (put l 0 a) at b second-fits 0 (length a) (omega (arith, apart)) ∙ put-same l 0 a first-fits
+  abbrev pub all-put : List ℕ
+  all-put = put l₃ 48128 e
 
-  put-two : (m : ℕ) → length b ≡ m → take m (drop at (put (put l 0 a) at b)) ≡ b
-  put-two m e = ap (λ (v : ℕ). take v (drop at (put (put l 0 a) at b))) (sym e) ∙ put-same (put l 0 a) at b second-fits
+  f₀ : 0 + length a ≤ length l
+  f₀ = omega (arith, ll, ha)
 
--- ---- all of them
+  f₁ : 7680 + length b ≤ length l₀
+  f₁ = omega (arith, length-put l 0 a f₀, ll, hb)
 
-module _ (z : Sizes) (legal : Legal z) (xs bs l F R T : List ℕ) (ll : length l ≡ 49152) (lb : length bs ≡ z .k)
-    (nF : length F ≡ length (take 15872 (drop 0 l)))
-    (nR : length R ≡ length (take 32256 (drop 15872 (putMid 0 15872 l F))))
-    (nT : length T ≡ length (take 1024 (drop 48128 (putMid 15872 32256 (putMid 0 15872 l F) R))))
-    (eF : F ≡ put (put (take 15872 (drop 0 l)) 0 (factorRows z xs (z .d + z .r) bs)) 7680 (factorRows z xs (z .d) bs))
-    (eR : R ≡ put (put (take 32256 (drop 15872 (putMid 0 15872 l F))) 0 (tablesOf (z .d + z .r) (unitRows (points xs (targetsOf z bs))))) 16384 (tablesOf (z .d) (seedRows (z .d) (points xs bs))))
-    (eT : T ≡ put (take 1024 (drop 48128 (putMid 15872 32256 (putMid 0 15872 l F) R))) 0 (topRows (z .k) (points xs (take (z .d) (targetsOf z bs))))) where
+  n₁ : length l₁ ≡ 49152
+  n₁ = length-put l₀ 7680 b f₁ ∙ length-put l 0 a f₀ ∙ ll
+
+  f₂ : 15872 + length c ≤ length l₁
+  f₂ = omega (arith, n₁, hc)
+
+  n₂ : length l₂ ≡ 49152
+  n₂ = length-put l₁ 15872 c f₂ ∙ n₁
+
+  f₃ : 32256 + length d ≤ length l₂
+  f₃ = omega (arith, n₂, hd)
+
+  n₃ : length l₃ ≡ 49152
+  n₃ = length-put l₂ 32256 d f₃ ∙ n₂
+
+  f₄ : 48128 + length e ≤ length l₃
+  f₄ = omega (arith, n₃, he)
+
+  pub put-long : length all-put ≡ 49152
+  put-long = length-put l₃ 48128 e f₄ ∙ n₃
+
+  -- each stays as the later ones come
+  on₂ : (p w : ℕ) → p + w ≤ 15872 → take w (drop p all-put) ≡ take w (drop p l₁)
+  on₂ p w h =
+      put-before l₃ 48128 e f₄ p w (omega (arith, h)) ∙ put-before l₂ 32256 d f₃ p w (omega (arith, h)) ∙ put-before l₁ 15872 c f₂ p w h
+
+  pub put-a : (m : ℕ) → length a ≡ m → take m all-put ≡ a
+  put-a m h =
+      ap (λ (v : ℕ). take v all-put) (sym h) ∙ on₂ 0 (length a) (omega (arith, ha)) ∙ put-before l₀ 7680 b f₁ 0 (length a) (omega (arith, ha)) ∙ put-same l 0 a f₀
+
+  pub put-b : (m : ℕ) → length b ≡ m → take m (drop 7680 all-put) ≡ b
+  put-b m h = ap (λ (v : ℕ). take v (drop 7680 all-put)) (sym h) ∙ on₂ 7680 (length b) (omega (arith, hb)) ∙ put-same l₀ 7680 b f₁
+
+  pub put-c : (m : ℕ) → length c ≡ m → take m (drop 15872 all-put) ≡ c
+  put-c m h =
+      ap (λ (v : ℕ). take v (drop 15872 all-put)) (sym h) ∙ put-before l₃ 48128 e f₄ 15872 (length c) (omega (arith, hc))
+      ∙ put-before l₂ 32256 d f₃ 15872 (length c) (omega (arith, hc)) ∙ put-same l₁ 15872 c f₂
+
+  pub put-d : (m : ℕ) → length d ≡ m → take m (drop 32256 all-put) ≡ d
+  put-d m h = ap (λ (v : ℕ). take v (drop 32256 all-put)) (sym h) ∙ put-before l₃ 48128 e f₄ 32256 (length d) (omega (arith, hd)) ∙ put-same l₂ 32256 d f₃
+
+  pub put-e : (m : ℕ) → length e ≡ m → take m (drop 48128 all-put) ≡ e
+  put-e m h = ap (λ (v : ℕ). take v (drop 48128 all-put)) (sym h) ∙ put-same l₃ 48128 e f₄
+
+-- ---- the tables
+
+module _ (z : Sizes) (legal : Legal z) (xs bs l : List ℕ) (ll : length l ≡ 49152) (lb : length bs ≡ z .k) where
   open Sizes z using (n, k, d, r)
 
-  long₁ : length (putMid 0 15872 l F) ≡ 49152
-  long₁ = same-len-mid {X = ℕ} 0 15872 l F nF ∙ ll
+  abbrev A : List ℕ
+  A = factorRows z xs (d + r) bs
 
-  long₂ : length (putMid 15872 32256 (putMid 0 15872 l F) R) ≡ 49152
-  long₂ = same-len-mid {X = ℕ} 15872 32256 (putMid 0 15872 l F) R nR ∙ long₁
+  abbrev B : List ℕ
+  B = factorRows z xs d bs
 
-  lent₀ : length (take 15872 (drop 0 l)) ≡ 15872
-  lent₀ = part-there 0 15872 l (omega (arith, ll))
+  abbrev C : List ℕ
+  C = tablesOf (d + r) (unitRows (points xs (targetsOf z bs)))
 
-  lent₁ : length (take 32256 (drop 15872 (putMid 0 15872 l F))) ≡ 32256
-  lent₁ = part-there 15872 32256 (putMid 0 15872 l F) (omega (arith, long₁))
+  abbrev D : List ℕ
+  D = tablesOf d (seedRows d (points xs bs))
 
-  lent₂ : length (take 1024 (drop 48128 (putMid 15872 32256 (putMid 0 15872 l F) R))) ≡ 1024
-  lent₂ = part-there 48128 1024 (putMid 15872 32256 (putMid 0 15872 l F) R) (omega (arith, long₂))
+  abbrev E : List ℕ
+  E = topRows k (points xs (take d (targetsOf z bs)))
 
-  abbrev all : List ℕ
-  all = putMid 48128 1024 (putMid 15872 32256 (putMid 0 15872 l F) R) T
+  -- how long each is
+  lA : length A ≡ k * ((n - (d + r)) * 32)
+  lA = length-factor-rows z xs (d + r) bs ∙ ap (λ (m : ℕ). m * ((n - (d + r)) * 32)) lb
 
-  -- the three parts, one after another
-  all-is : all ≡ F ++ (R ++ T)
-  all-is =
-      let e : 1024 ≡ length l - 48128 = omega (arith, ll) in
-      ap (λ (v : ℕ). putMid 48128 v (putMid 15872 32256 (putMid 0 15872 l F) R) T) e
-      ∙ three-parts 15872 48128 l F R T (omega arith) (nF ∙ lent₀) (nR ∙ lent₁) ∙ append-assoc F R T
-
-  -- how long each table is
-  l₀ : length (factorRows z xs (d + r) bs) ≡ k * ((n - (d + r)) * 32)
-  l₀ = length-factor-rows z xs (d + r) bs ∙ ap (λ (m : ℕ). m * ((n - (d + r)) * 32)) lb
-
-  l₁ : length (factorRows z xs d bs) ≡ k * ((n - d) * 32)
-  l₁ = length-factor-rows z xs d bs ∙ ap (λ (m : ℕ). m * ((n - d) * 32)) lb
+  lB : length B ≡ k * ((n - d) * 32)
+  lB = length-factor-rows z xs d bs ∙ ap (λ (m : ℕ). m * ((n - d) * 32)) lb
 
   unit-rows : length (unitRows (points xs (targetsOf z bs))) ≡ (d + r) * 32
   unit-rows =
       length-units (points xs (targetsOf z bs))
       ∙ ap (λ (m : ℕ). m * 32) (length-points xs (targetsOf z bs) ∙ length-neighbours z (getD bs 0 0) (d + r))
 
-  l₂ : length (tablesOf (d + r) (unitRows (points xs (targetsOf z bs)))) ≡ (d + r) * 512
-  l₂ = length-tables (d + r) (unitRows (points xs (targetsOf z bs))) unit-rows
+  lC : length C ≡ (d + r) * 512
+  lC = length-tables (d + r) (unitRows (points xs (targetsOf z bs))) unit-rows
 
-  l₃ : length (tablesOf d (seedRows d (points xs bs))) ≡ d * 512
-  l₃ = length-tables d (seedRows d (points xs bs)) (length-seed-rows d (points xs bs))
+  lD : length D ≡ d * 512
+  lD = length-tables d (seedRows d (points xs bs)) (length-seed-rows d (points xs bs))
 
-  l₄ : length (topRows k (points xs (take d (targetsOf z bs)))) ≡ (d - k) * 32
-  l₄ =
+  lE : length E ≡ (d - k) * 32
+  lE =
       length-tops k (points xs (take d (targetsOf z bs)))
       ∙ ap (λ (m : ℕ). (m - k) * 32)
       (length-points xs (take d (targetsOf z bs)) ∙ length-take-le d (targetsOf z bs) (omega (arith, length-neighbours z (getD bs 0 0) (d + r))))
 
-  h₂ : (d + r) * 512 ≤ 16384
-  h₂ = omega (arith, legal .enough, legal .few)
+  hA : length A ≤ 7680
+  hA = omega (arith, lA, f-few z legal)
 
-  h₃ : d * 512 ≤ 15872
-  h₃ = omega (arith, legal .some-fresh, legal .enough, legal .few)
+  hB : length B ≤ 8192
+  hB = omega (arith, lB, g-few z legal)
 
-  h₄ : (d - k) * 32 ≤ 1024
-  h₄ = omega (arith, legal .enough, legal .few)
+  hC : length C ≤ 16384
+  hC = omega (arith, lC, legal .enough, legal .few)
 
-  apart₁ : length (factorRows z xs (d + r) bs) ≤ 7680
-  apart₁ = omega (arith, l₀, f-few z legal)
+  hD : length D ≤ 15872
+  hD = omega (arith, lD, legal .some-fresh, legal .enough, legal .few)
 
-  fits₁ : 7680 + length (factorRows z xs d bs) ≤ length (take 15872 (drop 0 l))
-  fits₁ = omega (arith, l₁, g-few z legal, lent₀)
+  hE : length E ≤ 1024
+  hE = omega (arith, lE, legal .enough, legal .few)
 
-  apart₂ : length (tablesOf (d + r) (unitRows (points xs (targetsOf z bs)))) ≤ 16384
-  apart₂ = omega (arith, l₂, h₂)
+  put-made : Made z xs bs (all-put l A B C D E ll hA hB hC hD hE)
+  put-made =
+      let pC = put-c l A B C D E ll hA hB hC hD hE ((d + r) * 512) lC in
+      let pD = put-d l A B C D E ll hA hB hC hD hE (d * 512) lD in
+      record {
+        long = put-long l A B C D E ll hA hB hC hD hE;
+        are = record {
+          f-factors = put-a l A B C D E ll hA hB hC hD hE (k * ((n - (d + r)) * 32)) lA;
+          g-factors = put-b l A B C D E ll hA hB hC hD hE (k * ((n - d) * 32)) lB;
+          units-long = ap length pC ∙ lC;
+          units = λ s h. ap (piece 512 s) pC ∙ tabled (d + r) (unitRows (points xs (targetsOf z bs))) unit-rows s h;
+          tops = put-e l A B C D E ll hA hB hC hD hE ((d - k) * 32) lE;
+          seeds-long = ap length pD ∙ lD;
+          seeds = λ s h. ap (piece 512 s) pD ∙ tabled d (seedRows d (points xs bs)) (length-seed-rows d (points xs bs)) s h;
+        };
+      }
 
-  fits₂ : 16384 + length (tablesOf d (seedRows d (points xs bs))) ≤ length (take 32256 (drop 15872 (putMid 0 15872 l F)))
-  fits₂ = omega (arith, l₃, h₃, lent₁)
-
-  part₀ : take (k * ((n - (d + r)) * 32)) all ≡ factorRows z xs (d + r) bs
-  part₀ =
-      let m : ℕ = k * ((n - (d + r)) * 32) in
-      ap (take m) all-is ∙ in-first 0 m F (R ++ T) (omega (arith, f-few z legal, nF, lent₀))
-      ∙ ap (take m) eF ∙ put-one _ (factorRows z xs (d + r) bs) (factorRows z xs d bs) 7680 apart₁ fits₁ m l₀
-
-  part₁ : take (k * ((n - d) * 32)) (drop 7680 all) ≡ factorRows z xs d bs
-  part₁ =
-      let m : ℕ = k * ((n - d) * 32) in
-      ap (λ (v : List ℕ). take m (drop 7680 v)) all-is ∙ in-first 7680 m F (R ++ T) (omega (arith, g-few z legal, nF, lent₀))
-      ∙ ap (λ (v : List ℕ). take m (drop 7680 v)) eF ∙ put-two _ (factorRows z xs (d + r) bs) (factorRows z xs d bs) 7680 apart₁ fits₁ m l₁
-
-  part₂ : take ((d + r) * 512) (drop 15872 all) ≡ tablesOf (d + r) (unitRows (points xs (targetsOf z bs)))
-  part₂ =
-      let m : ℕ = (d + r) * 512 in
-      ap (λ (v : List ℕ). take m (drop 15872 v)) all-is ∙ in-second 15872 0 m F (R ++ T) (nF ∙ lent₀) ∙ in-first 0 m R T (omega (arith, h₂, nR, lent₁))
-      ∙ ap (take m) eR ∙ put-one _ (tablesOf (d + r) (unitRows (points xs (targetsOf z bs)))) (tablesOf d (seedRows d (points xs bs))) 16384 apart₂ fits₂ m l₂
-
-  part₃ : take (d * 512) (drop 32256 all) ≡ tablesOf d (seedRows d (points xs bs))
-  part₃ =
-      let m : ℕ = d * 512 in
-      ap (λ (v : List ℕ). take m (drop 32256 v)) all-is ∙ in-second 15872 16384 m F (R ++ T) (nF ∙ lent₀) ∙ in-first 16384 m R T (omega (arith, h₃, nR, lent₁))
-      ∙ ap (λ (v : List ℕ). take m (drop 16384 v)) eR
-      ∙ put-two _ (tablesOf (d + r) (unitRows (points xs (targetsOf z bs)))) (tablesOf d (seedRows d (points xs bs))) 16384 apart₂ fits₂ m l₃
-
-  part₄ : take ((d - k) * 32) (drop 48128 all) ≡ topRows k (points xs (take d (targetsOf z bs)))
-  part₄ =
-      let m : ℕ = (d - k) * 32 in
-      let t : List ℕ = topRows k (points xs (take d (targetsOf z bs))) in
-      ap (λ (v : List ℕ). take m (drop 48128 v)) all-is ∙ in-second 15872 32256 m F (R ++ T) (nF ∙ lent₀) ∙ in-second 32256 0 m R T (nR ∙ lent₁)
-      ∙ ap (take m) eT ∙ ap (λ (v : ℕ). take v (put (take 1024 (drop 48128 (putMid 15872 32256 (putMid 0 15872 l F) R))) 0 t)) (sym l₄)
-      ∙ put-same (take 1024 (drop 48128 (putMid 15872 32256 (putMid 0 15872 l F) R))) 0 t (omega (arith, l₄, h₄, lent₂))
-
-  pub tables-made : Made z xs bs all
-  tables-made = record {
-    long = same-len-mid {X = ℕ} 48128 1024 (putMid 15872 32256 (putMid 0 15872 l F) R) T nT ∙ long₂;
-    are = record {
-      f-factors = part₀;
-      g-factors = part₁;
-      units-long = ap length part₂ ∙ l₂;
-      units = λ s h. ap (piece 512 s) part₂ ∙ tabled (d + r) (unitRows (points xs (targetsOf z bs))) unit-rows s h;
-      tops = part₄;
-      seeds-long = ap length part₃ ∙ l₃;
-      seeds = λ s h. ap (piece 512 s) part₃ ∙ tabled d (seedRows d (points xs bs)) (length-seed-rows d (points xs bs)) s h;
-    };
-  }
+  -- one call after another, at these places
+  pub tables-made : (p₁ p₂ p₃ p₄ : ℕ) (y₀ y₁ y₂ y₃ y₄ : List ℕ)
+      → y₀ ≡ put l 0 A → y₁ ≡ put y₀ p₁ B → y₂ ≡ put y₁ p₂ C → y₃ ≡ put y₂ p₃ D → y₄ ≡ put y₃ p₄ E
+      → p₁ ≡ 7680 → p₂ ≡ 15872 → p₃ ≡ 32256 → p₄ ≡ 48128 → Made z xs bs y₄
+  tables-made p₁ p₂ p₃ p₄ y₀ y₁ y₂ y₃ y₄ e₀ e₁ e₂ e₃ e₄ h₁ h₂ h₃ h₄ =
+      let q₁ = e₁ ∙ ap₂ {C = List ℕ} (λ (v : List ℕ) (p : ℕ). put v p B) e₀ h₁ in
+      let q₂ = e₂ ∙ ap₂ {C = List ℕ} (λ (v : List ℕ) (p : ℕ). put v p C) q₁ h₂ in
+      let q₃ = e₃ ∙ ap₂ {C = List ℕ} (λ (v : List ℕ) (p : ℕ). put v p D) q₂ h₃ in
+      subst (Made z xs bs) (sym (e₄ ∙ ap₂ {C = List ℕ} (λ (v : List ℕ) (p : ℕ). put v p E) q₃ h₄)) put-made

@@ -1,140 +1,157 @@
 -- `decode_setup::fill` meets its contract: the callees' contracts, put together.
 -- Assumes nothing.
-use Rattle.sizes.proofs.Legal.{legal-facts}
-use Rattle.setup_rows.proofs.Parts.{part-there}
-use Rattle.decode_setup.proofs.Placed.{tables-made}
-use mathlib.Core.Path.{_≡_, sym, _∙_}
+use Rattle.lists.proofs.Boards.{below-all}
+use Rattle.sizes.proofs.Legal.{Legal, legal-facts}
+use Rattle.setup_rows.proofs.Near.{below-32}
+use Rattle.decode_setup.proofs.Placed.{f-room, g-room, tables-made}
+use mathlib.Core.Path.{_≡_, refl, _∙_}
 use mathlib.Core.List.{List}
 use Prim.Native.Nat.{ℕ}
 use native.Mathlib.Omega.{arith}
 use lib.ListN.{length}
-use borrow.Rule.Slice.PartMut.{putMid, same-len-mid}
 use borrow.Author.Needs.{needs}
 use Rattle.decode_setup.proofs.fill.Statement.{statement}
 use Rattle.decode_setup.proofs.fill.Tie as tie
 
 -- places in the code
-abbrev st-factor-tables : tie.After-factor-tables → tie.Start
-st-factor-tables c = c .before .before .before .before .before .before
+abbrev st₀ : tie.After-factors-at → tie.Start
+st₀ c = c .before .before .before .before .before .before .before
 
-abbrev factor-tables-at-row-parts-arg : tie.After-row-parts-arg → tie.After-factor-tables
-factor-tables-at-row-parts-arg c = c .before .before .before
+abbrev at₀ : tie.After-factors-at-arg2 → tie.After-factors-at
+at₀ c = c .before .before .before
 
-abbrev factor-tables-at-row-parts : tie.After-row-parts → tie.After-factor-tables
-factor-tables-at-row-parts c = factor-tables-at-row-parts-arg (c .before)
+abbrev at₁ : tie.After-unit-tables-arg → tie.After-factors-at2
+at₁ c = c .before .before .before
 
-abbrev row-parts-at-top-part-arg : tie.After-top-part-arg → tie.After-row-parts
-row-parts-at-top-part-arg c = c .before .before .before
+abbrev at₂ : tie.After-row-tables-arg → tie.After-unit-tables
+at₂ c = c .before .before .before
 
-abbrev row-parts-at-end : tie.After-slice-known4 → tie.After-row-parts
-row-parts-at-end c = row-parts-at-top-part-arg (c .before .before .before)
+abbrev at₃ : tie.After-tops-at-arg → tie.After-row-tables
+at₃ c = c .before .before .before
 
-abbrev st-row-parts : tie.After-row-parts → tie.Start
-st-row-parts c = st-factor-tables (factor-tables-at-row-parts c)
+abbrev st₁ : tie.After-factors-at2 → tie.Start
+st₁ c = st₀ (at₀ (c .before))
 
--- what each step has put in
-abbrev y₁ : tie.After-factor-tables → List ℕ
-y₁ c = c .factor-tables .last .1 .1 .1 .1 .0
+abbrev st₂ : tie.After-unit-tables → tie.Start
+st₂ c = st₁ (at₁ (c .before))
 
-abbrev y₂ : tie.After-row-parts → List ℕ
-y₂ c = c .row-parts .last .1 .1 .1 .1 .0
+abbrev st₃ : tie.After-row-tables → tie.Start
+st₃ c = st₂ (at₂ (c .before))
 
-abbrev y₃ : tie.After-top-part → List ℕ
-y₃ c = c .top-part .last .1 .1 .1 .1 .0
+-- the sizes are legal
+facts : (c : tie.Start) → Legal (c .args .sizes)
+facts c = legal-facts _ (c .pre .0 .sized)
 
--- the tables after each step
-abbrev t₁ : tie.After-factor-tables → List ℕ
-t₁ c = putMid 0 15872 (st-factor-tables c .args .tables .now) (y₁ c)
+-- the tables after each step, as long as before
+abbrev y₀ : tie.After-factors-at → List ℕ
+y₀ c = c .factors-at .last .1 .1 .1 .1 .1 .1 .0
 
-abbrev t₂ : tie.After-row-parts → List ℕ
-t₂ c = putMid 15872 32256 (t₁ (factor-tables-at-row-parts c)) (y₂ c)
+abbrev y₁ : tie.After-factors-at2 → List ℕ
+y₁ c = c .factors-at2 .last .1 .1 .1 .1 .1 .1 .0
 
-long₁ : (c : tie.After-factor-tables) → length (t₁ c) ≡ 49152
-long₁ c = same-len-mid {X = ℕ} 0 15872 (st-factor-tables c .args .tables .now) (y₁ c) (c .factor-tables .kept .1 .1 .1 .1 .0) ∙ st-factor-tables c .pre .3
+abbrev y₂ : tie.After-unit-tables → List ℕ
+y₂ c = c .unit-tables .last .1 .1 .1 .1 .1 .0
 
-long₂ : (c : tie.After-row-parts) → length (t₂ c) ≡ 49152
-long₂ c =
-    same-len-mid {X = ℕ} 15872 32256 (t₁ (factor-tables-at-row-parts c)) (y₂ c) (c .row-parts .kept .1 .1 .1 .1 .0) ∙ long₁ (factor-tables-at-row-parts c)
+abbrev y₃ : tie.After-row-tables → List ℕ
+y₃ c = c .row-tables .last .1 .1 .1 .1 .1 .0
 
-sub-factor-tables : tie.Need-sub-factor-tables
-sub-factor-tables c = search needs
+abbrev y₄ : tie.After-tops-at → List ℕ
+y₄ c = c .tops-at .last .1 .1 .1 .1 .1 .0
 
-part-factor-tables-start : tie.Need-part-factor-tables-start
-part-factor-tables-start c = search needs
+long₀ : (c : tie.After-factors-at) → length (y₀ c) ≡ 49152
+long₀ c = c .factors-at .kept .1 .1 .1 .1 .1 .1 .0 ∙ st₀ c .pre .3
 
-part-factor-tables-end : tie.Need-part-factor-tables-end
-part-factor-tables-end c = search needs
+long₁ : (c : tie.After-factors-at2) → length (y₁ c) ≡ 49152
+long₁ c = c .factors-at2 .kept .1 .1 .1 .1 .1 .1 .0 ∙ long₀ (at₀ (c .before))
 
-factor-tables-requires : tie.Need-factor-tables-requires
-factor-tables-requires c κs =
-    let g = c .before .before .before .before .before in
+long₂ : (c : tie.After-unit-tables) → length (y₂ c) ≡ 49152
+long₂ c = c .unit-tables .kept .1 .1 .1 .1 .1 .0 ∙ long₁ (at₁ (c .before))
+
+long₃ : (c : tie.After-row-tables) → length (y₃ c) ≡ 49152
+long₃ c = c .row-tables .kept .1 .1 .1 .1 .1 .0 ∙ long₂ (at₂ (c .before))
+
+add-w : tie.Need-add-w
+add-w c = let f = facts (c .before .before .before .before .before) in omega (arith, f .enough, f .few)
+
+factors-at-requires : tie.Need-factors-at-requires
+factors-at-requires c κs =
+    let g = c .before .before .before .before .before .before in
     let a = g .pre .0 in
-    (a .sized, a .counted, a .known, g .pre .1, g .pre .2, part-there 0 15872 (g .args .tables .now) (omega (arith, g .pre .3)))
+    let f = facts g in (
+      g .pre .1,
+      g .pre .2,
+      f .few,
+      f .enough,
+      omega (arith, a .counted, f .read-helpers, f .enough, f .few),
+      a .known,
+      omega (arith, f-room (g .args .sizes) f (g .args .boards .now) (a .counted), g .pre .3),
+    )
 
-sub-row-parts : tie.Need-sub-row-parts
-sub-row-parts c = search needs
-
-part-row-parts-start : tie.Need-part-row-parts-start
-part-row-parts-start c = search needs
-
-part-row-parts-end : tie.Need-part-row-parts-end
-part-row-parts-end c = omega (arith, long₁ (c .before .before))
-
-row-parts-requires : tie.Need-row-parts-requires
-row-parts-requires c κs =
-    let m = factor-tables-at-row-parts-arg c in
-    let g = st-factor-tables m in
+factors-at-requires-2 : tie.Need-factors-at-requires-2
+factors-at-requires-2 c κs =
+    let g = st₀ (at₀ c) in
     let a = g .pre .0 in
-    (a .sized, a .counted, a .known, g .pre .1, g .pre .2, part-there 15872 32256 (t₁ m) (omega (arith, long₁ m)))
+    let f = facts g in (
+      g .pre .1,
+      g .pre .2,
+      f .few,
+      omega (arith, f .enough),
+      omega (arith, a .counted, f .read-helpers, f .enough, f .few),
+      a .known,
+      omega (arith, g-room (g .args .sizes) f (g .args .boards .now) (a .counted), long₀ (at₀ c)),
+    )
 
-sub-top-part : tie.Need-sub-top-part
-sub-top-part c = search needs
-
-part-top-part-start : tie.Need-part-top-part-start
-part-top-part-start c = search needs
-
-part-top-part-end : tie.Need-part-top-part-end
-part-top-part-end c = omega (arith, long₂ (c .before .before))
-
-top-part-requires : tie.Need-top-part-requires
-top-part-requires c κs =
-    let m = row-parts-at-top-part-arg c in
-    let g = st-row-parts m in
+unit-tables-requires : tie.Need-unit-tables-requires
+unit-tables-requires c κs =
+    let g = st₁ (at₁ c) in
     let a = g .pre .0 in
-    (a .sized, a .counted, a .known, g .pre .1, g .pre .2, part-there 48128 1024 (t₂ m) (omega (arith, long₂ m)))
+    let f = facts g in
+    (a .sized, a .counted, a .known, g .pre .1, g .pre .2, omega (arith, f .enough, f .few, long₁ (at₁ c)))
+
+row-tables-requires : tie.Need-row-tables-requires
+row-tables-requires c κs =
+    let g = st₂ (at₂ c) in
+    let a = g .pre .0 in
+    let z = g .args .sizes in
+    let f = facts g in (
+      g .pre .1,
+      g .pre .2,
+      below-32 z (g .args .boards .now) (f .few) (below-all (z .n) (g .args .boards .now) (a .known)),
+      omega (arith, a .counted, f .read-helpers, f .enough, f .few),
+      omega (arith, f .enough, f .few),
+      omega (arith, f .some-fresh, f .enough, f .few, long₂ (at₂ c)),
+    )
+
+tops-at-requires : tie.Need-tops-at-requires
+tops-at-requires c κs =
+    let g = st₃ (at₃ c) in
+    let a = g .pre .0 in
+    (a .sized, a .counted, a .known, g .pre .1, g .pre .2, omega (arith, long₃ (at₃ c)))
 
 same-length : tie.Need-same-length
-same-length c =
-    let m = row-parts-at-end c in
-    same-len-mid {X = ℕ} 48128 1024 (t₂ m) (y₃ (c .before .before)) (c .before .before .top-part .kept .1 .1 .1 .1 .0) ∙ (long₂ m ∙ sym (st-row-parts m .pre .3))
+same-length c = search needs
 
 returns : tie.Need-returns
 returns c =
-    let s = c .before .before in
-    let m = row-parts-at-end c in
-    let f = factor-tables-at-row-parts m in
-    let g = st-factor-tables f in
-    let a = g .pre .0 in
-    tables-made (g .args .sizes) (legal-facts (g .args .sizes) (a .sized)) (g .args .points .now) (g .args .boards .now) (g .args .tables .now)
-    (y₁ f) (y₂ m) (y₃ s) (g .pre .3) (a .counted)
-    (f .factor-tables .kept .1 .1 .1 .1 .0) (m .row-parts .kept .1 .1 .1 .1 .0) (s .top-part .kept .1 .1 .1 .1 .0)
-    (f .factor-tables .ensures) (m .row-parts .ensures) (s .top-part .ensures)
+    let c₄ = c .before .before in
+    let c₃ = at₃ (c₄ .before) in
+    let c₂ = at₂ (c₃ .before) in
+    let c₁ = at₁ (c₂ .before) in
+    let c₀ = at₀ (c₁ .before) in
+    let g = st₀ c₀ in
+    tables-made (g .args .sizes) (facts g) (g .args .points .now) (g .args .boards .now) (g .args .tables .now) (g .pre .3) (g .pre .0 .counted)
+    _ _ _ _ (y₀ c₀) (y₁ c₁) (y₂ c₂) (y₃ c₃) (y₄ c₄)
+    (c₀ .factors-at .ensures) (c₁ .factors-at2 .ensures) (c₂ .unit-tables .ensures) (c₃ .row-tables .ensures) (c₄ .tops-at .ensures) refl refl refl refl
 
 pub fill-spec : {M : Type 1} → statement M
 fill-spec =
     tie.close
     (tie.spec
-    sub-factor-tables
-    part-factor-tables-start
-    part-factor-tables-end
-    factor-tables-requires
-    sub-row-parts
-    part-row-parts-start
-    part-row-parts-end
-    row-parts-requires
-    sub-top-part
-    part-top-part-start
-    part-top-part-end
-    top-part-requires
+    add-w
+    factors-at-requires
+    factors-at-requires-2
+    unit-tables-requires
+    row-tables-requires
+    tops-at-requires
     same-length
     returns)

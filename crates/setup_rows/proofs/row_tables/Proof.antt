@@ -1,6 +1,7 @@
 -- `setup_rows::row_tables` meets its contract: the callees' contracts, put together.
 -- Assumes nothing.
 use Rattle.mbcr.specs.Share.{points}
+use Rattle.setup_rows.proofs.Parts.{part-there}
 use Rattle.setup_rows.proofs.Rows.{tables-put}
 use mathlib.Core.Path.{_≡_, _∙_}
 use Prim.Native.Nat.{ℕ, _*_}
@@ -38,6 +39,9 @@ mul-q c = search needs
 mul-end : tie.Need-mul-end
 mul-end c = search needs
 
+add-end : tie.Need-add-end
+add-end c = search needs
+
 sub-rows-at : tie.Need-sub-rows-at
 sub-rows-at c = search needs
 
@@ -73,7 +77,7 @@ part-fill-tables-end-2 c = search needs
 fill-tables-requires : tie.Need-fill-tables-requires
 fill-tables-requires c κs =
     let g = st-fill-tables-arg2 c in
-    (g .pre .4, simp (length-take, length-append) (omega (arith, made-long (c .before .before .before .before))), mid-len {X = ℕ} 0 _ _ (g .pre .5) ∙ sub-zero _)
+    (g .pre .4, simp (length-take, length-append) (omega (arith, made-long (c .before .before .before .before))), part-there (g .args .at) _ (g .args .out .now) (g .pre .5))
 
 same-length : tie.Need-same-length
 same-length c = search needs
@@ -82,8 +86,8 @@ returns : tie.Need-returns
 returns c =
     let g = st-end c in
     let y = c .before .before .fill-tables in
-    tables-put (g .args .d) (points (g .args .points .now) (g .args .boards .now)) _ _ (g .args .out .now) _
-    (rows-at-at-end c .rows-at .ensures) (made-long (rows-at-at-end c)) (y .ensures) (y .kept .1 .1 .0 ∙ (mid-len {X = ℕ} 0 _ _ (g .pre .5) ∙ sub-zero _))
+    tables-put (g .args .at) (g .args .d) (points (g .args .points .now) (g .args .boards .now)) _ _ (g .args .out .now) _
+    (rows-at-at-end c .rows-at .ensures) (made-long (rows-at-at-end c)) (y .ensures) (y .kept .1 .1 .0 ∙ part-there (g .args .at) (g .args .d * 512) (g .args .out .now) (g .pre .5))
 
 pub row-tables-spec : {M : Type 1} → statement M
 row-tables-spec =
@@ -91,6 +95,7 @@ row-tables-spec =
     (tie.spec
     mul-q
     mul-end
+    add-end
     sub-rows-at
     part-rows-start
     part-rows-end

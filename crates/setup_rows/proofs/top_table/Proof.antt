@@ -1,5 +1,6 @@
 -- `setup_rows::top_table` meets its contract: the callees' contracts, put together.
 -- Assumes nothing.
+use Rattle.setup_rows.proofs.Parts.{part-there}
 use Rattle.setup_rows.proofs.Rows.{tops-put}
 use mathlib.Core.Path.{_≡_, _∙_}
 use Prim.Native.Nat.{ℕ, _*_}
@@ -40,6 +41,9 @@ sub-m c = search needs
 mul-end : tie.Need-mul-end
 mul-end c = search needs
 
+add-end : tie.Need-add-end
+add-end c = search needs
+
 sub-rows-at : tie.Need-sub-rows-at
 sub-rows-at c = search needs
 
@@ -78,7 +82,7 @@ top-rows-requires c κs =
       omega (arith, g .pre .3, g .pre .4),
       g .pre .3,
       simp (length-take, length-append) (omega (arith, made-long (c .before .before .before .before))),
-      mid-len {X = ℕ} 0 _ _ (g .pre .5) ∙ sub-zero _,
+      part-there (g .args .at) _ (g .args .out .now) (g .pre .5),
     )
 
 same-length : tie.Need-same-length
@@ -88,8 +92,8 @@ returns : tie.Need-returns
 returns c =
     let g = st-end c in
     let y = c .before .before .top-rows in
-    tops-put (g .args .k) (g .args .points .now) (g .args .boards .now) _ _ (g .args .out .now) _ (g .pre .3)
-    (rows-at-at-end c .rows-at .ensures) (made-long (rows-at-at-end c)) (y .ensures) (y .kept .1 .1 .1 .1 .0 ∙ (mid-len {X = ℕ} 0 _ _ (g .pre .5) ∙ sub-zero _))
+    tops-put (g .args .at) (g .args .k) (g .args .points .now) (g .args .boards .now) _ _ (g .args .out .now) _ (g .pre .3)
+    (rows-at-at-end c .rows-at .ensures) (made-long (rows-at-at-end c)) (y .ensures) (y .kept .1 .1 .1 .1 .0 ∙ part-there (g .args .at) _ (g .args .out .now) (g .pre .5))
 
 pub top-table-spec : {M : Type 1} → statement M
 top-table-spec =
@@ -98,6 +102,7 @@ top-table-spec =
     mul-q
     sub-m
     mul-end
+    add-end
     sub-rows-at
     part-rows-start
     part-rows-end

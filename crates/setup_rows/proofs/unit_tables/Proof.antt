@@ -93,7 +93,7 @@ returns c =
     let g = st-boards-from m in
     let z = g .args .sizes in
     let b = getD (g .args .boards .now) 0 0 in
-    units-put (z .d + z .r) (g .args .points .now) _ _ (g .args .out .now) _
+    units-put (g .args .at) (z .d + z .r) (g .args .points .now) _ _ (g .args .out .now) _
     (near-again z (facts g) b _ _ refl (m .boards-from .ensures)) (length-neighbours z b (z .d + z .r)) (c .before .before .row-tables .ensures)
 
 pub unit-tables-spec : {M : Type 1} → statement M

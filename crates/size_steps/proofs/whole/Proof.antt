@@ -1,10 +1,10 @@
--- `size_rows::whole` meets its contract, case by case.
+-- `size_steps::whole` meets its contract, case by case.
 -- Assumes nothing.
 use native.Mathlib.Omega.{arith}
-use Rattle.size_rows.proofs.Taken.{too-small, too-great, not-last, whole-limit}
+use Rattle.size_steps.proofs.Taken.{too-small, too-great, not-last, whole-limit}
 use borrow.Author.Needs.{needs}
-use Rattle.size_rows.proofs.whole.Statement.{statement}
-use Rattle.size_rows.proofs.whole.Tie as tie
+use Rattle.size_steps.proofs.whole.Statement.{statement}
+use Rattle.size_steps.proofs.whole.Tie as tie
 
 pub whole-spec : {M : Type 1} → statement M
 whole-spec =

@@ -16,7 +16,7 @@ use Rattle.number_lines.specs.Steps.{begin, capped, reads}
 use Rattle.number_lines.specs.Laws.{LineLaws}
 use Rattle.number_lines.proofs.Laws.{line-laws}
 use Rattle.size_list.specs.Combinations.{none, limit}
-use Rattle.size_rows.specs.Steps.{wholeLimit}
+use Rattle.size_steps.specs.Steps.{wholeLimit}
 
 pub too-small : (v b : ℕ) → v < 2 → 0 ≡ wholeLimit v b
 too-small v b h = rw (lt-leb 2 v h)

@@ -20,11 +20,10 @@ use Rattle.sizes.proofs.Legal.{Legal, legal-facts, legal-yes}
 use Rattle.size_list.specs.Combinations.{each, combinations, row, rows}
 use Rattle.size_list.proofs.Places.{one, ofD, ofK, ofN}
 use Rattle.size_list.proofs.Count.{count}
-use Rattle.size_rows.specs.declared.Place.{Place}
-use Rattle.size_rows.specs.declared.Place.the-variants.{At, End}
-use Rattle.size_rows.specs.Steps.{fromN, fromK, fromD, nextOf, met, after, LegalPlace}
-use Rattle.size_rows.specs.Laws.{start, WalkLaws}
-use Rattle.size_rows.proofs.Lines.{row-most}
+use Rattle.size_steps.specs.declared.Place.{Place}
+use Rattle.size_steps.specs.declared.Place.the-variants.{At, End}
+use Rattle.size_steps.specs.Steps.{fromN, fromK, fromD, nextOf, met, after, LegalPlace}
+use Rattle.size_steps.specs.Laws.{start, WalkLaws}
 
 -- ---- in two parts
 
@@ -66,7 +65,7 @@ module _ (N : ℕ) (few : N ≤ 32) where
       go true e = rw e (legal-from N n k k 1 g (omega arith) (omega arith) (omega (arith, ltb-true k n e)) h)
       go false e = rw e (legal-n (n + 1) (omega arith))
 
-  legal-next : (z : Sizes) → Legal z → LegalPlace (nextOf N z)
+  pub legal-next : (z : Sizes) → Legal z → LegalPlace (nextOf N z)
   unfolding nextOf fromD
   legal-next z f = go (ltb (z .d + z .r) (z .n)) refl (ltb (z .d + 1) (z .n)) refl
     where
@@ -91,18 +90,6 @@ rows-append (x ∷ xs) ys = ap (λ (l : List ℕ). row x ++ l) (rows-append xs y
 -- one line at a time
 pub one-line : (N : ℕ) (z : Sizes) → rows (met N 1 (At z)) ≡ row z
 one-line N z = append-nil (row z)
-
-pub line-most : (N : ℕ) (p : Place) → LegalPlace p → length (rows (met N 1 p)) ≤ 40
-line-most N (At z) h = omega (arith, ap length (one-line N z), row-most z (legal-facts z h))
-line-most N End h = omega arith
-
--- a run of lines has at most 40 bytes for each step
-pub rows-most : (N : ℕ) → N ≤ 32 → (m : ℕ) (p : Place) → LegalPlace p → length (rows (met N m p)) ≤ m * 40
-rows-most N h zero p g = omega arith
-rows-most N h (suc m) (At z) g =
-    let k = rows-most N h m (nextOf N z) (legal-next N h z (legal-facts z g)) in
-    omega (arith, length-append (row z) (rows (met N m (nextOf N z))), row-most z (legal-facts z g), k, suc-mul m 40)
-rows-most N h (suc m) End g = omega arith
 
 pub rows-next : (N i : ℕ) (p : Place) → rows (met N (i + 1) p) ≡ rows (met N i p) ++ rows (met N 1 (after N i p))
 rows-next N i p = ap rows (met-add N i 1 p) ∙ rows-append (met N i p) (met N 1 (after N i p))

@@ -1,4 +1,4 @@
--- `setup_parts::top_part` meets its contract: the callees' contracts, put together.
+-- `setup_tops::tops_at` meets its contract: the callees' contracts, put together.
 -- Assumes nothing.
 use Rattle.lists.specs.Lists.{put}
 use Rattle.sizes.proofs.Legal.{Legal, legal-facts}
@@ -13,8 +13,8 @@ use native.Mathlib.Omega.{arith}
 use lib.ListN.{length, getD, length-append}
 use borrow.Rule.Slice.PartMut.{mid-len}
 use borrow.Author.Needs.{needs}
-use Rattle.setup_parts.proofs.top_part.Statement.{statement}
-use Rattle.setup_parts.proofs.top_part.Tie as tie
+use Rattle.setup_tops.proofs.tops_at.Statement.{statement}
+use Rattle.setup_tops.proofs.tops_at.Tie as tie
 
 -- places in the code
 abbrev st-targets : tie.After-targets → tie.Start
@@ -98,11 +98,11 @@ returns c =
     let g = st-boards-from m in
     let z = g .args .sizes in
     c .before .before .top-table .ensures
-    ∙ ap (λ (l : List ℕ). put (g .args .out .now) 0 (topRows (z .k) (points (g .args .points .now) l)))
+    ∙ ap (λ (l : List ℕ). put (g .args .out .now) (g .args .at) (topRows (z .k) (points (g .args .points .now) l)))
     (few-again z (facts g) (getD (g .args .boards .now) 0 0) _ _ refl (m .boards-from .ensures) (z .d) (omega arith))
 
-pub top-part-spec : {M : Type 1} → statement M
-top-part-spec =
+pub tops-at-spec : {M : Type 1} → statement M
+tops-at-spec =
     tie.close
     (tie.spec
     add-w

@@ -1,15 +1,13 @@
--- `decode_setup::factors_at` meets its contract: the callee's, for the beginning of what is lent.
+-- `setup_rows::factors_at` meets its contract: the callee's, for the beginning of what is lent.
 -- Assumes nothing.
 use Rattle.lists.specs.Lists.{put}
-use Rattle.setup_rows.proofs.Parts.{put-first}
+use Rattle.setup_rows.proofs.Parts.{part-there, put-part}
 use mathlib.Core.Path.{_≡_, ap, _∙_}
 use Prim.Native.Nat.{ℕ, _-_, _*_}
-use native.Mathlib.Nat.{sub-zero}
 use lib.ListN.{length}
-use borrow.Rule.Slice.PartMut.{mid-len}
 use borrow.Author.Needs.{needs}
-use Rattle.decode_setup.proofs.factors_at.Statement.{statement}
-use Rattle.decode_setup.proofs.factors_at.Tie as tie
+use Rattle.setup_rows.proofs.factors_at.Statement.{statement}
+use Rattle.setup_rows.proofs.factors_at.Tie as tie
 
 -- places in the code
 abbrev st-factor-rows-arg : tie.After-factor-rows-arg → tie.Start
@@ -24,6 +22,9 @@ mul-end c = search needs
 mul-end-2 : tie.Need-mul-end-2
 mul-end-2 c = search needs
 
+add-end : tie.Need-add-end
+add-end c = search needs
+
 sub-factor-rows : tie.Need-sub-factor-rows
 sub-factor-rows c = search needs
 
@@ -36,7 +37,7 @@ part-factor-rows-end c = search needs
 factor-rows-requires : tie.Need-factor-rows-requires
 factor-rows-requires c κs =
     let g = st-factor-rows-arg c in
-    (g .pre .0, g .pre .1, g .pre .2, g .pre .3, g .pre .4, g .pre .5, mid-len {X = ℕ} 0 _ _ (g .pre .6) ∙ sub-zero _)
+    (g .pre .0, g .pre .1, g .pre .2, g .pre .3, g .pre .4, g .pre .5, part-there (g .args .at) _ (g .args .out .now) (g .pre .6))
 
 same-length : tie.Need-same-length
 same-length c = search needs
@@ -47,8 +48,8 @@ returns c =
     let g = st-factor-rows-arg (s .before) in
     let z = g .args .sizes in
     let m = length (g .args .boards .now) * ((z .n - g .args .c) * 32) in
-    put-first m (g .args .out .now) (s .factor-rows .last .1 .1 .1 .1 .1 .0) (s .factor-rows .kept .1 .1 .1 .1 .1 .0 ∙ (mid-len {X = ℕ} 0 m _ (g .pre .6) ∙ sub-zero m))
-    ∙ ap (put (g .args .out .now) 0) (s .factor-rows .ensures)
+    put-part (g .args .at) m (g .args .out .now) (s .factor-rows .last .1 .1 .1 .1 .1 .0) (s .factor-rows .kept .1 .1 .1 .1 .1 .0 ∙ part-there (g .args .at) m (g .args .out .now) (g .pre .6))
+    ∙ ap (put (g .args .out .now) (g .args .at)) (s .factor-rows .ensures)
 
 pub factors-at-spec : {M : Type 1} → statement M
 factors-at-spec =
@@ -57,6 +58,7 @@ factors-at-spec =
     sub-end
     mul-end
     mul-end-2
+    add-end
     sub-factor-rows
     part-factor-rows-start
     part-factor-rows-end

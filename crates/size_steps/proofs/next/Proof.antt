@@ -1,12 +1,12 @@
--- `size_rows::next` meets its contract, case by case.
+-- `size_steps::next` meets its contract, case by case.
 -- Assumes nothing.
 use mathlib.Core.Path.{sym, _∙_}
 use native.Mathlib.Omega.{arith}
 use Rattle.sizes.proofs.Legal.{Legal, legal-facts}
-use Rattle.size_rows.proofs.Behind.{one-more, no-more}
+use Rattle.size_steps.proofs.Behind.{one-more, no-more}
 use borrow.Author.Needs.{needs}
-use Rattle.size_rows.proofs.next.Statement.{statement}
-use Rattle.size_rows.proofs.next.Tie as tie
+use Rattle.size_steps.proofs.next.Statement.{statement}
+use Rattle.size_steps.proofs.next.Tie as tie
 
 facts : (c : tie.Start) → Legal (c .args .z)
 facts c = legal-facts (c .args .z) (c .pre)

@@ -1,10 +1,10 @@
--- `size_rows::from_helpers` meets its contract, case by case.
+-- `size_steps::from_helpers` meets its contract, case by case.
 -- Assumes nothing.
 use mathlib.Core.Path.{sym}
 use borrow.Author.Needs.{needs}
-use Rattle.size_rows.proofs.Behind.{some-helpers, next-read, next-boards, at-end}
-use Rattle.size_rows.proofs.from_helpers.Statement.{statement}
-use Rattle.size_rows.proofs.from_helpers.Tie as tie
+use Rattle.size_steps.proofs.Behind.{some-helpers, next-read, next-boards, at-end}
+use Rattle.size_steps.proofs.from_helpers.Statement.{statement}
+use Rattle.size_steps.proofs.from_helpers.Tie as tie
 
 pub from-helpers-spec : {M : Type 1} → statement M
 from-helpers-spec =

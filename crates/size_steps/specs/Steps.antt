@@ -8,8 +8,8 @@ use lib.Dec.{leb, ltb, eqb}
 use Rattle.lists.specs.Tests.{pick, alls}
 use Rattle.sizes.specs.declared.Sizes.{Sizes}
 use Rattle.sizes.specs.Sizing.{legal}
-use Rattle.size_rows.specs.declared.Place.{Place}
-use Rattle.size_rows.specs.declared.Place.the-variants.{At, End}
+use Rattle.size_steps.specs.declared.Place.{Place}
+use Rattle.size_steps.specs.declared.Place.the-variants.{At, End}
 
 -- the first combination of n up to the limit N
 abbrev pub fromN : ℕ → ℕ → Place

@@ -6,9 +6,9 @@ use Prim.Native.Nat.{ℕ, _+_, _*_, _≤_}
 use lib.ListN.{length}
 use Rattle.lists.specs.Lists.{join}
 use Rattle.size_list.specs.Combinations.{combinations, rows}
-use Rattle.size_rows.specs.declared.Place.{Place}
-use Rattle.size_rows.specs.declared.Place.the-variants.{At, End}
-use Rattle.size_rows.specs.Steps.{met, after}
+use Rattle.size_steps.specs.declared.Place.{Place}
+use Rattle.size_steps.specs.declared.Place.the-variants.{At, End}
+use Rattle.size_steps.specs.Steps.{met, after}
 
 abbrev pub start : Place
 start = At (record { n = 2; k = 1; d = 1; r = 1 })

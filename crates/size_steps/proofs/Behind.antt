@@ -10,9 +10,9 @@ use Rattle.lists.specs.Tests.{pick}
 use Rattle.sizes.specs.declared.Sizes.{Sizes}
 use Rattle.sizes.specs.Sizing.{legal}
 use Rattle.sizes.proofs.Legal.{Legal, legal-facts, legal-yes}
-use Rattle.size_rows.specs.declared.Place.{Place}
-use Rattle.size_rows.specs.declared.Place.the-variants.{At, End}
-use Rattle.size_rows.specs.Steps.{fromN, fromK, fromD, nextOf, LegalPlace}
+use Rattle.size_steps.specs.declared.Place.{Place}
+use Rattle.size_steps.specs.declared.Place.the-variants.{At, End}
+use Rattle.size_steps.specs.Steps.{fromN, fromK, fromD, nextOf, LegalPlace}
 
 module _ (N n k : ℕ) where
   pub some-helpers : (d : ℕ) → d < n → fromD N n k d ≡ At (record { n = n; k = k; d = d; r = 1 })
