@@ -1,10 +1,10 @@
--- `row_sums::product` meets its contract.
+-- `column_sums::product` meets its contract.
 -- Assumes nothing.
 use Rattle.row_sums.specs.Steps.{rowBytes}
 use Rattle.row_sums.proofs.Tables.{product-is}
 use borrow.Author.Needs.{needs}
-use Rattle.row_sums.proofs.product.Statement.{statement}
-use Rattle.row_sums.proofs.product.Tie as tie
+use Rattle.column_sums.proofs.product.Statement.{statement}
+use Rattle.column_sums.proofs.product.Tie as tie
 
 -- places in the code
 abbrev st : tie.After-plus3 → tie.Start

@@ -1,4 +1,4 @@
--- `row_sums::column_sum` meets its contract. The loop's invariant: the sum so far and what the rows left add are the whole sum.
+-- `column_sums::column_sum` meets its contract. The loop's invariant: the sum so far and what the rows left add are the whole sum.
 -- Assumes nothing.
 use mathlib.Core.Path.{_≡_, sym, ap, _∙_}
 use mathlib.Core.List.{List, []}
@@ -10,11 +10,11 @@ use borrow.Author.Needs.{needs}
 use Rattle.lists.specs.Lists.{tabulate}
 use Rattle.lists.proofs.Pieces.{part-piece, length-tabulate, tabulate-at}
 use Rattle.polynomial.specs.Polynomial.{plus, scale}
 use Rattle.row_sums.specs.Steps.{rowBytes, Tabled, Wide, combined}
 use Rattle.row_sums.proofs.Words.{length-row}
 use Rattle.row_sums.proofs.Tables.{wide-at, sum-start, sum-turn, sum-end}
-use Rattle.row_sums.proofs.column_sum.Statement.{statement}
-use Rattle.row_sums.proofs.column_sum.Tie as tie
+use Rattle.column_sums.proofs.column_sum.Statement.{statement}
+use Rattle.column_sums.proofs.column_sum.Tie as tie
 
 -- byte j of each line
 abbrev bytes : List ℕ → ℕ → ℕ → List ℕ

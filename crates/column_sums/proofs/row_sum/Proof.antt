@@ -1,19 +1,19 @@
--- `row_sums::row_sum` meets its contract. The loop's invariant: the sum so far and what the rows left add are the whole sum.
+-- `column_sums::row_sum` meets its contract. The loop's invariant: the sum so far and what the rows left add are the whole sum.
 -- Assumes nothing.
 use mathlib.Core.Path.{_≡_, sym, ap, _∙_}
 use mathlib.Core.List.{List, []}
 use Prim.Native.Nat.{ℕ, _-_, _<_, _≤_}
 use lib.ListN.{length, getD, drop, drop-of-length-le}
 use Rattle.polynomial.specs.Polynomial.{plus}
 use Rattle.row_sums.specs.Steps.{rowBytes, Tabled, Wide, combined}
 use Rattle.row_sums.proofs.Words.{length-row}
 use Rattle.row_sums.proofs.Tables.{wide-at, sum-start, sum-turn, sum-end}
 use native.Mathlib.Numerals.{add-one}
 use native.Mathlib.Omega.{arith}
 use Rattle.lists.proofs.Pieces.{part-piece}
 use borrow.Author.Needs.{needs}
-use Rattle.row_sums.proofs.row_sum.Statement.{statement}
-use Rattle.row_sums.proofs.row_sum.Tie as tie
+use Rattle.column_sums.proofs.row_sum.Statement.{statement}
+use Rattle.column_sums.proofs.row_sum.Tie as tie
 
 abbrev Inv-loop : tie.InvT-loop
 Inv-loop tables cs m sum₀ i₀ sum i =
