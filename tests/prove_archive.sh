@@ -118,8 +118,10 @@ trap 'exit 143' TERM HUP
 
 first=$(made_of)
 . tests/memory.sh
+# a level is proved at once: of the levels with many crates none takes more than 1.3 GB for a check
+jobs=$(sh tests/jobs.sh 8 1300000)
 # shellcheck disable=SC2086 # the crates are words
-if ! { RT_JOBS=$(sh tests/jobs.sh) rt check $below && rt staticlib zebrankai; } >"$log" 2>&1; then
+if ! { RT_JOBS=$jobs rt check $below && rt staticlib zebrankai; } >"$log" 2>&1; then
     quiet
     # what was said of a crate that is proved is left out
     awk '/^rt: [A-Za-z0-9_]+ proved \(/ { text = ""; next }
