@@ -134,7 +134,7 @@ rm -r "$work/full"
 # where the archive is not proved, nothing is written: a copy, with a prover that proves nothing
 mkdir -p "$own/copy/tests" "$own/prover"
 cp install crates.txt "$own/copy"
-cp tests/prove_archive.sh "$own/copy/tests"
+cp tests/prove_archive.sh tests/jobs.sh tests/memory.sh "$own/copy/tests"
 printf '#!/bin/sh\necho "rt: made-up, proves nothing"\nexit 1\n' >"$own/prover/rt"
 chmod +x "$own/prover/rt"
 if (cd "$work" && PATH=$own/prover:$PATH "$own/copy/install" "$work/unproved" >"$own/out" 2>"$own/said"); then fail "installed though it is not proved"; fi

@@ -11,7 +11,7 @@ unset ZBK_ARCHIVE
 
 # thirteen crates, of which the archive rests on eleven
 mkdir -p "$work/tests" "$work/bin"
-cp tests/prove_archive.sh "$work/tests"
+cp tests/prove_archive.sh tests/jobs.sh tests/memory.sh "$work/tests"
 {
     echo '# made-up: crates'
     echo 'c1: lists'
@@ -25,10 +25,15 @@ for crate in c1 c2 c3 c4 c5 c6 c7 c8 c9 c10 c11 zebrankai; do
 done
 cat >"$work/bin/rt" <<'END'
 #!/bin/sh
-# c2 and the archive take SLOW seconds; a crate whose file says 'wrong' is not proved
+# c2 and the archive are done once the progress has told of it, where a run waits for that (C2 and LAST: what it is to say), or after half a minute;
+# a crate whose file says 'wrong' is not proved
+told() {
+    tries=0
+    until [ -z "$1" ] || tr '\r' '\n' <said | grep -q -e "$1" || [ "$tries" -ge 150 ]; do sleep 0.2 && tries=$((tries + 1)); done
+}
 one() {
     : >"target/log/$1.out"
-    [ "$1" != c2 ] || sleep "$SLOW"
+    [ "$1" != c2 ] || told "$C2"
     { echo "fn $1::f: proved" && echo "rt: $1 proved (1 s)"; } >"target/log/$1.out"
     if grep -q wrong "crates/$1/src/lib.rt"; then
         { echo "$1: error: a fact fails" && echo "rt: $1 NOT PROVED (exit 1, 1 s)"; } >"target/log/$1.out"
@@ -46,7 +51,7 @@ check)
     echo "rt: ok, $# crates proved"
     ;;
 staticlib)
-    sleep "$SLOW"
+    told "$LAST"
     mkdir -p target/staticlib
     cat crates/*/src/lib.rt >"target/staticlib/lib$2.a"
     ;;
@@ -54,9 +59,10 @@ esac
 END
 chmod +x "$work/bin/rt"
 CALLS=$work/calls
-SLOW=2
+C2=
+LAST='^proved 1[01] of'
 PATH=$work/bin:$PATH
-export CALLS SLOW PATH
+export CALLS C2 LAST PATH
 cd "$work"
 # prove: runs it; what it says on standard error is in the file said
 prove() { : >calls; sh tests/prove_archive.sh >out 2>said; }
@@ -68,8 +74,8 @@ prove || fail "the made-up crates are not proved: $(cat said)"
 [ "$(control)" -eq 0 ] || fail "control characters where there is no terminal"
 sed 's/[0-9]:[0-9][0-9]/M:SS/; s/^proved 1[01] of/proved 1x of/' said >plain
 cat >expected <<'END'
-proving and building the archive, 12 crates: from nothing about 5 minutes on two cores
-proved 1x of 12 crates, M:SS so far
+proving and building the archive, 12 crates: from nothing about 9 minutes on two cores
+proved 1x of 12 crates, M:SS so far, less than a minute to go
 the archive is proved and built, 12 crates in M:SS
 END
 diff expected plain || fail "other lines where there is no terminal"
@@ -77,7 +83,7 @@ grep -qx 'check c1 c2 c3 c4 c5 c6 c7 c8 c9 c10 c11' calls || fail "other crates 
 grep -qx 'staticlib zebrankai' calls || fail "the archive was not built"
 [ -f target/staticlib/libzebrankai.a ] || fail "there is no archive"
 
-SLOW=0
+LAST=
 # proved already: one line, and the prover is not asked
 prove
 [ "$(cat said)" = 'the archive is proved and built' ] || fail "more than a line where all is proved: $(cat said)"
@@ -117,12 +123,13 @@ fi
 # on a terminal: one line that is kept up to date, and nothing left of it
 if command -v script >/dev/null && script --version 2>/dev/null | grep -q util-linux; then
     echo 'again' >>crates/c1/src/lib.rt
-    SLOW=3
+    C2='; now c2$'
+    LAST='; now zebrankai$'
     TERM=xterm script -qec 'sh tests/prove_archive.sh' /dev/null >said </dev/null || fail "on a terminal it is not proved: $(cat said)"
     [ "$(wc -l <said)" -eq 2 ] || fail "on a terminal more than a first and a last line: $(cat said)"
-    tr '\r' '\n' <said | grep -q 'proved 1 of 12 crates, 0:0[0-9] so far; now c2$' || fail "it does not say which crate is being proved: $(cat said)"
-    tr '\r' '\n' <said | grep -q 'proved 11 of 12 crates, 0:0[0-9] so far; now zebrankai$' || fail "nor that the archive is: $(cat said)"
-    tail -n 1 said | tr '\r' '\n' | tail -n 2 | grep -q "^$(printf '\033')\[Kthe archive is proved and built, 12 crates in 0:0[0-9]" \
+    tr '\r' '\n' <said | grep -q 'proved 1 of 12 crates, 0:[0-9][0-9] so far; now c2$' || fail "it does not say which crate is being proved: $(cat said)"
+    tr '\r' '\n' <said | grep -q 'proved 11 of 12 crates, 0:[0-9][0-9] so far, less than a minute to go; now zebrankai$' || fail "nor that the archive is: $(cat said)"
+    tail -n 1 said | tr '\r' '\n' | tail -n 2 | grep -q "^$(printf '\033')\[Kthe archive is proved and built, 12 crates in 0:[0-9][0-9]" \
         || fail "the line is not cleared at the end: $(tail -n 1 said | od -c | head)"
 else
     echo "skipped the line on a terminal: no command 'script' to make one"

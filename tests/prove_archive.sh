@@ -1,7 +1,7 @@
 #!/bin/sh
 # Proves the archive and writes target/staticlib/libzebrankai.a: first the crates that it rests on, side by side as `rt check` proves them, then
-# the archive itself. On a terminal one line on standard error says how far it is; elsewhere there is a line for every ten crates. What the
-# prover said is in target/prove_archive.log, and is shown of crates that are not proved. An archive that was proved and built from the files as
+# the archive itself. On a terminal one line on standard error says how far it is and about how long the rest will take, by the crates done; elsewhere
+# there is a line for every ten crates. What the prover said is in target/prove_archive.log, and is shown of crates that are not proved. An archive that was proved and built from the files as
 # they stand is not built again. Where ZBK_ARCHIVE names another archive, seen from the top folder, it only sees that this is there.
 set -eu
 cd "$(dirname "$0")/.."
@@ -45,7 +45,7 @@ took() { t=$(($(date +%s) - began)) && printf '%d:%02d' $((t / 60)) $((t % 60));
 mkdir -p target/log
 rm -f "$archive.of"
 : >"$log"
-say "proving and building the archive, $all crates: from nothing about 5 minutes on two cores"
+say "proving and building the archive, $all crates: from nothing about 9 minutes on two cores"
 
 # the crates that are done, and those being proved: each has an empty file in target/log until it ends
 ended() { sed -n 's/^rt: \([A-Za-z0-9_]*\) proved (.*/\1/p' "$log" | sort -u | wc -l | tr -d ' '; }
@@ -54,13 +54,29 @@ running() {
     [ -n "$names" ] || [ "$1" -lt $((all - 1)) ] || names='zebrankai '
     printf '%s' "${names:+; now ${names% }}"
 }
+# about how long the rest takes: by the bytes of the crates proved so far and of those to come, once there is a tenth of them; crates that had not
+# changed took no time and do not count
+for crate in $below zebrankai; do
+    echo "$crate $(($(find "crates/$crate/src" "crates/$crate/specs" "crates/$crate/proofs" -type f -exec cat {} + 2>/dev/null | wc -c) + 6000))"
+done >"$log.bytes"
+rest() {
+    awk -v so_far=$(($(date +%s) - began)) '
+        NR == FNR { bytes[$1] = $2; all += $2; next }
+        /^rt: [A-Za-z0-9_]+ proved \(unchanged/ { if ($2 in bytes) { all -= bytes[$2]; delete bytes[$2] }; next }
+        /^rt: [A-Za-z0-9_]+ proved \(/ { if ($2 in bytes) { done += bytes[$2]; delete bytes[$2] } }
+        END {
+            if (done == 0 || done * 10 < all) exit
+            s = so_far * (all - done) / done
+            if (s < 60) printf ", less than a minute to go"; else printf ", about %d minutes to go", int(s / 60 + 1)
+        }' "$log.bytes" "$log" | sed 's/about 1 minutes/about a minute/'
+}
 # one line, kept up to date
 line() {
     while kill -0 $$ 2>/dev/null; do
         n=$(ended)
         wide=$(stty size <&2 2>/dev/null | cut -d' ' -f2)
         [ "${wide:-0}" -gt 0 ] || wide=80
-        printf "\r\033[K%.$((wide - 1))s" "proved $n of $all crates, $(took) so far$(running "$n")" >&2
+        printf "\r\033[K%.$((wide - 1))s" "proved $n of $all crates, $(took) so far$(rest)$(running "$n")" >&2
         sleep 1 >/dev/null 2>&1
     done
 }
@@ -70,7 +86,7 @@ lines() {
     while kill -0 $$ 2>/dev/null; do
         n=$(ended)
         if [ $((n / 10)) -gt $((told / 10)) ]; then
-            say "proved $n of $all crates, $(took) so far"
+            say "proved $n of $all crates, $(took) so far$(rest)"
             told=$n
         fi
         sleep 1 >/dev/null 2>&1
@@ -93,15 +109,19 @@ quiet() {
     shower=
     # shellcheck disable=SC2059 # the control characters
     printf "$clear" >&2
-    rm -f "$log.began"
+    rm -f "$log.began" "$log.bytes"
 }
-trap quiet EXIT
+memory=
+trap 'quiet; [ -z "$memory" ] || rm -rf "$memory"' EXIT
 trap 'exit 130' INT
 trap 'exit 143' TERM HUP
 
 first=$(made_of)
+. tests/memory.sh
+# a level is proved at once: of the levels with many crates none takes more than 1.3 GB for a check
+jobs=$(sh tests/jobs.sh 8 1300000)
 # shellcheck disable=SC2086 # the crates are words
-if ! { rt check $below && rt staticlib zebrankai; } >"$log" 2>&1; then
+if ! { RT_JOBS=$jobs rt check $below && rt staticlib zebrankai; } >"$log" 2>&1; then
     quiet
     # what was said of a crate that is proved is left out
     awk '/^rt: [A-Za-z0-9_]+ proved \(/ { text = ""; next }

@@ -4,31 +4,15 @@ use Prim.Native.Nat.{ℕ, _+_, _*_, _/_, _%_, _<_}
 use mathlib.Core.Path.{_≡_}
 use native.Mathlib.Nat.{mod-lt, div-add-mod'}
 use native.Mathlib.Omega.{arith}
-use Rattle.sizes.specs.declared.Refusal.{Refusal}
-use Rattle.sizes.specs.declared.Refusal.the-variants.{Size, Area, Long, Count, Node, Repeat, Short, Empty, Down, Disagree, Text, Mixed, Serving}
 use Rattle.sizes.specs.declared.Answer.{Answer}
 use Rattle.sizes.specs.declared.Answer.the-variants.{Done, Refused}
-use Rattle.sizes.specs.Refusals.{number, said}
+use Rattle.sizes.specs.Refusals.{said}
+use Rattle.sizes.proofs.Laws.{number-high}
 use Rattle.answer_word.specs.Laws.{AnswerLaws}
-
-few : (x : Refusal) → number x < 256
-few Size = omega arith
-few Area = omega arith
-few Long = omega arith
-few Count = omega arith
-few Node = omega arith
-few Repeat = omega arith
-few Short = omega arith
-few Empty = omega arith
-few Down = omega arith
-few Disagree = omega arith
-few Text = omega arith
-few Mixed = omega arith
-few Serving = omega arith
 
 small : (a : Answer) → said a .refusal < 256
 small (Done v) = omega arith
-small (Refused x) = few x
+small (Refused x) = number-high x
 
 full : 0 < 256
 full = omega arith

@@ -17,10 +17,12 @@ use Rattle.lists.proofs.Boards.{below-all}
 use Rattle.sizes.specs.declared.Sizes.{Sizes}
 use Rattle.sizes.specs.declared.Check.{Check}
 use Rattle.sizes.specs.declared.Check.the-variants.{Pass, Refuse}
+use Rattle.sizes.specs.declared.Refusal.{Refusal}
+use Rattle.sizes.specs.declared.Refusal.the-variants.{Size, Area, Long, Node}
 use Rattle.sizes.specs.Sizing.{legal, α, B, stripes}
-use Rattle.sizes.specs.Refusals.{Line, first, boardOrder}
+use Rattle.sizes.specs.Refusals.{Line, appliesIn, first, boardOrder}
 use Rattle.sizes.proofs.Legal.{Legal, legal-facts, stripes-least, B-most, α-most}
-use Rattle.sizes.proofs.Lines.{Clear, first-clear}
+use Rattle.sizes.proofs.Orders.{stands, clear-off}
 use Rattle.mbcr.specs.Share.{pointed, share, shares}
 use Rattle.mbcr.specs.Rebuild.{helperPacket, exchangePacket, finishedShare}
 use Rattle.mbcr.specs.Read.{decodedFile, readFile}
@@ -40,12 +42,12 @@ abbrev pub Fits : ℕ → Type 0
 Fits v = v < 72057594037927936
 
 -- a refusal reports nothing, so only the bytes of a call that no line stops count
-settled-fits : (lines : List Line) (bytes output : List ℕ) → (Clear lines boardOrder → Fits (length bytes))
+settled-fits : (lines : List Line) (bytes output : List ℕ) → (((x : Refusal) → stands boardOrder x ≡ true → appliesIn lines x ≡ false) → Fits (length bytes))
     → Fits (settled (first boardOrder lines) bytes output .answer .reported)
 settled-fits lines bytes output h = go (first boardOrder lines) refl
   where
     go : (c : Check) → first boardOrder lines ≡ c → Fits (settled c bytes output .answer .reported)
-    go Pass e = h (first-clear lines boardOrder e)
+    go Pass e = h (clear-off lines boardOrder e)
     go (Refuse x) e = omega arith
 
 -- what legal sizes and a length that is not LONG leave
@@ -118,28 +120,28 @@ text-few z xs L node held f h e =
 module _ (z : Sizes) (xs : List ℕ) where
   pub share-fits : (node : ℕ) (file output : List ℕ) → Fits (shareCall z xs node file output .answer .reported)
   unfolding shareLines shareCall
-  share-fits node file output = settled-fits (shareLines z xs node file output) (share z xs file node) output (λ h.
-      let f = few z xs (length file) (h .1 .0) (h .1 .1 .0) in
+  share-fits node file output = settled-fits (shareLines z xs node file output) (share z xs file node) output (λ off.
+      let f = few z xs (length file) (off Size refl) (off Long refl) in
       omega (arith, length-share z xs (f .allowed) file node, few-in-share z (length file) f))
 
   pub file-fits : (L : ℕ) (boards held output : List ℕ) → Fits (fileCall z xs L boards held output .answer .reported)
   unfolding fileLines fileCall
-  file-fits L boards held output = settled-fits (fileLines z xs L boards held output) (fileOf (readFile z xs L boards held)) output (λ h.
-      let f = few z xs L (h .1 .0) (h .1 .1 .0) in
+  file-fits L boards held output = settled-fits (fileLines z xs L boards held output) (fileOf (readFile z xs L boards held)) output (λ off.
+      let f = few z xs L (off Size refl) (off Long refl) in
       omega (arith, length-file z xs L boards held, f .most-bytes))
 
   pub helper-fits : (L helper receiver : ℕ) (held output : List ℕ) → Fits (helperCall z xs L helper receiver held output .answer .reported)
   unfolding helperLines helperCall
-  helper-fits L helper receiver held output = settled-fits (helperLines z xs L helper receiver held output) (helperPacket z xs (stripes z L) helper receiver held) output (λ h.
-      let f = few z xs L (h .1 .0) (h .1 .1 .0) in
+  helper-fits L helper receiver held output = settled-fits (helperLines z xs L helper receiver held output) (helperPacket z xs (stripes z L) helper receiver held) output (λ off.
+      let f = few z xs L (off Size refl) (off Long refl) in
       omega (arith, length-packet z xs (stripes z L) helper receiver held, f .most-stripes))
 
   pub exchange-fits : (L board : ℕ) (helpers packets : List ℕ) (receiver : ℕ) (output : List ℕ)
       → Fits (exchangeCall z xs L board helpers packets receiver output .answer .reported)
   unfolding exchangeLines exchangeCall
   exchange-fits L board helpers packets receiver output =
-      settled-fits (exchangeLines z xs L board helpers packets receiver output) (exchangePacket z xs (stripes z L) helpers packets receiver) output (λ h.
-      let f = few z xs L (h .1 .0) (h .1 .1 .0) in
+      settled-fits (exchangeLines z xs L board helpers packets receiver output) (exchangePacket z xs (stripes z L) helpers packets receiver) output (λ off.
+      let f = few z xs L (off Size refl) (off Long refl) in
       omega (arith, length-exchange z xs (stripes z L) helpers packets receiver, f .most-stripes))
 
   pub finished-fits : (L board : ℕ) (helpers packets partners exchanges output : List ℕ)
@@ -147,16 +149,16 @@ module _ (z : Sizes) (xs : List ℕ) where
   unfolding finishedLines finishedCall
   finished-fits L board helpers packets partners exchanges output =
       settled-fits (finishedLines z xs L board helpers packets partners exchanges output)
-      (finishedShare z xs (stripes z L) board helpers packets partners exchanges) output (λ h.
-      let f = few z xs L (h .1 .0) (h .1 .1 .0) in
+      (finishedShare z xs (stripes z L) board helpers packets partners exchanges) output (λ off.
+      let f = few z xs L (off Size refl) (off Long refl) in
       omega (arith, length-finished z xs (f .allowed) (stripes z L) board helpers packets partners exchanges, few-in-share z L f))
 
   pub text-fits : (L node : ℕ) (held output : List ℕ) → Fits (textCall z xs L node held output .answer .reported)
   unfolding textLines textCall
-  text-fits L node held output = settled-fits (textLines z xs L node held output) (shareText z xs L node held) output (λ h.
-      text-few z xs L node held (few z xs L (h .1 .0) (h .1 .1 .0))
-      (below-all (z .n) (node ∷ []) (not-no _ (h .1 .1 .1 .1 .1 .0)) .0)
-      (eqb-true _ _ (alls-hold (eqb (length held) (stripes z L * α z) ∷ []) (not-no _ (h .1 .1 .1 .1 .1 .1 .1 .0)) .0)))
+  text-fits L node held output = settled-fits (textLines z xs L node held output) (shareText z xs L node held) output (λ off.
+      text-few z xs L node held (few z xs L (off Size refl) (off Long refl))
+      (below-all (z .n) (node ∷ []) (not-no _ (off Node refl)) .0)
+      (eqb-true _ _ (alls-hold (eqb (length held) (stripes z L * α z) ∷ []) (not-no _ (off Area refl)) .0)))
 
 -- ---- texts
 
@@ -188,5 +190,5 @@ unfolding gatherLines gatherCall gathered
 gather-fits text output =
     let ts = textsTold (textsOf text) in
     let t = firstOf ts in
-    settled-fits (gatherLines text output) (fileOf (gathered ts)) output (λ h.
+    settled-fits (gatherLines text output) (fileOf (gathered ts)) output (λ off.
     omega (arith, length-file (t .sizes) (t .points) (t .length) (nodesOf ts) (sharesOf ts), length-told text (textsOf text) refl))

@@ -41,7 +41,7 @@ use Rattle.record_words.proofs.Laws.{word-laws}
 use Rattle.archive_spec.specs.Lent.{Lent, inWords, zbkSetUp, zbk}
 use Rattle.archive_spec.specs.Demand3.{lents, AllowedLents, lastWords, lastArea, Told, told, inWord, firstWords, endWords, endArea, endBook}
 use Rattle.archive_spec.specs.Demand3.{ArchiveRun, ArchiveDemand3, ArchiveRepaired, ArchiveRepairs, unalteredLents, ArchivePremises}
-use Rattle.archive_spec.proofs.Worded.{lent, lent-back, taken, set-up-lent}
+use Rattle.archive_spec.proofs.InWords.{lent, lent-back, taken, set-up-lent}
 
 -- ---- a call on the words of a record of 32 marks and points is the definitions' call on the record
 

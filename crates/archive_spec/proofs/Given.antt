@@ -22,7 +22,7 @@ use Rattle.board_spec.specs.Calls.{BoardOutcome, shareLines, shareCall, fileLin
 use Rattle.board_spec.specs.Calls.{exchangeLines, exchangeCall, finishedLines, finishedCall, textLines, textCall}
 use Rattle.store_spec.specs.Record.{Record, newRecord, allOff, sound}
 use Rattle.store_spec.specs.Calls.{refused, setUpCall}
-use Rattle.words.specs.Steps.{arrayOf}
+use Rattle.point_array.specs.Steps.{arrayOf}
 
 -- sizes and points that SIZE refuses
 abbrev Unfit : Sizes → List ℕ → Type 0

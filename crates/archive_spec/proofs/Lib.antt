@@ -1,10 +1,9 @@
 pub mod Bounds
 pub mod Words
 pub mod Given
-pub mod Worded
+pub mod InWords
 pub mod Told
 pub mod Laws
 pub mod Demand1
 pub mod Demand3
 pub mod ListLaws
-pub mod Figures

@@ -5,4 +5,3 @@ pub mod Laws
 pub mod Demand1
 pub mod Demand3
 pub mod ListLaws
-pub mod Figures

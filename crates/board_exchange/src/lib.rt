@@ -31,14 +31,14 @@ fn check_exchange(
     if let Check::Refuse(node) = checks::check_nodes_with(sizes, board, receiver, helpers) {
         return Check::Refuse(node);
     }
-    if let Check::Refuse(repeat) = checks::check_repeat_with(board, receiver, helpers) {
+    if let Check::Refuse(repeat) = line_checks::check_repeat_with(board, receiver, helpers) {
         return Check::Refuse(repeat);
     }
     let stripes = checks::stripe_count(sizes, len);
     if let Check::Refuse(lent) = checks::check_lent(packets.len(), sizes.d * (2 * stripes)) {
         return Check::Refuse(lent);
     }
-    checks::check_room(out, stripes)
+    line_checks::check_room(out, stripes)
 }
 
 // The exchange packet that a board being rebuilt makes of its d helper packets, for another. Answers the number of bytes written.

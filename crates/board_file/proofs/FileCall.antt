@@ -1,7 +1,7 @@
 -- A file from k shares: what the kernels ask, from what the checks told; and what the call answers by what its check answered.
 -- Assumes nothing.
 use Prim.Native.Nat.{ℕ, _*_, _≤_}
-use mathlib.Core.Path.{_≡_, sym, ap, _∙_}
+use mathlib.Core.Path.{_≡_, refl, sym, ap, _∙_}
 use mathlib.Core.Bool.{true, false, not}
 use mathlib.Core.List.{List, [], _∷_, _++_}
 use native.Mathlib.Omega.{arith}
@@ -12,20 +12,21 @@ use Rattle.lists.specs.Tests.{alls, below, different, given}
 use Rattle.lists.proofs.Tests.{not-no, alls-hold}
 use Rattle.sizes.specs.declared.Sizes.{Sizes}
 use Rattle.sizes.specs.declared.Refusal.{Refusal}
+use Rattle.sizes.specs.declared.Refusal.the-variants.{Size, Long, Count, Node, Repeat, Area, Short, Disagree}
 use Rattle.sizes.specs.declared.Check.{Check}
 use Rattle.sizes.specs.declared.Check.the-variants.{Pass, Refuse}
 use Rattle.sizes.specs.declared.Answer.the-variants.{Done, Refused}
 use Rattle.sizes.specs.Refusals.{first, boardOrder}
 use Rattle.sizes.specs.Sizing.{α, stripes}
 use Rattle.sizes.proofs.Legal.{legal-facts}
-use Rattle.sizes.proofs.Lines.{first-clear}
+use Rattle.sizes.proofs.Orders.{clear-off}
 use Rattle.mbcr.specs.Read.{decodedFile, readFile}
 use Rattle.mbcr.proofs.Read.{length-decoded-file}
 use Rattle.board_spec.specs.Calls.{fileOf, countLine, nodeLine, repeatLine, areaLine, fileLines, fileCall}
 use Rattle.board_spec.proofs.Files.{file-is}
-use Rattle.checks.specs.Steps.{asked, Stated}
+use Rattle.line_checks.specs.Steps.{asked, Stated}
 use Rattle.checks.specs.Outcomes.{outcome}
-use Rattle.checks.proofs.Answers.{passed}
+use Rattle.line_checks.proofs.Answers.{passed}
 use Rattle.checks.proofs.Facts.{stated-of, Taken, taken-of, refused-by, done-by}
 use Rattle.decode_stripe.specs.Steps.{Asked}
 
@@ -79,18 +80,17 @@ module _ (z : Sizes) (xs : List ℕ) (L : ℕ) (boards held output : List ℕ) w
   pub file-readable : checked ≡ Pass → Readable z xs L boards (length held)
   unfolding fileLines
   file-readable h =
-      let e = first-clear (fileLines z xs L boards held output) boardOrder h in
-      let f = e .1 .1 .1 .1 in
-      readable z xs L boards (length held) (stated-of z xs L (e .1 .0) (e .1 .1 .0)) (taken-of z xs (e .1 .0))
-      (rw (f .0)) (rw (f .1 .0)) (rw (f .1 .1 .0)) (rw (f .1 .1 .1 .0))
+      let off = clear-off (fileLines z xs L boards held output) boardOrder h in
+      readable z xs L boards (length held) (stated-of z xs L (off Size refl) (off Long refl)) (taken-of z xs (off Size refl))
+      (rw (off Count refl)) (rw (off Node refl)) (rw (off Repeat refl)) (rw (off Area refl))
 
   pub file-room : checked ≡ Pass → L ≤ length output
   unfolding fileLines
-  file-room h = ltb-false _ _ (first-clear (fileLines z xs L boards held output) boardOrder h .1 .1 .1 .1 .1 .1 .1 .1 .0)
+  file-room h = ltb-false _ _ (clear-off (fileLines z xs L boards held output) boardOrder h Short refl)
 
   file-agrees : checked ≡ Pass → given (readFile z xs L boards held) ≡ true
   unfolding fileLines
-  file-agrees h = not-no _ (first-clear (fileLines z xs L boards held output) boardOrder h .1 .1 .1 .1 .1 .1 .1 .1 .1 .0)
+  file-agrees h = not-no _ (clear-off (fileLines z xs L boards held output) boardOrder h Disagree refl)
 
   pub file-refuses : {x : Refusal} → checked ≡ Refuse x → outcome (Refused x) output ≡ fileCall z xs L boards held output
   unfolding fileCall

@@ -37,7 +37,7 @@ fn check_file(
     if let Check::Refuse(named) = checks::check_nodes(sizes, boards) {
         return Check::Refuse(named);
     }
-    if let Check::Refuse(repeated) = checks::check_repeat(boards) {
+    if let Check::Refuse(repeated) = line_checks::check_repeat(boards) {
         return Check::Refuse(repeated);
     }
     let stripes = checks::stripe_count(sizes, len);
@@ -45,7 +45,7 @@ fn check_file(
     if let Check::Refuse(lent) = checks::check_lent(held.len(), sizes.k * share_len) {
         return Check::Refuse(lent);
     }
-    if let Check::Refuse(short) = checks::check_room(out, len) {
+    if let Check::Refuse(short) = line_checks::check_room(out, len) {
         return Check::Refuse(short);
     }
     share_decode::check_agrees(sizes, points, inverses, len, stripes, boards, held, tables)

@@ -1,7 +1,7 @@
 -- A finished share: what it says of the call that its check passes, and what the call answers where it refuses and where it passes.
 -- Assumes nothing.
 use Prim.Native.Nat.{ℕ, _-_, _*_, _≤_}
-use mathlib.Core.Path.{_≡_, ap, _∙_}
+use mathlib.Core.Path.{_≡_, refl, ap, _∙_}
 use mathlib.Core.Bool.{true}
 use mathlib.Core.List.{List, [], _∷_, _++_}
 use borrow.Author.Tests.{ltb-false, eqb-true}
@@ -11,17 +11,18 @@ use Rattle.lists.specs.Tests.{below, different}
 use Rattle.lists.proofs.Tests.{not-no, alls-hold}
 use Rattle.sizes.specs.declared.Sizes.{Sizes}
 use Rattle.sizes.specs.declared.Refusal.{Refusal}
+use Rattle.sizes.specs.declared.Refusal.the-variants.{Size, Long, Count, Node, Repeat, Area, Short}
 use Rattle.sizes.specs.declared.Check.{Check}
 use Rattle.sizes.specs.declared.Check.the-variants.{Pass, Refuse}
 use Rattle.sizes.specs.declared.Answer.the-variants.{Done, Refused}
 use Rattle.sizes.specs.Refusals.{first, boardOrder}
 use Rattle.sizes.specs.Sizing.{α, stripes}
-use Rattle.sizes.proofs.Lines.{first-clear}
+use Rattle.sizes.proofs.Orders.{clear-off}
 use Rattle.sizes.proofs.Legal.{legal-facts}
 use Rattle.mbcr.specs.Rebuild.{finishedShare}
 use Rattle.mbcr.proofs.Repair.{length-finished}
 use Rattle.board_spec.specs.Calls.{finishedLines, finishedCall}
-use Rattle.checks.specs.Steps.{Stated}
+use Rattle.line_checks.specs.Steps.{Stated}
 use Rattle.checks.specs.Outcomes.{outcome}
 use Rattle.checks.proofs.Facts.{stated-of, Taken, taken-of, refused-by, done-by}
 
@@ -43,21 +44,20 @@ module _ (z : Sizes) (xs : List ℕ) (L board : ℕ) (helpers packets partners e
   pub finishes : checked ≡ Pass → Finishes z xs L board helpers packets partners exchanges output
   unfolding finishedLines
   finishes h =
-      let e = first-clear (finishedLines z xs L board helpers packets partners exchanges output) boardOrder h in
-      let k = e .1 .1 .1 .1 in
-      let counts = alls-hold (eqb (length helpers) (z .d) ∷ eqb (length partners) (z .r - 1) ∷ []) (not-no _ (k .0)) in
+      let off = clear-off (finishedLines z xs L board helpers packets partners exchanges output) boardOrder h in
+      let counts = alls-hold (eqb (length helpers) (z .d) ∷ eqb (length partners) (z .r - 1) ∷ []) (not-no _ (off Count refl)) in
       let lents = eqb (length packets) (z .d * (2 * stripes z L)) ∷ eqb (length exchanges) ((z .r - 1) * stripes z L) ∷ [] in
-      let lengths = alls-hold lents (not-no _ (k .1 .1 .1 .0)) in
+      let lengths = alls-hold lents (not-no _ (off Area refl)) in
       record {
-        stated = stated-of z xs L (e .1 .0) (e .1 .1 .0);
-        points-taken = taken-of z xs (e .1 .0);
+        stated = stated-of z xs L (off Size refl) (off Long refl);
+        points-taken = taken-of z xs (off Size refl);
         helpers-enough = eqb-true _ _ (counts .0);
         partners-enough = eqb-true _ _ (counts .1 .0);
-        known = not-no _ (k .1 .0);
-        once = not-no _ (k .1 .1 .0);
+        known = not-no _ (off Node refl);
+        once = not-no _ (off Repeat refl);
         packets-are = eqb-true _ _ (lengths .0);
         exchanges-are = eqb-true _ _ (lengths .1 .0);
-        room = ltb-false _ _ (k .1 .1 .1 .1 .0);
+        room = ltb-false _ _ (off Short refl);
       }
 
   pub finish-refuses : {x : Refusal} → checked ≡ Refuse x → outcome (Refused x) output ≡ finishedCall z xs L board helpers packets partners exchanges output

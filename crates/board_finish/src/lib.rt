@@ -38,7 +38,7 @@ fn check_finish(
     if let Check::Refuse(node) = checks::check_nodes_joined(sizes, helpers, partners, board) {
         return Check::Refuse(node);
     }
-    if let Check::Refuse(repeat) = checks::check_repeat_joined(helpers, partners, board) {
+    if let Check::Refuse(repeat) = line_checks::check_repeat_joined(helpers, partners, board) {
         return Check::Refuse(repeat);
     }
     let stripes = checks::stripe_count(sizes, len);
@@ -52,7 +52,7 @@ fn check_finish(
     ) {
         return Check::Refuse(lent);
     }
-    checks::check_room(out, stripes * sizes.share_len())
+    line_checks::check_room(out, stripes * sizes.share_len())
 }
 
 // The share of a board being rebuilt, of its d helper packets and its r - 1 partners' packets. Answers the number of bytes written.

@@ -23,7 +23,7 @@ use Rattle.sizes.specs.Sizing.{α, stripes}
 use Rattle.sizes.specs.Refusals.{_when_, first, boardOrder}
 use Rattle.sizes.proofs.Legal.{Legal, legal-facts}
 use Rattle.board_spec.specs.Calls.{BoardOutcome, settled, fileOf, fileCall, countLine, repeatLine, shortLine}
-use Rattle.checks.specs.Steps.{Stated}
+use Rattle.line_checks.specs.Steps.{Stated}
 use Rattle.checks.specs.Outcomes.{outcome}
 use Rattle.text_spec.specs.Texts.{ShareTold, textOf, textsJoined, Found, textAt, textsOf}
 use Rattle.text_spec.specs.Calls.{textsTold, firstOf, like, nodesOf, sharesOf, gathered, gatherLines, gatherCall}
@@ -39,7 +39,7 @@ use Rattle.text_scan.specs.Steps.{likeHead, Inside, Heads}
 use Rattle.text_scan.proofs.Prefix.{none-behind}
 use Rattle.text_in.specs.Steps.{bytesAt}
 use Rattle.text_stripes.specs.Steps.{spelled, Spelled}
-use Rattle.board_gather.specs.Steps.{Ready, fileTold}
+use Rattle.gather_told.specs.Steps.{Ready, fileTold}
 
 -- what heads tell, in lists
 abbrev pub nodesBy : List Head → List ℕ

@@ -1,2 +1,1 @@
 pub mod GatherCall
-pub mod ToldCall

@@ -2,51 +2,8 @@
 ghost use mathlib.Core.Path.{_≡_};
 ghost use Rattle.text_spec.specs.Calls.{gatherCall};
 ghost use Rattle.checks.specs.Outcomes.{outcome};
-ghost use Rattle.board_gather.specs.Steps.{Ready, fileTold};
 use sizes::Answer;
 use sizes::Refusal;
-use sizes::Sizes;
-
-// The file from k shares, of which the pairs begin at these places of the text: REPEAT, SHORT, DISAGREE, or its bytes.
-fn gather_told(
-    text: &[u8],
-    sizes: Sizes,
-    points: &[u8],
-    len: usize,
-    boards: &[usize],
-    places: &[usize],
-    out: &mut [u8],
-) -> Answer
-    requires { ⌜ Ready (now text) sizes (now points) len (now boards) (now places) ⌝ }
-    ensures { λ r. ⌜ outcome r (now (out .exit)) ≡ fileTold (now (text .entry)) sizes (now (points .entry)) len (now (boards .entry)) (now (places .entry)) (now (out .entry)) ⌝ }
-{
-    if !board_tests::different(boards) {
-        return Answer::Refused(Refusal::Repeat);
-    }
-    if out.len() < len {
-        return Answer::Refused(Refusal::Short);
-    }
-    let stripes = checks::stripe_count(sizes, len);
-    let mut inverses = [0u8; 256];
-    inverses::fill_inverses(&mut inverses);
-    let mut tables = [0u8; 49152];
-    decode_setup::fill(sizes, points, &inverses, boards, &mut tables);
-    if !text_decode::agrees(text, sizes, points, len, stripes, boards, places, &tables) {
-        return Answer::Refused(Refusal::Disagree);
-    }
-    text_decode::file(
-        text,
-        sizes,
-        points,
-        len,
-        stripes,
-        boards,
-        places,
-        &tables,
-        out,
-    );
-    Answer::Done(len)
-}
 
 // The file of k texts' shares. TEXT where the slice is no texts that `board_text::text` writes, one after another; MIXED where they differ in sizes,
 // points or length; then as of a file from k shares. No text at all is COUNT.
@@ -76,5 +33,5 @@ pub fn gather(text: &[u8], out: &mut [u8]) -> Answer
     if found.count != k {
         return Answer::Refused(Refusal::Count);
     }
-    gather_told(text, sizes, &points, len, &nodes[0..k], &places[0..k], out)
+    gather_told::gather_told(text, sizes, &points, len, &nodes[0..k], &places[0..k], out)
 }

@@ -28,7 +28,7 @@ fn check_helper(
     if let Check::Refuse(node) = checks::check_nodes(sizes, &named) {
         return Check::Refuse(node);
     }
-    if let Check::Refuse(repeat) = checks::check_repeat(&named) {
+    if let Check::Refuse(repeat) = line_checks::check_repeat(&named) {
         return Check::Refuse(repeat);
     }
     let stripes = checks::stripe_count(sizes, len);
@@ -36,7 +36,7 @@ fn check_helper(
         return Check::Refuse(lent);
     }
     let count = 2 * stripes;
-    checks::check_room(out, count)
+    line_checks::check_room(out, count)
 }
 
 // The helper packet that a board makes of its share of a file of so many bytes, for another board. Answers the number of bytes written.

@@ -16,11 +16,11 @@ fn check_share(sizes: Sizes, points: &[u8], node: usize, file: &[u8], out: &[u8]
     if let Check::Refuse(stated) = checks::check_stated(sizes, points, file.len()) {
         return Check::Refuse(stated);
     }
-    if let Check::Refuse(named) = checks::check_node(sizes, node) {
+    if let Check::Refuse(named) = line_checks::check_node(sizes, node) {
         return Check::Refuse(named);
     }
     let stripes = checks::stripe_count(sizes, file.len());
-    checks::check_room(out, stripes * sizes.share_len())
+    line_checks::check_room(out, stripes * sizes.share_len())
 }
 
 // The share of board `node` of a file, with these points of the boards. Answers the number of bytes written.

@@ -1,6 +1,6 @@
 -- Lines say what is claimed of them where each line says what its own claim does; and what a line of two tests says.
 -- Assumes nothing.
-use mathlib.Core.Path.{_≡_, refl, sym, ap, subst}
+use mathlib.Core.Path.{_≡_, refl}
 use mathlib.Core.Bool.{Bool, true, false, not}
 use mathlib.Core.Logic.{_↔_, _⊎_, inl, inr}
 use mathlib.Core.List.{List, [], _∷_}
@@ -8,27 +8,26 @@ use lib.Dec.{eqb}
 use Rattle.lists.specs.Tests.{pick, alls}
 use Rattle.lists.proofs.Tests.{true-false}
 use Rattle.sizes.specs.declared.Refusal.{Refusal}
-use Rattle.sizes.specs.Refusals.{number, Line, appliesIn}
-use Rattle.board_spec.specs.Claims.{Claim, saysOf, LinesSay}
+use Rattle.sizes.specs.Refusals.{number, Line, _when_, appliesIn}
+use Rattle.board_spec.specs.Claims.{Claim, _means_, saysOf, LinesSay}
 
--- line by line
-abbrev pub EachSays : List Line → List Claim → Type 0
-EachSays [] [] = Unit
-EachSays [] (c ∷ cs) = ⊥
-EachSays (l ∷ lines) [] = ⊥
-EachSays (l ∷ lines) (c ∷ cs) = (l .refusal ≡ c .refusal) × ((l .applies ≡ true) ↔ c .says) × EachSays lines cs
+-- line by line: `says-not _ and says-less _ _ and end`
+infixr 20 _and_
+pub data EachSays : List Line → List Claim → Type 1 where
+  end : EachSays [] []
+  _and_ : {y : Refusal} {t : Bool} {A : Type 0} {lines : List Line} {claims : List Claim}
+      → (t ≡ true) ↔ A → EachSays lines claims → EachSays ((y when t) ∷ lines) ((y means A) ∷ claims)
 
-either : (t : Bool) (a b : Bool) (A B : Type 0) → (a ≡ true) ↔ A → (b ≡ true) ↔ B → (pick t a b ≡ true) ↔ pick t A B
-either true a b A B h k = h
-either false a b A B h k = k
+either : (b : Bool) (t u : Bool) (A B : Type 0) → (t ≡ true) ↔ A → (u ≡ true) ↔ B → (pick b t u ≡ true) ↔ pick b A B
+either true t u A B h k = h
+either false t u A B h k = k
+
+say-at : {lines : List Line} {claims : List Claim} → EachSays lines claims → LinesSay lines claims
+say-at end x = (λ e. true-false e refl, λ e. absurd e)
+say-at (_and_ {y} {t} {A} {lines} {claims} h r) x = either (eqb (number y) (number x)) t (appliesIn lines x) A (saysOf claims x) h (say-at r x)
 
 pub lines-say : (lines : List Line) (claims : List Claim) → EachSays lines claims → LinesSay lines claims
-lines-say [] [] h x = (λ e. true-false e refl, λ e. absurd e)
-lines-say [] (c ∷ cs) h x = absurd h
-lines-say (l ∷ lines) [] h x = absurd h
-lines-say (l ∷ lines) (c ∷ cs) h x =
-    subst (λ (r : Refusal). (appliesIn (l ∷ lines) x ≡ true) ↔ pick (eqb (number r) (number x)) (c .says) (saysOf cs x)) (h .0)
-    (either (eqb (number (l .refusal)) (number x)) (l .applies) (appliesIn lines x) (c .says) (saysOf cs x) (h .1) (lines-say lines cs (h .2) x))
+lines-say lines claims h = say-at h
 
 -- a line that asks two tests
 pub says-either : (a b : Bool) → (not (alls (a ∷ b ∷ [])) ≡ true) ↔ ((a ≡ false) ⊎ (b ≡ false))

@@ -2,7 +2,7 @@
 -- Assumes nothing.
 use mathlib.Core.Path.{_≡_, refl, sym, ap, _∙_}
 use mathlib.Core.Bool.{Bool, true, false, not}
-use mathlib.Core.Logic.{_≢_, _↔_, _⊎_, inl, inr}
+use mathlib.Core.Logic.{_↔_}
 use mathlib.Core.Option.{Option, none, some}
 use mathlib.Core.List.{List, [], _∷_}
 use Prim.Native.Nat.{ℕ, _*_, _≤_}
@@ -11,20 +11,21 @@ use lib.Dec.{eqb}
 use lib.ListN.{length, take, length-take}
 use lib.Seq.{take-at}
 use borrow.Author.Tests.{ltb-false, le-ltb, eqb-true, eq-eqb}
-use Rattle.lists.specs.Lists.{All, Bytes, over}
+use Rattle.lists.specs.Lists.{Bytes, over}
 use Rattle.lists.specs.Tests.{pick, same, given}
 use Rattle.lists.proofs.Pieces.{length-joined}
 use Rattle.lists.proofs.Tests.{not-no, alls-hold, hold-alls}
 use Rattle.sizes.specs.Refusals.{number, said, Line, appliesIn, first, boardOrder}
 use Rattle.sizes.specs.Sizing.{stripes, legal, B, α}
 use Rattle.sizes.specs.declared.Answer.the-variants.{Done, Refused}
+use Rattle.sizes.proofs.Orders.{_also_, stands, none-off, off-pass, Only, only-off, only-first}
 use Rattle.sizes.specs.declared.Check.{Check}
 use Rattle.sizes.specs.declared.Check.the-variants.{Pass, Refuse}
 use Rattle.sizes.specs.declared.Refusal.{Refusal}
-use Rattle.sizes.specs.declared.Refusal.the-variants.{Size, Area, Long, Count, Node, Repeat, Short, Disagree, Text, Mixed}
+use Rattle.sizes.specs.declared.Refusal.the-variants.{Size, Count, Node, Repeat, Short, Disagree}
 use Rattle.sizes.specs.declared.Sizes.{Sizes}
 use Rattle.sizes.proofs.Legal.{Legal, legal-facts}
-use Rattle.sizes.proofs.Lines.{Clear, clear-first, refuse-first, one-or-none, says-not, says-less, says-one, says-two, says-no-file}
+use Rattle.sizes.proofs.Lines.{clear-first, refuse-first, one-or-none, says-not, says-less, says-one, says-two, says-no-file}
 use Rattle.mbcr.specs.Demand2.{Named}
 use Rattle.mbcr.specs.Read.{decodedFile, readFile}
 use Rattle.mbcr.specs.Rebuild.{helperPacket, exchangePacket, finishedShare}
@@ -38,14 +39,10 @@ use Rattle.board_spec.specs.Calls.{finishedLines, finishedCall, textLine
 use Rattle.board_spec.specs.Claims.{LinesSay}
 use Rattle.board_spec.specs.Demand1.{BoardEnds, BoardCalls, shareClaims, fileClaims, helperClaims, exchangeClaims, finishedClaims, textClaims}
 use Rattle.board_spec.specs.Text.{shareText}
-use Rattle.board_spec.proofs.Claims.{lines-say, says-either}
+use Rattle.board_spec.proofs.Claims.{_and_, end, lines-say, says-either}
 use Rattle.board_spec.proofs.Runs.{legal-of, points-of, named}
 
 -- ---- lines that do not hold
-
--- the order up to SHORT
-abbrev nine : List Refusal → List Refusal
-nine rest = Text ∷ Size ∷ Long ∷ Mixed ∷ Count ∷ Node ∷ Repeat ∷ Area ∷ Short ∷ rest
 
 -- the lines that the proofs ask
 record Passed (lines : List Line) : Type 0 where
@@ -55,14 +52,9 @@ record Passed (lines : List Line) : Type 0 where
   repeat : appliesIn lines Repeat ≡ false
   short : appliesIn lines Short ≡ false
 
-passed : (lines : List Line) (rest : List Refusal) → Clear lines (nine rest) → Passed lines
-passed lines rest h = record {
-  size = h .1 .0;
-  count = h .1 .1 .1 .1 .0;
-  node = h .1 .1 .1 .1 .1 .0;
-  repeat = h .1 .1 .1 .1 .1 .1 .0;
-  short = h .1 .1 .1 .1 .1 .1 .1 .1 .0;
-}
+-- of a call of which all lines but perhaps DISAGREE are off
+abbrev passed : (lines : List Line) → ((x : Refusal) → stands boardOrder x ≡ true → eqb (number x) (number Disagree) ≡ false → appliesIn lines x ≡ false) → Passed lines
+passed lines off = record { size = off Size refl refl; count = off Count refl refl; node = off Node refl refl; repeat = off Repeat refl refl; short = off Short refl refl }
 
 -- what COUNT asks
 counted : (a b : ℕ) → not (pick (eqb a b) true false) ≡ false → a ≡ b
@@ -75,7 +67,7 @@ ends : (lines : List Line) (output bytes : List ℕ) → (Passed lines → lengt
 ends lines output bytes f = record {
   one = one-or-none lines boardOrder;
   refuses = λ x h. ap (λ (c : Check). settled c bytes output) (refuse-first lines boardOrder x h);
-  works = λ h. (ap (λ (c : Check). settled c bytes output) (clear-first lines boardOrder h), f (passed lines (Disagree ∷ []) h));
+  works = λ h. (ap (λ (c : Check). settled c bytes output) (clear-first lines boardOrder h), f (passed lines (λ x s _. none-off lines boardOrder h x s)));
 }
 
 length-file-of : (t : Bool) (L : ℕ) (l : List ℕ) → length (fileOf (pick t (some (take L l)) none)) ≤ L
@@ -123,37 +115,6 @@ module _ (z : Sizes) (xs : List ℕ) where
 
 -- ---- a file is given just where there is one
 
--- no line but DISAGREE holds
-abbrev Only : List Line → Type 0
-Only lines = All (λ x. (x ≡ Disagree) ⊎ (appliesIn lines x ≡ false)) boardOrder
-
-pub clear : (lines : List Line) (x : Refusal) → number x ≢ 10 → (x ≡ Disagree) ⊎ (appliesIn lines x ≡ false) → appliesIn lines x ≡ false
-clear lines x h (inl e) = absurd (h (ap number e))
-clear lines x h (inr e) = e
-
-module _ (lines : List Line) (h : Only lines) where
-  only-passed : Passed lines
-  only-passed = record {
-    size = clear lines Size (omega arith) (h .1 .0);
-    count = clear lines Count (omega arith) (h .1 .1 .1 .1 .0);
-    node = clear lines Node (omega arith) (h .1 .1 .1 .1 .1 .0);
-    repeat = clear lines Repeat (omega arith) (h .1 .1 .1 .1 .1 .1 .0);
-    short = clear lines Short (omega arith) (h .1 .1 .1 .1 .1 .1 .1 .1 .0);
-  }
-
-  only-first : first boardOrder lines ≡ pick (appliesIn lines Disagree) (Refuse Disagree) Pass
-  only-first =
-      let p1 = only-passed .size in
-      let p2 = clear lines Long (omega arith) (h .1 .1 .0) in
-      let p3 = only-passed .count in
-      let p4 = only-passed .node in
-      let p5 = only-passed .repeat in
-      let p6 = clear lines Area (omega arith) (h .1 .1 .1 .1 .1 .1 .1 .0) in
-      let p7 = only-passed .short in
-      let p8 = clear lines Text (omega arith) (h .0) in
-      let p9 = clear lines Mixed (omega arith) (h .1 .1 .1 .0) in
-      rw (p8, p1, p2, p9, p3, p4, p5, p6, p7)
-
 -- the outcome of a call that found this file, or none
 abbrev outcome : Option (List ℕ) → List ℕ → BoardOutcome
 outcome (some file) output = record { answer = said (Done (length file)); output = over file output }
@@ -169,9 +130,9 @@ written file file′ output l e =
     sym (take-at file _ (length file′) l) ∙ ap (take (length file′)) e ∙ take-at file′ _ (length file′) refl
 
 module _ (z : Sizes) (xs : List ℕ) (L : ℕ) (boards held output : List ℕ) (bh : Bytes held)
-    (h : Only (fileLines z xs L boards held output)) where
+    (h : Only (fileLines z xs L boards held output) Disagree boardOrder) where
   others : Passed (fileLines z xs L boards held output)
-  others = only-passed (fileLines z xs L boards held output) h
+  others = passed (fileLines z xs L boards held output) (only-off (fileLines z xs L boards held output) Disagree boardOrder h)
 
   facts : Legal z
   unfolding fileLines
@@ -192,7 +153,7 @@ module _ (z : Sizes) (xs : List ℕ) (L : ℕ) (boards held output : List ℕ) (
   call-is : (o : Option (List ℕ)) → readFile z xs L boards held ≡ o → fileCall z xs L boards held output ≡ outcome o output
   unfolding fileLines fileCall
   call-is o e =
-      ap (λ (c : Check). settled c (fileOf (readFile z xs L boards held)) output) (only-first (fileLines z xs L boards held output) h)
+      ap (λ (c : Check). settled c (fileOf (readFile z xs L boards held)) output) (only-first (fileLines z xs L boards held output) Disagree boardOrder refl h)
       ∙ found (readFile z xs L boards held) output ∙ ap (λ (o : Option (List ℕ)). outcome o output) e
 
   gives : (file : List ℕ) → length file ≡ L → Bytes file
@@ -228,97 +189,62 @@ module _ (z : Sizes) (xs : List ℕ) where
   unfolding shareLines
   share-lines node file output =
       lines-say (shareLines z xs node file output) (shareClaims z xs node file output)
-      (refl, says-either _ _, (refl, says-less _ _, (refl, says-not _, (refl, says-less _ _, tt))))
+      (says-either _ _ and says-less _ _ and says-not _ and says-less _ _ and end)
 
   file-lines : (L : ℕ) (boards held output : List ℕ) → LinesSay (fileLines z xs L boards held output) (fileClaims z xs L boards held output)
   unfolding fileLines
   file-lines L boards held output =
-      lines-say (fileLines z xs L boards held output) (fileClaims z xs L boards held output) (
-        refl,
-        says-either _ _,
-        (
-          refl,
-          says-less _ _,
-          (
-            refl,
-            says-one _ _,
-            (
-              refl,
-              says-not _,
-              (
-                refl,
-                says-not _,
-                (refl, says-one _ _, (refl, says-less _ _, (refl, says-no-file _, tt))),
-              ),
-            ),
-          ),
-        ),
-      )
+      lines-say (fileLines z xs L boards held output) (fileClaims z xs L boards held output)
+      (says-either _ _
+      and says-less _ _
+      and says-one _ _
+      and says-not _
+      and says-not _
+      and says-one _ _
+      and says-less _ _
+      and says-no-file _
+      and end)
 
   helper-lines : (L helper receiver : ℕ) (held output : List ℕ)
       → LinesSay (helperLines z xs L helper receiver held output) (helperClaims z xs L helper receiver held output)
   unfolding helperLines
   helper-lines L helper receiver held output =
       lines-say (helperLines z xs L helper receiver held output) (helperClaims z xs L helper receiver held output)
-      (refl, says-either _ _, (refl, says-less _ _, (refl, says-not _, (refl, says-not _, (refl, says-one _ _, (refl, says-less _ _, tt))))))
+      (says-either _ _ and says-less _ _ and says-not _ and says-not _ and says-one _ _ and says-less _ _ and end)
 
   exchange-lines : (L board : ℕ) (helpers packets : List ℕ) (receiver : ℕ) (output : List ℕ)
       → LinesSay (exchangeLines z xs L board helpers packets receiver output) (exchangeClaims z xs L board helpers packets receiver output)
   unfolding exchangeLines
   exchange-lines L board helpers packets receiver output =
-      lines-say (exchangeLines z xs L board helpers packets receiver output) (exchangeClaims z xs L board helpers packets receiver output) (
-        refl,
-        says-either _ _,
-        (
-          refl,
-          says-less _ _,
-          (
-            refl,
-            says-one _ _,
-            (
-              refl,
-              says-not _,
-              (
-                refl,
-                says-not _,
-                (refl, says-one _ _, (refl, says-less _ _, tt)),
-              ),
-            ),
-          ),
-        ),
-      )
+      lines-say (exchangeLines z xs L board helpers packets receiver output) (exchangeClaims z xs L board helpers packets receiver output)
+      (says-either _ _
+      and says-less _ _
+      and says-one _ _
+      and says-not _
+      and says-not _
+      and says-one _ _
+      and says-less _ _
+      and end)
 
   finished-lines : (L board : ℕ) (helpers packets partners exchanges output : List ℕ)
       → LinesSay (finishedLines z xs L board helpers packets partners exchanges output) (finishedClaims z xs L board helpers packets partners exchanges output)
   unfolding finishedLines
   finished-lines L board helpers packets partners exchanges output =
-      lines-say (finishedLines z xs L board helpers packets partners exchanges output) (finishedClaims z xs L board helpers packets partners exchanges output) (
-        refl,
-        says-either _ _,
-        (
-          refl,
-          says-less _ _,
-          (
-            refl,
-            says-two _ _ _ _,
-            (
-              refl,
-              says-not _,
-              (
-                refl,
-                says-not _,
-                (refl, says-two _ _ _ _, (refl, says-less _ _, tt)),
-              ),
-            ),
-          ),
-        ),
-      )
+      lines-say (finishedLines z xs L board helpers packets partners exchanges output) (finishedClaims z xs L board helpers packets partners exchanges output)
+      (says-either _ _
+      and says-less _ _
+      and says-two _ _ _ _
+      and says-not _
+      and says-not _
+      and says-two _ _ _ _
+      and says-less _ _
+      and end)
 
   text-lines : (L node : ℕ) (held output : List ℕ) → LinesSay (textLines z xs L node held output) (textClaims z xs L node held output)
   unfolding textLines
   text-lines L node held output =
       lines-say (textLines z xs L node held output) (textClaims z xs L node held output)
-      (refl, says-either _ _, (refl, says-less _ _, (refl, says-not _, (refl, says-one _ _, (refl, says-less _ _, tt)))))
+      (says-either _ _ and says-less _ _ and says-not _ and says-one _ _ and says-less _ _ and end)
 
 -- ---- the reader gives the file
 
@@ -336,31 +262,16 @@ module _ (z : Sizes) (xs file boards output : List ℕ) (ok : legal z ≡ true) 
   unfolding fileCall fileLines
   reader-gives =
       let held : List ℕ = shares z xs file boards in
-      let c : first boardOrder (fileLines z xs (length file) boards held output) ≡ Pass = clear-first (fileLines z xs (length file) boards held output) boardOrder (
-        refl,
-        (
-          ap not (hold-alls (legal z ∷ pointed z xs ∷ []) (ok, (taken, tt))),
-          (
-            le-ltb _ _ few,
-            (
-              refl,
-              (
-                ap not (hold-alls (eqb (length boards) (z .k) ∷ []) (eq-eqb _ _ (h .0), tt)),
-                (
-                  ap not (h .1),
-                  (
-                    ap not (h .2),
-                    (
-                      ap not (hold-alls (eqb (length held) (z .k * (stripes z (length file) * α z)) ∷ []) (eq-eqb _ _ shares-long, tt)),
-                      (le-ltb _ _ room, (ap (λ (o : Option (List ℕ)). not (given o)) found-file, tt)),
-                    ),
-                  ),
-                ),
-              ),
-            ),
-          ),
-        ),
-      ) in
+      let c : first boardOrder (fileLines z xs (length file) boards held output) ≡ Pass = off-pass (fileLines z xs (length file) boards held output) boardOrder
+      (ap not (hold-alls (legal z ∷ pointed z xs ∷ []) (ok, (taken, tt)))
+      also le-ltb _ _ few
+      also ap not (hold-alls (eqb (length boards) (z .k) ∷ []) (eq-eqb _ _ (h .0), tt))
+      also ap not (h .1)
+      also ap not (h .2)
+      also ap not (hold-alls (eqb (length held) (z .k * (stripes z (length file) * α z)) ∷ []) (eq-eqb _ _ shares-long, tt))
+      also le-ltb _ _ room
+      also ap (λ (o : Option (List ℕ)). not (given o)) found-file
+      also tt) in
       ap (λ (x : Check). settled x (fileOf (readFile z xs (length file) boards held)) output) c
       ∙ ap (λ (o : Option (List ℕ)). record { answer = said (Done (length (fileOf o))); output = over (fileOf o) output }) found-file
 

@@ -3,4 +3,3 @@ pub mod Runs
 pub mod Files
 pub mod Claims
 pub mod Demand1
-pub mod Figures

@@ -17,7 +17,7 @@ use Rattle.sizes.specs.Refusals.{Line, appliesIn, first, boardOrder}
 use Rattle.sizes.specs.declared.Refusal.the-variants.{Size, Node, Repeat}
 use Rattle.sizes.specs.Sizing.{legal}
 use Rattle.sizes.proofs.Legal.{Legal, legal-facts}
-use Rattle.sizes.proofs.Lines.{first-clear}
+use Rattle.sizes.proofs.Orders.{clear-off}
 use Rattle.mbcr.specs.Share.{DifferentPoints, points, neighbours, pointed}
 use Rattle.mbcr.specs.Rebuild.{ownF, ownG, gFrom, fFrom}
 use Rattle.mbcr.specs.Read.{through}
@@ -96,7 +96,7 @@ record Passed (lines : List Line) : Type 0 where
   repeat : appliesIn lines Repeat ≡ false
 
 passed : (lines : List Line) → first boardOrder lines ≡ Pass → Passed lines
-passed lines h = let e = first-clear lines boardOrder h in record { size = e .1 .0; node = e .1 .1 .1 .1 .1 .0; repeat = e .1 .1 .1 .1 .1 .1 .0 }
+passed lines h = let off = clear-off lines boardOrder h in record { size = off Size refl; node = off Node refl; repeat = off Repeat refl }
 
 module _ (z : Sizes) (xs : List ℕ) (L : ℕ) where
   file-apart : (boards held output : List ℕ)

@@ -3,4 +3,3 @@ pub mod Calls
 pub mod Claims
 pub mod Demand1
 pub mod Runs
-pub mod Figures

@@ -1,7 +1,7 @@
 -- A share as text, at any points: what it says of the call that its checks pass, and what the call answers by what its check answered.
 -- Assumes nothing.
 use Prim.Native.Nat.{ℕ, _*_, _≤_}
-use mathlib.Core.Path.{_≡_, sym, ap, _∙_}
+use mathlib.Core.Path.{_≡_, refl, sym, ap, _∙_}
 use mathlib.Core.List.{List, [], _∷_, _++_}
 use native.Mathlib.Nat.{mul-le-mul-right}
 use native.Mathlib.Omega.{arith}
@@ -13,18 +13,19 @@ use Rattle.lists.proofs.Tests.{not-no, alls-hold}
 use Rattle.lists.proofs.Boards.{below-all}
 use Rattle.sizes.specs.declared.Sizes.{Sizes}
 use Rattle.sizes.specs.declared.Refusal.{Refusal}
+use Rattle.sizes.specs.declared.Refusal.the-variants.{Size, Long, Node, Area, Short}
 use Rattle.sizes.specs.declared.Check.{Check}
 use Rattle.sizes.specs.declared.Check.the-variants.{Pass, Refuse}
 use Rattle.sizes.specs.declared.Answer.the-variants.{Done, Refused}
 use Rattle.sizes.specs.Refusals.{first, boardOrder}
 use Rattle.sizes.specs.Sizing.{α, stripes}
 use Rattle.sizes.proofs.Legal.{legal-facts, α-most, B-most, stripes-least}
-use Rattle.sizes.proofs.Lines.{first-clear}
+use Rattle.sizes.proofs.Orders.{clear-off}
 use Rattle.board_spec.specs.Text.{shareText}
 use Rattle.board_spec.specs.Calls.{nodeLine, areaLine, textLines, textCall}
-use Rattle.checks.specs.Steps.{asked, Stated}
+use Rattle.line_checks.specs.Steps.{asked, Stated}
 use Rattle.checks.specs.Outcomes.{outcome}
-use Rattle.checks.proofs.Answers.{passed}
+use Rattle.line_checks.proofs.Answers.{passed}
 use Rattle.checks.proofs.Facts.{stated-of, taken-of, refused-by, done-by}
 use Rattle.text_writer.specs.Steps.{Writes, Fits}
 
@@ -51,14 +52,14 @@ module _ (z : Sizes) (xs : List ℕ) (L node : ℕ) (held output : List ℕ) whe
   pub text-writes : checked ≡ Pass → Writes z xs L node (length held)
   unfolding textLines
   text-writes h =
-      let e = first-clear (textLines z xs L node held output) boardOrder h in
-      writes z xs L node (length held) (stated-of z xs L (e .1 .0) (e .1 .1 .0)) (taken-of z xs (e .1 .0) .long) (rw (e .1 .1 .1 .1 .1 .0)) (rw (e .1 .1 .1 .1 .1 .1 .1 .0))
+      let off = clear-off (textLines z xs L node held output) boardOrder h in
+      writes z xs L node (length held) (stated-of z xs L (off Size refl) (off Long refl)) (taken-of z xs (off Size refl) .long) (rw (off Node refl)) (rw (off Area refl))
 
   pub text-fits : checked ≡ Pass → Fits z xs L node held output
   unfolding textLines
   text-fits h =
-      let e = first-clear (textLines z xs L node held output) boardOrder h in
-      record { has-points = text-writes h .has-points; has-room = ltb-false _ _ (e .1 .1 .1 .1 .1 .1 .1 .1 .0) }
+      let off = clear-off (textLines z xs L node held output) boardOrder h in
+      record { has-points = text-writes h .has-points; has-room = ltb-false _ _ (off Short refl) }
 
   pub text-refuses : {x : Refusal} → checked ≡ Refuse x → outcome (Refused x) output ≡ textCall z xs L node held output
   unfolding textCall

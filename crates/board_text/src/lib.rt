@@ -23,7 +23,7 @@ fn check_text(
     if let Check::Refuse(stated) = checks::check_stated(sizes, points, len) {
         return Check::Refuse(stated);
     }
-    if let Check::Refuse(named) = checks::check_node(sizes, node) {
+    if let Check::Refuse(named) = line_checks::check_node(sizes, node) {
         return Check::Refuse(named);
     }
     let stripes = checks::stripe_count(sizes, len);
@@ -31,7 +31,7 @@ fn check_text(
     if let Check::Refuse(lent) = checks::check_lent(held.len(), share_len) {
         return Check::Refuse(lent);
     }
-    checks::check_room(
+    line_checks::check_room(
         out,
         text_writer::text_len(sizes, points, len, node, held.len()),
     )

@@ -11,7 +11,7 @@ use Rattle.sizes.specs.declared.Check.{Check}
 use Rattle.sizes.specs.declared.Check.the-variants.{Pass, Refuse}
 use Rattle.sizes.specs.Refusals.{Line, _when_}
 use Rattle.board_spec.specs.Calls.{areaLine, countLine}
-use Rattle.checks.specs.Steps.{asked}
+use Rattle.line_checks.specs.Steps.{asked}
 use Rattle.checks.proofs.Given.{chain}
 
 -- a check, and where it passes what comes after it

@@ -5,13 +5,13 @@ ghost use Prim.Native.Nat.{_+_, _*_, _≤_};
 ghost use lib.ListN.{length};
 ghost use mathlib.Core.Bool.{true, not};
 ghost use lib.Dec.{ltb, eqb};
-ghost use Rattle.lists.specs.Tests.{pick, different};
+ghost use Rattle.lists.specs.Tests.{pick};
 ghost use Rattle.lists.specs.Lists.{tabulate};
 ghost use Rattle.sizes.specs.Sizing.{legal, stripes};
 ghost use Rattle.sizes.specs.Refusals.{first, boardOrder};
-ghost use Rattle.mbcr.specs.Share.{standard, pointed};
-ghost use Rattle.board_spec.specs.Calls.{sizeLine, longLine, countLine, nodeLine, repeatLine, areaLine, shortLine};
-ghost use Rattle.checks.specs.Steps.{asked, statedLines, Stated};
+ghost use Rattle.mbcr.specs.Share.{standard};
+ghost use Rattle.board_spec.specs.Calls.{sizeLine, longLine, countLine, nodeLine, areaLine};
+ghost use Rattle.line_checks.specs.Steps.{asked, statedLines, Stated};
 use sizes::Check;
 use sizes::Refusal;
 use sizes::Sizes;
@@ -45,27 +45,12 @@ pub fn standard_points(sizes: Sizes) -> [u8; 32]
     points
 }
 
-// Whether these points are taken: 32 bytes, those of n boards different, and 00 from n up.
-pub fn points_taken(sizes: Sizes, points: &[u8]) -> bool
-    requires { ⌜ legal sizes ≡ true ⌝ }
-    ensures { λ r. ⌜ r ≡ pointed sizes (now (points .entry)) ⌝ }
-{
-    if points.len() != Sizes::MAX_BOARDS {
-        return false;
-    }
-    let n = sizes.n;
-    if board_tests::points_differ(&points[0..n]) {
-        return board_tests::zero_from(points, n);
-    }
-    false
-}
-
 // 1 SIZE, board level.
 pub fn check_sizes(sizes: Sizes, points: &[u8]) -> Check
     ensures { λ r. ⌜ r ≡ asked (sizeLine sizes (now (points .entry))) ⌝ }
 {
     if sizes.legal() {
-        if points_taken(sizes, points) {
+        if line_checks::points_taken(sizes, points) {
             return Check::Pass;
         }
     }
@@ -115,17 +100,6 @@ pub fn check_counts(got: usize, want: usize, other: usize, wanted: usize) -> Che
     check_count(other, wanted)
 }
 
-// 5 NODE of one board.
-pub fn check_node(sizes: Sizes, node: usize) -> Check
-    ensures { λ r. ⌜ r ≡ asked (nodeLine sizes (node ∷ [])) ⌝ }
-{
-    if node < sizes.n {
-        Check::Pass
-    } else {
-        Check::Refuse(Refusal::Node)
-    }
-}
-
 // 5 NODE of a list.
 pub fn check_nodes(sizes: Sizes, boards: &[usize]) -> Check
     ensures { λ r. ⌜ r ≡ asked (nodeLine sizes (now (boards .entry))) ⌝ }
@@ -134,17 +108,6 @@ pub fn check_nodes(sizes: Sizes, boards: &[usize]) -> Check
         Check::Pass
     } else {
         Check::Refuse(Refusal::Node)
-    }
-}
-
-// 6 REPEAT of a list.
-pub fn check_repeat(boards: &[usize]) -> Check
-    ensures { λ r. ⌜ r ≡ asked (repeatLine (now (boards .entry))) ⌝ }
-{
-    if board_tests::different(boards) {
-        Check::Pass
-    } else {
-        Check::Refuse(Refusal::Repeat)
     }
 }
 
@@ -161,52 +124,16 @@ pub fn check_nodes_with(sizes: Sizes, one: usize, other: usize, boards: &[usize]
     check_nodes(sizes, boards)
 }
 
-// 6 REPEAT of two boards and a list.
-pub fn check_repeat_with(one: usize, other: usize, boards: &[usize]) -> Check
-    ensures { λ r. ⌜ r ≡ asked (repeatLine (one ∷ other ∷ now (boards .entry))) ⌝ }
-{
-    if other == one {
-        return Check::Refuse(Refusal::Repeat);
-    }
-    if board_tests::among_from(boards, 0, one) {
-        return Check::Refuse(Refusal::Repeat);
-    }
-    if board_tests::among_from(boards, 0, other) {
-        return Check::Refuse(Refusal::Repeat);
-    }
-    check_repeat(boards)
-}
-
 // 5 NODE of two lists and a board.
 pub fn check_nodes_joined(sizes: Sizes, boards: &[usize], others: &[usize], last: usize) -> Check
     ensures { λ r. ⌜ r ≡ asked (nodeLine sizes (now (boards .entry) ++ now (others .entry) ++ (last ∷ []))) ⌝ }
 {
     if board_tests::below(sizes.n, boards) {
         if board_tests::below(sizes.n, others) {
-            return check_node(sizes, last);
+            return line_checks::check_node(sizes, last);
         }
     }
     Check::Refuse(Refusal::Node)
-}
-
-// 6 REPEAT of two lists and a board.
-pub fn check_repeat_joined(boards: &[usize], others: &[usize], last: usize) -> Check
-    ensures { λ r. ⌜ r ≡ asked (repeatLine (now (boards .entry) ++ now (others .entry) ++ (last ∷ []))) ⌝ }
-{
-    if board_tests::different(boards) {
-        if board_tests::different(others) {
-            if board_tests::apart(others, boards) {
-                if board_tests::among_from(boards, 0, last) {
-                    return Check::Refuse(Refusal::Repeat);
-                }
-                if board_tests::among_from(others, 0, last) {
-                    return Check::Refuse(Refusal::Repeat);
-                }
-                return Check::Pass;
-            }
-        }
-    }
-    Check::Refuse(Refusal::Repeat)
 }
 
 // 2 AREA of one slice.
@@ -228,17 +155,6 @@ pub fn check_two_lent(got: usize, want: usize, other: usize, wanted: usize) -> C
         return Check::Refuse(Refusal::Area);
     }
     check_lent(other, wanted)
-}
-
-// 7 SHORT.
-pub fn check_room(output: &[u8], count: usize) -> Check
-    ensures { λ r. ⌜ r ≡ asked (shortLine (now (output .entry)) count) ⌝ }
-{
-    if output.len() < count {
-        Check::Refuse(Refusal::Short)
-    } else {
-        Check::Pass
-    }
 }
 
 // S of a length that is not LONG.

@@ -29,7 +29,7 @@ use Rattle.decode_laws.specs.Steps.{pairsMeet, zeros, stripeReads, heldAt, Plac
 use Rattle.decode_laws.proofs.Agree.{alls-true, true-alls, same-truth, decoded-ext, agrees-ext, stripe-agrees, all-stripes}
 use Rattle.decode_laws.proofs.Held.{length-held, held-bytes, placed-before}
 use Rattle.decode_stripe.proofs.Made.{part-long}
-use Rattle.decode_stripes.specs.Steps.{stripeAt}
+use Rattle.stripes_cut.specs.Steps.{stripeAt}
 use Rattle.decode.specs.Steps.{sharesAt}
 use Rattle.decode.proofs.Shares.{shares-long, held-there}
 

@@ -12,7 +12,7 @@ ghost use Rattle.mbcr.specs.Read.{decodedFile, readFile};
 ghost use Rattle.decode_laws.specs.Steps.{pairsMeet, zeros, heldAt, Placed};
 ghost use Rattle.decode_stripe.specs.Steps.{Asked};
 ghost use Rattle.decode_setup.specs.Steps.{Made};
-ghost use Rattle.decode_stripes.specs.Steps.{stripeAt};
+ghost use Rattle.stripes_cut.specs.Steps.{stripeAt};
 ghost use Rattle.decode.specs.Steps.{sharesAt};
 use sizes::Sizes;
 

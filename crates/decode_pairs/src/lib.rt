@@ -25,11 +25,11 @@ fn value_at(
     requires { ⌜ (n ≤ 32) × (c ≤ n) × (m ≤ 32) × (length (now boards) ≤ 32) × (below n (now boards) ≡ true) × (length (now boards) * ((n - c) * 32) ≤ length (now factors)) × (length (now rows) ≡ length (now boards) * 32) × (t < length (now boards)) × (i < length (now boards)) ⌝ }
     ensures { λ r. ⌜ r ≡ valueAt n c m (now (boards .entry)) (now (boards .entry)) (now (factors .entry)) (now (rows .entry)) t i ⌝ }
 {
-    let o = decode_values::offset(n, boards[t], boards[i]);
+    let o = kept_rows::offset(n, boards[t], boards[i]);
     let from = t * ((n - c) * 32);
     let row = t * 32;
     let end = row + 32;
-    decode_values::value(n, c, m, o, &factors[from..], &rows[row..end])
+    kept_rows::value(n, c, m, o, &factors[from..], &rows[row..end])
 }
 
 // Whether f of boards[i] and g of each board have one value where they meet: f has w bytes, g has d.

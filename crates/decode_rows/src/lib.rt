@@ -20,7 +20,7 @@ pub fn by_rows(count: usize, m: usize, a: &[u8], tables: &[u8], out: &mut [u8])
         let to = from + m;
         let at = i * 32;
         let end = at + 32;
-        let row = row_sums::row_sum(tables, &a[from..to]);
+        let row = column_sums::row_sum(tables, &a[from..to]);
         row_sums::put_row(row, &mut out[at..end]);
         i += 1;
     }
@@ -36,7 +36,7 @@ pub fn by_columns(count: usize, from: usize, m: usize, a: &[u8], tables: &[u8], 
         let j = from + i;
         let at = i * 32;
         let end = at + 32;
-        let row = row_sums::column_sum(tables, a, j, m);
+        let row = column_sums::column_sum(tables, a, j, m);
         row_sums::put_row(row, &mut out[at..end]);
         i += 1;
     }

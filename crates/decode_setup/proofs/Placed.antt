@@ -1,139 +1,33 @@
--- Parts of one list that are filled in one after another, each behind the others; how long the tables of a read are at most.
+-- How long the tables of a read are at most, and that each is in its place when all five are.
 -- Assumes nothing.
-use mathlib.Core.Path.{_≡_, refl, sym, ap, ap₂, _∙_}
+use mathlib.Core.Path.{_≡_, refl, sym, ap, ap₂, subst, _∙_}
 use mathlib.Core.Bool.{true}
-use mathlib.Core.List.{List, [], _∷_, _++_}
-use Prim.Native.Nat.{ℕ, _+_, _*_, _-_, _%_, _<_, _≤_}
+use mathlib.Core.List.{List}
+use Prim.Native.Nat.{ℕ, _+_, _*_, _-_, _<_, _≤_}
 use native.Mathlib.Nat.{mul-le-mul, mul-le-mul-right}
 use native.Mathlib.Omega.{arith}
 use lib.Dec.{leb}
-use lib.ListN.{length, getD, take, drop, length-take, length-drop}
-use lib.Seq.{take-at, drop-at, take-append-le, drop-append-le, length-take-le}
+use lib.ListN.{length, getD, take, drop}
+use lib.Seq.{length-take-le}
 use borrow.Author.Tests.{leb-true}
-use borrow.Rule.Slice.PartMut.{putMid, same-len-mid}
-use Rattle.lists.specs.Tests.{every, below}
-use Rattle.lists.specs.Lists.{All, tabulate, join, piece, fit}
+use Rattle.lists.specs.Tests.{every}
+use Rattle.lists.specs.Lists.{tabulate, piece, put}
 use Rattle.lists.proofs.Tests.{every-all}
-use Rattle.lists.proofs.Alls.{all-at, all-imp}
-use Rattle.lists.proofs.Boards.{all-below}
-use Rattle.lists.proofs.Pieces.{length-tabulate, tabulate-at, piece-join, length-piece}
-use Rattle.lists.proofs.Put.{within}
+use Rattle.lists.proofs.Alls.{all-at}
+use Rattle.lists.proofs.Pieces.{length-tabulate, tabulate-at, length-join, piece-join, length-piece}
+use Rattle.lists.proofs.Put.{length-put, put-same, put-before}
 use Rattle.sizes.specs.declared.Sizes.{Sizes}
 use Rattle.sizes.proofs.Legal.{Legal, row-fits}
-use Rattle.mbcr.specs.Share.{points, neighbours}
+use Rattle.mbcr.specs.Share.{points}
 use Rattle.mbcr.proofs.Points.{length-points, length-neighbours}
 use Rattle.row_sums.specs.Steps.{multiples}
 use Rattle.row_sums.proofs.Tables.{length-multiples}
-use Rattle.decode_laws.specs.Steps.{cell, seedRows, unitRows, topRows, factorRows}
-use Rattle.decode_laws.proofs.Loops.{back-part}
+use Rattle.decode_laws.specs.Steps.{seedRows, unitRows, topRows, factorRows}
 use Rattle.decode_laws.proofs.Held.{length-factor-rows}
-use Rattle.decode_tables.proofs.Made.{units-are, tops-made}
 use Rattle.decode_rows.specs.Steps.{TabledRows}
-use Rattle.decode_stripe.specs.Steps.{Tables}
-use Rattle.decode_stripe.proofs.Made.{length-seed-rows, length-tops, part-long}
+use Rattle.decode_stripe.proofs.Made.{length-units, length-seed-rows, length-tops}
+use Rattle.setup_rows.specs.Steps.{tablesOf}
 use Rattle.decode_setup.specs.Steps.{targetsOf, Made}
-
--- ---- one part
-
-module _ (b m : ℕ) (l y : List ℕ) (fits : b + m ≤ length l) (ly : length y ≡ m) where
-  -- the list with y from b on
-  abbrev pub placed : List ℕ
-  placed = putMid b (b + m - b) l y
-
-  as-long : b + m - b ≡ m
-  as-long = omega arith
-
-  pub placed-long : length placed ≡ length l
-  placed-long = same-len-mid {X = ℕ} b (b + m - b) l y (ly ∙ sym (length-take-le (b + m - b) (drop b l) (omega (arith, length-drop b l)) ∙ as-long))
-
-  lb : length (take b l) ≡ b
-  lb = length-take-le b l (omega arith)
-
-  -- what stands before it stays
-  pub before : (a n : ℕ) → a + n ≤ b → take n (drop a placed) ≡ take n (drop a l)
-  before a n h =
-      ap (take n) (drop-append-le a (take b l) _ (omega (arith, lb)))
-      ∙ take-append-le n (drop a (take b l)) _ (omega (arith, lb, length-drop a (take b l)))
-      ∙ within n b a l h
-
-  -- and there it is
-  pub there : take m (drop b placed) ≡ y
-  there = ap (take m) (drop-at (take b l) _ b lb) ∙ take-at y _ m ly
-
--- as much of a list as is lent
-pub part-there : (b m : ℕ) (l : List ℕ) → b + m ≤ length l → length (take (b + m - b) (drop b l)) ≡ m
-part-there b m l h = length-take-le (b + m - b) (drop b l) (omega (arith, length-drop b l)) ∙ omega arith
-
--- boards are at most 32
-pub below-32 : (z : Sizes) (bs : List ℕ) → z .n ≤ 32 → All (λ i. i < z .n) bs → below 32 bs ≡ true
-below-32 z bs h k = all-below 32 bs (all-imp (λ i. i < z .n) (λ i. i < 32) (λ i l. omega arith) bs k)
-
--- ---- five parts
-
-module _ (m₀ m₁ m₂ m₃ m₄ : ℕ) (l y₀ y₁ y₂ y₃ y₄ : List ℕ) (ll : length l ≡ 49152)
-    (h₀ : m₀ ≤ 7680) (h₁ : m₁ ≤ 8192) (h₂ : m₂ ≤ 16384) (h₃ : m₃ ≤ 15872) (h₄ : m₄ ≤ 1024)
-    (l₀ : length y₀ ≡ m₀) (l₁ : length y₁ ≡ m₁) (l₂ : length y₂ ≡ m₂) (l₃ : length y₃ ≡ m₃) (l₄ : length y₄ ≡ m₄) where
-  abbrev pub first : List ℕ
-  first = putMid 0 (m₀ - 0) l y₀
-
-  abbrev pub second : List ℕ
-  second = putMid 7680 (7680 + m₁ - 7680) first y₁
-
-  abbrev pub third : List ℕ
-  third = putMid 15872 (15872 + m₂ - 15872) second y₂
-
-  abbrev pub fourth : List ℕ
-  fourth = putMid 32256 (32256 + m₃ - 32256) third y₃
-
-  abbrev pub fifth : List ℕ
-  fifth = putMid 48128 (48128 + m₄ - 48128) fourth y₄
-
-  first-is : first ≡ placed 0 m₀ l y₀ (omega arith) l₀
-  first-is = let e : m₀ - 0 ≡ 0 + m₀ - 0 = omega arith in ap (λ (v : ℕ). putMid 0 v l y₀) e
-
-  pub first-long : length first ≡ 49152
-  first-long = ap length first-is ∙ placed-long 0 m₀ l y₀ (omega arith) l₀ ∙ ll
-
-  pub second-long : length second ≡ 49152
-  second-long = placed-long 7680 m₁ first y₁ (omega (arith, first-long)) l₁ ∙ first-long
-
-  pub third-long : length third ≡ 49152
-  third-long = placed-long 15872 m₂ second y₂ (omega (arith, second-long)) l₂ ∙ second-long
-
-  pub fourth-long : length fourth ≡ 49152
-  fourth-long = placed-long 32256 m₃ third y₃ (omega (arith, third-long)) l₃ ∙ third-long
-
-  pub fifth-long : length fifth ≡ 49152
-  fifth-long = placed-long 48128 m₄ fourth y₄ (omega (arith, fourth-long)) l₄ ∙ fourth-long
-
-  -- each part stays as the later ones come
-  on₁ : (a n : ℕ) → a + n ≤ 7680 → take n (drop a second) ≡ take n (drop a first)
-  on₁ = before 7680 m₁ first y₁ (omega (arith, first-long)) l₁
-
-  on₂ : (a n : ℕ) → a + n ≤ 15872 → take n (drop a third) ≡ take n (drop a second)
-  on₂ = before 15872 m₂ second y₂ (omega (arith, second-long)) l₂
-
-  on₃ : (a n : ℕ) → a + n ≤ 32256 → take n (drop a fourth) ≡ take n (drop a third)
-  on₃ = before 32256 m₃ third y₃ (omega (arith, third-long)) l₃
-
-  on₄ : (a n : ℕ) → a + n ≤ 48128 → take n (drop a fifth) ≡ take n (drop a fourth)
-  on₄ = before 48128 m₄ fourth y₄ (omega (arith, fourth-long)) l₄
-
-  pub part₀ : take m₀ fifth ≡ y₀
-  part₀ =
-      on₄ 0 m₀ (omega arith) ∙ on₃ 0 m₀ (omega arith) ∙ on₂ 0 m₀ (omega arith) ∙ on₁ 0 m₀ (omega arith) ∙ ap (take m₀) first-is ∙ there 0 m₀ l y₀ (omega arith) l₀
-
-  pub part₁ : take m₁ (drop 7680 fifth) ≡ y₁
-  part₁ = on₄ 7680 m₁ (omega arith) ∙ on₃ 7680 m₁ (omega arith) ∙ on₂ 7680 m₁ (omega arith) ∙ there 7680 m₁ first y₁ (omega (arith, first-long)) l₁
-
-  pub part₂ : take m₂ (drop 15872 fifth) ≡ y₂
-  part₂ = on₄ 15872 m₂ (omega arith) ∙ on₃ 15872 m₂ (omega arith) ∙ there 15872 m₂ second y₂ (omega (arith, second-long)) l₂
-
-  pub part₃ : take m₃ (drop 32256 fifth) ≡ y₃
-  part₃ = on₄ 32256 m₃ (omega arith) ∙ there 32256 m₃ third y₃ (omega (arith, third-long)) l₃
-
-  pub part₄ : take m₄ (drop 48128 fifth) ≡ y₄
-  part₄ = there 48128 m₄ fourth y₄ (omega (arith, fourth-long)) l₄
 
 -- ---- how long they are
 
@@ -175,125 +69,175 @@ module _ (z : Sizes) (legal : Legal z) where
       mul-le-mul (legal .read-helpers) (mul-le-mul-right 32 (omega (arith, legal .few))) in
       omega (arith, p, g-most d (omega (arith, legal .some-fresh, legal .enough, legal .few)))
 
--- ---- what is made of rows
+  -- for boards that are k
+  pub f-room : (bs : List ℕ) → length bs ≡ k → length bs * ((n - (d + r)) * 32) ≤ 7680
+  f-room bs lb = omega (arith, ap (λ (m : ℕ). m * ((n - (d + r)) * 32)) lb, f-few)
 
--- the tables of their multiples
-pub tabled : (d : ℕ) (xs zs rows out : List ℕ) → d ≤ 32 → rows ≡ seedRows d xs
-    → out ≡ join d (λ s. multiples (piece 32 s (take (d * 32 - 0) (drop 0 (putMid 0 (d * 32 - 0) zs rows))))) → TabledRows d (seedRows d xs) out
-tabled d xs zs rows out few er eo s h =
-    let lr : length rows ≡ d * 32 = ap length er ∙ length-seed-rows d xs in
-    let e : out ≡ join d (λ s. multiples (piece 32 s (seedRows d xs))) =
-    eo ∙ ap (λ (l : List ℕ). join d (λ s. multiples (piece 32 s l))) (back-part (d * 32) zs rows lr ∙ er) in
-    ap (piece 512 s) e
-    ∙ piece-join d 512 (λ s. multiples (piece 32 s (seedRows d xs)))
-    (λ s l. length-multiples (piece 32 s (seedRows d xs)) (length-piece 32 s (seedRows d xs) (omega (arith, length-seed-rows d xs, row-fits s d 32 l)))) s h
+  pub g-room : (bs : List ℕ) → length bs ≡ k → length bs * ((n - d) * 32) ≤ 8192
+  g-room bs lb = omega (arith, ap (λ (m : ℕ). m * ((n - d) * 32)) lb, g-few)
 
--- the coefficients of the highest powers
-pub tops-are : (k : ℕ) (xs bs zs rows out : List ℕ) → length bs ≤ 32 → rows ≡ seedRows (length bs) (points xs bs)
-    → out ≡ join (length bs - k) (λ i. fit 32 (tabulate (length bs) (λ s. cell (take (length bs * 32 - 0) (drop 0 (putMid 0 (length bs * 32 - 0) zs rows))) s (k + i))))
-    → out ≡ topRows k (points xs bs)
-tops-are k xs bs zs rows out few er eo =
-    let ps : List ℕ = points xs bs in
-    let lp : length ps ≡ length bs = length-points xs bs in
-    let lr : length rows ≡ length bs * 32 = ap length er ∙ length-seed-rows (length bs) ps in
-    let e : rows ≡ unitRows ps = er ∙ ap (λ (m : ℕ). seedRows m ps) (sym lp) ∙ units-are ps in
-    eo ∙ ap (λ (l : List ℕ). join (length bs - k) (λ i. fit 32 (tabulate (length bs) (λ s. cell l s (k + i))))) (back-part (length bs * 32) zs rows lr ∙ e)
-    ∙ ap (λ (m : ℕ). join (m - k) (λ i. fit 32 (tabulate m (λ s. cell (unitRows ps) s (k + i))))) (sym lp)
-    ∙ tops-made k ps (omega arith)
+-- ---- tables of rows
 
--- ---- the boards at which values are taken
+module _ (m : ℕ) (rows : List ℕ) (lr : length rows ≡ m * 32) where
+  each : (s : ℕ) → s < m → length (multiples (piece 32 s rows)) ≡ 512
+  each s h = length-multiples (piece 32 s rows) (length-piece 32 s rows (omega (arith, lr, row-fits s m 32 h)))
 
-module _ (z : Sizes) (legal : Legal z) (b : ℕ) (zs y : List ℕ) (lz : length zs ≡ 32)
-    (ey : y ≡ tabulate (length (take (z .d + z .r - 0) (drop 0 zs))) (λ t. (b + t) % z .n)) where
+  length-tables : length (tablesOf m rows) ≡ m * 512
+  length-tables = length-join m 512 (λ s. multiples (piece 32 s rows)) each
+
+  tabled : TabledRows m rows (tablesOf m rows)
+  tabled = piece-join m 512 (λ s. multiples (piece 32 s rows)) each
+
+-- ---- five pieces put in one after another
+
+module _ (l a b c d e : List ℕ) (ll : length l ≡ 49152) (ha : length a ≤ 7680) (hb : length b ≤ 8192) (hc : length c ≤ 16384) (hd : length d ≤ 15872) (he : length e ≤ 1024) where
+  abbrev l₀ : List ℕ
+  l₀ = put l 0 a
+
+  abbrev l₁ : List ℕ
+  l₁ = put l₀ 7680 b
+
+  abbrev l₂ : List ℕ
+  l₂ = put l₁ 15872 c
+
+  abbrev l₃ : List ℕ
+  l₃ = put l₂ 32256 d
+
+  abbrev pub all-put : List ℕ
+  all-put = put l₃ 48128 e
+
+  f₀ : 0 + length a ≤ length l
+  f₀ = omega (arith, ll, ha)
+
+  f₁ : 7680 + length b ≤ length l₀
+  f₁ = omega (arith, length-put l 0 a f₀, ll, hb)
+
+  n₁ : length l₁ ≡ 49152
+  n₁ = length-put l₀ 7680 b f₁ ∙ length-put l 0 a f₀ ∙ ll
+
+  f₂ : 15872 + length c ≤ length l₁
+  f₂ = omega (arith, n₁, hc)
+
+  n₂ : length l₂ ≡ 49152
+  n₂ = length-put l₁ 15872 c f₂ ∙ n₁
+
+  f₃ : 32256 + length d ≤ length l₂
+  f₃ = omega (arith, n₂, hd)
+
+  n₃ : length l₃ ≡ 49152
+  n₃ = length-put l₂ 32256 d f₃ ∙ n₂
+
+  f₄ : 48128 + length e ≤ length l₃
+  f₄ = omega (arith, n₃, he)
+
+  pub put-long : length all-put ≡ 49152
+  put-long = length-put l₃ 48128 e f₄ ∙ n₃
+
+  -- each stays as the later ones come
+  on₂ : (p w : ℕ) → p + w ≤ 15872 → take w (drop p all-put) ≡ take w (drop p l₁)
+  on₂ p w h =
+      put-before l₃ 48128 e f₄ p w (omega (arith, h)) ∙ put-before l₂ 32256 d f₃ p w (omega (arith, h)) ∙ put-before l₁ 15872 c f₂ p w h
+
+  pub put-a : (m : ℕ) → length a ≡ m → take m all-put ≡ a
+  put-a m h =
+      ap (λ (v : ℕ). take v all-put) (sym h) ∙ on₂ 0 (length a) (omega (arith, ha)) ∙ put-before l₀ 7680 b f₁ 0 (length a) (omega (arith, ha)) ∙ put-same l 0 a f₀
+
+  pub put-b : (m : ℕ) → length b ≡ m → take m (drop 7680 all-put) ≡ b
+  put-b m h = ap (λ (v : ℕ). take v (drop 7680 all-put)) (sym h) ∙ on₂ 7680 (length b) (omega (arith, hb)) ∙ put-same l₀ 7680 b f₁
+
+  pub put-c : (m : ℕ) → length c ≡ m → take m (drop 15872 all-put) ≡ c
+  put-c m h =
+      ap (λ (v : ℕ). take v (drop 15872 all-put)) (sym h) ∙ put-before l₃ 48128 e f₄ 15872 (length c) (omega (arith, hc))
+      ∙ put-before l₂ 32256 d f₃ 15872 (length c) (omega (arith, hc)) ∙ put-same l₁ 15872 c f₂
+
+  pub put-d : (m : ℕ) → length d ≡ m → take m (drop 32256 all-put) ≡ d
+  put-d m h = ap (λ (v : ℕ). take v (drop 32256 all-put)) (sym h) ∙ put-before l₃ 48128 e f₄ 32256 (length d) (omega (arith, hd)) ∙ put-same l₂ 32256 d f₃
+
+  pub put-e : (m : ℕ) → length e ≡ m → take m (drop 48128 all-put) ≡ e
+  put-e m h = ap (λ (v : ℕ). take v (drop 48128 all-put)) (sym h) ∙ put-same l₃ 48128 e f₄
+
+-- ---- the tables
+
+module _ (z : Sizes) (legal : Legal z) (xs bs l : List ℕ) (ll : length l ≡ 49152) (lb : length bs ≡ z .k) where
   open Sizes z using (n, k, d, r)
 
-  pub near-is : y ≡ neighbours z b (d + r)
-  unfolding neighbours
-  near-is = ey ∙ ap (λ (m : ℕ). tabulate m (λ t. (b + t) % n)) (part-long (d + r) zs (omega (arith, legal .enough, legal .few)))
+  abbrev A : List ℕ
+  A = factorRows z xs (d + r) bs
 
-  pub near-long : length y ≡ d + r
-  near-long = ap length near-is ∙ length-neighbours z b (d + r)
+  abbrev B : List ℕ
+  B = factorRows z xs d bs
 
-  pub near-again : take (d + r - 0) (drop 0 (putMid 0 (d + r - 0) zs y)) ≡ neighbours z b (d + r)
-  near-again = back-part (d + r) zs y near-long ∙ near-is
+  abbrev C : List ℕ
+  C = tablesOf (d + r) (unitRows (points xs (targetsOf z bs)))
 
-  pub few-again : take (d - 0) (drop 0 (putMid 0 (d + r - 0) zs y)) ≡ take d (neighbours z b (d + r))
-  few-again =
-      let e : d - 0 ≡ d = omega arith in
-      ap (λ (m : ℕ). take m (putMid 0 (d + r - 0) zs y)) e ∙ take-append-le d y _ (omega (arith, near-long)) ∙ ap (take d) near-is
+  abbrev D : List ℕ
+  D = tablesOf d (seedRows d (points xs bs))
 
--- ---- all of them
+  abbrev E : List ℕ
+  E = topRows k (points xs (take d (targetsOf z bs)))
 
-units-placed : (w : ℕ) (xs targets T y out : List ℕ) → targets ≡ T → length T ≡ w → out ≡ y
-    → TabledRows w (seedRows w (points xs targets)) y → TabledRows w (unitRows (points xs T)) out
-units-placed w xs targets T y out et lT eo h s l =
-    let e : seedRows w (points xs targets) ≡ unitRows (points xs T) =
-    ap (λ (l : List ℕ). seedRows w (points xs l)) et ∙ ap (λ (m : ℕ). seedRows m (points xs T)) (sym (length-points xs T ∙ lT)) ∙ units-are (points xs T) in
-    ap (piece 512 s) eo ∙ h s l ∙ ap (λ (l : List ℕ). multiples (piece 32 s l)) e
+  -- how long each is
+  lA : length A ≡ k * ((n - (d + r)) * 32)
+  lA = length-factor-rows z xs (d + r) bs ∙ ap (λ (m : ℕ). m * ((n - (d + r)) * 32)) lb
 
-module _ (z : Sizes) (legal : Legal z) (xs bs l zs y y₀ y₁ y₂ y₃ y₄ : List ℕ) (ll : length l ≡ 49152) (lb : length bs ≡ z .k) (lz : length zs ≡ 32)
-    (ey : y ≡ tabulate (length (take (z .d + z .r - 0) (drop 0 zs))) (λ t. (getD bs 0 0 + t) % z .n))
-    (e₀ : y₀ ≡ factorRows z xs (z .d + z .r) bs) (e₁ : y₁ ≡ factorRows z xs (z .d) bs)
-    (l₂ : length y₂ ≡ (z .d + z .r) * 512)
-    (t₂ : TabledRows (z .d + z .r) (seedRows (z .d + z .r) (points xs (take (z .d + z .r - 0) (drop 0 (putMid 0 (z .d + z .r - 0) zs y))))) y₂)
-    (l₃ : length y₃ ≡ z .d * 512) (t₃ : TabledRows (z .d) (seedRows (z .d) (points xs bs)) y₃)
-    (e₄ : y₄ ≡ topRows (z .k) (points xs (take (z .d - 0) (drop 0 (putMid 0 (z .d + z .r - 0) zs y))))) where
-  open Sizes z using (n, k, d, r)
+  lB : length B ≡ k * ((n - d) * 32)
+  lB = length-factor-rows z xs d bs ∙ ap (λ (m : ℕ). m * ((n - d) * 32)) lb
 
-  pub l₀ : length y₀ ≡ k * ((n - (d + r)) * 32)
-  l₀ = ap length e₀ ∙ length-factor-rows z xs (d + r) bs ∙ ap (λ (m : ℕ). m * ((n - (d + r)) * 32)) lb
+  unit-rows : length (unitRows (points xs (targetsOf z bs))) ≡ (d + r) * 32
+  unit-rows =
+      length-units (points xs (targetsOf z bs))
+      ∙ ap (λ (m : ℕ). m * 32) (length-points xs (targetsOf z bs) ∙ length-neighbours z (getD bs 0 0) (d + r))
 
-  pub l₁ : length y₁ ≡ k * ((n - d) * 32)
-  l₁ = ap length e₁ ∙ length-factor-rows z xs d bs ∙ ap (λ (m : ℕ). m * ((n - d) * 32)) lb
+  lC : length C ≡ (d + r) * 512
+  lC = length-tables (d + r) (unitRows (points xs (targetsOf z bs))) unit-rows
 
-  ld : length (take d (targetsOf z bs)) ≡ d
-  ld = length-take-le d (targetsOf z bs) (omega (arith, length-neighbours z (getD bs 0 0) (d + r)))
+  lD : length D ≡ d * 512
+  lD = length-tables d (seedRows d (points xs bs)) (length-seed-rows d (points xs bs))
 
-  e₄′ : y₄ ≡ topRows k (points xs (take d (targetsOf z bs)))
-  e₄′ = e₄ ∙ ap (λ (l : List ℕ). topRows k (points xs l)) (few-again z legal (getD bs 0 0) zs y lz ey)
+  lE : length E ≡ (d - k) * 32
+  lE =
+      length-tops k (points xs (take d (targetsOf z bs)))
+      ∙ ap (λ (m : ℕ). (m - k) * 32)
+      (length-points xs (take d (targetsOf z bs)) ∙ length-take-le d (targetsOf z bs) (omega (arith, length-neighbours z (getD bs 0 0) (d + r))))
 
-  pub l₄ : length y₄ ≡ (d - k) * 32
-  l₄ =
-      ap length e₄′ ∙ length-tops k (points xs (take d (targetsOf z bs)))
-      ∙ ap (λ (m : ℕ). (m - k) * 32) (length-points xs (take d (targetsOf z bs)) ∙ ld)
+  hA : length A ≤ 7680
+  hA = omega (arith, lA, f-few z legal)
 
-  pub h₂ : (d + r) * 512 ≤ 16384
-  h₂ = omega (arith, legal .enough, legal .few)
+  hB : length B ≤ 8192
+  hB = omega (arith, lB, g-few z legal)
 
-  pub h₃ : d * 512 ≤ 15872
-  h₃ = omega (arith, legal .some-fresh, legal .enough, legal .few)
+  hC : length C ≤ 16384
+  hC = omega (arith, lC, legal .enough, legal .few)
 
-  pub h₄ : (d - k) * 32 ≤ 1024
-  h₄ = omega (arith, legal .some-fresh, legal .enough, legal .few)
+  hD : length D ≤ 15872
+  hD = omega (arith, lD, legal .some-fresh, legal .enough, legal .few)
 
-  abbrev pub all-made : List ℕ
-  all-made =
-      fifth (k * ((n - (d + r)) * 32)) (k * ((n - d) * 32)) ((d + r) * 512) (d * 512) ((d - k) * 32) l y₀ y₁ y₂ y₃ y₄
-      ll (f-few z legal) (g-few z legal) h₂ h₃ h₄ l₀ l₁ l₂ l₃ l₄
+  hE : length E ≤ 1024
+  hE = omega (arith, lE, legal .enough, legal .few)
 
-  pub tables-made : Made z xs bs all-made
-  tables-made =
-      let m₀ : ℕ = k * ((n - (d + r)) * 32) in
-      let m₁ : ℕ = k * ((n - d) * 32) in
-      let m₂ : ℕ = (d + r) * 512 in
-      let m₃ : ℕ = d * 512 in
-      let m₄ : ℕ = (d - k) * 32 in
-      let p₂ = part₂ m₀ m₁ m₂ m₃ m₄ l y₀ y₁ y₂ y₃ y₄
-      ll (f-few z legal) (g-few z legal) h₂ h₃ h₄ l₀ l₁ l₂ l₃ l₄ in
-      let p₃ = part₃ m₀ m₁ m₂ m₃ m₄ l y₀ y₁ y₂ y₃ y₄
-      ll (f-few z legal) (g-few z legal) h₂ h₃ h₄ l₀ l₁ l₂ l₃ l₄ in
+  put-made : Made z xs bs (all-put l A B C D E ll hA hB hC hD hE)
+  put-made =
+      let pC = put-c l A B C D E ll hA hB hC hD hE ((d + r) * 512) lC in
+      let pD = put-d l A B C D E ll hA hB hC hD hE (d * 512) lD in
       record {
-        long = fifth-long m₀ m₁ m₂ m₃ m₄ l y₀ y₁ y₂ y₃ y₄
-            ll (f-few z legal) (g-few z legal) h₂ h₃ h₄ l₀ l₁ l₂ l₃ l₄;
+        long = put-long l A B C D E ll hA hB hC hD hE;
         are = record {
-          f-factors = part₀ m₀ m₁ m₂ m₃ m₄ l y₀ y₁ y₂ y₃ y₄
-              ll (f-few z legal) (g-few z legal) h₂ h₃ h₄ l₀ l₁ l₂ l₃ l₄ ∙ e₀;
-          g-factors = part₁ m₀ m₁ m₂ m₃ m₄ l y₀ y₁ y₂ y₃ y₄
-              ll (f-few z legal) (g-few z legal) h₂ h₃ h₄ l₀ l₁ l₂ l₃ l₄ ∙ e₁;
-          units-long = ap length p₂ ∙ l₂;
-          units = units-placed (d + r) xs _ (targetsOf z bs) y₂ _ (near-again z legal (getD bs 0 0) zs y lz ey) (length-neighbours z (getD bs 0 0) (d + r)) p₂ t₂;
-          tops = part₄ m₀ m₁ m₂ m₃ m₄ l y₀ y₁ y₂ y₃ y₄ ll (f-few z legal) (g-few z legal) h₂ h₃ h₄ l₀ l₁ l₂ l₃ l₄ ∙ e₄′;
-          seeds-long = ap length p₃ ∙ l₃;
-          seeds = λ s h. ap (piece 512 s) p₃ ∙ t₃ s h;
+          f-factors = put-a l A B C D E ll hA hB hC hD hE (k * ((n - (d + r)) * 32)) lA;
+          g-factors = put-b l A B C D E ll hA hB hC hD hE (k * ((n - d) * 32)) lB;
+          units-long = ap length pC ∙ lC;
+          units = λ s h. ap (piece 512 s) pC ∙ tabled (d + r) (unitRows (points xs (targetsOf z bs))) unit-rows s h;
+          tops = put-e l A B C D E ll hA hB hC hD hE ((d - k) * 32) lE;
+          seeds-long = ap length pD ∙ lD;
+          seeds = λ s h. ap (piece 512 s) pD ∙ tabled d (seedRows d (points xs bs)) (length-seed-rows d (points xs bs)) s h;
         };
       }
+
+  -- one call after another, at these places
+  pub tables-made : (p₁ p₂ p₃ p₄ : ℕ) (y₀ y₁ y₂ y₃ y₄ : List ℕ)
+      → y₀ ≡ put l 0 A → y₁ ≡ put y₀ p₁ B → y₂ ≡ put y₁ p₂ C → y₃ ≡ put y₂ p₃ D → y₄ ≡ put y₃ p₄ E
+      → p₁ ≡ 7680 → p₂ ≡ 15872 → p₃ ≡ 32256 → p₄ ≡ 48128 → Made z xs bs y₄
+  tables-made p₁ p₂ p₃ p₄ y₀ y₁ y₂ y₃ y₄ e₀ e₁ e₂ e₃ e₄ h₁ h₂ h₃ h₄ =
+      let q₁ = e₁ ∙ ap₂ {C = List ℕ} (λ (v : List ℕ) (p : ℕ). put v p B) e₀ h₁ in
+      let q₂ = e₂ ∙ ap₂ {C = List ℕ} (λ (v : List ℕ) (p : ℕ). put v p C) q₁ h₂ in
+      let q₃ = e₃ ∙ ap₂ {C = List ℕ} (λ (v : List ℕ) (p : ℕ). put v p D) q₂ h₃ in
+      subst (Made z xs bs) (sym (e₄ ∙ ap₂ {C = List ℕ} (λ (v : List ℕ) (p : ℕ). put v p E) q₃ h₄)) put-made

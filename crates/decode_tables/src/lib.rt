@@ -3,43 +3,15 @@
 // Assumes nothing.
 ghost use mathlib.Core.Path.{_≡_};
 ghost use mathlib.Core.Bool.{true};
-ghost use Prim.Native.Nat.{_+_, _-_, _*_, _%_, _<_, _≤_};
-ghost use lib.Dec.{eqb, ltb};
-ghost use lib.ListN.{length, getD};
-ghost use Rattle.lists.specs.Tests.{pick, below};
+ghost use Prim.Native.Nat.{_+_, _-_, _*_, _<_, _≤_};
+ghost use lib.ListN.{length};
+ghost use Rattle.lists.specs.Tests.{below};
 ghost use Rattle.lists.specs.Lists.{tabulate, join, piece, fit};
 ghost use Rattle.gf256.specs.Field.{inverse};
-ghost use Rattle.sizes.specs.Sizing.{legal};
-ghost use Rattle.polynomial.specs.Polynomial.{power, interpolate};
+ghost use Rattle.polynomial.specs.Polynomial.{interpolate};
 ghost use Rattle.row_sums.specs.Steps.{multiples};
 ghost use Rattle.decode_laws.specs.Steps.{cell, seeds, seedRows, factorsOf, factorRows};
 use sizes::Sizes;
-
-// x to the power e.
-fn power(x: u8, e: usize) -> u8
-    ensures { λ r. ⌜ r ≡ power x e ⌝ }
-{
-    let mut acc: u8 = 1;
-    let mut i: usize = 0;
-    while i < e {
-        acc = interpolation::product(x, acc);
-        i += 1;
-    }
-    acc
-}
-
-// Value t of those through which row s goes, over m points of which x is the t-th.
-fn seed(m: usize, s: usize, t: usize, x: u8) -> u8
-    ensures { λ r. ⌜ r ≡ pick (ltb s m) (pick (eqb t s) 1 0) (power x s) ⌝ }
-{
-    if s < m {
-        if t == s {
-            return 1;
-        }
-        return 0;
-    }
-    power(x, s)
-}
 
 // The values through which row s goes.
 fn fill_seeds(xs: &[u8], s: usize, out: &mut [u8])
@@ -49,7 +21,7 @@ fn fill_seeds(xs: &[u8], s: usize, out: &mut [u8])
     let m = xs.len();
     let mut t: usize = 0;
     while t < m {
-        out[t] = seed(m, s, t, xs[t]);
+        out[t] = table_seeds::seed(m, s, t, xs[t]);
         t += 1;
     }
 }
@@ -110,23 +82,6 @@ pub fn top_rows(k: usize, m: usize, count: usize, rows: &[u8], out: &mut [u8])
     }
 }
 
-// From Lagrange's rows of board b and its neighbours, the factors for each board from the c-th after it on.
-fn board_factors(sizes: Sizes, c: usize, b: usize, rows: &[u8], out: &mut [u8])
-    requires { ⌜ (sizes .n ≤ 32) × (c ≤ sizes .n) × (b < sizes .n) × (c * 32 ≤ length (now rows)) × (length (now out) ≡ (sizes .n - c) * 32) ⌝ }
-    ensures { λ _. ⌜ now (out .exit) ≡ join (sizes .n - c) (λ o. fit 32 (tabulate c (λ t. cell (now (rows .entry)) t ((b + (c + o)) % sizes .n)))) ⌝ }
-{
-    let n = sizes.n;
-    let m = n - c;
-    let mut o: usize = 0;
-    while o < m {
-        let at = o * 32;
-        let end = at + 32;
-        let j = (b + (c + o)) % n;
-        factors::column(rows, c, j, &mut out[at..end]);
-        o += 1;
-    }
-}
-
 // The factors of board b. near and rows are for work.
 fn factors_in(
     sizes: Sizes,
@@ -143,7 +98,7 @@ fn factors_in(
 {
     factors::boards_from(sizes.n, b, near);
     lagrange_rows::lagrange_rows(points, near, inverses, rows);
-    board_factors(sizes, c, b, rows, out);
+    table_seeds::board_factors(sizes, c, b, rows, out);
 }
 
 // The factors of each of some boards. near and rows are for work.

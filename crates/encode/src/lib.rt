@@ -22,7 +22,7 @@ fn share_rows(sizes: Sizes, tables: &[u8], x: u8, i: usize, rows: &[u8], out: &m
     let mut f = [0u8; 32];
     let mut g = [0u8; 32];
     horner::rows_at(rows, x, d, &mut f);
-    row_sums::put_row(row_sums::column_sum(tables, rows, i, d), &mut g);
+    row_sums::put_row(column_sums::column_sum(tables, rows, i, d), &mut g);
     kept_bytes::keep_rows(sizes, i, &f, &g, out);
 }
 

@@ -26,8 +26,8 @@ fn upper_row(tables: &[u8], k: usize, w: usize, u: &[u8], i: usize) -> Row
     let more = k * k + i * m;
     let end = more + m;
     let mid = k * 512;
-    let a = row_sums::row_sum(tables, &u[from..to]);
-    let b = row_sums::row_sum(&tables[mid..], &u[more..end]);
+    let a = column_sums::row_sum(tables, &u[from..to]);
+    let b = column_sums::row_sum(&tables[mid..], &u[more..end]);
     row_sums::plus(a, b)
 }
 
@@ -56,7 +56,10 @@ fn lower_values(tables: &[u8], k: usize, m: usize, u: &[u8], out: &mut [u8])
         let to = from + k;
         let at = i * 32;
         let end = at + 32;
-        row_sums::put_row(row_sums::row_sum(tables, &u[from..to]), &mut out[at..end]);
+        row_sums::put_row(
+            column_sums::row_sum(tables, &u[from..to]),
+            &mut out[at..end],
+        );
         i += 1;
     }
 }
@@ -85,7 +88,7 @@ pub fn column_values(tables: &[u8], d: usize, n: usize, rows: &[u8], values: &mu
         let at = l * 32;
         let end = at + 32;
         row_sums::put_row(
-            row_sums::column_sum(tables, rows, l, d),
+            column_sums::column_sum(tables, rows, l, d),
             &mut values[at..end],
         );
         l += 1;

@@ -7,25 +7,14 @@ ghost use mathlib.Core.Path.{_≡_};
 ghost use mathlib.Core.Bool.{true};
 ghost use mathlib.Core.List.{[], _∷_, _++_};
 ghost use Prim.Native.Nat.{_+_, _-_, _*_, _<_, _≤_};
-ghost use lib.ListN.{length, take, drop};
+ghost use lib.ListN.{length, drop};
 ghost use Rattle.lists.specs.Tests.{below, different};
 ghost use Rattle.lists.specs.Lists.{tabulate, join};
 ghost use Rattle.gf256.specs.Field.{inverse};
 ghost use Rattle.sizes.specs.Sizing.{legal, α};
 ghost use Rattle.mbcr.specs.Share.{DifferentPoints};
-ghost use Rattle.mbcr.specs.Rebuild.{received, exchanged, finishedShare};
-ghost use Rattle.finish.specs.Steps.{stripeBy};
-
-// The second bytes of the helpers for stripe s and those of the partners, in all places of f but the last.
-fn gather(sizes: Sizes, stripes: usize, s: usize, packets: &[u8], exchanges: &[u8], f: &mut [u8])
-    requires { ⌜ (1 ≤ sizes .r) × (s < stripes) × (stripes ≤ 4096) × (length (now packets) ≡ sizes .d * (2 * stripes)) × (length (now exchanges) ≡ (sizes .r - 1) * stripes) × (length (now f) ≡ sizes .d + sizes .r) ⌝ }
-    ensures { λ _. ⌜ take (length (now (f .entry)) - 1) (now (f .exit)) ≡ received sizes stripes 1 s (now (packets .entry)) ++ exchanged sizes stripes s (now (exchanges .entry)) ⌝ }
-{
-    let d = sizes.d;
-    let last = f.len() - 1;
-    exchange::received(sizes, stripes, 1, s, packets, &mut f[0..d]);
-    exchange::exchanged(sizes, stripes, s, exchanges, &mut f[d..last]);
-}
+ghost use Rattle.mbcr.specs.Rebuild.{received, finishedShare};
+ghost use Rattle.finish_bytes.specs.Steps.{stripeBy};
 
 // Stripe s of the share that board i writes, from the packets of its helpers and its partners, by its rows. The other slices are for work.
 fn stripe_by(
@@ -47,7 +36,7 @@ fn stripe_by(
 {
     let m = sizes.d * 32;
     exchange::received(sizes, stripes, 0, s, packets, firsts);
-    gather(sizes, stripes, s, packets, exchanges, got);
+    finish_bytes::gather(sizes, stripes, s, packets, exchanges, got);
     row_values::row_sums(firsts, &rows[0..m], g);
     finish_rows::finish(sizes.n, i, &rows[m..], g, got, f, out);
 }

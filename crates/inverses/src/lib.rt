@@ -4,7 +4,7 @@ ghost use mathlib.Core.Path.{_≡_};
 ghost use lib.ListN.{length};
 ghost use Rattle.lists.specs.Lists.{tabulate};
 ghost use Rattle.gf256.specs.Field.{inverse};
-ghost use Rattle.inverses.specs.Steps.{halved};
+ghost use Rattle.inverse_walk.specs.Steps.{halved};
 
 // y divided by z.
 fn half(y: u8) -> u8

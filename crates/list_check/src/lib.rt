@@ -2,38 +2,21 @@
 //! and a refusal returned early.
 ghost use mathlib.Core.Path.{_≡_};
 ghost use mathlib.Core.Bool.{true, false, not};
-ghost use mathlib.Core.List.{[], _∷_, _++_};
+ghost use mathlib.Core.List.{_++_};
 ghost use Prim.Native.Nat.{_-_, _*_};
-ghost use lib.Dec.{leb, eqb};
 ghost use lib.ListN.{getD};
 ghost use Rattle.lists.specs.Tests.{every, alls, different, apart};
-ghost use Rattle.sizes.specs.declared.Refusal.the-variants.{Count, Repeat, Down, Serving};
+ghost use Rattle.sizes.specs.declared.Refusal.the-variants.{Repeat, Down, Serving};
 ghost use Rattle.sizes.specs.Sizing.{legal};
 ghost use Rattle.sizes.specs.Refusals.{_when_, first, storeOrder};
 ghost use Rattle.board_spec.specs.Calls.{nodeLine};
-ghost use Rattle.store_spec.specs.Packets.{Hearing, hearNamed};
+ghost use Rattle.store_spec.specs.Packets.{hearNamed};
 ghost use Rattle.store_spec.specs.Calls.{listLines};
-ghost use Rattle.checks.specs.Steps.{asked};
-ghost use Rattle.store_checks.specs.Steps.{recordOf};
-ghost use Rattle.list_check.specs.Steps.{Runs, countTests, named, repeatTests};
+ghost use Rattle.line_checks.specs.Steps.{asked};
+ghost use Rattle.list_tests.specs.Steps.{Runs, named, repeatTests};
 use sizes::Check;
 use sizes::Refusal;
 use sizes::Sizes;
-
-// 4 COUNT of a repair: t fresh boards, 1 ≤ t ≤ r, and for each d helpers and r − t stand-ins.
-pub fn check_named_counts(sizes: Sizes, fresh: usize, helpers: usize, standins: usize) -> Check
-    requires { ⌜ legal sizes ≡ true ⌝ }
-    ensures { λ res. ⌜ res ≡ asked (Count when not (alls (countTests sizes fresh helpers standins))) ⌝ }
-{
-    if fresh < 1 {
-        return Check::Refuse(Refusal::Count);
-    }
-    if sizes.r < fresh {
-        return Check::Refuse(Refusal::Count);
-    }
-    let each = sizes.r - fresh;
-    checks::check_counts(helpers, fresh * sizes.d, standins, fresh * each)
-}
 
 // 5 NODE of three lists.
 pub fn check_three_lists(sizes: Sizes, boards: &[usize], others: &[usize], more: &[usize]) -> Check
@@ -43,18 +26,6 @@ pub fn check_three_lists(sizes: Sizes, boards: &[usize], others: &[usize], more:
         return store_checks::check_two_lists(sizes, others, more);
     }
     Check::Refuse(Refusal::Node)
-}
-
-// Whether no board stands twice in two lists.
-fn both_differ(boards: &[usize], others: &[usize]) -> bool
-    ensures { λ r. ⌜ r ≡ different (now (boards .entry) ++ now (others .entry)) ⌝ }
-{
-    if board_tests::different(boards) {
-        if board_tests::different(others) {
-            return board_tests::apart(others, boards);
-        }
-    }
-    false
 }
 
 // Whether no board stands twice among the d helpers and e stand-ins of one fresh board.
@@ -68,7 +39,7 @@ fn runs_differ(d: usize, e: usize, fresh: &[usize], helpers: &[usize], standins:
         let to = from + d;
         let start = a * e;
         let end = start + e;
-        if both_differ(&helpers[from..to], &standins[start..end]) {
+        if list_tests::both_differ(&helpers[from..to], &standins[start..end]) {
             a += 1;
         } else {
             return false;
@@ -146,7 +117,7 @@ pub fn check_lists(
     requires { ⌜ legal sizes ≡ true ⌝ }
     ensures { λ r. ⌜ r ≡ first storeOrder (listLines (named sizes (now (marks .entry))) (now (fresh .entry)) (now (helpers .entry)) (now (standins .entry))) ⌝ }
 {
-    if let Check::Refuse(count) = check_named_counts(
+    if let Check::Refuse(count) = list_tests::check_named_counts(
         sizes,
         fresh.len(),
         helpers.len(),

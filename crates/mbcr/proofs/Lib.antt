@@ -9,4 +9,3 @@ pub mod Linear
 pub mod Demand2
 pub mod Tight
 pub mod PointLaws
-pub mod Figures

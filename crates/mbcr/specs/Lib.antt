@@ -4,4 +4,3 @@ pub mod Read
 pub mod Demand2
 pub mod Tight
 pub mod PointLaws
-pub mod Figures

@@ -12,7 +12,7 @@ pub fn keep(p: Parser, b: u8, file: &mut [u8])
     if p.bad {
         return;
     }
-    if !printer::in_file(p) {
+    if !print_parser::in_file(p) {
         return;
     }
     let at = p.count;
@@ -30,7 +30,7 @@ pub fn feed_all(p: Parser, input: &[u8], file: &mut [u8]) -> Parser
     while t < input.len() {
         let b = input[t];
         keep(q, b, file);
-        q = printer::feed(q, b);
+        q = print_parser::feed(q, b);
         t += 1;
     }
     q

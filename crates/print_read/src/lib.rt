@@ -23,7 +23,7 @@ fn take_in(p: Parser, got: isize, slice: &[u8], file: &mut [u8]) -> Step
 {
     if got < 0 {
         return Step {
-            parser: printer::wrong(p),
+            parser: print_parser::wrong(p),
             more: false,
         };
     }
@@ -47,7 +47,7 @@ fn read_some(p: Parser, file: &mut [u8]) -> Step
 fn read_all(asked: bool, file: &mut [u8]) -> Parser
     ensures { λ p. ⌜ Reading (record { parser = begin asked; file = now (file .entry) }) false (record { parser = p; file = now (file .exit) }) ⌝ }
 {
-    let mut p = printer::start(asked);
+    let mut p = print_parser::start(asked);
     let mut more = true;
     let mut turns = u64::MAX;
     while turns > 0 && more {
@@ -57,7 +57,7 @@ fn read_all(asked: bool, file: &mut [u8]) -> Parser
         turns -= 1;
     }
     if more {
-        return printer::wrong(p);
+        return print_parser::wrong(p);
     }
     p
 }

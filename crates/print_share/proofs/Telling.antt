@@ -16,7 +16,7 @@ use Rattle.lists.proofs.Tests.{not-no}
 use Rattle.lists.proofs.Boards.{below-all}
 use Rattle.sizes.specs.declared.Sizes.{Sizes}
 use Rattle.sizes.specs.declared.Refusal.{Refusal}
-use Rattle.sizes.specs.declared.Refusal.the-variants.{Short}
+use Rattle.sizes.specs.declared.Refusal.the-variants.{Size, Long, Node, Short}
 use Rattle.sizes.specs.declared.Check.{Check}
 use Rattle.sizes.specs.declared.Check.the-variants.{Pass, Refuse}
 use Rattle.sizes.specs.declared.Answer.the-variants.{Done, Refused}
@@ -24,7 +24,7 @@ use Rattle.sizes.specs.Sizing.{legal, α, B, stripes}
 use Rattle.sizes.specs.Refusals.{number, first, boardOrder}
 use Rattle.sizes.proofs.Legal.{legal-facts}
 use Rattle.sizes.proofs.Laws.{number-low}
-use Rattle.sizes.proofs.Lines.{first-clear}
+use Rattle.sizes.proofs.Orders.{clear-off}
 use Rattle.mbcr.specs.Share.{pointed, share}
 use Rattle.mbcr.proofs.Repair.{length-share}
 use Rattle.board_spec.specs.Text.{decimal, shareText}
@@ -100,11 +100,11 @@ module _ (z : Sizes) (xs : List ℕ) (node : ℕ) (file area : List ℕ) where
     passing (Refuse x) p e = absurd (omega (arith, number-low x, ap (λ (o : BoardOutcome). o .answer .refusal) e))
     passing Pass p e =
         let d = done-taken v (share z xs file node) area after e in
-        let h = first-clear (shareLines z xs node file area) boardOrder p in
-        let ok = size-facts z xs (h .1 .0) in
-        let known = lt-ltb node (z .n) (below-all (z .n) (node ∷ []) (not-no _ (h .1 .1 .1 .1 .1 .0)) .0) in
+        let off = clear-off (shareLines z xs node file area) boardOrder p in
+        let ok = size-facts z xs (off Size refl) in
+        let known = lt-ltb node (z .n) (below-all (z .n) (node ∷ []) (not-no _ (off Node refl)) .0) in
         let whole = eq-eqb _ _ (ap length (d .0) ∙ length-share z xs (legal-facts z (ok .0)) file node) in
-        (d .1, λ l. text-written z xs (length file) node (take v after) l (text-first z xs (length file) node (take v after) l (ok .0) (ok .1) (h .1 .1 .0) known whole))
+        (d .1, λ l. text-written z xs (length file) node (take v after) l (text-first z xs (length file) node (take v after) l (ok .0) (ok .1) (off Long refl) known whole))
 
     -- that it is done leaves only room to ask of the text
     pub share-done : outcome (Done v) after ≡ shareCall z xs node file area

@@ -56,7 +56,7 @@ fn told(
 pub fn answer(p: Parser, file: &[u8], out: &mut [u8]) -> usize
     ensures { λ r. ⌜ record { count = r; out = now (out .exit) } ≡ placed (toWrite p (now (file .entry))) (now (out .entry)) ⌝ }
 {
-    let x = printer::refusal(p);
+    let x = print_parser::refusal(p);
     if x != 0 {
         return refused(x, out);
     }
@@ -64,8 +64,8 @@ pub fn answer(p: Parser, file: &[u8], out: &mut [u8]) -> usize
     if file.len() < count {
         return 0;
     }
-    let z = printer::sizes(p);
-    let points = printer::points(p);
+    let z = print_parser::sizes(p);
+    let points = print_parser::points(p);
     let mut share = [0u8; 17376];
     told(z, points, p.node, &file[..count], &mut share, out)
 }

@@ -5,4 +5,3 @@ pub mod Rest
 pub mod Room
 pub mod Whole
 pub mod Laws
-pub mod Figures

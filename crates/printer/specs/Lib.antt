@@ -1,4 +1,3 @@
 pub mod Printer
 pub mod Steps
 pub mod Laws
-pub mod Figures

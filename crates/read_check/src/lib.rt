@@ -44,7 +44,7 @@ pub fn check_read(
     if let Check::Refuse(named) = shared_checks::check_boards(sizes, sizes.k, marks, boards) {
         return Check::Refuse(named);
     }
-    if let Check::Refuse(short) = checks::check_room(out, len) {
+    if let Check::Refuse(short) = line_checks::check_room(out, len) {
         return Check::Refuse(short);
     }
     let count = checks::stripe_count(sizes, len);

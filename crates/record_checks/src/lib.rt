@@ -39,5 +39,5 @@ pub fn check_lose(
     ) {
         return Check::Refuse(size);
     }
-    checks::check_node(sizes, board)
+    line_checks::check_node(sizes, board)
 }

@@ -9,7 +9,7 @@ use Rattle.lists.specs.Tests.{among, below, apart}
 use Rattle.lists.proofs.Alls.{append-all}
 use Rattle.lists.proofs.Boards.{below-all, all-below}
 use Rattle.lists.proofs.Tests.{every-all, all-every}
-use Rattle.store_repair.proofs.Partners.{all-piece}
+use Rattle.repair_stripe.proofs.Partners.{all-piece}
 
 all-join : (P : ℕ → Type 0) (m : ℕ) (f : ℕ → List ℕ) → ((a : ℕ) → All P (f a)) → All P (join m f)
 all-join P zero f h = tt

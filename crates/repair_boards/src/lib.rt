@@ -13,7 +13,7 @@ ghost use Rattle.sizes.specs.Sizing.{legal, α};
 ghost use Rattle.mbcr.specs.Share.{DifferentPoints};
 ghost use Rattle.puts.specs.Steps.{puts};
 ghost use Rattle.repair_hear.specs.Steps.{Naming};
-ghost use Rattle.store_repair.specs.Steps.{DifferentRuns, rebuilt};
+ghost use Rattle.repair_stripe.specs.Steps.{DifferentRuns, rebuilt};
 
 // All stripes of the fresh boards, each to its place in the area, where each names c boards. named is for work.
 pub fn repair_lists(

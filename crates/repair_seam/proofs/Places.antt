@@ -19,9 +19,9 @@ use Rattle.store_spec.specs.Stripes.{firsts, seconds, exchangedByte, stoodIn, f
 use Rattle.repair_hear.specs.Steps.{Naming, firstsOf, secondsOf}
 use Rattle.repair_rows.specs.Steps.{past, othersAt, helpersAt}
 use Rattle.repair_rows.proofs.Others.{past-below}
-use Rattle.store_repair.specs.Steps.{polysOf, sentAt, stripeAt, allFirsts, allSeconds, rebuilt}
-use Rattle.store_repair.proofs.Partners.{without-place}
-use Rattle.store_repair.proofs.Rebuilt.{length-firsts, length-poly}
+use Rattle.repair_stripe.specs.Steps.{polysOf, sentAt, stripeAt, allFirsts, allSeconds, rebuilt}
+use Rattle.repair_stripe.proofs.Partners.{without-place}
+use Rattle.repair_stripe.proofs.Rebuilt.{length-firsts, length-poly}
 
 -- the b-th run of c boards is the d helpers of the b-th fresh board, then its stand-ins
 module _ (z : Sizes) (xs : List ℕ) (own : ℕ → List ℕ) (fresh : List ℕ) (c : ℕ) (named : List ℕ) (H SI : ℕ → List ℕ) (nc : Naming z (length fresh) c)

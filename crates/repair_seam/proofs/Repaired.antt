@@ -20,8 +20,8 @@ use Rattle.store_spec.proofs.Stripes.{repair-by-stripes}
 use Rattle.repair_hear.specs.Steps.{Naming}
 use Rattle.puts.specs.Steps.{puts}
 use Rattle.puts.proofs.Puts.{puts-same}
-use Rattle.store_repair.specs.Steps.{rebuilt}
-use Rattle.store_repair.proofs.Rebuilt.{rebuilt-same}
+use Rattle.repair_stripe.specs.Steps.{rebuilt}
+use Rattle.repair_stripe.proofs.Rebuilt.{rebuilt-same}
 use Rattle.repair_seam.proofs.Places.{stripe-same}
 
 -- ---- shares put one after another

@@ -10,7 +10,7 @@ ghost use Rattle.gf256.specs.Field.{inverse};
 ghost use Rattle.sizes.specs.Sizing.{α, stripes as stripesOf};
 ghost use Rattle.sizes.specs.Refusals.{_when_};
 ghost use Rattle.mbcr.specs.Read.{decodedFile, readFile};
-ghost use Rattle.checks.specs.Steps.{asked};
+ghost use Rattle.line_checks.specs.Steps.{asked};
 ghost use Rattle.decode_stripe.specs.Steps.{Asked};
 ghost use Rattle.decode_setup.specs.Steps.{Made};
 use sizes::Check;

@@ -1,7 +1,7 @@
 -- What it says of a call that its shared checks pass: what its kernels ask.
 -- Assumes nothing.
 use Prim.Native.Nat.{ℕ, _*_, _≤_}
-use mathlib.Core.Path.{_≡_}
+use mathlib.Core.Path.{_≡_, refl}
 use mathlib.Core.Bool.{Bool, true, false}
 use mathlib.Core.List.{List}
 use native.Mathlib.Nat.{mul-le-mul-right}
@@ -12,13 +12,14 @@ use Rattle.lists.specs.Tests.{every, below, different}
 use Rattle.lists.proofs.Tests.{not-no}
 use Rattle.sizes.specs.declared.Sizes.{Sizes}
 use Rattle.sizes.specs.declared.Check.the-variants.{Pass}
+use Rattle.sizes.specs.declared.Refusal.the-variants.{Size, Area, Count, Node, Repeat, Down}
 use Rattle.sizes.specs.Sizing.{B, stripes}
 use Rattle.sizes.specs.Refusals.{first, storeOrder}
 use Rattle.sizes.proofs.Legal.{legal-facts, stripes-least}
-use Rattle.sizes.proofs.Lines.{first-clear}
+use Rattle.sizes.proofs.Orders.{clear-off}
 use Rattle.store_spec.specs.Record.{Record, sound, areaLen}
 use Rattle.store_spec.proofs.Records.{sound-facts}
-use Rattle.checks.specs.Steps.{Stated}
+use Rattle.line_checks.specs.Steps.{Stated}
 use Rattle.checks.proofs.Facts.{Taken, taken}
 use Rattle.shared_checks.specs.Steps.{areaLines, boardLines}
 
@@ -27,7 +28,9 @@ pub record Lent (s : Record) (m : ℕ) : Type 0 where
   pub area-is : m ≡ areaLen s
 
 pub area-facts : (s : Record) (m : ℕ) → first storeOrder (areaLines s m) ≡ Pass → Lent s m
-area-facts s m h = let e = first-clear (areaLines s m) storeOrder h in record { is-sound = not-no _ (e .0); area-is = eqb-true _ _ (not-no _ (e .1 .0)) }
+area-facts s m h =
+    let off = clear-off (areaLines s m) storeOrder h in
+    record { is-sound = not-no _ (off Size refl); area-is = eqb-true _ _ (not-no _ (off Area refl)) }
 
 pub record Named (z : Sizes) (count : ℕ) (marks : List Bool) (boards : List ℕ) : Type 0 where
   pub enough : length boards ≡ count
@@ -38,12 +41,12 @@ pub record Named (z : Sizes) (count : ℕ) (marks : List Bool) (boards : List �
 pub board-facts : (z : Sizes) (count : ℕ) (marks : List Bool) (boards : List ℕ) → first storeOrder (boardLines z count marks boards) ≡ Pass
     → Named z count marks boards
 board-facts z count marks boards h =
-    let e = first-clear (boardLines z count marks boards) storeOrder h .1 .1 .1 .1 in
+    let off = clear-off (boardLines z count marks boards) storeOrder h in
     record {
-      enough = eqb-true _ _ (not-no _ (e .0));
-      known = not-no _ (e .1 .0);
-      all-different = not-no _ (e .1 .1 .0);
-      all-up = not-no _ (e .1 .1 .1 .1 .0);
+      enough = eqb-true _ _ (not-no _ (off Count refl));
+      known = not-no _ (off Node refl);
+      all-different = not-no _ (off Repeat refl);
+      all-up = not-no _ (off Down refl);
     }
 
 -- what kernels ask of a record

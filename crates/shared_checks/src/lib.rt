@@ -45,7 +45,7 @@ pub fn check_boards(sizes: Sizes, want: usize, marks: &[bool], boards: &[usize])
     if let Check::Refuse(node) = checks::check_nodes(sizes, boards) {
         return Check::Refuse(node);
     }
-    if let Check::Refuse(repeat) = checks::check_repeat(boards) {
+    if let Check::Refuse(repeat) = line_checks::check_repeat(boards) {
         return Check::Refuse(repeat);
     }
     store_checks::check_service(marks, boards)

@@ -5,8 +5,8 @@ ghost use mathlib.Core.Bool.{false};
 ghost use Prim.Native.Nat.{_≤_};
 ghost use lib.ListN.{length};
 ghost use Rattle.size_list.specs.Combinations.{combinations, rows};
-use size_rows::Place;
 use size_rows::Run;
+use size_steps::Place;
 
 // What a read of one byte gave.
 enum Got {

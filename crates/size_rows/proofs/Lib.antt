@@ -1,4 +1,2 @@
-pub mod Behind
 pub mod Lines
-pub mod Walk
-pub mod Taken
+pub mod Runs

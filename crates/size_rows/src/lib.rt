@@ -1,4 +1,4 @@
-//! All legal combinations of sizes, one after another: the next of each, its line, a run of lines, and the limit that is read.
+//! The lines of all legal combinations of sizes: one line, a run of lines, and the limit that is read.
 ghost use mathlib.Core.Path.{_≡_};
 ghost use mathlib.Core.Bool.{true};
 ghost use mathlib.Core.List.{_++_};
@@ -8,15 +8,10 @@ ghost use Rattle.sizes.specs.Sizing.{legal};
 ghost use Rattle.board_spec.specs.Text.{decimal};
 ghost use Rattle.text_lines.specs.Steps.{Wrote};
 ghost use Rattle.size_list.specs.Combinations.{row, rows, limit};
-ghost use Rattle.size_rows.specs.Steps.{nextOf, fromD, met, after, LegalPlace, wholeLimit};
+ghost use Rattle.size_steps.specs.Steps.{met, after, LegalPlace};
 use number_lines::Read;
+use size_steps::Place;
 use sizes::Sizes;
-
-// A place in the list: at a combination, or behind the last.
-pub enum Place {
-    At(Sizes),
-    End,
-}
 
 // A run of lines: how many bytes they have, and the place behind them.
 pub struct Run {
@@ -34,54 +29,6 @@ pub fn first() -> Place
         d: 1,
         r: 1,
     })
-}
-
-// The first combination of n, k and d; where there is none, that of the next k, or of the next n up to the limit.
-fn from_helpers(n: usize, k: usize, d: usize, most: usize) -> Place
-    requires { ⌜ (n ≤ 32) × (k ≤ 32) ⌝ }
-    ensures { λ p. ⌜ p ≡ fromD most n k d ⌝ }
-{
-    if d < n {
-        return Place::At(Sizes {
-            n: n,
-            k: k,
-            d: d,
-            r: 1,
-        });
-    }
-    if k + 1 < n {
-        return Place::At(Sizes {
-            n: n,
-            k: k + 1,
-            d: k + 1,
-            r: 1,
-        });
-    }
-    if n < most {
-        return Place::At(Sizes {
-            n: n + 1,
-            k: 1,
-            d: 1,
-            r: 1,
-        });
-    }
-    Place::End
-}
-
-// The place behind a combination.
-fn next(z: Sizes, most: usize) -> Place
-    requires { ⌜ legal z ≡ true ⌝ }
-    ensures { λ p. ⌜ p ≡ nextOf most z ⌝ }
-{
-    if z.d + z.r < z.n {
-        return Place::At(Sizes {
-            n: z.n,
-            k: z.k,
-            d: z.d,
-            r: z.r + 1,
-        });
-    }
-    from_helpers(z.n, z.k, z.d + 1, most)
 }
 
 // A name and a number.
@@ -117,7 +64,7 @@ fn step(most: usize, place: Place, at: usize, out: &mut [u8]) -> Run
     match place {
         Place::At(z) => {
             let end = put_row(z, at, out);
-            let behind = next(z, most);
+            let behind = size_steps::next(z, most);
             Run {
                 count: end,
                 place: behind,
@@ -149,22 +96,6 @@ pub fn fill(most: usize, place: Place, steps: usize, out: &mut [u8]) -> Run
     run
 }
 
-// What a whole line gives: its number, where it is a limit and nothing stands behind it.
-fn whole(v: usize, behind: usize) -> usize
-    ensures { λ r. ⌜ r ≡ wholeLimit v behind ⌝ }
-{
-    if v < 2 {
-        return 0;
-    }
-    if Sizes::MAX_BOARDS < v {
-        return 0;
-    }
-    if behind != 0 {
-        return 0;
-    }
-    v
-}
-
 // The limit that an input gives; 0 where it is refused.
 pub fn limit(input: &[u8]) -> usize
     ensures { λ r. ⌜ r ≡ limit (now (input .entry)) ⌝ }
@@ -180,7 +111,7 @@ pub fn limit(input: &[u8]) -> usize
                 reader = next;
             }
             Read::Whole(v) => {
-                return whole(v, m - t);
+                return size_steps::whole(v, m - t);
             }
             Read::Malformed => {
                 return 0;

@@ -1,13 +1,16 @@
 -- Sizes and refusals have the laws of specs/Laws.antt.
 -- Assumes nothing.
 use mathlib.Core.Path.{_≡_, refl, sym, _∙_, ap}
-use mathlib.Core.Bool.{true, false}
+use mathlib.Core.Bool.{Bool, true, false, not}
 use mathlib.Core.Logic.{_≢_}
 use mathlib.Core.List.{List, [], _∷_, _++_}
-use Prim.Native.Nat.{ℕ, _≤_}
+use Prim.Native.Nat.{ℕ, _≤_, _<_}
 use native.Mathlib.Omega.{arith}
-use borrow.Author.Tests.{eq-eqb, ne-eqb}
+use lib.Dec.{leb, ltb, eqb}
+use borrow.Author.Tests.{eq-eqb, ne-eqb, leb-true, ltb-true, eqb-false, not-true}
 use Rattle.lists.specs.Lists.{All}
+use Rattle.lists.specs.Tests.{pick, every}
+use Rattle.lists.proofs.Tests.{both}
 use Rattle.sizes.specs.declared.Sizes.{Sizes}
 use Rattle.sizes.specs.declared.Refusal.{Refusal}
 use Rattle.sizes.specs.declared.Refusal.the-variants.{Size, Area, Long, Count, Node, Repeat, Short, Empty, Down, Disagree, Text, Mixed, Serving}
@@ -18,11 +21,16 @@ use Rattle.sizes.specs.Laws.{SizesAndRefusals}
 use Rattle.sizes.proofs.Legal.{legal-facts, legal-yes, stripes-enough, stripes-least, stripes-none, share-bytes, stripe-bytes, B-most}
 use Rattle.sizes.proofs.Lines.{first-clear, clear-first, first-refuse, refuse-first}
 
--- a refusal by its number
-named : ℕ → Refusal
-named n = lib.ListN.getD (Size ∷ Area ∷ Long ∷ Count ∷ Node ∷ Repeat ∷ Short ∷ Empty ∷ Down ∷ Disagree ∷ Size ∷ Text ∷ Mixed ∷ Serving ∷ []) (Prim.Native.Nat._-_ n 1) Size
+-- all refusals: what is asked of each is asked once, over this list
+abbrev pub all : List Refusal
+all = Size ∷ Area ∷ Long ∷ Count ∷ Node ∷ Repeat ∷ Short ∷ Empty ∷ Down ∷ Disagree ∷ Text ∷ Mixed ∷ Serving ∷ []
 
-named-number : (x : Refusal) → named (number x) ≡ x
+-- the refusal of this number
+named : List Refusal → ℕ → Refusal
+named [] n = Size
+named (x ∷ xs) n = pick (eqb (number x) n) x (named xs n)
+
+named-number : (x : Refusal) → named all (number x) ≡ x
 unfolding named
 named-number Size = refl
 named-number Area = refl
@@ -39,37 +47,29 @@ named-number Mixed = refl
 named-number Serving = refl
 
 pub numbers-differ : (x y : Refusal) → number x ≡ number y → x ≡ y
-numbers-differ x y e = sym (named-number x) ∙ ap named e ∙ named-number y
+numbers-differ x y e = sym (named-number x) ∙ ap (named all) e ∙ named-number y
+
+-- a test that all of them pass, each passes
+pub each-passes : (p : Refusal → Bool) → every p all ≡ true → (x : Refusal) → p x ≡ true
+unfolding named
+each-passes p h x = ap p (sym (named-number x)) ∙ passes all (both _ _ h .0) h (number x)
+  where
+    passes : (xs : List Refusal) → p Size ≡ true → every p xs ≡ true → (n : ℕ) → p (named xs n) ≡ true
+    passes [] s h n = s
+    passes (x ∷ xs) s h n = go (eqb (number x) n) (both (p x) (every p xs) h .0) (passes xs s (both (p x) (every p xs) h .1) n)
+      where
+        go : (t : Bool) → p x ≡ true → p (named xs n) ≡ true → p (pick t x (named xs n)) ≡ true
+        go true e ih = e
+        go false e ih = ih
 
 pub number-low : (x : Refusal) → 1 ≤ number x
-number-low Size = omega arith
-number-low Area = omega arith
-number-low Long = omega arith
-number-low Count = omega arith
-number-low Node = omega arith
-number-low Repeat = omega arith
-number-low Short = omega arith
-number-low Empty = omega arith
-number-low Down = omega arith
-number-low Disagree = omega arith
-number-low Text = omega arith
-number-low Mixed = omega arith
-number-low Serving = omega arith
+number-low x = leb-true 1 (number x) (each-passes (λ y. leb 1 (number y)) refl x)
+
+pub number-high : (x : Refusal) → number x < 256
+number-high x = ltb-true (number x) 256 (each-passes (λ y. ltb (number y) 256) refl x)
 
 pub never-eleven : (x : Refusal) → number x ≢ 11
-never-eleven Size e = omega (arith, e)
-never-eleven Area e = omega (arith, e)
-never-eleven Long e = omega (arith, e)
-never-eleven Count e = omega (arith, e)
-never-eleven Node e = omega (arith, e)
-never-eleven Repeat e = omega (arith, e)
-never-eleven Short e = omega (arith, e)
-never-eleven Empty e = omega (arith, e)
-never-eleven Down e = omega (arith, e)
-never-eleven Disagree e = omega (arith, e)
-never-eleven Text e = omega (arith, e)
-never-eleven Mixed e = omega (arith, e)
-never-eleven Serving e = omega (arith, e)
+never-eleven x = eqb-false (number x) 11 (not-true (eqb (number x) 11) (each-passes (λ y. not (eqb (number y) 11)) refl x))
 
 answers-differ : (a b : Answer) → said a ≡ said b → a ≡ b
 answers-differ (Done v) (Done w) e = ap Done (ap (λ (s : Said). s .reported) e)

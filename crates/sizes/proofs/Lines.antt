@@ -72,34 +72,6 @@ module _ (lines : List Line) where
       go Pass e = inr (first-clear order e)
       go (Refuse x) e = inl (x, first-refuse order x e)
 
--- two lists of lines that agree, each where none before it holds, give the same
-module _ (l m : List Line) where
-  abbrev pub Agree : List Refusal → Type 0
-  Agree [] = Unit
-  Agree (x ∷ order) = (appliesIn l x ≡ appliesIn m x) × (appliesIn m x ≡ false → Agree order)
-
-  pub first-agree : (order : List Refusal) → Agree order → first order l ≡ first order m
-  first-agree [] a = refl
-  first-agree (x ∷ order) a = go (appliesIn l x) (appliesIn m x) (a .0) refl (λ e. first-agree order (a .1 e))
-    where
-      go : (t u : Bool) → t ≡ u → appliesIn m x ≡ u → (appliesIn m x ≡ false → first order l ≡ first order m)
-          → pick t (Refuse x) (first order l) ≡ pick u (Refuse x) (first order m)
-      go true true e h f = refl
-      go false false e h f = f h
-      go true false e h f = absurd (true-false refl e)
-      go false true e h f = absurd (true-false refl (sym e))
-
--- a line that holds only where one before it does is never given
-pub never : (lines : List Line) (x : Refusal) (order : List Refusal) → All (λ y. number y ≢ number x) order
-    → (Clear lines order → appliesIn lines x ≡ false) → first (order ++ (x ∷ [])) lines ≢ Refuse x
-never lines x [] a h e = refuse-pass e (clear-first lines (x ∷ []) (h tt, tt))
-never lines x (y ∷ order) a h e = go (appliesIn lines y) refl e (never lines x order (a .1))
-  where
-    go : (t : Bool) → appliesIn lines y ≡ t → pick t (Refuse y) (first (order ++ (x ∷ [])) lines) ≡ Refuse x
-        → ((Clear lines order → appliesIn lines x ≡ false) → first (order ++ (x ∷ [])) lines ≢ Refuse x) → ⊥
-    go true q e ih = a .0 (ap number (let s : y ≡ x = cc in s))
-    go false q e ih = ih (λ c. h (q, c)) e
-
 -- ---- what a line's test says
 
 pub says-not : (b : Bool) → (not b ≡ true) ↔ (b ≡ false)

@@ -22,7 +22,7 @@ use Rattle.store_spec.proofs.Records.{repair-facts, sound-facts}
 use Rattle.store_spec.proofs.Real.{code-lengths}
 use Rattle.store_spec.proofs.Repair.{moved-is}
 use Rattle.puts.specs.Steps.{puts}
-use Rattle.store_repair.specs.Steps.{DifferentRuns, rebuilt}
+use Rattle.repair_stripe.specs.Steps.{DifferentRuns, rebuilt}
 use Rattle.repair_check.proofs.Repairable.{Repairable}
 use Rattle.repair_seam.proofs.Repaired.{namedOf, runOf, repaired}
 use Rattle.store.proofs.Settled.{refused-by, done-by}

@@ -14,7 +14,7 @@ ghost use Rattle.sizes.specs.Refusals.{_when_};
 ghost use Rattle.board_spec.specs.Calls.{nodeLine};
 ghost use Rattle.store_spec.specs.Record.{allOff, sound, turnOn};
 ghost use Rattle.store_spec.specs.Calls.{recordLine};
-ghost use Rattle.checks.specs.Steps.{asked};
+ghost use Rattle.line_checks.specs.Steps.{asked};
 ghost use Rattle.store_checks.specs.Steps.{recordOf, Bounded};
 use sizes::Check;
 use sizes::Refusal;
@@ -46,7 +46,7 @@ fn sound_in(
     requires { ⌜ legal sizes ≡ true ⌝ }
     ensures { λ r. ⌜ r ≡ sound (recordOf sizes (now (points .entry)) capacity written len (now (marks .entry))) ⌝ }
 {
-    if !checks::points_taken(sizes, points) {
+    if !line_checks::points_taken(sizes, points) {
         return false;
     }
     if capacity < 1 {

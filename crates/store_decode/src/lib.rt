@@ -10,7 +10,7 @@ ghost use Rattle.gf256.specs.Field.{inverse};
 ghost use Rattle.sizes.specs.Sizing.{α, stripes as stripesOf};
 ghost use Rattle.sizes.specs.Refusals.{_when_};
 ghost use Rattle.mbcr.specs.Read.{decodedFile, readFile};
-ghost use Rattle.checks.specs.Steps.{asked};
+ghost use Rattle.line_checks.specs.Steps.{asked};
 ghost use Rattle.store_spec.specs.Record.{held};
 ghost use Rattle.store_checks.specs.Steps.{recordOf};
 ghost use Rattle.decode_stripe.specs.Steps.{Asked};

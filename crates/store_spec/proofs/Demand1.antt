@@ -1,48 +1,48 @@
 -- Demand 1 of the store holds.
 -- Assumes nothing.
-use Prim.Native.Nat.{ℕ, suc, _+_, _-_, _*_, _≤_, _<_}
+use Prim.Native.Nat.{ℕ, _+_, _-_, _*_, _≤_, _<_}
 use mathlib.Core.Path.{_≡_, refl, sym, _∙_, ap, subst}
 use mathlib.Core.Bool.{Bool, true, false, not}
 use mathlib.Core.Logic.{_↔_}
 use mathlib.Core.List.{List, [], _∷_, _++_}
 use native.Mathlib.Omega.{arith}
-use lib.ListN.{length, drop, take, getD, replicate}
+use lib.ListN.{length, drop, take, getD}
 use lib.Dec.{leb, eqb}
 use borrow.Author.Tests.{leb-true, le-leb, lt-ltb, eqb-true, eq-eqb, not-true}
 use Rattle.lists.specs.Lists.{piece, All, tabulate}
 use Rattle.lists.specs.Tests.{pick, among, alls, different, apart, every}
-use Rattle.lists.proofs.Alls.{all-left, all-imp}
+use Rattle.lists.proofs.Alls.{all-left}
 use Rattle.lists.proofs.Boards.{below-all, all-among, among-head, among-tail}
 use Rattle.lists.proofs.Pieces.{piece-join}
 use Rattle.lists.proofs.Tests.{true-false, is-false, alls-hold, hold-alls, every-all}
-use Rattle.sizes.specs.Refusals.{Line, first, storeOrder, appliesIn}
-use Rattle.sizes.specs.Sizing.{legal, maxStripes, maxBoards, B, α, stripes}
+use Rattle.sizes.specs.Refusals.{Line, first, storeOrder}
+use Rattle.sizes.specs.Sizing.{legal, maxStripes, B, α, stripes}
 use Rattle.sizes.specs.declared.Check.{Check}
 use Rattle.sizes.specs.declared.Check.the-variants.{Pass, Refuse}
 use Rattle.sizes.specs.declared.Refusal.{Refusal}
-use Rattle.sizes.specs.declared.Refusal.the-variants.{Area, Long, Empty, Count, Node, Repeat, Serving, Down, Short}
 use Rattle.sizes.specs.declared.Sizes.{Sizes}
 use Rattle.sizes.proofs.Legal.{legal-facts}
 use Rattle.sizes.proofs.Lines.{one-or-none, refuse-first, clear-first, says-not, says-differ, says-less, says-no-file}
+use Rattle.sizes.proofs.Alike.{alike-at}
 use Rattle.mbcr.specs.Share.{pointed, share, stripe, kept}
 use Rattle.mbcr.proofs.Repair.{length-kept}
 use Rattle.store_spec.specs.Calls.{StoreOutcome, settle, accepted, refused, recordLine, setUpCall, writeLines, writeDone, writeCall, loseLines, loseDone, loseCall}
 use Rattle.store_spec.specs.Calls.{listLines, repairLines, repairDone, repairCall, readLines, readDone, readCall}
 use Rattle.board_spec.specs.Claims.{LinesSay}
-use Rattle.board_spec.proofs.Claims.{EachSays, lines-say}
-use Rattle.store_spec.specs.Demand1.{StoreEnds, Stays, storeLines, StoreCalls, writeClaims, loseClaims, listClaims, repairClaims, readClaims}
-use Rattle.store_spec.specs.Ledger.{Book, bookRecord, Call, write, lose, repair, read, bookLines}
+use Rattle.board_spec.proofs.Claims.{EachSays, _and_, end, lines-say}
+use Rattle.store_spec.specs.Demand1.{StoreEnds, Stays, StoreCalls, writeClaims, loseClaims, listClaims, repairClaims, readClaims}
 use Rattle.store_spec.specs.Packets.{freshShare, hearNamed, standInsEach}
-use Rattle.store_spec.specs.Record.{Record, newRecord, allOff, sound, inService, stripeCount, held, writtenRecord, usedLen, partLen, areaLen}
+use Rattle.store_spec.specs.Record.{Record, newRecord, sound, inService, stripeCount, held, writtenRecord, usedLen, partLen}
+use Rattle.store_spec.proofs.Agree.{alike}
 use Rattle.store_spec.proofs.Area.{held-stripe, length-shares, byte-stays, shares-same}
 use Rattle.store_spec.proofs.Demand3.{set-up-sound, set-up-taken, passes}
 use Rattle.store_spec.proofs.Exact.{read-exact}
-use Rattle.store_spec.proofs.Marks.{off-from, off-none, on-below, off-above, first-below, among-first, mark-at}
+use Rattle.store_spec.proofs.Marks.{off-from, off-none, on-below, off-above, first-below, among-first}
 use Rattle.store_spec.proofs.Packets.{runs-different}
 use Rattle.store_spec.proofs.Real.{code-lengths}
 use Rattle.store_spec.proofs.Records.{facts-sound, sound-facts, blank-length, blank-off, blank-if, Writes, write-facts, Sound, used-least, repair-facts, used-fits}
 use Rattle.store_spec.proofs.Repair.{fresh-length}
-use Rattle.store_spec.proofs.Step.{settle-pass, one-below, three-below, repeat-same, serving-same, down-same, every-same}
+use Rattle.store_spec.proofs.Step.{settle-pass}
 
 -- ---- every call ends
 
@@ -196,57 +196,16 @@ repair-stays s area fresh helpers standIns h =
           ∙ byte-stays s (freshShare s area fresh helpers standIns) (usedLen s) long (used-fits s g) fresh area (f .area-is) low p out;
     }
 
--- ---- the ledger's lines
-
-module _ (b : Book) (area : List ℕ) (ok : legal (b .sizes) ≡ true) (low : All (λ i. i < b .sizes .n) (b .service)) (as-long : length area ≡ b .areaLength) where
-  up : (i : ℕ) → inService (bookRecord b) i ≡ among (b .service) i
-  up i =
-      mark-at (b .service) i
-      (all-imp (λ x. x < b .sizes .n) (λ x. x < maxBoards) (λ x h. let k = legal-facts (b .sizes) ok .few in omega arith) (b .service) low)
-
-  area-same : not (eqb (length area) (areaLen (bookRecord b))) ≡ not (eqb (b .areaLength) (areaLen (bookRecord b)))
-  area-same = ap (λ (m : ℕ). not (eqb m (areaLen (bookRecord b)))) as-long
-
-  lines-agree : (call : Call) → All (λ x. appliesIn (storeLines (bookRecord b) area call) x ≡ appliesIn (bookLines b call) x)
-      (Area ∷ Long ∷ Empty ∷ Count ∷ Node ∷ Repeat ∷ Serving ∷ Down ∷ Short ∷ [])
-  unfolding storeLines writeLines loseLines listLines repairLines readLines bookLines
-  lines-agree (write file) = (area-same, (refl, (refl, (refl, (refl, (refl, (refl, (refl, (refl, tt)))))))))
-  lines-agree (lose board) = (refl, (refl, (refl, (refl, (ap not (one-below (b .sizes .n) board), (refl, (refl, (refl, (refl, tt)))))))))
-  lines-agree (repair fresh helpers standIns) = (
-    area-same,
-    (
-      refl,
-      (
-        refl,
-        (
-          refl,
-          (
-            ap not (three-below (b .sizes .n) fresh helpers standIns),
-            (
-              ap not (repeat-same (b .sizes .d) (b .sizes .r - length fresh) fresh helpers standIns helpers standIns),
-              (
-                ap not (serving-same (bookRecord b) (b .service) up fresh),
-                (ap not (down-same (bookRecord b) (b .service) up helpers standIns), (refl, tt)),
-              ),
-            ),
-          ),
-        ),
-      ),
-    ),
-  )
-  lines-agree (read boards output) =
-      (area-same, (refl, (refl, (refl, (refl, (refl, (refl, (ap not (every-same (inService (bookRecord b)) (among (b .service)) boards up), (refl, tt)))))))))
-
 -- ---- what the lines say
 
 write-lines : (s : Record) (m : ℕ) (file : List ℕ) → LinesSay (writeLines s m file) (writeClaims s m file)
 unfolding writeLines
 write-lines s m file =
-    lines-say (writeLines s m file) (writeClaims s m file) (refl, says-not _, (refl, says-differ _ _, (refl, says-less _ _, tt)))
+    lines-say (writeLines s m file) (writeClaims s m file) (says-not _ and says-differ _ _ and says-less _ _ and end)
 
 lose-lines : (s : Record) (board : ℕ) → LinesSay (loseLines s board) (loseClaims s board)
 unfolding loseLines
-lose-lines s board = lines-say (loseLines s board) (loseClaims s board) (refl, says-not _, (refl, says-not _, tt))
+lose-lines s board = lines-say (loseLines s board) (loseClaims s board) (says-not _ and says-not _ and end)
 
 -- COUNT by four tests
 says-counts : (t r h d m e : ℕ)
@@ -291,19 +250,13 @@ repeat-says d e fresh hs ss named =
 
 list-each : (s : Record) (fresh helpers standIns : List ℕ) → EachSays (listLines s fresh helpers standIns) (listClaims s fresh helpers standIns)
 unfolding listLines
-list-each s fresh helpers standIns = (
-  refl,
-  says-counts (length fresh) (s .sizes .r) (length helpers) (s .sizes .d) (length standIns) (standInsEach s fresh),
-  (
-    refl,
-    says-not _,
-    (
-      refl,
-      repeat-says (s .sizes .d) (standInsEach s fresh) fresh helpers standIns (helpers ++ standIns),
-      (refl, says-some (inService s) fresh, (refl, says-not _, tt)),
-    ),
-  ),
-)
+list-each s fresh helpers standIns =
+    (says-counts (length fresh) (s .sizes .r) (length helpers) (s .sizes .d) (length standIns) (standInsEach s fresh)
+    and says-not _
+    and repeat-says (s .sizes .d) (standInsEach s fresh) fresh helpers standIns (helpers ++ standIns)
+    and says-some (inService s) fresh
+    and says-not _
+    and end)
 
 list-lines : (s : Record) (fresh helpers standIns : List ℕ) → LinesSay (listLines s fresh helpers standIns) (listClaims s fresh helpers standIns)
 list-lines s fresh helpers standIns = lines-say (listLines s fresh helpers standIns) (listClaims s fresh helpers standIns) (list-each s fresh helpers standIns)
@@ -313,37 +266,23 @@ repair-lines : (s : Record) (m : ℕ) (fresh helpers standIns : List ℕ)
 unfolding repairLines
 repair-lines s m fresh helpers standIns =
     lines-say (repairLines s m fresh helpers standIns) (repairClaims s m fresh helpers standIns)
-    (refl, says-not _, (refl, says-differ _ _, (refl, says-not _, list-each s fresh helpers standIns)))
+    (says-not _ and says-differ _ _ and says-not _ and list-each s fresh helpers standIns)
 
 read-lines : (s : Record) (area boards output : List ℕ)
     → LinesSay (readLines s area boards output) (readClaims s area boards output)
 unfolding readLines
 read-lines s area boards output =
-    lines-say (readLines s area boards output) (readClaims s area boards output) (
-      refl,
-      says-not _,
-      (
-        refl,
-        says-differ _ _,
-        (
-          refl,
-          says-not _,
-          (
-            refl,
-            says-differ _ _,
-            (
-              refl,
-              says-not _,
-              (
-                refl,
-                says-not _,
-                (refl, says-not _, (refl, says-less _ _, (refl, says-no-file _, tt))),
-              ),
-            ),
-          ),
-        ),
-      ),
-    )
+    lines-say (readLines s area boards output) (readClaims s area boards output)
+    (says-not _
+    and says-differ _ _
+    and says-not _
+    and says-differ _ _
+    and says-not _
+    and says-not _
+    and says-not _
+    and says-less _ _
+    and says-no-file _
+    and end)
 
 -- ---- what is reported, and what losing and reading leave
 
@@ -383,6 +322,9 @@ demand-1 = record {
   read-reports = read-reports;
   new-is = λ z xs c. refl;
   in-service-is = λ s i. refl;
+  written-is = λ s L. refl;
+  lengths-are = λ s. (refl, refl, refl);
+  held-is = λ s area i. refl;
   write-lines = write-lines;
   lose-lines = lose-lines;
   list-lines = list-lines;
@@ -400,5 +342,5 @@ demand-1 = record {
   write-stays = write-stays;
   repair-stays = repair-stays;
   read-exact = read-exact;
-  lines-agree = λ b area call ok low as-long. lines-agree b area ok low as-long call;
+  lines-agree = λ b area call ok low as-long. alike-at (alike b area ok low as-long call);
 }

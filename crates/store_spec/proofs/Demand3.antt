@@ -1,26 +1,25 @@
 -- Demand 3 holds.
 -- Assumes nothing.
-use Prim.Native.Nat.{ℕ, zero, suc, _+_, _-_, _*_, _≤_, _<_}
+use Prim.Native.Nat.{ℕ, zero, suc, _+_, _-_, _≤_, _<_}
 use mathlib.Core.Path.{_≡_, refl, sym, _∙_, ap, subst}
-use mathlib.Core.Bool.{Bool, true, false, not}
+use mathlib.Core.Bool.{true, false, not}
 use mathlib.Core.List.{List, [], _∷_, _++_}
-use mathlib.Core.Option.{Option, some, none}
 use native.Mathlib.Omega.{arith}
-use lib.ListN.{length, drop, replicate, take, getD}
+use lib.ListN.{length, replicate}
 use Rattle.lists.specs.Lists.{joined, over}
 use Rattle.lists.specs.Tests.{among, different, every}
 use Rattle.lists.proofs.Alls.{all-left}
 use Rattle.lists.proofs.Boards.{below-all}
 use Rattle.lists.proofs.Tests.{not-no, true-false}
 use Rattle.gf256.proofs.Laws.{laws}
-use Rattle.sizes.specs.Refusals.{first, storeOrder, said}
+use Rattle.sizes.specs.Refusals.{first, storeOrder}
 use Rattle.sizes.specs.Sizing.{legal, maxBoards, maxStripes}
-use Rattle.sizes.specs.declared.Answer.the-variants.{Done}
 use Rattle.sizes.specs.declared.Check.{Check}
 use Rattle.sizes.specs.declared.Check.the-variants.{Pass, Refuse}
+use Rattle.sizes.specs.declared.Refusal.the-variants.{Size}
 use Rattle.sizes.specs.declared.Sizes.{Sizes}
 use Rattle.sizes.proofs.Laws.{number-low}
-use Rattle.sizes.proofs.Lines.{first-clear, clear-first}
+use Rattle.sizes.proofs.Orders.{_also_, clear-off, off-pass}
 use Rattle.mbcr.specs.Share.{share, standard, pointed}
 use Rattle.mbcr.specs.PointLaws.{firstSeries}
 use Rattle.mbcr.proofs.PointLaws.{point-laws}
@@ -141,7 +140,7 @@ module _ (old : Record) (z : Sizes) (xs : List ℕ) (c : ℕ) (h : setUpCall old
       passes (first storeOrder (recordLine (newRecord z xs c) ∷ [])) old [] [] (accepted 0 (newRecord z xs c) [] []) h
 
   pub set-up-sound : sound (newRecord z xs c) ≡ true
-  set-up-sound = not-no _ (first-clear (recordLine (newRecord z xs c) ∷ []) storeOrder set-up-pass .0)
+  set-up-sound = not-no _ (clear-off (recordLine (newRecord z xs c) ∷ []) storeOrder set-up-pass Size refl)
 
   set-up-done : setUpCall old z xs c ≡ accepted 0 (newRecord z xs c) [] []
   unfolding setUpCall
@@ -190,8 +189,8 @@ pub set-up-taken : (old : Record) (z : Sizes) (xs : List ℕ) (c : ℕ) → lega
     → setUpCall old z xs c .answer .refusal ≡ 0
 unfolding setUpCall
 set-up-taken old z xs c l p a b =
-    let e : first storeOrder (recordLine (newRecord z xs c) ∷ []) ≡ Pass = clear-first (recordLine (newRecord z xs c) ∷ []) storeOrder
-    (ap not (new-sound z xs c l p a b), (refl, (refl, (refl, (refl, (refl, (refl, (refl, (refl, (refl, (refl, tt))))))))))) in
+    let e : first storeOrder (recordLine (newRecord z xs c) ∷ []) ≡ Pass = off-pass (recordLine (newRecord z xs c) ∷ []) storeOrder
+    (ap not (new-sound z xs c l p a b) also tt) in
     ap (λ (o : StoreOutcome). o .answer .refusal) (settle-pass _ _ _ e)
 
 taken : (points : Sizes → List ℕ) → ((z : Sizes) → legal z ≡ true → pointed z (points z) ≡ true) → Demand3At points

@@ -2,14 +2,14 @@
 -- Assumes nothing.
 use Prim.Native.Nat.{ℕ, _*_, _<_}
 use mathlib.Core.Path.{_≡_, refl, sym, _∙_, ap}
-use mathlib.Core.Bool.{false, not}
-use mathlib.Core.Logic.{_≢_, _↔_, _⊎_}
+use mathlib.Core.Bool.{not}
+use mathlib.Core.Logic.{_↔_}
 use mathlib.Core.List.{List}
 use mathlib.Core.Option.{Option, some, none}
 use native.Mathlib.Omega.{arith}
 use lib.ListN.{length, drop, length-drop}
 use lib.Seq.{length-take-le}
-use borrow.Author.Tests.{eqb-true}
+use borrow.Author.Tests.{eqb-true, ltb-false}
 use Rattle.lists.specs.Lists.{All, over, Bytes, joined}
 use Rattle.lists.specs.Tests.{pick, given}
 use Rattle.lists.proofs.Alls.{take-alls, drop-alls, all-imp}
@@ -17,25 +17,20 @@ use Rattle.lists.proofs.Boards.{among-all, joined-parts, below-all, joined-all}
 use Rattle.lists.proofs.Pieces.{joined-bytes}
 use Rattle.lists.proofs.Put.{part-end}
 use Rattle.lists.proofs.Tests.{not-no}
-use Rattle.sizes.specs.Refusals.{Line, appliesIn, storeOrder, number, first}
+use Rattle.sizes.specs.Refusals.{storeOrder}
 use Rattle.sizes.specs.Sizing.{stripes, α}
 use Rattle.sizes.specs.declared.Check.{Check}
 use Rattle.sizes.specs.declared.Check.the-variants.{Refuse, Pass}
-use Rattle.sizes.specs.declared.Refusal.{Refusal}
-use Rattle.sizes.specs.declared.Refusal.the-variants.{Size, Area, Long, Count, Node, Repeat, Short, Empty, Down, Disagree, Serving}
+use Rattle.sizes.specs.declared.Refusal.the-variants.{Size, Area, Count, Node, Repeat, Short, Empty, Down, Disagree}
+use Rattle.sizes.proofs.Orders.{Only, only-off, only-first}
 use Rattle.mbcr.specs.Demand2.{Demand2, Named}
 use Rattle.mbcr.specs.Share.{shares, share}
 use Rattle.mbcr.proofs.Demand2.{demand-2}
-use Rattle.board_spec.proofs.Demand1.{clear, written}
+use Rattle.board_spec.proofs.Demand1.{written}
 use Rattle.board_spec.specs.Calls.{fileOf}
 use Rattle.store_spec.specs.Calls.{StoreOutcome, accepted, refused, settle, readLines, fileHeld, readCall, readDone}
 use Rattle.store_spec.specs.Record.{Record, held, usedLen, partLen}
 use Rattle.store_spec.proofs.Records.{Reads, Sound, sound-facts, sound-points, used-fits}
-
--- ---- no line but DISAGREE holds
-
-abbrev Only : List Line → Type 0
-Only lines = All (λ x. (x ≡ Disagree) ⊎ (appliesIn lines x ≡ false)) storeOrder
 
 -- the outcome of a read that found this file, or none
 abbrev outcome : Record → List ℕ → Option (List ℕ) → List ℕ → StoreOutcome
@@ -48,42 +43,28 @@ found : (s : Record) (area output : List ℕ) (o : Option (List ℕ))
 found s area output (some file) = refl
 found s area output none = refl
 
+-- no line but DISAGREE holds
 module _ (s : Record) (area boards output : List ℕ) (ba : Bytes area)
-    (h : Only (readLines s area boards output)) where
-  line : (x : Refusal) → number x ≢ 10 → (x ≡ Disagree) ⊎ (appliesIn (readLines s area boards output) x ≡ false) → appliesIn (readLines s area boards output) x ≡ false
-  line = clear (readLines s area boards output)
-
+    (h : Only (readLines s area boards output) Disagree storeOrder) where
   facts : Reads s (length area) boards output
   unfolding readLines
-  facts = record {
-    is-sound = not-no _ (line Size (omega arith) (h .0));
-    area-is = eqb-true _ _ (not-no _ (line Area (omega arith) (h .1 .0)));
-    is-written = not-no _ (line Empty (omega arith) (h .1 .1 .1 .0));
-    count = eqb-true _ _ (not-no _ (line Count (omega arith) (h .1 .1 .1 .1 .0)));
-    named-below = not-no _ (line Node (omega arith) (h .1 .1 .1 .1 .1 .0));
-    all-different = not-no _ (line Repeat (omega arith) (h .1 .1 .1 .1 .1 .1 .0));
-    all-up = not-no _ (line Down (omega arith) (h .1 .1 .1 .1 .1 .1 .1 .1 .0));
-    room = borrow.Author.Tests.ltb-false _ _ (line Short (omega arith) (h .1 .1 .1 .1 .1 .1 .1 .1 .1 .0));
-  }
-
-  only-first : first storeOrder (readLines s area boards output) ≡ pick (appliesIn (readLines s area boards output) Disagree) (Refuse Disagree) Pass
-  only-first =
-      let p1 = line Size (omega arith) (h .0) in
-      let p2 = line Area (omega arith) (h .1 .0) in
-      let p3 = line Long (omega arith) (h .1 .1 .0) in
-      let p4 = line Empty (omega arith) (h .1 .1 .1 .0) in
-      let p5 = line Count (omega arith) (h .1 .1 .1 .1 .0) in
-      let p6 = line Node (omega arith) (h .1 .1 .1 .1 .1 .0) in
-      let p7 = line Repeat (omega arith) (h .1 .1 .1 .1 .1 .1 .0) in
-      let p8 = line Serving (omega arith) (h .1 .1 .1 .1 .1 .1 .1 .0) in
-      let p9 = line Down (omega arith) (h .1 .1 .1 .1 .1 .1 .1 .1 .0) in
-      let p10 = line Short (omega arith) (h .1 .1 .1 .1 .1 .1 .1 .1 .1 .0) in
-      rw (p1, p2, p3, p4, p5, p6, p7, p8, p9, p10)
+  facts =
+      let off = only-off (readLines s area boards output) Disagree storeOrder h in
+      record {
+        is-sound = not-no _ (off Size refl refl);
+        area-is = eqb-true _ _ (not-no _ (off Area refl refl));
+        is-written = not-no _ (off Empty refl refl);
+        count = eqb-true _ _ (not-no _ (off Count refl refl));
+        named-below = not-no _ (off Node refl refl);
+        all-different = not-no _ (off Repeat refl refl);
+        all-up = not-no _ (off Down refl refl);
+        room = ltb-false _ _ (off Short refl refl);
+      }
 
   call-is : (o : Option (List ℕ)) → fileHeld s area boards ≡ o → readCall s area boards output ≡ outcome s area o output
   unfolding readLines readCall
   call-is o e =
-      ap (λ (c : Check). settle c (refused s area output) (readDone s area boards output)) only-first
+      ap (λ (c : Check). settle c (refused s area output) (readDone s area boards output)) (only-first (readLines s area boards output) Disagree storeOrder refl h)
       ∙ found s area output (fileHeld s area boards) ∙ ap (λ (o : Option (List ℕ)). outcome s area o output) e
 
   g : Sound s

@@ -7,6 +7,7 @@ pub mod Records
 pub mod Runs
 pub mod Marks
 pub mod Repair
+pub mod Agree
 pub mod Step
 pub mod StepRepair
 pub mod StepRead

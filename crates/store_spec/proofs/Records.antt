@@ -14,9 +14,10 @@ use Rattle.lists.proofs.Boards.{below-all}
 use Rattle.sizes.specs.Refusals.{first, storeOrder}
 use Rattle.sizes.specs.Sizing.{legal, maxStripes, B, α, stripes}
 use Rattle.sizes.specs.declared.Check.the-variants.{Pass}
+use Rattle.sizes.specs.declared.Refusal.the-variants.{Size, Area, Long, Count, Node, Repeat, Short, Empty, Down, Disagree, Serving}
 use Rattle.sizes.specs.declared.Sizes.{Sizes}
 use Rattle.sizes.proofs.Legal.{stripes-least, legal-facts}
-use Rattle.sizes.proofs.Lines.{first-clear, clear-first}
+use Rattle.sizes.proofs.Orders.{_also_, clear-off, off-pass}
 use Rattle.mbcr.specs.Share.{pointed, DifferentPoints}
 use Rattle.mbcr.proofs.PointLaws.{pointed-differ}
 use Rattle.store_spec.specs.Calls.{writeLines, loseLines, listLines, repairLines, readLines, fileHeld}
@@ -65,7 +66,7 @@ pub facts-sound : (s : Record) → Sound s → sound s ≡ true
 unfolding sound soundTests
 facts-sound s f =
     hold-alls (soundTests s)
-    (f .is-legal, (f .is-pointed, (le-leb _ _ (f .cap-low), (le-leb _ _ (f .cap-high), (le-leb _ _ (f .fits), (f .beyond, (f .blank, tt)))))))
+    (f .is-legal also f .is-pointed also le-leb _ _ (f .cap-low) also le-leb _ _ (f .cap-high) also le-leb _ _ (f .fits) also f .beyond also f .blank also tt)
 
 -- the points of a sound record differ
 pub sound-points : (s : Record) → Sound s → DifferentPoints (s .sizes) (s .points)
@@ -105,8 +106,8 @@ pub record Writes (s : Record) (m : ℕ) (file : List ℕ) : Type 0 where
 pub write-facts : (s : Record) (m : ℕ) (file : List ℕ) → first storeOrder (writeLines s m file) ≡ Pass → Writes s m file
 unfolding writeLines
 write-facts s m file h =
-    let e = first-clear (writeLines s m file) storeOrder h in
-    record { is-sound = not-no _ (e .0); area-is = eqb-true _ _ (not-no _ (e .1 .0)); file-fits = ltb-false _ _ (e .1 .1 .0) }
+    let off = clear-off (writeLines s m file) storeOrder h in
+    record { is-sound = not-no _ (off Size refl); area-is = eqb-true _ _ (not-no _ (off Area refl)); file-fits = ltb-false _ _ (off Long refl) }
 
 pub record Loses (s : Record) (board : ℕ) : Type 0 where
   pub is-sound : sound s ≡ true
@@ -115,8 +116,8 @@ pub record Loses (s : Record) (board : ℕ) : Type 0 where
 pub lose-facts : (s : Record) (board : ℕ) → first storeOrder (loseLines s board) ≡ Pass → Loses s board
 unfolding loseLines
 lose-facts s board h =
-    let e = first-clear (loseLines s board) storeOrder h in
-    record { is-sound = not-no _ (e .0); known = below-all (s .sizes .n) (board ∷ []) (not-no _ (e .1 .1 .1 .1 .1 .0)) .0 }
+    let off = clear-off (loseLines s board) storeOrder h in
+    record { is-sound = not-no _ (off Size refl); known = below-all (s .sizes .n) (board ∷ []) (not-no _ (off Node refl)) .0 }
 
 pub record Repairs (s : Record) (m : ℕ) (fresh helpers standIns : List ℕ) : Type 0 where
   pub is-sound : sound s ≡ true
@@ -153,23 +154,23 @@ pub repair-facts : (s : Record) (m : ℕ) (fresh helpers standIns : List ℕ) �
     → Repairs s m fresh helpers standIns
 unfolding repairLines listLines
 repair-facts s m fresh helpers standIns h =
-    let e = first-clear (repairLines s m fresh helpers standIns) storeOrder h in
-    let c = alls-hold (countTests s fresh helpers standIns) (not-no _ (e .1 .1 .1 .1 .0)) in
-    let d = alls-hold (repeatTests s fresh helpers standIns) (not-no _ (e .1 .1 .1 .1 .1 .1 .0)) in
+    let off = clear-off (repairLines s m fresh helpers standIns) storeOrder h in
+    let c = alls-hold (countTests s fresh helpers standIns) (not-no _ (off Count refl)) in
+    let d = alls-hold (repeatTests s fresh helpers standIns) (not-no _ (off Repeat refl)) in
     record {
-      is-sound = not-no _ (e .0);
-      area-is = eqb-true _ _ (not-no _ (e .1 .0));
-      is-written = not-no _ (e .1 .1 .1 .0);
+      is-sound = not-no _ (off Size refl);
+      area-is = eqb-true _ _ (not-no _ (off Area refl));
+      is-written = not-no _ (off Empty refl);
       some-fresh = leb-true _ _ (c .0);
       few-fresh = leb-true _ _ (c .1 .0);
       helper-count = eqb-true _ _ (c .1 .1 .0);
       stand-in-count = eqb-true _ _ (c .1 .1 .1 .0);
-      named-below = not-no _ (e .1 .1 .1 .1 .1 .0);
+      named-below = not-no _ (off Node refl);
       fresh-different = d .0;
       named-different = d .1 .0;
       none-fresh = d .1 .1 .0;
-      fresh-out = not-no _ (e .1 .1 .1 .1 .1 .1 .1 .0);
-      all-up = not-no _ (e .1 .1 .1 .1 .1 .1 .1 .1 .0);
+      fresh-out = not-no _ (off Serving refl);
+      all-up = not-no _ (off Down refl);
     }
 
 pub record Reads (s : Record) (m : ℕ) (boards output : List ℕ) : Type 0 where
@@ -186,18 +187,18 @@ pub read-facts : (s : Record) (area boards output : List ℕ) → first storeOrd
     → Reads s (length area) boards output × (given (fileHeld s area boards) ≡ true)
 unfolding readLines
 read-facts s area boards output h =
-    let e = first-clear (readLines s area boards output) storeOrder h in (
+    let off = clear-off (readLines s area boards output) storeOrder h in (
       record {
-        is-sound = not-no _ (e .0);
-        area-is = eqb-true _ _ (not-no _ (e .1 .0));
-        is-written = not-no _ (e .1 .1 .1 .0);
-        count = eqb-true _ _ (not-no _ (e .1 .1 .1 .1 .0));
-        named-below = not-no _ (e .1 .1 .1 .1 .1 .0);
-        all-different = not-no _ (e .1 .1 .1 .1 .1 .1 .0);
-        all-up = not-no _ (e .1 .1 .1 .1 .1 .1 .1 .1 .0);
-        room = ltb-false _ _ (e .1 .1 .1 .1 .1 .1 .1 .1 .1 .0);
+        is-sound = not-no _ (off Size refl);
+        area-is = eqb-true _ _ (not-no _ (off Area refl));
+        is-written = not-no _ (off Empty refl);
+        count = eqb-true _ _ (not-no _ (off Count refl));
+        named-below = not-no _ (off Node refl);
+        all-different = not-no _ (off Repeat refl);
+        all-up = not-no _ (off Down refl);
+        room = ltb-false _ _ (off Short refl);
       },
-      not-no _ (e .1 .1 .1 .1 .1 .1 .1 .1 .1 .1 .0),
+      not-no _ (off Disagree refl),
     )
 
 pub reads-pass : (s : Record) (area boards output : List ℕ) → Reads s (length area) boards output
@@ -205,22 +206,14 @@ pub reads-pass : (s : Record) (area boards output : List ℕ) → Reads s (lengt
     → first storeOrder (readLines s area boards output) ≡ Pass
 unfolding readLines
 reads-pass s area boards output f g =
-    clear-first (readLines s area boards output) storeOrder (
-      ap not (f .is-sound),
-      (
-        ap not (eq-eqb _ _ (f .area-is)),
-        (
-          refl,
-          (
-            ap not (f .is-written),
-            (
-              ap not (eq-eqb _ _ (f .count)),
-              (
-                ap not (f .named-below),
-                (ap not (f .all-different), (refl, (ap not (f .all-up), (le-ltb _ _ (f .room), (ap not g, tt))))),
-              ),
-            ),
-          ),
-        ),
-      ),
-    )
+    off-pass (readLines s area boards output) storeOrder
+    (ap not (f .is-sound)
+    also ap not (eq-eqb _ _ (f .area-is))
+    also ap not (f .is-written)
+    also ap not (eq-eqb _ _ (f .count))
+    also ap not (f .named-below)
+    also ap not (f .all-different)
+    also ap not (f .all-up)
+    also le-ltb _ _ (f .room)
+    also ap not g
+    also tt)

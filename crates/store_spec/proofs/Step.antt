@@ -1,38 +1,38 @@
 -- One call: store and ledger reply alike, and what holds between them before it holds after it.
 -- Assumes nothing.
-use Prim.Native.Nat.{ℕ, suc, _+_, _-_, _*_, _≤_, _<_}
-use mathlib.Core.Path.{_≡_, refl, sym, _∙_, ap, ap₂, subst}
+use Prim.Native.Nat.{ℕ, _-_, _*_, _≤_, _<_}
+use mathlib.Core.Path.{_≡_, refl, sym, _∙_, ap, subst}
 use mathlib.Core.Bool.{Bool, true, false, not}
-use mathlib.Core.List.{List, [], _∷_, _++_, map}
-use mathlib.Core.Option.{Option, some, none}
+use mathlib.Core.List.{List, []}
+use mathlib.Core.Option.{some}
 use native.Mathlib.Omega.{arith}
-use lib.ListN.{length, take, drop, set, getD}
+use lib.ListN.{length, take, drop}
 use lib.Seq.{take-take}
-use lib.Dec.{eqb, ltb}
-use borrow.Author.Tests.{eq-eqb, eqb-true, ltb-false}
-use Rattle.lists.specs.Lists.{Bytes, All, tabulate, piece, without}
-use Rattle.lists.specs.Tests.{given, among, below, alls, pick, every, different, apart}
+use lib.Dec.{eqb}
+use Rattle.lists.specs.Lists.{Bytes, All, tabulate, without}
+use Rattle.lists.specs.Tests.{given, among, pick}
 use Rattle.lists.proofs.Alls.{all-imp}
 use Rattle.lists.proofs.Boards.{all-among, all-without, among-without}
 use Rattle.lists.proofs.Tests.{true-false}
-use Rattle.sizes.specs.Refusals.{said, first, storeOrder}
-use Rattle.sizes.specs.Sizing.{legal, maxBoards}
+use Rattle.sizes.specs.Refusals.{said, appliesIn, first, storeOrder}
+use Rattle.sizes.specs.Sizing.{maxBoards}
 use Rattle.sizes.specs.declared.Answer.the-variants.{Refused}
 use Rattle.sizes.specs.declared.Check.{Check}
 use Rattle.sizes.specs.declared.Check.the-variants.{Pass, Refuse}
 use Rattle.sizes.specs.declared.Refusal.{Refusal}
-use Rattle.sizes.specs.declared.Sizes.{Sizes}
+use Rattle.sizes.specs.declared.Refusal.the-variants.{Disagree}
 use Rattle.sizes.proofs.Legal.{legal-facts}
-use Rattle.sizes.proofs.Lines.{first-agree}
+use Rattle.sizes.proofs.Orders.{ahead}
+use Rattle.sizes.proofs.Alike.{alike-first}
 use Rattle.mbcr.specs.Share.{share}
 use Rattle.board_spec.specs.Calls.{fileOf}
 use Rattle.store_spec.specs.Calls.{StoreOutcome, settle, refused, writeLines, writeDone, writeCall, loseLines, loseCall}
-use Rattle.store_spec.specs.Ledger.{Call, write, lose, repair, read, replied, Book, bookRecord, Entry, replyOf, Altered, bookLines, noted, act, enter, accept, bookLength}
-use Rattle.store_spec.specs.Packets.{hearNamed}
+use Rattle.store_spec.specs.Demand1.{storeLines}
+use Rattle.store_spec.specs.Ledger.{Call, write, lose, replied, Book, bookRecord, Entry, replyOf, Altered, bookLines, noted, act, enter, accept, bookLength}
 use Rattle.store_spec.specs.Record.{sound, areaLen, held, usedLen, partLen, inService, Record, writtenRecord}
+use Rattle.store_spec.proofs.Agree.{serves, alike, size-same}
 use Rattle.store_spec.proofs.Area.{length-shares, shares-same}
 use Rattle.store_spec.proofs.Marks.{mark-at, off-from, marksOf, first-below, marks-all, off-above, off-none, marks-lose}
-use Rattle.store_spec.proofs.Packets.{runs-different}
 use Rattle.store_spec.proofs.Records.{sound-facts, sound-points, used-fits, Sound, Writes, facts-sound, write-facts, blank-if, blank-length, blank-off}
 use Rattle.store_spec.proofs.Seam.{Laws, AllLaws}
 
@@ -81,78 +81,6 @@ good-both c1 c2 rs gs re ge e r g = subst (λ (c : Check). Good (settle c1 rs gs
 pub settle-pass : {A : Type 0} (c : Check) (refuse : Refusal → A) (go : A) → c ≡ Pass → settle c refuse go ≡ go
 settle-pass c refuse go e = ap (λ (x : Check). settle x refuse go) e
 
--- the tests of the ledger's lines, put as the store asks them
-pub every-append : {A : Type 0} (p : A → Bool) (xs ys : List A) → every p (xs ++ ys) ≡ alls (every p xs ∷ every p ys ∷ [])
-every-append p [] ys = go (every p ys)
-  where
-    go : (t : Bool) → t ≡ alls (true ∷ t ∷ [])
-    go true = refl
-    go false = refl
-every-append p (x ∷ xs) ys = go (p x) (every-append p xs ys)
-  where
-    go : (t : Bool) → every p (xs ++ ys) ≡ alls (every p xs ∷ every p ys ∷ []) → pick t (every p (xs ++ ys)) false ≡ alls (pick t (every p xs) false ∷ every p ys ∷ [])
-    go true e = e
-    go false e = refl
-
-pub both-below : (n : ℕ) (xs ys : List ℕ) → below n (xs ++ ys) ≡ alls (below n xs ∷ below n ys ∷ [])
-both-below n xs ys = every-append (λ x. ltb x n) xs ys
-
--- two tests asked as one
-last-two : (a b c : Bool) → alls (a ∷ alls (b ∷ c ∷ []) ∷ []) ≡ alls (a ∷ b ∷ c ∷ [])
-last-two true true true = refl
-last-two true true false = refl
-last-two true false c = refl
-last-two false b c = refl
-
-last-two-of-four : (a b c d : Bool) → alls (a ∷ b ∷ alls (c ∷ d ∷ []) ∷ []) ≡ alls (a ∷ b ∷ c ∷ d ∷ [])
-last-two-of-four true b c d = last-two b c d
-last-two-of-four false b c d = refl
-
-pub one-below : (n x : ℕ) → below n (x ∷ []) ≡ ltb x n
-one-below n x = go (ltb x n)
-  where
-    go : (t : Bool) → pick t true false ≡ t
-    go true = refl
-    go false = refl
-
--- board by board, a mark is on just where the board is in service
-pub every-same : (p q : ℕ → Bool) (l : List ℕ) → ((x : ℕ) → p x ≡ q x) → every p l ≡ every q l
-every-same p q [] h = refl
-every-same p q (x ∷ l) h = go (p x) (q x) (h x) (every-same p q l h)
-  where
-    go : (t u : Bool) → t ≡ u → every p l ≡ every q l → pick t (every p l) false ≡ pick u (every q l) false
-    go true true e k = k
-    go false false e k = refl
-    go true false e k = absurd (true-false refl e)
-    go false true e k = absurd (true-false refl (sym e))
-
--- the tests of a repair's lists
-pub three-below : (n : ℕ) (xs ys ws : List ℕ) → below n (xs ++ (ys ++ ws)) ≡ alls (below n xs ∷ below n ys ∷ below n ws ∷ [])
-three-below n xs ys ws =
-    both-below n xs (ys ++ ws) ∙ ap (λ (t : Bool). alls (below n xs ∷ t ∷ [])) (both-below n ys ws) ∙ last-two (below n xs) (below n ys) (below n ws)
-
--- hs and ss are the lists whose runs are asked
-pub repeat-same : (d e : ℕ) (fresh hs ss helpers standIns : List ℕ)
-    → alls (different fresh ∷ every (λ h. different (h .senders)) (hearNamed d e fresh hs ss) ∷ apart fresh (helpers ++ standIns) ∷ [])
-    ≡ alls
-    (different fresh
-    ∷ every different (tabulate (length fresh) (λ a. piece d a hs ++ piece e a ss))
-    ∷ apart fresh helpers
-    ∷ apart fresh standIns
-    ∷ [])
-repeat-same d e fresh hs ss helpers standIns =
-    ap₂ {C = Bool} (λ (t u : Bool). alls (different fresh ∷ t ∷ u ∷ [])) (runs-different d e fresh hs ss)
-    (every-append (λ x. not (among fresh x)) helpers standIns)
-    ∙ last-two-of-four (different fresh) (every different (tabulate (length fresh) (λ a. piece d a hs ++ piece e a ss)))
-    (apart fresh helpers) (apart fresh standIns)
-
-module _ (s : Record) (service : List ℕ) (up : (i : ℕ) → inService s i ≡ among service i) where
-  pub serving-same : (fresh : List ℕ) → every (λ i. not (inService s i)) fresh ≡ apart service fresh
-  serving-same fresh = every-same (λ i. not (inService s i)) (λ i. not (among service i)) fresh (λ i. ap not (up i))
-
-  pub down-same : (helpers standIns : List ℕ) → every (inService s) (helpers ++ standIns) ≡ alls (every (among service) helpers ∷ every (among service) standIns ∷ [])
-  down-same helpers standIns = every-same (inService s) (among service) (helpers ++ standIns) up ∙ every-append (among service) helpers standIns
-
 module _ (laws : AllLaws) (b : Book) (area : List ℕ) (v : Inv b area) where
   pub facts : Sound (bookRecord b)
   facts = sound-facts (bookRecord b) (v .is-sound)
@@ -164,25 +92,24 @@ module _ (laws : AllLaws) (b : Book) (area : List ℕ) (v : Inv b area) where
   few = legal-facts (b .sizes) (facts .is-legal) .few
 
   pub up : (i : ℕ) → inService (bookRecord b) i ≡ among (b .service) i
-  up i = mark-at (b .service) i (all-imp (λ x. x < b .sizes .n) (λ x. x < maxBoards) (λ x h. let k = few in omega arith) (b .service) (v .serving))
+  up = serves b area (facts .is-legal) (v .serving) (v .as-long)
+
+  -- store and ledger give the same refusal, where DISAGREE is off once those ahead of it are
+  pub same-check : (call : Call)
+      → (((y : Refusal) → ahead storeOrder y Disagree ≡ true → appliesIn (bookLines b call) y ≡ false)
+      → appliesIn (storeLines (bookRecord b) area call) Disagree ≡ appliesIn (bookLines b call) Disagree)
+      → first storeOrder (storeLines (bookRecord b) area call) ≡ first storeOrder (bookLines b call)
+  same-check call d = alike-first storeOrder (alike b area (facts .is-legal) (v .serving) (v .as-long) call) (size-same b area (ap not (v .is-sound)) call) d
 
   -- a refusal leaves all as it was
   pub refusal-good : (output : List ℕ) (x : Refusal) → Good (refused (bookRecord b) area output x) (replied (said (Refused x)) output b)
   refusal-good output x = record { alike = refl; same-record = refl; inv = v }
 
-  pub size-off : not (sound (bookRecord b)) ≡ false
-  size-off = ap not (v .is-sound)
-
-  pub area-same : not (eqb (length area) (areaLen (bookRecord b))) ≡ not (eqb (b .areaLength) (areaLen (bookRecord b)))
-  area-same = ap (λ (m : ℕ). not (eqb m (areaLen (bookRecord b)))) (v .as-long)
-
   -- ---- write
 
   write-same : (file : List ℕ) → first storeOrder (writeLines (bookRecord b) (length area) file) ≡ first storeOrder (bookLines b (write file))
-  unfolding writeLines bookLines
-  write-same file =
-      first-agree (writeLines (bookRecord b) (length area) file) (bookLines b (write file)) storeOrder
-      (size-off, λ _. (area-same, λ _. (refl, λ _. (refl, λ _. (refl, λ _. (refl, λ _. (refl, λ _. (refl, λ _. (refl, λ _. (refl, λ _. (refl, λ _. tt)))))))))))
+  unfolding storeLines writeLines bookLines
+  write-same file = same-check (write file) (λ _. refl)
 
   write-inv : (file : List ℕ) → Bytes file → Writes (bookRecord b) (length area) file
       → Inv (noted b (some file) (tabulate (b .sizes .n) (λ i. i))) (writeDone (bookRecord b) area file .area)
@@ -227,10 +154,8 @@ module _ (laws : AllLaws) (b : Book) (area : List ℕ) (v : Inv b area) where
   -- ---- lose
 
   lose-same : (board : ℕ) → first storeOrder (loseLines (bookRecord b) board) ≡ first storeOrder (bookLines b (lose board))
-  unfolding loseLines bookLines
-  lose-same board =
-      first-agree (loseLines (bookRecord b) board) (bookLines b (lose board)) storeOrder
-      (size-off, λ _. (refl, λ _. (refl, λ _. (refl, λ _. (refl, λ _. (ap not (one-below (b .sizes .n) board), λ _. (refl, λ _. (refl, λ _. (refl, λ _. (refl, λ _. (refl, λ _. tt)))))))))))
+  unfolding storeLines loseLines bookLines
+  lose-same board = same-check (lose board) (λ _. refl)
 
   lose-inv : (board : ℕ) → Inv (noted b (b .file) (without board (b .service))) area
   lose-inv board =

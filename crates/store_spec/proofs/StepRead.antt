@@ -14,21 +14,21 @@ use Rattle.lists.proofs.Alls.{all-imp}
 use Rattle.lists.proofs.Boards.{joined-all, all-below, all-among}
 use Rattle.lists.proofs.Tests.{both, every-all, not-no}
 use Rattle.sizes.specs.Refusals.{first, storeOrder}
-use Rattle.sizes.specs.Sizing.{legal}
 use Rattle.sizes.specs.declared.Check.the-variants.{Pass}
-use Rattle.sizes.specs.declared.Sizes.{Sizes}
+use Rattle.sizes.specs.declared.Refusal.the-variants.{Count, Node, Repeat, Down}
 use Rattle.sizes.proofs.Legal.{legal-facts}
-use Rattle.sizes.proofs.Lines.{first-agree}
 use Rattle.mbcr.specs.Read.{readFile}
 use Rattle.mbcr.specs.Share.{share}
 use Rattle.board_spec.specs.Calls.{fileOf}
 use Rattle.store_spec.specs.Calls.{accepted, fileHeld, readLines, readCall}
+use Rattle.store_spec.specs.Demand1.{storeLines}
 use Rattle.store_spec.specs.Ledger.{read, Book, bookRecord, bookLength, bookLines, act, enter, accept}
 use Rattle.store_spec.specs.Record.{held, inService}
+use Rattle.store_spec.proofs.Agree.{every-same}
 use Rattle.store_spec.proofs.Marks.{off-none, marksOf}
 use Rattle.store_spec.proofs.Records.{Sound, read-facts, blank-off, reads-pass}
 use Rattle.store_spec.proofs.Seam.{AllLaws}
-use Rattle.store_spec.proofs.Step.{Inv, facts, lawful, size-off, area-same, every-same, up, Good, good-both, refusal-good, settle-pass}
+use Rattle.store_spec.proofs.Step.{Inv, facts, lawful, same-check, up, Good, good-both, refusal-good, settle-pass}
 
 module _ (laws : AllLaws) (b : Book) (area : List ℕ) (v : Inv b area) where
   known : Sound (bookRecord b)
@@ -43,42 +43,11 @@ module _ (laws : AllLaws) (b : Book) (area : List ℕ) (v : Inv b area) where
 
   read-same : (boards output : List ℕ)
       → first storeOrder (readLines (bookRecord b) area boards output) ≡ first storeOrder (bookLines b (read boards output))
-  unfolding readLines bookLines
+  unfolding storeLines readLines bookLines
   read-same boards output =
-      first-agree (readLines (bookRecord b) area boards output) (bookLines b (read boards output)) storeOrder (
-        size-off laws b area v,
-        λ _. (
-          area-same laws b area v,
-          λ _. (
-            refl,
-            λ _. (
-              refl,
-              λ _. (
-                refl,
-                λ c. (
-                  refl,
-                  λ l. (
-                    refl,
-                    λ d. (
-                      refl,
-                      λ _. (
-                        ap not (every-same (inService (bookRecord b)) (among (b .service)) boards (up laws b area v)),
-                        λ u. (
-                          refl,
-                          λ _. (
-                            ap (λ (o : Option (List ℕ)). not (given o)) (reading boards (eqb-true _ _ (not-no _ c)) (not-no _ l) (not-no _ d) (not-no _ u)),
-                            λ _. tt,
-                          ),
-                        ),
-                      ),
-                    ),
-                  ),
-                ),
-              ),
-            ),
-          ),
-        ),
-      )
+      same-check laws b area v (read boards output) (λ off.
+      ap (λ (o : Option (List ℕ)). not (given o))
+      (reading boards (eqb-true _ _ (not-no _ (off Count refl))) (not-no _ (off Node refl)) (not-no _ (off Repeat refl)) (not-no _ (off Down refl))))
 
   pub read-good : (boards output : List ℕ) → Good (act (record { kept = bookRecord b; area = area }) (read boards output)) (enter b (read boards output))
   unfolding act enter accept readCall

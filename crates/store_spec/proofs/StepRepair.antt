@@ -1,33 +1,31 @@
 -- A repair: store and ledger reply alike, and fresh boards then hold their shares.
 -- Assumes nothing.
-use Prim.Native.Nat.{ℕ, _+_, _-_, _≤_, _<_}
+use Prim.Native.Nat.{ℕ, _+_, _-_, _<_}
 use mathlib.Core.Path.{_≡_, refl, sym, _∙_, ap}
-use mathlib.Core.Bool.{Bool, true, false, not}
-use mathlib.Core.List.{List, [], _∷_, _++_}
+use mathlib.Core.Bool.{Bool, true, false}
+use mathlib.Core.List.{List, [], _++_}
 use native.Mathlib.Omega.{arith}
 use lib.ListN.{length}
 use Rattle.lists.specs.Lists.{All}
-use Rattle.lists.specs.Tests.{different, among, apart, alls, given}
+use Rattle.lists.specs.Tests.{among, given}
 use Rattle.lists.proofs.Alls.{all-imp, all-left, append-all}
 use Rattle.lists.proofs.Boards.{below-all, all-among, among-append-none}
 use Rattle.sizes.specs.Refusals.{first, storeOrder, said}
-use Rattle.sizes.specs.Sizing.{legal, maxBoards}
+use Rattle.sizes.specs.Sizing.{maxBoards}
 use Rattle.sizes.specs.declared.Answer.the-variants.{Done}
-use Rattle.sizes.specs.declared.Sizes.{Sizes}
-use Rattle.sizes.proofs.Legal.{legal-facts}
-use Rattle.sizes.proofs.Lines.{first-agree}
 use Rattle.mbcr.specs.Share.{share}
 use Rattle.board_spec.specs.Calls.{fileOf}
 use Rattle.store_spec.specs.Calls.{listLines, repairLines, repairDone, repairCall}
+use Rattle.store_spec.specs.Demand1.{storeLines}
 use Rattle.store_spec.specs.Ledger.{Book, bookRecord, bookLines, noted, act, enter, accept, bookLength, repair}
 use Rattle.store_spec.specs.Packets.{freshShare}
-use Rattle.store_spec.specs.Record.{inService, usedLen, held, putShares}
+use Rattle.store_spec.specs.Record.{usedLen, held, putShares}
 use Rattle.store_spec.proofs.Area.{length-shares, shares-same, shares-other}
 use Rattle.store_spec.proofs.Marks.{off-from, marksOf, mark-at, marks-on}
 use Rattle.store_spec.proofs.Records.{Sound, Repairs, used-fits, facts-sound, repair-facts}
 use Rattle.store_spec.proofs.Repair.{fresh-length, true-share, moved-is}
 use Rattle.store_spec.proofs.Seam.{AllLaws}
-use Rattle.store_spec.proofs.Step.{Inv, facts, three-below, repeat-same, serving-same, down-same, size-off, area-same, up, lawful, few, Good, good-both, refusal-good}
+use Rattle.store_spec.proofs.Step.{Inv, facts, same-check, up, lawful, few, Good, good-both, refusal-good}
 
 -- ---- the call
 
@@ -37,42 +35,8 @@ module _ (laws : AllLaws) (b : Book) (area : List ℕ) (v : Inv b area) where
 
   repair-same : (fresh helpers standIns : List ℕ)
       → first storeOrder (repairLines (bookRecord b) (length area) fresh helpers standIns) ≡ first storeOrder (bookLines b (repair fresh helpers standIns))
-  unfolding repairLines listLines bookLines
-  repair-same fresh helpers standIns =
-      first-agree (repairLines (bookRecord b) (length area) fresh helpers standIns) (bookLines b (repair fresh helpers standIns)) storeOrder (
-        size-off laws b area v,
-        λ _. (
-          area-same laws b area v,
-          λ _. (
-            refl,
-            λ _. (
-              refl,
-              λ _. (
-                refl,
-                λ _. (
-                  ap not (three-below (b .sizes .n) fresh helpers standIns),
-                  λ _. (
-                    ap not (repeat-same (b .sizes .d) (b .sizes .r - length fresh) fresh helpers standIns helpers standIns),
-                    λ _. (
-                      ap not (serving-same (bookRecord b) (b .service) (up laws b area v) fresh),
-                      λ _. (
-                        ap not (down-same (bookRecord b) (b .service) (up laws b area v) helpers standIns),
-                        λ _. (
-                          refl,
-                          λ _. (
-                            refl,
-                            λ _. tt,
-                          ),
-                        ),
-                      ),
-                    ),
-                  ),
-                ),
-              ),
-            ),
-          ),
-        ),
-      )
+  unfolding storeLines repairLines listLines bookLines
+  repair-same fresh helpers standIns = same-check laws b area v (repair fresh helpers standIns) (λ _. refl)
 
   repair-inv : (fresh helpers standIns : List ℕ) → Repairs (bookRecord b) (length area) fresh helpers standIns
       → Inv (noted b (b .file) (fresh ++ b .service)) (repairDone (bookRecord b) area fresh helpers standIns .area)

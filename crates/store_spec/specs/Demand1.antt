@@ -8,6 +8,7 @@ use mathlib.Core.Logic.{_≢_, _↔_, _⊎_}
 use mathlib.Core.Option.{none}
 use mathlib.Core.List.{List, [], _∷_, _++_}
 use Prim.Native.Nat.{ℕ, _+_, _-_, _*_, _≤_, _<_}
+use lib.Dec.{ltb}
 use lib.ListN.{length, take, drop, getD, replicate}
 use Rattle.lists.specs.Tests.{every, alls, below, among, different, apart}
 use Rattle.lists.specs.Lists.{All, Bytes, tabulate, piece, over}
@@ -20,7 +21,7 @@ use Rattle.sizes.specs.Refusals.{number, said, Line, appliesIn, storeOrder}
 use Rattle.sizes.specs.Laws.{First}
 use Rattle.mbcr.specs.Share.{pointed, stripe, kept, share}
 use Rattle.board_spec.specs.Claims.{Claim, _means_, LinesSay}
-use Rattle.store_spec.specs.Record.{Record, inService, sound, newRecord, writtenRecord, stripeCount, partLen, usedLen, held}
+use Rattle.store_spec.specs.Record.{Record, inService, sound, newRecord, writtenRecord, stripeCount, partLen, usedLen, areaLen, held}
 use Rattle.store_spec.specs.Calls.{StoreOutcome, accepted, refused, fileHeld, recordLine, writeLines, loseLines, listLines, repairLines, readLines, setUpCall, writeDone, writeCall}
 use Rattle.store_spec.specs.Calls.{loseDone, loseCall, repairDone, repairCall, readDone, readCall}
 use Rattle.store_spec.specs.Ledger.{Call, write, lose, repair, read, Book, bookRecord, bookLines}
@@ -125,6 +126,15 @@ pub record StoreCalls : Type 0 where
   -- a new record, and the mark of a board
   pub new-is : (z : Sizes) (xs : List ℕ) (c : ℕ) → newRecord z xs c ≡ record { sizes = z; points = xs; capacity = c; written = false; length = 0; marks = replicate 32 false }
   pub in-service-is : (s : Record) (i : ℕ) → inService s i ≡ getD (s .marks) i false
+  -- the record that a write hands on
+  pub written-is : (s : Record) (L : ℕ) → writtenRecord s L
+      ≡ record { sizes = s .sizes; points = s .points; capacity = s .capacity; written = true; length = L; marks = tabulate 32 (λ i. ltb i (s .sizes .n)) }
+  -- a board's part of the area has C stripes, of which the first S are used: lengths and places by the sizes
+  pub lengths-are : (s : Record) → (partLen s ≡ s .capacity * α (s .sizes))
+      × (usedLen s ≡ stripes (s .sizes) (s .length) * α (s .sizes))
+      × (areaLen s ≡ s .sizes .n * (s .capacity * α (s .sizes)))
+  pub held-is : (s : Record) (area : List ℕ) (i : ℕ)
+      → held s area i ≡ take (stripes (s .sizes) (s .length) * α (s .sizes)) (drop (i * (s .capacity * α (s .sizes))) area)
   -- the records that are not SIZE, in propositions
   pub sound-is : (s : Record) → (sound s ≡ true)
       ↔ ((legal (s .sizes) ≡ true) × (pointed (s .sizes) (s .points) ≡ true) × (1 ≤ s .capacity) × (s .capacity ≤ maxStripes) × (s .length ≤ s .capacity * B (s .sizes))
@@ -152,5 +162,4 @@ pub record StoreCalls : Type 0 where
       ↔ ((file : List ℕ) → length file ≡ s .length → Bytes file → All (λ i. held s area i ≡ share (s .sizes) (s .points) file i) boards → ⊥))
   -- the ledger's lines are the store's: for each refusal but 1 and 10, by any book that tells legal sizes and names boards below n
   pub lines-agree : (b : Book) (area : List ℕ) (call : Call) → legal (b .sizes) ≡ true → All (λ i. i < b .sizes .n) (b .service) → length area ≡ b .areaLength
-      → All (λ x. appliesIn (storeLines (bookRecord b) area call) x ≡ appliesIn (bookLines b call) x)
-      (Area ∷ Long ∷ Empty ∷ Count ∷ Node ∷ Repeat ∷ Serving ∷ Down ∷ Short ∷ [])
+      → (x : Refusal) → x ≢ Size → x ≢ Disagree → appliesIn (storeLines (bookRecord b) area call) x ≡ appliesIn (bookLines b call) x

@@ -23,7 +23,7 @@ use Rattle.decode_laws.specs.Steps.{stripeAgrees, stripeReads}
 use Rattle.decode_laws.proofs.Agree.{decoded-ext, agrees-ext}
 use Rattle.decode_laws.proofs.Loops.{back-part}
 use Rattle.decode_stripe.proofs.Made.{part-long}
-use Rattle.decode_stripes.proofs.Made.{stripes-turn, stripes-end}
+use Rattle.stripes_cut.proofs.Made.{stripes-turn, stripes-end}
 use Rattle.decode.proofs.Agree.{agrees-made, enough-stripes}
 use Rattle.text_in.specs.Steps.{pairAt, bytesAt}
 use Rattle.text_stripes.specs.Steps.{spelled, Spelled, partOf, stripeStarts}

@@ -96,7 +96,7 @@ fn tellable(sizes: Sizes, points: &[u8]) -> bool
     requires { ⌜ legal sizes ≡ true ⌝ }
     ensures { λ r. ⌜ r ≡ alls (pointed sizes (now (points .entry)) ∷ not (inOrder (take (sizes .n) (now (points .entry)))) ∷ []) ⌝ }
 {
-    if !checks::points_taken(sizes, points) {
+    if !line_checks::points_taken(sizes, points) {
         return false;
     }
     let n = sizes.n;

@@ -1,7 +1,7 @@
 -- Texts that are alike, in propositions; and what the lines of the two calls say.
 -- Assumes nothing.
 use mathlib.Core.Path.{_≡_, refl, sym, ap, _∙_}
-use mathlib.Core.Bool.{Bool, true, false, not}
+use mathlib.Core.Bool.{Bool, true, not}
 use mathlib.Core.Logic.{_↔_}
 use mathlib.Core.Option.{Option, some, none}
 use mathlib.Core.List.{List, [], _∷_}
@@ -16,7 +16,7 @@ use Rattle.lists.proofs.Tests.{true-false, is-false, every-all, all-every, alls
 use Rattle.sizes.specs.declared.Sizes.{Sizes}
 use Rattle.sizes.proofs.Lines.{says-not, says-less, says-no-file}
 use Rattle.board_spec.specs.Claims.{LinesSay}
-use Rattle.board_spec.proofs.Claims.{lines-say}
+use Rattle.board_spec.proofs.Claims.{_and_, end, lines-say}
 use Rattle.text_spec.specs.Texts.{ShareTold, textOf, textsJoined, readText, textsOf}
 use Rattle.text_spec.specs.Calls.{readTextLines, textsTold, firstOf, likeSizes, like, gatherLines}
 use Rattle.text_spec.specs.Laws.{Writable}
@@ -86,22 +86,17 @@ pub read-lines : (text output : List ℕ) → LinesSay (readTextLines text outpu
 unfolding readTextLines
 read-lines text output =
     lines-say (readTextLines text output) (readTextClaims text output)
-    (refl, turned {P = λ t. text ≡ textOf t} {Q = Writable} (text-says (readText text) (λ t. (text ≡ textOf t) × Writable t) (text-told text)), (refl, says-less _ _, tt))
+    (turned {P = λ t. text ≡ textOf t} {Q = Writable} (text-says (readText text) (λ t. (text ≡ textOf t) × Writable t) (text-told text)) and says-less _ _ and end)
 
 pub gather-lines : (text output : List ℕ) → LinesSay (gatherLines text output) (gatherClaims text output)
 unfolding gatherLines
 gather-lines text output =
     let ts = textsTold (textsOf text) in
-    lines-say (gatherLines text output) (gatherClaims text output) (
-      refl,
-      turned {P = λ ts. text ≡ textsJoined ts} {Q = All Writable} (text-says (textsOf text) (λ ts. (text ≡ textsJoined ts) × All Writable ts) (texts-told text)),
-      (
-        refl,
-        says-none (every (like (firstOf ts)) ts) (every-says (like (firstOf ts)) (Like (firstOf ts)) (like-is (firstOf ts)) ts),
-        (
-          refl,
-          says-none (alls (leb 1 (length ts) ∷ eqb (length ts) (firstOf ts .sizes .k) ∷ [])) (count-says (length ts) (firstOf ts .sizes .k)),
-          (refl, says-not _, (refl, says-less _ _, (refl, says-no-file _, tt))),
-        ),
-      ),
-    )
+    lines-say (gatherLines text output) (gatherClaims text output)
+    (turned {P = λ ts. text ≡ textsJoined ts} {Q = All Writable} (text-says (textsOf text) (λ ts. (text ≡ textsJoined ts) × All Writable ts) (texts-told text))
+    and says-none (every (like (firstOf ts)) ts) (every-says (like (firstOf ts)) (Like (firstOf ts)) (like-is (firstOf ts)) ts)
+    and says-none (alls (leb 1 (length ts) ∷ eqb (length ts) (firstOf ts .sizes .k) ∷ [])) (count-says (length ts) (firstOf ts .sizes .k))
+    and says-not _
+    and says-less _ _
+    and says-no-file _
+    and end)

@@ -26,21 +26,23 @@ use Rattle.sizes.specs.Sizing.{legal, α, B, stripes}
 use Rattle.sizes.specs.Refusals.{said, Line, _when_, appliesIn, first, boardOrder}
 use Rattle.sizes.proofs.Legal.{legal-facts}
 use Rattle.sizes.proofs.Lines.{clear-first, refuse-first, one-or-none}
+use Rattle.sizes.proofs.Orders.{Only}
 use Rattle.mbcr.specs.Share.{pointed, share, shares}
 use Rattle.mbcr.specs.Demand2.{Named}
 use Rattle.mbcr.specs.Read.{decodedFile, readFile}
 use Rattle.mbcr.proofs.Places.{share-bytes}
 use Rattle.mbcr.proofs.Repair.{length-share}
 use Rattle.board_spec.specs.Calls.{BoardOutcome, settled, fileOf, fileLines, fileCall, shortLine}
+use Rattle.board_spec.specs.Claims.{Claim, _means_, LinesSay}
 use Rattle.board_spec.specs.Demand1.{BoardEnds}
 use Rattle.board_spec.proofs.Demand1 as board
 use Rattle.text_spec.specs.Texts.{ShareTold, textOf, textsJoined, readText, textsOf}
 use Rattle.text_spec.specs.Calls.{toldOf, ReadOutcome, readSettled, readTextLines, readTextCall, textsTold, firstOf, like, nodesOf, sharesOf, gathered, gatherLines, gatherCall}
 use Rattle.text_spec.specs.Laws.{Writable}
-use Rattle.text_spec.specs.Demand1.{ReadEnds, Like, shareOf, TextCalls}
-use Rattle.text_spec.proofs.Laws.{Facts, facts-of, of-facts, text-told}
+use Rattle.text_spec.specs.Demand1.{ReadEnds, Like, writtenClaims, shareOf, TextCalls}
+use Rattle.text_spec.proofs.Laws.{Facts, facts-of, of-facts, text-told, texts-told}
 use Rattle.text_spec.proofs.Alike.{like-is, read-lines, gather-lines}
-use Rattle.text_spec.proofs.Gather.{shares-bytes, width, is-file, Only, all-like, only-file, shares-wide}
+use Rattle.text_spec.proofs.Gather.{shares-bytes, width, is-file, all-like, only-file, shares-wide}
 
 -- ---- the reader
 
@@ -155,7 +157,7 @@ itself : {A : Type 0} → A ↔ A
 itself = ((λ a. a), (λ a. a))
 
 module _ (t : ShareTold) (us : List ShareTold) (output : List ℕ) (w : All Writable (t ∷ us))
-    (h : Only (gatherLines (textsJoined (t ∷ us)) output)) where
+    (h : Only (gatherLines (textsJoined (t ∷ us)) output) Disagree boardOrder) where
   abbrev z : Sizes
   z = t .sizes
 
@@ -193,10 +195,32 @@ module _ (t : ShareTold) (us : List ShareTold) (output : List ℕ) (w : All Writ
             (e .1),
       )
 
+-- ---- each line by what was written
+
+-- the claims by the texts that were read
+abbrev claimsBy : List ℕ → List ℕ → Option (List ShareTold) → List Claim
+claimsBy text output o =
+    let ts = textsTold o in
+    Text means ((us : List ShareTold) → All Writable us → text ≡ textsJoined us → ⊥)
+    ∷ Mixed means (All (Like (firstOf ts)) ts → ⊥)
+    ∷ Count means ((1 ≤ length ts) × (length ts ≡ firstOf ts .sizes .k) → ⊥)
+    ∷ Repeat means (different (nodesOf ts) ≡ false)
+    ∷ Short means (length output < firstOf ts .length)
+    ∷ Disagree means (gathered ts ≡ none)
+    ∷ []
+
+gather-says : (t : ShareTold) (us : List ShareTold) (output : List ℕ) → All Writable (t ∷ us)
+    → LinesSay (gatherLines (textsJoined (t ∷ us)) output) (writtenClaims t us output)
+unfolding gathered
+gather-says t us output w =
+    let text = textsJoined (t ∷ us) in
+    subst (λ (o : Option (List ShareTold)). LinesSay (gatherLines text output) (claimsBy text output o)) (texts-told text (t ∷ us) .1 (refl, w)) (gather-lines text output)
+
 pub demand-1 : TextCalls
 demand-1 = record {
   read-lines = read-lines;
   gather-lines = gather-lines;
+  gather-says = gather-says;
   read-ends = read-ends;
   gather-ends = gather-ends;
   reader-gives = reader-gives;

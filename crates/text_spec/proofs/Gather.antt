@@ -19,18 +19,17 @@ use Rattle.lists.proofs.Boards.{all-below}
 use Rattle.lists.proofs.Tests.{alls-hold, hold-alls, every-all, all-every, not-no}
 use Rattle.sizes.specs.declared.Sizes.{Sizes}
 use Rattle.sizes.specs.declared.Check.{Check}
-use Rattle.sizes.specs.declared.Refusal.the-variants.{Disagree, Text, Mixed, Count, Repeat, Short}
+use Rattle.sizes.specs.declared.Refusal.the-variants.{Size, Area, Long, Count, Node, Repeat, Short, Disagree, Text, Mixed}
 use Rattle.sizes.specs.declared.Refusal.{Refusal}
 use Rattle.sizes.specs.declared.Answer.the-variants.{Done, Refused}
 use Rattle.sizes.specs.Sizing.{legal, α, B, stripes}
-use Rattle.sizes.specs.Refusals.{said, Line, appliesIn, _when_, first, boardOrder}
+use Rattle.sizes.specs.Refusals.{said, number, Line, appliesIn, _when_, first, boardOrder}
 use Rattle.sizes.proofs.Legal.{legal-facts}
-use Rattle.sizes.proofs.Lines.{Agree, first-agree}
+use Rattle.sizes.proofs.Orders.{_also_, stands, ahead, all-at, Only, only-off, first-same}
 use Rattle.mbcr.specs.Share.{pointed, share, shares}
 use Rattle.mbcr.specs.Read.{decodedFile, readFile}
 use Rattle.mbcr.proofs.Repair.{length-share}
 use Rattle.board_spec.specs.Calls.{BoardOutcome, settled, fileOf, fileLines, fileCall, countLine, repeatLine, shortLine}
-use Rattle.board_spec.proofs.Demand1 as board
 use Rattle.text_spec.specs.Texts.{ShareTold, textsJoined, textsOf}
 use Rattle.text_spec.specs.Calls.{textsTold, firstOf, like, nodesOf, sharesOf, gathered, gatherLines, gatherCall}
 use Rattle.text_spec.specs.Laws.{Writable}
@@ -119,91 +118,71 @@ module _ (t : ShareTold) (us : List ShareTold) (output : List ℕ) (w : All Writ
     counted : not (alls (eqb (length (nodesOf ts)) (t .sizes .k) ∷ [])) ≡ false → length ts ≡ t .sizes .k
     counted e = sym length-nodes ∙ eqb-true _ _ (alls-hold (eqb (length (nodesOf ts)) (t .sizes .k) ∷ []) (not-no _ e) .0)
 
-    agree : Agree (linesBy (some ts)) asFile boardOrder
+    -- once the lines ahead of it are off in the call of a file, a line is the same in both
+    abbrev Same : Refusal → Type 0
+    Same x = ((y : Refusal) → ahead boardOrder y x ≡ true → appliesIn asFile y ≡ false) → appliesIn (linesBy (some ts)) x ≡ appliesIn asFile x
+
+    agree : (x : Refusal) → stands boardOrder x ≡ true → Same x
     unfolding fileLines gathered
-    agree =
-        let f = facts-of t (w .0 .0) in (
-          refl,
-          λ e. (
-            sym (ap not (hold-alls (legal (t .sizes) ∷ pointed (t .sizes) (t .points) ∷ []) (f .is-legal, (f .is-pointed, tt)))),
-            λ e. (
-              sym (le-ltb (4096 * B (t .sizes)) (t .length) (leb-true _ _ (f .not-long))),
-              λ e. (
-                ap not alike,
-                λ e. (
-                  count-same,
-                  λ c. (
-                    sym (ap not (all-below (t .sizes .n) (nodesOf ts) (nodes-known t ts w (self t, l)))),
-                    λ e. (
-                      refl,
-                      λ e. (
-                        sym (ap not (hold-alls (eqb (length (sharesOf ts)) (t .sizes .k * width t) ∷ []) (eq-eqb _ _ (area-is (counted c)), tt))),
-                        λ e. (refl, λ e. (refl, λ e. tt)),
-                      ),
-                    ),
-                  ),
-                ),
-              ),
-            ),
-          ),
-        )
+    agree x s =
+        let f = facts-of t (w .0 .0) in
+        let text : Same Text = λ off. refl in
+        let size : Same Size =
+        λ off. sym (ap not (hold-alls (legal (t .sizes) ∷ pointed (t .sizes) (t .points) ∷ []) (f .is-legal also f .is-pointed also tt))) in
+        let long : Same Long = λ off. sym (le-ltb (4096 * B (t .sizes)) (t .length) (leb-true _ _ (f .not-long))) in
+        let mixed : Same Mixed = λ off. ap not alike in
+        let count : Same Count = λ off. count-same in
+        let node : Same Node = λ off. sym (ap not (all-below (t .sizes .n) (nodesOf ts) (nodes-known t ts w (self t, l)))) in
+        let repeat : Same Repeat = λ off. refl in
+        let area : Same Area =
+        λ off. sym (ap not (hold-alls (eqb (length (sharesOf ts)) (t .sizes .k * width t) ∷ []) (eq-eqb _ _ (area-is (counted (off Count refl))), tt))) in
+        let short : Same Short = λ off. refl in
+        let disagree : Same Disagree = λ off. refl in
+        all-at Same boardOrder x s (text also size also long also mixed also count also node also repeat also area also short also disagree also tt)
 
     pub is-file : gatherCall (textsJoined ts) output ≡ fileCall (t .sizes) (t .points) (t .length) (nodesOf ts) (sharesOf ts) output
     unfolding gatherCall gathered fileCall
     is-file =
         ap₂ {C = BoardOutcome} (λ (c : Check) (o : Option (List ShareTold)). settled c (fileOf (gathered (textsTold o))) output)
-        (ap (first boardOrder) lines-are ∙ first-agree (linesBy (some ts)) asFile boardOrder agree) read
+        (ap (first boardOrder) lines-are ∙ first-same (linesBy (some ts)) asFile boardOrder agree) read
 
 -- ---- where no line but DISAGREE holds
 
-abbrev pub Only : List Line → Type 0
-Only lines = All (λ x. (x ≡ Disagree) ⊎ (appliesIn lines x ≡ false)) boardOrder
-
 module _ (t : ShareTold) (us : List ShareTold) (output : List ℕ) (w : All Writable (t ∷ us))
-    (h : Only (gatherLines (textsJoined (t ∷ us)) output)) where
-  by-texts : Only (linesBy t us output w (some (t ∷ us)))
-  by-texts = subst (λ (lines : List Line). Only lines) (lines-are t us output w) h
+    (h : Only (gatherLines (textsJoined (t ∷ us)) output) Disagree boardOrder) where
+  abbrev lines : List Line
+  lines = linesBy t us output w (some (t ∷ us))
+
+  by-texts : Only lines Disagree boardOrder
+  by-texts = subst (λ (l : List Line). Only l Disagree boardOrder) (lines-are t us output w) h
+
+  off : (x : Refusal) → stands boardOrder x ≡ true → eqb (number x) (number Disagree) ≡ false → appliesIn lines x ≡ false
+  off = only-off lines Disagree boardOrder by-texts
 
   pub all-like : All (Like t) us
-  all-like =
-      let e = not-no _ (board.clear (linesBy t us output w (some (t ∷ us))) Mixed (omega arith) (by-texts .1 .1 .1 .0)) in
-      likes us (every-all (like t) (t ∷ us) e .1)
+  all-like = likes us (every-all (like t) (t ∷ us) (not-no _ (off Mixed refl refl)) .1)
     where
       likes : (us : List ShareTold) → All (λ u. like t u ≡ true) us → All (Like t) us
       likes [] h = tt
       likes (u ∷ us) h = (like-is t u .0 (h .0), likes us (h .1))
 
-  pub only-file : Only (asFile t us output w)
+  pub only-file : Only (asFile t us output w) Disagree boardOrder
   unfolding fileLines
   only-file =
-      let lines = linesBy t us output w (some (t ∷ us)) in
-      let count = sym (count-same t us output w all-like) ∙ board.clear lines Count (omega arith) (by-texts .1 .1 .1 .1 .0) in
-      let f = facts-of t (w .0 .0) in (
-        inr refl,
-        (
-          inr (ap not (hold-alls (legal (t .sizes) ∷ pointed (t .sizes) (t .points) ∷ []) (f .is-legal, (f .is-pointed, tt)))),
-          (
-            inr (le-ltb (4096 * B (t .sizes)) (t .length) (leb-true _ _ (f .not-long))),
-            (
-              inr refl,
-              (
-                inr count,
-                (
-                  inr (ap not (all-below (t .sizes .n) (nodesOf (t ∷ us)) (nodes-known t (t ∷ us) w (self t, all-like)))),
-                  (
-                    inr (board.clear lines Repeat (omega arith) (by-texts .1 .1 .1 .1 .1 .1 .0)),
-                    (
-                      inr (ap not (hold-alls (eqb (length (sharesOf (t ∷ us))) (t .sizes .k * width t) ∷ [])
-                          (eq-eqb _ _ (area-is t us output w all-like (counted t us output w all-like count)), tt))),
-                      (inr (board.clear lines Short (omega arith) (by-texts .1 .1 .1 .1 .1 .1 .1 .1 .0)), (inl refl, tt)),
-                    ),
-                  ),
-                ),
-              ),
-            ),
-          ),
-        ),
-      )
+      let count = sym (count-same t us output w all-like) ∙ off Count refl refl in
+      let f = facts-of t (w .0 .0) in
+      let wide = eq-eqb _ _ (area-is t us output w all-like (counted t us output w all-like count)) in
+      inr refl
+      also inr (ap not (hold-alls (legal (t .sizes) ∷ pointed (t .sizes) (t .points) ∷ []) (f .is-legal also f .is-pointed also tt)))
+      also inr (le-ltb (4096 * B (t .sizes)) (t .length) (leb-true _ _ (f .not-long)))
+      also inr refl
+      also inr count
+      also inr (ap not (all-below (t .sizes .n) (nodesOf (t ∷ us)) (nodes-known t (t ∷ us) w (self t, all-like))))
+      also inr (off Repeat refl refl)
+      also inr (ap not (hold-alls (eqb (length (sharesOf (t ∷ us))) (t .sizes .k * width t) ∷ []) (wide, tt)))
+      also inr (off Short refl refl)
+      also inl refl
+      also tt
 
   pub shares-wide : All (λ u. length (u .share) ≡ width t) (t ∷ us)
   shares-wide = by (t ∷ us) w (self t, all-like)

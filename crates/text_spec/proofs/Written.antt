@@ -15,11 +15,12 @@ use Rattle.lists.proofs.Boards.{below-all}
 use Rattle.lists.proofs.Tests.{alls-hold, not-no}
 use Rattle.sizes.specs.declared.Check.{Check}
 use Rattle.sizes.specs.declared.Check.the-variants.{Pass, Refuse}
+use Rattle.sizes.specs.declared.Refusal.the-variants.{Size, Long, Node, Area}
 use Rattle.sizes.specs.declared.Answer.the-variants.{Done}
 use Rattle.sizes.specs.Refusals.{said, first, boardOrder}
 use Rattle.sizes.specs.Sizing.{α, B, stripes}
 use Rattle.sizes.proofs.Laws.{number-low}
-use Rattle.sizes.proofs.Lines.{first-clear}
+use Rattle.sizes.proofs.Orders.{clear-off}
 use Rattle.board_spec.specs.Calls.{BoardOutcome, settled, textLines, textCall}
 use Rattle.board_spec.proofs.Runs.{size-facts}
 use Rattle.text_spec.specs.Texts.{ShareTold, textOf, writable}
@@ -50,14 +51,14 @@ module _ (t : ShareTold) where
   passed : (output : List ℕ) → first boardOrder (textLines (t .sizes) (t .points) (t .length) (t .node) (t .share) output) ≡ Pass → Facts t
   unfolding textLines
   passed output p =
-      let e = first-clear (textLines (t .sizes) (t .points) (t .length) (t .node) (t .share) output) boardOrder p in
-      let s = size-facts (t .sizes) (t .points) (e .1 .0) in
+      let off = clear-off (textLines (t .sizes) (t .points) (t .length) (t .node) (t .share) output) boardOrder p in
+      let s = size-facts (t .sizes) (t .points) (off Size refl) in
       record {
         is-legal = s .0;
-        not-long = le-leb (t .length) (4096 * B (t .sizes)) (ltb-false (4096 * B (t .sizes)) (t .length) (e .1 .1 .0));
-        known = lt-ltb (t .node) (t .sizes .n) (below-all (t .sizes .n) (t .node ∷ []) (not-no _ (e .1 .1 .1 .1 .1 .0)) .0);
+        not-long = le-leb (t .length) (4096 * B (t .sizes)) (ltb-false (4096 * B (t .sizes)) (t .length) (off Long refl));
+        known = lt-ltb (t .node) (t .sizes .n) (below-all (t .sizes .n) (t .node ∷ []) (not-no _ (off Node refl)) .0);
         is-pointed = s .1;
-        long = eqb-true _ _ (alls-hold (eqb (length (t .share)) (stripes (t .sizes) (t .length) * α (t .sizes)) ∷ []) (not-no _ (e .1 .1 .1 .1 .1 .1 .1 .0)) .0);
+        long = eqb-true _ _ (alls-hold (eqb (length (t .share)) (stripes (t .sizes) (t .length) * α (t .sizes)) ∷ []) (not-no _ (off Area refl)) .0);
       }
 
   back : (output : List ℕ) → call output .answer .refusal ≡ 0 → writable t ≡ true
@@ -89,5 +90,7 @@ text-laws = record {
   reads-writes = reads-writes;
   one-text = one-text;
   text-told = text-told;
+  none-joined = refl;
+  texts-joined = λ t ts. refl;
   texts-told = texts-told;
 }

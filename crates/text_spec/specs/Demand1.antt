@@ -10,7 +10,7 @@ use mathlib.Core.List.{List, [], _∷_, map}
 use Prim.Native.Nat.{ℕ, _*_, _≤_, _<_}
 use lib.ListN.{length, replicate}
 use Rattle.lists.specs.Tests.{different}
-use Rattle.lists.specs.Lists.{All, Bytes, over}
+use Rattle.lists.specs.Lists.{All, Bytes, concat, over}
 use Rattle.sizes.specs.declared.Sizes.{Sizes}
 use Rattle.sizes.specs.declared.Refusal.{Refusal}
 use Rattle.sizes.specs.declared.Refusal.the-variants.{Text, Mixed, Count, Repeat, Short, Disagree}
@@ -19,6 +19,7 @@ use Rattle.sizes.specs.Sizing.{maxStripes, legal, B}
 use Rattle.sizes.specs.Refusals.{said, Line, appliesIn, boardOrder}
 use Rattle.sizes.specs.Laws.{First}
 use Rattle.mbcr.specs.Share.{pointed, share}
+use Rattle.mbcr.specs.Read.{readFile}
 use Rattle.mbcr.specs.Demand2.{Named}
 use Rattle.board_spec.specs.Claims.{Claim, _means_, LinesSay}
 use Rattle.board_spec.specs.Calls.{fileOf, fileCall}
@@ -68,6 +69,18 @@ gatherClaims text output =
     ∷ Disagree means (gathered ts ≡ none)
     ∷ []
 
+-- the same of texts that were written, one after another: each line by what was written, however many they are
+abbrev pub writtenClaims : ShareTold → List ShareTold → List ℕ → List Claim
+writtenClaims t us output =
+    let nodes = map (λ (u : ShareTold). u .node) (t ∷ us) in
+    Text means ((vs : List ShareTold) → All Writable vs → textsJoined (t ∷ us) ≡ textsJoined vs → ⊥)
+    ∷ Mixed means (All (Like t) (t ∷ us) → ⊥)
+    ∷ Count means ((1 ≤ length (t ∷ us)) × (length (t ∷ us) ≡ t .sizes .k) → ⊥)
+    ∷ Repeat means (different nodes ≡ false)
+    ∷ Short means (length output < t .length)
+    ∷ Disagree means (readFile (t .sizes) (t .points) (t .length) nodes (concat (map (λ (u : ShareTold). u .share) (t ∷ us))) ≡ none)
+    ∷ []
+
 -- what the share-as-text call tells of board i and a file
 abbrev pub shareOf : Sizes → List ℕ → List ℕ → ℕ → ShareTold
 shareOf z xs file i = record { sizes = z; points = xs; length = length file; node = i; share = share z xs file i }
@@ -76,6 +89,8 @@ pub record TextCalls : Type 0 where
   -- the lines of each call say this, and it has no others
   pub read-lines : (text output : List ℕ) → LinesSay (readTextLines text output) (readTextClaims text output)
   pub gather-lines : (text output : List ℕ) → LinesSay (gatherLines text output) (gatherClaims text output)
+  pub gather-says : (t : ShareTold) (us : List ShareTold) (output : List ℕ) → All Writable (t ∷ us)
+      → LinesSay (gatherLines (textsJoined (t ∷ us)) output) (writtenClaims t us output)
   pub read-ends : (text output : List ℕ) → ReadEnds (readTextLines text output) output (toldOf (readText text)) (readTextCall text output)
   pub gather-ends : (text output : List ℕ) → BoardEnds (gatherLines text output) output (fileOf (gathered (textsTold (textsOf text)))) (gatherCall text output)
   -- a text that was written tells what it was written of

@@ -5,7 +5,7 @@ use mathlib.Core.Path.{_≡_}
 use mathlib.Core.Bool.{true}
 use mathlib.Core.Logic.{_↔_}
 use mathlib.Core.Option.{some}
-use mathlib.Core.List.{List, _++_}
+use mathlib.Core.List.{List, [], _∷_, _++_}
 use Prim.Native.Nat.{ℕ, _<_}
 use lib.ListN.{length}
 use Rattle.lists.specs.Lists.{All, Bytes, over}
@@ -31,5 +31,7 @@ pub record ReadLaws : Type 0 where
   -- a share has one text, and a text tells one share
   pub one-text : (t u : ShareTold) → Writable t → Writable u → textOf t ≡ textOf u → t ≡ u
   pub text-told : (text : List ℕ) (t : ShareTold) → (readText text ≡ some t) ↔ ((text ≡ textOf t) × Writable t)
-  -- any number of texts
+  -- any number of texts, one after another with nothing between them
+  pub none-joined : textsJoined [] ≡ []
+  pub texts-joined : (t : ShareTold) (ts : List ShareTold) → textsJoined (t ∷ ts) ≡ textOf t ++ textsJoined ts
   pub texts-told : (text : List ℕ) (ts : List ShareTold) → (textsOf text ≡ some ts) ↔ ((text ≡ textsJoined ts) × All Writable ts)

@@ -2,44 +2,16 @@
 ghost use mathlib.Core.Path.{_≡_};
 ghost use mathlib.Core.Bool.{true};
 ghost use Prim.Native.Nat.{_≤_, _<_};
-ghost use mathlib.Core.List.{_++_};
-ghost use lib.ListN.{length, take, drop};
-ghost use Rattle.lists.specs.Lists.{tabulate, joined, piece};
+ghost use lib.ListN.{length, drop};
+ghost use Rattle.lists.specs.Lists.{joined};
 ghost use Rattle.sizes.specs.Refusals.{said};
 ghost use Rattle.store.specs.Handing.{recordIn};
 ghost use Rattle.answer_word.specs.Answers.{wordOf};
-ghost use Rattle.record_words.specs.Words.{bits, fromBits, bytes, fromBytes, isRecord, recordFrom, wordsOf};
-ghost use Rattle.words.specs.Steps.{arrayOf};
+ghost use Rattle.record_words.specs.Words.{bits, fromBits, bytes, isRecord, recordFrom, wordsOf};
 use row_sums::Row;
 use sizes::Sizes;
 use store::Handed;
 use store::Store;
-
-// Whether the words are a record's.
-pub fn is_record(words: &[u64]) -> bool
-    ensures { λ b. ⌜ b ≡ isRecord (now (words .entry)) ⌝ }
-{
-    if words.len() != 12 {
-        return false;
-    }
-    if 1 < words[5] {
-        return false;
-    }
-    words[7] < 4294967296
-}
-
-// The marks by the bits of a word, the lowest first.
-fn fill_marks(word: u64, marks: &mut [bool])
-    ensures { λ _. ⌜ now (marks .exit) ≡ bits (length (now (marks .entry))) word ⌝ }
-{
-    let mut rest = word;
-    let mut i: usize = 0;
-    while i < marks.len() {
-        marks[i] = rest % 2 == 1;
-        rest = rest / 2;
-        i += 1;
-    }
-}
 
 // The word that has the marks as its bits.
 fn marks_word(marks: &[bool]) -> u64
@@ -74,37 +46,13 @@ fn points_of(words: &[u64]) -> [u8; 32]
     points
 }
 
-// Points that are lent, as an array; another number of them than 32 gives 32 times 00, which no boards have.
-pub fn points_array(points: &[u8]) -> [u8; 32]
-    ensures { λ r. ⌜ r ≡ arrayOf (now (points .entry)) ⌝ }
-{
-    let mut given = [0u8; 32];
-    if points.len() == 32 {
-        let row = row_sums::row_at(points, 0);
-        row_sums::put_row(row, &mut given);
-    }
-    given
-}
-
-// The words of points, from the eighth on.
-fn put_points(points: &[u8], words: &mut [u64])
-    requires { ⌜ (length (now points) ≡ 32) × (length (now words) ≡ 12) ⌝ }
-    ensures { λ _. ⌜ now (words .exit) ≡ take 8 (now (words .entry)) ++ tabulate 4 (λ q. fromBytes (piece 8 q (now (points .entry)))) ⌝ }
-{
-    let row = row_sums::row_at(points, 0);
-    words[8] = row.a;
-    words[9] = row.b;
-    words[10] = row.c;
-    words[11] = row.d;
-}
-
 // The store that a record's words tell.
 pub fn store_of(words: &[u64]) -> Store
     requires { ⌜ isRecord (now words) ≡ true ⌝ }
     ensures { λ s. ⌜ recordIn s ≡ recordFrom (now (words .entry)) ⌝ }
 {
     let mut marks = [false; 32];
-    fill_marks(words[7], &mut marks);
+    word_parts::fill_marks(words[7], &mut marks);
     let points = points_of(words);
     Store {
         sizes: Sizes {
@@ -128,7 +76,7 @@ pub fn put_words(store: Store, words: &mut [u64])
 {
     let marks = store.marks;
     let points = store.points;
-    put_points(&points, words);
+    word_parts::put_points(&points, words);
     words[0] = store.sizes.n as u64;
     words[1] = store.sizes.k as u64;
     words[2] = store.sizes.d as u64;

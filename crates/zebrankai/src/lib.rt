@@ -14,8 +14,6 @@ ghost use Rattle.answer_word.specs.Answers.{wordOf};
 ghost use Rattle.archive_spec.specs.Archive.{sizesOf};
 ghost use Rattle.archive_spec.specs.Lent.{zbkSetUp, zbk};
 ghost use Rattle.archive_spec.specs.Texts.{zbkReadText};
-use sizes::Sizes;
-use store::Store;
 
 // The share of board `node` of a file. Reports the number of bytes written.
 #[no_mangle]
@@ -31,14 +29,7 @@ pub extern "C" fn zbk_share(
 ) -> u64
     ensures { λ w. ⌜ (w ≡ wordOf (shareCall (sizesOf n k d r) (now (points .entry)) node (now (file .entry)) (now (out .entry)) .answer)) × (now (out .exit) ≡ shareCall (sizesOf n k d r) (now (points .entry)) node (now (file .entry)) (now (out .entry)) .output) ⌝ }
 {
-    let sizes = Sizes {
-        n: n,
-        k: k,
-        d: d,
-        r: r,
-    };
-    let xs = words::points_array(points);
-    answer_word::word_of(board_share::share(sizes, xs, node, file, out))
+    archive_boards::share(n, k, d, r, points, node, file, out)
 }
 
 // The file of so many bytes that k shares give, or DISAGREE where no such file has them. Reports the number of bytes written.
@@ -56,14 +47,7 @@ pub extern "C" fn zbk_file(
 ) -> u64
     ensures { λ w. ⌜ (w ≡ wordOf (fileCall (sizesOf n k d r) (now (points .entry)) len (now (boards .entry)) (now (shares .entry)) (now (out .entry)) .answer)) × (now (out .exit) ≡ fileCall (sizesOf n k d r) (now (points .entry)) len (now (boards .entry)) (now (shares .entry)) (now (out .entry)) .output) ⌝ }
 {
-    let sizes = Sizes {
-        n: n,
-        k: k,
-        d: d,
-        r: r,
-    };
-    let xs = words::points_array(points);
-    answer_word::word_of(board_file::file(sizes, xs, len, boards, shares, out))
+    archive_boards::file(n, k, d, r, points, len, boards, shares, out)
 }
 
 // The helper packet that a board makes of its share of a file of so many bytes, for another board. Reports the number of bytes written.
@@ -82,14 +66,7 @@ pub extern "C" fn zbk_helper_packet(
 ) -> u64
     ensures { λ w. ⌜ (w ≡ wordOf (helperCall (sizesOf n k d r) (now (points .entry)) len helper receiver (now (share .entry)) (now (out .entry)) .answer)) × (now (out .exit) ≡ helperCall (sizesOf n k d r) (now (points .entry)) len helper receiver (now (share .entry)) (now (out .entry)) .output) ⌝ }
 {
-    let sizes = Sizes {
-        n: n,
-        k: k,
-        d: d,
-        r: r,
-    };
-    let xs = words::points_array(points);
-    answer_word::word_of(board_helper::helper_packet(sizes, xs, len, helper, receiver, share, out))
+    archive_boards::helper_packet(n, k, d, r, points, len, helper, receiver, share, out)
 }
 
 // The exchange packet that a board being rebuilt makes of its d helper packets, for another. Reports the number of bytes written.
@@ -109,23 +86,19 @@ pub extern "C" fn zbk_exchange_packet(
 ) -> u64
     ensures { λ w. ⌜ (w ≡ wordOf (exchangeCall (sizesOf n k d r) (now (points .entry)) len board (now (helpers .entry)) (now (packets .entry)) receiver (now (out .entry)) .answer)) × (now (out .exit) ≡ exchangeCall (sizesOf n k d r) (now (points .entry)) len board (now (helpers .entry)) (now (packets .entry)) receiver (now (out .entry)) .output) ⌝ }
 {
-    let sizes = Sizes {
-        n: n,
-        k: k,
-        d: d,
-        r: r,
-    };
-    let xs = words::points_array(points);
-    answer_word::word_of(board_exchange::exchange_packet(
-        sizes,
-        xs,
+    archive_boards::exchange_packet(
+        n,
+        k,
+        d,
+        r,
+        points,
         len,
         board,
         helpers,
         packets,
         receiver,
         out,
-    ))
+    )
 }
 
 // The share of a board being rebuilt, of its d helper packets and its r - 1 partners' packets. Reports the number of bytes written.
@@ -146,16 +119,12 @@ pub extern "C" fn zbk_finished_share(
 ) -> u64
     ensures { λ w. ⌜ (w ≡ wordOf (finishedCall (sizesOf n k d r) (now (points .entry)) len board (now (helpers .entry)) (now (packets .entry)) (now (partners .entry)) (now (exchanges .entry)) (now (out .entry)) .answer)) × (now (out .exit) ≡ finishedCall (sizesOf n k d r) (now (points .entry)) len board (now (helpers .entry)) (now (packets .entry)) (now (partners .entry)) (now (exchanges .entry)) (now (out .entry)) .output) ⌝ }
 {
-    let sizes = Sizes {
-        n: n,
-        k: k,
-        d: d,
-        r: r,
-    };
-    let xs = words::points_array(points);
-    answer_word::word_of(board_finish::finished_share(
-        sizes,
-        xs,
+    archive_boards::finished_share(
+        n,
+        k,
+        d,
+        r,
+        points,
         len,
         board,
         helpers,
@@ -163,7 +132,7 @@ pub extern "C" fn zbk_finished_share(
         partners,
         exchanges,
         out,
-    ))
+    )
 }
 
 // A board's share of a file of so many bytes, as text. Reports the number of bytes written.
@@ -181,18 +150,8 @@ pub extern "C" fn zbk_share_text(
 ) -> u64
     ensures { λ w. ⌜ (w ≡ wordOf (textCall (sizesOf n k d r) (now (points .entry)) len node (now (share .entry)) (now (out .entry)) .answer)) × (now (out .exit) ≡ textCall (sizesOf n k d r) (now (points .entry)) len node (now (share .entry)) (now (out .entry)) .output) ⌝ }
 {
-    let sizes = Sizes {
-        n: n,
-        k: k,
-        d: d,
-        r: r,
-    };
-    let xs = words::points_array(points);
-    answer_word::word_of(board_text::text(sizes, xs, len, node, share, out))
+    archive_boards::share_text(n, k, d, r, points, len, node, share, out)
 }
-
-// The word of SIZE, for words that are no record, and for a head or points of another length than theirs.
-const SIZE: u64 = 1;
 
 // What a share text tells: sizes, board number and length to six words, points to 32 bytes, and the share to the first bytes of the output. Reports
 // the number of bytes written. Another text than `zbk_share_text` writes is TEXT.
@@ -205,14 +164,7 @@ pub extern "C" fn zbk_read_text(
 ) -> u64
     ensures { λ w. ⌜ record { answer = w; head = now (head .exit); points = now (points .exit); output = now (out .exit) } ≡ zbkReadText (now (text .entry)) (now (head .entry)) (now (points .entry)) (now (out .entry)) ⌝ }
 {
-    if head.len() != 6 {
-        return SIZE;
-    }
-    if points.len() != 32 {
-        return SIZE;
-    }
-    let read = board_read_text::read_text(text, out);
-    text_words::tell(read, head, points)
+    archive_texts::read_text(text, head, points, out)
 }
 
 // The file of k share texts, one after another in one slice. Reports the number of bytes written, which is the file's length.
@@ -220,7 +172,7 @@ pub extern "C" fn zbk_read_text(
 pub extern "C" fn zbk_gather(text: &[u8], out: &mut [u8]) -> u64
     ensures { λ w. ⌜ (w ≡ wordOf (gatherCall (now (text .entry)) (now (out .entry)) .answer)) × (now (out .exit) ≡ gatherCall (now (text .entry)) (now (out .entry)) .output) ⌝ }
 {
-    answer_word::word_of(board_gather::gather(text, out))
+    archive_texts::gather(text, out)
 }
 
 // A new store of these sizes, these points and this capacity, in twelve words.
@@ -236,31 +188,7 @@ pub extern "C" fn zbk_set_up(
 ) -> u64
     ensures { λ w. ⌜ record { answer = w; words = now (ws .exit); area = []; output = [] } ≡ zbkSetUp (now (ws .entry)) (sizesOf n k d r) (now (points .entry)) capacity ⌝ }
 {
-    if ws.len() != 12 {
-        return SIZE;
-    }
-    let sizes = Sizes {
-        n: n,
-        k: k,
-        d: d,
-        r: r,
-    };
-    let xs = words::points_array(points);
-    let blank = Store {
-        sizes: sizes,
-        points: xs,
-        capacity: capacity,
-        written: false,
-        length: 0,
-        marks: [false; 32],
-    };
-    let handed = blank.set_up(sizes, xs, capacity);
-    let answer = handed.answer;
-    let word = answer_word::word_of(answer);
-    if word == 0 {
-        words::put_words(handed.store, ws);
-    }
-    word
+    archive_store::set_up(ws, n, k, d, r, points, capacity)
 }
 
 // Writes a file.
@@ -268,12 +196,7 @@ pub extern "C" fn zbk_set_up(
 pub extern "C" fn zbk_write(ws: &mut [u64], area: &mut [u8], file: &[u8]) -> u64
     ensures { λ w. ⌜ record { answer = w; words = now (ws .exit); area = now (area .exit); output = [] } ≡ zbk (now (ws .entry)) (now (area .entry)) (write (now (file .entry))) ⌝ }
 {
-    if !words::is_record(ws) {
-        return SIZE;
-    }
-    let store = words::store_of(ws);
-    let handed = store.write(area, file);
-    words::hand_on(handed, ws)
+    archive_store::write(ws, area, file)
 }
 
 // Takes a board out of service.
@@ -281,12 +204,7 @@ pub extern "C" fn zbk_write(ws: &mut [u64], area: &mut [u8], file: &[u8]) -> u64
 pub extern "C" fn zbk_lose(ws: &mut [u64], board: usize) -> u64
     ensures { λ w. ⌜ ((area : List ℕ) → record { answer = w; words = now (ws .exit); area = area; output = [] } ≡ zbk (now (ws .entry)) area (lose board)) ⌝ }
 {
-    if !words::is_record(ws) {
-        return SIZE;
-    }
-    let store = words::store_of(ws);
-    let handed = store.lose(board);
-    words::hand_on(handed, ws)
+    archive_store::lose(ws, board)
 }
 
 // Rebuilds one to r fresh boards together, t of them, each from its own run of d helpers and its own run of r − t stand-ins.
@@ -300,12 +218,7 @@ pub extern "C" fn zbk_repair(
 ) -> u64
     ensures { λ w. ⌜ record { answer = w; words = now (ws .exit); area = now (area .exit); output = [] } ≡ zbk (now (ws .entry)) (now (area .entry)) (repair (now (fresh .entry)) (now (helpers .entry)) (now (standins .entry))) ⌝ }
 {
-    if !words::is_record(ws) {
-        return SIZE;
-    }
-    let store = words::store_of(ws);
-    let handed = store.repair(area, fresh, helpers, standins);
-    words::hand_on(handed, ws)
+    archive_store::repair(ws, area, fresh, helpers, standins)
 }
 
 // Reads the file from k boards.
@@ -313,10 +226,5 @@ pub extern "C" fn zbk_repair(
 pub extern "C" fn zbk_read(ws: &mut [u64], area: &[u8], boards: &[usize], out: &mut [u8]) -> u64
     ensures { λ w. ⌜ record { answer = w; words = now (ws .exit); area = now (area .entry); output = now (out .exit) } ≡ zbk (now (ws .entry)) (now (area .entry)) (read (now (boards .entry)) (now (out .entry))) ⌝ }
 {
-    if !words::is_record(ws) {
-        return SIZE;
-    }
-    let store = words::store_of(ws);
-    let handed = store.read(area, boards, out);
-    words::hand_on(handed, ws)
+    archive_store::read(ws, area, boards, out)
 }

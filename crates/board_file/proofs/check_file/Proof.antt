@@ -18,7 +18,7 @@ use Rattle.sizes.specs.Refusals.{Line, _when_, first, boardOrder}
 use Rattle.sizes.proofs.Legal.{legal-facts, α-most}
 use Rattle.mbcr.specs.Read.{readFile}
 use Rattle.board_spec.specs.Calls.{countLine, nodeLine, repeatLine, areaLine, shortLine, fileLines}
-use Rattle.checks.specs.Steps.{asked, statedLines, Stated}
+use Rattle.line_checks.specs.Steps.{asked, statedLines, Stated}
 use Rattle.checks.proofs.Chain.{thens, grouped, goes-on, refuses, ends}
 use Rattle.checks.proofs.Facts.{Taken, stated-facts, taken-facts}
 use Rattle.checks.proofs.Given.{as-many, few-bytes}

@@ -12,7 +12,7 @@ use Rattle.sizes.specs.Sizing.{α, stripes}
 use Rattle.sizes.specs.Refusals.{Line, first, boardOrder}
 use Rattle.sizes.proofs.Legal.{legal-facts, α-most}
 use Rattle.board_spec.specs.Calls.{nodeLine, shortLine, shareLines}
-use Rattle.checks.specs.Steps.{asked, statedLines, Stated}
+use Rattle.line_checks.specs.Steps.{asked, statedLines, Stated}
 use Rattle.checks.proofs.Chain.{thens, grouped, goes-on, refuses, ends}
 use Rattle.checks.proofs.Facts.{stated-facts}
 use Rattle.checks.proofs.Given.{as-many, few-bytes}

@@ -14,7 +14,7 @@ use Rattle.sizes.specs.Refusals.{Line, first, boardOrder}
 use Rattle.sizes.proofs.Legal.{legal-facts, α-most}
 use Rattle.board_spec.specs.Text.{shareText}
 use Rattle.board_spec.specs.Calls.{nodeLine, areaLine, shortLine, textLines}
-use Rattle.checks.specs.Steps.{asked, statedLines, Stated}
+use Rattle.line_checks.specs.Steps.{asked, statedLines, Stated}
 use Rattle.checks.proofs.Chain.{thens, grouped, goes-on, refuses, ends}
 use Rattle.checks.proofs.Facts.{stated-facts, taken-facts}
 use Rattle.checks.proofs.Given.{as-many, few-bytes}

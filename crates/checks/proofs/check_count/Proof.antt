@@ -1,6 +1,6 @@
 -- `checks::check_count` meets its contract.
 -- Assumes nothing.
-use Rattle.checks.proofs.Answers.{passes, refuses, one-right}
+use Rattle.line_checks.proofs.Answers.{passes, refuses, one-right}
 use Rattle.sizes.proofs.Lines.{says-one}
 use Rattle.checks.proofs.check_count.Statement.{statement}
 use Rattle.checks.proofs.check_count.Tie as tie

@@ -10,9 +10,9 @@ use Rattle.sizes.specs.declared.Refusal.the-variants.{Node}
 use Rattle.sizes.specs.declared.Check.the-variants.{Refuse}
 use Rattle.sizes.specs.Refusals.{_when_}
 use Rattle.board_spec.specs.Calls.{nodeLine}
-use Rattle.checks.specs.Steps.{asked}
-use Rattle.checks.proofs.Answers.{refuses}
-use Rattle.checks.proofs.Joined.{below-left, below-mid, below-last}
+use Rattle.line_checks.specs.Steps.{asked}
+use Rattle.line_checks.proofs.Answers.{refuses}
+use Rattle.line_checks.proofs.Joined.{below-left, below-mid, below-last}
 use Rattle.checks.proofs.check_nodes_joined.Statement.{statement}
 use Rattle.checks.proofs.check_nodes_joined.Tie as tie
 

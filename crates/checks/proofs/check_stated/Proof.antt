@@ -10,8 +10,8 @@ use Rattle.sizes.specs.Sizing.{legal}
 use Rattle.sizes.specs.Refusals.{Line, first, boardOrder}
 use Rattle.board_spec.specs.Calls.{sizeLine, longLine}
 use Rattle.board_spec.proofs.Runs.{size-facts}
-use Rattle.checks.specs.Steps.{statedLines}
-use Rattle.checks.proofs.Answers.{passed}
+use Rattle.line_checks.specs.Steps.{statedLines}
+use Rattle.line_checks.proofs.Answers.{passed}
 use Rattle.checks.proofs.Chain.{thens, grouped, goes-on, refuses, ends}
 use Rattle.checks.proofs.check_stated.Statement.{statement}
 use Rattle.checks.proofs.check_stated.Tie as tie

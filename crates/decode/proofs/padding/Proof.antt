@@ -7,7 +7,7 @@ use Rattle.sizes.proofs.Legal.{Legal, legal-facts, B-most}
 use Rattle.mbcr.proofs.Decode.{length-decoded}
 use Rattle.decode_laws.specs.Steps.{zeros}
 use Rattle.decode_stripe.proofs.Made.{part-long}
-use Rattle.decode_stripes.specs.Steps.{stripeAt}
+use Rattle.stripes_cut.specs.Steps.{stripeAt}
 use Rattle.decode.proofs.Padded.{end-is, one-long, one-short}
 use mathlib.Core.Path.{_≡_, refl, sym, ap, ap₂, _∙_}
 use mathlib.Core.List.{List, _++_}

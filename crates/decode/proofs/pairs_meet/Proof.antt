@@ -3,7 +3,7 @@
 use Rattle.sizes.proofs.Legal.{Legal, legal-facts}
 use Rattle.decode_stripe.proofs.Made.{part-long}
 use Rattle.decode_setup.proofs.Placed.{f-few, g-few}
-use Rattle.decode_stripes.proofs.Made.{tables-lent}
+use Rattle.stripes_cut.proofs.Made.{tables-lent}
 use mathlib.Core.Path.{_≡_, refl, sym, ap, ap₂, _∙_}
 use mathlib.Core.List.{List, _++_}
 use Prim.Native.Nat.{ℕ, _≤_, _<_, _-_, _+_, _*_}

@@ -10,7 +10,7 @@ use Rattle.lists.proofs.Pieces.{part-piece}
 use Rattle.sizes.proofs.Legal.{row-fits}
 use Rattle.decode_laws.specs.Steps.{offset, valueBy}
 use Rattle.decode_laws.proofs.Values.{offset-below}
-use Rattle.decode_values.proofs.Made.{board-below, rest-part}
+use Rattle.kept_rows.proofs.Made.{board-below, rest-part}
 use Rattle.decode_pairs.proofs.value_at.Statement.{statement}
 use Rattle.decode_pairs.proofs.value_at.Tie as tie
 

@@ -4,8 +4,9 @@ use Rattle.lists.proofs.Alls.{all-at}
 use Rattle.lists.proofs.Boards.{below-all}
 use Rattle.sizes.proofs.Legal.{Legal, legal-facts}
 use Rattle.decode_stripe.proofs.Made.{part-long}
-use Rattle.decode_setup.proofs.Placed.{f-few, g-few, near-again}
-use Rattle.decode_stripes.proofs.Made.{tables-lent, targets-are}
+use Rattle.decode_setup.proofs.Placed.{f-few, g-few}
+use Rattle.setup_rows.proofs.Near.{near-again}
+use Rattle.stripes_cut.proofs.Made.{tables-lent, targets-are}
 use mathlib.Core.Path.{_≡_, refl, sym, ap, ap₂, _∙_}
 use mathlib.Core.List.{List, _++_}
 use Prim.Native.Nat.{ℕ, _≤_, _<_, _-_, _+_, _*_}

@@ -4,7 +4,7 @@ use Rattle.lists.specs.Tests.{pick}
 use Rattle.sizes.specs.Sizing.{B}
 use Rattle.sizes.proofs.Legal.{Legal, legal-facts, B-most}
 use Rattle.decode_stripe.proofs.Made.{part-long}
-use Rattle.decode_stripes.proofs.Made.{values-few, tops-few}
+use Rattle.stripes_cut.proofs.Made.{values-few, tops-few}
 use mathlib.Core.Path.{_≡_, refl, sym, ap, ap₂, _∙_}
 use mathlib.Core.List.{List, _++_}
 use Prim.Native.Nat.{ℕ, _≤_, _<_, _-_, _+_, _*_}

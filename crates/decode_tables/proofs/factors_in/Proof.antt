@@ -23,13 +23,13 @@ abbrev after-boards-from-from-after-lagrange-rows-arg2 : tie.After-lagrange-rows
 after-boards-from-from-after-lagrange-rows-arg2 c = c .before .before .before .before
 
 abbrev start-from-after-board-factors-arg2 : tie.After-board-factors-arg2 → tie.Start
-start-from-after-board-factors-arg2 c = c .before .before .before .before .before .before .before .before .before .before .before .before .before .before .before .before
+start-from-after-board-factors-arg2 c = start-from-after-lagrange-rows-arg2 (c .before .before .before .before .before)
 
 abbrev start-from-after-slice-known6 : tie.After-slice-known6 → tie.Start
-start-from-after-slice-known6 c = c .before .before .before .before .before .before .before .before .before .before .before .before .before .before .before .before .before .before .before
+start-from-after-slice-known6 c = start-from-after-board-factors-arg2 (c .before .before .before)
 
 abbrev after-boards-from-from-after-slice-known6 : tie.After-slice-known6 → tie.After-boards-from
-after-boards-from-from-after-slice-known6 c = c .before .before .before .before .before .before .before .before .before .before .before .before
+after-boards-from-from-after-slice-known6 c = after-boards-from-from-after-lagrange-rows-arg2 (c .before .before .before .before .before .before .before .before)
 
 abbrev after-lagrange-rows-from-after-slice-known6 : tie.After-slice-known6 → tie.After-lagrange-rows
 after-lagrange-rows-from-after-slice-known6 c = c .before .before .before .before .before .before .before

@@ -10,7 +10,7 @@ use Rattle.lists.specs.Lists.{tabulate}
 use Rattle.lists.proofs.Pieces.{fill-loop, fill-end, fill-all}
 use Rattle.decode_laws.specs.Steps.{offset, valueBy}
 use Rattle.decode_laws.proofs.Values.{offset-below}
-use Rattle.decode_values.proofs.Made.{board-below}
+use Rattle.kept_rows.proofs.Made.{board-below}
 use Rattle.decode_values.proofs.board_values.Statement.{statement}
 use Rattle.decode_values.proofs.board_values.Tie as tie
 

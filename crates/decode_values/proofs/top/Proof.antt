@@ -11,7 +11,7 @@ use Rattle.lists.proofs.Pieces.{fill-loop, fill-end, fill-all}
 use Rattle.gf256.specs.Field.{mul}
 use Rattle.polynomial.specs.Polynomial.{sum}
 use Rattle.sizes.proofs.Legal.{row-fits}
-use Rattle.decode_values.proofs.Made.{top-made}
+use Rattle.kept_rows.proofs.Made.{top-made}
 use Rattle.decode_values.proofs.top.Statement.{statement}
 use Rattle.decode_values.proofs.top.Tie as tie
 

@@ -12,7 +12,7 @@ use Rattle.lists.proofs.Pieces.{length-tabulate, part-piece}
 use Rattle.sizes.proofs.Legal.{row-fits}
 use Rattle.decode_laws.specs.Steps.{offset, valueBy, valuesOf}
 use Rattle.decode_laws.proofs.Loops.{join-loop, join-end}
-use Rattle.decode_values.proofs.Made.{board-below, rest-part}
+use Rattle.kept_rows.proofs.Made.{board-below, rest-part}
 use Rattle.decode_values.proofs.values.Statement.{statement}
 use Rattle.decode_values.proofs.values.Tie as tie
 

@@ -15,7 +15,7 @@ abbrev st : tie.After-shared-slice-known3 → tie.Start
 st c = c .before .before .before .before .before
 
 abbrev st-2 : tie.After-tables → tie.Start
-st-2 c = c .before .before .before .before .before .before
+st-2 c = st (c .before)
 
 abbrev fill-powers : tie.After-slice-known2 → tie.After-fill-powers
 fill-powers c = c .before .before .before .before .before .before .before .before

@@ -19,7 +19,7 @@ abbrev struct-known2 : tie.After-lower-values-arg → tie.After-struct-known2
 struct-known2 c = c .before .before .before .before .before
 
 abbrev struct-known2-2 : tie.After-lower-values-arg2 → tie.After-struct-known2
-struct-known2-2 c = c .before .before .before .before .before .before
+struct-known2-2 c = struct-known2 (c .before)
 
 abbrev upper-values : tie.After-slice-known3 → tie.After-upper-values
 upper-values c = c .before .before .before .before .before .before .before

@@ -16,7 +16,7 @@ abbrev st-at-dot-arg : tie.After-dot-arg → tie.Start
 st-at-dot-arg c = c .before .before .before .before .before .before .before .before
 
 abbrev st-at-dot : tie.After-dot → tie.Start
-st-at-dot c = c .before .before .before .before .before .before .before .before .before
+st-at-dot c = st-at-dot-arg (c .before)
 
 long : (c : tie.Start) → length (c .args .vs .now) ≡ 32
 long c = ap length (c .pre .5)

@@ -12,7 +12,7 @@ abbrev st-at-slice-known : tie.After-slice-known → tie.Start
 st-at-slice-known c = c .before .before .before .before .before
 
 abbrev st-at-packet-in-arg : tie.After-packet-in-arg → tie.Start
-st-at-packet-in-arg c = c .before .before .before .before .before .before .before .before
+st-at-packet-in-arg c = st-at-slice-known (c .before .before .before)
 
 facts : (c : tie.Start) → Legal (c .args .sizes)
 facts c = legal-facts _ (c .pre .0)

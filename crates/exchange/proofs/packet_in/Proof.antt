@@ -18,10 +18,10 @@ abbrev st-at-factors-arg : tie.After-factors-arg → tie.Start
 st-at-factors-arg c = c .before .before .before .before .before .before .before
 
 abbrev st-at-exchange-bytes-arg2 : tie.After-exchange-bytes-arg2 → tie.Start
-st-at-exchange-bytes-arg2 c = c .before .before .before .before .before .before .before .before .before .before .before .before
+st-at-exchange-bytes-arg2 c = st-at-factors-arg (c .before .before .before .before .before)
 
 abbrev st-at-slice-known4 : tie.After-slice-known4 → tie.Start
-st-at-slice-known4 c = c .before .before .before .before .before .before .before .before .before .before .before .before .before .before .before
+st-at-slice-known4 c = st-at-exchange-bytes-arg2 (c .before .before .before)
 
 abbrev shared-slice-known4-at-slice-known4 : tie.After-slice-known4 → tie.After-shared-slice-known4
 shared-slice-known4-at-slice-known4 c = c .before .before .before .before .before .before .before .before .before .before .before

@@ -14,7 +14,7 @@ abbrev st-at-factors-arg2 : tie.After-factors-arg2 → tie.Start
 st-at-factors-arg2 c = c .before .before .before .before .before .before .before .before .before .before
 
 abbrev st-at-slice-known4 : tie.After-slice-known4 → tie.Start
-st-at-slice-known4 c = c .before .before .before .before .before .before .before .before .before .before .before .before .before
+st-at-slice-known4 c = st-at-factors-arg2 (c .before .before .before)
 
 abbrev boards-from-at-slice-known4 : tie.After-slice-known4 → tie.After-boards-from
 boards-from-at-slice-known4 c = c .before .before .before .before .before .before .before

@@ -12,13 +12,13 @@ abbrev st-at-struct-known : tie.After-struct-known → tie.Start
 st-at-struct-known c = c .before .before .before .before .before .before .before .before
 
 abbrev st-at-struct-known2 : tie.After-struct-known2 → tie.Start
-st-at-struct-known2 c = c .before .before .before .before .before .before .before .before .before
+st-at-struct-known2 c = st-at-struct-known (c .before)
 
 abbrev st-at-all : tie.After-all → tie.Start
-st-at-all c = c .before .before .before .before .before .before .before .before .before .before
+st-at-all c = st-at-struct-known2 (c .before)
 
 abbrev st-at-share-in-arg : tie.After-share-in-arg → tie.Start
-st-at-share-in-arg c = c .before .before .before .before .before .before .before .before .before .before .before .before
+st-at-share-in-arg c = st-at-all (c .before .before)
 
 facts : (c : tie.Start) → Legal (c .args .sizes)
 facts c = legal-facts _ (c .pre .0)

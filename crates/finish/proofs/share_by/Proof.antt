@@ -11,8 +11,8 @@ use Rattle.lists.proofs.Pieces.{part-piece, length-piece}
 use Rattle.sizes.specs.Sizing.{α}
 use Rattle.sizes.proofs.Legal.{Legal, legal-facts}
 use Rattle.row_dots.proofs.Rows.{join-loop}
-use Rattle.finish.specs.Steps.{stripeBy}
-use Rattle.finish.proofs.Shares.{length-stripe, share-end}
+use Rattle.finish_bytes.specs.Steps.{stripeBy}
+use Rattle.finish_bytes.proofs.Shares.{length-stripe, share-end}
 use borrow.Author.Needs.{needs}
 use native.Mathlib.Omega.{arith}
 use Rattle.finish.proofs.share_by.Statement.{statement}

@@ -10,7 +10,7 @@ use Rattle.lists.proofs.Alls.{all-of}
 use Rattle.sizes.specs.Sizing.{α}
 use Rattle.sizes.proofs.Legal.{Legal, legal-facts}
 use Rattle.factors.proofs.Values.{below-more}
-use Rattle.finish.proofs.Shares.{share-is, last-known}
+use Rattle.finish_bytes.proofs.Shares.{share-is, last-known}
 use borrow.Author.Needs.{needs}
 use native.Mathlib.Omega.{arith}
 use Rattle.finish.proofs.share_in.Statement.{statement}

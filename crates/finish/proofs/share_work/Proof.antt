@@ -12,16 +12,16 @@ abbrev st-at-struct-known : tie.After-struct-known → tie.Start
 st-at-struct-known c = c .before .before .before .before .before
 
 abbrev st-at-firsts : tie.After-firsts → tie.Start
-st-at-firsts c = c .before .before .before .before .before .before
+st-at-firsts c = st-at-struct-known (c .before)
 
 abbrev st-at-got : tie.After-got → tie.Start
-st-at-got c = c .before .before .before .before .before .before .before
+st-at-got c = st-at-firsts (c .before)
 
 abbrev st-at-g : tie.After-g → tie.Start
-st-at-g c = c .before .before .before .before .before .before .before .before
+st-at-g c = st-at-got (c .before)
 
 abbrev st-at-share-by-arg : tie.After-share-by-arg → tie.Start
-st-at-share-by-arg c = c .before .before .before .before .before .before .before .before .before .before
+st-at-share-by-arg c = st-at-g (c .before .before)
 
 facts : (c : tie.Start) → Legal (c .args .sizes)
 facts c = legal-facts _ (c .pre .0)

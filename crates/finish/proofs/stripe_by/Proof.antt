@@ -8,7 +8,7 @@ use lib.ListN.{length, take, drop, length-take, length-drop}
 use lib.Seq.{take-all}
 use Rattle.sizes.specs.Sizing.{α}
 use Rattle.sizes.proofs.Legal.{Legal, legal-facts}
-use Rattle.finish.proofs.Shares.{stripe-step}
+use Rattle.finish_bytes.proofs.Shares.{stripe-step}
 use borrow.Author.Needs.{needs}
 use native.Mathlib.Omega.{arith}
 use Rattle.finish.proofs.stripe_by.Statement.{statement}

@@ -21,13 +21,13 @@ abbrev all-at-lagrange-rows-arg3 : tie.After-lagrange-rows-arg3 → tie.After-al
 all-at-lagrange-rows-arg3 c = c .before .before .before .before .before .before .before
 
 abbrev st-at-slice-known5 : tie.After-slice-known5 → tie.Start
-st-at-slice-known5 c = c .before .before .before .before .before .before .before .before .before .before .before .before .before .before .before .before .before .before .before
+st-at-slice-known5 c = st-at-lagrange-rows-arg3 (c .before .before .before)
 
 abbrev all-boards-at-slice-known5 : tie.After-slice-known5 → tie.After-all-boards
-all-boards-at-slice-known5 c = c .before .before .before .before .before .before .before .before .before .before .before
+all-boards-at-slice-known5 c = all-boards-at-lagrange-rows-arg3 (c .before .before .before)
 
 abbrev all-at-slice-known5 : tie.After-slice-known5 → tie.After-all
-all-at-slice-known5 c = c .before .before .before .before .before .before .before .before .before .before
+all-at-slice-known5 c = all-at-lagrange-rows-arg3 (c .before .before .before)
 
 abbrev lagrange-rows-at-slice-known5 : tie.After-slice-known5 → tie.After-lagrange-rows
 lagrange-rows-at-slice-known5 c = c .before .before .before .before .before .before .before

@@ -15,7 +15,7 @@ abbrev st-at-emit-turned-arg3 : tie.After-emit-turned-arg3 → tie.Start
 st-at-emit-turned-arg3 c = c .before .before .before .before .before .before .before .before .before .before .before .before .before .before .before .before .before .before
 
 abbrev st-at-slice-known6 : tie.After-slice-known6 → tie.Start
-st-at-slice-known6 c = c .before .before .before .before .before .before .before .before .before .before .before .before .before .before .before .before .before .before .before .before .before
+st-at-slice-known6 c = st-at-emit-turned-arg3 (c .before .before .before)
 
 abbrev row-sums-at-slice-known6 : tie.After-slice-known6 → tie.After-row-sums
 row-sums-at-slice-known6 c = c .before .before .before .before .before .before .before .before .before .before .before .before

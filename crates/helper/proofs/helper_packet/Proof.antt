@@ -12,10 +12,10 @@ abbrev st-at-struct-known : tie.After-struct-known → tie.Start
 st-at-struct-known c = c .before .before .before .before .before
 
 abbrev st-at-whole-vectors : tie.After-whole-vectors → tie.Start
-st-at-whole-vectors c = c .before .before .before .before .before .before
+st-at-whole-vectors c = st-at-struct-known (c .before)
 
 abbrev st-at-packet-in-arg : tie.After-packet-in-arg → tie.Start
-st-at-packet-in-arg c = c .before .before .before .before .before .before .before .before .before .before
+st-at-packet-in-arg c = st-at-whole-vectors (c .before .before .before .before)
 
 facts : (c : tie.Start) → Legal (c .args .sizes)
 facts c = legal-facts _ (c .pre .0)

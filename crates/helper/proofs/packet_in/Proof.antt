@@ -18,19 +18,19 @@ abbrev st-at-struct-known : tie.After-struct-known → tie.Start
 st-at-struct-known c = c .before .before .before .before .before .before .before
 
 abbrev st-at-factors-from-arg : tie.After-factors-from-arg → tie.Start
-st-at-factors-from-arg c = c .before .before .before .before .before .before .before .before
+st-at-factors-from-arg c = st-at-struct-known (c .before)
 
 abbrev st-at-factors-from-arg2 : tie.After-factors-from-arg2 → tie.Start
-st-at-factors-from-arg2 c = c .before .before .before .before .before .before .before .before .before .before .before .before
+st-at-factors-from-arg2 c = st-at-factors-from-arg (c .before .before .before .before)
 
 abbrev st-at-pairs-arg3 : tie.After-pairs-arg3 → tie.Start
-st-at-pairs-arg3 c = c .before .before .before .before .before .before .before .before .before .before .before .before .before .before .before .before .before .before
+st-at-pairs-arg3 c = st-at-factors-from-arg2 (c .before .before .before .before .before .before)
 
 abbrev ff-at-pairs-arg3 : tie.After-pairs-arg3 → tie.After-ff
 ff-at-pairs-arg3 c = c .before .before .before .before .before .before .before .before
 
 abbrev st-at-slice-known6 : tie.After-slice-known6 → tie.Start
-st-at-slice-known6 c = c .before .before .before .before .before .before .before .before .before .before .before .before .before .before .before .before .before .before .before .before .before
+st-at-slice-known6 c = st-at-pairs-arg3 (c .before .before .before)
 
 abbrev shared-slice-known3-at-slice-known6 : tie.After-slice-known6 → tie.After-shared-slice-known3
 shared-slice-known3-at-slice-known6 c = c .before .before .before .before .before .before .before .before .before .before .before .before .before .before .before .before .before .before

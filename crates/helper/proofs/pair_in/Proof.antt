@@ -13,13 +13,13 @@ abbrev st-at-own-rows-arg2 : tie.After-own-rows-arg2 → tie.Start
 st-at-own-rows-arg2 c = c .before .before .before .before .before .before .before
 
 abbrev st-at-dot-arg : tie.After-dot-arg → tie.Start
-st-at-dot-arg c = c .before .before .before .before .before .before .before .before .before .before .before .before .before
+st-at-dot-arg c = st-at-own-rows-arg2 (c .before .before .before .before .before .before)
 
 abbrev st-at-dot-arg2 : tie.After-dot-arg2 → tie.Start
-st-at-dot-arg2 c = c .before .before .before .before .before .before .before .before .before .before .before .before .before .before .before
+st-at-dot-arg2 c = st-at-dot-arg (c .before .before)
 
 abbrev st-at-dot2 : tie.After-dot2 → tie.Start
-st-at-dot2 c = c .before .before .before .before .before .before .before .before .before .before .before .before .before .before .before .before
+st-at-dot2 c = st-at-dot-arg2 (c .before)
 
 abbrev own-rows-at-dot2 : tie.After-dot2 → tie.After-own-rows
 own-rows-at-dot2 c = c .before .before .before .before .before .before .before .before

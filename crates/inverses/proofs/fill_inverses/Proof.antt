@@ -7,8 +7,8 @@ use lib.ListN.{length, length-set}
 use Rattle.lists.specs.Lists.{tabulate}
 use Rattle.lists.proofs.Pieces.{length-tabulate}
 use Rattle.gf256.specs.Field.{inverse}
-use Rattle.inverses.specs.Steps.{walk}
-use Rattle.inverses.proofs.Walk.{walked, walk-turn, walk-end}
+use Rattle.inverse_walk.specs.Steps.{walk}
+use Rattle.inverse_walk.proofs.Walk.{walked, walk-turn, walk-end}
 use borrow.Author.Needs.{needs}
 use native.Mathlib.Omega.{arith}
 use Rattle.inverses.proofs.fill_inverses.Statement.{statement}

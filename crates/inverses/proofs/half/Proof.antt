@@ -2,7 +2,7 @@
 -- Assumes nothing.
 use mathlib.Core.Path.{refl}
 use Rattle.gf256.specs.Field.{add}
-use Rattle.inverses.specs.Steps.{halved}
+use Rattle.inverse_walk.specs.Steps.{halved}
 use borrow.Author.Needs.{needs}
 use native.Mathlib.Omega.{arith}
 use Rattle.inverses.proofs.half.Statement.{statement}

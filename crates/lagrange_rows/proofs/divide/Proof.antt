@@ -15,10 +15,10 @@ abbrev st-at-slice-known3 : tie.After-slice-known3 → tie.Start
 st-at-slice-known3 c = c .before .before .before .before .before .before .before .before
 
 abbrev st-at-shared-slice-known3 : tie.After-shared-slice-known3 → tie.Start
-st-at-shared-slice-known3 c = c .before .before .before .before .before .before .before .before .before
+st-at-shared-slice-known3 c = st-at-slice-known3 (c .before)
 
 abbrev st-at-slice-known4 : tie.After-slice-known4 → tie.Start
-st-at-slice-known4 c = c .before .before .before .before .before .before .before .before .before .before .before .before .before
+st-at-slice-known4 c = st-at-shared-slice-known3 (c .before .before .before .before)
 
 abbrev scale-by-at-slice-known4 : tie.After-slice-known4 → tie.After-scale-by
 scale-by-at-slice-known4 c = c .before .before .before .before .before .before .before .before

@@ -17,7 +17,7 @@ abbrev st-at-points-of-arg : tie.After-points-of-arg → tie.Start
 st-at-points-of-arg c = c .before .before .before .before .before .before
 
 abbrev st-at-products-after-arg2 : tie.After-products-after-arg2 → tie.Start
-st-at-products-after-arg2 c = c .before .before .before .before .before .before .before .before .before .before .before .before .before .before .before .before
+st-at-products-after-arg2 c = st-at-points-of-arg (c .before .before .before .before .before .before .before .before .before .before)
 
 abbrev points-of-at-products-after-arg2 : tie.After-products-after-arg2 → tie.After-points-of
 points-of-at-products-after-arg2 c = c .before .before .before .before .before .before .before .before .before

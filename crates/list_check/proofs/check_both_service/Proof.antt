@@ -9,9 +9,9 @@ use borrow.Author.Needs.{needs}
 use Rattle.lists.specs.Tests.{every}
 use Rattle.sizes.specs.declared.Refusal.the-variants.{Down}
 use Rattle.sizes.specs.Refusals.{_when_}
-use Rattle.checks.specs.Steps.{asked}
-use Rattle.checks.proofs.Answers.{refuses}
-use Rattle.list_check.proofs.Lists.{left-fails, left-holds}
+use Rattle.line_checks.specs.Steps.{asked}
+use Rattle.line_checks.proofs.Answers.{refuses}
+use Rattle.list_tests.proofs.Lists.{left-fails, left-holds}
 use Rattle.list_check.proofs.check_both_service.Statement.{statement}
 use Rattle.list_check.proofs.check_both_service.Tie as tie
 

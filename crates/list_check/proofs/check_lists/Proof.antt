@@ -16,8 +16,8 @@ use Rattle.board_spec.specs.Calls.{nodeLine}
 use Rattle.store_spec.specs.Record.{Record, inService}
 use Rattle.store_spec.specs.Calls.{downLine, listLines}
 use Rattle.checks.proofs.Chain.{thens, grouped, goes-on, refuses, ends}
-use Rattle.list_check.specs.Steps.{countTests, repeatTests, named}
-use Rattle.list_check.proofs.Lists.{Counted, counted, few-named}
+use Rattle.list_tests.specs.Steps.{countTests, repeatTests, named}
+use Rattle.list_tests.proofs.Lists.{Counted, counted, few-named}
 use Rattle.list_check.proofs.check_lists.Statement.{statement}
 use Rattle.list_check.proofs.check_lists.Tie as tie
 

@@ -7,9 +7,9 @@ use borrow.Author.Needs.{needs}
 use Rattle.lists.specs.Tests.{alls, among, different, apart}
 use Rattle.sizes.specs.declared.Refusal.the-variants.{Repeat}
 use Rattle.sizes.specs.Refusals.{Line, _when_}
-use Rattle.checks.proofs.Answers.{passes, refuses}
-use Rattle.list_check.specs.Steps.{repeatTests}
-use Rattle.list_check.proofs.Lists.{runsDiffer, left-fails, left-holds, three-hold, first-fails, second-fails, third-fails}
+use Rattle.line_checks.proofs.Answers.{passes, refuses}
+use Rattle.list_tests.specs.Steps.{repeatTests}
+use Rattle.list_tests.proofs.Lists.{runsDiffer, left-fails, left-holds, three-hold, first-fails, second-fails, third-fails}
 use Rattle.list_check.proofs.check_named.Statement.{statement}
 use Rattle.list_check.proofs.check_named.Tie as tie
 

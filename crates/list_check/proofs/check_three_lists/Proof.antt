@@ -9,9 +9,9 @@ use borrow.Author.Needs.{needs}
 use Rattle.sizes.specs.declared.Refusal.the-variants.{Node}
 use Rattle.sizes.specs.Refusals.{_when_}
 use Rattle.board_spec.specs.Calls.{nodeLine}
-use Rattle.checks.specs.Steps.{asked}
-use Rattle.checks.proofs.Answers.{refuses}
-use Rattle.list_check.proofs.Lists.{left-fails, left-holds}
+use Rattle.line_checks.specs.Steps.{asked}
+use Rattle.line_checks.proofs.Answers.{refuses}
+use Rattle.list_tests.proofs.Lists.{left-fails, left-holds}
 use Rattle.list_check.proofs.check_three_lists.Statement.{statement}
 use Rattle.list_check.proofs.check_three_lists.Tie as tie
 

@@ -9,7 +9,7 @@ use native.Mathlib.Omega.{arith}
 use borrow.Author.Needs.{needs}
 use lib.ListN.{length, drop, drop-of-length-le}
 use Rattle.sizes.proofs.Legal.{row-fits}
-use Rattle.list_check.proofs.Lists.{runsDiffer, runs-no, runs-next}
+use Rattle.list_tests.proofs.Lists.{runsDiffer, runs-no, runs-next}
 use Rattle.list_check.proofs.runs_differ.Statement.{statement}
 use Rattle.list_check.proofs.runs_differ.Tie as tie
 

@@ -14,7 +14,7 @@ use Rattle.sizes.specs.Refusals.{Line, _when_, first, storeOrder}
 use Rattle.board_spec.specs.Calls.{shortLine}
 use Rattle.store_spec.specs.Record.{Record}
 use Rattle.store_spec.specs.Calls.{emptyLine, fileHeld, readLines}
-use Rattle.checks.specs.Steps.{asked}
+use Rattle.line_checks.specs.Steps.{asked}
 use Rattle.store_checks.specs.Steps.{recordOf}
 use Rattle.shared_checks.specs.Steps.{areaLines, boardLines}
 use Rattle.checks.proofs.Chain.{thens, grouped, goes-on, refuses, ends}

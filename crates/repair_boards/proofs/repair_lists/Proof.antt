@@ -11,7 +11,7 @@ use Rattle.sizes.specs.Sizing.{α}
 use Rattle.sizes.proofs.Legal.{Legal, legal-facts}
 use Rattle.puts.specs.Steps.{puts}
 use Rattle.repair_hear.proofs.Heard.{few-runs}
-use Rattle.store_repair.specs.Steps.{DifferentRuns, rebuilt}
+use Rattle.repair_stripe.specs.Steps.{DifferentRuns, rebuilt}
 use Rattle.repair_boards.proofs.Lists.{named-below, named-apart}
 use borrow.Author.Needs.{needs}
 use native.Mathlib.Omega.{arith}

@@ -12,7 +12,7 @@ use Rattle.sizes.proofs.Legal.{Legal, legal-facts}
 use Rattle.puts.specs.Steps.{puts}
 use Rattle.repair_hear.specs.Steps.{Naming}
 use Rattle.repair_hear.proofs.Heard.{few-runs}
-use Rattle.store_repair.specs.Steps.{DifferentRuns, rebuilt}
+use Rattle.repair_stripe.specs.Steps.{DifferentRuns, rebuilt}
 use Rattle.repair_boards.proofs.repair_shares.Statement.{statement}
 use Rattle.repair_boards.proofs.repair_shares.Tie as tie
 

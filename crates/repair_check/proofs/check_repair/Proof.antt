@@ -16,7 +16,7 @@ use Rattle.checks.proofs.Given.{chain}
 use Rattle.store_checks.specs.Steps.{recordOf}
 use Rattle.shared_checks.specs.Steps.{areaLines}
 use Rattle.shared_checks.proofs.Facts.{area-facts}
-use Rattle.list_check.specs.Steps.{named}
+use Rattle.list_tests.specs.Steps.{named}
 use Rattle.repair_check.proofs.check_repair.Statement.{statement}
 use Rattle.repair_check.proofs.check_repair.Tie as tie
 

@@ -12,8 +12,8 @@ use Rattle.row_dots.proofs.Rows.{join-loop, join-end}
 use Rattle.repair_hear.proofs.Heard.{cut-long, few-runs}
 use Rattle.repair_hear.proofs.Sent.{row-part}
 use Rattle.repair_rows.proofs.Others.{few-rows}
-use Rattle.repair_finish.specs.Steps.{gRow}
-use Rattle.repair_finish.proofs.Finished.{mul-few, g-made, length-g}
+use Rattle.repair_sent.specs.Steps.{gRow}
+use Rattle.repair_sent.proofs.Finished.{mul-few, g-made, length-g}
 use borrow.Author.Needs.{needs}
 use native.Mathlib.Omega.{arith}
 use Rattle.repair_finish.proofs.all_g.Statement.{statement}

@@ -11,7 +11,7 @@ use Rattle.factors.proofs.Values.{board-below}
 use Rattle.repair_hear.proofs.Heard.{cut-long}
 use Rattle.repair_hear.proofs.Sent.{row-rest}
 use Rattle.repair_rows.proofs.Others.{few-rows}
-use Rattle.repair_finish.proofs.Finished.{mul-few, stripe-made}
+use Rattle.repair_sent.proofs.Finished.{mul-few, stripe-made}
 use borrow.Author.Needs.{needs}
 use native.Mathlib.Omega.{arith}
 use Rattle.repair_finish.proofs.finish.Statement.{statement}

@@ -9,6 +9,7 @@ use Rattle.lists.specs.Lists.{tabulate, piece}
 use Rattle.lists.proofs.Put.{part-end}
 use Rattle.lists.proofs.Pieces.{fill-loop, fill-end, fill-all}
 use Rattle.sizes.specs.Sizing.{α}
+use Rattle.sizes.specs.declared.Sizes.{Sizes}
 use Rattle.sizes.proofs.Legal.{Legal, legal-facts, α-parts, α-most}
 use Rattle.factors.proofs.Values.{board-below, row-fits}
 use Rattle.repair_hear.specs.Steps.{heardFirst, heardSecond}
@@ -109,6 +110,10 @@ add-to c = let f = facts (st-at-shared-slice-known5 c) in omega (arith, its-end 
 part-helper-pair-end-3 : tie.Need-part-helper-pair-end-3 Inv-loop μ-loop
 part-helper-pair-end-3 c = omega (arith, its-end (c .before .before .before), st-at-helper-pair-arg2 c .pre .7)
 
+-- a share's bytes of a stripe, as f's and g's
+whole : (z : Sizes) → α z ≡ z .d + z .r + z .d - 1
+whole z = omega arith
+
 helper-pair-requires : tie.Need-helper-pair-requires Inv-loop μ-loop
 helper-pair-requires c κs =
     let a = st-at-helper-pair-arg3 c .args in
@@ -116,14 +121,14 @@ helper-pair-requires c κs =
     let f = facts (st-at-helper-pair-arg3 c) in
     let l = loop-at-helper-pair-arg3 c .loop in
     let z = a .sizes in
-    let n : α z ≡ z .d + z .r + z .d - 1 = omega arith in (
-      omega arith,
-      omega arith,
+    let n : α z ≡ z .d + z .r + z .d - 1 = whole z in (
+      omega (arith, f .some-read, f .read-helpers),
+      omega (arith, f .some-fresh),
       its-stripe (c .before .before .before .before) ∙ n,
-      simp (length-take, length-drop) (omega arith),
-      simp (length-take, length-drop) (omega arith),
-      omega arith,
-      omega arith,
+      simp (length-take, length-drop) (omega (arith, p .1)),
+      simp (length-take, length-drop) (omega (arith, p .2)),
+      omega (arith, f .enough, f .few),
+      omega (arith, f .some-fresh, f .enough, f .few),
     )
 
 loop-again : tie.Need-loop-again Inv-loop μ-loop
@@ -132,15 +137,16 @@ loop-again c =
     let p = st-at-helper-pair c .pre in
     let l = loop-at-helper-pair c .loop in
     let z = a .sizes in
+    let on = c .before .before .before .before .before .loop-test .taken in
     let own : ℕ → List ℕ = λ j. piece (α z) (a .s) (drop (j * a .part) (a .area .now)) in
     let rf = row-part 32 (l .p) (a .fl) (a .ff .now) (p .1) in
     let rg = row-part 32 (l .p) (a .gl) (a .gf .now) (p .2) in
     let st = cut-piece (α z) (a .s) (getD (a .helpers .now) (l .p) 0 * a .part) (a .area .now) in (
-      fill-loop _ (a .firsts .now) (l .firsts) (l .p) _ (omega arith)
+      fill-loop _ (a .firsts .now) (l .firsts) (l .p) _ (omega (arith, on, l .inv .3, p .10))
           (first-heard (z .d + z .r) (a .fl) (a .gl) (l .p) _ _ (a .ff .now) (a .gf .now) _ _ _ own (a .helpers .now) rf rg st (c .helper-pair .ensures)) (l .inv .0),
-      fill-loop _ (a .seconds .now) (l .seconds) (l .p) _ (omega arith)
+      fill-loop _ (a .seconds .now) (l .seconds) (l .p) _ (omega (arith, on, l .inv .4, p .11))
           (second-heard (z .d + z .r) (a .fl) (a .gl) (l .p) _ _ (a .ff .now) (a .gf .now) _ _ _ own (a .helpers .now) rf rg st (c .helper-pair .ensures)) (l .inv .1),
-      omega arith,
+      omega (arith, on),
       length-set (l .firsts) (l .p) _ ∙ l .inv .3,
       length-set (l .seconds) (l .p) _ ∙ l .inv .4,
     )
@@ -171,15 +177,15 @@ hear-spec =
     mul-from-2
     add-from
     add-to
-    (λ c. omega (arith, its-row (c .before)))
-    (λ c. omega (arith, its-row (c .before)))
-    (λ c. omega (arith, its-row (c .before)))
+    (λ c. let g = st-at-turn (c .before) in omega (arith, its-row (c .before), g .pre .1, g .pre .2, g .pre .3, g .pre .4, g .pre .5))
+    (λ c. let g = st-at-turn (c .before) in omega (arith, its-row (c .before), g .pre .1, g .pre .2, g .pre .3, g .pre .4, g .pre .5))
+    (λ c. let g = st-at-turn (c .before) in omega (arith, its-row (c .before), g .pre .1, g .pre .2, g .pre .3, g .pre .4, g .pre .5))
     (λ c. search needs)
     (λ c. search needs)
-    (λ c. omega (arith, its-row (c .before)))
+    (λ c. let g = st-at-turn (c .before) in omega (arith, its-row (c .before), g .pre .1, g .pre .2, g .pre .3, g .pre .4, g .pre .5))
     (λ c. search needs)
     (λ c. search needs)
-    (λ c. omega (arith, its-row (c .before .before)))
+    (λ c. let g = st-at-turn (c .before .before) in omega (arith, its-row (c .before .before), g .pre .1, g .pre .2, g .pre .3, g .pre .4, g .pre .5))
     (λ c. search needs)
     (λ c. search needs)
     part-helper-pair-end-3

@@ -12,13 +12,13 @@ abbrev st-at-struct-known : tie.After-struct-known → tie.Start
 st-at-struct-known c = c .before .before .before .before .before .before
 
 abbrev st-at-struct-known2 : tie.After-struct-known2 → tie.Start
-st-at-struct-known2 c = c .before .before .before .before .before .before .before
+st-at-struct-known2 c = st-at-struct-known (c .before)
 
 abbrev st-at-boards : tie.After-boards → tie.Start
-st-at-boards c = c .before .before .before .before .before .before .before .before
+st-at-boards c = st-at-struct-known2 (c .before)
 
 abbrev st-at-rows-in-arg : tie.After-rows-in-arg → tie.Start
-st-at-rows-in-arg c = c .before .before .before .before .before .before .before .before .before .before
+st-at-rows-in-arg c = st-at-boards (c .before .before)
 
 facts : (c : tie.Start) → Legal (c .args .sizes)
 facts c = legal-facts _ (c .pre .0)

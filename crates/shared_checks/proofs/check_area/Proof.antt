@@ -18,8 +18,8 @@ use Rattle.sizes.proofs.Legal.{legal-facts, α-most}
 use Rattle.store_spec.specs.Record.{Record}
 use Rattle.store_spec.specs.Calls.{recordLine, lentLine}
 use Rattle.store_spec.proofs.Records.{Sound, sound-facts}
-use Rattle.checks.specs.Steps.{asked}
-use Rattle.checks.proofs.Answers.{passed}
+use Rattle.line_checks.specs.Steps.{asked}
+use Rattle.line_checks.proofs.Answers.{passed}
 use Rattle.checks.proofs.Given.{few-bytes}
 use Rattle.store_checks.specs.Steps.{recordOf}
 use Rattle.shared_checks.specs.Steps.{areaLines}

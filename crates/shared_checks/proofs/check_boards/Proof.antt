@@ -13,7 +13,7 @@ use Rattle.sizes.specs.declared.Check.{Check}
 use Rattle.sizes.specs.declared.Check.the-variants.{Pass, Refuse}
 use Rattle.sizes.specs.Refusals.{Line, _when_, first, storeOrder}
 use Rattle.board_spec.specs.Calls.{nodeLine, repeatLine}
-use Rattle.checks.specs.Steps.{asked}
+use Rattle.line_checks.specs.Steps.{asked}
 use Rattle.shared_checks.specs.Steps.{boardLines}
 use Rattle.checks.proofs.Chain.{thens, grouped, goes-on, refuses, ends, one-count}
 use Rattle.shared_checks.proofs.check_boards.Statement.{statement}

@@ -11,14 +11,15 @@ use native.Mathlib.Omega.{arith}
 use lib.ListN.{length, length-append}
 use lib.Seq.{length-take-le}
 use Rattle.sizes.specs.Sizing.{legal}
-use Rattle.size_rows.specs.Steps.{met, after, LegalPlace}
-use Rattle.size_rows.specs.Laws.{start}
+use Rattle.size_steps.specs.Steps.{met, after, LegalPlace}
+use Rattle.size_steps.specs.Laws.{start}
 use Rattle.size_list.specs.Combinations.{rows}
 use Rattle.text_lines.proofs.Writes.{same-room}
 use Rattle.lists.specs.Lists.{join}
 use Rattle.lists.proofs.Pieces.{join-suc}
-use Rattle.size_rows.specs.declared.Place.{Place}
-use Rattle.size_rows.proofs.Walk.{walk-laws, legal-after, after-add, rows-most, all-ends, few-combinations}
+use Rattle.size_steps.specs.declared.Place.{Place}
+use Rattle.size_steps.proofs.Walk.{walk-laws, legal-after, after-add, all-ends, few-combinations}
+use Rattle.size_rows.proofs.Runs.{rows-most}
 use borrow.Author.Needs.{needs}
 use Rattle.size_printer.proofs.print.Statement.{statement}
 use Rattle.size_printer.proofs.print.Tie as tie

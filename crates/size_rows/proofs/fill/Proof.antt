@@ -8,8 +8,9 @@ use lib.ListN.{length, length-append}
 use Rattle.text_lines.specs.Steps.{Wrote}
 use Rattle.text_lines.proofs.Writes.{none, then, same-room}
 use Rattle.size_list.specs.Combinations.{rows}
-use Rattle.size_rows.specs.Steps.{met, after, LegalPlace}
-use Rattle.size_rows.proofs.Walk.{line-most, rows-next, after-add, legal-after}
+use Rattle.size_steps.specs.Steps.{met, after, LegalPlace}
+use Rattle.size_steps.proofs.Walk.{rows-next, after-add, legal-after}
+use Rattle.size_rows.proofs.Runs.{line-most}
 use borrow.Author.Needs.{needs}
 use Rattle.size_rows.proofs.fill.Statement.{statement}
 use Rattle.size_rows.proofs.fill.Tie as tie

@@ -10,8 +10,8 @@ use lib.Seq.{drop-cons}
 use Rattle.number_lines.specs.declared.Read.{Read}
 use Rattle.number_lines.specs.Steps.{reads, told}
 use Rattle.size_list.specs.Combinations.{limit}
-use Rattle.size_rows.specs.Steps.{wholeLimit}
-use Rattle.size_rows.proofs.Taken.{go, limit-reads}
+use Rattle.size_steps.specs.Steps.{wholeLimit}
+use Rattle.size_steps.proofs.Taken.{go, limit-reads}
 use borrow.Author.Needs.{needs}
 use Rattle.size_rows.proofs.limit.Statement.{statement}
 use Rattle.size_rows.proofs.limit.Tie as tie

@@ -7,8 +7,8 @@ use Rattle.sizes.specs.Sizing.{legal}
 use Rattle.text_lines.specs.Steps.{Wrote}
 use Rattle.text_lines.proofs.Writes.{none}
 use Rattle.size_list.specs.Combinations.{rows}
-use Rattle.size_rows.specs.Steps.{LegalPlace, met, after}
-use Rattle.size_rows.proofs.Walk.{one-line}
+use Rattle.size_steps.specs.Steps.{LegalPlace, met, after}
+use Rattle.size_steps.proofs.Walk.{one-line}
 use borrow.Author.Needs.{needs}
 use Rattle.size_rows.proofs.step.Statement.{statement}
 use Rattle.size_rows.proofs.step.Tie as tie

@@ -7,8 +7,8 @@ use borrow.Author.Needs.{needs}
 use Rattle.sizes.specs.declared.Refusal.the-variants.{Node}
 use Rattle.sizes.specs.Refusals.{_when_}
 use Rattle.board_spec.specs.Calls.{nodeLine}
-use Rattle.checks.specs.Steps.{asked}
-use Rattle.checks.proofs.Answers.{refuses}
+use Rattle.line_checks.specs.Steps.{asked}
+use Rattle.line_checks.proofs.Answers.{refuses}
 use Rattle.store_checks.proofs.Repairs.{below-left, below-right}
 use Rattle.store_checks.proofs.check_two_lists.Statement.{statement}
 use Rattle.store_checks.proofs.check_two_lists.Tie as tie

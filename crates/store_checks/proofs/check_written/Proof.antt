@@ -4,7 +4,7 @@ use mathlib.Core.Path.{_≡_, sym, ap}
 use mathlib.Core.Bool.{Bool}
 use Rattle.sizes.specs.declared.Refusal.the-variants.{Empty}
 use Rattle.sizes.specs.Refusals.{_when_}
-use Rattle.checks.specs.Steps.{asked}
+use Rattle.line_checks.specs.Steps.{asked}
 use Rattle.store_checks.proofs.check_written.Statement.{statement}
 use Rattle.store_checks.proofs.check_written.Tie as tie
 

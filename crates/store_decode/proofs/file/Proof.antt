@@ -9,7 +9,7 @@ use Rattle.sizes.specs.Sizing.{α}
 use Rattle.sizes.specs.Refusals.{_when_}
 use Rattle.sizes.proofs.Legal.{Legal, legal-facts}
 use Rattle.mbcr.specs.Read.{readFile, decodedFile}
-use Rattle.checks.proofs.Answers.{passes, refuses}
+use Rattle.line_checks.proofs.Answers.{passes, refuses}
 use Rattle.store_spec.specs.Record.{held}
 use Rattle.store_checks.specs.Steps.{recordOf}
 use Rattle.decode_stripe.proofs.Made.{part-long}

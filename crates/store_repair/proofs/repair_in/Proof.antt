@@ -8,7 +8,7 @@ use borrow.Author.Needs.{needs}
 use Rattle.lists.proofs.Alls.{all-of}
 use Rattle.sizes.proofs.Legal.{Legal, legal-facts}
 use Rattle.repair_hear.proofs.Heard.{few-runs}
-use Rattle.store_repair.proofs.ByRows.{shares-are}
+use Rattle.repair_stripe.proofs.ByRows.{shares-are}
 use Rattle.store_repair.proofs.repair_in.Statement.{statement}
 use Rattle.store_repair.proofs.repair_in.Tie as tie
 

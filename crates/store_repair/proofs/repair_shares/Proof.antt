@@ -18,10 +18,10 @@ abbrev st-1 : tie.After-struct-known → tie.Start
 st-1 c = c .before .before .before .before .before .before
 
 abbrev st-2 : tie.After-struct-known2 → tie.Start
-st-2 c = c .before .before .before .before .before .before .before
+st-2 c = st-1 (c .before)
 
 abbrev st-3 : tie.After-struct-known3 → tie.Start
-st-3 c = c .before .before .before .before .before .before .before .before
+st-3 c = st-2 (c .before)
 
 abbrev st-4 : tie.After-struct-known4 → tie.Start
 st-4 c = st-3 (c .before)

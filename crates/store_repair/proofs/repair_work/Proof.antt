@@ -7,7 +7,7 @@ use lib.ListN.{length}
 use borrow.Author.Needs.{needs}
 use Rattle.sizes.proofs.Legal.{Legal, legal-facts}
 use Rattle.repair_hear.proofs.Heard.{few-runs}
-use Rattle.repair_finish.proofs.Finished.{mul-few}
+use Rattle.repair_sent.proofs.Finished.{mul-few}
 use Rattle.store_repair.proofs.repair_work.Statement.{statement}
 use Rattle.store_repair.proofs.repair_work.Tie as tie
 

@@ -20,13 +20,13 @@ abbrev st : tie.After-struct-known2 → tie.Start
 st c = c .before .before .before .before .before
 
 abbrev st-2 : tie.After-struct-known3 → tie.Start
-st-2 c = c .before .before .before .before .before .before
+st-2 c = st (c .before)
 
 abbrev st-3 : tie.After-tables → tie.Start
-st-3 c = c .before .before .before .before .before .before .before
+st-3 c = st-2 (c .before)
 
 abbrev st-4 : tie.After-write-stripes-arg → tie.Start
-st-4 c = c .before .before .before .before .before .before .before .before .before .before .before .before .before
+st-4 c = st-3 (c .before .before .before .before .before .before)
 
 abbrev fill-powers : tie.After-slice-known2 → tie.After-fill-powers
 fill-powers c = c .before .before .before .before .before .before .before .before .before .before

@@ -16,13 +16,13 @@ abbrev st : tie.After-struct-known → tie.Start
 st c = c .before .before .before .before .before .before
 
 abbrev st-2 : tie.After-struct-known2 → tie.Start
-st-2 c = c .before .before .before .before .before .before .before
+st-2 c = st (c .before)
 
 abbrev st-3 : tie.After-column-values-arg2 → tie.Start
-st-3 c = c .before .before .before .before .before .before .before .before .before .before .before .before .before
+st-3 c = st-2 (c .before .before .before .before .before .before)
 
 abbrev st-4 : tie.After-put-boards-arg2 → tie.Start
-st-4 c = c .before .before .before .before .before .before .before .before .before .before .before .before .before .before .before .before .before .before
+st-4 c = st-3 (c .before .before .before .before .before)
 
 abbrev column-values : tie.After-slice-known6 → tie.After-column-values
 column-values c = c .before .before .before .before .before .before .before

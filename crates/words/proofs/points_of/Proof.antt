@@ -2,7 +2,7 @@
 -- Assumes nothing.
 use mathlib.Core.Path.{_∙_}
 use borrow.Author.Needs.{needs}
-use Rattle.words.proofs.Twelve.{row-points}
+use Rattle.word_parts.proofs.Twelve.{row-points}
 use Rattle.words.proofs.points_of.Statement.{statement}
 use Rattle.words.proofs.points_of.Tie as tie
 

@@ -6,7 +6,7 @@ use native.Mathlib.Omega.{arith}
 use borrow.Author.Needs.{needs}
 use lib.ListN.{length, length-set}
 use Rattle.store.specs.Handing.{recordIn}
-use Rattle.words.proofs.Twelve.{flag-word, words-put}
+use Rattle.word_parts.proofs.Twelve.{flag-word, words-put}
 use Rattle.words.proofs.put_words.Statement.{statement}
 use Rattle.words.proofs.put_words.Tie as tie
 

@@ -6,7 +6,7 @@ use native.Mathlib.Omega.{arith}
 use borrow.Author.Needs.{needs}
 use lib.ListN.{length}
 use Rattle.record_words.proofs.Bits.{words-facts}
-use Rattle.words.proofs.Twelve.{told}
+use Rattle.word_parts.proofs.Twelve.{told}
 use Rattle.words.proofs.store_of.Statement.{statement}
 use Rattle.words.proofs.store_of.Tie as tie
 

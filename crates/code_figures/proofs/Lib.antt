@@ -1,0 +1,2 @@
+pub mod CodeFigures
+pub mod BoardFigures

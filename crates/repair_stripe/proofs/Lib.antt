@@ -1,0 +1,4 @@
+pub mod ByRows
+pub mod Partners
+pub mod Rebuilt
+pub mod Turn

@@ -1,0 +1,118 @@
+-- `setup_rows::top_table` meets its contract: the callees' contracts, put together.
+-- Assumes nothing.
+use Rattle.setup_rows.proofs.Parts.{part-there}
+use Rattle.setup_rows.proofs.Rows.{tops-put}
+use mathlib.Core.Path.{_≡_, _∙_}
+use Prim.Native.Nat.{ℕ, _*_}
+use native.Mathlib.Nat.{sub-zero}
+use native.Mathlib.Omega.{arith}
+use lib.ListN.{length, length-take, length-append}
+use borrow.Rule.Slice.PartMut.{mid-len}
+use borrow.Author.Needs.{needs}
+use Rattle.setup_rows.proofs.top_table.Statement.{statement}
+use Rattle.setup_rows.proofs.top_table.Tie as tie
+
+-- places in the code
+abbrev st-rows : tie.After-rows → tie.Start
+st-rows c = c .before .before .before .before .before
+
+abbrev st-rows-at : tie.After-rows-at → tie.Start
+st-rows-at c = st-rows (c .before)
+
+abbrev st-top-rows-arg2 : tie.After-top-rows-arg2 → tie.Start
+st-top-rows-arg2 c = st-rows-at (c .before .before .before .before)
+
+abbrev rows-at-at-end : tie.After-slice-known2 → tie.After-rows-at
+rows-at-at-end c = c .before .before .before .before .before .before .before
+
+abbrev st-end : tie.After-slice-known2 → tie.Start
+st-end c = st-rows-at (rows-at-at-end c)
+
+-- the rows
+made-long : (c : tie.After-rows-at) → length (c .rows-at .last .1 .1 .1 .1 .0) ≡ length (st-rows-at c .args .boards .now) * 32
+made-long c = c .rows-at .kept .1 .1 .1 .1 .0 ∙ (mid-len {X = ℕ} 0 _ _ (omega (arith, st-rows-at c .pre .3)) ∙ sub-zero _)
+
+mul-q : tie.Need-mul-q
+mul-q c = search needs
+
+sub-m : tie.Need-sub-m
+sub-m c = search needs
+
+mul-end : tie.Need-mul-end
+mul-end c = search needs
+
+add-end : tie.Need-add-end
+add-end c = search needs
+
+sub-rows-at : tie.Need-sub-rows-at
+sub-rows-at c = search needs
+
+part-rows-start : tie.Need-part-rows-start
+part-rows-start c = search needs
+
+part-rows-end : tie.Need-part-rows-end
+part-rows-end c = search needs
+
+rows-at-requires : tie.Need-rows-at-requires
+rows-at-requires c κs =
+    let g = st-rows c in
+    (g .pre .0, g .pre .1, g .pre .2, g .pre .3, g .pre .3, mid-len {X = ℕ} 0 _ _ (omega (arith, g .pre .3)) ∙ sub-zero _)
+
+sub-top-rows : tie.Need-sub-top-rows
+sub-top-rows c = search needs
+
+part-top-rows-start : tie.Need-part-top-rows-start
+part-top-rows-start c = search needs
+
+part-top-rows-end : tie.Need-part-top-rows-end
+part-top-rows-end c = simp length-append (omega (arith, made-long (c .before .before), st-rows-at (c .before .before) .pre .3))
+
+sub-top-rows-2 : tie.Need-sub-top-rows-2
+sub-top-rows-2 c = search needs
+
+part-top-rows-start-2 : tie.Need-part-top-rows-start-2
+part-top-rows-start-2 c = search needs
+
+part-top-rows-end-2 : tie.Need-part-top-rows-end-2
+part-top-rows-end-2 c = search needs
+
+top-rows-requires : tie.Need-top-rows-requires
+top-rows-requires c κs =
+    let g = st-top-rows-arg2 c in (
+      omega (arith, g .pre .3, g .pre .4),
+      g .pre .3,
+      simp (length-take, length-append) (omega (arith, made-long (c .before .before .before .before))),
+      part-there (g .args .at) _ (g .args .out .now) (g .pre .5),
+    )
+
+same-length : tie.Need-same-length
+same-length c = search needs
+
+returns : tie.Need-returns
+returns c =
+    let g = st-end c in
+    let y = c .before .before .top-rows in
+    tops-put (g .args .at) (g .args .k) (g .args .points .now) (g .args .boards .now) _ _ (g .args .out .now) _ (g .pre .3)
+    (rows-at-at-end c .rows-at .ensures) (made-long (rows-at-at-end c)) (y .ensures) (y .kept .1 .1 .1 .1 .0 ∙ part-there (g .args .at) _ (g .args .out .now) (g .pre .5))
+
+pub top-table-spec : {M : Type 1} → statement M
+top-table-spec =
+    tie.close
+    (tie.spec
+    mul-q
+    sub-m
+    mul-end
+    add-end
+    sub-rows-at
+    part-rows-start
+    part-rows-end
+    rows-at-requires
+    sub-top-rows
+    part-top-rows-start
+    part-top-rows-end
+    sub-top-rows-2
+    part-top-rows-start-2
+    part-top-rows-end-2
+    top-rows-requires
+    same-length
+    returns)

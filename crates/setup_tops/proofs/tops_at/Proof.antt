@@ -1,0 +1,119 @@
+-- `setup_tops::tops_at` meets its contract: the callees' contracts, put together.
+-- Assumes nothing.
+use Rattle.lists.specs.Lists.{put}
+use Rattle.sizes.proofs.Legal.{Legal, legal-facts}
+use Rattle.mbcr.specs.Share.{points}
+use Rattle.decode_laws.specs.Steps.{topRows}
+use Rattle.setup_rows.proofs.Near.{first-known, few-again, few-long, few-below}
+use mathlib.Core.Path.{_≡_, refl, ap, _∙_}
+use mathlib.Core.List.{List}
+use Prim.Native.Nat.{ℕ, _+_, _<_}
+use native.Mathlib.Nat.{sub-zero}
+use native.Mathlib.Omega.{arith}
+use lib.ListN.{length, getD, length-append}
+use borrow.Rule.Slice.PartMut.{mid-len}
+use borrow.Author.Needs.{needs}
+use Rattle.setup_tops.proofs.tops_at.Statement.{statement}
+use Rattle.setup_tops.proofs.tops_at.Tie as tie
+
+-- places in the code
+abbrev st-targets : tie.After-targets → tie.Start
+st-targets c = c .before .before .before .before .before .before .before
+
+abbrev st-boards-from : tie.After-boards-from → tie.Start
+st-boards-from c = st-targets (c .before)
+
+abbrev boards-from-at-top-table-arg2 : tie.After-top-table-arg2 → tie.After-boards-from
+boards-from-at-top-table-arg2 c = c .before .before .before .before
+
+abbrev boards-from-at-end : tie.After-slice-known2 → tie.After-boards-from
+boards-from-at-end c = boards-from-at-top-table-arg2 (c .before .before .before)
+
+-- the sizes are legal
+facts : (c : tie.Start) → Legal (c .args .sizes)
+facts c = legal-facts _ (c .pre .0)
+
+first : (c : tie.Start) → getD (c .args .boards .now) 0 0 < c .args .sizes .n
+first c = first-known (c .args .sizes) (c .args .boards .now) (facts c) (c .pre .1) (c .pre .2)
+
+-- the boards
+near-made : (c : tie.After-boards-from) → length (c .boards-from .last .1 .1 .0) ≡ st-boards-from c .args .sizes .d + st-boards-from c .args .sizes .r
+near-made c =
+    let f = facts (st-boards-from c) in
+    c .boards-from .kept .1 .1 .0 ∙ (mid-len {X = ℕ} 0 _ _ (omega (arith, f .enough, f .few)) ∙ sub-zero _)
+
+add-w : tie.Need-add-w
+add-w c = let f = facts (c .before .before .before .before .before) in omega (arith, f .enough, f .few)
+
+shared-slice-read-boards-from : tie.Need-shared-slice-read-boards-from
+shared-slice-read-boards-from c =
+    let g = c .before .before .before .before .before .before in
+    omega (arith, g .pre .1, facts g .some-read)
+
+sub-boards-from : tie.Need-sub-boards-from
+sub-boards-from c = search needs
+
+part-targets-start : tie.Need-part-targets-start
+part-targets-start c = search needs
+
+part-targets-end : tie.Need-part-targets-end
+part-targets-end c = let f = facts (c .before .before .before .before .before .before) in omega (arith, f .enough, f .few)
+
+boards-from-requires : tie.Need-boards-from-requires
+boards-from-requires c κs = (first (st-targets c), facts (st-targets c) .few)
+
+sub-top-table : tie.Need-sub-top-table
+sub-top-table c = search needs
+
+part-top-table-start : tie.Need-part-top-table-start
+part-top-table-start c = search needs
+
+part-top-table-end : tie.Need-part-top-table-end
+part-top-table-end c =
+    let f = facts (st-boards-from (c .before .before)) in
+    simp length-append (omega (arith, f .enough, f .few, near-made (c .before .before)))
+
+top-table-requires : tie.Need-top-table-requires
+top-table-requires c κs =
+    let m = boards-from-at-top-table-arg2 c in
+    let g = st-boards-from m in
+    let z = g .args .sizes in
+    let b = getD (g .args .boards .now) 0 0 in
+    let f = facts g in
+    let long = few-long z f b _ _ refl (m .boards-from .ensures) (z .d) (omega arith) in (
+      g .pre .3,
+      g .pre .4,
+      few-below z f b _ _ refl (m .boards-from .ensures) (first g) (z .d) (omega arith),
+      omega (arith, long, f .enough, f .few),
+      omega (arith, long, f .read-helpers),
+      omega (arith, long, f .enough, f .few, g .pre .5),
+    )
+
+same-length : tie.Need-same-length
+same-length c = search needs
+
+returns : tie.Need-returns
+returns c =
+    let m = boards-from-at-end c in
+    let g = st-boards-from m in
+    let z = g .args .sizes in
+    c .before .before .top-table .ensures
+    ∙ ap (λ (l : List ℕ). put (g .args .out .now) (g .args .at) (topRows (z .k) (points (g .args .points .now) l)))
+    (few-again z (facts g) (getD (g .args .boards .now) 0 0) _ _ refl (m .boards-from .ensures) (z .d) (omega arith))
+
+pub tops-at-spec : {M : Type 1} → statement M
+tops-at-spec =
+    tie.close
+    (tie.spec
+    add-w
+    shared-slice-read-boards-from
+    sub-boards-from
+    part-targets-start
+    part-targets-end
+    boards-from-requires
+    sub-top-table
+    part-top-table-start
+    part-top-table-end
+    top-table-requires
+    same-length
+    returns)

@@ -1,0 +1,3 @@
+pub mod Behind
+pub mod Walk
+pub mod Taken

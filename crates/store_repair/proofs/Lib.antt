@@ -1,4 +1,0 @@
-pub mod Partners
-pub mod Rebuilt
-pub mod ByRows
-pub mod Turn
