@@ -17,7 +17,7 @@ use Rattle.prefix_spec.specs.Prefix.{on, nameOn, opens, digitsOn, loneOn, numbe
 use Rattle.prefix_spec.proofs.Numbers.{opens-yes, open-low}
 use Rattle.prefix_lines.specs.declared.Digit.{Digit}
 use Rattle.prefix_lines.specs.declared.Digit.the-variants.{More, End, Stop}
-use Rattle.prefix_lines.specs.Digits.{digitNext}
+use Rattle.prefix_lines.specs.Steps.{digitNext}
 use Rattle.prefix_steps.proofs.Steps.{at-byte, past}
 
 -- ---- digits

@@ -6,7 +6,7 @@ ghost use lib.ListN.{drop};
 ghost use Rattle.text_in.specs.Steps.{nameOf};
 ghost use Rattle.prefix_spec.specs.Prefix.{nameOn, digitsOn, numberOn, lineOn};
 ghost use Rattle.prefix_steps.specs.Steps.{Goes};
-ghost use Rattle.prefix_lines.specs.Digits.{digitNext};
+ghost use Rattle.prefix_lines.specs.Steps.{digitNext};
 use prefix_steps::Went;
 
 // A byte of a number: one more digit, the line's end, or neither.

@@ -5,7 +5,7 @@ ghost use Prim.Native.Nat.{_≤_};
 ghost use lib.ListN.{length, drop};
 ghost use Rattle.prefix_spec.specs.Prefix.{nameOn, pairsOn, mayPoint};
 ghost use Rattle.prefix_steps.specs.Steps.{Goes};
-ghost use Rattle.prefix_pairs.specs.Pairs.{PairGoes};
+ghost use Rattle.prefix_pairs.specs.Steps.{PairGoes};
 use prefix_steps::Went;
 
 // The byte 0A.

@@ -3,7 +3,7 @@ ghost use mathlib.Core.Path.{_≡_};
 ghost use Prim.Native.Nat.{_+_, _*_, _≤_, _<_};
 ghost use lib.ListN.{length};
 ghost use Rattle.prefix_spec.specs.Prefix.{some, mayPoint};
-ghost use Rattle.prefix_points.specs.Last.{mayLast, Kept};
+ghost use Rattle.prefix_points.specs.Steps.{mayLast, Kept};
 
 // Whether these points may stand with so many pairs left: they are different, and the whole row is not in order.
 pub fn may_point(points: &[u8], left: usize) -> bool

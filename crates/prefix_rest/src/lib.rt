@@ -5,7 +5,7 @@ ghost use Prim.Native.Nat.{_+_, _*_, _≤_};
 ghost use lib.ListN.{drop};
 ghost use Rattle.sizes.specs.Sizing.{legal, B};
 ghost use Rattle.prefix_spec.specs.Prefix.{pointsOn};
-ghost use Rattle.prefix_rest.specs.Lines.{dataLine, pointsLine};
+ghost use Rattle.prefix_rest.specs.Steps.{dataLine, pointsLine};
 use sizes::Sizes;
 
 // How far data= goes: so many pairs, and nothing behind them.

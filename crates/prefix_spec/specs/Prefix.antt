@@ -10,7 +10,6 @@ use Rattle.lists.specs.Tests.{pick, alls, same, different}
 use Rattle.lists.specs.Lists.{tabulate}
 use Rattle.number_lines.specs.Lines.{digit}
 use Rattle.point_lines.specs.Lines.{hexadecimal, digitValue}
-use Rattle.point_lines.specs.Steps.{pointsName}
 use Rattle.sizes.specs.declared.Sizes.{Sizes}
 use Rattle.sizes.specs.Sizing.{maxBoards, maxStripes, α, B, stripes}
 use Rattle.text_spec.specs.Texts.{dataName}
@@ -89,7 +88,9 @@ dataOn z L input = nameOn dataName input (λ input. pairsOn (λ m xs. true) (str
 -- points= or not
 unfoldable pub pointsOn : Sizes → ℕ → List ℕ → ℕ
 pointsOn z L input =
-    pick (eqb (getD input 0 0) 0x70) (nameOn pointsName input (λ input. pairsOn (mayPoint (z .n)) (z .n) [] input (dataOn z L))) (dataOn z L input)
+    pick (eqb (getD input 0 0) 0x70)
+    (nameOn (0x70 ∷ 0x6F ∷ 0x69 ∷ 0x6E ∷ 0x74 ∷ 0x73 ∷ 0x3D ∷ []) input (λ input. pairsOn (mayPoint (z .n)) (z .n) [] input (dataOn z L)))
+    (dataOn z L input)
 
 -- "the length of its longest beginning that also begins some accepted text, with points= or without". Of sizes that are legal, k is 1 to n − 1, d is k to
 -- n − 1, and r is 1 to n − d.

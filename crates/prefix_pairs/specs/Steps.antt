@@ -8,7 +8,7 @@ use lib.ListN.{drop}
 use Rattle.prefix_spec.specs.Prefix.{pairOn}
 use Rattle.prefix_steps.specs.declared.Went.{Went}
 use Rattle.prefix_steps.specs.Steps.{Goes}
-use Rattle.prefix_points.specs.Last.{withLast, mayLast}
+use Rattle.prefix_points.specs.Steps.{withLast, mayLast}
 
 -- how far a pair goes that may stand last of these points, with so many pairs left; where it goes through, its byte is put there
 abbrev pub PairGoes : List ℕ → ℕ → List ℕ → ℕ → List ℕ → Went → Type 0
