@@ -3,10 +3,10 @@
 //! merely cut short answers its own length. An accepted text answers its whole length too."
 
 use crate::call::{Call, Lent};
-use crate::code::{self, Sizes};
+use crate::code::{self, Sizes, MAX_STRIPES};
 use crate::draw;
 use crate::points;
-use crate::prefix_met::{ALTERED, BEHIND, CUT, LONG, NUMBER, OTHERWISE, ROWS, WHOLE};
+use crate::prefix_met::{which, ALTERED, BEHIND, CUT, NUMBER, OTHERWISE, ROWS, WHOLE};
 use crate::random::Random;
 use crate::scene::Scene;
 use crate::text_spoil::{other_byte, otherwise};
@@ -63,6 +63,16 @@ pub fn of_scene(trial: &mut Trial, random: &mut Random, scene: &Scene) {
     Whole::new(told).ask_all(trial, random, false);
 }
 
+/// A text of 4,096 stripes on many boards, of any bytes.
+pub fn longest(trial: &mut Trial, random: &mut Random) {
+    let sizes = random.pick(&draw::EXTREMES[4..]);
+    let points = points::draw(random, sizes.n);
+    let length = sizes.longest() - random.below(sizes.stripe_len());
+    let share = random.bytes(MAX_STRIPES * sizes.share_len());
+    let told = Told { sizes, points, length, node: random.below(sizes.n), share };
+    Whole::new(told).ask_all(trial, random, false);
+}
+
 /// Asks how far a text makes sense; the answer, where it is as it must be. It is among those that are due whatever the model says.
 fn ask(trial: &mut Trial, text: &[u8], due: RangeInclusive<usize>) -> Option<usize> {
     let call = Call::Prefix { text: text.to_vec() };
@@ -103,7 +113,7 @@ fn row(trial: &mut Trial, random: &mut Random, n: usize) {
 impl Whole {
     fn new(told: Told) -> Whole {
         let text = told.text();
-        let of = if text.len() >= LONG { 2 } else { usize::from(told.points != points::standard(told.sizes.n)) };
+        let of = which(&text, &told.share, told.points != points::standard(told.sizes.n));
         Whole { told, text, of }
     }
 
@@ -119,6 +129,8 @@ impl Whole {
     fn ask_all(&self, trial: &mut Trial, random: &mut Random, every: bool) {
         let Whole { told, text, of } = self;
         let all = text.len();
+        // the longest take their time
+        let times = if *of == 3 { 1 } else { 4 };
         self.asked(trial, WHOLE, text, all..=all);
         let every = every && all <= SHORT_TEXT;
         let mut right = true;
@@ -129,22 +141,19 @@ impl Whole {
         if every && right {
             trial.prefixes.count_every(*of);
         }
-        // a byte that no text has, and a digit of the share or of the points in the place of another
+        // a byte that no text has, and any digit in the place of the last one
         self.altered(trial, random.below(all), 0x80);
-        if all > 2 {
-            let place = all - 2;
-            self.altered(trial, place, random.pick(b"0123456789abcdef"));
-        }
-        for _ in 0..3 {
+        self.altered(trial, all - 2, random.pick(b"0123456789abcdef"));
+        for _ in 0..times {
             let behind =
                 random.pick(&[b"\n".to_vec(), b"x".to_vec(), vec![0], b"n=".to_vec(), b"0".to_vec(), text.clone()]);
             self.asked(trial, BEHIND, &[&text[..], &behind].concat(), all..=all);
         }
-        for _ in 0..4 {
+        for _ in 0..times {
             let text = self.another_number(random);
             self.asked(trial, NUMBER, &text, 0..=text.len());
         }
-        for _ in 0..4 {
+        for _ in 0..times {
             let (_, text) = otherwise(random, told);
             self.asked(trial, OTHERWISE, &text, 0..=text.len());
         }
@@ -156,8 +165,11 @@ impl Whole {
         if every {
             return (0..all).collect();
         }
-        let first = random.choose((0..all.min(100)).collect(), 6);
         let any = random.below(all);
+        if self.of == 3 {
+            return vec![any, all - 1];
+        }
+        let first = random.choose((0..all.min(100)).collect(), 6);
         [&first[..], &[any, all - 1, all - 2]].concat()
     }
 

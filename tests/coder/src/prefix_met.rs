@@ -18,11 +18,20 @@ pub const BEHIND: usize = 4;
 pub const NUMBER: usize = 5;
 pub const OTHERWISE: usize = 6;
 
-/// Which texts are asked about: short ones without and with a line of points, and long ones of either kind.
-pub const TEXTS: [&str; 3] = ["no points=", "points=", ">16,384"];
+/// Which texts are asked about: short ones without and with a line of points, those of more than 16,384 bytes, and those of a share of more than
+/// 65,535.
+pub const TEXTS: [&str; 4] = ["no points=", "points=", ">16,384", ">65,535"];
 
-/// From how many bytes on a text is long.
-pub const LONG: usize = 16_385;
+/// Which of them a text is.
+pub fn which(text: &[u8], share: &[u8], with_points: bool) -> usize {
+    if share.len() > 65_535 {
+        3
+    } else if text.len() > 16_384 {
+        2
+    } else {
+        usize::from(with_points)
+    }
+}
 
 /// The lines in which sense ends; the last is behind all lines.
 const LINES: [&str; 9] = ["n=", "k=", "d=", "r=", "node=", "length=", "points=", "data=", "behind"];

@@ -128,6 +128,9 @@ pub fn run(trial: &mut Trial, random: &mut Random, turn: u64) {
     text_cases::named(trial, random, &scene);
     text_cases::over(trial, random, &scene);
     prefix_cases::of_scene(trial, random, &scene);
+    if turn % 4 == 0 {
+        prefix_cases::longest(trial, random);
+    }
     if histories::whole(trial, random, &scene, capacity, calls) {
         trial.real.count_history(Measure { sizes, room: capacity, length });
     }
