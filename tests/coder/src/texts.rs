@@ -111,8 +111,8 @@ fn gathered(text: &[u8], out: usize) -> Result<Vec<u8>, u8> {
     }
 }
 
-/// What a reading of a text, a gathering, or the question how far a text makes sense answers and leaves. The head is lent as the record, the points to
-/// write as the area.
+/// What a reading of a text, a gathering, or the question how far a text makes sense answers and leaves. The head is lent as the record, the points
+/// to write as the area.
 pub fn expect(call: &Call, lent: &Lent) -> Outcome {
     let mut after = lent.clone();
     let bytes = match call {
