@@ -74,7 +74,7 @@ prove || fail "the made-up crates are not proved: $(cat said)"
 [ "$(control)" -eq 0 ] || fail "control characters where there is no terminal"
 sed 's/[0-9]:[0-9][0-9]/M:SS/; s/^proved 1[01] of/proved 1x of/' said >plain
 cat >expected <<'END'
-proving and building the archive, 12 crates: from nothing about 9 minutes on two cores
+proving and building the archive, 12 crates: from nothing about 8 minutes on two cores
 proved 1x of 12 crates, M:SS so far, less than a minute to go
 the archive is proved and built, 12 crates in M:SS
 END

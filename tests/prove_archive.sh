@@ -45,7 +45,7 @@ took() { t=$(($(date +%s) - began)) && printf '%d:%02d' $((t / 60)) $((t % 60));
 mkdir -p target/log
 rm -f "$archive.of"
 : >"$log"
-say "proving and building the archive, $all crates: from nothing about 9 minutes on two cores"
+say "proving and building the archive, $all crates: from nothing about 8 minutes on two cores"
 
 # the crates that are done, and those being proved: each has an empty file in target/log until it ends
 ended() { sed -n 's/^rt: \([A-Za-z0-9_]*\) proved (.*/\1/p' "$log" | sort -u | wc -l | tr -d ' '; }
