@@ -1,5 +1,5 @@
 //! The two calls that take shares back from texts (request A.1): one text, and k texts one after another. A text is taken apart from its beginning to
-//! its end; what stands behind it is handed on.
+//! its end; what stands behind it is handed on. And how far a text makes sense (request A.14).
 
 use crate::board;
 use crate::sizes::{pointed, refuse_if, repeats, Points, Refusal, Sizes, MAX_BOARDS, MAX_STRIPES};
@@ -120,4 +120,103 @@ pub fn gather(text: &[u8], out: &mut [u8]) -> Result<usize, Refusal> {
     let file = board::decode(first.sizes, &first.points, first.length, &boards, &shares)?;
     out[..file.len()].copy_from_slice(&file);
     Ok(file.len())
+}
+
+/// A walk along a text, as far as some accepted text has the same bytes.
+struct Walk<'a> {
+    text: &'a [u8],
+    at: usize,
+}
+
+/// Whether some number from `least` to `most` is `value` or begins with its digits.
+fn begins(value: usize, least: usize, most: usize) -> bool {
+    let (mut first, mut last) = (value, value);
+    while first <= most {
+        if last >= least {
+            return true;
+        }
+        if value == 0 {
+            return false;
+        }
+        (first, last) = (10 * first, 10 * last + 9);
+    }
+    false
+}
+
+impl Walk<'_> {
+    /// The next byte, where it may stand there.
+    fn byte(&mut self, may: impl Fn(u8) -> bool) -> Option<u8> {
+        let byte = *self.text.get(self.at)?;
+        may(byte).then(|| {
+            self.at += 1;
+            byte
+        })
+    }
+
+    fn name(&mut self, name: &str) -> Option<()> {
+        name.bytes().try_for_each(|due| self.byte(|byte| byte == due).map(|_| ()))
+    }
+
+    /// A line `name=` with a number from `least` to `most`.
+    fn number(&mut self, name: &str, least: usize, most: usize) -> Option<usize> {
+        self.name(name)?;
+        self.name("=")?;
+        let with = |value: usize, byte: u8| 10 * value + usize::from(byte - b'0');
+        let first = self.byte(|byte| byte.is_ascii_digit() && begins(with(0, byte), least, most))?;
+        let mut value = with(0, first);
+        loop {
+            let byte = self.byte(|byte| match byte {
+                b'\n' => value >= least,
+                _ => value > 0 && byte.is_ascii_digit() && begins(with(value, byte), least, most),
+            })?;
+            if byte == b'\n' {
+                return Some(value);
+            }
+            value = with(value, byte);
+        }
+    }
+
+    /// A pair whose byte may stand there.
+    fn pair(&mut self, may: impl Fn(u8) -> bool) -> Option<u8> {
+        let opens = |high: u8| (0..16).any(|low| may(16 * high + low));
+        let high = digit(self.byte(|byte| digit(byte).is_some_and(opens))?)?;
+        let low = digit(self.byte(|byte| digit(byte).is_some_and(|low| may(16 * high + low)))?)?;
+        Some(16 * high + low)
+    }
+
+    /// All lines, one after another.
+    fn lines(&mut self) -> Option<()> {
+        let n = self.number("n", 2, MAX_BOARDS)?;
+        let k = self.number("k", 1, n - 1)?;
+        let d = self.number("d", k, n - 1)?;
+        let r = self.number("r", 1, n - d)?;
+        self.number("node", 0, n - 1)?;
+        let sizes = Sizes { n, k, d, r };
+        let length = self.number("length", 0, MAX_STRIPES * sizes.stripe_len())?;
+        if self.text[self.at..].starts_with(b"p") {
+            self.name("points=")?;
+            let mut points: Vec<u8> = Vec::new();
+            while points.len() < n {
+                // a byte that no board has yet, and not the one that makes them 0 to n - 1
+                let in_order = points.len() + 1 == n
+                    && points.iter().enumerate().all(|(board, &point)| usize::from(point) == board);
+                let point =
+                    self.pair(|point| !points.contains(&point) && !(in_order && usize::from(point) == n - 1))?;
+                points.push(point);
+            }
+            self.name("\n")?;
+        }
+        self.name("data=")?;
+        for _ in 0..sizes.stripes(length) * sizes.share_len() {
+            self.pair(|_| true)?;
+        }
+        self.name("\n")
+    }
+}
+
+/// How many bytes of a text begin some text that is accepted, at their most.
+pub fn text_prefix(text: &[u8]) -> Result<usize, Refusal> {
+    let mut walk = Walk { text, at: 0 };
+    walk.lines();
+    Ok(walk.at)
 }
