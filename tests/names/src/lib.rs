@@ -30,7 +30,6 @@ macro_rules! archive {
         $crate::names!($each text {
             read_text as zbk_read_text(text: &[u8], head: &mut [u64], points: &mut [u8], out: &mut [u8],);
             gather as zbk_gather(text: &[u8], out: &mut [u8],);
-            text_prefix as zbk_text_prefix(text: &[u8],);
         });
         $crate::names!($each prefix {
             prefix as zbk_text_prefix(text: &[u8],);
