@@ -14,7 +14,8 @@
  * What every call keeps to:
  * - It ends on all input, made-up records and lists included, with its result or with one refusal.
  * - It answers one number. zbk_refusal(answer) is 0 where the call was accepted, else the refusal's number. zbk_value(answer) is what an
- *   accepted call reports: the bytes written by a board-level call, the bytes moved by a repair, else 0.
+ *   accepted call reports: the bytes written by a board-level call, the bytes of a text that make sense by zbk_text_prefix, the bytes moved by a
+ *   repair, else 0.
  * - After a refusal no word of the record and no byte of any buffer has changed.
  * - It keeps nothing between calls and allocates nothing.
  *
@@ -129,8 +130,8 @@ static inline void zbk_first_series_points(uint8_t points[ZBK_MAX_BOARDS], size_
     for (size_t i = 0; i < ZBK_MAX_BOARDS; i++) points[i] = (uint8_t)(i < n ? i + 1 : 0);
 }
 
-/* Board level: these calls keep no record, and are given the points with the sizes. `length` is the file's length. Each writes to the first
- * bytes of out and reports how many; the rest of out stays. */
+/* Board level: these calls keep no record, and are given the points with the sizes, or a text that says them. `length` is the file's length. Each
+ * but zbk_text_prefix, which writes nothing, writes to the first bytes of out and reports how many; the rest of out stays. */
 
 /* The share of board `node` of a file: S(2d + r - 1) bytes. */
 uint64_t zbk_share(size_t n, size_t k, size_t d, size_t r, const uint8_t *points, size_t points_len, size_t node, const uint8_t *file,
@@ -172,6 +173,11 @@ uint64_t zbk_read_text(const uint8_t *text, size_t text_len, uint64_t *head, siz
  * reports its length. Half as many bytes as the texts are always enough. Refused in the order 12, 13, 4, 6, 7, 10: ZBK_TEXT is asked of all bytes
  * before ZBK_MIXED of any text, and that before ZBK_COUNT; no text at all is ZBK_COUNT. */
 uint64_t zbk_gather(const uint8_t *text, size_t text_len, uint8_t *out, size_t out_len);
+
+/* How far a text makes sense: reports the length of its longest beginning that also begins some text of zbk_share_text, with a line of points or
+ * without. The byte behind that beginning is the first that no such text has there. Refuses nothing: a text that zbk_read_text takes reports its
+ * whole length, and so does one that is merely cut short; no bytes report 0. */
+uint64_t zbk_text_prefix(const uint8_t *text, size_t text_len);
 
 /* The store: a record of twelve words, and an area of n * capacity * (2d + r - 1) bytes that holds the boards one after another. Each call is
  * given the record and the area as the last call left them. */

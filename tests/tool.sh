@@ -274,7 +274,8 @@ damaged '6a points=0001020304050607' 7 1 "no line points=, since the points are 
 damaged 's/^points=01020304/points=01020301/' 7 14 "a point that no board before has, found '01" $of_first
 damaged 's/^points=0102/points=0A02/' 7 9 "a digit 0 to 9 or a to f, found 'A'" $of_first
 damaged 's/^points=0102/points=02/' 7 22 '8 pairs, one for each board, 16 digits, not 14, found the end of the line' $of_first
-damaged 's/^points=/points=00/' 7 24 'the end of the line behind 8 pairs, one for each board' $of_first
+damaged 's/^points=/points=ff/' 7 24 'the end of the line behind 8 pairs, one for each board' $of_first
+damaged 's/^points=/points=00/' 7 1 "no line points=, since the points are 0 to n - 1 in order" $of_first
 damaged 's/^points=.*/size=3/' 7 1 "the line points= or data=, found 'size=3'" $of_first
 damaged 's/^data=..../data=00G0/' 7 8 "a digit 0 to 9 or a to f, found 'G'"
 damaged 's/^data=/data:/' 7 5 "the line data=, found ':"
@@ -408,6 +409,75 @@ out 'boards 0 and 5 of one file: 2 more of its 8 boards are needed'
 try 1 look kept/board-0.txt broken kept/board-1.txt
 out 'broken            not readable: line 3'
 out '1 text not readable'
+# how far a text that is none makes sense: the line and the place, the line up to there, and what comes then
+# sense SED SAID [TEXT]: of a text edited by sed this is said
+sense() {
+    sed "$1" "${3:-kept/board-2.txt}" >broken
+    try 1 look broken
+    out "        it makes sense up to $2"
+}
+sense 's/^n=8/n=33/' 'line 1, place 3: "n=3"; then comes "3"'
+sense 's/^n=8/n=08/' 'line 1, place 2: "n="; then comes "08"'
+sense 's/^n=8/n=1/' 'line 1, place 3: "n=1"; then comes "\n"'
+sense 's/$/\r/' 'line 1, place 3: "n=8"; then comes "\r"'
+sense '2d' 'the end of line 1: "n=8"; then comes "d=6"'
+sense 's/^k=4/k=8/' 'line 2, place 2: "k="; then comes "8"'
+sense 's/^k=4/k=7/' 'line 3, place 2: "d="; then comes "6"'
+sense 's/^d=6/d=3/' 'line 3, place 2: "d="; then comes "3"'
+sense 's/^r=2/r=3/' 'line 4, place 2: "r="; then comes "3"'
+sense 's/^node=2/nose=2/' 'line 5, place 2: "no"; then comes "se=2"'
+sense 's/^node=2/node=8/' 'line 5, place 5: "node="; then comes "8"'
+sense 's/^length=.*/length=163841/' 'line 6, place 12: "length=16384"; then comes "1"'
+sense 's/^length=.*/length=65"\\\t/' 'line 6, place 9: "length=65"; then comes "\"\\\t"'
+sense 's/^length=.*/length=0/' 'line 7, place 5: "data="; then comes "'
+sense '6a points=0001020304050607' 'line 7, place 22: "points=000102030405060"; then comes "7"'
+sense 's/^points=01020304/points=01020301/' 'line 7, place 14: "points=0102030"; then comes "105060708"' $of_first
+sense 's/^points=0102/points=0A02/' 'line 7, place 8: "points=0"; then comes "A02030405060708"' $of_first
+sense 's/^points=0102/points=02/' 'line 7, place 21: "points=02030405060708"; then comes "\n"' $of_first
+sense 's/^points=.*/size=3/' "the end of line 6: \"length=$(wc -c <stock)\"; then comes \"size=3\"" $of_first
+sense 's/^data=..../data=00\xef0/' 'line 7, place 7: "data=00"; then comes "\xEF0'
+sense 's/^data=/data:/' 'line 7, place 4: "data"; then comes ":'
+sense 's/^data=/data=00/' "line 7, place $((5 + digits)): \"data=00"
+out "; then comes \"$(sed -n 's/^data=.*\(..\)$/\1/p' kept/board-2.txt)\""
+# of a whole text nothing is said, nor of an empty one; one that is cut short is told, wherever it is cut
+: >broken
+try 1 look kept/board-2.txt broken
+out 'broken            not readable: it is empty'
+if grep -q 'makes sense' "$own/out"; then fail "$what: it said how far it makes sense"; fi
+bytes=1
+while [ $bytes -lt 60 ]; do
+    head -c $bytes kept/board-2.txt >broken
+    try 1 look broken
+    out '        all of it makes sense; it is cut short behind '
+    head -c $bytes $of_first >broken
+    try 1 look broken
+    out '        all of it makes sense; it is cut short behind '
+    bytes=$((bytes + 1))
+done
+out 'behind the end of line 7: "points=0102030405060708"'
+head -n 6 kept/board-2.txt >broken
+try 1 look broken
+out "behind the end of line 6: \"length=$(wc -c <stock)\""
+head -c $(($(wc -c <kept/board-2.txt) - 1)) kept/board-2.txt >broken
+try 1 look broken
+out "behind line 7, place $((5 + digits)): \"data="
+# bytes behind a whole text, and before it
+for more in '\n:\n' 'x:x' '\000end\n:\x00end'; do
+    # shellcheck disable=SC2059 # the format is the bytes
+    { cat kept/board-2.txt && printf "${more%%:*}"; } >broken
+    try 1 look broken
+    out '        it is a whole text up to the end of line 7: "data='
+    out "; then comes \"${more#*:}\""
+done
+printf '\357\273\277' | cat - kept/board-2.txt >broken
+try 1 look broken
+out '        nothing of it makes sense: it begins with "\xEF\xBB\xBFn=8"'
+# of several texts in a file lines are counted from the first
+{ cat kept/board-2.txt && printf 'n=8\nk=x'; } >broken
+try 1 look broken
+out 'broken, text 2  not readable: line 9, place 3'
+out '                it makes sense up to line 9, place 2: "k="; then comes "x"'
+head -c 9 kept/board-2.txt >broken
 # a file that cannot be read has a row, and the others have theirs
 try 1 look kept/board-0.txt absent empty kept/board-1.txt
 out 'kept/board-0.txt      0  8'

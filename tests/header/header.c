@@ -1,5 +1,5 @@
 /*
- * header.c: include/zebrankai.h held to the archive, in C11 and in C++11. Each constant is held to its number, written out here; each of the thirteen
+ * header.c: include/zebrankai.h held to the archive, in C11 and in C++11. Each constant is held to its number, written out here; each of the fourteen
  * calls is made with arguments that differ, and its whole answer, every word and every byte that it was lent, and those behind, are held to what must
  * stand there; and each refusal is brought about and held to its name.
  *
@@ -217,6 +217,18 @@ static void told(int line, const uint64_t *head, const uint8_t *said, const uint
     bytes_are(line, "the points that a text says", said, points, 32, BLANK, 40);
 }
 
+/* So many bytes of a text make sense, and it is as it was. */
+static void reaches(int line, const char *text, size_t text_len, size_t due) {
+    uint8_t lent[ROOM], kept[ROOM];
+    memset(lent, BLANK, ROOM);
+    memcpy(lent, text, text_len);
+    memcpy(kept, lent, ROOM);
+    answers(line, zbk_text_prefix(lent, text_len), (uint64_t)due << 8);
+    check(line, memcmp(lent, kept, ROOM) == 0, "the text was changed");
+}
+
+static void says(int line, const char *text, size_t due) { reaches(line, text, strlen(text), due); }
+
 static void texts(const uint8_t *points) {
     const uint8_t *const text = (const uint8_t *)square_text, *const odd_text = (const uint8_t *)stock_text;
     const size_t text_len = strlen(square_text), odd_text_len = strlen(stock_text);
@@ -260,6 +272,23 @@ static void texts(const uint8_t *points) {
     strcpy(gathered, stock_text);
     strcat(gathered, other_stock_text);
     wrote_text(__LINE__, zbk_gather((const uint8_t *)gathered, strlen(gathered), out, STOCK + 2), stock);
+
+    /* how far a text makes sense: whole, cut short, with more behind it */
+    for (size_t end = 0; end <= text_len; end++) reaches(__LINE__, square_text, end, end);
+    for (size_t end = 0; end <= odd_text_len; end++) reaches(__LINE__, stock_text, end, end);
+    reaches(__LINE__, gathered, strlen(gathered), odd_text_len);
+    /* a number that no text has there; points that repeat or come to 0 to n - 1; a pair, a digit, a name that no text has there */
+    says(__LINE__, "n=33", 3);
+    says(__LINE__, "n=1\n", 3);
+    says(__LINE__, "n=4\nk=3\nd=2", 10);
+    says(__LINE__, "n=9\nk=2\nd=4\nr=6", 14);
+    says(__LINE__, "n=9\nk=2\nd=4\nr=3\nnode=9", 21);
+    says(__LINE__, "n=2\nk=1\nd=1\nr=1\nnode=0\nlength=8193", 33);
+    says(__LINE__, "n=2\nk=1\nd=1\nr=1\nnode=0\nlength=1\npoints=0001", 42);
+    says(__LINE__, "n=2\nk=1\nd=1\nr=1\nnode=0\nlength=1\npoints=0000", 42);
+    says(__LINE__, "n=2\nk=1\nd=1\nr=1\nnode=0\nlength=1\npoints=0002\ndata=05060", 53);
+    says(__LINE__, "n=2\nk=1\nd=1\nr=1\nnode=0\nlength=1\ndata=0A", 38);
+    says(__LINE__, "n=2\nk=1\nd=1\nr=1\nnode=0\nlength=1\nshare", 32);
 }
 
 /* ---- the store */

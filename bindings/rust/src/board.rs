@@ -1,11 +1,11 @@
 //! The calls of single boards. They keep no record: each is given the sizes, the points and the file's length. Each writes to the first bytes of
 //! `out` and answers how many; the rest of `out` stays. Lists of shares and packets are one slice, the pieces one after another in the order of
-//! their list of boards. The two calls that read texts are given these alone.
+//! their list of boards. The three calls that read texts are given these alone; [`text_prefix`] writes nothing.
 
 use crate::refusal::result;
 use crate::{Points, Refusal, Sizes};
 
-pub use crate::text::{gather, read_text, TextRead};
+pub use crate::text::{gather, read_text, text_prefix, TextRead};
 
 // The calls of single boards, as include/zebrankai.h declares them.
 extern "C" {

@@ -1,4 +1,4 @@
-//! Shares from texts: the calls that take back what [`share_text`](crate::board::share_text) writes.
+//! Shares from texts: the calls that take back what [`share_text`](crate::board::share_text) writes, and the one that says how far a text makes sense.
 
 use crate::refusal::result;
 use crate::{Points, Refusal, Sizes, MAX_BOARDS};
@@ -19,6 +19,7 @@ extern "C" {
         out_len: usize,
     ) -> u64;
     fn zbk_gather(text: *const u8, text_len: usize, out: *mut u8, out_len: usize) -> u64;
+    fn zbk_text_prefix(text: *const u8, text_len: usize) -> u64;
 }
 
 /// What a text says of its share, and how many bytes the share has.
@@ -75,4 +76,22 @@ pub fn read_text(text: &[u8], out: &mut [u8]) -> Result<TextRead, Refusal> {
 /// Disagree, in this order.
 pub fn gather(text: &[u8], out: &mut [u8]) -> Result<usize, Refusal> {
     result(unsafe { zbk_gather(text.as_ptr(), text.len(), out.as_mut_ptr(), out.len()) })
+}
+
+/// How far a text makes sense: the length of its longest beginning that also begins some text that [`share_text`](crate::board::share_text) writes,
+/// with a line of points or without. The byte behind that beginning is the first that no such text has there. It refuses nothing: a text that
+/// [`read_text`] takes gives its whole length, and so does one that is merely cut short; no bytes give 0.
+///
+/// ```
+/// use zebrankai::board;
+///
+/// // n is at most 32
+/// assert_eq!(board::text_prefix(b"n=33\nk=1\n"), 3);
+/// // k is below n
+/// assert_eq!(board::text_prefix(b"n=5\nk=5\n"), 6);
+/// // cut short
+/// assert_eq!(board::text_prefix(b"n=5\nk=2\nd="), 10);
+/// ```
+pub fn text_prefix(text: &[u8]) -> usize {
+    result(unsafe { zbk_text_prefix(text.as_ptr(), text.len()) }).expect("the archive refuses no text here")
 }

@@ -1,4 +1,5 @@
-//! Texts read and gathered (request A.1), on figures of document 01, at present points and at those of the first series.
+//! Texts read and gathered (request A.1), and how far they make sense (request A.14), on figures of document 01, at present points and at those of the
+//! first series.
 
 use zebrankai::{board, Points, Refusal, Sizes};
 
@@ -130,4 +131,44 @@ fn other_texts_do_not() {
     refused(&[of(1), altered], Refusal::Disagree);
     assert_eq!(board::gather(&[of(1), of(2)].concat(), &mut out[..29]), Err(Refusal::Short));
     assert_eq!(out, [0xEE; 30]);
+}
+
+#[test]
+fn how_far_a_text_makes_sense() {
+    for points in [Points::standard(5), Points::first_series(5)] {
+        let text = text(FIVE, points, 3, &file());
+        // whole, cut short, with more behind it
+        for end in 0..=text.len() {
+            assert_eq!(board::text_prefix(&text[..end]), end);
+        }
+        assert_eq!(board::text_prefix(&[&text[..], &text[..]].concat()), text.len());
+        // a byte that no text has there
+        for place in 0..text.len() {
+            let mut altered = text.clone();
+            altered[place] = b' ';
+            assert_eq!(board::text_prefix(&altered), place);
+        }
+    }
+    let behind = |digits: &str| format!("n=2\nk=1\nd=1\nr=1\nnode=0\nlength={digits}");
+    for (text, sense) in [
+        ("".to_string(), ""),
+        ("x".to_string(), ""),
+        ("n=0".to_string(), "n="),
+        ("n=1\n".to_string(), "n=1"),
+        ("n=33\n".to_string(), "n=3"),
+        ("n=4\nk=4".to_string(), "n=4\nk="),
+        ("n=4\nk=3\nd=4".to_string(), "n=4\nk=3\nd="),
+        ("n=32\nk=20\nd=32\n".to_string(), "n=32\nk=20\nd=3"),
+        ("n=5\nk=2\nd=3\nr=3".to_string(), "n=5\nk=2\nd=3\nr="),
+        (behind("8192\n"), &behind("8192\n")),
+        (behind("8193\n"), &behind("819")),
+        (behind("01\n"), &behind("0")),
+        (behind("1\npoints=0001\n"), &behind("1\npoints=000")),
+        (behind("1\npoints=0202\n"), &behind("1\npoints=020")),
+        (behind("1\npoints=0A\n"), &behind("1\npoints=0")),
+        (behind("1\npoints=0002\ndata=0506\n\n"), &behind("1\npoints=0002\ndata=0506\n")),
+        (behind("1\ndata=05061\n"), &behind("1\ndata=0506")),
+    ] {
+        assert_eq!(board::text_prefix(text.as_bytes()), sense.len(), "{text:?}");
+    }
 }

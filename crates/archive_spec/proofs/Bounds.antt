@@ -1,15 +1,16 @@
 -- What the calls report is small: the lines SIZE and LONG, and a text that is read, leave few stripes, and a stripe is few bytes.
 -- Assumes nothing.
 use Prim.Native.Nat.{ℕ, _*_, _≤_, _<_}
-use mathlib.Core.Path.{_≡_, refl}
+use mathlib.Core.Path.{_≡_, refl, ap}
 use mathlib.Core.Bool.{Bool, true, false, not}
 use mathlib.Core.Option.{Option, some, none}
-use mathlib.Core.List.{List, [], _∷_}
+use mathlib.Core.List.{List, [], _∷_, _++_}
 use native.Mathlib.Nat.{mul-le-mul, mul-le-mul-left, le-trans}
 use native.Mathlib.Omega.{arith}
 use lib.Dec.{ltb, eqb}
-use lib.ListN.{length, take, length-take}
-use borrow.Author.Tests.{ltb-false, leb-true, eqb-true}
+use lib.ListN.{length, take, length-take, length-append}
+use lib.Seq.{length-take-le}
+use borrow.Author.Tests.{ltb-true, ltb-false, leb-true, eqb-true}
 use Rattle.lists.specs.Tests.{pick, alls, same}
 use Rattle.lists.specs.Lists.{tabulate, joined}
 use Rattle.lists.proofs.Tests.{not-no, alls-hold}
@@ -36,6 +37,8 @@ use Rattle.text_lines.proofs.Writes.{length-pairs}
 use Rattle.text_spec.specs.Texts.{ShareTold, writable, readText, textsOf}
 use Rattle.text_spec.specs.Calls.{toldOf, readSettled, readTextLines, readTextCall, textsTold, firstOf, nodesOf, sharesOf, gathered, gatherLines, gatherCall}
 use Rattle.text_spec.proofs.Laws.{facts-of, text-told, texts-told}
+use Rattle.prefix_spec.specs.Prefix.{longest}
+use Rattle.prefix_spec.proofs.Longest.{prefix-laws}
 
 -- what a word has room for above a refusal's number: 2^56
 abbrev pub Fits : ℕ → Type 0
@@ -192,3 +195,15 @@ gather-fits text output =
     let t = firstOf ts in
     settled-fits (gatherLines text output) (fileOf (gathered ts)) output (λ off.
     omega (arith, length-file (t .sizes) (t .points) (t .length) (nodesOf ts) (sharesOf ts), length-told text (textsOf text) refl))
+
+-- a beginning of an accepted text is no longer than it
+pub prefix-fits : (text : List ℕ) → Fits (longest text)
+prefix-fits text =
+    let l = prefix-laws .is-longest text (longest text) .0 refl in
+    let p = l .begins in
+    let t : ShareTold = p .1 in
+    let e = text-told (take (longest text) text ++ p .0) (p .1) .0 (p .2) in
+    let f = facts-of (p .1) (e .1 .0) in
+    let few = few-by (t .sizes) (t .length) (f .is-legal) (leb-true _ _ (f .not-long)) in
+    let whole = text-few (t .sizes) (t .points) (t .length) (t .node) (t .share) few (ltb-true _ _ (f .known)) (f .long) in
+    omega (arith, whole, ap length (e .0), length-append (take (longest text) text) (p .0), length-take-le (longest text) text (l .within))

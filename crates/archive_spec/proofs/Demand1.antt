@@ -31,6 +31,9 @@ use Rattle.text_spec.specs.Texts.{ShareTold, textOf, readText}
 use Rattle.text_spec.specs.Laws.{Writable}
 use Rattle.text_spec.specs.Calls.{ReadOutcome, toldOf, readTextLines, readTextCall}
 use Rattle.text_spec.proofs.Demand1 as at-text
+use Rattle.prefix_spec.specs.Prefix.{longest}
+use Rattle.prefix_spec.specs.Laws.{Longest}
+use Rattle.prefix_spec.proofs.Longest.{prefix-laws}
 use Rattle.answer_word.specs.Answers.{wordOf}
 use Rattle.record_words.specs.Words.{isRecord, recordFrom, wordsOf}
 use Rattle.record_words.proofs.Laws.{word-laws}
@@ -222,6 +225,11 @@ word-ends lines output bytes o ends = record {
   works = λ h. (ap (λ (q : BoardOutcome). wordOf (q .answer)) (ends .works h .0) ∙ word-reported (length bytes), ap (λ (q : BoardOutcome). q .output) (ends .works h .0));
 }
 
+prefix-word : (text : List ℕ) (m : ℕ) → (wordOf (said (Done (longest text))) ≡ 256 * m) ↔ Longest text m
+prefix-word text m =
+    let laws = prefix-laws .is-longest text m in
+    (λ e. laws .0 (omega (arith, e)), λ l. let e : longest text ≡ m = laws .1 l in omega (arith, e))
+
 pub archive-demand-1 : ArchiveCalls
 unfolding act
 archive-demand-1 = record {
@@ -249,4 +257,5 @@ archive-demand-1 = record {
       word-ends _ out _ _ (at-board.demand-1 .finished-ends z xs L b helpers packets partners exchanges out);
   text-word = λ z xs L node held out. word-ends _ out _ _ (at-board.demand-1 .text-ends z xs L node held out);
   gather-word = λ text out. word-ends _ out _ _ (at-text.demand-1 .gather-ends text out);
+  prefix-word = prefix-word;
 }

@@ -144,6 +144,7 @@ archive-laws = record {
   text-leaves = text-leaves;
   read-text-keeps = read-text-keeps;
   gather-leaves = gather-leaves;
+  prefix-takes-all = λ text. omega arith;
   set-up-keeps = set-up-keeps;
   keeps = keeps;
 }

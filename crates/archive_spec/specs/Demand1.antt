@@ -1,4 +1,4 @@
--- Demand 1 of the archive, and the reader's exactness, for every words, area, list and text: what each of the thirteen calls answers, and every word and
+-- Demand 1 of the archive, and the reader's exactness, for every words, area, list and text: what each of the fourteen calls answers, and every word and
 -- byte that it was lent, are those of the definitions of document 01, over the record that the words tell; where they tell none it is SIZE, and
 -- nothing changes. proofs/Demand1.antt has `archive-demand-1 : ArchiveCalls`.
 -- Assumes nothing.
@@ -12,8 +12,9 @@ use Rattle.lists.specs.Lists.{All, Bytes, over}
 use Rattle.sizes.specs.declared.Sizes.{Sizes}
 use Rattle.sizes.specs.declared.Refusal.{Refusal}
 use Rattle.sizes.specs.declared.Refusal.the-variants.{Disagree}
+use Rattle.sizes.specs.declared.Answer.the-variants.{Done}
 use Rattle.sizes.specs.Sizing.{stripes}
-use Rattle.sizes.specs.Refusals.{number, Line, appliesIn, storeOrder, boardOrder}
+use Rattle.sizes.specs.Refusals.{number, said, Line, appliesIn, storeOrder, boardOrder}
 use Rattle.sizes.specs.Laws.{First}
 use Rattle.mbcr.specs.Share.{share}
 use Rattle.mbcr.specs.Rebuild.{helperPacket, exchangePacket, finishedShare}
@@ -28,6 +29,8 @@ use Rattle.store_spec.specs.Ledger.{write, lose, repair, read}
 use Rattle.text_spec.specs.Texts.{ShareTold, textOf, readText, textsOf}
 use Rattle.text_spec.specs.Laws.{Writable}
 use Rattle.text_spec.specs.Calls.{toldOf, readTextLines, textsTold, gathered, gatherLines, gatherCall}
+use Rattle.prefix_spec.specs.Prefix.{longest}
+use Rattle.prefix_spec.specs.Laws.{Longest}
 use Rattle.answer_word.specs.Answers.{wordOf}
 use Rattle.record_words.specs.Words.{isRecord, recordFrom, wordsOf}
 use Rattle.archive_spec.specs.Archive.{sizesOf}
@@ -124,3 +127,5 @@ pub record ArchiveCalls : Type 0 where
   pub text-word : (z : Sizes) (xs : List ℕ) (L node : ℕ) (share out : List ℕ)
       → WordEnds (textLines z xs L node share out) out (shareText z xs L node share) (textCall z xs L node share out)
   pub gather-word : (text out : List ℕ) → WordEnds (gatherLines text out) out (fileOf (gathered (textsTold (textsOf text)))) (gatherCall text out)
+  -- how far a text makes sense: the word has a number above eight bits 0 just where that is the length of the longest beginning that makes sense
+  pub prefix-word : (text : List ℕ) (m : ℕ) → (wordOf (said (Done (longest text))) ≡ 256 * m) ↔ Longest text m

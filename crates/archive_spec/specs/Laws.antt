@@ -1,4 +1,4 @@
--- "On a refusal no word and no byte changes", for all thirteen calls. An answer that is no multiple of 256 is a refusal.
+-- "On a refusal no word and no byte changes", for all fourteen calls. An answer that is no multiple of 256 is a refusal.
 -- proofs/Laws.antt has `archive-laws : ArchiveLaws`.
 -- Assumes nothing.
 use mathlib.Core.Path.{_≡_}
@@ -6,10 +6,13 @@ use mathlib.Core.Bool.{true, false}
 use mathlib.Core.List.{List, []}
 use Prim.Native.Nat.{ℕ, _+_, _*_}
 use Rattle.sizes.specs.declared.Sizes.{Sizes}
+use Rattle.sizes.specs.declared.Answer.the-variants.{Done}
+use Rattle.sizes.specs.Refusals.{said}
 use Rattle.board_spec.specs.Calls.{BoardOutcome, shareCall, fileCall, helperCall, exchangeCall, finishedCall, textCall}
 use Rattle.store_spec.specs.Calls.{StoreOutcome}
 use Rattle.store_spec.specs.Ledger.{Call, act, outputOf}
 use Rattle.text_spec.specs.Calls.{gatherCall}
+use Rattle.prefix_spec.specs.Prefix.{longest}
 use Rattle.answer_word.specs.Answers.{wordOf}
 use Rattle.record_words.specs.Words.{isRecord, recordFrom, wordsOf}
 use Rattle.archive_spec.specs.Lent.{Lent, zbkSetUp, zbk}
@@ -48,5 +51,7 @@ pub record ArchiveLaws : Type 0 where
   pub text-leaves : (z : Sizes) (xs : List ℕ) (L node : ℕ) (share out : List ℕ) → Leaves (textCall z xs L node share out) out
   pub read-text-keeps : (text head points out : List ℕ) → KeepsText (zbkReadText text head points out) head points out
   pub gather-leaves : (text out : List ℕ) → Leaves (gatherCall text out) out
+  -- how far a text makes sense: it is lent nothing that it could change, and refuses nothing
+  pub prefix-takes-all : (text : List ℕ) → wordOf (said (Done (longest text))) ≡ 256 * longest text
   pub set-up-keeps : (ws : List ℕ) (z : Sizes) (xs : List ℕ) (c : ℕ) → Keeps (zbkSetUp ws z xs c) ws [] []
   pub keeps : (ws area : List ℕ) (call : Call) → Keeps (zbk ws area call) ws area (outputOf call)

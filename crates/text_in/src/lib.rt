@@ -95,7 +95,7 @@ fn name_at(text: &[u8], at: usize, name: &[u8]) -> Told
 }
 
 // Whether a digit stands at a place.
-fn digit_at(text: &[u8], at: usize) -> bool
+pub fn digit_at(text: &[u8], at: usize) -> bool
     ensures { λ r. ⌜ r ≡ hexadecimal (getD (now (text .entry)) at 0) ⌝ }
 {
     if at < text.len() {

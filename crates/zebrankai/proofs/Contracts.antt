@@ -1,4 +1,5 @@
--- The contracts of the archive's thirteen calls are what the definitions say: `zbk` and `zbkSetUp` for the store, `zbkReadText`, and board level's calls.
+-- The contracts of the archive's fourteen calls are what the definitions say: `zbk` and `zbkSetUp` for the store, `zbkReadText`, `longest`, and board
+-- level's calls.
 -- A contract is taken as the checker hands it to a caller: `Asked` is its `requires`, `Learnt` its `ensures`. So a call that ensures less, or requires
 -- something, is refused here.
 -- Assumes nothing.
@@ -9,9 +10,12 @@ use contract.Lifetimes.{Lfts}
 use denote.Ref.{now}
 use denote.Triple.Clauses.{AtExit}
 use borrow.Fn.Kinds.{Dens, endedOf}
+use Rattle.sizes.specs.declared.Answer.the-variants.{Done}
+use Rattle.sizes.specs.Refusals.{said}
 use Rattle.board_spec.specs.Calls.{BoardOutcome, shareCall, fileCall, helperCall, exchangeCall, finishedCall, textCall}
 use Rattle.store_spec.specs.Ledger.{write, lose, repair, read}
 use Rattle.text_spec.specs.Calls.{gatherCall}
+use Rattle.prefix_spec.specs.Prefix.{longest}
 use Rattle.answer_word.specs.Answers.{wordOf}
 use Rattle.archive_spec.specs.Archive.{sizesOf}
 use Rattle.archive_spec.specs.Lent.{Lent, zbkSetUp, zbk}
@@ -42,6 +46,8 @@ use Rattle.zebrankai.proofs.zbk_read_text.Reads as read-text-reads
 use Rattle.zebrankai.proofs.zbk_read_text.Kinds as read-text-kinds
 use Rattle.zebrankai.proofs.zbk_gather.Reads as gather-reads
 use Rattle.zebrankai.proofs.zbk_gather.Kinds as gather-kinds
+use Rattle.zebrankai.proofs.zbk_text_prefix.Reads as prefix-reads
+use Rattle.zebrankai.proofs.zbk_text_prefix.Kinds as prefix-kinds
 
 -- ---- the store
 
@@ -147,3 +153,8 @@ pub gather-gives : (κs : Lfts 2) (a : Dens κs gather-kinds.ps) (w : ℕ) (e : 
     → gather-reads.Asked κs a
     × (gather-reads.Learnt κs a w e → Gives w (now (e .1 .0)) (gatherCall (now (a .0)) (now (a .1 .0))))
 gather-gives κs a w e = (tt, λ h. h)
+
+pub prefix-gives : (κs : Lfts 1) (a : Dens κs prefix-kinds.ps) (w : ℕ) (e : AtExit (endedOf 1 prefix-kinds.ps prefix-kinds.r) κs)
+    → prefix-reads.Asked κs a
+    × (prefix-reads.Learnt κs a w e → w ≡ wordOf (said (Done (longest (now (a .0))))))
+prefix-gives κs a w e = (tt, λ h. h)

@@ -1,5 +1,5 @@
 //! The archive for C and Rust: every call of the board level and of the store under a C name, for all input, without `requires`.
-//! Each meets its definition in the crates `board_spec`, `text_spec` and `store_spec`: the answer as one word, and every word and byte that it was lent.
+//! Each meets its definition in the crates `board_spec`, `text_spec`, `prefix_spec` and `store_spec`: the answer as one word, and every word and byte that it was lent.
 //! A slice is a pointer and a length. A record is a lent slice of twelve words: n, k, d, r, capacity, written, length, marks, and four words
 //! with the points of eight boards each. The head of a text is a lent slice of six words: n, k, d, r, board number, length. Points are a lent slice
 //! of 32 bytes. Another number of them than these is SIZE. An answer has the refusal's number in its low eight bits, 0 where there is none, and the
@@ -7,8 +7,11 @@
 ghost use mathlib.Core.Path.{_≡_};
 ghost use mathlib.Core.List.{List, []};
 ghost use Prim.Native.Nat.{ℕ};
+ghost use Rattle.sizes.specs.declared.Answer.the-variants.{Done};
+ghost use Rattle.sizes.specs.Refusals.{said};
 ghost use Rattle.board_spec.specs.Calls.{shareCall, fileCall, helperCall, exchangeCall, finishedCall, textCall};
 ghost use Rattle.text_spec.specs.Calls.{gatherCall};
+ghost use Rattle.prefix_spec.specs.Prefix.{longest};
 ghost use Rattle.store_spec.specs.Ledger.{write, lose, repair, read};
 ghost use Rattle.answer_word.specs.Answers.{wordOf};
 ghost use Rattle.archive_spec.specs.Archive.{sizesOf};
@@ -173,6 +176,14 @@ pub extern "C" fn zbk_gather(text: &[u8], out: &mut [u8]) -> u64
     ensures { λ w. ⌜ (w ≡ wordOf (gatherCall (now (text .entry)) (now (out .entry)) .answer)) × (now (out .exit) ≡ gatherCall (now (text .entry)) (now (out .entry)) .output) ⌝ }
 {
     archive_texts::gather(text, out)
+}
+
+// How many bytes of a text also begin some text that zbk_share_text writes, at their most. Reports that number, and refuses nothing.
+#[no_mangle]
+pub extern "C" fn zbk_text_prefix(text: &[u8]) -> u64
+    ensures { λ w. ⌜ w ≡ wordOf (said (Done (longest (now (text .entry))))) ⌝ }
+{
+    archive_texts::text_prefix(text)
 }
 
 // A new store of these sizes, these points and this capacity, in twelve words.

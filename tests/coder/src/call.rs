@@ -1,4 +1,4 @@
-//! The thirteen calls with their arguments: how each is passed to the archive, what of it may be spoilt, how it is shown. And the memory that they
+//! The fourteen calls with their arguments: how each is passed to the archive, what of it may be spoilt, how it is shown. And the memory that they
 //! are lent to change.
 
 use crate::code::{self, Sizes};
@@ -101,10 +101,13 @@ pub enum Call {
     Gather {
         text: Vec<u8>,
     },
+    Prefix {
+        text: Vec<u8>,
+    },
 }
 
 /// The C names of the calls, in the order of `Call::place`, each with the refusals that it can give.
-pub const CALLS: [(&str, &[u8]); 13] = [
+pub const CALLS: [(&str, &[u8]); 14] = [
     ("zbk_share", &[1, 3, 5, 7]),
     ("zbk_file", &[1, 3, 4, 5, 6, 2, 7, 10]),
     ("zbk_helper_packet", &[1, 3, 5, 6, 2, 7]),
@@ -118,9 +121,10 @@ pub const CALLS: [(&str, &[u8]); 13] = [
     ("zbk_read", &[1, 2, 8, 4, 5, 6, 9, 7, 10]),
     ("zbk_read_text", &[1, 12, 7]),
     ("zbk_gather", &[12, 13, 4, 6, 7, 10]),
+    ("zbk_text_prefix", &[]),
 ];
 
-/// The place in `CALLS` of the first of the two calls that are given texts.
+/// The place in `CALLS` of the first of the three calls that are given texts.
 pub const READ_TEXT: usize = 11;
 
 // The archive's names, as include/zebrankai.h declares them (`tests/names`).
@@ -156,6 +160,7 @@ impl Call {
             Call::Read { .. } => 10,
             Call::ReadText { .. } => READ_TEXT,
             Call::Gather { .. } => READ_TEXT + 1,
+            Call::Prefix { .. } => READ_TEXT + 2,
         }
     }
 
@@ -185,6 +190,7 @@ impl Call {
             Call::Read { boards } => zbk_read(record, area, boards, out),
             Call::ReadText { text } => zbk_read_text(text, record, area, out),
             Call::Gather { text } => zbk_gather(text, out),
+            Call::Prefix { text } => zbk_text_prefix(text),
         }
     }
 
@@ -258,7 +264,9 @@ impl Call {
             Call::Lose { board } => Parts { numbers: vec![board], ..none },
             Call::Repair { fresh, helpers, stand_ins } => Parts { lists: vec![fresh, helpers, stand_ins], ..none },
             Call::Read { boards } => Parts { lists: vec![boards], ..none },
-            Call::ReadText { text } | Call::Gather { text } => Parts { slices: vec![text], ..none },
+            Call::ReadText { text } | Call::Gather { text } | Call::Prefix { text } => {
+                Parts { slices: vec![text], ..none }
+            }
         }
     }
 }
@@ -374,7 +382,9 @@ impl fmt::Display for Call {
                 write!(to, "(fresh={fresh:?}, helpers={helpers:?}, stand_ins={stand_ins:?}")
             }
             Call::Read { boards } => write!(to, "(boards={boards:?}"),
-            Call::ReadText { text } | Call::Gather { text } => write!(to, "(text={:?}", shown(text)),
+            Call::ReadText { text } | Call::Gather { text } | Call::Prefix { text } => {
+                write!(to, "(text={:?}", shown(text))
+            }
         }?;
         write!(to, ")")
     }

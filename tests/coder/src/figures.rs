@@ -8,7 +8,7 @@ use crate::code::Sizes;
 use crate::field::FIELD;
 use crate::points::{filled_up, first_series, standard};
 use crate::trial::{Place, Trial};
-use crate::{board, store, text_figures, texts};
+use crate::{board, prefix_figures, store, text_figures, texts};
 
 pub fn run(trial: &mut Trial) {
     field(trial);
@@ -21,6 +21,7 @@ pub fn run(trial: &mut Trial) {
     refused_repairs(trial);
     text(trial);
     text_figures::run(trial);
+    prefix_figures::run(trial);
     legal_sizes(trial);
     refused_points(trial);
     eight_words(trial);

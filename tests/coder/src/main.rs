@@ -18,7 +18,9 @@
 //! field, the second reads standard input and writes what the share printer or the points printer must write for it, the third writes a line for
 //! each legal combination of sizes with at most N boards (request A.12).
 //!
-//! Texts of shares are read and gathered in cases of their own (request A.1), of which every kind must have been met, too.
+//! Texts of shares are read and gathered in cases of their own (request A.1), and asked how far they make sense in others (request A.14): whole, cut
+//! at every byte, altered at every place, with bytes behind, and with points that are about to be 0 to n − 1. Every kind of these must have been met,
+//! too.
 //!
 //! Most cases are small, of at most 100 stripes. Thirteen cases of each run, and one in a thousand of the others, are of real sizes (`real_cases`):
 //! 32,768 bytes on 12 boards, 163,840 bytes and more on 32, 101 to 4,096 stripes on any. There every call is made, areas are read of which a byte,
@@ -42,6 +44,10 @@ mod histories;
 mod ledger;
 mod matrix;
 mod points;
+mod prefix;
+mod prefix_cases;
+mod prefix_figures;
+mod prefix_met;
 mod printer;
 mod products;
 mod random;
@@ -190,6 +196,7 @@ fn run_case(trial: &mut Trial, case: u64) {
         tight::run(trial, &mut random, sizes);
         altered::run(trial, &mut random, sizes);
         text_cases::run(trial, &mut random, sizes);
+        prefix_cases::first(trial, &mut random, sizes);
         return;
     }
     if let Some(turn) = real_cases::turn(case) {
@@ -205,6 +212,7 @@ fn run_case(trial: &mut Trial, case: u64) {
             altered::run(trial, &mut random, sizes);
         }
         13 => text_cases::run(trial, &mut random, sizes),
+        14 => prefix_cases::run(trial, &mut random, sizes),
         _ => board_cases::run(trial, &mut random, sizes),
     }
 }

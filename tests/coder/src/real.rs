@@ -78,6 +78,10 @@ impl Measure {
                 let (sizes, _, length) = texts::of_first(text)?;
                 return Some(Measure { sizes, room: sizes.stripes(length), length });
             }
+            Call::Prefix { text } => {
+                let texts::Told { sizes, length, .. } = texts::read(text)?;
+                return Some(Measure { sizes, room: sizes.stripes(length), length });
+            }
             Call::Share { file, .. } => file.len(),
             Call::File { length, .. }
             | Call::Helper { length, .. }
@@ -232,7 +236,7 @@ const OVER_A_STORE: std::ops::RangeInclusive<usize> = 7..=10;
 /// Whether a call is about too few bytes for any of CLASSES.
 fn small(call: &Call, lent: &Lent) -> bool {
     match call {
-        Call::ReadText { text } | Call::Gather { text } => text.len() < 400,
+        Call::ReadText { text } | Call::Gather { text } | Call::Prefix { text } => text.len() < 400,
         Call::Repair { .. } | Call::Read { .. } | Call::Write { .. } => lent.area.len() < 500,
         _ => false,
     }

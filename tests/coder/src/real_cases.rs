@@ -7,6 +7,7 @@ use crate::code::{Sizes, MAX_STRIPES};
 use crate::draw;
 use crate::histories;
 use crate::points;
+use crate::prefix_cases;
 use crate::random::Random;
 use crate::real::{Measure, THIRTY_TWO, THIRTY_TWO_LEN, TWELVE, TWELVE_LEN};
 use crate::real_reads;
@@ -126,6 +127,10 @@ pub fn run(trial: &mut Trial, random: &mut Random, turn: u64) {
     store_cases::over(trial, random, &scene, capacity, calls);
     text_cases::named(trial, random, &scene);
     text_cases::over(trial, random, &scene);
+    prefix_cases::of_scene(trial, random, &scene);
+    if turn % 4 == 0 {
+        prefix_cases::longest(trial, random);
+    }
     if histories::whole(trial, random, &scene, capacity, calls) {
         trial.real.count_history(Measure { sizes, room: capacity, length });
     }

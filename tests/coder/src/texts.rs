@@ -1,11 +1,11 @@
-//! The coder's own model of the two calls that take shares back from texts (request A.1 of document 02). What stands behind the names is read without
+//! The coder's own model of the calls that take shares back from texts (request A.1 of document 02). What stands behind the names is read without
 //! much care, in any order of the lines; then the text is written again from it by the coder's own writer, and it is taken just where that gives
 //! the same bytes: "Accepted are just the texts that the share-as-text call can write".
 
 use crate::call::refusal::{COUNT, DISAGREE, MIXED, REPEAT, SHORT, SIZE, TEXT};
 use crate::call::{Call, Lent, Outcome};
 use crate::code::{self, Sizes, MAX_BOARDS};
-use crate::points;
+use crate::{points, prefix};
 use std::collections::{BTreeMap, BTreeSet};
 
 /// How many words a text's head has.
@@ -111,7 +111,8 @@ fn gathered(text: &[u8], out: usize) -> Result<Vec<u8>, u8> {
     }
 }
 
-/// What a reading of a text, or a gathering, answers and leaves. The head is lent as the record, the points to write as the area.
+/// What a reading of a text, a gathering, or the question how far a text makes sense answers and leaves. The head is lent as the record, the points
+/// to write as the area.
 pub fn expect(call: &Call, lent: &Lent) -> Outcome {
     let mut after = lent.clone();
     let bytes = match call {
@@ -134,6 +135,7 @@ pub fn expect(call: &Call, lent: &Lent) -> Outcome {
             Ok(file) => file,
             Err(number) => return Outcome::refused(number, lent),
         },
+        Call::Prefix { text } => return Outcome::accepted(prefix::longest(text), after),
         _ => unreachable!("a call that takes no text"),
     };
     after.out[..bytes.len()].copy_from_slice(&bytes);

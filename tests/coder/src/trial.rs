@@ -4,7 +4,7 @@ use crate::altered;
 use crate::archive::{self, Performed};
 use crate::call::{refusal, Call, Lent, Outcome, CALLS, READ_TEXT};
 use crate::code::Sizes;
-use crate::{points, real, repairs, store, texts};
+use crate::{points, prefix_met, real, repairs, store, texts};
 use std::fmt;
 use std::time::{Duration, Instant};
 
@@ -83,6 +83,8 @@ pub struct Trial {
     pub points: [[u64; points::KINDS.len()]; CALLS.len()],
     /// how often texts of each kind were answered as some of them must be
     pub texts: [u64; crate::text_cases::KINDS.len()],
+    /// what was met of beginnings that make sense
+    pub prefixes: prefix_met::Met,
     /// how many second files were found for k − 1 boards, and the calls made with them
     pub second_files: u64,
     pub second_calls: u64,
@@ -112,6 +114,7 @@ impl Trial {
             met: [[0; refusal::COUNTED]; CALLS.len()],
             points: [[0; points::KINDS.len()]; CALLS.len()],
             texts: [0; crate::text_cases::KINDS.len()],
+            prefixes: Default::default(),
             second_files: 0,
             second_calls: 0,
             altered: Default::default(),
@@ -255,6 +258,7 @@ impl Trial {
                 missing.push(format!("texts: {kind}, answered with {number}"));
             }
         }
+        missing.extend(self.prefixes.never());
         if self.second_files == 0 {
             missing.push("a second file for k − 1 boards".to_string());
         }
@@ -286,6 +290,7 @@ impl Trial {
         for ((kind, number), count) in crate::text_cases::KINDS.iter().zip(self.texts) {
             println!("{kind:24} {number:>7} {count:>8}");
         }
+        self.prefixes.print();
         println!(
             "second files for k − 1 boards: {}, in {} of the calls of zbk_share",
             self.second_files, self.second_calls
@@ -307,8 +312,12 @@ const SET_UP: usize = 6;
 
 /// The sizes and the points that a call goes by; none where something else than the points makes it SIZE.
 pub fn points_asked(call: &Call, lent: &Lent) -> Option<(Sizes, Vec<u8>)> {
-    if let Call::ReadText { text } | Call::Gather { text } = call {
-        return texts::of_first(text).map(|(sizes, points, _)| (sizes, points));
+    match call {
+        Call::ReadText { text } | Call::Gather { text } => {
+            return texts::of_first(text).map(|(sizes, points, _)| (sizes, points))
+        }
+        Call::Prefix { text } => return texts::read(text).map(|told| (told.sizes, told.points)),
+        _ => {}
     }
     let Some((sizes, points)) = call.given() else { return store::given(&lent.record) };
     let legal = match call {

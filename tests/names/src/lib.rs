@@ -31,6 +31,9 @@ macro_rules! archive {
             read_text as zbk_read_text(text: &[u8], head: &mut [u64], points: &mut [u8], out: &mut [u8],);
             gather as zbk_gather(text: &[u8], out: &mut [u8],);
         });
+        $crate::names!($each prefix {
+            prefix as zbk_text_prefix(text: &[u8],);
+        });
         $crate::names!($each store {
             set_up as zbk_set_up(record: &mut [u64], sizes: Sizes, points: &[u8], capacity: usize,);
             write as zbk_write(record: &mut [u64], area: &mut [u8], file: &[u8],);

@@ -12,6 +12,7 @@
 pub mod board;
 pub mod field;
 pub mod polynomial;
+pub mod prefix;
 pub mod sizes;
 pub mod store;
 pub mod stripe;

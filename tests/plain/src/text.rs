@@ -29,7 +29,7 @@ fn number_line<'a>(text: &'a [u8], name: &str) -> Option<(usize, &'a [u8])> {
 }
 
 /// The value of a hexadecimal digit in lower case.
-fn digit(byte: u8) -> Option<u8> {
+pub fn digit(byte: u8) -> Option<u8> {
     match byte {
         b'0'..=b'9' => Some(byte - b'0'),
         b'a'..=b'f' => Some(byte - b'a' + 10),

@@ -3,7 +3,7 @@
 use crate::agree;
 use crate::args::{Takes, Words};
 use crate::files::{self, Target, PIPE};
-use crate::texts::{self, points_words, Read, Text};
+use crate::texts::{self, points_words, Read, Text, Unreadable};
 use crate::trouble::{boards, count, refused, Outcome, Trouble};
 use zebrankai::{Refusal, Sizes};
 
@@ -80,7 +80,10 @@ pub fn look(words: &Words) -> Outcome {
     for (text, row) in texts.iter().zip(&rows) {
         table.push_str(&match &text.read {
             Ok(_) => line(row, &widths),
-            Err(unreadable) => format!("{:<1$}  not readable: {2}\n", text.name, widths[0], unreadable.why),
+            Err(Unreadable { why, sense, .. }) => {
+                let sense = sense.iter().map(|sense| format!("{:1$}  {sense}\n", "", widths[0]));
+                format!("{:<1$}  not readable: {why}\n", text.name, widths[0]) + &sense.collect::<String>()
+            }
         });
     }
     let (told, whole) = summary(&texts);

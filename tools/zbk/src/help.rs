@@ -10,7 +10,7 @@ zbk: share texts of a file on shelf boards, by the proved archive
                                  a text for each board, DIR/board-0.txt and so on
   zbk gather TEXT.. [-o FILE]    the file from k texts
   zbk rebuild DIR --fresh 2,5    the texts of fresh boards from those of others
-  zbk look TEXT..                what texts are
+  zbk look TEXT..                what texts are, and how far others make sense
   zbk share FILE --boards 8 --read 4 --helpers 6 --fresh 2 --board 3
                                  the text of one board
   zbk sizes N                    all legal sizes with at most N boards
@@ -92,8 +92,12 @@ const LOOK: &str = "\
 zbk look TEXT..
 
 Prints a table of texts: board, sizes, points, the file's length, its stripes,
-the bytes of a share; or why a text is not readable, and where. Texts are named
-as for 'zbk gather'. Exit code 1 where a text or a file is not readable.
+the bytes of a share; or why a text is not readable, and where. Below that
+stands how far it makes sense, as far as it also begins some text: up to which
+line and place, with that line, and what comes then. A text of which all makes
+sense is cut short. Bytes that cannot be printed are shown as \\n or \\xEF. Texts
+are named as for 'zbk gather'. Exit code 1 where a text or a file is not
+readable.
 
 @COMMON";
 

@@ -1,5 +1,6 @@
 //! The service bench's tool: a file is spread over boards as texts, gathered from k of them, and boards are rebuilt from others, all by the calls of
-//! the proved archive. What is added here are files, words and help; where a text is refused, the tool looks for the place itself, to say it.
+//! the proved archive. What is added here are files, words and help; where a text is refused, the tool looks for the place itself, to
+//! say it; how far the text makes sense, the archive says.
 #![forbid(unsafe_code)]
 
 mod agree;
@@ -10,6 +11,7 @@ mod help;
 mod place;
 mod progress;
 mod rebuild;
+mod sense;
 mod spread;
 mod texts;
 mod trouble;

@@ -62,31 +62,41 @@ impl<'a> Reading<'a> {
         if digits > 1 && self.bytes[start] == b'0' {
             return self.fault(start, "a number without leading zeros");
         }
+        let value = |so_far: usize, byte: &u8| so_far.saturating_mul(10).saturating_add(usize::from(byte - b'0'));
+        let written = &self.bytes[start..start + digits];
+        let number = written.iter().fold(0, value);
+        let range = format!("{name} from {low} to {high} ({why})");
+        // a number that is too small may begin another one
+        let begins = |other: usize| other.to_string().as_bytes().starts_with(written);
+        if number > high || (number < low && !(low..=high).any(begins)) {
+            return self.fault(start, range);
+        }
         self.at += digits;
         self.line_end("a digit or the end of the line")?;
-        let value = |so_far: usize, byte: &u8| so_far.saturating_mul(10).saturating_add(usize::from(byte - b'0'));
-        let number = self.bytes[start..start + digits].iter().fold(0, value);
-        if !(low..=high).contains(&number) {
-            return self.fault(start, format!("{name} from {low} to {high} ({why})"));
+        if number < low {
+            return self.fault(start, range);
         }
         Ok(number)
     }
 
-    /// So many pairs and the end of the line; gives where the pairs begin.
-    fn pairs(&mut self, count: usize, what: &str) -> Result<usize, Fault> {
-        let start = self.at;
+    /// How many hexadecimal digits stand here, at most so many.
+    fn digits(&self, most: usize) -> usize {
         let digit = |byte: &&u8| matches!(byte, b'0'..=b'9' | b'a'..=b'f');
-        let digits = self.bytes[start..].iter().take(2 * count).take_while(digit).count();
+        self.bytes[self.at..].iter().take(most).take_while(digit).count()
+    }
+
+    /// So many pairs and the end of the line.
+    fn pairs(&mut self, count: usize, what: &str) -> Result<(), Fault> {
+        let digits = self.digits(2 * count);
         if digits < 2 * count {
-            let at = start + digits;
+            let at = self.at + digits;
             return match self.bytes.get(at) {
                 None | Some(b'\n') => self.fault(at, format!("{what}, {} digits, not {digits}", 2 * count)),
                 _ => self.wrong_character(at, "a digit 0 to 9 or a to f"),
             };
         }
         self.at += digits;
-        self.line_end(&format!("the end of the line behind {what}"))?;
-        Ok(start)
+        self.line_end(&format!("the end of the line behind {what}"))
     }
 
     /// The line with the points, where one is due or stands here.
@@ -96,15 +106,25 @@ impl<'a> Reading<'a> {
             return Ok(());
         }
         self.name("points", "the line points= or data=")?;
-        let start = self.pairs(n, &format!("{n} pairs, one for each board"))?;
-        let pairs: Vec<&[u8]> = self.bytes[start..start + 2 * n].chunks(2).collect();
-        if let Some(again) = (1..n).find(|&board| pairs[..board].contains(&pairs[board])) {
-            return self.fault(start + 2 * again, "a point that no board before has");
+        // the last may be one digit, with which sixteen points begin
+        let start = self.at;
+        let mut before: Vec<usize> = Vec::new();
+        for (board, written) in self.bytes[start..start + self.digits(2 * n)].chunks(2).enumerate() {
+            let digit = |byte: u8| char::from(byte).to_digit(16).unwrap_or(0) as usize;
+            let (first, count) = match *written {
+                [high, low] => (16 * digit(high) + digit(low), 1),
+                _ => (16 * digit(written[0]), 16),
+            };
+            let in_order = board + 1 == n && before.iter().copied().eq(0..board);
+            if in_order && count == 1 && first == board {
+                return self.fault(line, "no line points=, since the points are 0 to n - 1 in order");
+            }
+            if (first..first + count).all(|point| before.contains(&point) || (in_order && point == board)) {
+                return self.fault(start + 2 * board, "a point that no board before has");
+            }
+            before.push(first);
         }
-        if (0..n).all(|board| format!("{board:02x}").as_bytes() == pairs[board]) {
-            return self.fault(line, "no line points=, since the points are 0 to n - 1 in order");
-        }
-        Ok(())
+        self.pairs(n, &format!("{n} pairs, one for each board"))
     }
 
     fn text(&mut self) -> Result<(), Fault> {
@@ -118,7 +138,7 @@ impl<'a> Reading<'a> {
         self.points(n)?;
         self.name("data", "the line data=")?;
         let count = sizes.stripes(length) * sizes.share_len();
-        self.pairs(count, &format!("{count} pairs of the share")).map(|_| ())
+        self.pairs(count, &format!("{count} pairs of the share"))
     }
 }
 
@@ -168,11 +188,18 @@ mod tests {
     use super::text_end;
     use zebrankai::board;
 
-    /// Whether some bytes are one text is found as the archive finds it.
+    /// Whether some bytes are one text is found as the archive finds it. The place that is told is not behind that up to which they make sense, and
+    /// is their end just where all of them do.
     fn as_the_archive(bytes: &[u8]) {
         let read = board::read_text(bytes, &mut vec![0; bytes.len()]).is_ok();
         let found = text_end(bytes, 0).map(|end| end == bytes.len());
         assert_eq!(found == Ok(true), read, "{:?}: {found:?}", String::from_utf8_lossy(bytes));
+        let sense = board::text_prefix(bytes);
+        let told = match text_end(bytes, 0) {
+            Ok(end) => end == sense,
+            Err(fault) => fault.at <= sense && (fault.at == bytes.len()) == (sense == bytes.len()),
+        };
+        assert!(told, "{:?}: {found:?}, and sense up to {sense}", String::from_utf8_lossy(bytes));
     }
 
     const TEXTS: [&str; 4] = [
@@ -206,6 +233,21 @@ mod tests {
                     as_the_archive(&[before, &[byte], behind].concat());
                     as_the_archive(&[before, behind.get(1..).unwrap_or_default()].concat());
                     as_the_archive(&[before, &[byte, byte], behind].concat());
+                }
+            }
+        }
+    }
+
+    #[test]
+    fn points_that_are_almost_in_order() {
+        for n in [2, 3, 15, 16, 17, 32] {
+            let points: String = (0..n - 1).map(|point| format!("{point:02x}")).collect();
+            let text = format!("n={n}\nk=1\nd=1\nr=1\nnode=0\nlength=0\npoints={points}");
+            for high in "0123456789abcdefgA\n".chars() {
+                as_the_archive(format!("{text}{high}").as_bytes());
+                for low in "0123456789abcdefgA\n".chars() {
+                    as_the_archive(format!("{text}{high}{low}").as_bytes());
+                    as_the_archive(format!("{text}{high}{low}\ndata=\n").as_bytes());
                 }
             }
         }

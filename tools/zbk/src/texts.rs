@@ -2,6 +2,7 @@
 
 use crate::files::{self, Unread, PIPE};
 use crate::place::{text_end, Fault};
+use crate::sense;
 use crate::trouble::{count, refused, unforeseen, Outcome, Trouble};
 use std::path::Path;
 use zebrankai::{board, Points, Refusal, Sizes};
@@ -30,12 +31,15 @@ pub struct Read {
 pub struct Unreadable {
     pub refusal: Refusal,
     pub why: String,
+    /// how far it makes sense, where it has bytes
+    pub sense: Option<String>,
 }
 
 impl Text {
     /// Bytes that are no text.
     fn none(name: &str, bytes: Vec<u8>, why: String) -> Text {
-        Text { name: name.to_string(), bytes, read: Err(Unreadable { refusal: Refusal::Text, why }) }
+        let sense = sense::words(&bytes, 0);
+        Text { name: name.to_string(), bytes, read: Err(Unreadable { refusal: Refusal::Text, why, sense }) }
     }
 }
 
@@ -46,17 +50,17 @@ impl Read {
     }
 }
 
-/// Reads one text by the archive.
-fn read(bytes: &[u8], fault: impl FnOnce() -> Option<String>) -> Result<Read, Unreadable> {
-    let mut share = vec![0; bytes.len() / 2];
-    match board::read_text(bytes, &mut share) {
+/// Reads one text by the archive, that which begins at a place and is all that is left; `fault` says why it is none.
+fn read(bytes: &[u8], at: usize, fault: impl FnOnce() -> Option<String>) -> Result<Read, Unreadable> {
+    let mut share = vec![0; (bytes.len() - at) / 2];
+    match board::read_text(&bytes[at..], &mut share) {
         Ok(board::TextRead { sizes, points, node, length, written }) => {
             share.truncate(written);
             Ok(Read { sizes, points, node, length, share })
         }
         Err(refusal) => {
             let why = fault().unwrap_or_else(|| refusal.sentence().to_string());
-            Err(Unreadable { refusal, why })
+            Err(Unreadable { refusal, why, sense: sense::words(bytes, at) })
         }
     }
 }
@@ -68,12 +72,12 @@ fn texts_of(name: &str, bytes: &[u8]) -> Vec<Text> {
     let mut at = 0;
     while at < bytes.len() || texts.is_empty() {
         let end = text_end(bytes, at);
-        let (piece, fault) = match &end {
-            Ok(end) => (&bytes[at..*end], None),
-            Err(fault) => (&bytes[at..], Some(fault.words(bytes))),
+        let (upto, fault) = match &end {
+            Ok(end) => (&bytes[..*end], None),
+            Err(fault) => (bytes, Some(fault.words(bytes))),
         };
         let why = if bytes.is_empty() { Some("it is empty".to_string()) } else { fault };
-        texts.push(Text { name: shown.to_string(), bytes: piece.to_vec(), read: read(piece, || why) });
+        texts.push(Text { name: shown.to_string(), bytes: upto[at..].to_vec(), read: read(upto, at, || why) });
         match end {
             Ok(end) => at = end,
             Err(_) => break,
@@ -84,7 +88,7 @@ fn texts_of(name: &str, bytes: &[u8]) -> Vec<Text> {
         let start = bytes.len() - last.bytes.len();
         if last.read.is_err() && !last.bytes.starts_with(b"n=") {
             let why = Fault::behind(start).words(bytes);
-            return vec![Text { name: shown.to_string(), bytes: bytes.to_vec(), read: read(bytes, || Some(why)) }];
+            return vec![Text { name: shown.to_string(), bytes: bytes.to_vec(), read: read(bytes, 0, || Some(why)) }];
         }
     }
     let all = texts.len();
@@ -145,7 +149,7 @@ pub fn readable(texts: &[Text]) -> Outcome<Vec<(&Text, &Read)>> {
     for text in texts {
         match &text.read {
             Ok(read) => readable.push((text, read)),
-            Err(Unreadable { refusal, why }) if *refusal == Refusal::Text => {
+            Err(Unreadable { refusal, why, .. }) if *refusal == Refusal::Text => {
                 faults.push(format!("{}: {why}", text.name))
             }
             Err(Unreadable { refusal, .. }) => return Err(unforeseen(*refusal)),
