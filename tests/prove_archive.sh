@@ -1,7 +1,7 @@
 #!/bin/sh
 # Proves the archive and writes target/staticlib/libzebrankai.a: first the crates that it rests on, side by side as `rt check` proves them, then
-# the archive itself. `rt check` goes level by level, and waits for the last crate of each; so the crates that the store's calls do not rest on are
-# proved by another one beside it, where a processor would stand idle. On a terminal one line on standard error says how far it is and about how long
+# the archive itself. `rt check` goes level by level, and waits for the last crate of each; so the crates that neither the store nor a gathering rests
+# on are proved by another one beside it, where a processor would stand idle. On a terminal one line on standard error says how far it is and about how long
 # the rest will take, by the crates done; elsewhere there is a line for every ten crates. What the prover said is in target/prove_archive.log, and is
 # shown of crates that are not proved. An archive that was proved and built from the files as they stand is not built again. Where ZBK_ARCHIVE names
 # another archive, seen from the top folder, it only sees that this is there.
@@ -16,17 +16,17 @@ command -v rt >/dev/null || { say "rt, the Rattle toolchain, is not on the path"
 archive=target/staticlib/libzebrankai.a
 log=target/prove_archive.log
 
-# closure NAME: the crate and those that it rests on, in the order of crates.txt, one to a line
+# closure NAME...: these crates and those that they rest on, in the order of crates.txt, one to a line
 closure() {
-    awk -v top="$1" '
+    awk -v tops="$*" '
         function visit(n,    d, i, m) { if (n in seen || !(n in deps)) return; seen[n]; m = split(deps[n], d, " "); for (i = 1; i <= m; i++) visit(d[i]) }
         { sub(/#.*/, ""); at = index($0, ":") }
         at { n = substr($0, 1, at - 1); gsub(/[ \t]/, "", n); deps[n] = substr($0, at + 1); list[++count] = n }
-        END { visit(top); for (i = 1; i <= count; i++) if (list[i] in seen) print list[i] }' crates.txt
+        END { m = split(tops, top, " "); for (i = 1; i <= m; i++) visit(top[i]); for (i = 1; i <= count; i++) if (list[i] in seen) print list[i] }' crates.txt
 }
-# those below the archive: the chain, which is what the store's calls rest on, and the others
+# those below the archive: the chains, which are what the store's calls and a gathering rest on, and the others
 below=$(closure zebrankai | grep -vx zebrankai)
-chain=$(closure archive_store)
+chain=$(closure archive_store board_gather)
 [ -n "$chain" ] || chain=$below
 others=$(printf '%s\n' "$below" | grep -vxF "$chain" || true)
 all=$(($(printf '%s\n' "$below" | wc -l) + 1))
@@ -134,7 +134,7 @@ first=$(made_of)
 # a level is proved at once: of the levels with many crates none takes more than 1.3 GB for a check
 jobs=$(sh tests/jobs.sh 8 1300000)
 
-# ready CRATE...: those of them that rest on nothing but what a prover said is proved; the chain's prover has no more to do with these
+# ready CRATE...: those of them that rest on nothing but what a prover said is proved; the chains' prover has no more to do with these
 ready() {
     { echo 'proved:' && proved "$log" "$log.beside"; } | awk -v asked="$*" '
         NR == FNR { done[$1]; next }
@@ -149,15 +149,15 @@ ready() {
             }
         }' - crates.txt
 }
-# check_beside JOBS CRATE...: proves these, behind the chain in rank, and adds what was said of them, and not of those below them, to its log
+# check_beside JOBS CRATE...: proves these, behind the chains in rank, and adds what was said of them, and not of those below them, to its log
 check_beside() {
     outcome=0 at_once=$1
     shift
-    RT_JOBS=$at_once nice -n 10 rt check "$@" >"$log.now" 2>&1 || outcome=$?
+    RT_JOBS=$at_once nice -n 5 rt check "$@" >"$log.now" 2>&1 || outcome=$?
     awk -v asked=" $* " '/^rt: [A-Za-z0-9_]+ proved \(unchanged/ && !index(asked, " " $2 " ") { next } { print }' "$log.now" >>"$log.beside"
     return "$outcome"
 }
-# the others: a few at a time beside the chain, and all that are left at its end
+# the others: a few at a time beside the chains, and all that are left at their end
 beside() {
     left=$others
     while [ -n "$left" ] && [ ! -f "$log.stop" ]; do
@@ -169,7 +169,7 @@ beside() {
         # shellcheck disable=SC2086
         now=$(ready $left)
         if [ -z "$now" ]; then
-            sleep 1
+            sleep 3
             continue
         fi
         # shellcheck disable=SC2086
