@@ -10,12 +10,12 @@ ghost use Rattle.trial_line.specs.Line.{opening, movedEnd, lineOf};
 use sizes::Answer;
 
 // The refusal's number, or 0.
-fn refusal(answer: Answer) -> usize
+fn refusal(answer: Answer) -> u8
     ensures { λ r. ⌜ r ≡ said answer .refusal ⌝ }
 {
     match answer {
         Answer::Done(_) => 0,
-        Answer::Refused(x) => x.number() as usize,
+        Answer::Refused(x) => x.number(),
     }
 }
 
@@ -44,7 +44,7 @@ fn put_opening(op: u8, line: &mut [u8]) -> usize
 
 // The end of a line, from a place on: the bytes reported.
 fn put_moved(moved: usize, at: usize, line: &mut [u8]) -> usize
-    requires { ⌜ (at ≤ 19) × (length (now line) ≡ 48) ⌝ }
+    requires { ⌜ (at ≤ 20) × (length (now line) ≡ 48) ⌝ }
     ensures { λ r. ⌜ Wrote (now (line .entry)) at (movedEnd moved) (now (line .exit)) r ⌝ }
 {
     let place = text_lines::put_bytes(b" moved=", at, line);
@@ -59,6 +59,6 @@ pub fn put_call(op: u8, answer: Answer, line: &mut [u8]) -> usize
     ensures { λ r. ⌜ Wrote (now (line .entry)) 0 (lineOf op (said answer)) (now (line .exit)) r ⌝ }
 {
     let place = put_opening(op, line);
-    let end = text_lines::put_decimal(refusal(answer), place, line);
+    let end = text_lines::put_decimal(refusal(answer) as usize, place, line);
     put_moved(reported(answer), end, line)
 }

@@ -1,45 +1,64 @@
+-- `trial_line::put_moved` meets its contract: the pieces, one behind the other.
+-- Assumes nothing.
+use mathlib.Core.List.{List, [], _∷_, _++_}
+use Prim.Native.Nat.{ℕ, _+_, _≤_, _<_}
+use native.Mathlib.Omega.{arith}
+use lib.ListN.{length, length-append}
+use Rattle.board_spec.specs.Text.{decimal}
+use Rattle.text_lines.specs.Steps.{Wrote}
+use Rattle.text_lines.proofs.Writes.{same-room, room, then, more, less}
+use Rattle.trial_line.specs.Line.{movedEnd}
+use Rattle.trial_line.proofs.Line.{moved-most}
 use borrow.Author.Needs.{needs}
 use Rattle.trial_line.proofs.put_moved.Statement.{statement}
 use Rattle.trial_line.proofs.put_moved.Tie as tie
-use Rattle.trial_line.proofs.put_moved.Reads as reads
-use Rattle.trial_line.proofs.put_moved.Lts as lts
-use Rattle.text_lines.proofs.put_bytes.Reads as put-bytes-reads
-use Rattle.text_lines.proofs.put_decimal.Reads as put-decimal-reads
 
--- src/lib.rt:50:39
-slice-aggregate-put-bytes : tie.Need-slice-aggregate-put-bytes
-slice-aggregate-put-bytes c = search needs
+-- the name, and the name with the number
+abbrev name : List ℕ
+name = 0x20 ∷ 0x6D ∷ 0x6F ∷ 0x76 ∷ 0x65 ∷ 0x64 ∷ 0x3D ∷ []
 
--- src/lib.rt:50:9
-put-bytes-requires : tie.Need-put-bytes-requires
-put-bytes-requires c κs = search needs
+abbrev toMoved : ℕ → List ℕ
+toMoved v = name ++ decimal v
 
--- src/lib.rt:51:9
+-- where the call began, past the name, past the number
+abbrev st : tie.After-put-bytes → tie.Start
+st c = c .before .before .before .before
+
+abbrev named : tie.After-put-decimal → tie.After-put-bytes
+named c = c .before .before .before .before
+
+fits : (c : tie.Start) → c .args .at + length (movedEnd (c .args .moved)) ≤ length (c .args .line .now)
+fits c = omega (arith, moved-most (c .args .moved) (c .fits .moved .fits), c .pre .0, c .pre .1)
+
+by-moved : (c : tie.After-put-decimal)
+    → let a = st (named c) .args in Wrote (a .line .now) (a .at) (toMoved (a .moved)) (c .put-decimal .last .1 .1 .0) (c .put-decimal .result)
+by-moved c = let s = st (named c) in then (named c .put-bytes .ensures) (c .put-decimal .ensures) (less (toMoved (s .args .moved)) (0x0A ∷ []) _ _ (fits s))
+
 put-decimal-requires : tie.Need-put-decimal-requires
-put-decimal-requires c κs = ?
+put-decimal-requires c κs =
+    let p = c .before .before .before in
+    room (p .put-bytes .ensures) (decimal (st p .args .moved)) (less (toMoved (st p .args .moved)) (0x0A ∷ []) _ _ (fits (st p)))
 
--- src/lib.rt:52:5
 slice-write-line : tie.Need-slice-write-line
-slice-write-line c = ?
+slice-write-line c = let d = c .before .before in omega (arith, room (by-moved d) (0x0A ∷ []) (fits (st (named d))))
 
--- src/lib.rt:53:5
-add-result : tie.Need-add-result
-add-result c = ?
-
--- src/lib.rt:46:1
-same-length : tie.Need-same-length
-same-length c = ?
-
--- src/lib.rt:46:1
 returns : tie.Need-returns
-returns c = ?
+returns c = let d = c .before .before in more (by-moved d) 0x0A (fits (st (named d)))
+
+add-result : tie.Need-add-result
+add-result c =
+    let s = st (named (c .before .before)) in
+    omega (arith, returns c .ends, fits s, s .pre .1)
+
+same-length : tie.Need-same-length
+same-length c = same-room (returns c) (fits (st (named (c .before .before))))
 
 pub put-moved-spec : {M : Type 1} → statement M
 put-moved-spec =
     tie.close
     (tie.spec
-    slice-aggregate-put-bytes
-    put-bytes-requires
+    (λ c. search needs)
+    (λ c κs. search needs)
     put-decimal-requires
     slice-write-line
     add-result

@@ -1,91 +1,62 @@
+-- `trial_line::put_opening` meets its contract: each arm has its word.
+-- Assumes nothing.
+use mathlib.Core.Path.{_≡_, sym, ap, subst}
+use mathlib.Core.Logic.{_≢_}
+use mathlib.Core.List.{List}
+use Prim.Native.Nat.{ℕ}
+use borrow.Author.Tests.{ne-eqb}
+use Rattle.text_lines.specs.Steps.{Wrote}
+use Rattle.trial_line.specs.Line.{opening}
 use borrow.Author.Needs.{needs}
 use Rattle.trial_line.proofs.put_opening.Statement.{statement}
 use Rattle.trial_line.proofs.put_opening.Tie as tie
-use Rattle.trial_line.proofs.put_opening.Reads as reads
-use Rattle.trial_line.proofs.put_opening.Lts as lts
-use Rattle.text_lines.proofs.put_bytes.Reads as put-bytes-reads
 
--- src/lib.rt:38:36
-slice-aggregate-put-bytes : tie.Need-slice-aggregate-put-bytes
-slice-aggregate-put-bytes c = search needs
+-- of any other number the word is read
+other : (x : ℕ) → x ≢ 0 → x ≢ 1 → x ≢ 2 → opening x ≡ opening 3
+other x a b c = rw (ne-eqb x 0 a, ne-eqb x 1 b, ne-eqb x 2 c)
 
--- src/lib.rt:38:14
-put-bytes-requires : tie.Need-put-bytes-requires
-put-bytes-requires c κs = search needs
+-- what is written by the arm of a number
+by-arm : {l l2 : List ℕ} {e : ℕ} (op k : ℕ) → opening op ≡ opening k → Wrote l 0 (opening k) l2 e → Wrote l 0 (opening op) l2 e
+by-arm {l} {l2} {e} op k q w = subst (λ (a : List ℕ). Wrote l 0 a l2 e) (sym q) w
 
--- src/lib.rt:39:36
-slice-aggregate-put-bytes-2 : tie.Need-slice-aggregate-put-bytes-2
-slice-aggregate-put-bytes-2 c = search needs
-
--- src/lib.rt:39:14
-put-bytes-requires-2 : tie.Need-put-bytes-requires-2
-put-bytes-requires-2 c κs = search needs
-
--- src/lib.rt:40:36
-slice-aggregate-put-bytes-3 : tie.Need-slice-aggregate-put-bytes-3
-slice-aggregate-put-bytes-3 c = search needs
-
--- src/lib.rt:40:14
-put-bytes-requires-3 : tie.Need-put-bytes-requires-3
-put-bytes-requires-3 c κs = search needs
-
--- src/lib.rt:41:36
-slice-aggregate-put-bytes-4 : tie.Need-slice-aggregate-put-bytes-4
-slice-aggregate-put-bytes-4 c = search needs
-
--- src/lib.rt:41:14
-put-bytes-requires-4 : tie.Need-put-bytes-requires-4
-put-bytes-requires-4 c κs = search needs
-
--- src/lib.rt:33:1
-same-length : tie.Need-same-length
-same-length c = search needs
-
--- src/lib.rt:33:1
 returns : tie.Need-returns
-returns c = ?
+returns c =
+    let m = c .before .before .before .before .before in
+    by-arm (m .before .before .args .op) 0 (ap opening (m .match .keys1)) (c .before .before .put-bytes .ensures)
 
--- src/lib.rt:33:1
-same-length-2 : tie.Need-same-length-2
-same-length-2 c = search needs
-
--- src/lib.rt:33:1
 returns-2 : tie.Need-returns-2
-returns-2 c = ?
+returns-2 c =
+    let m = c .before .before .before .before .before in
+    by-arm (m .before .before .args .op) 1 (ap opening (m .match .keys2)) (c .before .before .put-bytes2 .ensures)
 
--- src/lib.rt:33:1
-same-length-3 : tie.Need-same-length-3
-same-length-3 c = search needs
-
--- src/lib.rt:33:1
 returns-3 : tie.Need-returns-3
-returns-3 c = ?
+returns-3 c =
+    let m = c .before .before .before .before .before in
+    by-arm (m .before .before .args .op) 2 (ap opening (m .match .keys3)) (c .before .before .put-bytes3 .ensures)
 
--- src/lib.rt:33:1
-same-length-4 : tie.Need-same-length-4
-same-length-4 c = search needs
-
--- src/lib.rt:33:1
 returns-4 : tie.Need-returns-4
-returns-4 c = ?
+returns-4 c =
+    let m = c .before .before .before .before .before in
+    let r = m .match .rest in
+    by-arm (m .before .before .args .op) 3 (other _ (r .0 .0 .1) (r .0 .1) (r .1)) (c .before .before .put-bytes4 .ensures)
 
 pub put-opening-spec : {M : Type 1} → statement M
 put-opening-spec =
     tie.close
     (tie.spec
-    slice-aggregate-put-bytes
-    put-bytes-requires
-    slice-aggregate-put-bytes-2
-    put-bytes-requires-2
-    slice-aggregate-put-bytes-3
-    put-bytes-requires-3
-    slice-aggregate-put-bytes-4
-    put-bytes-requires-4
-    same-length
+    (λ c. search needs)
+    (λ c κs. search needs)
+    (λ c. search needs)
+    (λ c κs. search needs)
+    (λ c. search needs)
+    (λ c κs. search needs)
+    (λ c. search needs)
+    (λ c κs. search needs)
+    (λ c. search needs)
     returns
-    same-length-2
+    (λ c. search needs)
     returns-2
-    same-length-3
+    (λ c. search needs)
     returns-3
-    same-length-4
+    (λ c. search needs)
     returns-4)
