@@ -6,16 +6,20 @@ use Prim.Native.Nat.{ℕ, zero, suc, _+_, _*_, _/_, _%_, _≤_, _<_}
 use native.Mathlib.Nat.{mod-lt, div-add-mod', zero-add, suc-add}
 use native.Mathlib.Numerals.{add-one}
 use native.Mathlib.Omega.{arith}
-use lib.ListN.{length, drop, set}
+use lib.ListN.{length, getD, drop, set}
 use lib.Seq.{drop-length}
 use Rattle.lists.specs.Lists.{Bytes, tabulate}
-use Rattle.lists.proofs.Pieces.{fill-loop, fill-all}
+use Rattle.lists.proofs.Pieces.{fill-loop, fill-all, tabulate-at}
 use Rattle.generator.specs.Generator.{step, topByte, after, emitted}
 use Rattle.generator.specs.Laws.{GeneratorLaws}
 
 pub word : (state : ℕ) → step state < 4294967296
 unfolding step
 word state = mod-lt (state * 1664525 + 1013904223) (omega arith)
+
+step-is : (state : ℕ) → (q : ℕ) × (state * 1664525 + 1013904223 ≡ q * 4294967296 + step state)
+unfolding step
+step-is state = let n = state * 1664525 + 1013904223 in (n / 4294967296, sym (div-add-mod' n 4294967296))
 
 pub top-byte : (state : ℕ) → state < 4294967296 → topByte state < 256
 top-byte state h = let q = div-add-mod' state 16777216 in omega (arith, q, h)
@@ -49,6 +53,12 @@ emitted-at : (m state : ℕ) → emitted m state ≡ tabulate m (byteAt state)
 emitted-at zero state = refl
 emitted-at (suc m) state = ap {B = List ℕ} (λ l. topByte (step state) ∷ l) (emitted-at m (step state))
 
+emits : (m i state : ℕ) → i < m → getD (emitted m state) i 0 ≡ after (i + 1) state / 16777216
+emits m i state h =
+    ap (λ (l : List ℕ). getD l i 0) (emitted-at m state)
+    ∙ tabulate-at m (byteAt state) 0 i h
+    ∙ ap topByte (sym (after-one i state))
+
 pub filled : (state : ℕ) (out₀ out : List ℕ) (t : ℕ) → length out₀ ≤ t → out ≡ tabulate t (byteAt state) ++ drop t out₀ → t ≤ length out₀ → out ≡ emitted (length out₀) state
 filled state out₀ out t h e k =
     let q : t ≡ length out₀ = omega (arith, h, k) in
@@ -57,9 +67,13 @@ filled state out₀ out t h e k =
 pub generator-laws : GeneratorLaws
 unfolding step
 generator-laws = record {
+  step-is = step-is;
   word = word;
   bytes = bytes;
   long = long;
+  emits = emits;
+  none-first = λ state. refl;
+  one-more = after-one;
   onward = onward;
   after-onward = after-onward;
   seed-0 = refl;
