@@ -1,3 +1,3 @@
 pub mod Laws
 pub mod Figures
-pub mod Draws
+pub mod DrawLaws

@@ -1,4 +1,4 @@
 pub mod Trial
 pub mod Laws
 pub mod Figures
-pub mod Draws
+pub mod DrawLaws

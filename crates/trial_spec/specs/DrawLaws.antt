@@ -1,4 +1,4 @@
--- What holds of each part of the trial, for all numbers and lists: what is read, what each draw picks, and what is printed. proofs/Draws.antt has
+-- What holds of each part of the trial, for all numbers and lists: what is read, what each draw picks, and what is printed. proofs/DrawLaws.antt has
 -- `draw-laws : DrawLaws`.
 -- Assumes nothing.
 use mathlib.Core.Path.{_≡_}

@@ -1,4 +1,4 @@
--- The laws of specs/Draws.antt: each part of the trial, for all numbers and lists.
+-- The laws of specs/DrawLaws.antt: each part of the trial, for all numbers and lists.
 -- Assumes nothing.
 use mathlib.Core.Path.{_≡_, refl, sym, ap, ap₂, _∙_}
 use mathlib.Core.Bool.{Bool, true, false}
@@ -22,7 +22,7 @@ use Rattle.printer.proofs.Forms.{line-taken, step}
 use Rattle.store_spec.specs.Ledger.{Call, write, lose, repair, read, Reply, State, act, replyOf, left}
 use Rattle.generator.specs.Generator.{after, emitted}
 use Rattle.trial_spec.specs.Trial.{Load, eightLines, taken, loaded, Drawn, counted, boardCall, drawn, drawnCalls, word, callLine, printed, storeReplies}
-use Rattle.trial_spec.specs.Draws.{Eight, Numbers, asks, spelt, Asked, byte, CountsOn, SameForEach, Repairs, Reads, before, numbers, DrawLaws}
+use Rattle.trial_spec.specs.DrawLaws.{Eight, Numbers, asks, spelt, Asked, byte, CountsOn, SameForEach, Repairs, Reads, before, numbers, DrawLaws}
 
 -- ---- what is read
 
