@@ -15,6 +15,7 @@ zbk: share texts of a file on shelf boards, by the proved archive
                                  the text of one board
   zbk sizes N                    all legal sizes with at most N boards
   zbk print                      what the share printer writes for its input
+  zbk trial SEED                 a load on a store, the same wherever it is run
 
 'zbk COMMAND --help' says more. - stands for standard input where a file or
 texts are read, and for standard output where they are written. A file whose
@@ -133,6 +134,40 @@ refused= with the number.
                          points= after node=
 @COMMON";
 
+const TRIAL: &str = "\
+zbk trial SEED [--boards N] [--read K] [--helpers D] [--fresh R]
+          [--capacity C] [--length L] [--calls COUNT] [--lines]
+zbk trial - <LINES
+zbk trial --file SEED LENGTH [-o FILE] [--force]
+
+Draws calls from a number and makes them, on a store in memory: writes, losses,
+repairs and reads. Prints a line for each as it is made, op= with its word,
+answer= with the refusal or 0, moved= with the bytes moved or 0. The same numbers
+give the same lines wherever they are run, and the program trial writes them too.
+A load that is not taken is one line refused=1, on standard output.
+
+SEED is 0 to 4294967295. The sizes are 12, 6, 8 and 2 where nothing else is said.
+
+  -n, --boards N         boards, at most 32
+  -k, --read K           boards that give the file back
+  -d, --helpers D        helpers of each fresh board, at least K
+  -r, --fresh R          boards rebuilt together, at least 1; D + R is at most N
+      --capacity C       stripes that the store has room for; as many as 32768
+                         bytes of area hold where nothing is said
+      --length L         bytes of each file written, at most 16384; as many as the
+                         store has room for where nothing is said
+      --calls COUNT      calls, at most 4294967295; 1000 where nothing is said
+      --lines            prints the lines n= k= d= r= C= seed= length= calls= that
+                         the program trial reads for this load, and makes no call
+
+With - these lines are read from standard input, and no number is named.
+
+      --file             writes the trial file of SEED instead: LENGTH bytes, the
+                         same wherever they are drawn
+  -o, --output FILE      where that file is written
+  -f, --force            replaces FILE where it is there
+@COMMON";
+
 /// The help of a command; none where there is no such command.
 fn of(command: &str) -> Option<&'static str> {
     Some(match command {
@@ -143,6 +178,7 @@ fn of(command: &str) -> Option<&'static str> {
         "share" => SHARE,
         "sizes" => SIZE_LINES,
         "print" => PRINT,
+        "trial" => TRIAL,
         _ => return None,
     })
 }
