@@ -169,8 +169,8 @@ while [ $place -le 8 ]; do
     old=$(sed -n "${place}p" "$work/known")
     name=${old%%=*}
     number=${old#*=}
-    lower=$(printf %s "$name" | tr A-Z a-z)
-    upper=$(printf %s "$name" | tr a-z A-Z)
+    lower=$(printf %s "$name" | tr '[:upper:]' '[:lower:]')
+    upper=$(printf %s "$name" | tr '[:lower:]' '[:upper:]')
     [ "$name" = "$lower" ] || spoilt $place "lower case" "$lower=$number\n"
     [ "$name" = "$upper" ] || spoilt $place "upper case" "$upper=$number\n"
     spoilt $place "another name" "x=$number\n"
