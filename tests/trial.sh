@@ -149,17 +149,17 @@ taken 4 2 2 1 3 5 13 5000
 for calls in 4294967296 4294967297 18446744073709551616 18446744073709551617; do refused 4 2 2 1 3 5 13 $calls; done
 # each number as another one that is the same modulo 2 to the 8, to the 32 and to the 64, and with very many digits
 for place in 1 2 3 4 5 6 7 8; do
-    set -- 4 2 2 1 1 81 5 8
+    set -- 4 2 2 1 1 3081 5 8
     eval "number=\${$place}"
-    for other in $((number + 256)) $((number + 4294967296)) "$(echo "18446744073709551616 $number" | awk '{ print substr($1, 1, 17) substr($1, 18) + $2 }')" \
-        9999999999999999999999 1000000000000000000000000000000000000000; do
+    for other in $((number + 256)) $((number + 4294967296)) 18446744073709$((number + 551616)) 9999999999999999999999 1000000000000000000000000000000000000000; do
         awk -v place=$place -v other="$other" -F= 'NR == place { $0 = $1 "=" other } { print }' "$work/known" >"$in"
         # 256 more is a seed, a length and a number of calls as good as others
         if [ "$other" = $((number + 256)) ] && [ "$place" -ge 5 ]; then compared "number $place as $other"; else settled "number $place as $other" refused; fi
     done
 done
 
-# malformed lines, each of the eight in each way; `old` is the line, `new` what stands in its place, in the form of printf
+# malformed lines, each of the eight in each way
+# spoilt PLACE NAME NEW: the line of this place is another one, as printf would write it
 spoilt() {
     awk -v place="$1" -v new="$3" 'NR == place { printf "%s", new; next } { print }' "$work/known" >"$in"
     settled "line $1: $2" refused
@@ -202,7 +202,7 @@ while [ $place -le 8 ]; do
     spoilt $place "hexadecimal" "$name=0x$number\n"
     spoilt $place "a byte below 0" "$name=$number/\n"
     spoilt $place "a byte above 9" "$name=$number:\n"
-    spoilt $place "a byte of two" "$name=\342\221\240\n"
+    spoilt $place "a digit of three bytes" "$name=\342\221\240\n"
     spoilt $place "it is missing" ""
     spoilt $place "it stands twice" "$old\n$old\n"
     if [ $place -lt 8 ]; then
