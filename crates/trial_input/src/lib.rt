@@ -1,11 +1,8 @@
 //! Request A.2: what the trial program reads. The eight lines of numbers, just these, or nothing is taken.
 ghost use mathlib.Core.Path.{_≡_};
-ghost use mathlib.Core.List.{[], _∷_};
-ghost use lib.Dec.{leb, eqb};
-ghost use Rattle.lists.specs.Tests.{alls};
-ghost use Rattle.mbcr.specs.Share.{standard};
-ghost use Rattle.store_spec.specs.Record.{newRecord, areaLen};
-ghost use Rattle.store_spec.specs.Calls.{setUpCall};
+ghost use Prim.Native.Nat.{_*_};
+ghost use Rattle.sizes.specs.Sizing.{α};
+ghost use Rattle.store_checks.specs.Steps.{Bounded};
 ghost use Rattle.trial_spec.specs.Trial.{taken, loaded};
 ghost use Rattle.trial_input.specs.Steps.{sizesAt, numbersAt, numbersIn, setUp, loadedIn};
 use sizes::Check;
@@ -92,6 +89,14 @@ fn numbers_at(text: &[u8]) -> Eight
     }
 }
 
+// The bytes of the area of a store of these sizes and this capacity.
+pub fn area_len(sizes: Sizes, capacity: usize) -> usize
+    requires { ⌜ Bounded sizes capacity ⌝ }
+    ensures { λ r. ⌜ r ≡ sizes .n * (capacity * α sizes) ⌝ }
+{
+    sizes.n * (capacity * sizes.share_len())
+}
+
 // Whether a store of these sizes and this capacity is set up, and its area has at most 32,768 bytes.
 fn set_up(sizes: Sizes, capacity: usize) -> bool
     ensures { λ r. ⌜ r ≡ setUp sizes capacity ⌝ }
@@ -100,7 +105,7 @@ fn set_up(sizes: Sizes, capacity: usize) -> bool
     if let Check::Refuse(_) = record_checks::check_set_up(sizes, &points, capacity) {
         return false;
     }
-    sizes.n * (capacity * sizes.share_len()) <= 32768
+    area_len(sizes, capacity) <= 32768
 }
 
 // Whether these numbers are taken.
