@@ -36,7 +36,7 @@ tables=$(ls crates/*/specs/*Figures.antt)
 claims=$(ls crates/*/specs/*Laws.antt crates/*/specs/Demand?.antt crates/*/specs/Stripes.antt crates/*/specs/Premises.antt crates/*/specs/Gives.antt crates/*/specs/Claims.antt crates/*/specs/Tight.antt crates/*/specs/Runs.antt)
 definitions=$(ls crates/*/specs/*.antt | grep -v -e '/Lib.antt$')
 # what only inner functions cite: no public call's contract rests on it
-inner=$(ls crates/*/specs/Steps.antt crates/gf256_mul/specs/Tables.antt crates/trial_calls/specs/Acts.antt crates/trial_turn/specs/Turn.antt crates/trial_turn/specs/Walk.antt crates/trial/specs/Printing.antt)
+inner=$(ls crates/*/specs/Steps.antt crates/gf256_mul/specs/Tables.antt crates/trial_calls/specs/Acts.antt crates/trial_turn/specs/Turn.antt crates/trial_turn/specs/Walk.antt crates/trial/specs/Printing.antt crates/trial_line/specs/Line.antt)
 # the archive's words, beside the calls that they are for
 archive='crates/answer_word/specs/Answers.antt crates/record_words/specs/Words.antt crates/text_words/specs/Words.antt crates/archive_spec/specs/Archive.antt crates/archive_spec/specs/Lent.antt crates/archive_spec/specs/Texts.antt'
 # what a later request defines in files of its own, each with its most lines; they are not among the 745, which are 700 for the base with its points

@@ -37,7 +37,7 @@ module _ (file : List ℕ) (board : ℕ) (fresh helpers boards output : List ℕ
   by-tests false false false = sym (regroup (opening 3) a)
 
 -- what is drawn, with the test of the kind inside
-call-of : (l : Load) (state : ℕ) → let op = topByte (step state) % 4 in drawn l state .call
+pub call-of : (l : Load) (state : ℕ) → let op = topByte (step state) % 4 in drawn l state .call
     ≡ pick (eqb op 0) (write (emitted (l .length) (step state))) (boardCall l op (topByte (step (step state)) % l .sizes .n))
 unfolding drawn
 call-of l state = by (eqb (topByte (step state) % 4) 0)

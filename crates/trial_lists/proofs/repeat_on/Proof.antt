@@ -66,7 +66,7 @@ loop-again c =
     let l = i .before .loop in
     let a = st i .args in (
       join-loop (run (a .n) (a .first) (a .d)) (a .d) (l .t) (a .out .now) (l .out) _ (λ j h. length-tabulate (a .d) _)
-      (k .count-on .ensures ∙ ap (counted (a .n) (a .first)) (part i)) (l .inv .0),
+          (k .count-on .ensures ∙ ap (counted (a .n) (a .first)) (part i)) (l .inv .0),
       omega arith,
       search needs,
     )
