@@ -16,6 +16,7 @@
  * - It answers one number. zbk_refusal(answer) is 0 where the call was accepted, else the refusal's number. zbk_value(answer) is what an
  *   accepted call reports: the bytes written by a board-level call, the bytes of a text that make sense by zbk_text_prefix, the bytes moved by a
  *   repair, else 0.
+ *   zbk_trial_file alone answers no such number: it refuses nothing, and gives a state.
  * - After a refusal no word of the record and no byte of any buffer has changed.
  * - It keeps nothing between calls and allocates nothing.
  *
@@ -204,6 +205,14 @@ uint64_t zbk_repair(uint64_t *record, size_t record_words, uint8_t *area, size_t
 /* Reads the file from k boards into the first bytes of out; the rest of out stays. What record and area say does not change. */
 uint64_t zbk_read(uint64_t *record, size_t record_words, const uint8_t *area, size_t area_len, const size_t *boards, size_t boards_count,
                   uint8_t *out, size_t out_len);
+
+/* The trial file: bytes that all draw alike from one number, for trials alone. */
+
+/* Fills all of out with the bytes that a generator emits with `seed` as its starting state, and gives the state after them. Each step replaces the
+ * state by state * 1664525 + 1013904223, modulo 2^32, and emits the top eight bits of the new one. The state that it gives goes on as the seed of
+ * the next call: the parts of a longer file, of any lengths, are the whole one after another. Refuses nothing, so zbk_refusal and zbk_value are not
+ * for what it gives; where out has no bytes it gives the seed. */
+uint32_t zbk_trial_file(uint32_t seed, uint8_t *out, size_t out_len);
 
 #ifdef __cplusplus
 }

@@ -26,7 +26,7 @@ in_c() {
     sed 's,//.*,,' "$@" | tr '\n\t' '  ' | awk -v pattern="$pattern" '
         BEGIN {
             longer["len"] = "length"; longer["ws"] = "record"; longer["exchanges"] = "partner_packets"; longer["standins"] = "stand_ins"
-            element["u8"] = "uint8_t"; element["u64"] = "uint64_t"; element["usize"] = "size_t"
+            element["u8"] = "uint8_t"; element["u32"] = "uint32_t"; element["u64"] = "uint64_t"; element["usize"] = "size_t"
             counted["u8"] = "_len"; counted["u64"] = "_words"; counted["usize"] = "_count"
         }
         function trimmed(s) { gsub(/^ +| +$/, "", s); gsub(/ +/, " ", s); return s }
@@ -58,7 +58,7 @@ in_c() {
                     at = index(list[i], ":")
                     line = line (line == "" ? "" : ", ") parameter(trimmed(substr(list[i], 1, at - 1)), trimmed(substr(list[i], at + 1)))
                 }
-                # what stands behind the parameters; in tests/names every name answers one word
+                # what stands behind the parameters; in tests/names a name that says nothing else answers one word
                 answer = "uint64_t"
                 if (match($0, /^ *-> *[a-z0-9]+/)) {
                     answer = substr($0, RSTART, RLENGTH)

@@ -36,17 +36,17 @@ tables=$(ls crates/*/specs/*Figures.antt)
 claims=$(ls crates/*/specs/*Laws.antt crates/*/specs/Demand?.antt crates/*/specs/Stripes.antt crates/*/specs/Premises.antt crates/*/specs/Gives.antt crates/*/specs/Claims.antt crates/*/specs/Tight.antt crates/*/specs/Runs.antt)
 definitions=$(ls crates/*/specs/*.antt | grep -v -e '/Lib.antt$')
 # what only inner functions cite: no public call's contract rests on it
-inner=$(ls crates/*/specs/Steps.antt crates/gf256_mul/specs/Tables.antt)
+inner=$(ls crates/*/specs/Steps.antt crates/gf256_mul/specs/Tables.antt crates/trial_calls/specs/Acts.antt crates/trial_turn/specs/Turn.antt crates/trial_turn/specs/Walk.antt crates/trial/specs/Printing.antt crates/trial_line/specs/Line.antt)
 # the archive's words, beside the calls that they are for
 archive='crates/answer_word/specs/Answers.antt crates/record_words/specs/Words.antt crates/text_words/specs/Words.antt crates/archive_spec/specs/Archive.antt crates/archive_spec/specs/Lent.antt crates/archive_spec/specs/Texts.antt'
 # what a later request defines in files of its own, each with its most lines; they are not among the 745, which are 700 for the base with its points
 # and 45 for what stand-ins (request A.3) add to the base's own definitions
-requests='crates/size_list/specs/Combinations.antt:45 crates/text_spec/specs/Texts.antt:63 crates/text_spec/specs/Calls.antt:49 crates/prefix_spec/specs/Prefix.antt:56'
+requests='crates/size_list/specs/Combinations.antt:45 crates/text_spec/specs/Texts.antt:63 crates/text_spec/specs/Calls.antt:49 crates/prefix_spec/specs/Prefix.antt:56 crates/generator/specs/Generator.antt:10 crates/trial_spec/specs/Trial.antt:78'
 later=$(for f in $requests; do echo "${f%:*}"; done)
 for f in $tables $claims $inner $archive $later; do definitions=$(printf '%s\n' $definitions | grep -vxF "$f"); done
 for f in $inner; do
     crate=${f#crates/} name=$(basename "$f" .antt)
-    ! grep -l "·${crate%%/*}.*specs\.$name\." $(ls crates/board_*/specs/*.antt crates/store_spec/specs/*.antt crates/mbcr/specs/*.antt crates/text_spec/specs/*.antt crates/prefix_spec/specs/*.antt \
+    ! grep -l "·${crate%%/*}.*specs\.$name\." $(ls crates/board_*/specs/*.antt crates/store_spec/specs/*.antt crates/mbcr/specs/*.antt crates/text_spec/specs/*.antt crates/prefix_spec/specs/*.antt crates/generator/specs/*.antt crates/trial_spec/specs/*.antt \
         crates/record_words/specs/*.antt crates/store/specs/*.antt crates/archive_spec/specs/*.antt | grep -v '/Steps.antt$') >/dev/null 2>&1 \
         || complain "a definition rests on the inner $f"
 done

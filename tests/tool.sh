@@ -1,6 +1,7 @@
 #!/bin/sh
 # The service bench's tool (tools/zbk), as a person uses it: files spread, texts deleted, gathered, boards rebuilt; texts damaged at each kind of
-# place; pipes, help, exit codes, files that are there and files that cannot be written; and its printers against the unrelated coder's answers.
+# place; pipes, help, exit codes, files that are there and files that cannot be written; and its printers and trial loads against the unrelated
+# coder's answers.
 # Builds the tool with the archive that is proved, or with the one that ZBK_ARCHIVE names. Ends with exit code 1 where something is not as it must be.
 set -eu
 cd "$(dirname "$0")/.."
@@ -76,7 +77,7 @@ for again in help -h --help; do
     whole "$own/out" "$own/help"
 done
 try 0 --version
-for command in spread gather rebuild look share sizes print; do
+for command in spread gather rebuild look share sizes print trial; do
     try 0 "$command" --help
     out "zbk $command"
     [ ! -s "$own/said" ] || fail "$what: it said something"
@@ -900,5 +901,199 @@ said 'NODE (5): board 8, but there are boards 0 to 7'
 [ "$(cat "$own/out")" = refused=5 ] || fail "$what: another answer"
 try 0 share stock -n 8 -k 4 -d 6 -r 2 --board 3 -p first-series -o text
 whole text first/board-3.txt
+
+# ---- trial loads: by the archive's calls, and by the coder's own generator and ledger
+# by_lines STATUS: the load whose lines are in `load`, read from standard input
+by_lines() {
+    what="trial - of $(tr '\n' ' ' <load)"
+    status=0
+    "$coder" --trial <load >"$own/due"
+    "$zbk" trial - <load >"$own/out" 2>"$own/said" || status=$?
+    [ $status -eq "$1" ] || fail "$what: exit code $status, not $1"
+    whole "$own/out" "$own/due"
+    passed=$((passed + 1))
+}
+# loaded WORDS..: the load of these words, and of its lines
+loaded() {
+    try 0 trial "$@" --lines
+    cp "$own/out" load
+    by_lines 0
+    try 0 trial "$@"
+    whole "$own/out" "$own/due"
+    [ ! -s "$own/said" ] || fail "$what: it said something"
+}
+try 0 trial 3081 -n 4 -k 2 -d 2 -r 1 --capacity 1 --length 5 --calls 8
+cat >"$own/due" <<'LINES'
+op=repair answer=8 moved=0
+op=read answer=8 moved=0
+op=write answer=0 moved=0
+op=lose answer=0 moved=0
+op=repair answer=14 moved=0
+op=read answer=0 moved=0
+op=read answer=9 moved=0
+op=repair answer=0 moved=4
+LINES
+whole "$own/out" "$own/due"
+# what is taken where nothing is said
+try 0 trial 7 --lines
+printf 'n=12\nk=6\nd=8\nr=2\nC=160\nseed=7\nlength=11520\ncalls=1000\n' >"$own/due"
+whole "$own/out" "$own/due"
+try 0 trial 7 --lines -n 2 -k 1 -d 1 -r 1
+printf 'n=2\nk=1\nd=1\nr=1\nC=4096\nseed=7\nlength=8192\ncalls=1000\n' >"$own/due"
+whole "$own/out" "$own/due"
+try 0 trial 7 --lines -n 4 -k 3 -d 3 -r 1
+printf 'n=4\nk=3\nd=3\nr=1\nC=1365\nseed=7\nlength=16380\ncalls=1000\n' >"$own/due"
+whole "$own/out" "$own/due"
+try 0 trial 7 --lines -n 4 -k 2 -d 3 -r 1 --capacity 9
+out 'length=90'
+for seed in 0 1 4294967295; do
+    loaded $seed --calls 100
+    loaded $seed -n 3 -k 1 -d 1 -r 2 --capacity 40 --length 77 --calls 300
+done
+loaded 5 -n 32 -k 31 -d 31 -r 1 --calls 20
+loaded 6 -n 32 -k 8 -d 24 -r 8 --calls 20
+loaded 7 --length 0 --calls 60
+loaded 8 --capacity 1 --length 72 --calls 60
+loaded 9 --capacity 1 --length 73 --calls 60
+out 'op=write answer=3 moved=0'
+loaded 10 --length 16384 --calls 60
+loaded 11 --calls 0
+[ ! -s "$own/out" ] || fail "$what: it wrote something"
+loaded 11 --calls 1 -q
+case=0
+met=
+while [ $case -lt 80 ]; do
+    "$coder" --seed 3 --load $case >load
+    if [ "$("$coder" --trial <load)" = refused=1 ]; then
+        met="$met refused"
+        by_lines 1
+        said 'refused, SIZE (1): '
+    else
+        by_lines 0
+        if grep -q '^op=repair .*moved=[1-9]' "$own/out"; then met="$met repaired"; fi
+    fi
+    case=$((case + 1))
+done
+case "$met" in *refused*repaired*refused*) ;; *) fail "the drawn loads met too little: $met" ;; esac
+# refused, on standard output as the program does, and in words
+echo refused=1 >"$own/due"
+no_load() {
+    words=$1
+    shift
+    try 1 trial "$@"
+    said "refused, SIZE (1): $words"
+    whole "$own/out" "$own/due"
+    try 1 trial "$@" --lines
+    whole "$own/out" "$own/due"
+}
+no_load 'the seed is at most 4294967295, not 4294967296' 4294967296
+no_load 'the seed is at most 4294967295, not 18446744073709551615 or more' 99999999999999999999
+no_load '4294967296 calls; a trial has at most 4294967295' 1 --calls 4294967296
+no_load 'a file of 16385 bytes; a trial'\''s has at most 16384' 1 --length 16385
+no_load 'the capacity is 1 to 4096 stripes, not 0' 1 --capacity 0
+no_load 'the capacity is 1 to 4096 stripes, not 4097' 1 -n 2 -k 1 -d 1 -r 1 --capacity 4097
+no_load 'the area for 161 stripes has 32844 bytes; a trial'\''s has at most 32768, here for 160 stripes' 1 --capacity 161
+no_load 'the area for 331 stripes has 32769 bytes; a trial'\''s has at most 32768, here for 330 stripes' 1 -n 11 -k 1 -d 4 -r 2 --capacity 331
+no_load '33 boards are more than 32' 1 -n 33
+no_load '8 helpers and 2 fresh boards are more than 8 boards' 1 -n 8
+no_load '9 boards read are more than 8 helpers' 1 -k 9
+for input in '' 'n=4\n' 'n=4\nk=2\nd=2\nr=1\nC=1\nseed=3081\nlength=5\ncalls=8' 'n=4\nk=2\nd=2\nr=1\nc=1\nseed=3081\nlength=5\ncalls=8\n' \
+    'n=4\nk=2\nd=2\nr=1\nC=1\nseed=03081\nlength=5\ncalls=8\n' 'n=4\nk=2\nd=2\nr=1\nC=1\nseed=3081\nlength=5\ncalls=8\n\n'; do
+    # shellcheck disable=SC2059 # the format is the input
+    printf "$input" >load
+    by_lines 1
+    said 'the input is not just the lines n=, k=, d=, r=, C=, seed=, length=, calls=, each with a number'
+done
+# words that make no sense
+try 2 trial
+said 'name a seed, or - for the lines of a load'
+try 2 trial 1 2
+try 2 trial one
+said 'SEED one: not a number'
+try 2 trial 1 --calls many
+said '--calls many: not a number'
+try 2 trial 1 --calls 1 --calls 2
+said 'twice'
+try 2 trial 1 -o lines
+said '--output and --force are for --file'
+try 2 trial 1 --points standard
+try 2 trial - --calls 5
+said 'the lines of standard input say all numbers'
+# the trial file, by awk too: no product has more digits than it keeps
+drawn() {
+    awk -v state="$1" -v count="$2" 'BEGIN {
+        while (count-- > 0) { state = (state * 1664525 + 1013904223) % 4294967296; printf "%02x\n", int(state / 16777216) }
+    }'
+}
+pairs() { od -An -v -tx1 | tr -s ' ' '\n' | sed '/^$/d'; }
+for file in '0 0' '0 1' '0 6' '1 6' '4294967295 3' '3081 1000' '5 65535' '6 65536' '7 65537' '8 200000'; do
+    # shellcheck disable=SC2086 # a seed and a length
+    try 0 trial --file $file
+    # shellcheck disable=SC2086
+    drawn $file >"$own/due"
+    pairs <"$own/out" | cmp -s - "$own/due" || fail "$what: another file"
+    mv "$own/out" "$own/file"
+    # shellcheck disable=SC2086
+    try 0 trial --file $file -o drawn --force
+    whole drawn "$own/file"
+done
+try 0 trial --file 0 6
+[ "$(pairs <"$own/out" | tr -d '\n')" = 3c47d1aa629f ] || fail "$what: another file"
+try 1 trial --file 1 5 -o drawn
+said 'drawn is there already; --force replaces it'
+whole drawn "$own/file"
+rm drawn
+try 0 trial --file 1 5 -o drawn
+try 1 trial --file 1 5 -o kept
+said 'cannot write kept: it is a folder'
+try 1 trial --file 4294967296 5
+said 'the seed is at most 4294967295, not 4294967296'
+[ ! -s "$own/out" ] || fail "$what: it wrote something"
+try 2 trial --file 1
+said '--file: name a seed and a length'
+try 2 trial --file 1 x
+said 'LENGTH x: not a number'
+try 2 trial --file 1 5 --calls 5
+said '--file takes a seed and a length, and no numbers of a load'
+try 2 trial --file 1 5 --lines
+if [ -e /dev/full ]; then
+    try 1 trial --file 1 5 -o /dev/full
+    said 'cannot write /dev/full: no space left'
+    for endless in '1 --calls 4294967295' '--file 1 99999999999999'; do
+        what="trial $endless to a full device"
+        status=0
+        # shellcheck disable=SC2086
+        timeout 60 "$zbk" trial $endless >/dev/full 2>"$own/said" || status=$?
+        [ $status -eq 1 ] || fail "$what: exit code $status"
+        said 'cannot write to standard output: no space left'
+        passed=$((passed + 1))
+    done
+fi
+# a reader that goes away: it has the first lines as they are made, and the tool ends and says nothing
+# first BYTES WORDS..: so many bytes of what the tool writes
+first() {
+    bytes=$1
+    shift
+    what="trial $* to a reader of $bytes bytes"
+    { status=0; timeout 60 "$zbk" trial "$@" 2>"$own/said" || status=$?; echo $status >"$own/status"; } | head -c "$bytes" >"$own/out"
+    [ "$(cat "$own/status")" -eq 1 ] || fail "$what: exit code $(cat "$own/status")"
+    [ ! -s "$own/said" ] || fail "$what: it said something"
+    [ "$(wc -c <"$own/out")" -eq "$bytes" ] || fail "$what: other bytes"
+    passed=$((passed + 1))
+}
+small='3 -n 4 -k 2 -d 2 -r 1 --capacity 2 --length 9 --calls 4294967295'
+# shellcheck disable=SC2086
+try 0 trial $small --lines
+mv "$own/out" load
+"$coder" --trial <load 2>/dev/null | head -c 100000 >"$own/due"
+# shellcheck disable=SC2086
+first 100000 $small
+whole "$own/out" "$own/due"
+# shellcheck disable=SC2086
+first 1 $small
+first 100000 --file 3081 99999999999999
+pairs <"$own/out" >"$own/file"
+drawn 3081 100000 | cmp -s - "$own/file" || fail "$what: another file"
+[ -z "$(find . -name '.*zbk*')" ] || fail "a temporary file is left"
 
 echo "tool: $passed passed, 0 failed"

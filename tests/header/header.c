@@ -1,5 +1,5 @@
 /*
- * header.c: include/zebrankai.h held to the archive, in C11 and in C++11. Each constant is held to its number, written out here; each of the fourteen
+ * header.c: include/zebrankai.h held to the archive, in C11 and in C++11. Each constant is held to its number, written out here; each of the fifteen
  * calls is made with arguments that differ, and its whole answer, every word and every byte that it was lent, and those behind, are held to what must
  * stand there; and each refusal is brought about and held to its name.
  *
@@ -291,6 +291,31 @@ static void texts(const uint8_t *points) {
     says(__LINE__, "n=2\nk=1\nd=1\nr=1\nnode=0\nlength=1\nshare", 32);
 }
 
+/* ---- the trial file */
+
+/* The bytes from this state on, in parts of these lengths, and the state after them; a call writes just what it is lent. */
+static void drawn(int line, uint32_t seed, size_t first, size_t second, const char *pairs, uint32_t after) {
+    uint8_t due[ROOM];
+    const size_t count = from_pairs(pairs, due);
+    const uint32_t between = zbk_trial_file(seed, out, first);
+    bytes_are(line, "another first part of a trial file", out, due, first, BLANK, ROOM);
+    check(line, first > 0 || between == seed, "no bytes give another state than the seed");
+    const uint32_t state = zbk_trial_file(between, out + first, second);
+    check(line, first + second == count && state == after, "another state after a trial file");
+    bytes_are(line, "another trial file", out, due, count, BLANK, ROOM);
+    memset(out, BLANK, ROOM);
+}
+
+static void trial_files(void) {
+    for (size_t first = 0; first <= 6; first++) {
+        drawn(__LINE__, 0, first, 6 - first, "3c47d1aa629f", 0x9F2EC686);
+        drawn(__LINE__, 1, first, 6 - first, "3c5e81b40c5e", 0x5E98C13F);
+    }
+    drawn(__LINE__, 4294967295, 3, 0, "3c3022", 0x2283EC54);
+    drawn(__LINE__, 4294967295, 1, 2, "3c3022", 0x2283EC54);
+    drawn(__LINE__, 4294967295, 0, 0, "", 4294967295);
+}
+
 /* ---- the store */
 
 /* What a record must say: each word by its name, and the two words behind it as they were. */
@@ -469,6 +494,7 @@ int main(void) {
     shares_and_files(points);
     packets(points);
     texts(points);
+    trial_files();
     store();
     both_lost(points);
     limits();

@@ -48,7 +48,7 @@ module _ {A : Type 0} (bad : A) where
       line-taken name (decimal x) (decimal-number x) input go ∙ ap (λ (v : ℕ). go v input) (text-laws .decimal-value x)
 
   -- a line in its form and then something else, or malformed
-  step : {P : Type 0} (name input : List ℕ) (go : ℕ → List ℕ → A) → ((s : Begins name input) → P ⊎ (go (value (s .figures) 0) (s .behind) ≡ bad))
+  pub step : {P : Type 0} (name input : List ℕ) (go : ℕ → List ℕ → A) → ((s : Begins name input) → P ⊎ (go (value (s .figures) 0) (s .behind) ≡ bad))
       → P ⊎ (line bad (name ++ (0x3D ∷ [])) input go ≡ bad)
   step name input go f =
       ⊎-elim

@@ -8,49 +8,6 @@ ghost use Rattle.size_list.specs.Combinations.{combinations, rows};
 use size_rows::Run;
 use size_steps::Place;
 
-// What a read of one byte gave.
-enum Got {
-    Byte(u8),
-    End,
-    Failed,
-}
-
-fn read_byte() -> Got {
-    let mut byte = [0u8; 1];
-    let got = libc::read(0, &mut byte);
-    if got < 0 {
-        return Got::Failed;
-    }
-    if got == 0 {
-        return Got::End;
-    }
-    Got::Byte(byte[0])
-}
-
-// Reads to the end of the input or until the slice is full, and answers how many bytes came. A read that failed counts as a full slice, which holds
-// no limit.
-fn read_input(input: &mut [u8]) -> usize
-    ensures { λ r. ⌜ r ≤ length (now (input .exit)) ⌝ }
-{
-    let mut done: usize = 0;
-    while done < input.len() {
-        let got = read_byte();
-        match got {
-            Got::Byte(b) => {
-                input[done] = b;
-                done += 1;
-            }
-            Got::End => {
-                return done;
-            }
-            Got::Failed => {
-                return input.len();
-            }
-        }
-    }
-    done
-}
-
 // Writes a block, where all before it were written. Answers whether it was: where one was not, none behind it is.
 fn put_block(good: bool, block: &[u8]) -> bool
     ensures { λ r. ⌜ (good ≡ false → r ≡ false) ⌝ }
@@ -89,7 +46,7 @@ fn print(most: usize) -> Run
 
 fn main() {
     let mut input = [0u8; 4];
-    let count = read_input(&mut input);
+    let count = standard_input::read_input(&mut input);
     let most = size_rows::limit(&input[..count]);
     if most == 0 {
         io::write_all(1, b"refused=1\n");

@@ -20,7 +20,7 @@ pub struct Told {
 }
 
 // No such line.
-fn lost(text: &[u8]) -> Told
+pub fn lost(text: &[u8]) -> Told
     ensures { λ r. ⌜ r ≡ lost (now (text .entry)) ⌝ }
 {
     Told {

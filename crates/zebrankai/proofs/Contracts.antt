@@ -1,11 +1,12 @@
--- The contracts of the archive's fourteen calls are what the definitions say: `zbk` and `zbkSetUp` for the store, `zbkReadText`, `longest`, and board
--- level's calls.
+-- The contracts of the archive's fifteen calls are what the definitions say: `zbk` and `zbkSetUp` for the store, `zbkReadText`, `longest`, `emitted` and
+-- `after`, and board level's calls.
 -- A contract is taken as the checker hands it to a caller: `Asked` is its `requires`, `Learnt` its `ensures`. So a call that ensures less, or requires
 -- something, is refused here.
 -- Assumes nothing.
 use mathlib.Core.Path.{_≡_}
 use mathlib.Core.List.{List, []}
 use Prim.Native.Nat.{ℕ}
+use lib.ListN.{length}
 use contract.Lifetimes.{Lfts}
 use denote.Ref.{now}
 use denote.Triple.Clauses.{AtExit}
@@ -16,6 +17,7 @@ use Rattle.board_spec.specs.Calls.{BoardOutcome, shareCall, fileCall, helperCal
 use Rattle.store_spec.specs.Ledger.{write, lose, repair, read}
 use Rattle.text_spec.specs.Calls.{gatherCall}
 use Rattle.prefix_spec.specs.Prefix.{longest}
+use Rattle.generator.specs.Generator.{after, emitted}
 use Rattle.answer_word.specs.Answers.{wordOf}
 use Rattle.archive_spec.specs.Archive.{sizesOf}
 use Rattle.archive_spec.specs.Lent.{Lent, zbkSetUp, zbk}
@@ -48,6 +50,8 @@ use Rattle.zebrankai.proofs.zbk_gather.Reads as gather-reads
 use Rattle.zebrankai.proofs.zbk_gather.Kinds as gather-kinds
 use Rattle.zebrankai.proofs.zbk_text_prefix.Reads as prefix-reads
 use Rattle.zebrankai.proofs.zbk_text_prefix.Kinds as prefix-kinds
+use Rattle.zebrankai.proofs.zbk_trial_file.Reads as trial-reads
+use Rattle.zebrankai.proofs.zbk_trial_file.Kinds as trial-kinds
 
 -- ---- the store
 
@@ -158,3 +162,11 @@ pub prefix-gives : (κs : Lfts 1) (a : Dens κs prefix-kinds.ps) (w : ℕ) (e : 
     → prefix-reads.Asked κs a
     × (prefix-reads.Learnt κs a w e → w ≡ wordOf (said (Done (longest (now (a .0))))))
 prefix-gives κs a w e = (tt, λ h. h)
+
+-- ---- the trial file: the state after it, and all bytes of the output
+
+pub trial-gives : (κs : Lfts 1) (a : Dens κs trial-kinds.ps) (state : ℕ) (e : AtExit (endedOf 1 trial-kinds.ps trial-kinds.r) κs)
+    → trial-reads.Asked κs a
+    × (trial-reads.Learnt κs a state e
+    → (state ≡ after (length (now (a .1 .0))) (a .0)) × (now (e .1 .0) ≡ emitted (length (now (a .1 .0))) (a .0)))
+trial-gives κs a state e = (tt, λ h. h)

@@ -1,12 +1,15 @@
-//! The archive for C and Rust: every call of the board level and of the store under a C name, for all input, without `requires`.
-//! Each meets its definition in the crates `board_spec`, `text_spec`, `prefix_spec` and `store_spec`: the answer as one word, and every word and byte that it was lent.
+//! The archive for C and Rust: every call of the board level and of the store under a C name, and the trial file, for all input, without `requires`.
+//! Each meets its definition in the crates `board_spec`, `text_spec`, `prefix_spec`, `generator` and `store_spec`: the answer as one word, and every
+//! word and byte that it was lent.
 //! A slice is a pointer and a length. A record is a lent slice of twelve words: n, k, d, r, capacity, written, length, marks, and four words
 //! with the points of eight boards each. The head of a text is a lent slice of six words: n, k, d, r, board number, length. Points are a lent slice
 //! of 32 bytes. Another number of them than these is SIZE. An answer has the refusal's number in its low eight bits, 0 where there is none, and the
-//! number reported above them.
+//! number reported above them; the trial file, which refuses nothing, answers the generator's state.
 ghost use mathlib.Core.Path.{_≡_};
 ghost use mathlib.Core.List.{List, []};
 ghost use Prim.Native.Nat.{ℕ};
+ghost use lib.ListN.{length};
+ghost use Rattle.generator.specs.Generator.{after, emitted};
 ghost use Rattle.sizes.specs.declared.Answer.the-variants.{Done};
 ghost use Rattle.sizes.specs.Refusals.{said};
 ghost use Rattle.board_spec.specs.Calls.{shareCall, fileCall, helperCall, exchangeCall, finishedCall, textCall};
@@ -184,6 +187,15 @@ pub extern "C" fn zbk_text_prefix(text: &[u8]) -> u64
     ensures { λ w. ⌜ w ≡ wordOf (said (Done (longest (now (text .entry))))) ⌝ }
 {
     archive_texts::text_prefix(text)
+}
+
+// Fills the output with the bytes that the generator emits from this state on: those of the trial file of this seed. Gives the state after them, from
+// which the file goes on. Refuses nothing.
+#[no_mangle]
+pub extern "C" fn zbk_trial_file(seed: u32, out: &mut [u8]) -> u32
+    ensures { λ state. ⌜ (state ≡ after (length (now (out .entry))) seed) × (now (out .exit) ≡ emitted (length (now (out .entry))) seed) ⌝ }
+{
+    generator::fill(seed, out)
 }
 
 // A new store of these sizes, these points and this capacity, in twelve words.

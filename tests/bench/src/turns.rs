@@ -2,7 +2,7 @@
 
 use crate::coders::{self, Coder, Named};
 use std::time::{Duration, Instant};
-use zebrankai::Sizes;
+use zebrankai::{trial_file, Sizes};
 
 /// What is measured, in the order of a turn.
 pub const OPERATIONS: [&str; 5] = ["encode", "read", "repair r", "repair 1", "one share"];
@@ -49,14 +49,11 @@ impl Work {
     }
 }
 
-/// Bytes that differ.
+/// The trial file of the seed 1, which `zbk trial --file 1 LENGTH` writes.
 fn some_bytes(length: usize) -> Vec<u8> {
-    let mut state = 1u32;
-    let mut next = || {
-        state = state.wrapping_mul(1_664_525).wrapping_add(1_013_904_223);
-        (state >> 24) as u8
-    };
-    (0..length).map(|_| next()).collect()
+    let mut file = vec![0; length];
+    trial_file(1, &mut file);
+    file
 }
 
 /// What one turn leaves, to compare.

@@ -1,4 +1,4 @@
-//! The fourteen calls with their arguments: how each is passed to the archive, what of it may be spoilt, how it is shown. And the memory that they
+//! The fifteen calls with their arguments: how each is passed to the archive, what of it may be spoilt, how it is shown. And the memory that they
 //! are lent to change.
 
 use crate::code::{self, Sizes};
@@ -104,10 +104,13 @@ pub enum Call {
     Prefix {
         text: Vec<u8>,
     },
+    TrialFile {
+        seed: u32,
+    },
 }
 
 /// The C names of the calls, in the order of `Call::place`, each with the refusals that it can give.
-pub const CALLS: [(&str, &[u8]); 14] = [
+pub const CALLS: [(&str, &[u8]); 15] = [
     ("zbk_share", &[1, 3, 5, 7]),
     ("zbk_file", &[1, 3, 4, 5, 6, 2, 7, 10]),
     ("zbk_helper_packet", &[1, 3, 5, 6, 2, 7]),
@@ -122,18 +125,22 @@ pub const CALLS: [(&str, &[u8]); 14] = [
     ("zbk_read_text", &[1, 12, 7]),
     ("zbk_gather", &[12, 13, 4, 6, 7, 10]),
     ("zbk_text_prefix", &[]),
+    ("zbk_trial_file", &[]),
 ];
 
 /// The place in `CALLS` of the first of the three calls that are given texts.
 pub const READ_TEXT: usize = 11;
 
+/// The place in `CALLS` of the call that draws a file from a seed.
+pub const TRIAL_FILE: usize = 14;
+
 // The archive's names, as include/zebrankai.h declares them (`tests/names`).
 macro_rules! asked {
-    ($plain:tt $name:ident ($($c:tt)*) ($($rust:tt)*) ($($to_c:tt)*) $from_c:tt) => {
+    ($word:ty, $name:ident ($($c:tt)*) ($($rust:tt)*) ($($to_c:tt)*)) => {
         #[allow(clippy::too_many_arguments)]
-        fn $name($($rust)*) -> u64 {
+        fn $name($($rust)*) -> $word {
             extern "C" {
-                fn $name($($c)*) -> u64;
+                fn $name($($c)*) -> $word;
             }
             // Safety: each pointer is a slice's, and its number of elements follows.
             unsafe { $name($($to_c)*) }
@@ -141,7 +148,20 @@ macro_rules! asked {
     };
 }
 
-names::archive!(asked);
+macro_rules! answered {
+    ($plain:tt $name:ident $c:tt $rust:tt $to_c:tt $from_c:tt) => {
+        asked!(u64, $name $c $rust $to_c);
+    };
+}
+
+macro_rules! given {
+    ($plain:tt $name:ident $c:tt $rust:tt $to_c:tt $from_c:tt) => {
+        asked!(u32, $name $c $rust $to_c);
+    };
+}
+
+names::archive!(answered);
+names::state!(given);
 
 impl Call {
     /// The place of the call in `CALLS`.
@@ -161,10 +181,11 @@ impl Call {
             Call::ReadText { .. } => READ_TEXT,
             Call::Gather { .. } => READ_TEXT + 1,
             Call::Prefix { .. } => READ_TEXT + 2,
+            Call::TrialFile { .. } => TRIAL_FILE,
         }
     }
 
-    /// Makes the call, over what it is lent; the archive's answer.
+    /// Makes the call, over what it is lent; the archive's answer. The state that a trial file's call gives stands where others report a value.
     pub fn ask(&self, record: &mut [u64], area: &mut [u8], out: &mut [u8]) -> u64 {
         match self {
             Call::Share { sizes, points, node, file } => zbk_share(*sizes, points, *node, file, out),
@@ -191,6 +212,7 @@ impl Call {
             Call::ReadText { text } => zbk_read_text(text, record, area, out),
             Call::Gather { text } => zbk_gather(text, out),
             Call::Prefix { text } => zbk_text_prefix(text),
+            Call::TrialFile { seed } => u64::from(zbk_trial_file(*seed, out)) << 8,
         }
     }
 
@@ -267,6 +289,8 @@ impl Call {
             Call::ReadText { text } | Call::Gather { text } | Call::Prefix { text } => {
                 Parts { slices: vec![text], ..none }
             }
+            // every seed and every output is taken
+            Call::TrialFile { .. } => none,
         }
     }
 }
@@ -385,6 +409,7 @@ impl fmt::Display for Call {
             Call::ReadText { text } | Call::Gather { text } | Call::Prefix { text } => {
                 write!(to, "(text={:?}", shown(text))
             }
+            Call::TrialFile { seed } => write!(to, "(seed={seed}"),
         }?;
         write!(to, ")")
     }

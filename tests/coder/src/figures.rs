@@ -1,6 +1,7 @@
 //! The figures of document 01, as literal values: all that are not marked M, through the archive and by the coder itself. Those marked M are
 //! proved; they are run here too, since they also try the coder. Then the same for robots of the first series, whose figures were worked out by
-//! hand, and which points are refused (request A.9 of document 02); and a board rebuilt alone, with a stand-in (request A.3).
+//! hand, and which points are refused (request A.9 of document 02); and a board rebuilt alone, with a stand-in (request A.3);
+//! and first bytes of trial files (request A.2).
 
 use crate::call::refusal::{COUNT, DOWN, LONG, NODE, REPEAT, SERVING, SIZE};
 use crate::call::{Call, Lent, Outcome};
@@ -8,7 +9,7 @@ use crate::code::Sizes;
 use crate::field::FIELD;
 use crate::points::{filled_up, first_series, standard};
 use crate::trial::{Place, Trial};
-use crate::{board, prefix_figures, store, text_figures, texts};
+use crate::{board, load, prefix_figures, store, stream, stream_cases, text_figures, texts};
 
 pub fn run(trial: &mut Trial) {
     field(trial);
@@ -22,6 +23,8 @@ pub fn run(trial: &mut Trial) {
     text(trial);
     text_figures::run(trial);
     prefix_figures::run(trial);
+    stream_cases::figures(trial);
+    load::figures(trial);
     legal_sizes(trial);
     refused_points(trial);
     eight_words(trial);
@@ -35,8 +38,10 @@ fn model(call: &Call, lent: &Lent) -> Outcome {
         board::expect(call, lent)
     } else if call.place() < crate::call::READ_TEXT {
         store::expect(call, lent)
-    } else {
+    } else if call.place() < crate::call::TRIAL_FILE {
         texts::expect(call, lent)
+    } else {
+        stream::expect(call, lent)
     }
 }
 

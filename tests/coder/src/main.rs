@@ -5,6 +5,8 @@
 //!     coder --products
 //!     coder --printer share|points
 //!     coder --sizes N
+//!     coder --trial
+//!     coder [--seed N] --load N
 //!
 //! First the figures of document 01 are run, in a run of 20,000 calls or more all products of two bytes are tried, and then random cases until so
 //! many calls are made: single calls at board level, single calls of the store over made-up records and areas, long histories against a ledger,
@@ -14,13 +16,14 @@
 //! `--wrong` alters what the archive answers to one call, to show that this is reported. `--first` ends the run at the first case with a mismatch.
 //! `--trace` prints each call before it is made, `--verbose` how often each call gave each refusal, with which points, how often an altered byte was
 //! accepted and refused, how many boards repairs had, and what was met at real sizes. `--multiply` tries all products and quotients through the
-//! archive and nothing else. `--products`, `--printer` and `--sizes` make no call: the first writes all products and inverses of the coder's own
-//! field, the second reads standard input and writes what the share printer or the points printer must write for it, the third writes a line for
-//! each legal combination of sizes with at most N boards (request A.12).
+//! archive and nothing else. `--products`, `--printer`, `--sizes`, `--trial` and `--load` make no call: the first writes all products and inverses of
+//! the coder's own field, the second reads standard input and writes what the share printer or the points printer must write for it, the third writes
+//! a line for each legal combination of sizes with at most N boards (request A.12), the fourth reads standard input and writes what the program
+//! `trial` must write for it (request A.2), and the fifth writes one of the inputs that it is tried with.
 //!
 //! Texts of shares are read and gathered in cases of their own (request A.1), and asked how far they make sense in others (request A.14): whole, cut
 //! at every byte, altered at every place, with bytes behind, and with points that are about to be 0 to n − 1. Every kind of these must have been met,
-//! too.
+//! too. Trial files (request A.2) are drawn from any seed, at once and in parts, of up to 600,000 bytes.
 //!
 //! Most cases are small, of at most 100 stripes. Thirteen cases of each run, and one in a thousand of the others, are of real sizes (`real_cases`):
 //! 32,768 bytes on 12 boards, 163,840 bytes and more on 32, 101 to 4,096 stripes on any. There every call is made, areas are read of which a byte,
@@ -42,6 +45,7 @@ mod field;
 mod figures;
 mod histories;
 mod ledger;
+mod load;
 mod matrix;
 mod points;
 mod prefix;
@@ -61,6 +65,8 @@ mod spoil;
 mod store;
 mod store_cases;
 mod store_draw;
+mod stream;
+mod stream_cases;
 mod text_cases;
 mod text_figures;
 mod text_spoil;
@@ -70,7 +76,7 @@ mod trial;
 
 use printer::Printer;
 use random::Random;
-use std::io::{Read, Write};
+use std::io::{BufWriter, Read, Write};
 use std::process::ExitCode;
 use std::sync::atomic::{AtomicU64, Ordering};
 use trial::{Place, Trial, Wrong, WrongKind};
@@ -93,6 +99,8 @@ struct Options {
     products: bool,
     printer: Option<Printer>,
     sizes: Option<u64>,
+    load: Option<u64>,
+    run_load: bool,
 }
 
 fn options() -> Result<Options, String> {
@@ -108,6 +116,8 @@ fn options() -> Result<Options, String> {
         products: false,
         printer: None,
         sizes: None,
+        load: None,
+        run_load: false,
     };
     let mut words = std::env::args().skip(1);
     while let Some(word) = words.next() {
@@ -126,6 +136,8 @@ fn options() -> Result<Options, String> {
             "--products" => options.products = true,
             "--printer" => options.printer = Some(printer_named(words.next())?),
             "--sizes" => options.sizes = Some(number()?),
+            "--trial" => options.run_load = true,
+            "--load" => options.load = Some(number()?),
             "--wrong" => options.wrong = Some(wrong_kind(words.next())?),
             _ => return Err(format!("{word}: not an option")),
         }
@@ -157,6 +169,20 @@ fn print(printer: Printer) -> Vec<u8> {
     match std::io::stdin().read_to_end(&mut input) {
         Ok(_) => printer::printed(printer, &input),
         Err(_) => printer::refused(call::refusal::SIZE),
+    }
+}
+
+/// What the program `trial` must write for standard input, line by line as it is worked out; where a read fails, it is refused as any other input.
+fn run_load() -> ExitCode {
+    let mut input = Vec::new();
+    if std::io::stdin().read_to_end(&mut input).is_err() {
+        input.clear();
+    }
+    let mut out = BufWriter::new(std::io::stdout().lock());
+    let taken = load::written(&input, |line| out.write_all(line.as_bytes()).is_ok());
+    match taken && out.flush().is_ok() {
+        true => ExitCode::SUCCESS,
+        false => ExitCode::FAILURE,
     }
 }
 
@@ -197,13 +223,14 @@ fn run_case(trial: &mut Trial, case: u64) {
         altered::run(trial, &mut random, sizes);
         text_cases::run(trial, &mut random, sizes);
         prefix_cases::first(trial, &mut random, sizes);
+        stream_cases::first(trial, &mut random);
         return;
     }
     if let Some(turn) = real_cases::turn(case) {
         return real_cases::run(trial, &mut random, turn);
     }
     let sizes = draw::sizes(&mut random);
-    match random.below(20) {
+    match random.below(21) {
         0..=1 => histories::run(trial, &mut random, sizes),
         2..=9 => store_cases::run(trial, &mut random, sizes),
         10..=11 => tight::run(trial, &mut random, sizes),
@@ -213,6 +240,7 @@ fn run_case(trial: &mut Trial, case: u64) {
         }
         13 => text_cases::run(trial, &mut random, sizes),
         14 => prefix_cases::run(trial, &mut random, sizes),
+        15 => stream_cases::run(trial, &mut random),
         _ => board_cases::run(trial, &mut random, sizes),
     }
 }
@@ -233,6 +261,12 @@ fn main() -> ExitCode {
     }
     if let Some(most) = options.sizes {
         return write(size_list::lines(most as usize).as_bytes());
+    }
+    if options.run_load {
+        return run_load();
+    }
+    if let Some(case) = options.load {
+        return write(&load::drawn(&mut Random::of_case(options.seed, case)));
     }
     tell_where(options.seed);
     // a fault in the first three quarters, so that a call that fits it follows

@@ -2,7 +2,7 @@
 //! them.
 
 use crate::call::refusal::{ACCEPTED, DISAGREE};
-use crate::call::{Call, Lent, CALLS};
+use crate::call::{Call, Lent, CALLS, TRIAL_FILE};
 use crate::code::{Sizes, MAX_STRIPES};
 use crate::points;
 use crate::store::{self, word};
@@ -82,6 +82,7 @@ impl Measure {
                 let texts::Told { sizes, length, .. } = texts::read(text)?;
                 return Some(Measure { sizes, room: sizes.stripes(length), length });
             }
+            Call::TrialFile { .. } => return None,
             Call::Share { file, .. } => file.len(),
             Call::File { length, .. }
             | Call::Helper { length, .. }
@@ -122,9 +123,9 @@ impl Measure {
 #[derive(Default)]
 pub struct Met {
     /// how often each call was accepted, and how often refused with DISAGREE, by CLASSES
-    calls: [[[u64; 2]; CALLS.len()]; CLASSES.len()],
+    calls: [[[u64; 2]; TRIAL_FILE]; CLASSES.len()],
     /// how often each call was accepted with points of each legal kind, with files over 16,384 bytes
-    points: [[u64; points::REFUSED]; CALLS.len()],
+    points: [[u64; points::REFUSED]; TRIAL_FILE],
     /// how many reads of spoilt areas were accepted, and how many refused with DISAGREE
     spoilt: [[u64; 2]; SPOILT.len()],
     /// how many histories had all their parts
@@ -165,7 +166,7 @@ impl Met {
     pub fn never(&self) -> Vec<String> {
         let mut missing = Vec::new();
         for (class, ((_, what), calls)) in CLASSES.iter().zip(&self.calls).enumerate() {
-            for (place, (name, numbers)) in CALLS.iter().enumerate() {
+            for (place, (name, numbers)) in CALLS[..TRIAL_FILE].iter().enumerate() {
                 let of_class = class != ROOM_LEFT || OVER_A_STORE.contains(&place);
                 for (number, count) in COUNTED.iter().zip(calls[place]) {
                     let can_be = of_class && (*number == ACCEPTED || numbers.contains(number));
@@ -175,7 +176,7 @@ impl Met {
                 }
             }
         }
-        for ((name, _), kinds) in CALLS.iter().zip(&self.points) {
+        for ((name, _), kinds) in CALLS[..TRIAL_FILE].iter().zip(&self.points) {
             for (kind, _) in points::KINDS.iter().zip(kinds).filter(|(_, &count)| count == 0) {
                 missing.push(format!("{name} with {} and points {kind}", CLASSES[LONG_FILE].1));
             }
@@ -202,7 +203,7 @@ impl Met {
         let kinds = &points::KINDS[..points::REFUSED];
         let heads: String = kinds.iter().map(|kind| format!("{kind:>11}")).collect();
         println!("{:20} {heads}", "over 16,384 bytes");
-        for ((name, _), counts) in CALLS.iter().zip(&self.points) {
+        for ((name, _), counts) in CALLS[..TRIAL_FILE].iter().zip(&self.points) {
             println!("{name:20} {}", counts.map(|count| format!("{count:>11}")).concat());
         }
         println!("{:28} accepted DISAGREE, of the calls of zbk_read over 100 stripes, n over 4", "altered");
@@ -217,7 +218,7 @@ impl Met {
 
     /// How often each call was answered with one of COUNTED, by classes, where it can be.
     fn print_calls(&self, counted: usize) {
-        for (place, (name, numbers)) in CALLS.iter().enumerate() {
+        for (place, (name, numbers)) in CALLS[..TRIAL_FILE].iter().enumerate() {
             if counted == 0 || numbers.contains(&COUNTED[counted]) {
                 let count = |class: usize| self.calls[class][place][counted];
                 let counts: String = (0..CLASSES.len()).map(|class| format!("{:>9}", count(class))).collect();

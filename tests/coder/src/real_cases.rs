@@ -13,6 +13,7 @@ use crate::real::{Measure, THIRTY_TWO, THIRTY_TWO_LEN, TWELVE, TWELVE_LEN};
 use crate::real_reads;
 use crate::scene::Scene;
 use crate::store_cases;
+use crate::stream_cases;
 use crate::text_cases;
 use crate::trial::Trial;
 use std::ops::RangeInclusive;
@@ -130,6 +131,7 @@ pub fn run(trial: &mut Trial, random: &mut Random, turn: u64) {
     prefix_cases::of_scene(trial, random, &scene);
     if turn % 4 == 0 {
         prefix_cases::longest(trial, random);
+        stream_cases::long(trial, random);
     }
     if histories::whole(trial, random, &scene, capacity, calls) {
         trial.real.count_history(Measure { sizes, room: capacity, length });

@@ -2,9 +2,9 @@
 
 use crate::altered;
 use crate::archive::{self, Performed};
-use crate::call::{refusal, Call, Lent, Outcome, CALLS, READ_TEXT};
+use crate::call::{refusal, Call, Lent, Outcome, CALLS, READ_TEXT, TRIAL_FILE};
 use crate::code::Sizes;
-use crate::{points, prefix_met, real, repairs, store, texts};
+use crate::{points, prefix_met, real, repairs, store, stream_cases, texts};
 use std::fmt;
 use std::time::{Duration, Instant};
 
@@ -80,11 +80,13 @@ pub struct Trial {
     /// how often each call was accepted (0) or refused with each number, alike by the archive and by the coder
     pub met: [[u64; refusal::COUNTED]; CALLS.len()],
     /// how often each call was accepted, or refused for its points alone, with points of each kind
-    pub points: [[u64; points::KINDS.len()]; CALLS.len()],
+    pub points: [[u64; points::KINDS.len()]; TRIAL_FILE],
     /// how often texts of each kind were answered as some of them must be
     pub texts: [u64; crate::text_cases::KINDS.len()],
     /// what was met of beginnings that make sense
     pub prefixes: prefix_met::Met,
+    /// what was met of trial files
+    pub streams: stream_cases::Met,
     /// how many second files were found for k − 1 boards, and the calls made with them
     pub second_files: u64,
     pub second_calls: u64,
@@ -112,9 +114,10 @@ impl Trial {
             calls: 0,
             mismatches: 0,
             met: [[0; refusal::COUNTED]; CALLS.len()],
-            points: [[0; points::KINDS.len()]; CALLS.len()],
+            points: [[0; points::KINDS.len()]; TRIAL_FILE],
             texts: [0; crate::text_cases::KINDS.len()],
             prefixes: Default::default(),
+            streams: Default::default(),
             second_files: 0,
             second_calls: 0,
             altered: Default::default(),
@@ -243,7 +246,7 @@ impl Trial {
                 }
             }
         }
-        for (place, (name, _)) in CALLS.iter().enumerate() {
+        for (place, (name, _)) in CALLS[..TRIAL_FILE].iter().enumerate() {
             for (kind, what) in points::KINDS.iter().enumerate() {
                 // points that are refused make a text none, which is TEXT
                 let can_be =
@@ -259,6 +262,7 @@ impl Trial {
             }
         }
         missing.extend(self.prefixes.never());
+        missing.extend(self.streams.never());
         if self.second_files == 0 {
             missing.push("a second file for k − 1 boards".to_string());
         }
@@ -283,7 +287,7 @@ impl Trial {
             println!("{name:20} {}", met.iter().map(|count| format!("{count:>7}")).collect::<String>());
         }
         println!("{:20} {}", "points", points::KINDS.map(|kind| format!("{kind:>11}")).concat());
-        for ((name, _), met) in CALLS.iter().zip(&self.points) {
+        for ((name, _), met) in CALLS[..TRIAL_FILE].iter().zip(&self.points) {
             println!("{name:20} {}", met.iter().map(|count| format!("{count:>11}")).collect::<String>());
         }
         println!("{:24} refusal    times, of the calls of zbk_read_text and zbk_gather", "texts");
@@ -291,6 +295,7 @@ impl Trial {
             println!("{kind:24} {number:>7} {count:>8}");
         }
         self.prefixes.print();
+        self.streams.print();
         println!(
             "second files for k − 1 boards: {}, in {} of the calls of zbk_share",
             self.second_files, self.second_calls
@@ -317,6 +322,7 @@ pub fn points_asked(call: &Call, lent: &Lent) -> Option<(Sizes, Vec<u8>)> {
             return texts::of_first(text).map(|(sizes, points, _)| (sizes, points))
         }
         Call::Prefix { text } => return texts::read(text).map(|told| (told.sizes, told.points)),
+        Call::TrialFile { .. } => return None,
         _ => {}
     }
     let Some((sizes, points)) = call.given() else { return store::given(&lent.record) };

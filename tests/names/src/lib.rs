@@ -1,9 +1,10 @@
 //! The archive's C names and what each takes, as include/zebrankai.h declares them: once for the unrelated coder, which calls them, and for the
-//! stand-in, which has them. Every name answers one word. In C a slice is a pointer and the number of its elements, and sizes are four numbers.
+//! stand-in, which has them. Every name answers one word, but that of the trial file, which gives a state. In C a slice is a pointer and the number
+//! of its elements, and sizes are four numbers.
 
-/// Every name, handed to the macro `$each` of whoever uses this crate. It gets the plain coder's function that stands in for it, the name and
-/// four lists: the parameters in C, the same in Rust, the arguments in C by those in Rust, and the arguments in Rust by those in C. `Sizes` is
-/// the user's own type.
+/// Every name that answers one word, handed to the macro `$each` of whoever uses this crate. It gets the plain coder's function that stands in for
+/// it, the name and four lists: the parameters in C, the same in Rust, the arguments in C by those in Rust, and the arguments in Rust by those in C.
+/// `Sizes` is the user's own type.
 #[macro_export]
 macro_rules! archive {
     ($each:ident) => {
@@ -46,10 +47,20 @@ macro_rules! archive {
     };
 }
 
+/// The name that gives a state of 32 bits and refuses nothing, handed on in the same form.
+#[macro_export]
+macro_rules! state {
+    ($each:ident) => {
+        $crate::names!($each generator {
+            fill as zbk_trial_file(seed: u32, out: &mut [u8],) -> u32;
+        });
+    };
+}
+
 /// The names whose functions stand in one module of the plain coder.
 #[macro_export]
 macro_rules! names {
-    ($each:ident $module:ident { $($plain:ident as $name:ident($($parameters:tt)*);)* }) => {
+    ($each:ident $module:ident { $($plain:ident as $name:ident($($parameters:tt)*) $(-> u32)?;)* }) => {
         $($crate::name!($each ($module::$plain) $name () () () (), $($parameters)*);)*
     };
 }
@@ -63,6 +74,10 @@ macro_rules! name {
     ($each:ident $plain:tt $name:ident ($($c:tt)*) ($($rust:tt)*) ($($to_c:tt)*) ($($from_c:tt)*), $p:ident: usize, $($rest:tt)*) => {
         $crate::name!($each $plain $name
             ($($c)* $p: usize,) ($($rust)* $p: usize,) ($($to_c)* $p,) ($($from_c)* $p,), $($rest)*);
+    };
+    ($each:ident $plain:tt $name:ident ($($c:tt)*) ($($rust:tt)*) ($($to_c:tt)*) ($($from_c:tt)*), $p:ident: u32, $($rest:tt)*) => {
+        $crate::name!($each $plain $name
+            ($($c)* $p: u32,) ($($rust)* $p: u32,) ($($to_c)* $p,) ($($from_c)* $p,), $($rest)*);
     };
     ($each:ident $plain:tt $name:ident ($($c:tt)*) ($($rust:tt)*) ($($to_c:tt)*) ($($from_c:tt)*), $p:ident: Sizes, $($rest:tt)*) => {
         $crate::name!($each $plain $name

@@ -11,6 +11,7 @@
 
 pub mod board;
 pub mod field;
+pub mod generator;
 pub mod polynomial;
 pub mod prefix;
 pub mod sizes;

@@ -23,3 +23,15 @@ macro_rules! exported {
 }
 
 names::archive!(exported);
+
+/// The name that gives a state, as it is.
+macro_rules! exported_state {
+    (($($plain:tt)*) $name:ident ($($c:tt)*) $rust:tt $to_c:tt ($($from_c:tt)*)) => {
+        #[no_mangle]
+        pub unsafe extern "C" fn $name($($c)*) -> u32 {
+            plain::$($plain)*($($from_c)*)
+        }
+    };
+}
+
+names::state!(exported_state);

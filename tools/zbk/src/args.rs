@@ -109,8 +109,13 @@ impl Words {
         self.number_of(option, value)
     }
 
+    /// The number that an option has; another one where it is not given.
+    pub fn number_or(&self, option: &str, otherwise: usize) -> Outcome<usize> {
+        self.value(option)?.map_or(Ok(otherwise), |value| self.number_of(option, value))
+    }
+
     /// One that is too great for its type is the greatest.
-    fn number_of(&self, option: &str, value: &str) -> Outcome<usize> {
+    pub fn number_of(&self, option: &str, value: &str) -> Outcome<usize> {
         if value.is_empty() || !value.bytes().all(|byte| byte.is_ascii_digit()) {
             return Err(self.wrong(format!("{option} {value}: not a number")));
         }

@@ -156,7 +156,7 @@ struct Written<'a> {
 }
 
 impl<'a> Written<'a> {
-    fn new(target: &'a Target, bytes: &[u8]) -> Outcome<Written<'a>> {
+    fn new(target: &'a Target, fill: impl FnOnce(&mut File) -> io::Result<()>) -> Outcome<Written<'a>> {
         // one that is there is of another target, or was left by a tool that was stopped
         let create =
             |beside: PathBuf| OpenOptions::new().write(true).create_new(true).open(&beside).map(|file| (file, beside));
@@ -169,7 +169,7 @@ impl<'a> Written<'a> {
         }
         let (mut file, beside) = created.map_err(|error| target.cannot(error))?;
         let written = Written { target, beside };
-        let done = file.write_all(bytes).and_then(|()| file.sync_all());
+        let done = fill(&mut file).and_then(|()| file.sync_all());
         done.map_err(|error| target.cannot(error))?;
         if target.there {
             // as it was, as far as may be
@@ -206,10 +206,18 @@ pub fn write_all(files: &[(Target, Vec<u8>)]) -> Outcome {
         if target.special {
             fs::write(&target.path, bytes).map_err(|error| target.cannot(error))?;
         } else {
-            written.push(Written::new(target, bytes)?);
+            written.push(Written::new(target, |file| file.write_all(bytes))?);
         }
     }
     written.into_iter().try_for_each(Written::put)
+}
+
+/// Writes a file that is filled part by part, whole or not at all; where it is a device or a pipe, as far as it goes.
+pub fn write_parts(target: &Target, fill: impl FnOnce(&mut File) -> io::Result<()>) -> Outcome {
+    if target.special {
+        return File::create(&target.path).and_then(|mut file| fill(&mut file)).map_err(|error| target.cannot(error));
+    }
+    Written::new(target, fill)?.put()
 }
 
 /// The name of a board's text in a folder.

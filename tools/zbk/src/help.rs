@@ -15,6 +15,7 @@ zbk: share texts of a file on shelf boards, by the proved archive
                                  the text of one board
   zbk sizes N                    all legal sizes with at most N boards
   zbk print                      what the share printer writes for its input
+  zbk trial SEED                 a load on a store, the same wherever it is run
 
 'zbk COMMAND --help' says more. - stands for standard input where a file or
 texts are read, and for standard output where they are written. A file whose
@@ -133,6 +134,37 @@ refused= with the number.
                          points= after node=
 @COMMON";
 
+const TRIAL: &str = "\
+zbk trial SEED [--boards N] [--read K] [--helpers D] [--fresh R]
+          [--capacity C] [--length L] [--calls COUNT] [--lines]
+zbk trial - <LINES
+zbk trial --file SEED LENGTH [-o FILE] [--force]
+
+Draws calls from a number, 0 to 4294967295, and makes them on a store in memory:
+writes, losses, repairs and reads. Prints a line for each as it is made: op=
+with its word, answer= with the refusal or 0, moved= with the bytes moved or 0.
+The same numbers give the same lines wherever they are run, and the program
+trial writes them too. A load that is not taken is one line refused=1.
+
+  -n, --boards N         boards, at most 32; 12 where nothing is said
+  -k, --read K           boards that give the file back; likewise 6
+  -d, --helpers D        helpers of each fresh board, at least K; likewise 8
+  -r, --fresh R          boards rebuilt together, at least 1; D + R is at most
+                         N; likewise 2
+      --capacity C       stripes that the store has room for; where nothing is
+                         said as many as an area of 32768 bytes, the most, holds
+      --length L         bytes of each file written, at most 16384; where
+                         nothing is said as many as the store has room for
+      --calls COUNT      calls, at most 4294967295; 1000 where nothing is said
+      --lines            prints the lines that the program trial reads for this
+                         load, n= k= d= r= C= seed= length= calls=, and makes no
+                         call; with - they are read from standard input
+      --file             writes the trial file of SEED instead, LENGTH bytes
+                         that are the same wherever they are drawn
+  -o, --output FILE      where that file is written
+  -f, --force            replaces FILE where it is there
+@COMMON";
+
 /// The help of a command; none where there is no such command.
 fn of(command: &str) -> Option<&'static str> {
     Some(match command {
@@ -143,6 +175,7 @@ fn of(command: &str) -> Option<&'static str> {
         "share" => SHARE,
         "sizes" => SIZE_LINES,
         "print" => PRINT,
+        "trial" => TRIAL,
         _ => return None,
     })
 }

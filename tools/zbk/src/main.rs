@@ -1,5 +1,5 @@
-//! The service bench's tool: a file is spread over boards as texts, gathered from k of them, and boards are rebuilt from others, all by the calls of
-//! the proved archive. What is added here are files, words and help; where a text is refused, the tool looks for the place itself, to
+//! The service bench's tool: a file is spread over boards as texts, gathered from k of them, boards are rebuilt from others, and loads are run that
+//! all can repeat, all by the calls of the proved archive. What is added here are files, words and help; where a text is refused, the tool looks for the place itself, to
 //! say it; how far the text makes sense, the archive says.
 #![forbid(unsafe_code)]
 
@@ -14,6 +14,7 @@ mod rebuild;
 mod sense;
 mod spread;
 mod texts;
+mod trial;
 mod trouble;
 
 use args::{Takes, Words};
@@ -22,7 +23,7 @@ use trouble::{Outcome, Trouble};
 
 type Command = fn(&Words) -> Outcome;
 
-const COMMANDS: [(Takes, Command); 7] = [
+const COMMANDS: [(Takes, Command); 8] = [
     (spread::SPREAD, spread::spread),
     (gather::GATHER, gather::gather),
     (rebuild::REBUILD, rebuild::rebuild),
@@ -30,6 +31,7 @@ const COMMANDS: [(Takes, Command); 7] = [
     (spread::SHARE, spread::share),
     (spread::SIZES, spread::sizes),
     (spread::PRINT, spread::print),
+    (trial::TRIAL, trial::trial),
 ];
 
 fn run(words: &[String]) -> Outcome {

@@ -25,7 +25,7 @@ struct File {
 }
 
 /// Which rule sizes break.
-fn broken_rule(sizes: Sizes) -> String {
+pub fn broken_rule(sizes: Sizes) -> String {
     let [n, k, d, r] = [sizes.n, sizes.k, sizes.d, sizes.r].map(given);
     if sizes.n > MAX_BOARDS {
         format!("{n} boards are more than {MAX_BOARDS}")
@@ -140,7 +140,7 @@ pub fn share(words: &Words) -> Outcome {
 }
 
 /// A refusal is answered on standard output too, as the printers do: one line `refused=` with the number.
-fn answered(trouble: Trouble) -> Outcome {
+pub fn answered(trouble: Trouble) -> Outcome {
     if let Trouble::Refused(refusal, _) = &trouble {
         files::print(format!("refused={}\n", refusal.number()).as_bytes())?;
     }
@@ -222,7 +222,7 @@ fn printed(input: &[u8], with_points: bool) -> Result<Vec<u8>, Refusal> {
 }
 
 /// A decimal without leading zeros; one that is too great for its type is the greatest.
-fn decimal(value: &str) -> Option<usize> {
+pub fn decimal(value: &str) -> Option<usize> {
     let digits = !value.is_empty() && value.bytes().all(|byte| byte.is_ascii_digit());
     (digits && (value == "0" || !value.starts_with('0'))).then(|| value.parse().unwrap_or(usize::MAX))
 }

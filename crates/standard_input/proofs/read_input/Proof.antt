@@ -1,12 +1,12 @@
--- `size_printer::read_input` meets its contract. The loop's invariant: no more bytes are counted than the slice has.
+-- `standard_input::read_input` meets its contract. The loop's invariant: no more bytes are counted than the slice has.
 -- Assumes nothing.
 use mathlib.Core.Path.{_≡_, refl}
 use Prim.Native.Nat.{_-_, _≤_}
 use native.Mathlib.Omega.{arith}
 use lib.ListN.{length, length-set}
 use borrow.Author.Needs.{needs}
-use Rattle.size_printer.proofs.read_input.Statement.{statement}
-use Rattle.size_printer.proofs.read_input.Tie as tie
+use Rattle.standard_input.proofs.read_input.Statement.{statement}
+use Rattle.standard_input.proofs.read_input.Tie as tie
 
 abbrev Inv-loop : tie.InvT-loop
 Inv-loop input₀ done₀ input done = (done ≤ length input) × (length input ≡ length input₀)

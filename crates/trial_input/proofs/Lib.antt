@@ -1,0 +1,3 @@
+pub mod SetUp
+pub mod Lines
+pub mod Short

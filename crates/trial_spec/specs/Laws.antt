@@ -1,0 +1,48 @@
+-- What holds of the trial: it prints what the ledger replies, so that bench and field print the same from one number. proofs/Laws.antt has
+-- `trial-laws : TrialLaws`.
+-- Assumes nothing.
+use mathlib.Core.Path.{_≡_}
+use mathlib.Core.Bool.{true}
+use mathlib.Core.Logic.{_↔_}
+use mathlib.Core.Option.{some, none}
+use mathlib.Core.List.{List, [], map}
+use Prim.Native.Nat.{ℕ, _≤_}
+use lib.ListN.{length, replicate}
+use Rattle.lists.specs.Lists.{All}
+use Rattle.mbcr.specs.Share.{standard}
+use Rattle.printer.specs.Printer.{refusedLine}
+use Rattle.store_spec.specs.Record.{Record, areaLen}
+use Rattle.store_spec.specs.Calls.{setUpCall}
+use Rattle.store_spec.specs.Ledger.{Call, write, lose, repair, read, Fair, openBook, bookReplies}
+use Rattle.store_spec.specs.Demand3.{begun}
+use Rattle.trial_spec.specs.Trial.{Load, newStore, taken, loaded, drawnCalls, printed, storeReplies, trialOver, trialText}
+
+-- what the ledger replies to the calls drawn
+abbrev pub bookText : Load → List ℕ
+bookText l =
+    let calls = drawnCalls l (l .calls) (l .seed) in
+    printed calls (bookReplies (openBook (l .sizes) (standard (l .sizes)) (l .capacity) (areaLen (newStore l))) calls)
+
+-- the call with bytes 00 in a read's output, as many as it has
+abbrev pub cleared : Call → Call
+cleared (write file) = write file
+cleared (lose board) = lose board
+cleared (repair fresh helpers standIns) = repair fresh helpers standIns
+cleared (read boards output) = read boards (replicate (length output) 0)
+
+pub record TrialLaws : Type 0 where
+  -- which loads are taken, whatever record the set-up is handed
+  pub taken-is : (l : Load) → (taken l ≡ true) ↔ ((l .seed ≤ 4294967295) × (l .calls ≤ 4294967295)
+      × ((old : Record) → setUpCall old (l .sizes) (standard (l .sizes)) (l .capacity) .answer .refusal ≡ 0)
+      × (areaLen (newStore l) ≤ 32768) × (l .length ≤ 16384))
+  -- the text is the ledger's, for any record handed to the set-up and any first bytes of the area
+  pub by-ledger : (l : Load) → taken l ≡ true → (old : Record) (area : List ℕ) → length area ≡ areaLen (newStore l) → trialOver old area l ≡ bookText l
+  -- and whatever bytes the outputs of reads hold: what is printed goes by their length
+  pub any-output : (l : Load) → taken l ≡ true → (old : Record) (area : List ℕ) → length area ≡ areaLen (newStore l)
+      → (calls : List Call) → map cleared calls ≡ drawnCalls l (l .calls) (l .seed)
+      → printed calls (storeReplies (begun old (l .sizes) (standard (l .sizes)) (l .capacity) area) calls) ≡ bookText l
+  pub text-is : (input : List ℕ) (l : Load) → loaded input ≡ some l → (taken l ≡ true) × (trialText input ≡ bookText l)
+  pub refused : (input : List ℕ) → loaded input ≡ none → trialText input ≡ refusedLine 1
+  -- "calls=": so many calls are drawn, and each file drawn is of bytes
+  pub as-many : (l : Load) (m state : ℕ) → length (drawnCalls l m state) ≡ m
+  pub fair : (l : Load) (m state : ℕ) → All Fair (drawnCalls l m state)

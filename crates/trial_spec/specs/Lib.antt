@@ -1,0 +1,4 @@
+pub mod Trial
+pub mod Laws
+pub mod Figures
+pub mod DrawLaws
