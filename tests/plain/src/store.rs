@@ -258,8 +258,8 @@ pub fn edit(
     boards: &[usize],
 ) -> Result<usize, Refusal> {
     let record = Record::with_area(words, area)?;
-    refuse_if(!record.written, Refusal::Empty)?;
     let beyond = bytes.len() > record.length || offset > record.length - bytes.len();
+    refuse_if(!record.written, Refusal::Empty)?;
     refuse_if(beyond, Refusal::Range)?;
     record.check_readers(boards)?;
     let old = record.file(area, boards)?;
