@@ -526,7 +526,9 @@ fn an_edit_is_refused_by_the_first_line_that_holds() {
         refused
     };
     // RANGE, though the list is wrong in all its ways; the sum of offset and count does not wrap round
-    for (offset, count) in [(12, 1), (0, 13), (9, 4), (13, 0), (usize::MAX, 0), (usize::MAX, 1), (usize::MAX - 2, 4), (1 << 32, 1)] {
+    for (offset, count) in
+        [(12, 1), (0, 13), (9, 4), (13, 0), (usize::MAX, 0), (usize::MAX, 1), (usize::MAX - 2, 4), (1 << 32, 1)]
+    {
         assert_eq!(refusal(offset, &[7; 13][..count], &[9]), Refusal::Range, "offset {offset}, {count} bytes");
         assert_eq!(refusal(offset, &[7; 13][..count], &[3, 1]), Refusal::Range, "offset {offset}, {count} bytes");
     }

@@ -190,15 +190,7 @@ impl Editing<'_> {
     }
 
     /// One edit, by the file that the boards hold, and which of the kinds it is that only the alteration tells.
-    fn edit(
-        &self,
-        trial: &mut Trial,
-        kind: Altered,
-        area: &[u8],
-        file: Option<&[u8]>,
-        offset: usize,
-        bytes: Vec<u8>,
-    ) {
+    fn edit(&self, trial: &mut Trial, kind: Altered, area: &[u8], file: Option<&[u8]>, offset: usize, bytes: Vec<u8>) {
         let Scene { sizes, ref points, .. } = *self.scene;
         let length = self.scene.length();
         let record = store::words(sizes, points, self.capacity, Some(length), &self.in_service);

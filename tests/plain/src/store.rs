@@ -250,13 +250,7 @@ pub fn read(words: &[u64], area: &[u8], boards: &[usize], out: &mut [u8]) -> Res
 
 /// Puts bytes in the place of others of the file, from an offset on. The old bytes are those that k boards hold; each board in service gets the
 /// exclusive or of what it holds with what it would keep of old against new bytes, stripe by stripe as far as the edit reaches.
-pub fn edit(
-    words: &[u64],
-    area: &mut [u8],
-    offset: usize,
-    bytes: &[u8],
-    boards: &[usize],
-) -> Result<usize, Refusal> {
+pub fn edit(words: &[u64], area: &mut [u8], offset: usize, bytes: &[u8], boards: &[usize]) -> Result<usize, Refusal> {
     let record = Record::with_area(words, area)?;
     let beyond = bytes.len() > record.length || offset > record.length - bytes.len();
     refuse_if(!record.written, Refusal::Empty)?;
