@@ -3,7 +3,7 @@
 //! that the boards disagree in a stripe that the edit leaves or reaches. Each edit is one call over an area made up for it. The file that the boards
 //! hold is worked out by linear algebra, for all alterations of a case at once.
 
-use crate::call::refusal::DISAGREE;
+use crate::call::refusal::{DISAGREE, RANGE};
 use crate::call::{Call, Lent, Outcome};
 use crate::code::{self, Sizes};
 use crate::edits;
@@ -57,7 +57,7 @@ pub fn run(trial: &mut Trial, random: &mut Random, sizes: Sizes) {
 /// Edits of a file in an area with room for so many stripes, with each alteration.
 pub fn over(trial: &mut Trial, random: &mut Random, scene: &Scene, capacity: usize) {
     let Sizes { n, k, .. } = scene.sizes;
-    let lost = random.pick(&[0, 0, 1, 2, n - k]).min(n - k);
+    let lost = random.pick(&[0, 0, 1, 2, n - k, n - k]).min(n - k);
     let in_service = random.choose((0..n).collect(), n - lost);
     let boards = random.choose(in_service.clone(), k);
     let area = store_cases::true_area(random, scene, capacity);
@@ -92,6 +92,7 @@ pub fn over(trial: &mut Trial, random: &mut Random, scene: &Scene, capacity: usi
             editing.edit(trial, kind, &area, file.as_deref(), offset, bytes);
         }
     }
+    editing.beyond(trial, random);
 }
 
 impl Editing<'_> {
@@ -162,12 +163,15 @@ impl Editing<'_> {
         }
     }
 
-    /// Where the file is edited under an alteration: any place; and where the boards may disagree, also no bytes at all, and a stripe that is not the
-    /// altered one, if there is one.
+    /// Where the file is edited under an alteration: any place; with none also no bytes at L; and where the boards may disagree, no bytes at all, and a
+    /// stripe that is not the altered one, if there is one, and the altered one.
     fn places(&self, random: &mut Random, kind: Altered) -> Vec<(usize, usize)> {
         let Scene { sizes, .. } = *self.scene;
         let length = self.scene.length();
         let mut places = vec![edits::within(random, sizes, length)];
+        if kind == Altered::Nothing {
+            places.push((length, 0));
+        }
         if let Some(stripe) = self.altered_stripe(kind) {
             places.push((random.within(0, length), 0));
             let others: Vec<usize> = (0..self.scene.stripes()).filter(|&other| other != stripe).collect();
@@ -189,12 +193,37 @@ impl Editing<'_> {
         }
     }
 
+    /// Edits that go beyond the file's end, by one byte or by as much as there can be, with boards that could be read and with one too few.
+    fn beyond(&self, trial: &mut Trial, random: &mut Random) {
+        let length = self.scene.length();
+        let few = random.within(1, 4);
+        let places = [
+            (length + 1, 0),
+            (length, 1),
+            (length + 1 - few.min(length), few.min(length)),
+            (0, length + 1),
+            (usize::MAX, random.below(2)),
+            (few.wrapping_neg(), few),
+        ];
+        for (offset, count) in places {
+            let lent = self.lent(&self.area);
+            let boards = self.boards[usize::from(random.once_in(2))..].to_vec();
+            let call = Call::Edit { offset, bytes: random.bytes(count), boards };
+            trial.check(&call, &lent, &Outcome::refused(RANGE, &lent));
+        }
+    }
+
+    /// What an edit over an area is lent.
+    fn lent(&self, area: &[u8]) -> Lent {
+        let Scene { sizes, ref points, .. } = *self.scene;
+        let record = store::words(sizes, points, self.capacity, Some(self.scene.length()), &self.in_service);
+        Lent { record, area: area.to_vec(), out: Vec::new() }
+    }
+
     /// One edit, by the file that the boards hold, and which of the kinds it is that only the alteration tells.
     fn edit(&self, trial: &mut Trial, kind: Altered, area: &[u8], file: Option<&[u8]>, offset: usize, bytes: Vec<u8>) {
-        let Scene { sizes, ref points, .. } = *self.scene;
-        let length = self.scene.length();
-        let record = store::words(sizes, points, self.capacity, Some(length), &self.in_service);
-        let lent = Lent { record, area: area.to_vec(), out: Vec::new() };
+        let (sizes, length) = (self.scene.sizes, self.scene.length());
+        let lent = self.lent(area);
         let expected = match file {
             Some(old) => Outcome::accepted(0, store::edited(old, offset, &bytes, &lent)),
             None => Outcome::refused(DISAGREE, &lent),
