@@ -219,11 +219,12 @@ pub fn stripes(
         return None;
     }
     let mut decoder = Decoder::new(sizes, points, boards, &factors);
-    if length % stripe != 0 {
+    let rest = length % stripe;
+    if rest > 0 {
         let mut last = vec![0; stripe];
         kept.take(sizes, boards, area, length / stripe);
         decoder.decode(&kept, &mut last);
-        if last[length % stripe..].iter().any(|&byte| byte != 0) {
+        if last[rest..].iter().any(|&byte| byte != 0) {
             return None;
         }
     }
