@@ -152,7 +152,7 @@ fn small(trial: &mut Trial) {
     writes(trial, "M6 in the first series", share(first_series(2), 1), &[3, 6]);
 }
 
-/// M7 to M11, and the file back from every two boards.
+/// M7 to M11, and the file back from every two boards, and from no board twice.
 fn shares(trial: &mut Trial, series: &Series) {
     let Series { name, points, shares, .. } = series;
     for (node, share) in shares.iter().enumerate() {
@@ -166,6 +166,9 @@ fn shares(trial: &mut Trial, series: &Series) {
             writes(trial, &format!("{name}: the file from two boards"), call, &X2Y);
         }
     }
+    let (boards, twice) = (vec![3, 3], [shares[3], shares[3]].concat());
+    let call = Call::File { sizes: FIVE, points: points.clone(), length: 12, boards, shares: twice };
+    refused(trial, &format!("{name}: the file from one board twice"), call, Lent::output(vec![0xEE; 12]), REPEAT);
 }
 
 /// M12, at board level and in the store.
