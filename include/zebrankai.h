@@ -178,7 +178,7 @@ uint64_t zbk_read_text(const uint8_t *text, size_t text_len, uint64_t *head, siz
 uint64_t zbk_gather(const uint8_t *text, size_t text_len, uint8_t *out, size_t out_len);
 
 /* How far a text makes sense: reports the length of its longest beginning that also begins some text of zbk_share_text, with a line of points or
- * without. The byte behind that beginning is the first that no such text has there. Refuses nothing: a text that zbk_read_text takes reports its
+ * without. The byte behind that beginning, if there is one, is the first that no such text has there. Refuses nothing: a text that zbk_read_text takes reports its
  * whole length, and so does one that is merely cut short; no bytes report 0. */
 uint64_t zbk_text_prefix(const uint8_t *text, size_t text_len);
 
@@ -217,7 +217,7 @@ uint64_t zbk_read(uint64_t *record, size_t record_words, const uint8_t *area, si
 uint64_t zbk_edit(uint64_t *record, size_t record_words, uint8_t *area, size_t area_len, size_t offset, const uint8_t *bytes, size_t bytes_len,
                   const size_t *boards, size_t boards_count);
 
-/* The trial file: bytes that all draw alike from one number, for trials alone. */
+/* The trial file: bytes to try things with. The same seed gives the same bytes on every machine, and whoever sees some of them can tell the rest. */
 
 /* Fills all of out with the bytes that a generator emits with `seed` as its starting state, and gives the state after them. Each step replaces the
  * state by state * 1664525 + 1013904223, modulo 2^32, and emits the top eight bits of the new one. The state that it gives goes on as the seed of

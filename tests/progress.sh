@@ -9,17 +9,20 @@ trap 'rm -rf "$work"' EXIT
 fail() { echo "FAIL progress: $*"; exit 1; }
 unset ZBK_ARCHIVE
 
-# thirteen crates, of which the archive rests on eleven
+# fourteen crates, of which the archive rests on twelve: ten in a chain, and two beside it
 mkdir -p "$work/tests" "$work/bin"
 cp tests/prove_archive.sh tests/jobs.sh tests/memory.sh "$work/tests"
 {
     echo '# made-up: crates'
     echo 'c1: lists'
-    for i in 2 3 4 5 6 7 8 9 10 11; do echo "c$i: c$((i - 1)) # one more"; done
+    for i in 2 3 4 5 6 7 8 9; do echo "c$i: c$((i - 1)) # one more"; done
+    echo 'archive_store: c9'
+    echo 'c10: c4'
+    echo 'c11: c1 c10'
     echo 'other: c3'
-    echo 'zebrankai: c11'
+    echo 'zebrankai: archive_store c11'
 } >"$work/crates.txt"
-for crate in c1 c2 c3 c4 c5 c6 c7 c8 c9 c10 c11 zebrankai; do
+for crate in c1 c2 c3 c4 c5 c6 c7 c8 c9 archive_store c10 c11 zebrankai; do
     mkdir -p "$work/crates/$crate/src"
     echo "of $crate" >"$work/crates/$crate/src/lib.rt"
 done
@@ -60,7 +63,7 @@ END
 chmod +x "$work/bin/rt"
 CALLS=$work/calls
 C2=
-LAST='^proved 1[01] of'
+LAST='^proved 1[012] of'
 PATH=$work/bin:$PATH
 export CALLS C2 LAST PATH
 cd "$work"
@@ -72,14 +75,15 @@ control() { LC_ALL=C tr -d '\n -~' <said | wc -c | tr -d ' '; }
 prove || fail "the made-up crates are not proved: $(cat said)"
 [ ! -s out ] || fail "it wrote to standard output"
 [ "$(control)" -eq 0 ] || fail "control characters where there is no terminal"
-sed 's/[0-9]:[0-9][0-9]/M:SS/; s/^proved 1[01] of/proved 1x of/' said >plain
+sed 's/[0-9]:[0-9][0-9]/M:SS/; s/^proved 1[012] of/proved 1x of/' said >plain
 cat >expected <<'END'
-proving and building the archive, 12 crates: from nothing about 8 minutes on two cores
-proved 1x of 12 crates, M:SS so far, less than a minute to go
-the archive is proved and built, 12 crates in M:SS
+proving and building the archive, 13 crates: from nothing about 8 minutes on two cores
+proved 1x of 13 crates, M:SS so far, less than a minute to go
+the archive is proved and built, 13 crates in M:SS
 END
 diff expected plain || fail "other lines where there is no terminal"
-grep -qx 'check c1 c2 c3 c4 c5 c6 c7 c8 c9 c10 c11' calls || fail "other crates were proved: $(cat calls)"
+grep -qx 'check c1 c2 c3 c4 c5 c6 c7 c8 c9 archive_store' calls || fail "other crates were proved: $(cat calls)"
+for crate in c10 c11; do [ "$(grep -c "^check.* $crate\( \|\$\)" calls)" -eq 1 ] || fail "$crate was not proved once beside the chain: $(cat calls)"; done
 grep -qx 'staticlib zebrankai' calls || fail "the archive was not built"
 [ -f target/staticlib/libzebrankai.a ] || fail "there is no archive"
 
@@ -96,7 +100,7 @@ echo 'more' >>crates/c7/src/lib.rt
 again "a changed file"
 echo 'more' >>target/staticlib/libzebrankai.a
 again "a changed archive"
-sed 's/^c11: c10/c11: c10 c9/' crates.txt >other.txt && mv other.txt crates.txt
+sed 's/^c11: c1 c10/c11: c1 c9 c10/' crates.txt >other.txt && mv other.txt crates.txt
 again "another dependency"
 echo '# the end' >>crates.txt
 as_it_was "a comment"
@@ -113,6 +117,14 @@ grep -q '^fn c4::f: proved' target/prove_archive.log || fail "the log does not h
 tail -n 1 said | grep -q '^the archive could not be proved and built' || fail "it does not say that it failed"
 echo 'of c5' >crates/c5/src/lib.rt
 again "a file put right"
+# nor one beside the chain
+echo 'wrong' >>crates/c10/src/lib.rt
+! prove || fail "a crate beside the chain that is not proved is let pass"
+grep -qx 'c10: error: a fact fails' said || fail "what the prover said of a crate beside the chain is not shown: $(cat said)"
+! grep -q -e c4 -e c11 said || fail "another crate is shown: $(cat said)"
+! grep -q '^staticlib' calls || fail "the archive was built though a crate is not proved"
+echo 'of c10' >crates/c10/src/lib.rt
+again "a file beside the chain put right"
 
 # no prover
 if (PATH=/usr/bin:/bin && ! command -v rt >/dev/null); then
@@ -127,9 +139,9 @@ if command -v script >/dev/null && script --version 2>/dev/null | grep -q util-l
     LAST='; now zebrankai$'
     TERM=xterm script -qec 'sh tests/prove_archive.sh' /dev/null >said </dev/null || fail "on a terminal it is not proved: $(cat said)"
     [ "$(wc -l <said)" -eq 2 ] || fail "on a terminal more than a first and a last line: $(cat said)"
-    tr '\r' '\n' <said | grep -q 'proved 1 of 12 crates, 0:[0-9][0-9] so far; now c2$' || fail "it does not say which crate is being proved: $(cat said)"
-    tr '\r' '\n' <said | grep -q 'proved 11 of 12 crates, 0:[0-9][0-9] so far, less than a minute to go; now zebrankai$' || fail "nor that the archive is: $(cat said)"
-    tail -n 1 said | tr '\r' '\n' | tail -n 2 | grep -q "^$(printf '\033')\[Kthe archive is proved and built, 12 crates in 0:[0-9][0-9]" \
+    tr '\r' '\n' <said | grep -q 'proved 1 of 13 crates, 0:[0-9][0-9] so far; now c2$' || fail "it does not say which crate is being proved: $(cat said)"
+    tr '\r' '\n' <said | grep -q 'proved 12 of 13 crates, 0:[0-9][0-9] so far, less than a minute to go; now zebrankai$' || fail "nor that the archive is: $(cat said)"
+    tail -n 1 said | tr '\r' '\n' | tail -n 2 | grep -q "^$(printf '\033')\[Kthe archive is proved and built, 13 crates in 0:[0-9][0-9]" \
         || fail "the line is not cleared at the end: $(tail -n 1 said | od -c | head)"
 else
     echo "skipped the line on a terminal: no command 'script' to make one"

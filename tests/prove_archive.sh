@@ -1,8 +1,10 @@
 #!/bin/sh
 # Proves the archive and writes target/staticlib/libzebrankai.a: first the crates that it rests on, side by side as `rt check` proves them, then
-# the archive itself. On a terminal one line on standard error says how far it is and about how long the rest will take, by the crates done; elsewhere
-# there is a line for every ten crates. What the prover said is in target/prove_archive.log, and is shown of crates that are not proved. An archive that was proved and built from the files as
-# they stand is not built again. Where ZBK_ARCHIVE names another archive, seen from the top folder, it only sees that this is there.
+# the archive itself. `rt check` goes level by level, and waits for the last crate of each; so the crates that neither the store nor a gathering rests
+# on are proved by another one beside it, where a processor would stand idle. On a terminal one line on standard error says how far it is and about how long
+# the rest will take, by the crates done; elsewhere there is a line for every ten crates. What the prover said is in target/prove_archive.log, and is
+# shown of crates that are not proved. An archive that was proved and built from the files as they stand is not built again. Where ZBK_ARCHIVE names
+# another archive, seen from the top folder, it only sees that this is there.
 set -eu
 cd "$(dirname "$0")/.."
 say() { printf '%s\n' "$*" >&2; }
@@ -14,12 +16,19 @@ command -v rt >/dev/null || { say "rt, the Rattle toolchain, is not on the path"
 archive=target/staticlib/libzebrankai.a
 log=target/prove_archive.log
 
-# the crates that the archive rests on, in the order of crates.txt; it is the last itself
-below=$(awk '
-    function visit(n,    d, i, m) { if (n in seen || !(n in deps)) return; seen[n]; m = split(deps[n], d, " "); for (i = 1; i <= m; i++) visit(d[i]) }
-    { sub(/#.*/, ""); at = index($0, ":") }
-    at { n = substr($0, 1, at - 1); gsub(/[ \t]/, "", n); deps[n] = substr($0, at + 1); list[++count] = n }
-    END { visit("zebrankai"); for (i = 1; i <= count; i++) if (list[i] in seen && list[i] != "zebrankai") print list[i] }' crates.txt)
+# closure NAME...: these crates and those that they rest on, in the order of crates.txt, one to a line
+closure() {
+    awk -v tops="$*" '
+        function visit(n,    d, i, m) { if (n in seen || !(n in deps)) return; seen[n]; m = split(deps[n], d, " "); for (i = 1; i <= m; i++) visit(d[i]) }
+        { sub(/#.*/, ""); at = index($0, ":") }
+        at { n = substr($0, 1, at - 1); gsub(/[ \t]/, "", n); deps[n] = substr($0, at + 1); list[++count] = n }
+        END { m = split(tops, top, " "); for (i = 1; i <= m; i++) visit(top[i]); for (i = 1; i <= count; i++) if (list[i] in seen) print list[i] }' crates.txt
+}
+# those below the archive: the chains, which are what the store's calls and a gathering rest on, and the others
+below=$(closure zebrankai | grep -vx zebrankai)
+chain=$(closure archive_store board_gather)
+[ -n "$chain" ] || chain=$below
+others=$(printf '%s\n' "$below" | grep -vxF "$chain" || true)
 all=$(($(printf '%s\n' "$below" | wc -l) + 1))
 
 # what the archive is made of: the toolchain, and every file of these crates
@@ -43,12 +52,15 @@ fi
 began=$(date +%s)
 took() { t=$(($(date +%s) - began)) && printf '%d:%02d' $((t / 60)) $((t % 60)); }
 mkdir -p target/log
-rm -f "$archive.of"
+rm -f "$archive.of" "$log.stop" "$log.chain"
 : >"$log"
+: >"$log.beside"
 say "proving and building the archive, $all crates: from nothing about 8 minutes on two cores"
 
+# proved LOG...: the crates of which a prover said so
+proved() { sed -n 's/^rt: \([A-Za-z0-9_]*\) proved (.*/\1/p' "$@"; }
 # the crates that are done, and those being proved: each has an empty file in target/log until it ends
-ended() { sed -n 's/^rt: \([A-Za-z0-9_]*\) proved (.*/\1/p' "$log" | sort -u | wc -l | tr -d ' '; }
+ended() { proved "$log" "$log.beside" | sort -u | wc -l | tr -d ' '; }
 running() {
     names=$(find target/log -name '*.out' -size 0 -newer "$log.began" 2>/dev/null | sed 's,.*/,,; s,\.out$,,' | tr '\n' ' ')
     [ -n "$names" ] || [ "$1" -lt $((all - 1)) ] || names='zebrankai '
@@ -68,7 +80,7 @@ rest() {
             if (done == 0 || done * 10 < all) exit
             s = so_far * (all - done) / done
             if (s < 60) printf ", less than a minute to go"; else printf ", about %d minutes to go", int(s / 60 + 1)
-        }' "$log.bytes" "$log" | sed 's/about 1 minutes/about a minute/'
+        }' "$log.bytes" "$log" "$log.beside" | sed 's/about 1 minutes/about a minute/'
 }
 # one line, kept up to date
 line() {
@@ -109,10 +121,11 @@ quiet() {
     shower=
     # shellcheck disable=SC2059 # the control characters
     printf "$clear" >&2
-    rm -f "$log.began" "$log.bytes"
+    rm -f "$log.began" "$log.bytes" "$log.now"
 }
 memory=
-trap 'quiet; [ -z "$memory" ] || rm -rf "$memory"' EXIT
+other=
+trap 'quiet; [ -z "$other" ] || : >"$log.stop"; [ -z "$memory" ] || rm -rf "$memory"' EXIT
 trap 'exit 130' INT
 trap 'exit 143' TERM HUP
 
@@ -120,8 +133,62 @@ first=$(made_of)
 . tests/memory.sh
 # a level is proved at once: of the levels with many crates none takes more than 1.3 GB for a check
 jobs=$(sh tests/jobs.sh 8 1300000)
-# shellcheck disable=SC2086 # the crates are words
-if ! { RT_JOBS=$jobs rt check $below && rt staticlib zebrankai; } >"$log" 2>&1; then
+
+# ready CRATE...: those of them that rest on nothing but what a prover said is proved; the chains' prover has no more to do with these
+ready() {
+    { echo 'proved:' && proved "$log" "$log.beside"; } | awk -v asked="$*" '
+        NR == FNR { done[$1]; next }
+        { sub(/#.*/, ""); at = index($0, ":") }
+        at { n = substr($0, 1, at - 1); gsub(/[ \t]/, "", n); deps[n] = substr($0, at + 1) }
+        END {
+            k = split(asked, list, " ")
+            for (i = 1; i <= k; i++) {
+                m = split(deps[list[i]], d, " "); waits = 0
+                for (j = 1; j <= m; j++) if (d[j] in deps && !(d[j] in done)) waits = 1
+                if (!waits) print list[i]
+            }
+        }' - crates.txt
+}
+# check_beside JOBS CRATE...: proves these, behind the chains in rank, and adds what was said of them, and not of those below them, to its log
+check_beside() {
+    outcome=0 at_once=$1
+    shift
+    RT_JOBS=$at_once nice -n 5 rt check "$@" >"$log.now" 2>&1 || outcome=$?
+    awk -v asked=" $* " '/^rt: [A-Za-z0-9_]+ proved \(unchanged/ && !index(asked, " " $2 " ") { next } { print }' "$log.now" >>"$log.beside"
+    return "$outcome"
+}
+# the others: a few at a time beside the chains, and all that are left at their end
+beside() {
+    left=$others
+    while [ -n "$left" ] && [ ! -f "$log.stop" ]; do
+        if [ -f "$log.chain" ]; then
+            # shellcheck disable=SC2086 # the crates are words
+            check_beside "$jobs" $left
+            return
+        fi
+        # shellcheck disable=SC2086
+        now=$(ready $left)
+        if [ -z "$now" ]; then
+            sleep 3
+            continue
+        fi
+        # shellcheck disable=SC2086
+        check_beside 4 $now || return
+        left=$(printf '%s\n' "$left" | grep -vxF "$now" || true)
+    done
+}
+outcome=0
+beside &
+other=$!
+# shellcheck disable=SC2086
+RT_JOBS=$jobs rt check $chain >"$log" 2>&1 || outcome=$?
+if [ "$outcome" -eq 0 ]; then : >"$log.chain"; else : >"$log.stop"; fi
+wait "$other" || outcome=$?
+other=
+rm -f "$log.stop" "$log.chain"
+sed '/^rt: ok, /d' "$log.beside" >>"$log"
+if [ "$outcome" -eq 0 ]; then rt staticlib zebrankai >>"$log" 2>&1 || outcome=$?; fi
+if [ "$outcome" -ne 0 ]; then
     quiet
     # what was said of a crate that is proved is left out
     awk '/^rt: [A-Za-z0-9_]+ proved \(/ { text = ""; next }

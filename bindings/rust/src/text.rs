@@ -79,7 +79,7 @@ pub fn gather(text: &[u8], out: &mut [u8]) -> Result<usize, Refusal> {
 }
 
 /// How far a text makes sense: the length of its longest beginning that also begins some text that [`share_text`](crate::board::share_text) writes,
-/// with a line of points or without. The byte behind that beginning is the first that no such text has there. It refuses nothing: a text that
+/// with a line of points or without. The byte behind that beginning, if there is one, is the first that no such text has there. It refuses nothing: a text that
 /// [`read_text`] takes gives its whole length, and so does one that is merely cut short; no bytes give 0.
 ///
 /// ```

@@ -1,4 +1,4 @@
-//! The trial file: bytes that all draw alike from one number.
+//! The trial file: bytes to try things with, the same from one seed on every machine.
 
 // As include/zebrankai.h declares it.
 extern "C" {
