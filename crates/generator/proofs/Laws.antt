@@ -59,7 +59,8 @@ emits m i state h =
     ∙ tabulate-at m (byteAt state) 0 i h
     ∙ ap topByte (sym (after-one i state))
 
-pub filled : (state : ℕ) (out₀ out : List ℕ) (t : ℕ) → length out₀ ≤ t → out ≡ tabulate t (byteAt state) ++ drop t out₀ → t ≤ length out₀ → out ≡ emitted (length out₀) state
+pub filled : (state : ℕ) (out₀ out : List ℕ) (t : ℕ) → length out₀ ≤ t → out ≡ tabulate t (byteAt state) ++ drop t out₀
+    → t ≤ length out₀ → out ≡ emitted (length out₀) state
 filled state out₀ out t h e k =
     let q : t ≡ length out₀ = omega (arith, h, k) in
     e ∙ fill-all (byteAt state) out₀ t h ∙ ap (λ (t : ℕ). tabulate t (byteAt state)) q ∙ sym (emitted-at (length out₀) state)

@@ -133,14 +133,16 @@ common-apart [] w h = refl
 common-apart (a ∷ input) [] h = refl
 common-apart (a ∷ input) (b ∷ w) h = rw (ne-eqb a b h)
 
-pub best-either : (c : ℕ) (p q : List ℕ → Bool) (input : List ℕ) (a b : ℕ) → ((w : List ℕ) → p w ≡ true → getD w 0 0 ≡ c) → ((w : List ℕ) → q w ≡ true → getD w 0 0 ≢ c)
+pub best-either : (c : ℕ) (p q : List ℕ → Bool) (input : List ℕ) (a b : ℕ) → ((w : List ℕ) → p w ≡ true → getD w 0 0 ≡ c)
+    → ((w : List ℕ) → q w ≡ true → getD w 0 0 ≢ c)
     → Best p input a → Best q input b → Best (λ w. pick (eqb (getD w 0 0) c) (p w) (q w)) input (pick (eqb (getD input 0 0) c) a b)
 best-either c p q input a b starts others r s = by (eqb (getD input 0 0) c) refl
   where
     either : List ℕ → Bool
     either w = pick (eqb (getD w 0 0) c) (p w) (q w)
 
-    further : (d : ℕ) (w : List ℕ) → either w ≡ true → (getD w 0 0 ≡ c → p w ≡ true → common input w ≤ d) → (getD w 0 0 ≢ c → q w ≡ true → common input w ≤ d) → common input w ≤ d
+    further : (d : ℕ) (w : List ℕ) → either w ≡ true → (getD w 0 0 ≡ c → p w ≡ true → common input w ≤ d)
+        → (getD w 0 0 ≢ c → q w ≡ true → common input w ≤ d) → common input w ≤ d
     further d w e f g = on-byte (eqb (getD w 0 0) c) refl e
       where
         on-byte : (t : Bool) → eqb (getD w 0 0) c ≡ t → pick t (p w) (q w) ≡ true → common input w ≤ d

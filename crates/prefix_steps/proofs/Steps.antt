@@ -45,7 +45,8 @@ pub goes-from : (text : List ℕ) (at : ℕ) (count : (ℕ → List ℕ → ℕ)
     → w .at + go (w .value) (drop (w .at) text) ≡ at + count go
 goes-from text at count w h e go = sym (h go ∙ yes (w .ok) _ (w .at) e)
 
-pub goes-end : (text : List ℕ) (at : ℕ) (count : (ℕ → List ℕ → ℕ) → ℕ) (w : Went) → Goes text at count w → w .ok ≡ false → (go : ℕ → List ℕ → ℕ) → w .at ≡ at + count go
+pub goes-end : (text : List ℕ) (at : ℕ) (count : (ℕ → List ℕ → ℕ) → ℕ) (w : Went)
+    → Goes text at count w → w .ok ≡ false → (go : ℕ → List ℕ → ℕ) → w .at ≡ at + count go
 goes-end text at count w h e go = sym (h go ∙ no (w .ok) _ (w .at) e)
 
 stopped-not : (w : Went) (p : ℕ) → w ≡ stopped p → w .ok ≡ true → ⊥

@@ -23,7 +23,8 @@ use Rattle.board_spec.specs.Calls.{fileOf}
 use Rattle.printer.specs.Printer.{refusedLine}
 use Rattle.store_spec.specs.Record.{Record, newRecord, areaLen}
 use Rattle.store_spec.specs.Calls.{StoreOutcome, settle, refused, accepted, recordLine, setUpCall}
-use Rattle.store_spec.specs.Ledger.{Call, write, lose, repair, read, Reply, Book, Entry, State, Step, Altered, Allowed, Fair, act, replyOf, left, replied, bookLines, accept, enter, replies, openBook, bookReplies}
+use Rattle.store_spec.specs.Ledger.{Call, write, lose, repair, read, Reply, Book, Entry, State, Step, Altered, Allowed}
+use Rattle.store_spec.specs.Ledger.{Fair, act, replyOf, left, replied, bookLines, accept, enter, replies, openBook, bookReplies}
 use Rattle.store_spec.specs.Demand3.{begun, calls}
 use Rattle.store_spec.proofs.Demand3.{demand-3}
 use Rattle.generator.specs.Generator.{step, topByte, after, emitted}

@@ -19,7 +19,8 @@ other : (x : ℕ) → x ≢ 0 → x ≢ 1 → x ≢ 2 → x ≢ 3 → x ≢ 4 �
 other x a b c d e = rw (ne-eqb x 0 a, ne-eqb x 1 b, ne-eqb x 2 c, ne-eqb x 3 d, ne-eqb x 4 e)
 
 -- by the name
-named : (text : List ℕ) (at x y : ℕ) (w : Went) → nameOf x ≡ nameOf y → Goes text at (λ go. nameOn (nameOf y) (drop at text) (go 0)) w → Goes text at (λ go. nameOn (nameOf x) (drop at text) (go 0)) w
+named : (text : List ℕ) (at x y : ℕ) (w : Went) → nameOf x ≡ nameOf y → Goes text at (λ go. nameOn (nameOf y) (drop at text) (go 0)) w
+    → Goes text at (λ go. nameOn (nameOf x) (drop at text) (go 0)) w
 named text at x y w e h = subst (λ (l : List ℕ). Goes text at (λ go. nameOn l (drop at text) (go 0)) w) (sym e) h
 
 returns : tie.Need-returns

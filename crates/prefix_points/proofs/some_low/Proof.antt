@@ -24,8 +24,10 @@ abbrev μ-loop : tie.MeasureT-loop
 μ-loop points₀ high left last low₀ points low = low
 
 -- what is asked of the last byte
-tried : (points₀ points : List ℕ) (high left low : ℕ) → length points ≡ length points₀ → 1 ≤ length points₀ → take (length points₀ - 1) points ≡ take (length points₀ - 1) points₀
-    → (r : Bool) → r ≡ mayPoint (length (set points (length points₀ - 1) (16 * high + low)) + left) left (set points (length points₀ - 1) (16 * high + low)) → r ≡ may points₀ high left low
+tried : (points₀ points : List ℕ) (high left low : ℕ) → length points ≡ length points₀
+    → 1 ≤ length points₀ → take (length points₀ - 1) points ≡ take (length points₀ - 1) points₀
+    → (r : Bool) → r ≡ mayPoint (length (set points (length points₀ - 1) (16 * high + low)) + left) left (set points (length points₀ - 1) (16 * high + low))
+    → r ≡ may points₀ high left low
 tried points₀ points high left low e h t r q =
     q ∙ ap₂ (λ (m : ℕ) (l : List ℕ). mayPoint (m + left) left l) (length-set points (length points₀ - 1) (16 * high + low) ∙ e) (last-set points points₀ (16 * high + low) e h t)
 
