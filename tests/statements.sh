@@ -30,6 +30,11 @@ for f in crates/*/must-fail/*.edit; do
     grep -qF "\`edit $e\`" "$page" || complain "the edit $e is not named"
 done
 
+# the prover takes one line of an edit's text, and passes over any other: a text of several lines would change something else, or nothing
+for f in crates/*/must-fail/*.edit crates/*/neutral/*.edit; do
+    ! grep -v -e '^file: ' -e '^old: ' -e '^new:' -e '^#' -e '^$' "$f" >/dev/null || complain "$f has a line that the prover passes over"
+done
+
 # how much a buyer reads: definitions, theorem statements, tables; without imports, blanks and comments
 lines() { cat "$@" | grep -v -E '^[[:space:]]*(--|use |$)' | wc -l | tr -d ' '; }
 tables=$(ls crates/*/specs/*Figures.antt)

@@ -268,6 +268,7 @@ refuses input e = ap trialOf e
 
 pub trial-laws : TrialLaws
 trial-laws = record {
+  area-is = λ l. refl;
   taken-is = λ l. (takes l, takes-back l);
   by-ledger = by-ledger;
   any-output = any-output;
