@@ -1,4 +1,5 @@
 pub mod Settled
+pub mod Readable
 pub mod ReadCall
 pub mod RepairCall
 pub mod Demand3

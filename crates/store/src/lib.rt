@@ -197,9 +197,6 @@ impl Store {
         let capacity = self.capacity;
         let length = self.length;
         let marks = self.marks;
-        let mut inverses = [0u8; 256];
-        inverses::fill_inverses(&mut inverses);
-        let mut tables = [0u8; 49152];
         if let Check::Refuse(x) = read_check::check_read(
             sizes,
             &points,
@@ -207,15 +204,27 @@ impl Store {
             self.written,
             length,
             &marks,
-            &inverses,
-            area,
+            area.len(),
             boards,
             out,
-            &mut tables,
         ) {
             return refuse(self, x);
         }
         let count = checks::stripe_count(sizes, length);
+        let mut tables = [0u8; 49152];
+        store_decode::fill_tables(sizes, &points, boards, &mut tables);
+        if let Check::Refuse(disagree) = store_decode::check_agrees(
+            sizes,
+            capacity,
+            &points,
+            length,
+            count,
+            boards,
+            area,
+            &tables,
+        ) {
+            return refuse(self, disagree);
+        }
         store_decode::file(
             sizes,
             capacity,
