@@ -72,7 +72,8 @@ file-asks c κs =
     let f = asks t in
     let r = f .is-ready in
     let e = n .before .before .before .before .before .before .stripe-count .ensures .0 in
-    (f .is-asked, e, r .cap-high, rw e (r .few-stripes), f .area-is, n .before .before .before .fill-tables .ensures, read-facts (R k) (a .area .now) (a .boards .now) (a .out .now) (passed q) .0 .room)
+    let room = read-facts (R k) (a .area .now) (a .boards .now) (a .out .now) (passed q) .0 .room in
+    (f .is-asked, e, r .cap-high, rw e (r .few-stripes), f .area-is, n .before .before .before .fill-tables .ensures, room)
 
 read-done : tie.Need-returns-3
 read-done c =
