@@ -14,7 +14,7 @@ use Rattle.mbcr.specs.Share.{standard}
 use Rattle.printer.specs.Printer.{refusedLine}
 use Rattle.store_spec.specs.Record.{Record, areaLen}
 use Rattle.store_spec.specs.Calls.{setUpCall}
-use Rattle.store_spec.specs.Ledger.{Call, write, lose, repair, read, Fair, openBook, bookReplies}
+use Rattle.store_spec.specs.Ledger.{Call, write, lose, repair, read, edit, Fair, openBook, bookReplies}
 use Rattle.store_spec.specs.Demand3.{begun}
 use Rattle.trial_spec.specs.Trial.{Load, newStore, taken, loaded, drawnCalls, printed, storeReplies, trialOver, trialText}
 
@@ -30,6 +30,7 @@ cleared (write file) = write file
 cleared (lose board) = lose board
 cleared (repair fresh helpers standIns) = repair fresh helpers standIns
 cleared (read boards output) = read boards (replicate (length output) 0)
+cleared (edit offset bytes boards) = edit offset bytes boards
 
 pub record TrialLaws : Type 0 where
   -- the bytes of the area: C stripes of each of n boards
