@@ -19,8 +19,8 @@ export LC_ALL
 . tests/printer.sh
 gcc -O1 -Wall -shared -fPIC tests/sizes_write.c -o "$work/write.so" -ldl
 gcc -O1 -Wall tests/sizes_pipe.c -o "$work/pipe"
-# a program that takes more calls than it may is ended after ten million bytes
-ulimit -f 20000
+# a program that takes more calls than it may is ended after thirty million bytes; a load of a million calls prints 26 million
+ulimit -f 60000
 in=$work/in
 due=$work/due
 # the same as in tests/printer.sh, with a line for what differs alone
