@@ -25,17 +25,20 @@ st-at-entry c = c .before .before .before .before .before .before .before
 abbrev st-at-name : tie.After-name-boards-arg → tie.Start
 st-at-name c = st-at-entry (c .before)
 
-abbrev st-at-call : tie.After-repair-shares-arg2 → tie.Start
-st-at-call c = st-at-name (c .before .before .before .before .before)
-
-abbrev name-at-call : tie.After-repair-shares-arg2 → tie.After-name-boards
-name-at-call c = c .before .before .before .before
-
 abbrev named-at-call : tie.After-repair-shares-arg2 → tie.After-named
 named-at-call c = c .before .before .before
 
+abbrev name-at-call : tie.After-repair-shares-arg2 → tie.After-name-boards
+name-at-call c = named-at-call c .before
+
+abbrev st-at-call : tie.After-repair-shares-arg2 → tie.Start
+st-at-call c = st-at-name (name-at-call c .before)
+
+abbrev repair-shares-at-slice-known4 : tie.After-slice-known4 → tie.After-repair-shares
+repair-shares-at-slice-known4 c = c .before .before
+
 abbrev st-at-end : tie.After-slice-known4 → tie.Start
-st-at-end c = st-at-call (c .before .before .before)
+st-at-end c = st-at-call (repair-shares-at-slice-known4 c .before)
 
 facts : (c : tie.Start) → Legal (c .args .sizes)
 facts c = legal-facts _ (c .pre .0)
@@ -89,11 +92,11 @@ returns c =
     let g = st-at-end c in
     let a = g .args in
     let w = a .capacity * α (a .sizes) in
-    c .before .before .repair-shares .ensures
+    repair-shares-at-slice-known4 c .repair-shares .ensures
     ∙ ap (λ (l : List ℕ). puts (λ b. getD (a .fresh .now) b 0 * w)
     (λ b. join (a .stripes) (λ s. rebuilt (a .sizes) (a .points .now) (λ j. piece (α (a .sizes)) s (drop (j * w) (a .area .now))) (a .fresh .now) (a .c) l b))
     (length (a .fresh .now)) (a .area .now))
-    (name-at-call (c .before .before .before) .name-boards .ensures)
+    (name-at-call (repair-shares-at-slice-known4 c .before) .name-boards .ensures)
 
 pub repair-lists-spec : {M : Type 1} → statement M
 repair-lists-spec =

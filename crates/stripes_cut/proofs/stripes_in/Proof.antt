@@ -32,14 +32,17 @@ st-lent c = c .before .before .before .before .before .before .before .before .b
 abbrev st-turn : tie.In-loop Inv-loop μ-loop → tie.Start Inv-loop μ-loop
 st-turn c = st-lent (c .before .before)
 
+abbrev least-at-decode-stripe-arg8 : tie.After-decode-stripe-arg8 Inv-loop μ-loop → tie.After-least Inv-loop μ-loop
+least-at-decode-stripe-arg8 c = c .before .before .before .before .before .before .before .before
+
 abbrev turn-at-decode-stripe-arg8 : tie.After-decode-stripe-arg8 Inv-loop μ-loop → tie.In-loop Inv-loop μ-loop
-turn-at-decode-stripe-arg8 c = c .before .before .before .before .before .before .before .before .before
+turn-at-decode-stripe-arg8 c = least-at-decode-stripe-arg8 c .before
 
 abbrev st-decode-stripe-arg8 : tie.After-decode-stripe-arg8 Inv-loop μ-loop → tie.Start Inv-loop μ-loop
 st-decode-stripe-arg8 c = st-turn (turn-at-decode-stripe-arg8 c)
 
 abbrev least-at-decode-stripe : tie.After-decode-stripe Inv-loop μ-loop → tie.After-least Inv-loop μ-loop
-least-at-decode-stripe c = c .before .before .before .before .before .before .before .before .before
+least-at-decode-stripe c = least-at-decode-stripe-arg8 (c .before)
 
 abbrev decode-stripe-at-copy-arg : tie.After-copy-arg Inv-loop μ-loop → tie.After-decode-stripe Inv-loop μ-loop
 decode-stripe-at-copy-arg c = c .before .before .before .before .before .before .before .before .before .before .before .before .before .before .before .before .before
