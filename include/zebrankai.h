@@ -50,8 +50,8 @@ enum {
     ZBK_HEAD_WORDS = 6
 };
 
-/* Why a call was refused. Where several hold, the first is given: of the store in the order 1, 2, 3, 8, 4, 5, 6, 14, 9, 7, 10, at board level
- * in the order 12, 1, 3, 13, 4, 5, 6, 2, 7, 10. 11 is not used: no call answers it. */
+/* Why a call was refused. Where several hold, the first is given: of the store in the order 1, 2, 3, 8, 15, 4, 5, 6, 14, 9, 7, 10, at board
+ * level in the order 12, 1, 3, 13, 4, 5, 6, 2, 7, 10. 11 is not used: no call answers it. */
 enum zbk_refusal_number {
     /* The call was accepted. */
     ZBK_ACCEPTED = 0,
@@ -71,7 +71,7 @@ enum zbk_refusal_number {
     ZBK_REPEAT = 6,
     /* The output is shorter than what is to be written. */
     ZBK_SHORT = 7,
-    /* A repair or a read before any file was written. */
+    /* A repair, a read or an edit before any file was written. */
     ZBK_EMPTY = 8,
     /* A board to read from, a helper or a stand-in is out of service. */
     ZBK_DOWN = 9,
@@ -82,7 +82,9 @@ enum zbk_refusal_number {
     /* The texts differ in sizes, points or length. */
     ZBK_MIXED = 13,
     /* A fresh board is in service. */
-    ZBK_SERVING = 14
+    ZBK_SERVING = 14,
+    /* The edit goes beyond the end of the file. */
+    ZBK_RANGE = 15
 };
 
 /* The words of a record, by place. Keep them together with the area; change them only by the calls. A record of eight words, as calls without
@@ -205,6 +207,15 @@ uint64_t zbk_repair(uint64_t *record, size_t record_words, uint8_t *area, size_t
 /* Reads the file from k boards into the first bytes of out; the rest of out stays. What record and area say does not change. */
 uint64_t zbk_read(uint64_t *record, size_t record_words, const uint8_t *area, size_t area_len, const size_t *boards, size_t boards_count,
                   uint8_t *out, size_t out_len);
+
+/* Puts `bytes` in the place of as many bytes of the file, from byte `offset` on: the file that reads give is from then on the edited one. Its length
+ * stays; ZBK_RANGE where offset and bytes_len together are more than that. The old bytes are those that the k boards in service in `boards` hold, of
+ * which all stripes are looked at, as by a read. Every board in service, whether it was read or not, is changed by its share of the difference of old
+ * and new bytes, and only in stripes that the edit reaches: a board that held its share holds that of the edited file, and one that held wrong bytes
+ * stays wrong. Boards out of service keep their bytes. No bytes at all, at an offset up to the file's length, are accepted and change nothing, where
+ * the boards pass the same checks. What the record says does not change. */
+uint64_t zbk_edit(uint64_t *record, size_t record_words, uint8_t *area, size_t area_len, size_t offset, const uint8_t *bytes, size_t bytes_len,
+                  const size_t *boards, size_t boards_count);
 
 /* The trial file: bytes to try things with. The same seed gives the same bytes on every machine, and whoever sees some of them can tell the rest. */
 

@@ -337,6 +337,12 @@ for turn in 1 2 3; do
     timeout 60 "$work/pipe" "$program" <"$in" >"$out" || status=$?
     beginning "a full pipe, turn $turn" "$status"
 done
+# as many calls as some loop might leave out, whole
+load 4 2 2 1 3 79 13 1000000 >"$in"
+"$coder" --trial <"$in" >"$due"
+status=0
+timeout 60 "$program" <"$in" >"$out" || status=$?
+held "1000000 calls" "$status" "$due"
 # more calls than anyone waits for: the first lines; then no room, no output, and readers that go away, where the program must end at once
 load 4 2 2 1 3 78 13 4294967295 >"$in"
 "$coder" --trial <"$in" 2>/dev/null | head -n 20000 >"$due"

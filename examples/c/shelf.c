@@ -5,7 +5,7 @@
  * on both robots.
  *
  * Three of its shares are also written as texts, as before boards are pulled for the workshop, and loaded again: one for its share, all three for
- * the file.
+ * the file. At last a carton is loaded: one pack count, four bytes of the file, is changed by an edit, and read back from other boards.
  *
  * Build, from the top folder:  cc -std=c11 -Iinclude examples/c/shelf.c target/staticlib/libzebrankai.a -o shelf
  */
@@ -120,6 +120,25 @@ static int write_and_load(const uint8_t *points, const uint8_t *area, const size
     return same;
 }
 
+/* Loads a carton of 24 bags: four bytes of the file, "120 ", become "144 ", without a rewrite. Three boards tell the old bytes, and three others give
+ * the edited file back; gives whether it is that. */
+static int load_carton(uint64_t *record, uint8_t *area, uint8_t *out, size_t length) {
+    const size_t tellers[K] = {0, 2, 5}, readers[K] = {3, 4, 6};
+    const char count[] = "144 ";
+    const size_t offset = (size_t)(strstr(stock, "120 ") - stock), count_len = sizeof count - 1;
+    refused("an edit beyond the file's end",
+            zbk_edit(record, ZBK_RECORD_WORDS, area, AREA, length - 3, (const uint8_t *)count, count_len, tellers, K), ZBK_RANGE);
+    accepted("edit", zbk_edit(record, ZBK_RECORD_WORDS, area, AREA, offset, (const uint8_t *)count, count_len, tellers, K));
+    accepted("read after an edit", zbk_read(record, ZBK_RECORD_WORDS, area, AREA, readers, K, out, length));
+    char due[sizeof stock];
+    memcpy(due, stock, sizeof stock);
+    memcpy(due + offset, count, count_len);
+    const int same = memcmp(out, due, length) == 0;
+    printf("a carton loaded: bytes %zu to %zu edited, read from boards 3, 4 and 6: %s\n", offset, offset + count_len - 1,
+           same ? "the edited file" : "ANOTHER FILE");
+    return same;
+}
+
 /* The stock file on one robot, over an area and an output that are lent; gives whether all was as it must be. */
 static int robot(const uint8_t *points, uint8_t *area, uint8_t *out, size_t length) {
     uint64_t record[ZBK_RECORD_WORDS] = {0};
@@ -154,6 +173,7 @@ static int robot(const uint8_t *points, uint8_t *area, uint8_t *out, size_t leng
 
     /* the text says the points where board i has another one than i */
     const int said = print_text(record, points, area, 4) == (points[0] != 0);
+    if (!load_carton(record, area, out, length)) return 0;
     const uint64_t stripes = (length + STRIPE - 1) / STRIPE;
     const uint64_t board_moved = stripes * (2 * D + R - 1);
     return same && said && moved_for_one == board_moved && moved == R * board_moved;

@@ -1,5 +1,5 @@
 /*
- * header.c: include/zebrankai.h held to the archive, in C11 and in C++11. Each constant is held to its number, written out here; each of the fifteen
+ * header.c: include/zebrankai.h held to the archive, in C11 and in C++11. Each constant is held to its number, written out here; each of the sixteen
  * calls is made with arguments that differ, and its whole answer, every word and every byte that it was lent, and those behind, are held to what must
  * stand there; and each refusal is brought about and held to its name.
  *
@@ -36,6 +36,7 @@ IS(ZBK_DISAGREE, 10);
 IS(ZBK_TEXT, 12);
 IS(ZBK_MIXED, 13);
 IS(ZBK_SERVING, 14);
+IS(ZBK_RANGE, 15);
 
 IS(ZBK_WORD_N, 0);
 IS(ZBK_WORD_K, 1);
@@ -141,6 +142,16 @@ static const char other_stock_text[] = "n=9\nk=2\nd=4\nr=3\nnode=3\nlength=39\np
 /* what the helpers 8, 0, 5 and 6 send to board 3, and what the boards 7 and 1 send it as partners */
 static const char to_board_3[] = "aee31f91417b020a881002280eed9f262df3b5921e181fd0";
 static const char partners_to_board_3[] = "7b9fc8de06b7";
+
+/* the same file with "98 boxes" in the place of "120 bags", over the end of the first of its stripes; the third has no byte of it */
+static const char edited[] = "saline 0.9 %: 98 boxes\ngauze: 17 boxes\n";
+enum { EDITED_FROM = 14, EDITED = 8 };
+static const char *const edited_shares[9] = {
+    "e1ca1c3fa89c68f0a9ef802f20e9754bd28513dae37c8c0243381bfab228", "73929d10ac4ab4269c8d6fcf003bf978b4e3311665951b5a21021a2db70c",
+    "0cebfed988238281026cd103f7cb10decba619fadd5312694a52e147fca3", "0ca9efc3f661ef07b1107b465e87de77da4aa48dc988f3d0c87b28722d1f",
+    "66081b5fb63e8dc69dc404efb54fdd8716c1bd0c33486b73c0930c6c5ea1", "076b3c79b4e16c0a0c43ab9d55d9f09efab27afd17342c9fcc53a325da7b",
+    "c88347540964104015682a4a7157fc3e8dea0fd2061eadfe61911ff9581b", "984599429a80c439e8b4e639f2879cf00c8da7b4e152019e6ee0a140031a",
+    "913241c19914435f128290cf613e38c2fd1ef8cbf3a03fcf41007bb0a9e1"};
 
 /* ---- board level */
 
@@ -344,6 +355,42 @@ static void made_up(uint64_t *record) {
 /* The area of stock: 9 boards, 5 stripes of 10 bytes each, of which the first 3 hold the file; and bytes behind it. */
 enum { CAPACITY = 5, BOARD = CAPACITY * 10, AREA = 9 * BOARD, SPOILT = 0x5A };
 
+/* An edit, with board 4 out of service and a wrong byte on board 8: the value of F at its own point and that of board 3, in the second stripe. */
+static void edits(uint64_t *record, uint8_t *area, uint8_t *area_due, const struct due *due) {
+    enum { WRONG = 8 * BOARD + 10 + 4 };
+    const uint8_t *const bytes = (const uint8_t *)edited + EDITED_FROM;
+    const size_t two[2] = {7, 3}, down[2] = {7, 4}, disagree[2] = {8, 3}, beyond[2] = {9, 9}, repeated[2] = {4, 4};
+    area[WRONG] ^= 0x99;
+    area_due[WRONG] ^= 0x99;
+
+    answers(__LINE__, zbk_edit(record, ZBK_RECORD_WORDS - 1, area, AREA - 1, STOCK, bytes, EDITED, two, 1), ZBK_SIZE);
+    answers(__LINE__, zbk_edit(record, ZBK_RECORD_WORDS, area, AREA - 1, STOCK, bytes, EDITED, two, 1), ZBK_AREA);
+    answers(__LINE__, zbk_edit(record, ZBK_RECORD_WORDS, area, AREA, STOCK - EDITED + 1, bytes, EDITED, two, 1), ZBK_RANGE);
+    answers(__LINE__, zbk_edit(record, ZBK_RECORD_WORDS, area, AREA, SIZE_MAX - EDITED + 1, bytes, EDITED, two, 2), ZBK_RANGE);
+    answers(__LINE__, zbk_edit(record, ZBK_RECORD_WORDS, area, AREA, STOCK + 1, bytes, 0, two, 2), ZBK_RANGE);
+    answers(__LINE__, zbk_edit(record, ZBK_RECORD_WORDS, area, AREA, EDITED_FROM, bytes, EDITED, beyond, 1), ZBK_COUNT);
+    answers(__LINE__, zbk_edit(record, ZBK_RECORD_WORDS, area, AREA, EDITED_FROM, bytes, EDITED, beyond, 2), ZBK_NODE);
+    answers(__LINE__, zbk_edit(record, ZBK_RECORD_WORDS, area, AREA, EDITED_FROM, bytes, EDITED, repeated, 2), ZBK_REPEAT);
+    answers(__LINE__, zbk_edit(record, ZBK_RECORD_WORDS, area, AREA, EDITED_FROM, bytes, EDITED, down, 2), ZBK_DOWN);
+    answers(__LINE__, zbk_edit(record, ZBK_RECORD_WORDS, area, AREA, EDITED_FROM, bytes, EDITED, disagree, 2), ZBK_DISAGREE);
+    /* a stripe that it does not reach, and no bytes at all */
+    answers(__LINE__, zbk_edit(record, ZBK_RECORD_WORDS, area, AREA, 0, bytes, 1, disagree, 2), ZBK_DISAGREE);
+    answers(__LINE__, zbk_edit(record, ZBK_RECORD_WORDS, area, AREA, STOCK, bytes, 0, disagree, 2), ZBK_DISAGREE);
+    answers(__LINE__, zbk_edit(record, ZBK_RECORD_WORDS, area, AREA, STOCK, bytes, 0, two, 2), 0);
+    record_is(__LINE__, record, due);
+    bytes_are(__LINE__, "a refusal, or an edit of no bytes, changed the area", area, area_due, AREA + 16, 0, AREA + 16);
+
+    answers(__LINE__, zbk_edit(record, ZBK_RECORD_WORDS, area, AREA, EDITED_FROM, bytes, EDITED, two, 2), 0);
+    for (size_t board = 0; board < 9; board++)
+        if (board != 4) from_pairs(edited_shares[board], area_due + board * BOARD);
+    area_due[WRONG] ^= 0x99;
+    record_is(__LINE__, record, due);
+    bytes_are(__LINE__, "another area after an edit", area, area_due, AREA + 16, 0, AREA + 16);
+    answers(__LINE__, zbk_read(record, ZBK_RECORD_WORDS, area, AREA, two, 2, out, STOCK), 0);
+    bytes_are(__LINE__, "another output of a read after an edit", out, (const uint8_t *)edited, STOCK, BLANK, ROOM);
+    memset(out, BLANK, ROOM);
+}
+
 static void store(void) {
     uint64_t record[ZBK_RECORD_WORDS + 2];
     uint8_t area[AREA + 16], area_due[AREA + 16];
@@ -364,6 +411,7 @@ static void store(void) {
     record_is(__LINE__, record, &due);
 
     refused(__LINE__, zbk_read(record, ZBK_RECORD_WORDS, area, AREA, two, 2, out, STOCK), ZBK_EMPTY);
+    answers(__LINE__, zbk_edit(record, ZBK_RECORD_WORDS, area, AREA, 1, file, 1, two, 2), ZBK_EMPTY);
     answers(__LINE__, zbk_write(record, ZBK_RECORD_WORDS, area, AREA - 1, file, STOCK), ZBK_AREA);
     answers(__LINE__, zbk_write(record, ZBK_RECORD_WORDS, area, AREA, too_long, sizeof too_long), ZBK_LONG);
     record_is(__LINE__, record, &due);
@@ -415,6 +463,7 @@ static void store(void) {
     refused(__LINE__, zbk_read(record, ZBK_RECORD_WORDS, area, AREA, two, 2, out, STOCK - 1), ZBK_SHORT);
     record_is(__LINE__, record, &due);
     bytes_are(__LINE__, "a read changed the area", area, area_due, sizeof area, 0, sizeof area);
+    edits(record, area, area_due, &due);
 }
 
 /* M12 in a store with room for one stripe: boards 0 and 1 fresh, helpers 2, 3 and 4, and 14 bytes moved. */

@@ -1,5 +1,6 @@
 //! The demo: a small stock file on eight shelf boards. Two boards are lost and rebuilt together, then two others one at a time, each with a board
-//! that stands in, and the file is read back from the four rebuilt boards only. Then the same file on a robot of the first series, whose boards have
+//! that stands in, and the file is read back from the four rebuilt boards only. A carton is loaded: one pack count is changed by an edit, without a
+//! rewrite, and read back from other boards than those that told the old one. Then the first file on a robot of the first series, whose boards have
 //! other points: two boards are lost and rebuilt, one of them is printed as text, and the file is read back. Prints what happens, board by board,
 //! and how many bytes the bus carried.
 
@@ -43,17 +44,24 @@ fn main() -> Result<(), Box<dyn Error>> {
     println!("\n8. The file is read from the four rebuilt boards only: 2, 5, 0 and 7.\n");
     shelf.read(&[2, 5, 0, 7], file)?;
 
-    println!("\n9. A robot of the first series keeps the same file. There board i has the point i + 1 and not i, so the boards");
-    println!("   hold other bytes.\n");
+    println!("\n9. A carton of 24 boxes of aspirin is loaded. Of the file four bytes change, \" 42 \" to \" 66 \". Boards 1, 3, 4 and 6");
+    println!("   tell the old ones, and every board is changed by its share of the difference.\n");
+    let edited = shelf.edit(" 42 ", " 66 ", &[1, 3, 4, 6])?;
+
+    println!("\n10. The file is read from the other four boards: 0, 2, 5 and 7.\n");
+    shelf.read(&[0, 2, 5, 7], edited.as_bytes())?;
+
+    println!("\n11. A robot of the first series keeps the first file. There board i has the point i + 1 and not i, so the boards");
+    println!("    hold other bytes.\n");
     let mut shelf = Shelf::write(Points::first_series(SIZES.n), file)?;
     shelf.print_boards();
 
-    shelf.swap(10, &[3, 4])?;
+    shelf.swap(12, &[3, 4])?;
 
-    println!("\n12. Board 3 is printed as text, which says the points of all boards.\n");
+    println!("\n14. Board 3 is printed as text, which says the points of all boards.\n");
     shelf.print_text(3)?;
 
-    println!("\n13. The file is read from boards 3, 4, 6 and 1.\n");
+    println!("\n15. The file is read from boards 3, 4, 6 and 1.\n");
     shelf.read(&[3, 4, 6, 1], file)
 }
 
@@ -73,16 +81,45 @@ impl Shelf {
         Ok(Shelf { record, area, rebuilt: Vec::new() })
     }
 
-    /// Reads the file from these boards, prints it, and holds it to the file that was written.
+    /// Reads the file from these boards, prints it, and holds it to the file that was written, or edited.
     fn read(&self, boards: &[usize], file: &[u8]) -> Result<(), Box<dyn Error>> {
         let mut read = vec![0; self.record.length()];
         self.record.read(&self.area, boards, &mut read)?;
         print_lines(&String::from_utf8_lossy(&read));
         if read != file {
-            return Err("the file that was read is not the file that was written".into());
+            return Err("the file that was read is not the file that was written or edited".into());
         }
-        println!("\nAll {} bytes are as they were written: no count was lost, none was made up.", read.len());
+        match file == STOCK.as_bytes() {
+            true => {
+                println!("\nAll {} bytes are as they were written: no count was lost, none was made up.", read.len())
+            }
+            false => println!(
+                "\nAll {} bytes are those of the edited file: one count is new, no other was touched.",
+                read.len()
+            ),
+        }
         Ok(())
+    }
+
+    /// Puts a count in the place of the one that stands in the stock file once, by what some boards tell of it, and prints what each board had and has
+    /// in the stripe that is reached, which is one; gives the edited file.
+    fn edit(&mut self, old: &str, new: &str, boards: &[usize]) -> Result<String, Box<dyn Error>> {
+        let offset = STOCK.find(old).ok_or("no such count")?;
+        let before = self.area.clone();
+        self.record.edit(&mut self.area, offset, new.as_bytes(), boards)?;
+        let (width, share_len) = (SIZES.share_len(), self.share_len());
+        let start = offset / SIZES.stripe_len() * width;
+        let stripe = start..start + width;
+        let board_len = CAPACITY * width;
+        for (board, (now, before)) in self.area.chunks(board_len).zip(before.chunks(board_len)).enumerate() {
+            let [was, is] = [before, now].map(|bytes| hexadecimal(&bytes[stripe.clone()], ""));
+            println!("    board {board}: bytes {start} to {}: {was}  become  {is}", stripe.end - 1);
+            if now[..start] != before[..start] || now[stripe.end..] != before[stripe.end..] {
+                return Err("the edit reached another stripe".into());
+            }
+        }
+        println!("\n    The other {} bytes of each board are as they were.", share_len - width);
+        Ok(STOCK.replacen(old, new, 1))
     }
 
     /// Bytes of a board's share.
@@ -94,9 +131,12 @@ impl Shelf {
     fn print_boards(&self) {
         for (board, bytes) in self.area.chunks(CAPACITY * SIZES.share_len()).enumerate() {
             if self.record.in_service(board) {
-                let begin: Vec<String> = bytes[..8].iter().map(|byte| format!("{byte:02x}")).collect();
                 let rebuilt = if self.rebuilt.contains(&board) { "  (rebuilt)" } else { "" };
-                println!("    board {board}: keeps {} bytes: {} ..{rebuilt}", self.share_len(), begin.join(" "));
+                println!(
+                    "    board {board}: keeps {} bytes: {} ..{rebuilt}",
+                    self.share_len(),
+                    hexadecimal(&bytes[..8], " ")
+                );
             } else {
                 println!("    board {board}: out of service");
             }
@@ -179,6 +219,11 @@ impl Shelf {
             SIZES.exchange_packet_len(length)
         );
     }
+}
+
+/// Bytes as hexadecimal pairs, with this between them.
+fn hexadecimal(bytes: &[u8], between: &str) -> String {
+    bytes.iter().map(|byte| format!("{byte:02x}")).collect::<Vec<String>>().join(between)
 }
 
 /// The numbers of boards, with these words between them.

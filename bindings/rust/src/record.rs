@@ -47,6 +47,17 @@ extern "C" {
         out: *mut u8,
         out_len: usize,
     ) -> u64;
+    fn zbk_edit(
+        record: *mut u64,
+        record_words: usize,
+        area: *mut u8,
+        area_len: usize,
+        offset: usize,
+        bytes: *const u8,
+        bytes_len: usize,
+        boards: *const usize,
+        boards_count: usize,
+    ) -> u64;
 }
 
 /// The words of a record.
@@ -209,6 +220,54 @@ impl Record {
                 boards.len(),
                 out.as_mut_ptr(),
                 out.len(),
+            )
+        })
+        .map(drop)
+    }
+
+    /// Puts `bytes` in the place of as many bytes of the file, from byte `offset` on, without a rewrite: the file that reads give is from then on the
+    /// edited one. Its length stays; [`Refusal::Range`] where the edit goes beyond it. The old bytes are those that the k boards in service in `boards`
+    /// hold, of which all stripes are looked at, as by a [`read`](Record::read): [`Refusal::Disagree`] where they fit no file.
+    ///
+    /// Every board in service, read or not, is changed by its share of the difference of old and new bytes, and only in stripes that the edit
+    /// reaches: a board that held its share holds that of the edited file, and one that held wrong bytes stays wrong. Boards out of service keep their
+    /// bytes. No bytes at all, at an offset up to the file's length, are accepted and change nothing, where the boards pass the same checks.
+    ///
+    /// ```
+    /// use zebrankai::{Points, Record, Refusal, Sizes};
+    ///
+    /// let sizes = Sizes { n: 5, k: 2, d: 3, r: 2 };
+    /// let mut area = vec![0; sizes.area_len(4)];
+    /// let mut record = Record::set_up(sizes, Points::standard(5), 4)?;
+    /// // three pack counts of four bytes each
+    /// let counts = [42u32, 17, 120];
+    /// let file: Vec<u8> = counts.iter().flat_map(|count| count.to_le_bytes()).collect();
+    /// record.write(&mut area, &file)?;
+    ///
+    /// // a carton of 24 is loaded: the second count, by what boards 0 and 3 hold
+    /// record.edit(&mut area, 4, &41u32.to_le_bytes(), &[0, 3])?;
+    ///
+    /// let mut read = vec![0; record.length()];
+    /// record.read(&area, &[1, 4], &mut read)?;
+    /// assert_eq!(read[..4], file[..4]);
+    /// assert_eq!(read[4..8], [41, 0, 0, 0]);
+    /// assert_eq!(read[8..], file[8..]);
+    /// assert_eq!(record.edit(&mut area, 9, &41u32.to_le_bytes(), &[0, 3]), Err(Refusal::Range));
+    /// # Ok::<(), Refusal>(())
+    /// ```
+    pub fn edit(&mut self, area: &mut [u8], offset: usize, bytes: &[u8], boards: &[usize]) -> Result<(), Refusal> {
+        let words = &mut self.words;
+        result(unsafe {
+            zbk_edit(
+                words.as_mut_ptr(),
+                words.len(),
+                area.as_mut_ptr(),
+                area.len(),
+                offset,
+                bytes.as_ptr(),
+                bytes.len(),
+                boards.as_ptr(),
+                boards.len(),
             )
         })
         .map(drop)

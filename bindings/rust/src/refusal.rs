@@ -3,9 +3,24 @@
 use std::error::Error;
 use std::fmt;
 
-/// Why a call was refused. Where several hold, the first is given: of the store in the order 1, 2, 3, 8, 4, 5, 6, 14, 9, 7, 10, at board
+/// Why a call was refused. Where several hold, the first is given: of the store in the order 1, 2, 3, 8, 15, 4, 5, 6, 14, 9, 7, 10, at board
 /// level in the order 12, 1, 3, 13, 4, 5, 6, 2, 7, 10. 11 is not used: no call answers it.
+///
+/// Later calls bring further refusals, so a `match` on it needs an arm for the others:
+///
+/// ```compile_fail,E0004
+/// use zebrankai::Refusal;
+///
+/// fn remedy(refusal: Refusal) -> &'static str {
+///     use Refusal::*;
+///     match refusal {
+///         Down | Serving => "another board",
+///         Size | Area | Long | Count | Node | Repeat | Short | Empty | Disagree | Text | Mixed | Range => "ask the installer",
+///     }
+/// }
+/// ```
 #[derive(Clone, Copy, Debug, PartialEq, Eq, Hash)]
+#[non_exhaustive]
 #[repr(u8)]
 pub enum Refusal {
     /// The sizes are not legal, the capacity is out of range, the record is one that no call hands out, the points repeat, or one from n up is
@@ -35,11 +50,13 @@ pub enum Refusal {
     Mixed = 13,
     /// A fresh board is in service.
     Serving = 14,
+    /// The edit goes beyond the end of the file.
+    Range = 15,
 }
 
 impl Refusal {
     /// All refusals, in the order of their numbers.
-    pub const ALL: [Refusal; 13] = [
+    pub const ALL: &'static [Refusal] = &[
         Refusal::Size,
         Refusal::Area,
         Refusal::Long,
@@ -53,11 +70,12 @@ impl Refusal {
         Refusal::Text,
         Refusal::Mixed,
         Refusal::Serving,
+        Refusal::Range,
     ];
 
     /// The refusal with a number; none where no refusal has it.
     pub fn from_number(number: u8) -> Option<Refusal> {
-        Refusal::ALL.into_iter().find(|refusal| refusal.number() == number)
+        Refusal::ALL.iter().copied().find(|refusal| refusal.number() == number)
     }
 
     /// The refusal's number.
@@ -81,6 +99,7 @@ impl Refusal {
             Refusal::Text => "TEXT",
             Refusal::Mixed => "MIXED",
             Refusal::Serving => "SERVING",
+            Refusal::Range => "RANGE",
         }
     }
 
@@ -99,12 +118,13 @@ impl Refusal {
                 "A board is named twice where each must be another one, or two texts to gather are of one board."
             }
             Refusal::Short => "The output is shorter than what is to be written.",
-            Refusal::Empty => "A repair or a read before any file was written.",
+            Refusal::Empty => "A repair, a read or an edit before any file was written.",
             Refusal::Down => "A board to read from, a helper or a stand-in is out of service.",
             Refusal::Disagree => "No file of this length has these shares.",
             Refusal::Text => "The text is none that zbk_share_text writes.",
             Refusal::Mixed => "The texts differ in sizes, points or length.",
             Refusal::Serving => "A fresh board is in service.",
+            Refusal::Range => "The edit goes beyond the end of the file.",
         }
     }
 }

@@ -126,16 +126,17 @@ fn points_that_repeat_or_stand_from_n_up_are_refused() {
 #[test]
 fn every_refusal_has_its_number_name_and_sentence() {
     let numbers: Vec<u8> = Refusal::ALL.iter().map(|refusal| refusal.number()).collect();
-    assert_eq!(numbers, (1..=10).chain(12..=14).collect::<Vec<u8>>());
-    for refusal in Refusal::ALL {
+    assert_eq!(numbers, (1..=10).chain(12..=15).collect::<Vec<u8>>());
+    for &refusal in Refusal::ALL {
         assert_eq!(Refusal::from_number(refusal.number()), Some(refusal));
         assert_eq!(refusal.name(), format!("{refusal:?}").to_uppercase());
         assert!(refusal.sentence().ends_with('.'));
     }
     // 11 is not used
-    assert_eq!([0, 11, 15].map(Refusal::from_number), [None, None, None]);
+    assert_eq!([0, 11, 16].map(Refusal::from_number), [None, None, None]);
     assert_eq!(Refusal::Node.to_string(), "NODE (5): A board number is n or more.");
     assert_eq!(Refusal::Serving.to_string(), "SERVING (14): A fresh board is in service.");
+    assert_eq!(Refusal::Range.to_string(), "RANGE (15): The edit goes beyond the end of the file.");
 }
 
 #[test]
@@ -435,6 +436,109 @@ fn a_repair_is_refused_by_the_first_line_that_holds() {
     assert_eq!(refusal(&[0], &[2, 3, 4], &[1]), Refusal::Down);
     assert_eq!(record.repair(&mut area, &[0, 1], &[2, 3, 4, 4, 3, 2], &[]), Ok(14));
     assert_eq!(record.repair(&mut area, &[0, 1], &[2, 3, 4, 4, 3, 2], &[]), Err(Refusal::Serving));
+}
+
+#[test]
+fn an_edit_changes_what_boards_in_service_hold() {
+    for (points, shares) in [(present(), SHARES), (first(), FIRST_SHARES)] {
+        // F = X²Y, and 01 made 00 is no file but 00: each board gives up just its share
+        let (mut record, mut area) = written(points);
+        record.lose(0).unwrap();
+        area[..7].fill(0xEE);
+        // a wrong byte of a board in service stays wrong
+        area[2 * 7 + 3] ^= 0x55;
+        let before = record.clone();
+        assert_eq!(record.edit(&mut area, 11, &[0], &[4, 1]), Ok(()));
+        let mut due = [0; 35];
+        due[..7].fill(0xEE);
+        due[2 * 7 + 3] = 0x55;
+        assert_eq!((&record, &area[..]), (&before, &due[..]));
+        // the same back, by other boards
+        assert_eq!(record.edit(&mut area, 11, &[1], &[3, 4]), Ok(()));
+        let mut due = shares.concat();
+        due[..7].fill(0xEE);
+        due[2 * 7 + 3] ^= 0x55;
+        assert_eq!((&record, &area), (&before, &due));
+        // with bytes before it that stay as they are
+        assert_eq!(record.edit(&mut area, 7, &FILE[7..], &[1, 3]), Ok(()));
+        assert_eq!((&record, &area), (&before, &due));
+    }
+}
+
+#[test]
+fn an_edit_leaves_other_stripes() {
+    let file: Vec<u8> = (1..=30).collect();
+    let mut area = vec![0xEE; FIVE.area_len(4)];
+    let mut record = Record::set_up(FIVE, first(), 4).unwrap();
+    record.write(&mut area, &file).unwrap();
+    let before = area.clone();
+    // four bytes over the end of the second stripe of three
+    record.edit(&mut area, 22, &[0xA0, 0xA1, 0xA2, 0xA3], &[2, 0]).unwrap();
+    let mut edited = file.clone();
+    edited[22..26].copy_from_slice(&[0xA0, 0xA1, 0xA2, 0xA3]);
+    for (now, before) in area.chunks(4 * 7).zip(before.chunks(4 * 7)) {
+        assert_eq!((&now[..7], &now[21..]), (&before[..7], &before[21..]));
+        assert!(now[7..14] != before[7..14] && now[14..21] != before[14..21]);
+    }
+    let mut out = vec![0xEE; 30];
+    assert_eq!((record.read(&area, &[4, 3], &mut out), &out), (Ok(()), &edited));
+    // what a write of the edited file gives
+    let mut anew = before;
+    record.clone().write(&mut anew, &edited).unwrap();
+    assert_eq!(area, anew);
+}
+
+#[test]
+fn an_edit_of_no_bytes_passes_all_checks_and_changes_nothing() {
+    let (mut record, mut area) = written(present());
+    let before = (record.clone(), area.clone());
+    for offset in [0, 5, 12] {
+        assert_eq!(record.edit(&mut area, offset, &[], &[3, 1]), Ok(()));
+    }
+    assert_eq!(record.edit(&mut area, 13, &[], &[3, 1]), Err(Refusal::Range));
+    assert_eq!(record.edit(&mut area, 12, &[], &[3]), Err(Refusal::Count));
+    assert_eq!((&record, &area), (&before.0, &before.1));
+    // F(x_3, y_1) by board 3 is no longer that by board 1
+    area[3 * 7 + 3] ^= 1;
+    let before = area.clone();
+    for offset in [0, 12] {
+        assert_eq!(record.edit(&mut area, offset, &[], &[3, 1]), Err(Refusal::Disagree));
+    }
+    assert_eq!((record, area), (written(present()).0, before));
+}
+
+#[test]
+fn an_edit_is_refused_by_the_first_line_that_holds() {
+    let mut area = vec![0xEE; FIVE.area_len(1)];
+    let mut record = Record::set_up(FIVE, present(), 1).unwrap();
+    // SIZE, AREA, EMPTY, though all behind them hold
+    let mut made_up = Record::from_words([5, 2, 3, 2, 1, 0, 1, 0, 0x04_03_02_01_00, 0, 0, 0]);
+    assert_eq!(made_up.edit(&mut area[1..], 13, &[1], &[9]), Err(Refusal::Size));
+    assert_eq!(record.edit(&mut area[1..], 13, &[1], &[9]), Err(Refusal::Area));
+    assert_eq!(record.edit(&mut area, 13, &[1], &[9]), Err(Refusal::Empty));
+    record.write(&mut area, &FILE).unwrap();
+    record.lose(0).unwrap();
+    area[3 * 7 + 3] ^= 1;
+    let before = (record.clone(), area.clone());
+    let mut refusal = |offset: usize, bytes: &[u8], boards: &[usize]| {
+        let refused = record.edit(&mut area, offset, bytes, boards).unwrap_err();
+        assert_eq!((&record, &area), (&before.0, &before.1));
+        refused
+    };
+    // RANGE, though the list is wrong in all its ways; the sum of offset and count does not wrap round
+    for (offset, count) in
+        [(12, 1), (0, 13), (9, 4), (13, 0), (usize::MAX, 0), (usize::MAX, 1), (usize::MAX - 2, 4), (1 << 32, 1)]
+    {
+        assert_eq!(refusal(offset, &[7; 13][..count], &[9]), Refusal::Range, "offset {offset}, {count} bytes");
+        assert_eq!(refusal(offset, &[7; 13][..count], &[3, 1]), Refusal::Range, "offset {offset}, {count} bytes");
+    }
+    assert_eq!(refusal(11, &[7], &[9]), Refusal::Count);
+    assert_eq!(refusal(11, &[7], &[9, 9, 9]), Refusal::Count);
+    assert_eq!(refusal(11, &[7], &[9, 9]), Refusal::Node);
+    assert_eq!(refusal(11, &[7], &[0, 0]), Refusal::Repeat);
+    assert_eq!(refusal(11, &[7], &[3, 0]), Refusal::Down);
+    assert_eq!(refusal(11, &[7], &[3, 1]), Refusal::Disagree);
+    assert_eq!(record.edit(&mut area, 11, &[7], &[4, 1]), Ok(()));
 }
 
 #[test]

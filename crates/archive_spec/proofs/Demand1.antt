@@ -23,7 +23,7 @@ use Rattle.board_spec.specs.Demand1.{BoardEnds}
 use Rattle.board_spec.proofs.Demand1 as at-board
 use Rattle.store_spec.specs.Record.{Record, newRecord, held}
 use Rattle.store_spec.specs.Calls.{StoreOutcome, accepted, refused, recordLine, setUpCall, readLines, readCall}
-use Rattle.store_spec.specs.Ledger.{Call, write, lose, repair, read, act, outputOf}
+use Rattle.store_spec.specs.Ledger.{Call, write, lose, repair, read, edit, act, outputOf}
 use Rattle.store_spec.specs.Demand1.{StoreEnds}
 use Rattle.store_spec.proofs.Demand1 as at-store
 use Rattle.store_spec.proofs.MarkLaws.{mark-laws}
@@ -239,11 +239,14 @@ archive-demand-1 = record {
   repair-ends = λ ws area fresh helpers standIns e.
       lent-ends ws area (repair fresh helpers standIns) _ [] _ _ e refl (at-store.demand-1 .repair-ends (recordFrom ws) area fresh helpers standIns);
   read-ends = λ ws area boards output e. lent-ends ws area (read boards output) _ output 0 _ e refl (at-store.demand-1 .read-ends (recordFrom ws) area boards output);
+  edit-ends = λ ws area offset bytes boards e.
+      lent-ends ws area (edit offset bytes boards) _ [] 0 _ e refl (at-store.demand-1 .edit-ends (recordFrom ws) area offset bytes boards);
   set-up-none = set-up-none;
   write-none = λ ws area file. none ws area (write file);
   lose-none = λ ws area board. none ws area (lose board);
   repair-none = λ ws area fresh helpers standIns. none ws area (repair fresh helpers standIns);
   read-none = λ ws area boards output. none ws area (read boards output);
+  edit-none = λ ws area offset bytes boards. none ws area (edit offset bytes boards);
   read-exact = exact;
   text-ends = text-ends;
   text-none = text-none;

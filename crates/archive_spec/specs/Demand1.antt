@@ -25,7 +25,8 @@ use Rattle.board_spec.specs.Calls.{exchangeLines, exchangeCall, finishedLines, 
 use Rattle.store_spec.specs.Record.{newRecord, held}
 use Rattle.store_spec.specs.Packets.{total, repairPackets}
 use Rattle.store_spec.specs.Calls.{StoreOutcome, accepted, recordLine, writeLines, writeDone, loseLines, loseDone, repairLines, repairDone, readLines, readDone}
-use Rattle.store_spec.specs.Ledger.{write, lose, repair, read}
+use Rattle.store_spec.specs.Edit.{editLines, editDone}
+use Rattle.store_spec.specs.Ledger.{write, lose, repair, read, edit}
 use Rattle.text_spec.specs.Texts.{ShareTold, textOf, readText, textsOf}
 use Rattle.text_spec.specs.Laws.{Writable}
 use Rattle.text_spec.specs.Calls.{toldOf, readTextLines, textsTold, gathered, gatherLines, gatherCall}
@@ -86,12 +87,15 @@ pub record ArchiveCalls : Type 0 where
       (repairDone (recordFrom ws) area fresh helpers standIns) (zbk ws area (repair fresh helpers standIns))
   pub read-ends : (ws area boards output : List ℕ) → isRecord ws ≡ true
       → LentEnds (readLines (recordFrom ws) area boards output) ws area output 0 (readDone (recordFrom ws) area boards output) (zbk ws area (read boards output))
+  pub edit-ends : (ws area : List ℕ) (offset : ℕ) (bytes boards : List ℕ) → isRecord ws ≡ true
+      → LentEnds (editLines (recordFrom ws) area offset bytes boards) ws area [] 0 (editDone (recordFrom ws) area offset bytes boards) (zbk ws area (edit offset bytes boards))
   -- ---- and on words that tell none
   pub set-up-none : (ws : List ℕ) (z : Sizes) (xs : List ℕ) (c : ℕ) → length ws ≢ 12 → Unchanged (zbkSetUp ws z xs c) ws [] []
   pub write-none : (ws area file : List ℕ) → isRecord ws ≡ false → Unchanged (zbk ws area (write file)) ws area []
   pub lose-none : (ws area : List ℕ) (board : ℕ) → isRecord ws ≡ false → Unchanged (zbk ws area (lose board)) ws area []
   pub repair-none : (ws area fresh helpers standIns : List ℕ) → isRecord ws ≡ false → Unchanged (zbk ws area (repair fresh helpers standIns)) ws area []
   pub read-none : (ws area boards output : List ℕ) → isRecord ws ≡ false → Unchanged (zbk ws area (read boards output)) ws area output
+  pub edit-none : (ws area : List ℕ) (offset : ℕ) (bytes boards : List ℕ) → isRecord ws ≡ false → Unchanged (zbk ws area (edit offset bytes boards)) ws area []
   -- ---- a read over any bytes, where no line but DISAGREE holds: it gives f exactly when f has length L and the k boards hold its shares, and answers 10
   -- with every byte of the output as it came exactly when there is no such file
   pub read-exact : (ws area boards output : List ℕ) → isRecord ws ≡ true → Bytes area

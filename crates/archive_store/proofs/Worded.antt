@@ -19,6 +19,7 @@ use Rattle.store_spec.specs.Record.{Record, newRecord, stripeCount}
 use Rattle.store_spec.specs.Calls.{StoreOutcome, accepted, refused, settle, recordLine, setUpCall}
 use Rattle.store_spec.specs.Calls.{writeLines, writeDone, writeCall, loseLines, loseDone, loseCall}
 use Rattle.store_spec.specs.Calls.{repairLines, repairDone, repairCall, readLines, readDone, readCall}
+use Rattle.store_spec.specs.Edit.{editLines, editDone, editCall}
 use Rattle.store_spec.proofs.Records.{sound-facts, repair-facts}
 use Rattle.store_spec.proofs.Real.{code-lengths}
 use Rattle.store_spec.proofs.Repair.{moved-is}
@@ -140,6 +141,11 @@ pub read-few : (s : Record) (area boards output : List ℕ) → readCall s area 
 unfolding readCall
 read-few s area boards output =
     settled-few s area output (readDone s area boards output) (first storeOrder (readLines s area boards output)) (λ _. omega arith)
+
+pub edit-few : (s : Record) (area : List ℕ) (offset : ℕ) (bytes boards : List ℕ) → editCall s area offset bytes boards .answer .reported < 72057594037927936
+unfolding editCall
+edit-few s area offset bytes boards =
+    settled-few s area [] (editDone s area offset bytes boards) (first storeOrder (editLines s area offset bytes boards)) (λ _. omega arith)
 
 pub repair-few : (s : Record) (area fresh helpers standIns : List ℕ) → repairCall s area fresh helpers standIns .answer .reported < 72057594037927936
 unfolding repairCall

@@ -3,7 +3,7 @@
 ghost use mathlib.Core.Path.{_≡_};
 ghost use mathlib.Core.List.{List, []};
 ghost use Prim.Native.Nat.{ℕ};
-ghost use Rattle.store_spec.specs.Ledger.{write, lose, repair, read};
+ghost use Rattle.store_spec.specs.Ledger.{write, lose, repair, read, edit};
 ghost use Rattle.archive_spec.specs.Archive.{sizesOf};
 ghost use Rattle.archive_spec.specs.Lent.{zbkSetUp, zbk};
 use sizes::Sizes;
@@ -102,5 +102,17 @@ pub fn read(ws: &mut [u64], area: &[u8], boards: &[usize], out: &mut [u8]) -> u6
     }
     let store = words::store_of(ws);
     let handed = store.read(area, boards, out);
+    words::hand_on(handed, ws)
+}
+
+// Puts bytes into the file from an offset on, read from k boards, in all boards in service.
+pub fn edit(ws: &mut [u64], area: &mut [u8], offset: usize, bytes: &[u8], boards: &[usize]) -> u64
+    ensures { λ w. ⌜ record { answer = w; words = now (ws .exit); area = now (area .exit); output = [] } ≡ zbk (now (ws .entry)) (now (area .entry)) (edit offset (now (bytes .entry)) (now (boards .entry))) ⌝ }
+{
+    if !word_parts::is_record(ws) {
+        return SIZE;
+    }
+    let store = words::store_of(ws);
+    let handed = store.edit(area, offset, bytes, boards);
     words::hand_on(handed, ws)
 }

@@ -22,24 +22,8 @@ use Rattle.puts.specs.Steps.{puts}
 use Rattle.puts.proofs.Puts.{puts-same}
 use Rattle.repair_stripe.specs.Steps.{rebuilt}
 use Rattle.repair_stripe.proofs.Rebuilt.{rebuilt-same}
+use Rattle.store_write.proofs.Places.{by-places}
 use Rattle.repair_seam.proofs.Places.{stripe-same}
-
--- ---- shares put one after another
-
-last-share : (s : Record) (f : ℕ → List ℕ) (boards : List ℕ) (i : ℕ) (area : List ℕ) → putShares s f (boards ++ (i ∷ [])) area ≡ put (putShares s f boards area) (i * partLen s) (f i)
-last-share s f [] i area = refl
-last-share s f (b ∷ boards) i area = last-share s f boards i (put area (b * partLen s) (f b))
-
-listed : (s : Record) (f : ℕ → List ℕ) (h : ℕ → ℕ) (m : ℕ) (area : List ℕ) → puts (λ a. h a * partLen s) (λ a. f (h a)) m area ≡ putShares s f (tabulate m h) area
-listed s f h zero area = refl
-listed s f h (suc m) area =
-    ap (λ (l : List ℕ). put l (h m * partLen s) (f (h m))) (listed s f h m area)
-    ∙ sym (last-share s f (tabulate m h) (h m) area)
-    ∙ ap (λ (l : List ℕ). putShares s f l area) (sym (tabulate-suc m h))
-
-by-places : (s : Record) (f : ℕ → List ℕ) (boards : List ℕ) (m : ℕ) (area : List ℕ) → length boards ≡ m
-    → puts (λ a. getD boards a 0 * partLen s) (λ a. f (getD boards a 0)) m area ≡ putShares s f boards area
-by-places s f boards m area e = listed s f (λ a. getD boards a 0) m area ∙ ap (λ (l : List ℕ). putShares s f l area) (tabulate-getD m boards 0 e)
 
 -- what a board holds of a stripe
 held-piece : (s : Record) (area : List ℕ) (t j : ℕ) → t < stripeCount s → piece (α (s .sizes)) t (held s area j) ≡ piece (α (s .sizes)) t (drop (j * partLen s) area)

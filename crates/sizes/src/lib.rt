@@ -19,6 +19,7 @@ pub enum Refusal {
     Text,
     Mixed,
     Serving,
+    Range,
 }
 
 // What a check answers: nothing is wrong, or the refusal to give.
@@ -60,6 +61,7 @@ impl Refusal {
             Refusal::Text => 12,
             Refusal::Mixed => 13,
             Refusal::Serving => 14,
+            Refusal::Range => 15,
         }
     }
 }

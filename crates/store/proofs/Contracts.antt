@@ -9,7 +9,7 @@ use denote.Ref.{now}
 use denote.Triple.Clauses.{AtExit}
 use borrow.Fn.Kinds.{Dens, endedOf}
 use Rattle.store_spec.specs.Calls.{setUpCall}
-use Rattle.store_spec.specs.Ledger.{write, lose, repair, read, act}
+use Rattle.store_spec.specs.Ledger.{write, lose, repair, read, edit, act}
 use Rattle.store.specs.declared.Handed.{Handed}
 use Rattle.store.specs.Handing.{recordIn, outcomeIn}
 use Rattle.store.specs.Demand3.{Meets}
@@ -23,6 +23,8 @@ use Rattle.store.proofs.Store.repair.Reads as repairs
 use Rattle.store.proofs.Store.repair.Kinds as repair-kinds
 use Rattle.store.proofs.Store.read.Reads as reads
 use Rattle.store.proofs.Store.read.Kinds as read-kinds
+use Rattle.store.proofs.Store.edit.Reads as edits
+use Rattle.store.proofs.Store.edit.Kinds as edit-kinds
 
 pub set-up-meets : (κs : Lfts 0) (a : Dens κs set-up-kinds.ps) (r : Handed) (e : AtExit (endedOf 0 set-up-kinds.ps set-up-kinds.r) κs)
     → set-ups.Asked κs a × (set-ups.Learnt κs a r e → outcomeIn r [] [] ≡ setUpCall (recordIn (a .0)) (a .1 .0) (a .1 .1 .0) (a .1 .1 .1 .0))
@@ -52,3 +54,10 @@ pub read-meets : (κs : Lfts 3) (a : Dens κs read-kinds.ps) (r : Handed) (e : A
     → Meets (a .0) (now (a .1 .0)) (read (now (a .1 .1 .0)) (now (a .1 .1 .1 .0))) (record { handed = r; area = now (a .1 .0); output = now (e .1 .1 .1 .0) }))
 unfolding act
 read-meets κs a r e = (tt, λ h. h)
+
+pub edit-meets : (κs : Lfts 3) (a : Dens κs edit-kinds.ps) (r : Handed) (e : AtExit (endedOf 3 edit-kinds.ps edit-kinds.r) κs)
+    → edits.Asked κs a
+    × (edits.Learnt κs a r e
+    → Meets (a .0) (now (a .1 .0)) (edit (a .1 .1 .0) (now (a .1 .1 .1 .0)) (now (a .1 .1 .1 .1 .0))) (record { handed = r; area = now (e .1 .0); output = [] }))
+unfolding act
+edit-meets κs a r e = (tt, λ h. h)

@@ -1,16 +1,21 @@
 -- A read, at the record's points: what it hands on where its check refuses, and where it passes.
 -- Assumes nothing.
 use Prim.Native.Nat.{ℕ}
-use mathlib.Core.Path.{_≡_, sym, ap, _∙_}
-use mathlib.Core.Bool.{true}
-use mathlib.Core.List.{List, [], _++_}
+use mathlib.Core.Path.{_≡_, refl, sym, ap, _∙_}
+use mathlib.Core.Bool.{true, not}
+use mathlib.Core.List.{List, [], _∷_, _++_}
 use lib.ListN.{length, drop}
+use borrow.Author.Tests.{eqb-true}
 use Rattle.lists.specs.Lists.{joined}
+use Rattle.lists.specs.Tests.{given}
+use Rattle.lists.proofs.Tests.{not-no}
 use Rattle.sizes.specs.declared.Refusal.{Refusal}
+use Rattle.sizes.specs.declared.Refusal.the-variants.{Size, Area, Count, Node, Repeat, Disagree}
 use Rattle.sizes.specs.declared.Check.{Check}
 use Rattle.sizes.specs.declared.Check.the-variants.{Pass, Refuse}
-use Rattle.sizes.specs.Refusals.{first, storeOrder}
+use Rattle.sizes.specs.Refusals.{_when_, first, storeOrder}
 use Rattle.sizes.proofs.Legal.{legal-facts}
+use Rattle.sizes.proofs.Orders.{clear-off}
 use Rattle.mbcr.specs.Read.{decodedFile}
 use Rattle.mbcr.proofs.Read.{length-decoded-file}
 use Rattle.board_spec.specs.Calls.{fileOf}
@@ -18,16 +23,46 @@ use Rattle.board_spec.proofs.Files.{file-is}
 use Rattle.store_spec.specs.Record.{Record, held}
 use Rattle.store_spec.specs.Calls.{StoreOutcome, accepted, refused, fileHeld, readLines, readDone, readCall}
 use Rattle.store_spec.proofs.Records.{sound-facts, read-facts}
+use Rattle.line_checks.specs.Steps.{asked}
+use Rattle.checks.proofs.Chain.{then, split, goes-on, refuses}
 use Rattle.store_checks.specs.Steps.{recordOf}
+use Rattle.read_check.specs.Steps.{askedLines}
+use Rattle.store.proofs.Readable.{Readable, readable}
 use Rattle.store.proofs.Settled.{refused-by, done-by}
 
 module _ (s : Record) (area boards output : List ℕ) where
   abbrev pub checked : Check
   checked = first storeOrder (readLines s area boards output)
 
-  pub read-refuses : {r : Check} {x : Refusal} → r ≡ checked → r ≡ Refuse x → refused s area output x ≡ readCall s area boards output
+  -- the lines before DISAGREE, and DISAGREE
+  abbrev pub begins : Check
+  begins = first storeOrder (askedLines s (length area) boards output)
+
+  abbrev pub agrees : Check
+  agrees = asked (Disagree when not (given (fileHeld s area boards)))
+
+  in-turn : then begins agrees ≡ checked
+  unfolding readLines
+  in-turn = sym (split (askedLines s (length area) boards output) (Disagree when not (given (fileHeld s area boards)) ∷ []))
+
+  pub read-refuses : {r : Check} {x : Refusal} → r ≡ begins → r ≡ Refuse x → refused s area output x ≡ readCall s area boards output
   unfolding readCall
-  read-refuses e h = refused-by (refused s area output) (readDone s area boards output) e h
+  read-refuses e h = refused-by (refused s area output) (readDone s area boards output) (refuses agrees in-turn e h) refl
+
+  pub read-disagrees : {r q : Check} {x : Refusal} → r ≡ begins → r ≡ Pass → q ≡ agrees → q ≡ Refuse x
+      → refused s area output x ≡ readCall s area boards output
+  unfolding readCall
+  read-disagrees e h d k = refused-by (refused s area output) (readDone s area boards output) (d ∙ goes-on in-turn e h) k
+
+  pub read-passes : {r q : Check} → r ≡ begins → r ≡ Pass → q ≡ agrees → q ≡ Pass → checked ≡ Pass
+  read-passes e h d k = sym (d ∙ goes-on in-turn e h) ∙ k
+
+  -- what the lines before DISAGREE told
+  pub read-asks : begins ≡ Pass → Readable s (length area) boards
+  read-asks h =
+      let off = clear-off (askedLines s (length area) boards output) storeOrder h in
+      readable s (length area) boards (not-no _ (off Size refl)) (eqb-true _ _ (not-no _ (off Area refl)))
+      (eqb-true _ _ (not-no _ (off Count refl))) (not-no _ (off Node refl)) (not-no _ (off Repeat refl))
 
   -- what a read hands on with these bytes
   abbrev pub filled : List ℕ → StoreOutcome

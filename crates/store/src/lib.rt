@@ -4,6 +4,7 @@ ghost use mathlib.Core.Path.{_≡_};
 ghost use mathlib.Core.List.{List, []};
 ghost use Prim.Native.Nat.{ℕ, _+_, _*_, _-_, _≤_};
 ghost use Rattle.store_spec.specs.Calls.{refused, setUpCall, writeCall, loseCall, repairCall, readCall};
+ghost use Rattle.store_spec.specs.Edit.{editCall};
 ghost use Rattle.store_checks.specs.Steps.{Bounded};
 ghost use Rattle.store.specs.Handing.{recordIn, outcomeIn};
 use sizes::Answer;
@@ -197,9 +198,6 @@ impl Store {
         let capacity = self.capacity;
         let length = self.length;
         let marks = self.marks;
-        let mut inverses = [0u8; 256];
-        inverses::fill_inverses(&mut inverses);
-        let mut tables = [0u8; 49152];
         if let Check::Refuse(x) = read_check::check_read(
             sizes,
             &points,
@@ -207,15 +205,27 @@ impl Store {
             self.written,
             length,
             &marks,
-            &inverses,
-            area,
+            area.len(),
             boards,
             out,
-            &mut tables,
         ) {
             return refuse(self, x);
         }
         let count = checks::stripe_count(sizes, length);
+        let mut tables = [0u8; 49152];
+        store_decode::fill_tables(sizes, &points, boards, &mut tables);
+        if let Check::Refuse(disagree) = store_decode::check_agrees(
+            sizes,
+            capacity,
+            &points,
+            length,
+            count,
+            boards,
+            area,
+            &tables,
+        ) {
+            return refuse(self, disagree);
+        }
         store_decode::file(
             sizes,
             capacity,
@@ -226,6 +236,62 @@ impl Store {
             area,
             &tables,
             out,
+        );
+        Handed {
+            store: self,
+            answer: Answer::Done(0),
+        }
+    }
+
+    // Puts bytes into the file from an offset on, in all boards in service: each gets the exclusive or of its share with the share of old against
+    // new bytes. The file is read from k boards.
+    pub fn edit(self, area: &mut [u8], offset: usize, bytes: &[u8], boards: &[usize]) -> Handed
+        ensures { λ r. ⌜ outcomeIn r (now (area .exit)) [] ≡ editCall (recordIn self) (now (area .entry)) offset (now (bytes .entry)) (now (boards .entry)) ⌝ }
+    {
+        let sizes = self.sizes;
+        let points = self.points;
+        let capacity = self.capacity;
+        let length = self.length;
+        let marks = self.marks;
+        if let Check::Refuse(x) = edit_check::check_edit(
+            sizes,
+            &points,
+            capacity,
+            self.written,
+            length,
+            &marks,
+            area.len(),
+            offset,
+            bytes.len(),
+            boards,
+        ) {
+            return refuse(self, x);
+        }
+        let count = checks::stripe_count(sizes, length);
+        let mut tables = [0u8; 49152];
+        store_decode::fill_tables(sizes, &points, boards, &mut tables);
+        if let Check::Refuse(disagree) = store_decode::check_agrees(
+            sizes,
+            capacity,
+            &points,
+            length,
+            count,
+            boards,
+            area,
+            &tables,
+        ) {
+            return refuse(self, disagree);
+        }
+        store_edit::edit_shares(
+            sizes,
+            capacity,
+            &points,
+            &marks,
+            offset,
+            bytes,
+            boards,
+            &tables,
+            area,
         );
         Handed {
             store: self,

@@ -29,42 +29,58 @@ joined-map : (g : ℕ → List ℕ) (f : ℕ → ℕ) (l : List ℕ) → joined 
 joined-map g f [] = refl
 joined-map g f (x ∷ l) = ap (λ (t : List ℕ). g (f x) ++ t) (joined-map g f l)
 
+-- where the parts of boards start
+module _ (z : Sizes) (c L S : ℕ) (boards area : List ℕ) (ok : below (z .n) boards ≡ true)
+    (la : length area ≡ z .n * (c * α z)) (eS : S ≡ stripes z L) (lS : S ≤ c) where
+  open Sizes z using (n)
+
+  abbrev pub partsAt : List ℕ
+  partsAt = map (λ b. b * (c * α z)) boards
+
+  pub parts-long : length partsAt ≡ length boards
+  parts-long = simp length-map
+
+  pub parts-placed : Placed z partsAt area S
+  parts-placed =
+      all-map (λ p. p + S * α z ≤ length area) (λ b. b * (c * α z)) boards
+      (all-imp (λ i. i < n) (λ i. i * (c * α z) + S * α z ≤ length area) (λ i h.
+      let q : S * α z ≤ c * α z = mul-le-mul-right (α z) lS in
+      omega (arith, q, row-fits i n (c * α z) h)) boards (below-all n boards ok))
+
+  pub parts-shares : sharesAt z S partsAt area ≡ joined (held (recordOf z [] c true L []) area) boards
+  unfolding sharesAt
+  parts-shares =
+      joined-map (λ p. take (S * α z) (drop p area)) (λ b. b * (c * α z)) boards
+      ∙ ap (λ (m : ℕ). joined (λ i. take (m * α z) (drop (i * (c * α z)) area)) boards) eS
+
+-- the same, as they are lent
 module _ (z : Sizes) (c L S m : ℕ) (boards area zs ys : List ℕ) (ok : below (z .n) boards ≡ true) (lb : length boards ≡ z .k)
     (la : length area ≡ z .n * (c * α z)) (eS : S ≡ stripes z L) (lS : S ≤ c) (em : m ≡ c * α z) (ey : ys ≡ map (λ b. b * m) boards) where
-  open Sizes z using (n, k)
+  open Sizes z using (k)
 
-  long-as : (l : List ℕ) → length (map (λ b. b * (c * α z)) l) ≡ length l
-  long-as l = simp length-map
+  abbrev starts : List ℕ
+  starts = partsAt z c L S boards area ok la eS lS
 
-  parts-are : ys ≡ map (λ b. b * (c * α z)) boards
+  parts-are : ys ≡ starts
   parts-are = ey ∙ ap (λ (m : ℕ). map (λ b. b * m) boards) em
 
   ly : length ys ≡ k
-  ly = ap length parts-are ∙ long-as boards ∙ lb
+  ly = ap length parts-are ∙ parts-long z c L S boards area ok la eS lS ∙ lb
 
-  -- the places, as they are lent
   abbrev pub lent : List ℕ
   lent = take (k - 0) (drop 0 (putMid 0 (k - 0) zs ys))
 
-  lent-are : lent ≡ map (λ b. b * (c * α z)) boards
+  pub lent-are : lent ≡ starts
   lent-are = back-part k zs ys ly ∙ parts-are
 
   pub lent-long : length lent ≡ k
-  lent-long = ap length lent-are ∙ long-as boards ∙ lb
+  lent-long = ap length lent-are ∙ parts-long z c L S boards area ok la eS lS ∙ lb
 
   pub lent-placed : Placed z lent area S
-  lent-placed =
-      rw lent-are (all-map (λ p. p + S * α z ≤ length area) (λ b. b * (c * α z)) boards
-      (all-imp (λ i. i < n) (λ i. i * (c * α z) + S * α z ≤ length area) (λ i h.
-      let q : S * α z ≤ c * α z = mul-le-mul-right (α z) lS in
-      omega (arith, q, row-fits i n (c * α z) h)) boards (below-all n boards ok)))
+  lent-placed = rw lent-are (parts-placed z c L S boards area ok la eS lS)
 
   pub lent-shares : sharesAt z S lent area ≡ joined (held (recordOf z [] c true L []) area) boards
-  unfolding sharesAt
-  lent-shares =
-      ap (joined (λ p. take (S * α z) (drop p area))) lent-are
-      ∙ joined-map (λ p. take (S * α z) (drop p area)) (λ b. b * (c * α z)) boards
-      ∙ ap (λ (m : ℕ). joined (λ i. take (m * α z) (drop (i * (c * α z)) area)) boards) eS
+  lent-shares = ap (λ (l : List ℕ). sharesAt z S l area) lent-are ∙ parts-shares z c L S boards area ok la eS lS
 
 -- a part is not long
 pub part-few : (z : Sizes) (c w : ℕ) → Legal z → c ≤ 4096 → w ≡ α z → c * w ≤ 253952

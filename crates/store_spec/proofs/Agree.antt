@@ -17,8 +17,9 @@ use Rattle.sizes.specs.declared.Refusal.the-variants.{Size}
 use Rattle.sizes.proofs.Legal.{legal-facts}
 use Rattle.sizes.proofs.Alike.{Alike, _and_, end, size, disagree}
 use Rattle.store_spec.specs.Calls.{writeLines, loseLines, listLines, repairLines, readLines}
+use Rattle.store_spec.specs.Edit.{editLines}
 use Rattle.store_spec.specs.Demand1.{storeLines}
-use Rattle.store_spec.specs.Ledger.{Call, write, lose, repair, read, Book, bookRecord, bookLines}
+use Rattle.store_spec.specs.Ledger.{Call, write, lose, repair, read, edit, Book, bookRecord, bookLines}
 use Rattle.store_spec.specs.Packets.{hearNamed}
 use Rattle.store_spec.specs.Record.{Record, sound, areaLen, inService}
 use Rattle.store_spec.proofs.Marks.{mark-at}
@@ -106,7 +107,7 @@ module _ (b : Book) (area : List ℕ) (ok : legal (b .sizes) ≡ true) (low : Al
   area-same = ap (λ (m : ℕ). not (eqb m (areaLen (bookRecord b)))) as-long
 
   pub alike : (call : Call) → Alike (storeLines (bookRecord b) area call) (bookLines b call)
-  unfolding storeLines writeLines loseLines listLines repairLines readLines bookLines
+  unfolding storeLines writeLines loseLines listLines repairLines readLines editLines bookLines
   alike (write file) = size (area-same and refl and end)
   alike (lose board) = size (ap not (one-below (b .sizes .n) board) and end)
   alike (repair fresh helpers standIns) =
@@ -129,12 +130,23 @@ module _ (b : Book) (area : List ℕ) (ok : legal (b .sizes) ≡ true) (low : Al
       and ap not (every-same (inService (bookRecord b)) (among (b .service)) boards serves)
       and refl
       and disagree end)
+  alike (edit offset bytes boards) =
+      size
+      (area-same
+      and refl
+      and refl
+      and refl
+      and refl
+      and refl
+      and ap not (every-same (inService (bookRecord b)) (among (b .service)) boards serves)
+      and disagree end)
 
 -- SIZE is off in both
 pub size-same : (b : Book) (area : List ℕ) → not (sound (bookRecord b)) ≡ false → (call : Call)
     → appliesIn (storeLines (bookRecord b) area call) Size ≡ appliesIn (bookLines b call) Size
-unfolding storeLines writeLines loseLines listLines repairLines readLines bookLines
+unfolding storeLines writeLines loseLines listLines repairLines readLines editLines bookLines
 size-same b area h (write file) = h
 size-same b area h (lose board) = h
 size-same b area h (repair fresh helpers standIns) = h
 size-same b area h (read boards output) = h
+size-same b area h (edit offset bytes boards) = h

@@ -30,7 +30,8 @@ use Rattle.store_spec.specs.Calls.{StoreOutcome, settle, accepted, refus
 use Rattle.store_spec.specs.Calls.{listLines, repairLines, repairDone, repairCall, readLines, readDone, readCall}
 use Rattle.board_spec.specs.Claims.{LinesSay}
 use Rattle.board_spec.proofs.Claims.{EachSays, _and_, end, lines-say}
-use Rattle.store_spec.specs.Demand1.{StoreEnds, Stays, StoreCalls, writeClaims, loseClaims, listClaims, repairClaims, readClaims}
+use Rattle.store_spec.specs.Edit.{editLines, editDone, editCall}
+use Rattle.store_spec.specs.Demand1.{StoreEnds, Stays, StoreCalls, writeClaims, loseClaims, listClaims, repairClaims, readClaims, editClaims}
 use Rattle.store_spec.specs.Packets.{freshShare, hearNamed, standInsEach}
 use Rattle.store_spec.specs.Record.{Record, newRecord, sound, inService, stripeCount, held, writtenRecord, usedLen, partLen}
 use Rattle.store_spec.proofs.Agree.{alike}
@@ -79,6 +80,11 @@ read-ends : (s : Record) (area boards output : List ℕ)
     → StoreEnds (readLines s area boards output) s area output (readDone s area boards output) (readCall s area boards output)
 unfolding readCall
 read-ends s area boards output = ends _ s area output _ refl
+
+edit-ends : (s : Record) (area : List ℕ) (offset : ℕ) (bytes boards : List ℕ)
+    → StoreEnds (editLines s area offset bytes boards) s area [] (editDone s area offset bytes boards) (editCall s area offset bytes boards)
+unfolding editCall
+edit-ends s area offset bytes boards = ends _ s area [] _ refl
 
 -- ---- records
 
@@ -284,6 +290,22 @@ read-lines s area boards output =
     and says-no-file _
     and end)
 
+edit-lines : (s : Record) (area : List ℕ) (offset : ℕ) (bytes boards : List ℕ)
+    → LinesSay (editLines s area offset bytes boards) (editClaims s area offset bytes boards)
+unfolding editLines
+edit-lines s area offset bytes boards =
+    lines-say (editLines s area offset bytes boards) (editClaims s area offset bytes boards)
+    (says-not _
+    and says-differ _ _
+    and says-not _
+    and says-less _ _
+    and says-differ _ _
+    and says-not _
+    and says-not _
+    and says-not _
+    and says-no-file _
+    and end)
+
 -- ---- what is reported, and what losing and reading leave
 
 -- what holds of a refusal and of the work holds of the call
@@ -330,11 +352,13 @@ demand-1 = record {
   list-lines = list-lines;
   repair-lines = repair-lines;
   read-lines = read-lines;
+  edit-lines = edit-lines;
   set-up-ends = set-up-ends;
   write-ends = write-ends;
   lose-ends = lose-ends;
   repair-ends = repair-ends;
   read-ends = read-ends;
+  edit-ends = edit-ends;
   set-up-accepted = set-up-accepted;
   sound-is = λ s. (sound-there s, sound-back s);
   held-place = held-place;

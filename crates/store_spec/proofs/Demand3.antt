@@ -27,7 +27,7 @@ use Rattle.board_spec.specs.Calls.{fileOf}
 use Rattle.store_spec.specs.Calls.{recordLine, StoreOutcome, settle, accepted, refused, repairLines, repairCall, repairDone, readCall, setUpCall}
 use Rattle.store_spec.specs.Demand3.{Repaired, calls, Intact, begun, Demand3Claim, Demand3At, Demand3Standard, Demand3FirstSeries}
 use Rattle.store_spec.specs.Ledger.{State, Book, Step, replies, bookReplies, final, bookFinal, Call, Fair, act, bookRecord, enter, Altered, stepOutcome, bookLength}
-use Rattle.store_spec.specs.Ledger.{Allowed, left, openBook, write, lose, repair, read}
+use Rattle.store_spec.specs.Ledger.{Allowed, left, openBook, write, lose, repair, read, edit}
 use Rattle.store_spec.specs.Packets.{helperPackets, standInPackets, exchangePackets, hearHelpers, hearPartners, standInsEach, partnerPackets, freshShare, repairPackets}
 use Rattle.store_spec.specs.Record.{Record, allOff, held, usedLen, sound, newRecord}
 use Rattle.store_spec.proofs.Area.{shares-same}
@@ -40,6 +40,7 @@ use Rattle.store_spec.proofs.Seam.{AllLaws, Lengths}
 use Rattle.store_spec.proofs.Step.{settle-pass, Inv, Good, write-good, lose-good, altered}
 use Rattle.store_spec.proofs.StepRead.{read-good, read-gives}
 use Rattle.store_spec.proofs.StepRepair.{repair-good}
+use Rattle.store_spec.proofs.StepEdit.{edit-good}
 
 -- a call that answers no refusal has passed its lines
 pub passes : (c : Check) (s : Record) (area output : List ℕ) (done : StoreOutcome) → settle c (refused s area output) done .answer .refusal ≡ 0 → c ≡ Pass
@@ -95,6 +96,7 @@ module _ (laws : AllLaws) where
   step b area v (lose board) ok = lose-good laws b area v board
   step b area v (repair fresh helpers standIns) ok = repair-good laws b area v fresh helpers standIns
   step b area v (read boards output) ok = read-good laws b area v boards output
+  step b area v (edit offset bytes boards) ok = edit-good laws b area v offset bytes boards ok
 
   altered-at : (w : State) (b : Book) (now : List ℕ) → w .kept ≡ bookRecord b → Inv b (w .area) → Altered b (w .kept) (w .area) now → Inv b now
   altered-at w b now e v k = altered b (w .area) now v (subst (λ (s : Record). Altered b s (w .area) now) e k)

@@ -8,15 +8,16 @@ use mathlib.Core.Option.{some}
 use native.Mathlib.Omega.{arith}
 use lib.Dec.{ltb, eqb}
 use Rattle.lists.specs.Tests.{pick, among}
-use Rattle.lists.specs.Lists.{tabulate, without}
+use Rattle.lists.specs.Lists.{tabulate, without, put}
 use Rattle.lists.proofs.Boards.{among-append-left, among-append-none, among-without}
 use Rattle.sizes.specs.declared.Check.{Check}
 use Rattle.sizes.specs.declared.Check.the-variants.{Pass, Refuse}
 use Rattle.sizes.specs.declared.Answer.the-variants.{Refused}
 use Rattle.sizes.specs.Refusals.{said, first, storeOrder}
 use Rattle.sizes.proofs.Laws.{number-low}
+use Rattle.board_spec.specs.Calls.{fileOf}
 use Rattle.store_spec.specs.Calls.{settle}
-use Rattle.store_spec.specs.Ledger.{Call, write, lose, repair, read, Book, Entry, outputOf, replied, bookLines, accept, enter}
+use Rattle.store_spec.specs.Ledger.{Call, write, lose, repair, read, edit, Book, Entry, outputOf, replied, bookLines, accept, enter}
 use Rattle.store_spec.specs.LedgerLaws.{Accepted, LedgerLaws}
 use Rattle.store_spec.proofs.Marks.{among-first}
 
@@ -48,6 +49,7 @@ accepts b (write file) = refl
 accepts b (lose board) = refl
 accepts b (repair fresh helpers standIns) = refl
 accepts b (read boards output) = refl
+accepts b (edit offset bytes boards) = refl
 
 done-stay : (b : Book) (call : Call)
     → (accept b call .book .sizes ≡ b .sizes) × (accept b call .book .points ≡ b .points)
@@ -57,6 +59,7 @@ done-stay b (write file) = (refl, refl, refl, refl)
 done-stay b (lose board) = (refl, refl, refl, refl)
 done-stay b (repair fresh helpers standIns) = (refl, refl, refl, refl)
 done-stay b (read boards output) = (refl, refl, refl, refl)
+done-stay b (edit offset bytes boards) = (refl, refl, refl, refl)
 
 is-done : (b : Book) (call : Call) → Accepted b call → enter b call ≡ accept b call
 unfolding enter
@@ -105,5 +108,12 @@ reads : (b : Book) (boards output : List ℕ) → enter b (read boards output) .
 unfolding enter accept
 reads b boards output = by-same b output (accept b (read boards output)) (first storeOrder (bookLines b (read boards output))) refl
 
+edits : (b : Book) (offset : ℕ) (bytes boards : List ℕ) → Accepted b (edit offset bytes boards)
+    → (enter b (edit offset bytes boards) .book .file ≡ some (put (fileOf (b .file)) offset bytes))
+    × (enter b (edit offset bytes boards) .book .service ≡ b .service)
+unfolding accept
+edits b offset bytes boards e =
+    let d = is-done b (edit offset bytes boards) e in (ap (λ (y : Entry). y .book .file) d, ap (λ (y : Entry). y .book .service) d)
+
 pub ledger-laws : LedgerLaws
-ledger-laws = record { refused = refused; stay = stay; writes = writes; loses = loses; repairs = repairs; reads = reads }
+ledger-laws = record { refused = refused; stay = stay; writes = writes; loses = loses; repairs = repairs; edits = edits; reads = reads }

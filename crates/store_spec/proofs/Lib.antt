@@ -7,13 +7,16 @@ pub mod Records
 pub mod Runs
 pub mod Marks
 pub mod Repair
+pub mod Sums
 pub mod Agree
 pub mod Step
 pub mod StepRepair
 pub mod StepRead
+pub mod StepEdit
 pub mod Demand3
 pub mod Premises
 pub mod LedgerLaws
+pub mod EditLaws
 pub mod ListLaws
 pub mod MarkLaws
 pub mod Exact

@@ -20,7 +20,8 @@ use Rattle.sizes.proofs.Laws.{number-low}
 use Rattle.store_spec.specs.Record.{Record, inService, turnOn}
 use Rattle.store_spec.specs.Calls.{StoreOutcome, settle, refused, writeLines, writeDone, writeCall, loseLines, loseDone, loseCall, repairLines, repairDone, repairCall}
 use Rattle.store_spec.specs.Calls.{readLines, readDone, readCall}
-use Rattle.store_spec.specs.Ledger.{Call, write, lose, repair, read, State, act, outputOf}
+use Rattle.store_spec.specs.Edit.{editLines, editDone, editCall}
+use Rattle.store_spec.specs.Ledger.{Call, write, lose, repair, read, edit, State, act, outputOf}
 use Rattle.store_spec.specs.MarkLaws.{MarkLaws}
 
 -- a call that is accepted has done its work
@@ -90,6 +91,10 @@ module _ (s : Record) (area : List ℕ) where
   unfolding readCall
   did-read boards output = same (first storeOrder (readLines s area boards output)) output (readDone s area boards output) refl
 
+  did-edit : (offset : ℕ) (bytes boards : List ℕ) → editCall s area offset bytes boards .handed ≡ s
+  unfolding editCall
+  did-edit offset bytes boards = same (first storeOrder (editLines s area offset bytes boards)) [] (editDone s area offset bytes boards) refl
+
 -- ---- whatever the call
 
 keeps : (t : Check) (s : Record) (area output : List ℕ) (done : StoreOutcome) → done .answer .refusal ≡ 0
@@ -100,7 +105,7 @@ keeps (Refuse x) s area output done e h = refl
 
 refused-keeps : (w : State) (call : Call) → (act w call .answer .refusal ≡ 0 → ⊥)
     → act w call ≡ record { answer = act w call .answer; handed = w .kept; area = w .area; output = outputOf call }
-unfolding act writeCall loseCall repairCall readCall
+unfolding act writeCall loseCall repairCall readCall editCall
 refused-keeps w (write file) h =
     keeps (first storeOrder (writeLines (w .kept) (length (w .area)) file)) (w .kept) (w .area) [] (writeDone (w .kept) (w .area) file) refl h
 refused-keeps w (lose board) h =
@@ -111,6 +116,9 @@ refused-keeps w (repair fresh helpers standIns) h =
 refused-keeps w (read boards output) h =
     keeps (first storeOrder (readLines (w .kept) (w .area) boards output)) (w .kept) (w .area) output
     (readDone (w .kept) (w .area) boards output) refl h
+refused-keeps w (edit offset bytes boards) h =
+    keeps (first storeOrder (editLines (w .kept) (w .area) offset bytes boards)) (w .kept) (w .area) []
+    (editDone (w .kept) (w .area) offset bytes boards) refl h
 
 length-on : (boards : List ℕ) (marks : List Bool) → length (turnOn boards marks) ≡ length marks
 length-on [] marks = refl
@@ -122,7 +130,7 @@ full Pass s area output done e d = d
 full (Refuse x) s area output done e d = e
 
 full-marks : (w : State) (call : Call) → length (w .kept .marks) ≡ maxBoards → length (act w call .handed .marks) ≡ maxBoards
-unfolding act writeCall loseCall repairCall readCall
+unfolding act writeCall loseCall repairCall readCall editCall
 full-marks w (write file) e =
     full (first storeOrder (writeLines (w .kept) (length (w .area)) file)) (w .kept) (w .area) [] (writeDone (w .kept) (w .area) file) e refl
 full-marks w (lose board) e =
@@ -134,6 +142,9 @@ full-marks w (repair fresh helpers standIns) e =
 full-marks w (read boards output) e =
     full (first storeOrder (readLines (w .kept) (w .area) boards output)) (w .kept) (w .area) output
     (readDone (w .kept) (w .area) boards output) e e
+full-marks w (edit offset bytes boards) e =
+    full (first storeOrder (editLines (w .kept) (w .area) offset bytes boards)) (w .kept) (w .area) []
+    (editDone (w .kept) (w .area) offset bytes boards) e e
 
 points-by : (t : Check) (s : Record) (area output : List ℕ) (done : StoreOutcome) → done .handed .points ≡ s .points
     → settle t (refused s area output) done .handed .points ≡ s .points
@@ -141,7 +152,7 @@ points-by Pass s area output done d = d
 points-by (Refuse x) s area output done d = refl
 
 points-stay : (w : State) (call : Call) → act w call .handed .points ≡ w .kept .points
-unfolding act writeCall loseCall repairCall readCall
+unfolding act writeCall loseCall repairCall readCall editCall
 points-stay w (write file) =
     points-by (first storeOrder (writeLines (w .kept) (length (w .area)) file)) (w .kept) (w .area) [] (writeDone (w .kept) (w .area) file) refl
 points-stay w (lose board) = points-by (first storeOrder (loseLines (w .kept) board)) (w .kept) (w .area) [] (loseDone (w .kept) (w .area) board) refl
@@ -150,6 +161,8 @@ points-stay w (repair fresh helpers standIns) =
     (repairDone (w .kept) (w .area) fresh helpers standIns) refl
 points-stay w (read boards output) =
     points-by (first storeOrder (readLines (w .kept) (w .area) boards output)) (w .kept) (w .area) output (readDone (w .kept) (w .area) boards output) refl
+points-stay w (edit offset bytes boards) =
+    points-by (first storeOrder (editLines (w .kept) (w .area) offset bytes boards)) (w .kept) (w .area) [] (editDone (w .kept) (w .area) offset bytes boards) refl
 
 pub mark-laws : MarkLaws
 mark-laws = record {
@@ -176,4 +189,5 @@ mark-laws = record {
         (ap (λ (r : Record). r .written) d, ap (λ (r : Record). r .length) d),
       );
   reads = did-read;
+  edits = did-edit;
 }

@@ -12,7 +12,7 @@ use lib.Seq.{getD-take, getD-drop, ext-getD}
 use Rattle.lists.specs.Tests.{among}
 use Rattle.lists.specs.Lists.{All, Bytes}
 use Rattle.store_spec.specs.Record.{Record, part, partLen}
-use Rattle.store_spec.specs.Ledger.{Call, write, lose, repair, read, Book, State, Step, Altered, Fair, Allowed, left, act, stepOutcome, enter, openBook}
+use Rattle.store_spec.specs.Ledger.{Call, write, lose, repair, read, edit, Book, State, Step, Altered, Fair, Allowed, left, act, stepOutcome, enter, openBook}
 use Rattle.store_spec.specs.Demand3.{begun, calls}
 use Rattle.store_spec.specs.Premises.{files, unaltered, AgreeInService, Premises}
 
@@ -25,6 +25,7 @@ fair (write file) cs h = h
 fair (lose board) cs h = (tt, h)
 fair (repair fresh helpers standIns) cs h = (tt, h)
 fair (read boards output) cs h = (tt, h)
+fair (edit offset bytes boards) cs h = h
 
 all-allowed : (w : State) (b : Book) (cs : List Call) → All Bytes (files cs) → Allowed w b (unaltered w cs)
 all-allowed w b [] h = tt

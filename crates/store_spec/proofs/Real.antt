@@ -103,4 +103,4 @@ code-lengths xs z ok =
     }
 
 pub code-laws : AllLaws
-code-laws xs z ok pts = record { lengths = code-lengths xs z ok; rebuilt = rebuilt xs z ok pts; reads = reads xs z ok pts }
+code-laws xs z ok pts = record { lengths = code-lengths xs z ok; rebuilt = rebuilt xs z ok pts; reads = reads xs z ok pts; adds = T xs z ok pts .shares-add }

@@ -14,13 +14,14 @@ use Rattle.lists.proofs.Boards.{below-all}
 use Rattle.sizes.specs.Refusals.{first, storeOrder}
 use Rattle.sizes.specs.Sizing.{legal, maxStripes, B, α, stripes}
 use Rattle.sizes.specs.declared.Check.the-variants.{Pass}
-use Rattle.sizes.specs.declared.Refusal.the-variants.{Size, Area, Long, Count, Node, Repeat, Short, Empty, Down, Disagree, Serving}
+use Rattle.sizes.specs.declared.Refusal.the-variants.{Size, Area, Long, Count, Node, Repeat, Short, Empty, Down, Disagree, Serving, Range}
 use Rattle.sizes.specs.declared.Sizes.{Sizes}
 use Rattle.sizes.proofs.Legal.{stripes-least, legal-facts}
 use Rattle.sizes.proofs.Orders.{_also_, clear-off, off-pass}
 use Rattle.mbcr.specs.Share.{pointed, DifferentPoints}
 use Rattle.mbcr.proofs.PointLaws.{pointed-differ}
 use Rattle.store_spec.specs.Calls.{writeLines, loseLines, listLines, repairLines, readLines, fileHeld}
+use Rattle.store_spec.specs.Edit.{editLines}
 use Rattle.store_spec.specs.Packets.{hearNamed, standInsEach}
 use Rattle.store_spec.specs.Record.{Record, allOff, sound, usedLen, partLen, areaLen, inService}
 
@@ -217,3 +218,31 @@ reads-pass s area boards output f g =
     also le-ltb _ _ (f .room)
     also ap not g
     also tt)
+
+pub record Edits (s : Record) (m offset : ℕ) (bytes boards : List ℕ) : Type 0 where
+  pub is-sound : sound s ≡ true
+  pub area-is : m ≡ areaLen s
+  pub is-written : s .written ≡ true
+  pub in-range : offset + length bytes ≤ s .length
+  pub count : length boards ≡ s .sizes .k
+  pub named-below : below (s .sizes .n) boards ≡ true
+  pub all-different : different boards ≡ true
+  pub all-up : every (inService s) boards ≡ true
+
+pub edit-facts : (s : Record) (area : List ℕ) (offset : ℕ) (bytes boards : List ℕ) → first storeOrder (editLines s area offset bytes boards) ≡ Pass
+    → Edits s (length area) offset bytes boards × (given (fileHeld s area boards) ≡ true)
+unfolding editLines
+edit-facts s area offset bytes boards h =
+    let off = clear-off (editLines s area offset bytes boards) storeOrder h in (
+      record {
+        is-sound = not-no _ (off Size refl);
+        area-is = eqb-true _ _ (not-no _ (off Area refl));
+        is-written = not-no _ (off Empty refl);
+        in-range = ltb-false _ _ (off Range refl);
+        count = eqb-true _ _ (not-no _ (off Count refl));
+        named-below = not-no _ (off Node refl);
+        all-different = not-no _ (off Repeat refl);
+        all-up = not-no _ (off Down refl);
+      },
+      not-no _ (off Disagree refl),
+    )

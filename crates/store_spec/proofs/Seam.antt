@@ -11,6 +11,7 @@ use Rattle.lists.specs.Lists.{Bytes, joined, without}
 use Rattle.lists.specs.Tests.{below, different, among, apart}
 use Rattle.sizes.specs.Sizing.{legal, stripes, α}
 use Rattle.sizes.specs.declared.Sizes.{Sizes}
+use Rattle.polynomial.specs.Polynomial.{plus}
 use Rattle.mbcr.specs.Read.{readFile}
 use Rattle.mbcr.specs.Rebuild.{helperPacket, standInPacket, exchangePacket, finishedShare}
 use Rattle.mbcr.specs.Share.{DifferentPoints, share}
@@ -53,6 +54,8 @@ pub record Laws (xs : List ℕ) (z : Sizes) : Type 0 where
   pub reads : (file : List ℕ) → Bytes file → (boards : List ℕ)
       → length boards ≡ z .k → below (z .n) boards ≡ true → different boards ≡ true
       → readFile z xs (length file) boards (joined (share z xs file) boards) ≡ some file
+  -- shares add like files
+  pub adds : (file file′ : List ℕ) → length file ≡ length file′ → (i : ℕ) → share z xs (plus file file′) i ≡ plus (share z xs file i) (share z xs file′ i)
 
 -- at all legal sizes and different points
 abbrev pub AllLaws : Type 0

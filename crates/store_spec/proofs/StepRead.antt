@@ -34,7 +34,7 @@ module _ (laws : AllLaws) (b : Book) (area : List ℕ) (v : Inv b area) where
   known : Sound (bookRecord b)
   known = facts laws b area v
 
-  reading : (boards : List ℕ) → length boards ≡ b .sizes .k → below (b .sizes .n) boards ≡ true → different boards ≡ true → every (among (b .service)) boards ≡ true
+  pub reading : (boards : List ℕ) → length boards ≡ b .sizes .k → below (b .sizes .n) boards ≡ true → different boards ≡ true → every (among (b .service)) boards ≡ true
       → fileHeld (bookRecord b) area boards ≡ some (fileOf (b .file))
   reading boards c l d u =
       let m = joined-all (held (bookRecord b) area) (share (b .sizes) (b .points) (fileOf (b .file))) boards
@@ -58,7 +58,7 @@ module _ (laws : AllLaws) (b : Book) (area : List ℕ) (v : Inv b area) where
       rw (reading boards (f .count) (f .named-below) (f .all-different) u) (record { alike = refl; same-record = refl; inv = v }))
 
   -- where a board is in service, a file was accepted
-  some-written : (boards : List ℕ) → length boards ≡ b .sizes .k → every (among (b .service)) boards ≡ true → given (b .file) ≡ true
+  pub some-written : (boards : List ℕ) → length boards ≡ b .sizes .k → every (among (b .service)) boards ≡ true → given (b .file) ≡ true
   some-written [] c u = let k = legal-facts (b .sizes) (known .is-legal) .some-read in absurd (omega arith)
   some-written (x ∷ l) c u = go (given (b .file)) refl
     where

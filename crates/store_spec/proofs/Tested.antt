@@ -11,13 +11,14 @@ use Rattle.lists.specs.Tests.{pick, every, below, same}
 use Rattle.lists.proofs.Tests.{both, every-all, same-eq}
 use Rattle.lists.proofs.Boards.{all-among, below-all}
 use Rattle.store_spec.specs.Record.{Record, part}
-use Rattle.store_spec.specs.Ledger.{Call, write, lose, repair, read, Book, State, Step, Altered, Fair, Allowed, left, stepOutcome, enter}
+use Rattle.store_spec.specs.Ledger.{Call, write, lose, repair, read, edit, Book, State, Step, Altered, Fair, Allowed, left, stepOutcome, enter}
 
 abbrev pub bytes : Call → Bool
 bytes (write file) = below 256 file
 bytes (lose board) = true
 bytes (repair fresh helpers standIns) = true
 bytes (read boards output) = true
+bytes (edit offset new boards) = below 256 new
 
 abbrev pub agrees : Book → Record → List ℕ → List ℕ → Bool
 agrees b s old new = pick (eqb (length new) (length old)) (every (λ i. same (part s new i) (part s old i)) (b .service)) false
@@ -43,6 +44,7 @@ fair (write file) e = below-all 256 file e
 fair (lose board) e = tt
 fair (repair fresh helpers standIns) e = tt
 fair (read boards output) e = tt
+fair (edit offset new boards) e = below-all 256 new e
 
 pub allow : (w : State) (b : Book) (ts : List Step) → allows w b ts ≡ true → Allowed w b ts
 allow w b [] e = tt

@@ -14,7 +14,7 @@ use Rattle.lists.specs.Tests.{every, alls, below, among, different, apart}
 use Rattle.lists.specs.Lists.{All, Bytes, tabulate, piece, over}
 use Rattle.sizes.specs.declared.Sizes.{Sizes}
 use Rattle.sizes.specs.declared.Refusal.{Refusal}
-use Rattle.sizes.specs.declared.Refusal.the-variants.{Size, Area, Long, Count, Node, Repeat, Short, Empty, Down, Disagree, Serving}
+use Rattle.sizes.specs.declared.Refusal.the-variants.{Size, Area, Long, Count, Node, Repeat, Short, Empty, Down, Disagree, Serving, Range}
 use Rattle.sizes.specs.declared.Answer.the-variants.{Refused}
 use Rattle.sizes.specs.Sizing.{maxStripes, legal, α, B, stripes}
 use Rattle.sizes.specs.Refusals.{number, said, Line, appliesIn, storeOrder}
@@ -24,7 +24,8 @@ use Rattle.board_spec.specs.Claims.{Claim, _means_, LinesSay}
 use Rattle.store_spec.specs.Record.{Record, inService, sound, newRecord, writtenRecord, stripeCount, partLen, usedLen, areaLen, held}
 use Rattle.store_spec.specs.Calls.{StoreOutcome, accepted, refused, fileHeld, recordLine, writeLines, loseLines, listLines, repairLines, readLines, setUpCall, writeDone, writeCall}
 use Rattle.store_spec.specs.Calls.{loseDone, loseCall, repairDone, repairCall, readDone, readCall}
-use Rattle.store_spec.specs.Ledger.{Call, write, lose, repair, read, Book, bookRecord, bookLines}
+use Rattle.store_spec.specs.Edit.{editLines, editDone, editCall}
+use Rattle.store_spec.specs.Ledger.{Call, write, lose, repair, read, edit, Book, bookRecord, bookLines}
 
 -- one call: its lines; record, area and output as they came; what it does where no line holds; and its outcome
 pub record StoreEnds (lines : List Line) (s : Record) (area output : List ℕ) (done o : StoreOutcome) : Type 0 where
@@ -46,6 +47,7 @@ storeLines s area (write file) = writeLines s (length area) file
 storeLines s area (lose board) = loseLines s board
 storeLines s area (repair fresh helpers standIns) = repairLines s (length area) fresh helpers standIns
 storeLines s area (read boards output) = readLines s area boards output
+storeLines s area (edit offset bytes boards) = editLines s area offset bytes boards
 
 -- what the lines of each call say
 module _ (s : Record) where
@@ -91,6 +93,18 @@ module _ (s : Record) where
       ∷ Disagree means (fileHeld s area boards ≡ none)
       ∷ [])
 
+  abbrev pub editClaims : List ℕ → ℕ → List ℕ → List ℕ → List Claim
+  editClaims area offset bytes boards =
+      lentClaims (length area)
+      ++ (Empty means (s .written ≡ false)
+      ∷ Range means (s .length < offset + length bytes)
+      ∷ Count means (length boards ≢ s .sizes .k)
+      ∷ Node means (below (s .sizes .n) boards ≡ false)
+      ∷ Repeat means (different boards ≡ false)
+      ∷ Down means (every (inService s) boards ≡ false)
+      ∷ Disagree means (fileHeld s area boards ≡ none)
+      ∷ [])
+
 pub record StoreCalls : Type 0 where
   -- the lines of each call say this, and it has no others
   pub write-lines : (s : Record) (m : ℕ) (file : List ℕ) → LinesSay (writeLines s m file) (writeClaims s m file)
@@ -100,6 +114,8 @@ pub record StoreCalls : Type 0 where
       → LinesSay (repairLines s m fresh helpers standIns) (repairClaims s m fresh helpers standIns)
   pub read-lines : (s : Record) (area boards output : List ℕ)
       → LinesSay (readLines s area boards output) (readClaims s area boards output)
+  pub edit-lines : (s : Record) (area : List ℕ) (offset : ℕ) (bytes boards : List ℕ)
+      → LinesSay (editLines s area offset bytes boards) (editClaims s area offset bytes boards)
   pub set-up-ends : (old : Record) (z : Sizes) (xs : List ℕ) (c : ℕ)
       → StoreEnds (recordLine (newRecord z xs c) ∷ []) old [] [] (accepted 0 (newRecord z xs c) [] []) (setUpCall old z xs c)
   pub write-ends : (s : Record) (area file : List ℕ)
@@ -110,6 +126,8 @@ pub record StoreCalls : Type 0 where
       (repairCall s area fresh helpers standIns)
   pub read-ends : (s : Record) (area boards output : List ℕ)
       → StoreEnds (readLines s area boards output) s area output (readDone s area boards output) (readCall s area boards output)
+  pub edit-ends : (s : Record) (area : List ℕ) (offset : ℕ) (bytes boards : List ℕ)
+      → StoreEnds (editLines s area offset bytes boards) s area [] (editDone s area offset bytes boards) (editCall s area offset bytes boards)
   -- an outcome by its parts
   pub accepted-is : (v : ℕ) (s : Record) (area output : List ℕ)
       → accepted v s area output ≡ record { answer = record { refusal = 0; reported = v }; handed = s; area = area; output = output }

@@ -8,23 +8,26 @@ use mathlib.Core.Option.{Option, some, none}
 use lib.Dec.{leb, ltb, eqb}
 use lib.ListN.{length}
 use Rattle.lists.specs.Tests.{every, alls, below, among, different, apart, given}
-use Rattle.lists.specs.Lists.{All, Bytes, tabulate, piece, without, over}
+use Rattle.lists.specs.Lists.{All, Bytes, tabulate, piece, without, put, over}
 use Rattle.sizes.specs.declared.Sizes.{Sizes}
 use Rattle.sizes.specs.declared.Refusal.{Refusal}
-use Rattle.sizes.specs.declared.Refusal.the-variants.{Area, Long, Count, Node, Repeat, Short, Empty, Down, Serving}
+use Rattle.sizes.specs.declared.Refusal.the-variants.{Area, Long, Count, Node, Repeat, Short, Empty, Down, Serving, Range}
 use Rattle.sizes.specs.declared.Answer.the-variants.{Done, Refused}
 use Rattle.sizes.specs.Sizing.{maxBoards, α, B, stripes}
 use Rattle.sizes.specs.Refusals.{Said, said, Line, _when_, first, storeOrder}
 use Rattle.board_spec.specs.Calls.{fileOf}
 use Rattle.store_spec.specs.Record.{Record, part}
 use Rattle.store_spec.specs.Calls.{StoreOutcome, settle, writeCall, loseCall, repairCall, readCall}
+use Rattle.store_spec.specs.Edit.{editCall}
 
--- "writes, losses, repairs and reads": a call with its arguments other than record and area
+-- "writes, losses, repairs and reads", and from request A.6 on "every store call that a request adds": a call with its arguments other than
+-- record and area
 pub data Call : Type 0 where
   write : (file : List ℕ) → Call
   lose : (board : ℕ) → Call
   repair : (fresh helpers standIns : List ℕ) → Call
   read : (boards output : List ℕ) → Call
+  edit : (offset : ℕ) (bytes boards : List ℕ) → Call
 
 -- what store and ledger have to agree in: "refused or not, the number, the bytes moved, and all bytes of a read's output after it"
 pub record Reply : Type 0 where
@@ -88,6 +91,15 @@ bookLines b (read boards output) =
     ∷ Down when not (every (among (b .service)) boards)
     ∷ Short when ltb (length output) (bookLength b)
     ∷ []
+bookLines b (edit offset bytes boards) =
+    Area when not (eqb (b .areaLength) (b .sizes .n * (b .capacity * α (b .sizes))))
+    ∷ Empty when not (given (b .file))
+    ∷ Range when ltb (bookLength b) (offset + length bytes)
+    ∷ Count when not (eqb (length boards) (b .sizes .k))
+    ∷ Node when not (below (b .sizes .n) boards)
+    ∷ Repeat when not (different boards)
+    ∷ Down when not (every (among (b .service)) boards)
+    ∷ []
 
 -- what the ledger replies, and the book after it
 pub record Entry : Type 0 where
@@ -103,6 +115,7 @@ outputOf (write file) = []
 outputOf (lose board) = []
 outputOf (repair fresh helpers standIns) = []
 outputOf (read boards output) = output
+outputOf (edit offset bytes boards) = []
 
 -- a call that is not refused
 unfoldable pub accept : Book → Call → Entry
@@ -112,6 +125,8 @@ accept b (repair fresh helpers standIns) =
     replied (said (Done (stripes (b .sizes) (bookLength b) * length fresh * (2 * b .sizes .d + b .sizes .r - 1)))) []
     (noted b (b .file) (fresh ++ b .service))
 accept b (read boards output) = replied (said (Done 0)) (over (fileOf (b .file)) output) b
+-- "The file that reads must return is from then on the edited one."
+accept b (edit offset bytes boards) = replied (said (Done 0)) [] (noted b (some (put (fileOf (b .file)) offset bytes)) (b .service))
 
 -- "A call is refused with the first number, in the store's order, whose line holds by this book, and then changes nothing"
 unfoldable pub enter : Book → Call → Entry
@@ -129,6 +144,7 @@ act w (write file) = writeCall (w .kept) (w .area) file
 act w (lose board) = loseCall (w .kept) (w .area) board
 act w (repair fresh helpers standIns) = repairCall (w .kept) (w .area) fresh helpers standIns
 act w (read boards output) = readCall (w .kept) (w .area) boards output
+act w (edit offset bytes boards) = editCall (w .kept) (w .area) offset bytes boards
 
 abbrev pub replyOf : StoreOutcome → Reply
 replyOf o = record { answer = o .answer; output = o .output }
@@ -152,12 +168,13 @@ pub record Altered (b : Book) (s : Record) (old new : List ℕ) : Type 0 where
   pub as-long : length new ≡ length old
   pub in-service : (i : ℕ) → among (b .service) i ≡ true → part s new i ≡ part s old i
 
--- a file to write is of bytes
+-- a file to write is of bytes, and so are an edit's
 abbrev pub Fair : Call → Type 0
 Fair (write file) = Bytes file
 Fair (lose board) = Unit
 Fair (repair fresh helpers standIns) = Unit
 Fair (read boards output) = Unit
+Fair (edit offset bytes boards) = Bytes bytes
 
 abbrev pub Allowed : State → Book → List Step → Type 0
 Allowed w b [] = Unit

@@ -8,7 +8,9 @@ use mathlib.Core.Option.{some}
 use Prim.Native.Nat.{ℕ}
 use lib.Dec.{ltb, eqb}
 use Rattle.lists.specs.Tests.{pick, among}
-use Rattle.store_spec.specs.Ledger.{Call, write, lose, repair, read, Book, outputOf, enter}
+use Rattle.lists.specs.Lists.{put}
+use Rattle.board_spec.specs.Calls.{fileOf}
+use Rattle.store_spec.specs.Ledger.{Call, write, lose, repair, read, edit, Book, outputOf, enter}
 
 abbrev pub Accepted : Book → Call → Type 0
 Accepted b call = enter b call .reply .answer .refusal ≡ 0
@@ -31,5 +33,9 @@ pub record LedgerLaws : Type 0 where
   pub repairs : (b : Book) (fresh helpers standIns : List ℕ) → Accepted b (repair fresh helpers standIns)
       → (enter b (repair fresh helpers standIns) .book .file ≡ b .file)
       × ((i : ℕ) → among (enter b (repair fresh helpers standIns) .book .service) i ≡ pick (among fresh i) true (among (b .service) i))
+  -- "The file that reads must return is from then on the edited one", and no board comes or goes
+  pub edits : (b : Book) (offset : ℕ) (bytes boards : List ℕ) → Accepted b (edit offset bytes boards)
+      → (enter b (edit offset bytes boards) .book .file ≡ some (put (fileOf (b .file)) offset bytes))
+      × (enter b (edit offset bytes boards) .book .service ≡ b .service)
   -- a read changes no book
   pub reads : (b : Book) (boards output : List ℕ) → enter b (read boards output) .book ≡ b

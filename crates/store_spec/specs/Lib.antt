@@ -1,12 +1,14 @@
 pub mod Record
 pub mod Packets
 pub mod Calls
+pub mod Edit
 pub mod Ledger
 pub mod Demand1
 pub mod Runs
 pub mod Demand3
 pub mod Premises
 pub mod LedgerLaws
+pub mod EditLaws
 pub mod ListLaws
 pub mod MarkLaws
 pub mod FurtherFigures

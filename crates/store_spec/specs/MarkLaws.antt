@@ -11,6 +11,7 @@ use Rattle.lists.specs.Tests.{pick, among}
 use Rattle.sizes.specs.Sizing.{maxBoards}
 use Rattle.store_spec.specs.Record.{Record, inService}
 use Rattle.store_spec.specs.Calls.{writeCall, loseCall, repairCall, readCall}
+use Rattle.store_spec.specs.Edit.{editCall}
 use Rattle.store_spec.specs.Ledger.{Call, State, act, outputOf}
 
 -- one record has the other's sizes, points and capacity
@@ -45,3 +46,5 @@ pub record MarkLaws : Type 0 where
   pub points-stay : (w : State) (call : Call) → act w call .handed .points ≡ w .kept .points
   -- a read hands on the record that it was given
   pub reads : (s : Record) (area boards output : List ℕ) → readCall s area boards output .handed ≡ s
+  -- and so does an edit
+  pub edits : (s : Record) (area : List ℕ) (offset : ℕ) (bytes boards : List ℕ) → editCall s area offset bytes boards .handed ≡ s

@@ -12,16 +12,17 @@ use Rattle.lists.specs.Lists.{All, Bytes}
 use Rattle.sizes.specs.declared.Sizes.{Sizes}
 use Rattle.sizes.specs.Sizing.{α}
 use Rattle.store_spec.specs.Record.{Record}
-use Rattle.store_spec.specs.Ledger.{Call, write, lose, repair, read, Book, State, Step, Altered, Allowed, left, act, stepOutcome, enter, openBook}
+use Rattle.store_spec.specs.Ledger.{Call, write, lose, repair, read, edit, Book, State, Step, Altered, Allowed, left, act, stepOutcome, enter, openBook}
 use Rattle.store_spec.specs.Demand3.{begun, calls}
 
--- the files that a list of calls writes
+-- the files that a list of calls writes, and the bytes that it edits
 abbrev pub files : List Call → List (List ℕ)
 files [] = []
 files (write file ∷ cs) = file ∷ files cs
 files (lose board ∷ cs) = files cs
 files (repair fresh helpers standIns ∷ cs) = files cs
 files (read boards output ∷ cs) = files cs
+files (edit offset bytes boards ∷ cs) = bytes ∷ files cs
 
 -- the steps of these calls with nothing altered between them: each is given the area that the last one left
 abbrev pub unaltered : State → List Call → List Step

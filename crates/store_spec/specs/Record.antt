@@ -6,7 +6,7 @@ use Prim.Native.Nat.{ℕ, _*_}
 use lib.Dec.{leb, ltb, eqb}
 use lib.ListN.{length, take, drop, getD, set, replicate}
 use Rattle.lists.specs.Tests.{pick, every, alls}
-use Rattle.lists.specs.Lists.{tabulate, put}
+use Rattle.lists.specs.Lists.{tabulate, concat, put}
 use Rattle.sizes.specs.declared.Sizes.{Sizes}
 use Rattle.sizes.specs.Sizing.{maxBoards, maxStripes, legal, α, B, stripes}
 use Rattle.mbcr.specs.Share.{pointed}
@@ -23,6 +23,10 @@ pub record Record : Type 0 where
 
 abbrev pub inService : Record → ℕ → Bool
 inService s i = getD (s .marks) i false
+
+-- the boards in service, in the order of their numbers
+abbrev pub serving : Record → List ℕ
+serving s = concat (tabulate (s .sizes .n) (λ i. pick (inService s i) (i ∷ []) []))
 
 -- no mark of the list is on
 abbrev pub allOff : List Bool → Bool

@@ -8,7 +8,7 @@ use native.Mathlib.Nat.{mul-le-mul-right}
 use native.Mathlib.Omega.{arith}
 use lib.ListN.{length, getD}
 use Rattle.lists.specs.Lists.{tabulate, join, put}
-use Rattle.lists.proofs.Pieces.{tabulate-suc}
+use Rattle.lists.proofs.Pieces.{tabulate-suc, tabulate-getD}
 use Rattle.sizes.specs.declared.Sizes.{Sizes}
 use Rattle.sizes.specs.Sizing.{B, α, stripes}
 use Rattle.sizes.proofs.Legal.{Legal, row-fits}
@@ -31,17 +31,21 @@ area-few n part i hn hp hi =
     (row-fits i n part hi, omega arith)
 
 -- board by board is the list of boards
-puts-last : (s : Record) (f : ℕ → List ℕ) (boards : List ℕ) (i : ℕ) (area : List ℕ)
+last-share : (s : Record) (f : ℕ → List ℕ) (boards : List ℕ) (i : ℕ) (area : List ℕ)
     → putShares s f (boards ++ (i ∷ [])) area ≡ put (putShares s f boards area) (i * partLen s) (f i)
-puts-last s f [] i area = refl
-puts-last s f (b ∷ boards) i area = puts-last s f boards i (put area (b * partLen s) (f b))
+last-share s f [] i area = refl
+last-share s f (b ∷ boards) i area = last-share s f boards i (put area (b * partLen s) (f b))
 
-puts-shares : (s : Record) (f : ℕ → List ℕ) (n : ℕ) (area : List ℕ) → puts (λ i. i * partLen s) f n area ≡ putShares s f (tabulate n (λ i. i)) area
-puts-shares s f zero area = refl
-puts-shares s f (suc n) area =
-    ap (λ (l : List ℕ). put l (n * partLen s) (f n)) (puts-shares s f n area)
-    ∙ sym (puts-last s f (tabulate n (λ i. i)) n area)
-    ∙ ap (λ (l : List ℕ). putShares s f l area) (sym (tabulate-suc n (λ i. i)))
+listed : (s : Record) (f : ℕ → List ℕ) (h : ℕ → ℕ) (m : ℕ) (area : List ℕ) → puts (λ a. h a * partLen s) (λ a. f (h a)) m area ≡ putShares s f (tabulate m h) area
+listed s f h zero area = refl
+listed s f h (suc m) area =
+    ap (λ (l : List ℕ). put l (h m * partLen s) (f (h m))) (listed s f h m area)
+    ∙ sym (last-share s f (tabulate m h) (h m) area)
+    ∙ ap (λ (l : List ℕ). putShares s f l area) (sym (tabulate-suc m h))
+
+pub by-places : (s : Record) (f : ℕ → List ℕ) (boards : List ℕ) (m : ℕ) (area : List ℕ) → length boards ≡ m
+    → puts (λ a. getD boards a 0 * partLen s) (λ a. f (getD boards a 0)) m area ≡ putShares s f boards area
+by-places s f boards m area e = listed s f (λ a. getD boards a 0) m area ∙ ap (λ (l : List ℕ). putShares s f l area) (tabulate-getD m boards 0 e)
 
 module _ (z : Sizes) (legal : Legal z) (xs file area₀ : List ℕ) (part : ℕ) (la : length area₀ ≡ z .n * part) where
   -- stripe s of board i
@@ -71,7 +75,7 @@ pub shares-put : (s : Record) (z : Sizes) (xs file area₀ area : List ℕ) (cou
 unfolding share
 shares-put s z xs file area₀ area count e h =
     h ∙ ap (λ (m : ℕ). puts (λ i. i * partLen s) (λ i. join m (λ t. kept z xs (stripe z file t) i)) (z .n) area₀) e
-    ∙ puts-shares s (λ i. join (stripes z (length file)) (λ t. kept z xs (stripe z file t) i)) (z .n) area₀
+    ∙ listed s (λ i. join (stripes z (length file)) (λ t. kept z xs (stripe z file t) i)) (λ i. i) (z .n) area₀
 
 -- what is taken out of the rows by board is what the boards keep
 pub boards-kept : (z : Sizes) → Legal z → (xs file rows rest values more area : List ℕ) (s part at : ℕ) → length xs ≡ 32

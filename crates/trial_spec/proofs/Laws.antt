@@ -23,7 +23,7 @@ use Rattle.board_spec.specs.Calls.{fileOf}
 use Rattle.printer.specs.Printer.{refusedLine}
 use Rattle.store_spec.specs.Record.{Record, newRecord, areaLen}
 use Rattle.store_spec.specs.Calls.{StoreOutcome, settle, refused, accepted, recordLine, setUpCall}
-use Rattle.store_spec.specs.Ledger.{Call, write, lose, repair, read, Reply, Book, Entry, State, Step, Altered, Allowed}
+use Rattle.store_spec.specs.Ledger.{Call, write, lose, repair, read, edit, Reply, Book, Entry, State, Step, Altered, Allowed}
 use Rattle.store_spec.specs.Ledger.{Fair, act, replyOf, left, replied, bookLines, accept, enter, replies, openBook, bookReplies}
 use Rattle.store_spec.specs.Demand3.{begun, calls}
 use Rattle.store_spec.proofs.Demand3.{demand-3}
@@ -182,6 +182,7 @@ clear-call b (read boards output) =
     let s = same-answer b boards output (replicate (length output) 0) (bookLines b (read boards output)) in
     let e = ap (entered b boards (replicate (length output) 0)) (clear-lines b boards output) in
     (s .0 ∙ ap (λ (n : Entry). n .reply .answer) e, s .1 ∙ ap (λ (n : Entry). n .book) e, refl)
+clear-call b (edit offset bytes boards) = (refl, refl, refl)
 
 clear-line : (c d : Call) (a r : Said) → word c ≡ word d → a ≡ r → callLine c a ≡ callLine d r
 unfolding callLine
@@ -202,6 +203,7 @@ clear-fair (write file ∷ cs) h = (h .0, clear-fair cs (h .1))
 clear-fair (lose board ∷ cs) h = (tt, clear-fair cs (h .1))
 clear-fair (repair fresh helpers standIns ∷ cs) h = (tt, clear-fair cs (h .1))
 clear-fair (read boards output ∷ cs) h = (tt, clear-fair cs (h .1))
+clear-fair (edit offset bytes boards ∷ cs) h = (h .0, clear-fair cs (h .1))
 
 any-output : (l : Load) → taken l ≡ true → (old : Record) (area : List ℕ) → length area ≡ areaLen (newStore l)
     → (cs : List Call) → map cleared cs ≡ drawnCalls l (l .calls) (l .seed)
@@ -268,6 +270,7 @@ refuses input e = ap trialOf e
 
 pub trial-laws : TrialLaws
 trial-laws = record {
+  area-is = λ l. refl;
   taken-is = λ l. (takes l, takes-back l);
   by-ledger = by-ledger;
   any-output = any-output;

@@ -6,14 +6,15 @@ use mathlib.Core.Bool.{true}
 use mathlib.Core.Logic.{_↔_}
 use mathlib.Core.Option.{some, none}
 use mathlib.Core.List.{List, [], map}
-use Prim.Native.Nat.{ℕ, _≤_}
+use Prim.Native.Nat.{ℕ, _*_, _≤_}
 use lib.ListN.{length, replicate}
 use Rattle.lists.specs.Lists.{All}
+use Rattle.sizes.specs.Sizing.{α}
 use Rattle.mbcr.specs.Share.{standard}
 use Rattle.printer.specs.Printer.{refusedLine}
 use Rattle.store_spec.specs.Record.{Record, areaLen}
 use Rattle.store_spec.specs.Calls.{setUpCall}
-use Rattle.store_spec.specs.Ledger.{Call, write, lose, repair, read, Fair, openBook, bookReplies}
+use Rattle.store_spec.specs.Ledger.{Call, write, lose, repair, read, edit, Fair, openBook, bookReplies}
 use Rattle.store_spec.specs.Demand3.{begun}
 use Rattle.trial_spec.specs.Trial.{Load, newStore, taken, loaded, drawnCalls, printed, storeReplies, trialOver, trialText}
 
@@ -29,8 +30,11 @@ cleared (write file) = write file
 cleared (lose board) = lose board
 cleared (repair fresh helpers standIns) = repair fresh helpers standIns
 cleared (read boards output) = read boards (replicate (length output) 0)
+cleared (edit offset bytes boards) = edit offset bytes boards
 
 pub record TrialLaws : Type 0 where
+  -- the bytes of the area: C stripes of each of n boards
+  pub area-is : (l : Load) → areaLen (newStore l) ≡ l .sizes .n * (l .capacity * α (l .sizes))
   -- which loads are taken, whatever record the set-up is handed
   pub taken-is : (l : Load) → (taken l ≡ true) ↔ ((l .seed ≤ 4294967295) × (l .calls ≤ 4294967295)
       × ((old : Record) → setUpCall old (l .sizes) (standard (l .sizes)) (l .capacity) .answer .refusal ≡ 0)

@@ -17,7 +17,7 @@ use Rattle.board_spec.specs.Text.{decimal}
 use Rattle.printer.specs.Printer.{refusedLine, maxFile}
 use Rattle.store_spec.specs.Record.{Record, newRecord, areaLen}
 use Rattle.store_spec.specs.Calls.{setUpCall}
-use Rattle.store_spec.specs.Ledger.{Call, write, lose, repair, read, Reply, State, act, replyOf, left}
+use Rattle.store_spec.specs.Ledger.{Call, write, lose, repair, read, edit, Reply, State, act, replyOf, left}
 use Rattle.store_spec.specs.Demand3.{begun}
 use Rattle.generator.specs.Generator.{step, topByte, after, emitted}
 
@@ -98,12 +98,13 @@ drawnCalls l (suc m) state = let d = drawn l state in d .call ∷ drawnCalls l m
 
 -- ---- what it prints
 
--- "that word"
+-- "that word"; an edit (request A.6) is never drawn
 abbrev pub word : Call → List ℕ
 word (write file) = 0x77 ∷ 0x72 ∷ 0x69 ∷ 0x74 ∷ 0x65 ∷ []
 word (lose board) = 0x6C ∷ 0x6F ∷ 0x73 ∷ 0x65 ∷ []
 word (repair fresh helpers standIns) = 0x72 ∷ 0x65 ∷ 0x70 ∷ 0x61 ∷ 0x69 ∷ 0x72 ∷ []
 word (read boards output) = 0x72 ∷ 0x65 ∷ 0x61 ∷ 0x64 ∷ []
+word (edit offset bytes boards) = 0x65 ∷ 0x64 ∷ 0x69 ∷ 0x74 ∷ []
 
 -- "a line op= answer= moved=, separated by single spaces: that word, the refusal or 0, the bytes reported or 0"
 unfoldable pub callLine : Call → Said → List ℕ

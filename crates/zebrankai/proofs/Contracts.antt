@@ -14,7 +14,7 @@ use borrow.Fn.Kinds.{Dens, endedOf}
 use Rattle.sizes.specs.declared.Answer.the-variants.{Done}
 use Rattle.sizes.specs.Refusals.{said}
 use Rattle.board_spec.specs.Calls.{BoardOutcome, shareCall, fileCall, helperCall, exchangeCall, finishedCall, textCall}
-use Rattle.store_spec.specs.Ledger.{write, lose, repair, read}
+use Rattle.store_spec.specs.Ledger.{write, lose, repair, read, edit}
 use Rattle.text_spec.specs.Calls.{gatherCall}
 use Rattle.prefix_spec.specs.Prefix.{longest}
 use Rattle.generator.specs.Generator.{after, emitted}
@@ -32,6 +32,8 @@ use Rattle.zebrankai.proofs.zbk_repair.Reads as repairs
 use Rattle.zebrankai.proofs.zbk_repair.Kinds as repair-kinds
 use Rattle.zebrankai.proofs.zbk_read.Reads as reads
 use Rattle.zebrankai.proofs.zbk_read.Kinds as read-kinds
+use Rattle.zebrankai.proofs.zbk_edit.Reads as edits
+use Rattle.zebrankai.proofs.zbk_edit.Kinds as edit-kinds
 use Rattle.zebrankai.proofs.zbk_share.Reads as share-reads
 use Rattle.zebrankai.proofs.zbk_share.Kinds as share-kinds
 use Rattle.zebrankai.proofs.zbk_file.Reads as file-reads
@@ -86,6 +88,12 @@ pub read-gives : (κs : Lfts 4) (a : Dens κs read-kinds.ps) (w : ℕ) (e : AtEx
     × (reads.Learnt κs a w e
     → lent w (now (e .0)) (now (a .1 .0)) (now (e .1 .1 .1 .0)) ≡ zbk (now (a .0)) (now (a .1 .0)) (read (now (a .1 .1 .0)) (now (a .1 .1 .1 .0))))
 read-gives κs a w e = (tt, λ h. h)
+
+pub edit-gives : (κs : Lfts 4) (a : Dens κs edit-kinds.ps) (w : ℕ) (e : AtExit (endedOf 4 edit-kinds.ps edit-kinds.r) κs)
+    → edits.Asked κs a
+    × (edits.Learnt κs a w e
+    → lent w (now (e .0)) (now (e .1 .0)) [] ≡ zbk (now (a .0)) (now (a .1 .0)) (edit (a .1 .1 .0) (now (a .1 .1 .1 .0)) (now (a .1 .1 .1 .1 .0))))
+edit-gives κs a w e = (tt, λ h. h)
 
 -- ---- board level: the word of the answer, and all bytes of the output; the points stand behind the four sizes, and the arguments behind them are b
 

@@ -15,7 +15,7 @@ ghost use Rattle.sizes.specs.Refusals.{said};
 ghost use Rattle.board_spec.specs.Calls.{shareCall, fileCall, helperCall, exchangeCall, finishedCall, textCall};
 ghost use Rattle.text_spec.specs.Calls.{gatherCall};
 ghost use Rattle.prefix_spec.specs.Prefix.{longest};
-ghost use Rattle.store_spec.specs.Ledger.{write, lose, repair, read};
+ghost use Rattle.store_spec.specs.Ledger.{write, lose, repair, read, edit};
 ghost use Rattle.answer_word.specs.Answers.{wordOf};
 ghost use Rattle.archive_spec.specs.Archive.{sizesOf};
 ghost use Rattle.archive_spec.specs.Lent.{zbkSetUp, zbk};
@@ -250,4 +250,18 @@ pub extern "C" fn zbk_read(ws: &mut [u64], area: &[u8], boards: &[usize], out: &
     ensures { λ w. ⌜ record { answer = w; words = now (ws .exit); area = now (area .entry); output = now (out .exit) } ≡ zbk (now (ws .entry)) (now (area .entry)) (read (now (boards .entry)) (now (out .entry))) ⌝ }
 {
     archive_store::read(ws, area, boards, out)
+}
+
+// Puts bytes into the file from an offset on, read from k boards, in all boards in service.
+#[no_mangle]
+pub extern "C" fn zbk_edit(
+    ws: &mut [u64],
+    area: &mut [u8],
+    offset: usize,
+    bytes: &[u8],
+    boards: &[usize],
+) -> u64
+    ensures { λ w. ⌜ record { answer = w; words = now (ws .exit); area = now (area .exit); output = [] } ≡ zbk (now (ws .entry)) (now (area .entry)) (edit offset (now (bytes .entry)) (now (boards .entry))) ⌝ }
+{
+    archive_store::edit(ws, area, offset, bytes, boards)
 }

@@ -8,12 +8,21 @@ pub trait Coder {
     fn write(&mut self, file: &[u8], area: &mut [u8]);
     /// The file from k boards.
     fn read(&mut self, boards: &[usize], area: &[u8], out: &mut [u8]);
+    /// Bytes in the place of others of the file of so many bytes, by k boards.
+    fn edit(&mut self, edit: &Edit, boards: &[usize], area: &mut [u8]);
     /// Takes boards out of service for the repairs that follow, and for these alone.
     fn lose(&mut self, boards: &[usize]);
     /// The boards that were lost, with their helpers and stand-ins; the bytes moved. They are lost as before, however often it is called.
     fn repair(&mut self, named: &Named, area: &mut [u8]) -> usize;
     /// One board's share of a file.
     fn share(&mut self, node: usize, file: &[u8], out: &mut [u8]);
+}
+
+/// An edit of a file of `length` bytes.
+pub struct Edit<'a> {
+    pub length: usize,
+    pub offset: usize,
+    pub bytes: &'a [u8],
 }
 
 /// The boards that a repair names.
@@ -53,6 +62,10 @@ impl Coder for Archive {
         self.record.read(area, boards, out).expect("a read is accepted");
     }
 
+    fn edit(&mut self, edit: &Edit, boards: &[usize], area: &mut [u8]) {
+        self.record.edit(area, edit.offset, edit.bytes, boards).expect("an edit is accepted");
+    }
+
     fn lose(&mut self, boards: &[usize]) {
         self.lost = self.record.clone();
         for &board in boards {
@@ -88,6 +101,10 @@ impl Coder for Plain {
         plain::store::read(&self.words, area, boards, out).expect("a read is accepted");
     }
 
+    fn edit(&mut self, edit: &Edit, boards: &[usize], area: &mut [u8]) {
+        plain::store::edit(&self.words, area, edit.offset, edit.bytes, boards).expect("an edit is accepted");
+    }
+
     fn lose(&mut self, boards: &[usize]) {
         self.lost = self.words;
         for &board in boards {
@@ -120,6 +137,12 @@ impl Coder for Kernels {
 
     fn read(&mut self, boards: &[usize], area: &[u8], out: &mut [u8]) {
         assert!(plain_kernels::read(self.sizes, &self.points, boards, area, out), "a read is accepted");
+    }
+
+    fn edit(&mut self, edit: &Edit, boards: &[usize], area: &mut [u8]) {
+        let Edit { length, offset, bytes } = *edit;
+        let done = plain_kernels::edit(self.sizes, &self.points, length, offset, bytes, boards, area);
+        assert!(done, "an edit is accepted");
     }
 
     /// It has no record.

@@ -1,6 +1,7 @@
-//! The bench: encode (a write to all boards), read (of k boards), repair r (of r boards together), repair 1 (of one board, with r − 1 stand-ins) and
-//! one share (the call of a single board) through the archive, beside two coders in plain Rust; and the bytes that repairs move, those of r boards
-//! against the cut-set bound.
+//! The bench: encode (a write to all boards), read (of k boards), repair r (of r boards together), repair 1 (of one board, with r − 1 stand-ins), one
+//! share (the call of a single board), edit 4 (four bytes of the file, one pack count) and rewrite (the same without an edit, by a read and a write)
+//! through the archive, beside two coders in plain Rust; the bytes that repairs move, those of r boards against the cut-set bound; and what part of a
+//! whole write, and of a read and a write, an edit takes.
 //!
 //!     bench [--quick]
 //!
@@ -23,7 +24,7 @@ use std::fs;
 use std::process::ExitCode;
 use std::thread;
 use std::time::Duration;
-use turns::{measure, Measured, Work, OPERATIONS};
+use turns::{measure, Measured, Work, EDIT, EDITED, OPERATIONS, REWRITE, WRITE};
 use zebrankai::Sizes;
 
 const TWELVE: Sizes = Sizes { n: 12, k: 6, d: 8, r: 2 };
@@ -149,6 +150,18 @@ fn print(work: &Work, measured: &Measured) {
         );
     }
     print_moved(work.sizes, work.file.len(), measured);
+    print_edit(measured);
+}
+
+/// The time of the archive's edit beside those of a whole write, and of a read and a write.
+fn print_edit(measured: &Measured) {
+    let [edit, write, rewrite] = [EDIT, WRITE, REWRITE].map(|operation| measured.best[0][operation].as_secs_f64());
+    println!(
+        "edit      {EDITED} bytes in {:.1} us; {:.2} of a whole write, {:.2} of a read and a write",
+        1e6 * edit,
+        edit / write,
+        edit / rewrite
+    );
 }
 
 /// The bytes moved beside the cut-set bound at the minimum bandwidth point: each fresh board needs at least (2d + r − 1) L / (k(2d + r − k))

@@ -1,11 +1,19 @@
 //! The turns of the coders, and the times that are taken.
 
-use crate::coders::{self, Coder, Named};
+use crate::coders::{self, Coder, Edit, Named};
 use std::time::{Duration, Instant};
 use zebrankai::{trial_file, Sizes};
 
 /// What is measured, in the order of a turn.
-pub const OPERATIONS: [&str; 5] = ["encode", "read", "repair r", "repair 1", "one share"];
+pub const OPERATIONS: [&str; 7] = ["encode", "read", "repair r", "repair 1", "one share", "edit 4", "rewrite"];
+
+/// The places of a write of the whole file, of an edit, and of a read with a write behind it that does the same.
+pub const WRITE: usize = 0;
+pub const EDIT: usize = 5;
+pub const REWRITE: usize = 6;
+
+/// How many bytes an edit has: those of one pack count.
+pub const EDITED: usize = 4;
 
 /// A short file is written, read and so on so often in one turn that the clock is no part of the time: at least for so many stripes.
 const STRIPES_A_TURN: usize = 64;
@@ -14,8 +22,8 @@ const STRIPES_A_TURN: usize = 64;
 const FEWEST_TURNS: usize = 4;
 
 /// A file, and the boards that the calls name. In the repair of r boards the first r are fresh, and each hears the d behind them; in that of one the
-/// first is fresh, hears the d behind it, and the r − 1 behind these stand in. The file is read from the last k boards, and the one share is the last
-/// board's.
+/// first is fresh, hears the d behind it, and the r − 1 behind these stand in. The file is read from the last k boards, also by an edit, of four bytes in
+/// its middle, in one stripe; and the one share is the last board's.
 pub struct Work {
     pub sizes: Sizes,
     pub stripes: usize,
@@ -24,6 +32,8 @@ pub struct Work {
     one: Named,
     readers: Vec<usize>,
     node: usize,
+    /// where an edit is
+    offset: usize,
     /// how often each call is made in a turn
     calls: usize,
 }
@@ -44,6 +54,7 @@ impl Work {
             one: Named { fresh: vec![0], helpers: (1..1 + d).collect(), stand_ins: (1 + d..d + r).collect() },
             readers: (n - k..n).collect(),
             node: n - 1,
+            offset: length / 2,
             calls: STRIPES_A_TURN.div_ceil(stripes),
         }
     }
@@ -64,6 +75,8 @@ struct Left {
     repaired: Vec<u8>,
     repaired_one: Vec<u8>,
     share: Vec<u8>,
+    edited: Vec<u8>,
+    rewritten: Vec<u8>,
     moved: usize,
     moved_one: usize,
 }
@@ -73,14 +86,26 @@ impl Left {
         let area = vec![0; work.sizes.area_len(work.stripes)];
         let share = vec![0; work.stripes * work.sizes.share_len()];
         let read = vec![0; work.file.len()];
-        Left { written: area.clone(), read, repaired: area.clone(), repaired_one: area, share, moved: 0, moved_one: 0 }
+        Left {
+            written: area.clone(),
+            read,
+            repaired: area.clone(),
+            repaired_one: area.clone(),
+            share,
+            edited: area.clone(),
+            rewritten: area,
+            moved: 0,
+            moved_one: 0,
+        }
     }
 
-    /// Whether the file came back, the fresh boards hold what was written, and the share is the one that was written.
+    /// Whether the file came back, the fresh boards hold what was written, the share is the one that was written, and an edit leaves what a write of
+    /// the edited file does, which is another one.
     fn is_right(&self, work: &Work) -> bool {
         let written = self.written.chunks(self.share.len()).nth(work.node);
         let rebuilt = self.repaired == self.written && self.repaired_one == self.written;
-        self.read == work.file && rebuilt && written == Some(&self.share[..])
+        let edited = self.edited == self.rewritten && self.edited != self.written;
+        self.read == work.file && rebuilt && written == Some(&self.share[..]) && edited
     }
 }
 
@@ -134,7 +159,39 @@ fn turn(coder: &mut dyn Coder, work: &Work, left: &mut Left) -> Best {
     let repair_one = timed(work, || left.moved_one = coder.repair(&work.one, &mut left.repaired_one));
     left.share.fill(0xEE);
     let share = timed(work, || coder.share(work.node, &work.file, &mut left.share));
-    [write, read, repair, repair_one, share]
+    left.edited.copy_from_slice(&left.written);
+    let edit = edit(coder, work, &mut left.edited);
+    left.rewritten.copy_from_slice(&left.written);
+    let rewrite = rewrite(coder, work, &mut left.rewritten);
+    [write, read, repair, repair_one, share, edit, rewrite]
+}
+
+/// The four bytes that stand in the middle of the file, and others.
+fn counts(work: &Work) -> [[u8; EDITED]; 2] {
+    let old: [u8; EDITED] = work.file[work.offset..][..EDITED].try_into().expect("they are four");
+    [old, old.map(|byte| byte ^ 0x5A)]
+}
+
+/// Edits to the other four bytes and back in turn, so that there is a difference to spread; the last call is to the other ones.
+fn edit(coder: &mut dyn Coder, work: &Work, area: &mut [u8]) -> Duration {
+    let counts = counts(work);
+    let mut left = work.calls;
+    timed(work, || {
+        let edit = Edit { length: work.file.len(), offset: work.offset, bytes: &counts[left % 2] };
+        coder.edit(&edit, &work.readers, area);
+        left -= 1;
+    })
+}
+
+/// The same without an edit: the file is read, the four bytes are put into it, and it is written.
+fn rewrite(coder: &mut dyn Coder, work: &Work, area: &mut [u8]) -> Duration {
+    let [_, new] = counts(work);
+    let mut file = vec![0xEE; work.file.len()];
+    timed(work, || {
+        coder.read(&work.readers, area, &mut file);
+        file[work.offset..][..EDITED].copy_from_slice(&new);
+        coder.write(&file, area);
+    })
 }
 
 /// Loses the boards that are fresh: what was written, their bytes EE, in the area of the repair. They are the first ones.

@@ -1,4 +1,4 @@
-//! The fifteen calls with their arguments: how each is passed to the archive, what of it may be spoilt, how it is shown. And the memory that they
+//! The sixteen calls with their arguments: how each is passed to the archive, what of it may be spoilt, how it is shown. And the memory that they
 //! are lent to change.
 
 use crate::code::{self, Sizes};
@@ -20,8 +20,9 @@ pub mod refusal {
     pub const TEXT: u8 = 12;
     pub const MIXED: u8 = 13;
     pub const SERVING: u8 = 14;
+    pub const RANGE: u8 = 15;
     /// One more than the highest number.
-    pub const COUNTED: usize = 15;
+    pub const COUNTED: usize = 16;
     /// The number that is not used, and that no call answers.
     pub const UNUSED: u64 = 11;
 }
@@ -95,6 +96,11 @@ pub enum Call {
     Read {
         boards: Vec<usize>,
     },
+    Edit {
+        offset: usize,
+        bytes: Vec<u8>,
+        boards: Vec<usize>,
+    },
     ReadText {
         text: Vec<u8>,
     },
@@ -110,7 +116,7 @@ pub enum Call {
 }
 
 /// The C names of the calls, in the order of `Call::place`, each with the refusals that it can give.
-pub const CALLS: [(&str, &[u8]); 15] = [
+pub const CALLS: [(&str, &[u8]); 16] = [
     ("zbk_share", &[1, 3, 5, 7]),
     ("zbk_file", &[1, 3, 4, 5, 6, 2, 7, 10]),
     ("zbk_helper_packet", &[1, 3, 5, 6, 2, 7]),
@@ -122,6 +128,7 @@ pub const CALLS: [(&str, &[u8]); 15] = [
     ("zbk_lose", &[1, 5]),
     ("zbk_repair", &[1, 2, 8, 4, 5, 6, 14, 9]),
     ("zbk_read", &[1, 2, 8, 4, 5, 6, 9, 7, 10]),
+    ("zbk_edit", &[1, 2, 8, 15, 4, 5, 6, 9, 10]),
     ("zbk_read_text", &[1, 12, 7]),
     ("zbk_gather", &[12, 13, 4, 6, 7, 10]),
     ("zbk_text_prefix", &[]),
@@ -129,10 +136,10 @@ pub const CALLS: [(&str, &[u8]); 15] = [
 ];
 
 /// The place in `CALLS` of the first of the three calls that are given texts.
-pub const READ_TEXT: usize = 11;
+pub const READ_TEXT: usize = 12;
 
 /// The place in `CALLS` of the call that draws a file from a seed.
-pub const TRIAL_FILE: usize = 14;
+pub const TRIAL_FILE: usize = 15;
 
 // The archive's names, as include/zebrankai.h declares them (`tests/names`).
 macro_rules! asked {
@@ -178,6 +185,7 @@ impl Call {
             Call::Lose { .. } => 8,
             Call::Repair { .. } => 9,
             Call::Read { .. } => 10,
+            Call::Edit { .. } => 11,
             Call::ReadText { .. } => READ_TEXT,
             Call::Gather { .. } => READ_TEXT + 1,
             Call::Prefix { .. } => READ_TEXT + 2,
@@ -209,6 +217,7 @@ impl Call {
             Call::Lose { board } => zbk_lose(record, *board),
             Call::Repair { fresh, helpers, stand_ins } => zbk_repair(record, area, fresh, helpers, stand_ins),
             Call::Read { boards } => zbk_read(record, area, boards, out),
+            Call::Edit { offset, bytes, boards } => zbk_edit(record, area, *offset, bytes, boards),
             Call::ReadText { text } => zbk_read_text(text, record, area, out),
             Call::Gather { text } => zbk_gather(text, out),
             Call::Prefix { text } => zbk_text_prefix(text),
@@ -286,6 +295,9 @@ impl Call {
             Call::Lose { board } => Parts { numbers: vec![board], ..none },
             Call::Repair { fresh, helpers, stand_ins } => Parts { lists: vec![fresh, helpers, stand_ins], ..none },
             Call::Read { boards } => Parts { lists: vec![boards], ..none },
+            Call::Edit { offset, bytes, boards } => {
+                Parts { offset: Some(offset), lists: vec![boards], slices: vec![bytes], ..none }
+            }
             Call::ReadText { text } | Call::Gather { text } | Call::Prefix { text } => {
                 Parts { slices: vec![text], ..none }
             }
@@ -302,6 +314,7 @@ pub struct Parts<'a> {
     pub points: Option<&'a mut Vec<u8>>,
     pub length: Option<&'a mut usize>,
     pub capacity: Option<&'a mut usize>,
+    pub offset: Option<&'a mut usize>,
     pub numbers: Vec<&'a mut usize>,
     pub lists: Vec<&'a mut Vec<usize>>,
     pub slices: Vec<&'a mut Vec<u8>>,
@@ -406,6 +419,9 @@ impl fmt::Display for Call {
                 write!(to, "(fresh={fresh:?}, helpers={helpers:?}, stand_ins={stand_ins:?}")
             }
             Call::Read { boards } => write!(to, "(boards={boards:?}"),
+            Call::Edit { offset, bytes, boards } => {
+                write!(to, "(offset={offset}, bytes[{}], boards={boards:?}", bytes.len())
+            }
             Call::ReadText { text } | Call::Gather { text } | Call::Prefix { text } => {
                 write!(to, "(text={:?}", shown(text))
             }

@@ -1,7 +1,7 @@
 //! The figures of document 01, as literal values: all that are not marked M, through the archive and by the coder itself. Those marked M are
 //! proved; they are run here too, since they also try the coder. Then the same for robots of the first series, whose figures were worked out by
 //! hand, and which points are refused (request A.9 of document 02); and a board rebuilt alone, with a stand-in (request A.3);
-//! and first bytes of trial files (request A.2).
+//! edits (request A.6); and first bytes of trial files (request A.2).
 
 use crate::call::refusal::{COUNT, DOWN, LONG, NODE, REPEAT, SERVING, SIZE};
 use crate::call::{Call, Lent, Outcome};
@@ -9,7 +9,7 @@ use crate::code::Sizes;
 use crate::field::FIELD;
 use crate::points::{filled_up, first_series, standard};
 use crate::trial::{Place, Trial};
-use crate::{board, load, prefix_figures, store, stream, stream_cases, text_figures, texts};
+use crate::{board, edit_figures, load, prefix_figures, store, stream, stream_cases, text_figures, texts};
 
 pub fn run(trial: &mut Trial) {
     field(trial);
@@ -18,6 +18,8 @@ pub fn run(trial: &mut Trial) {
         shares(trial, &series);
         rebuilding(trial, &series);
         alone(trial, &series);
+        edit_figures::doubled(trial, &series);
+        edit_figures::refusals(trial, &series);
     }
     refused_repairs(trial);
     text(trial);
@@ -89,10 +91,10 @@ const FIVE: Sizes = Sizes { n: 5, k: 2, d: 3, r: 2 };
 const X2Y: [u8; 12] = [0, 0, 0, 0, 0, 0, 0, 0, 0, 0, 0, 1];
 
 /// What the five boards of a robot hold of it, and what they send boards 0 and 1.
-struct Series {
-    name: &'static str,
-    points: Vec<u8>,
-    shares: [[u8; 7]; 5],
+pub struct Series {
+    pub name: &'static str,
+    pub points: Vec<u8>,
+    pub shares: [[u8; 7]; 5],
     /// of helpers 2, 3, 4 for board 0
     packets_0: [[u8; 2]; 3],
     /// of the same for board 1
@@ -150,7 +152,7 @@ fn small(trial: &mut Trial) {
     writes(trial, "M6 in the first series", share(first_series(2), 1), &[3, 6]);
 }
 
-/// M7 to M11, and the file back from every two boards.
+/// M7 to M11, and the file back from every two boards, and from no board twice.
 fn shares(trial: &mut Trial, series: &Series) {
     let Series { name, points, shares, .. } = series;
     for (node, share) in shares.iter().enumerate() {
@@ -164,6 +166,9 @@ fn shares(trial: &mut Trial, series: &Series) {
             writes(trial, &format!("{name}: the file from two boards"), call, &X2Y);
         }
     }
+    let (boards, twice) = (vec![3, 3], [shares[3], shares[3]].concat());
+    let call = Call::File { sizes: FIVE, points: points.clone(), length: 12, boards, shares: twice };
+    refused(trial, &format!("{name}: the file from one board twice"), call, Lent::output(vec![0xEE; 12]), REPEAT);
 }
 
 /// M12, at board level and in the store.
@@ -202,7 +207,7 @@ fn rebuilding(trial: &mut Trial, series: &Series) {
 }
 
 /// The record of FIVE's store of one stripe with X2Y in it.
-fn record_of(points: &[u8], marks: u64) -> Vec<u64> {
+pub fn record_of(points: &[u8], marks: u64) -> Vec<u64> {
     [&[5, 2, 3, 2, 1, 1, 12, marks][..], &words_of_five(points)].concat()
 }
 

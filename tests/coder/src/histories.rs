@@ -30,10 +30,19 @@ struct History {
 }
 
 /// What a whole history has had, beside its set-up: accepted calls, and bytes altered of boards out of service.
-const PARTS: [&str; 6] = ["write", "loss", "repair of r boards", "repair with stand-ins", "read", "bytes altered"];
+const PARTS: [&str; 8] = [
+    "write",
+    "loss",
+    "repair of r boards",
+    "repair with stand-ins",
+    "read",
+    "edit with all boards in service",
+    "edit with some lost",
+    "bytes altered",
+];
 
 /// The place of the last of them.
-const ALTERED: usize = 5;
+const ALTERED: usize = 7;
 
 pub fn run(trial: &mut Trial, random: &mut Random, sizes: Sizes) {
     let capacity = draw::stripes(random, sizes);
@@ -45,8 +54,8 @@ pub fn run(trial: &mut Trial, random: &mut Random, sizes: Sizes) {
     history.go_on(trial, random, calls, None);
 }
 
-/// A history that has all parts: a file of some length after others, r boards lost and rebuilt, fewer of them lost and rebuilt with stand-ins, reads, and then so
-/// many calls as they are drawn. True where it had them all and the archive answered each call as the book.
+/// A history that has all parts: a file of some length after others, an edit of it, r boards lost and rebuilt, fewer of them lost and rebuilt with
+/// stand-ins, with an edit before each repair, reads, and then so many calls as they are drawn. True where it had them all and the archive answered each call as the book.
 pub fn whole(trial: &mut Trial, random: &mut Random, scene: &Scene, capacity: usize, calls: usize) -> bool {
     let sizes = scene.sizes;
     let area_len = sizes.n * capacity * sizes.share_len();
@@ -59,6 +68,7 @@ pub fn whole(trial: &mut Trial, random: &mut Random, scene: &Scene, capacity: us
     // where r is 1 there are no stand-ins
     let fewer = if sizes.r > 1 { random.within(1, sizes.r - 1) } else { 1 };
     let alike = written
+        && history.edit_four(trial, random)
         && history.read_any(trial, random)
         && history.rebuild(trial, random, sizes.r)
         && history.rebuild(trial, random, fewer)
@@ -111,7 +121,7 @@ impl History {
         self.read_any(trial, random)
     }
 
-    /// Loses so many boards, alters them, rebuilds them together, and reads.
+    /// Loses so many boards, alters them, edits the file on the others, rebuilds them together, and reads.
     fn rebuild(&mut self, trial: &mut Trial, random: &mut Random, count: usize) -> bool {
         self.lent.out.clear();
         for board in random.choose(self.in_service(), count) {
@@ -121,7 +131,21 @@ impl History {
             self.alter_board(random, board);
         }
         let repair = repairs::of(random, self.book.sizes, &self.in_service(), count);
-        self.check(trial, &repair) && self.read_any(trial, random)
+        self.edit_four(trial, random) && self.check(trial, &repair) && self.read_any(trial, random)
+    }
+
+    /// Four bytes of the file, or all where it has fewer, by any boards in service.
+    fn edit_four(&mut self, trial: &mut Trial, random: &mut Random) -> bool {
+        self.lent.out.clear();
+        let length = self.file_len();
+        let count = length.min(4);
+        let offset = random.within(0, length - count);
+        let boards = random.choose(self.in_service(), self.book.sizes.k);
+        self.check(trial, &Call::Edit { offset, bytes: random.bytes(count), boards })
+    }
+
+    fn file_len(&self) -> usize {
+        self.book.file.as_ref().map_or(0, Vec::len)
     }
 
     fn board_len(&self) -> usize {
@@ -153,7 +177,7 @@ impl History {
     /// One call, mostly a right one; false where the archive answered otherwise. Where a length is given, most files that are written have it.
     fn step(&mut self, trial: &mut Trial, random: &mut Random, length: Option<usize>) -> bool {
         let Book { sizes, capacity, .. } = self.book;
-        let mut call = store_draw::next_call(random, sizes, capacity, &self.in_service());
+        let mut call = store_draw::next_call(random, sizes, capacity, self.file_len(), &self.in_service());
         if let (Call::Write { file }, Some(length)) = (&mut call, length) {
             if !random.once_in(3) {
                 *file = random.bytes(length);
@@ -166,8 +190,7 @@ impl History {
             // the record and the area are those that the last call left, so only the arguments are spoilt
             spoil(random, sizes, &mut call, &mut Lent::default());
         }
-        let length = self.book.file.as_ref().map_or(0, Vec::len);
-        self.lent.out = store_draw::output(random, &call, length);
+        self.lent.out = store_draw::output(random, &call, self.file_len());
         self.check(trial, &call)
     }
 
@@ -194,6 +217,8 @@ impl History {
             Call::Lose { .. } => 1,
             Call::Repair { stand_ins, .. } if stand_ins.is_empty() => 2,
             Call::Repair { .. } => 3,
+            Call::Edit { .. } if self.book.in_service.len() == self.book.sizes.n => 5,
+            Call::Edit { .. } => 6,
             _ => 4,
         };
         self.had.insert(part);
@@ -224,8 +249,7 @@ impl History {
         if in_service.len() < self.book.sizes.k {
             return true;
         }
-        let length = self.book.file.as_ref().map_or(0, Vec::len);
-        self.lent.out = random.bytes(length);
+        self.lent.out = random.bytes(self.file_len());
         let boards = random.choose(in_service, self.book.sizes.k);
         self.check(trial, &Call::Read { boards })
     }

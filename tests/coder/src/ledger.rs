@@ -1,7 +1,7 @@
 //! The ledger of document 01: a plain book kept beside the store. It is fed the sizes, the points, the capacity, the area's length and each call's
 //! arguments other than record and area, and never an answer. It keeps the last file accepted and the boards in service.
 
-use crate::call::refusal::{AREA, COUNT, DOWN, EMPTY, LONG, NODE, REPEAT, SERVING, SHORT};
+use crate::call::refusal::{AREA, COUNT, DOWN, EMPTY, LONG, NODE, RANGE, REPEAT, SERVING, SHORT};
 use crate::call::Call;
 use crate::code::Sizes;
 use std::collections::BTreeSet;
@@ -27,7 +27,7 @@ impl Book {
         Book { sizes, points, capacity, area_len, file: None, in_service: BTreeSet::new() }
     }
 
-    /// The number of the first line that holds for a call, "1, 2, 3, 8, 4, 5, 6, 14, 9, 7, 10"; 1 and 10 never hold in it.
+    /// The number of the first line that holds for a call, "1, 2, 3, 8, 15, 4, 5, 6, 14, 9, 7, 10"; 1 and 10 never hold in it.
     fn refusal(&self, call: &Call, out: usize) -> Option<u8> {
         let Sizes { n, k, d, r } = self.sizes;
         let wrong_area = self.area_len != n * self.capacity * self.sizes.share_len();
@@ -67,6 +67,15 @@ impl Book {
                 (DOWN, !serving(boards)),
                 (SHORT, out < self.file_len()),
             ],
+            Call::Edit { offset, bytes, boards } => vec![
+                (AREA, wrong_area),
+                (EMPTY, self.file.is_none()),
+                (RANGE, *offset > self.file_len() || bytes.len() > self.file_len() - offset),
+                (COUNT, boards.len() != k),
+                (NODE, !known(boards)),
+                (REPEAT, !different(boards)),
+                (DOWN, !serving(boards)),
+            ],
             _ => unreachable!("a call that stands in no list of document 01"),
         };
         lines.into_iter().find(|(_, holds)| *holds).map(|(number, _)| number)
@@ -105,6 +114,12 @@ impl Book {
             Call::Read { .. } => {
                 let file = self.file.as_ref().expect("EMPTY does not hold");
                 reply.out[..file.len()].copy_from_slice(file);
+            }
+            // "The file that reads must return is from then on the edited one."
+            Call::Edit { offset, bytes, .. } => {
+                let file = self.file.as_mut().expect("EMPTY does not hold");
+                file.splice(*offset..offset + bytes.len(), bytes.iter().copied());
+                reply.made = self.in_service.iter().copied().collect();
             }
             _ => unreachable!("a call that stands in no list of document 01"),
         }

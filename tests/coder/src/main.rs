@@ -11,11 +11,12 @@
 //! First the figures of document 01 are run, in a run of 20,000 calls or more all products of two bytes are tried, and then random cases until so
 //! many calls are made: single calls at board level, single calls of the store over made-up records and areas, long histories against a ledger,
 //! second files that k − 1 boards do not tell from the first (request A.13 of document 02), and shares with one byte altered where least shows it
-//! (request A.7); all of them at points 0 to n − 1, i + 1 and others (request A.9), and repairs of 1 to r boards with stand-ins (request A.3). Each
-//! case draws from its own seed, made of the run's seed and the case's number: `--only` repeats one case.
+//! (request A.7); all of them at points 0 to n − 1, i + 1 and others (request A.9), with repairs of 1 to r boards with stand-ins (request A.3) and edits
+//! (request A.6), these also over areas with wrong bytes in boards that are read or not. Each case draws from its own seed, made of the run's seed and
+//! the case's number: `--only` repeats one case.
 //! `--wrong` alters what the archive answers to one call, to show that this is reported. `--first` ends the run at the first case with a mismatch.
 //! `--trace` prints each call before it is made, `--verbose` how often each call gave each refusal, with which points, how often an altered byte was
-//! accepted and refused, how many boards repairs had, and what was met at real sizes. `--multiply` tries all products and quotients through the
+//! accepted and refused, how many boards repairs had, where edits stood, and what was met at real sizes. `--multiply` tries all products and quotients through the
 //! archive and nothing else. `--products`, `--printer`, `--sizes`, `--trial` and `--load` make no call: the first writes all products and inverses of
 //! the coder's own field, the second reads standard input and writes what the share printer or the points printer must write for it, the third writes
 //! a line for each legal combination of sizes with at most N boards (request A.12), the fourth reads standard input and writes what the program
@@ -31,8 +32,8 @@
 //! at most 4,000 calls leave them out.
 //!
 //! The last line counts calls and mismatches. The exit code is 1 where there is a mismatch, or where in a run of 20,000 calls or more some
-//! refusal that a call can give was never met, a kind of points, DISAGREE for a kind of altered byte, a kind of repair, or a call at a kind of real
-//! sizes.
+//! refusal that a call can give was never met, a kind of points, DISAGREE for a kind of altered byte, a kind of repair or of edit, or a call at a kind of
+//! real sizes.
 
 mod altered;
 mod archive;
@@ -41,6 +42,9 @@ mod board_cases;
 mod call;
 mod code;
 mod draw;
+mod edit_cases;
+mod edit_figures;
+mod edits;
 mod field;
 mod figures;
 mod histories;
@@ -221,6 +225,7 @@ fn run_case(trial: &mut Trial, case: u64) {
         histories::run(trial, &mut random, sizes);
         tight::run(trial, &mut random, sizes);
         altered::run(trial, &mut random, sizes);
+        edit_cases::run(trial, &mut random, sizes);
         text_cases::run(trial, &mut random, sizes);
         prefix_cases::first(trial, &mut random, sizes);
         stream_cases::first(trial, &mut random);
@@ -230,7 +235,7 @@ fn run_case(trial: &mut Trial, case: u64) {
         return real_cases::run(trial, &mut random, turn);
     }
     let sizes = draw::sizes(&mut random);
-    match random.below(21) {
+    match random.below(22) {
         0..=1 => histories::run(trial, &mut random, sizes),
         2..=9 => store_cases::run(trial, &mut random, sizes),
         10..=11 => tight::run(trial, &mut random, sizes),
@@ -241,6 +246,7 @@ fn run_case(trial: &mut Trial, case: u64) {
         13 => text_cases::run(trial, &mut random, sizes),
         14 => prefix_cases::run(trial, &mut random, sizes),
         15 => stream_cases::run(trial, &mut random),
+        16 => edit_cases::run(trial, &mut random, sizes),
         _ => board_cases::run(trial, &mut random, sizes),
     }
 }

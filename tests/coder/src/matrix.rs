@@ -39,9 +39,11 @@ impl Matrix {
     pub fn times(&self, other: &Matrix) -> Matrix {
         assert_eq!(self.columns, other.rows, "the matrices do not fit");
         let mut product = Matrix::new(self.rows, other.columns, |_, _| 0);
+        // rows of 00 add nothing: a difference of files has many
+        let adding: Vec<usize> = (0..other.rows).filter(|&t| other.row(t).iter().any(|&cell| cell != 0)).collect();
         for i in 0..self.rows {
-            for (t, &factor) in self.row(i).iter().enumerate() {
-                FIELD.add_multiple(product.row_mut(i), factor, other.row(t));
+            for &t in &adding {
+                FIELD.add_multiple(product.row_mut(i), self.at(i, t), other.row(t));
             }
         }
         product

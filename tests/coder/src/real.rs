@@ -68,7 +68,7 @@ impl Measure {
             Call::SetUp { sizes, capacity, .. } => {
                 return Some(Measure { sizes: *sizes, room: *capacity, length: capacity * sizes.stripe_len() })
             }
-            Call::Write { .. } | Call::Lose { .. } | Call::Repair { .. } | Call::Read { .. } => {
+            Call::Write { .. } | Call::Lose { .. } | Call::Repair { .. } | Call::Read { .. } | Call::Edit { .. } => {
                 let (sizes, _) = store::given(&lent.record)?;
                 let now = lent.record[word::LENGTH] as usize;
                 let length = if let Call::Write { file } = call { file.len() } else { now };
@@ -232,13 +232,13 @@ impl Met {
 const COUNTED: [u8; 2] = [ACCEPTED, DISAGREE];
 
 /// The places in `CALLS` of the calls over a file in a store.
-const OVER_A_STORE: std::ops::RangeInclusive<usize> = 7..=10;
+const OVER_A_STORE: std::ops::RangeInclusive<usize> = 7..=11;
 
 /// Whether a call is about too few bytes for any of CLASSES.
 fn small(call: &Call, lent: &Lent) -> bool {
     match call {
         Call::ReadText { text } | Call::Gather { text } | Call::Prefix { text } => text.len() < 400,
-        Call::Repair { .. } | Call::Read { .. } | Call::Write { .. } => lent.area.len() < 500,
+        Call::Repair { .. } | Call::Read { .. } | Call::Write { .. } | Call::Edit { .. } => lent.area.len() < 500,
         _ => false,
     }
 }

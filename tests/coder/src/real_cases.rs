@@ -1,10 +1,11 @@
 //! Cases of real sizes: files of hundreds and thousands of stripes on few boards and on many, in areas with room for 101 to 4,096 stripes. Each case
-//! makes every call, true, damaged and spoilt; reads areas of which something is altered, so that DISAGREE is met in any stripe; and keeps a whole
-//! history.
+//! makes every call, true, damaged and spoilt; reads and edits areas of which something is altered, so that DISAGREE is met in any stripe; and keeps a
+//! whole history.
 
 use crate::board_cases;
 use crate::code::{Sizes, MAX_STRIPES};
 use crate::draw;
+use crate::edit_cases;
 use crate::histories;
 use crate::points;
 use crate::prefix_cases;
@@ -125,6 +126,7 @@ pub fn run(trial: &mut Trial, random: &mut Random, turn: u64) {
     board_cases::each(trial, random, &scene);
     board_cases::spoilt(trial, random, &scene, calls);
     real_reads::run(trial, random, &scene, capacity);
+    edit_cases::over(trial, random, &scene, capacity);
     store_cases::over(trial, random, &scene, capacity, calls);
     text_cases::named(trial, random, &scene);
     text_cases::over(trial, random, &scene);

@@ -27,6 +27,7 @@ fn spoil_arguments(random: &mut Random, sizes: Sizes, mut parts: Parts) {
         parts.points.is_some(),
         parts.length.is_some(),
         parts.capacity.is_some(),
+        parts.offset.is_some(),
         !parts.numbers.is_empty(),
         !parts.lists.is_empty(),
         !parts.slices.is_empty(),
@@ -44,18 +45,19 @@ fn spoil_arguments(random: &mut Random, sizes: Sizes, mut parts: Parts) {
         1 => spoil_points(random, sizes.n, parts.points.expect("it is there")),
         2 => spoil_length(random, sizes, parts.length.expect("it is there")),
         3 => *parts.capacity.expect("it is there") = random.pick(&[0, 1, 4096, 4097, 1 << 32, usize::MAX]),
-        4 => {
+        4 => spoil_offset(random, sizes, parts.offset.expect("it is there")),
+        5 => {
             let place = random.below(parts.numbers.len());
             let named = parts.named();
             let again = random.once_in(3);
             *parts.numbers[place] = if again { random.pick(&named) } else { draw::any_number(random, sizes.n) };
         }
-        5 if parts.lists.len() > 1 && random.once_in(3) => {
+        6 if parts.lists.len() > 1 && random.once_in(3) => {
             let two = random.choose((0..parts.lists.len()).collect(), 2);
             let from = parts.lists[two[0]].clone();
             share_a_board(random, &from, parts.lists[two[1]]);
         }
-        5 => {
+        6 => {
             let place = random.below(parts.lists.len());
             spoil_list(random, sizes.n, parts.lists[place]);
         }
@@ -116,6 +118,23 @@ fn spoil_length(random: &mut Random, sizes: Sizes, length: &mut usize) {
         usize::MAX,
     ];
     *length = random.pick(&choices);
+}
+
+/// Another offset, mostly beyond any file, some of them so that a sum with a few bytes wraps round in 64 bits or in 32.
+fn spoil_offset(random: &mut Random, sizes: Sizes, offset: &mut usize) {
+    let (now, few) = (*offset, random.below(9));
+    let choices = [
+        0,
+        now.wrapping_sub(1),
+        now.wrapping_add(1),
+        now.wrapping_add(sizes.stripe_len()),
+        now.wrapping_add(1 << 32),
+        (1 << 32) - few.min(4),
+        1 << 63,
+        usize::MAX - few,
+        usize::MAX,
+    ];
+    *offset = random.pick(&choices);
 }
 
 fn spoil_list(random: &mut Random, n: usize, list: &mut Vec<usize>) {

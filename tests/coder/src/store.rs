@@ -1,7 +1,7 @@
-//! The coder's own model of the five calls of the store, over any record and any area: what each answers and leaves, refusals in document
+//! The coder's own model of the six calls of the store, over any record and any area: what each answers and leaves, refusals in document
 //! 01's order with those of later requests in their places.
 
-use crate::call::refusal::{AREA, COUNT, DISAGREE, DOWN, EMPTY, LONG, NODE, REPEAT, SERVING, SHORT, SIZE};
+use crate::call::refusal::{AREA, COUNT, DISAGREE, DOWN, EMPTY, LONG, NODE, RANGE, REPEAT, SERVING, SHORT, SIZE};
 use crate::call::{Call, Lent, Outcome};
 use crate::code::{self, Sizes, MAX_STRIPES};
 use crate::points;
@@ -118,6 +118,7 @@ pub fn expect(call: &Call, lent: &Lent) -> Outcome {
         Call::Lose { board } => lose(*board, lent),
         Call::Repair { fresh, helpers, stand_ins } => repair(fresh, helpers, stand_ins, lent),
         Call::Read { boards } => read(boards, lent),
+        Call::Edit { offset, bytes, boards } => edit(*offset, bytes, boards, lent),
         _ => unreachable!("a board-level call"),
     };
     result.unwrap_or_else(|number| Outcome::refused(number, lent))
@@ -237,11 +238,8 @@ fn repair(fresh: &[usize], helpers: &[usize], stand_ins: &[usize], lent: &Lent) 
     Ok(Outcome::accepted(moved, after))
 }
 
-fn read(boards: &[usize], lent: &Lent) -> Result<Outcome, u8> {
-    let record = opened(lent)?;
-    if !record.written {
-        return Err(EMPTY);
-    }
+/// What is asked of the boards that are read: 4, 5, 6, 9.
+fn check_readers(record: &Record, boards: &[usize]) -> Result<(), u8> {
     if boards.len() != record.sizes.k {
         return Err(COUNT);
     }
@@ -254,12 +252,59 @@ fn read(boards: &[usize], lent: &Lent) -> Result<Outcome, u8> {
     if record.some_down(boards) {
         return Err(DOWN);
     }
+    Ok(())
+}
+
+/// The file of the record's length that these boards hold.
+fn file_held(record: &Record, boards: &[usize], lent: &Lent) -> Result<Vec<u8>, u8> {
+    let shares: Vec<u8> = boards.iter().flat_map(|&board| lent.area[record.share(board)].to_vec()).collect();
+    code::file(record.sizes, &record.points, record.length, boards, &shares).ok_or(DISAGREE)
+}
+
+fn read(boards: &[usize], lent: &Lent) -> Result<Outcome, u8> {
+    let record = opened(lent)?;
+    if !record.written {
+        return Err(EMPTY);
+    }
+    check_readers(&record, boards)?;
     if lent.out.len() < record.length {
         return Err(SHORT);
     }
-    let shares: Vec<u8> = boards.iter().flat_map(|&board| lent.area[record.share(board)].to_vec()).collect();
-    let file = code::file(record.sizes, &record.points, record.length, boards, &shares).ok_or(DISAGREE)?;
+    let file = file_held(&record, boards, lent)?;
     let mut after = lent.clone();
     after.out[..file.len()].copy_from_slice(&file);
     Ok(Outcome::accepted(0, after))
+}
+
+/// "15 RANGE, offset plus count beyond L, after 8; the read's own checks follow, without 7".
+fn edit(offset: usize, bytes: &[u8], boards: &[usize], lent: &Lent) -> Result<Outcome, u8> {
+    let record = opened(lent)?;
+    if !record.written {
+        return Err(EMPTY);
+    }
+    // over the integers
+    if offset as u128 + bytes.len() as u128 > record.length as u128 {
+        return Err(RANGE);
+    }
+    check_readers(&record, boards)?;
+    let old = file_held(&record, boards, lent)?;
+    Ok(Outcome::accepted(0, edited(&old, offset, bytes, lent)))
+}
+
+/// What an accepted edit leaves, by the file that the boards read hold: "each board in service receives the exclusive or of its share with the share of
+/// old against new bytes". The difference of the two files is a file of the same length, 00 where they are alike, and is encoded whole.
+pub fn edited(old: &[u8], offset: usize, bytes: &[u8], lent: &Lent) -> Lent {
+    let record = Record::read(&lent.record).expect("the edit is accepted");
+    let mut difference = vec![0; old.len()];
+    for (place, new) in (offset..).zip(bytes) {
+        difference[place] = old[place] ^ new;
+    }
+    let mut after = lent.clone();
+    for board in (0..record.sizes.n).filter(|&board| record.marks[board]) {
+        let share = code::share(record.sizes, &record.points, board, &difference);
+        for (held, byte) in after.area[record.share(board)].iter_mut().zip(share) {
+            *held ^= byte;
+        }
+    }
+    after
 }

@@ -32,7 +32,7 @@ pub fn over(trial: &mut Trial, random: &mut Random, scene: &Scene, capacity: usi
         let out_of_service = random.pick(&[0, 1, 1, 2, 2, sizes.r, sizes.n]);
         let in_service = random.choose((0..sizes.n).collect(), sizes.n - out_of_service.min(sizes.n));
         let record = store::words(sizes, points, capacity, Some(length), &in_service);
-        let mut call = store_draw::call(random, sizes, points, capacity, &in_service);
+        let mut call = store_draw::call(random, scene, capacity, &in_service);
         if random.once_in(3) {
             repairs::spoil(random, sizes, &in_service, &mut call);
         }

@@ -3,31 +3,38 @@
 use crate::call::Call;
 use crate::code::Sizes;
 use crate::draw;
+use crate::edits;
 use crate::random::Random;
 use crate::repairs;
+use crate::scene::Scene;
 
-/// A single call of any kind; sometimes any boards are taken.
-pub fn call(random: &mut Random, sizes: Sizes, points: &[u8], capacity: usize, in_service: &[usize]) -> Call {
+/// A single call of any kind over a scene's file; sometimes any boards are taken.
+pub fn call(random: &mut Random, scene: &Scene, capacity: usize, in_service: &[usize]) -> Call {
+    let sizes = scene.sizes;
     let all: Vec<usize> = (0..sizes.n).collect();
     let boards = if random.once_in(8) { &all } else { in_service };
-    match random.below(8) {
-        0 => Call::SetUp { sizes, points: points.to_vec(), capacity },
+    match random.below(10) {
+        0 => Call::SetUp { sizes, points: scene.points.clone(), capacity },
         1 => lose(random, sizes),
         2 => write(random, sizes, capacity),
         3..=4 => repairs::draw(random, sizes, boards),
+        5..=6 => edits::draw(random, sizes, scene.length(), boards),
         _ => read(random, sizes, boards),
     }
 }
 
 /// The next call of a history: mostly losses, repairs and reads, so that boards are rebuilt from rebuilt boards; writes are few. A board that is lost
-/// is mostly rebuilt before the next one is lost, and boards are mostly lost only as far as those in service can still rebuild them.
-pub fn next_call(random: &mut Random, sizes: Sizes, capacity: usize, in_service: &[usize]) -> Call {
+/// is mostly rebuilt before the next one is lost, and boards are mostly lost only as far as those in service can still rebuild them. The file that is
+/// edited has so many bytes.
+pub fn next_call(random: &mut Random, sizes: Sizes, capacity: usize, length: usize, in_service: &[usize]) -> Call {
     let lost = sizes.n - in_service.len();
     let all: Vec<usize> = (0..sizes.n).collect();
-    match random.below(20) {
+    match random.below(24) {
         0 => write(random, sizes, capacity),
         1 => repairs::draw(random, sizes, &all),
         2 => read(random, sizes, &all),
+        20 => edits::draw(random, sizes, length, &all),
+        21.. => edits::draw(random, sizes, length, in_service),
         3..=14 => {
             let can_lose = repairs::possible(sizes, lost + 1) || random.once_in(10);
             if can_lose && (lost == 0 || random.once_in(3)) {

@@ -4,7 +4,7 @@ use crate::altered;
 use crate::archive::{self, Performed};
 use crate::call::{refusal, Call, Lent, Outcome, CALLS, READ_TEXT, TRIAL_FILE};
 use crate::code::Sizes;
-use crate::{points, prefix_met, real, repairs, store, stream_cases, texts};
+use crate::{edits, points, prefix_met, real, repairs, store, stream_cases, texts};
 use std::fmt;
 use std::time::{Duration, Instant};
 
@@ -94,6 +94,8 @@ pub struct Trial {
     pub altered: [altered::Met; altered::KINDS.len()],
     /// how many repairs were accepted, by their kinds
     pub repairs: [u64; repairs::KINDS.len()],
+    /// what was met of edits
+    pub edits: edits::Met,
     /// what was met at real sizes
     pub real: real::Met,
     pub place: Place,
@@ -122,6 +124,7 @@ impl Trial {
             second_calls: 0,
             altered: Default::default(),
             repairs: Default::default(),
+            edits: Default::default(),
             real: Default::default(),
             place: Place::Figure(String::new()),
             trace: false,
@@ -151,6 +154,7 @@ impl Trial {
                 self.met[call.place()][usize::from(number)] += 1;
                 self.count_points(call, lent, number);
                 self.count_repair(call, lent, number);
+                self.edits.count(call, lent, expected);
                 self.real.count(call, lent, number);
                 true
             }
@@ -276,6 +280,7 @@ impl Trial {
                 missing.push(format!("a repair, {kind}"));
             }
         }
+        missing.extend(self.edits.never());
         missing.extend(self.real.never());
         missing
     }
@@ -308,6 +313,7 @@ impl Trial {
         for (kind, met) in repairs::KINDS.iter().zip(&self.repairs) {
             println!("{kind:38} {met:>8}");
         }
+        self.edits.print();
         self.real.print();
     }
 }

@@ -43,6 +43,7 @@ macro_rules! archive {
                 record: &mut [u64], area: &mut [u8], fresh: &[usize], helpers: &[usize], stand_ins: &[usize],
             );
             read as zbk_read(record: &mut [u64], area: &[u8], boards: &[usize], out: &mut [u8],);
+            edit as zbk_edit(record: &mut [u64], area: &mut [u8], offset: usize, bytes: &[u8], boards: &[usize],);
         });
     };
 }

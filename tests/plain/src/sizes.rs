@@ -26,6 +26,7 @@ pub enum Refusal {
     Text = 12,
     Mixed = 13,
     Serving = 14,
+    Range = 15,
 }
 
 pub const MAX_BOARDS: usize = 32;

@@ -1,4 +1,4 @@
-//! The five calls of the store, over a record of twelve words and an area. Write, lose and read report 0, a repair the bytes moved.
+//! The six calls of the store, over a record of twelve words and an area. A repair reports the bytes moved, the others 0.
 
 use crate::board;
 use crate::sizes::{pointed, refuse_if, repeats, Points, Refusal, Sizes, MAX_BOARDS, MAX_STRIPES};
@@ -85,6 +85,23 @@ impl Record {
 
     fn down(&self, boards: &[usize]) -> bool {
         boards.iter().any(|&b| self.marks >> b & 1 == 0)
+    }
+
+    /// What a read and an edit ask of the boards that they read.
+    fn check_readers(&self, boards: &[usize]) -> Result<(), Refusal> {
+        refuse_if(boards.len() != self.sizes.k, Refusal::Count)?;
+        refuse_if(boards.iter().any(|&b| b >= self.sizes.n), Refusal::Node)?;
+        refuse_if(repeats(boards.iter().copied()), Refusal::Repeat)?;
+        refuse_if(self.down(boards), Refusal::Down)
+    }
+
+    /// The file that k boards hold, or DISAGREE.
+    fn file(&self, area: &[u8], boards: &[usize]) -> Result<Vec<u8>, Refusal> {
+        let mut shares: [&[u8]; MAX_BOARDS] = [&[]; MAX_BOARDS];
+        for (share, &board) in shares.iter_mut().zip(boards) {
+            *share = self.share(area, board);
+        }
+        board::decode(self.sizes, &self.points, self.length, boards, &shares[..self.sizes.k])
     }
 }
 
@@ -223,18 +240,43 @@ pub fn repair(
 /// Reads the file from k boards.
 pub fn read(words: &[u64], area: &[u8], boards: &[usize], out: &mut [u8]) -> Result<usize, Refusal> {
     let record = Record::with_area(words, area)?;
-    let sizes = record.sizes;
     refuse_if(!record.written, Refusal::Empty)?;
-    refuse_if(boards.len() != sizes.k, Refusal::Count)?;
-    refuse_if(boards.iter().any(|&b| b >= sizes.n), Refusal::Node)?;
-    refuse_if(repeats(boards.iter().copied()), Refusal::Repeat)?;
-    refuse_if(record.down(boards), Refusal::Down)?;
+    record.check_readers(boards)?;
     refuse_if(out.len() < record.length, Refusal::Short)?;
-    let mut shares: [&[u8]; MAX_BOARDS] = [&[]; MAX_BOARDS];
-    for (share, &board) in shares.iter_mut().zip(boards) {
-        *share = record.share(area, board);
-    }
-    let file = board::decode(sizes, &record.points, record.length, boards, &shares[..sizes.k])?;
+    let file = record.file(area, boards)?;
     out[..file.len()].copy_from_slice(&file);
+    Ok(0)
+}
+
+/// Puts bytes in the place of others of the file, from an offset on. The old bytes are those that k boards hold; each board in service gets the
+/// exclusive or of what it holds with what it would keep of old against new bytes, stripe by stripe as far as the edit reaches.
+pub fn edit(words: &[u64], area: &mut [u8], offset: usize, bytes: &[u8], boards: &[usize]) -> Result<usize, Refusal> {
+    let record = Record::with_area(words, area)?;
+    let beyond = bytes.len() > record.length || offset > record.length - bytes.len();
+    refuse_if(!record.written, Refusal::Empty)?;
+    refuse_if(beyond, Refusal::Range)?;
+    record.check_readers(boards)?;
+    let old = record.file(area, boards)?;
+    if bytes.is_empty() {
+        return Ok(0);
+    }
+    let mut new = old.clone();
+    new[offset..][..bytes.len()].copy_from_slice(bytes);
+    let sizes = record.sizes;
+    let (width, stripe) = (sizes.share_len(), sizes.stripe_len());
+    let (first, last) = (offset / stripe, (offset + bytes.len() - 1) / stripe);
+    for s in first..=last {
+        let part = s * stripe..record.length.min((s + 1) * stripe);
+        let change: Vec<u8> = old[part.clone()].iter().zip(&new[part]).map(|(old, new)| old ^ new).collect();
+        let grid = stripe::fill(sizes, &change);
+        for board in (0..sizes.n).filter(|&board| !record.down(&[board])) {
+            let mut kept = [0; 2 * MAX_BOARDS];
+            stripe::encode(sizes, &grid, &neighbours(sizes, &record.points, board), &mut kept[..width]);
+            let held = &mut record.share_mut(area, board)[s * width..][..width];
+            for (byte, change) in held.iter_mut().zip(kept) {
+                *byte ^= change;
+            }
+        }
+    }
     Ok(0)
 }

@@ -67,12 +67,10 @@ pub fn keep(sizes: Sizes, board: usize, f: impl Fn(usize) -> u8, g: impl Fn(usiz
     }
 }
 
-/// Every board's share of a file, to its part of the area.
-pub fn write(sizes: Sizes, points: &Points, file: &[u8], area: &mut [u8]) {
+/// What each board keeps of each stripe, by the values of F: `to` is given the stripe, the board, and a row for each board, F with its point for Y.
+fn each_kept(sizes: Sizes, points: &Points, file: &[u8], mut to: impl FnMut(usize, usize, &Rows)) {
     let n = sizes.n;
-    let board_len = area.len() / n;
     let mut encoder = Encoder::new(sizes, points);
-    // row l: F with the l-th point for Y
     let mut values = Rows::new(n, n);
     for (s, bytes) in file.chunks(sizes.stripe_len()).enumerate() {
         encoder.take(bytes);
@@ -80,10 +78,31 @@ pub fn write(sizes: Sizes, points: &Points, file: &[u8], area: &mut [u8]) {
             encoder.column(l, values.row_mut(l));
         }
         for board in 0..n {
-            let held = &mut area[board * board_len + s * sizes.share_len()..][..sizes.share_len()];
-            keep(sizes, board, |y| values.row(y)[board], |x| values.row(board)[x], held);
+            to(s, board, &values);
         }
     }
+}
+
+/// Every board's share of a file, to its part of the area.
+pub fn write(sizes: Sizes, points: &Points, file: &[u8], area: &mut [u8]) {
+    let board_len = area.len() / sizes.n;
+    each_kept(sizes, points, file, |s, board, values| {
+        let held = &mut area[board * board_len + s * sizes.share_len()..][..sizes.share_len()];
+        keep(sizes, board, |y| values.row(y)[board], |x| values.row(board)[x], held);
+    });
+}
+
+/// Adds every board's share of these bytes to what it holds from stripe `first` on.
+pub fn add(sizes: Sizes, points: &Points, first: usize, bytes: &[u8], area: &mut [u8]) {
+    let board_len = area.len() / sizes.n;
+    let mut kept = vec![0; sizes.share_len()];
+    each_kept(sizes, points, bytes, |s, board, values| {
+        keep(sizes, board, |y| values.row(y)[board], |x| values.row(board)[x], &mut kept);
+        let held = &mut area[board * board_len + (first + s) * sizes.share_len()..][..sizes.share_len()];
+        for (held, byte) in held.iter_mut().zip(&kept) {
+            *held ^= byte;
+        }
+    });
 }
 
 /// One board's share of a file.

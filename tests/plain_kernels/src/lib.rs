@@ -7,12 +7,14 @@
 //! plain coder what the algorithm gives, and beside this one what the rows give. It also allocates, checks every index, and is without the
 //! calls' checks: the sizes are legal, lists and lengths are right. Nothing of it is proved.
 
+mod edit;
 mod encode;
 mod interpolate;
 mod read;
 mod repair;
 mod rows;
 
+pub use edit::edit;
 pub use encode::{share, write};
 pub use plain::{Points, Sizes};
 pub use read::read;

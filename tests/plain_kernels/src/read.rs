@@ -4,6 +4,7 @@ use crate::interpolate::{coefficients, missing, value_at};
 use crate::rows::{add_multiples, dot, Rows};
 use crate::{from_board, steps, Points, Sizes};
 use plain::field::multiply;
+use std::ops::Range;
 
 /// What the boards keep of one stripe: a row for each.
 struct Kept {
@@ -166,15 +167,20 @@ fn by_x(sizes: Sizes, points: &Points, boards: &[usize]) -> Rows {
     rows
 }
 
+/// Whether the boards agree in each of so many stripes.
+fn all_agree(sizes: Sizes, boards: &[usize], factors: &Factors, kept: &mut Kept, area: &[u8], stripes: usize) -> bool {
+    (0..stripes).all(|s| {
+        kept.take(sizes, boards, area, s);
+        agree(sizes, boards, factors, kept)
+    })
+}
+
 /// The file of as many bytes as `out` has, from k boards; false where no file has their shares, and then nothing is written.
 pub fn read(sizes: Sizes, points: &Points, boards: &[usize], area: &[u8], out: &mut [u8]) -> bool {
     let factors = Factors::new(sizes, points, boards);
     let mut kept = Kept::new(sizes);
-    for s in 0..sizes.stripes(out.len()) {
-        kept.take(sizes, boards, area, s);
-        if !agree(sizes, boards, &factors, &kept) {
-            return false;
-        }
+    if !all_agree(sizes, boards, &factors, &mut kept, area, sizes.stripes(out.len())) {
+        return false;
     }
     let mut decoder = Decoder::new(sizes, points, boards, &factors);
     let whole = out.len() / sizes.stripe_len();
@@ -195,4 +201,37 @@ pub fn read(sizes: Sizes, points: &Points, boards: &[usize], area: &[u8], out: &
         decoder.decode(&kept, bytes);
     }
     true
+}
+
+/// Some stripes of the file of `length` bytes, one after another, filled up; none where no file has the boards' shares.
+pub fn stripes(
+    sizes: Sizes,
+    points: &Points,
+    boards: &[usize],
+    area: &[u8],
+    length: usize,
+    wanted: Range<usize>,
+) -> Option<Vec<u8>> {
+    let stripe = sizes.stripe_len();
+    let factors = Factors::new(sizes, points, boards);
+    let mut kept = Kept::new(sizes);
+    if !all_agree(sizes, boards, &factors, &mut kept, area, sizes.stripes(length)) {
+        return None;
+    }
+    let mut decoder = Decoder::new(sizes, points, boards, &factors);
+    let rest = length % stripe;
+    if rest > 0 {
+        let mut last = vec![0; stripe];
+        kept.take(sizes, boards, area, length / stripe);
+        decoder.decode(&kept, &mut last);
+        if last[rest..].iter().any(|&byte| byte != 0) {
+            return None;
+        }
+    }
+    let mut bytes = vec![0; wanted.len() * stripe];
+    for (s, bytes) in wanted.zip(bytes.chunks_mut(stripe)) {
+        kept.take(sizes, boards, area, s);
+        decoder.decode(&kept, bytes);
+    }
+    Some(bytes)
 }

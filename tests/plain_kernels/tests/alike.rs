@@ -108,6 +108,19 @@ fn one(sizes: Sizes, stripes: usize, length: usize, damaged: bool, numbers: &mut
     assert_eq!(given, plain_kernels::read(sizes, &points, &readers, &other, &mut other_out));
     assert!(out == other_out, "a read at n={n} k={k} d={d} r={r}, {length} bytes, boards {readers:?}");
 
+    for count in [0, 1, 4, length, 1 + numbers.below(length)] {
+        let count = count.min(length);
+        let offset = numbers.below(length - count + 1);
+        let bytes = numbers.bytes(count);
+        let readers = numbers.choose(&boards, k);
+        let given = store::edit(&words, &mut area, offset, &bytes, &readers).is_ok();
+        assert_eq!(given, plain_kernels::edit(sizes, &points, length, offset, &bytes, &readers, &mut other));
+        assert!(
+            area == other,
+            "an edit at n={n} k={k} d={d} r={r}, {length} bytes, {count} from {offset} on, boards {readers:?}"
+        );
+    }
+
     for fresh_count in [r, 1, 1 + numbers.below(r)] {
         let fresh = numbers.choose(&boards, fresh_count);
         for &board in &fresh {

@@ -25,7 +25,7 @@ use Rattle.store_decode.proofs.check_agrees.Tie as tie
 
 -- places in the code
 abbrev st-share-len : tie.After-share-len → tie.Start
-st-share-len c = c .before .before .before .before .before .before
+st-share-len c = c .before .before .before .before .before
 
 abbrev share-len-at-places : tie.After-places → tie.After-share-len
 share-len-at-places c = c .before .before
@@ -33,23 +33,14 @@ share-len-at-places c = c .before .before
 abbrev st-places : tie.After-places → tie.Start
 st-places c = st-share-len (share-len-at-places c)
 
-abbrev places-at-fill : tie.After-fill → tie.After-places
-places-at-fill c = c .before .before .before
+abbrev places-at-agrees-arg : tie.After-agrees-arg → tie.After-places
+places-at-agrees-arg c = c .before .before .before
 
-abbrev st-starts3 : tie.After-starts3 → tie.Start
-st-starts3 c = st-places (places-at-fill (c .before .before .before))
+abbrev share-len-at-agrees-arg : tie.After-agrees-arg → tie.After-share-len
+share-len-at-agrees-arg c = share-len-at-places (places-at-agrees-arg c)
 
-abbrev fill-at-agrees-arg2 : tie.After-agrees-arg2 → tie.After-fill
-fill-at-agrees-arg2 c = c .before .before .before .before .before
-
-abbrev places-at-agrees-arg2 : tie.After-agrees-arg2 → tie.After-places
-places-at-agrees-arg2 c = places-at-fill (fill-at-agrees-arg2 c)
-
-abbrev share-len-at-agrees-arg2 : tie.After-agrees-arg2 → tie.After-share-len
-share-len-at-agrees-arg2 c = share-len-at-places (places-at-agrees-arg2 c)
-
-abbrev st-agrees-arg2 : tie.After-agrees-arg2 → tie.Start
-st-agrees-arg2 c = st-places (places-at-agrees-arg2 c)
+abbrev st-agrees-arg : tie.After-agrees-arg → tie.Start
+st-agrees-arg c = st-places (places-at-agrees-arg c)
 
 -- the sizes are legal
 facts : (c : tie.Start) → Legal (c .args .sizes)
@@ -60,7 +51,7 @@ row : (c : tie.After-share-len) → c .share-len .result ≡ α (st-share-len c 
 row c = c .share-len .ensures ∙ ap (λ b. pick b (α (st-share-len c .args .sizes)) 0) (st-share-len c .pre .0 .sized)
 
 few : (c : tie.After-share-len) → st-share-len c .args .capacity * c .share-len .result ≤ 253952
-few c = part-few (st-share-len c .args .sizes) (st-share-len c .args .capacity) (c .share-len .result) (facts (st-share-len c)) (st-share-len c .pre .4) (row c)
+few c = part-few (st-share-len c .args .sizes) (st-share-len c .args .capacity) (c .share-len .result) (facts (st-share-len c)) (st-share-len c .pre .2) (row c)
 
 as-long : (c : tie.After-share-len) → st-share-len c .args .capacity * c .share-len .result ≡ st-share-len c .args .capacity * α (st-share-len c .args .sizes)
 as-long c = ap (λ (m : ℕ). (st-share-len c) .args .capacity * m) (row c)
@@ -75,16 +66,16 @@ holds g = let a = g .args in joined (held (recordOf (a .sizes) [] (a .capacity) 
 abbrev there : tie.Start → Bool
 there g = given (readFile (g .args .sizes) (g .args .points .now) (g .args .len) (g .args .boards .now) (holds g))
 
-found : (c : tie.After-agrees) → c .agrees .result ≡ there (st-agrees-arg2 (c .before))
+found : (c : tie.After-agrees) → c .agrees .result ≡ there (st-agrees-arg (c .before))
 found c =
-    let g = st-agrees-arg2 (c .before) in
+    let g = st-agrees-arg (c .before) in
     let a = g .args in
     let p = g .pre in
     c .agrees .ensures
     ∙ ap (λ (l : List ℕ). given (readFile (a .sizes) (a .points .now) (a .len) (a .boards .now) l))
-    (lent-shares (a .sizes) (a .capacity) (a .len) (a .stripes) _ (a .boards .now) (a .area .now) _ _ (p .0 .known) (p .0 .counted) (p .6) (p .3) (p .5)
-    (as-long (share-len-at-agrees-arg2 (c .before)))
-    (places-at-agrees-arg2 (c .before) .places .ensures))
+    (lent-shares (a .sizes) (a .capacity) (a .len) (a .stripes) _ (a .boards .now) (a .area .now) _ _ (p .0 .known) (p .0 .counted) (p .4) (p .1) (p .3)
+    (as-long (share-len-at-agrees-arg (c .before)))
+    (places-at-agrees-arg (c .before) .places .ensures))
 
 share-len-requires : tie.Need-share-len-requires
 share-len-requires c κs = search needs
@@ -111,9 +102,6 @@ places-requires c κs =
       part-long _ _ (omega (arith, f)) ∙ sym (g .pre .0 .counted),
     )
 
-fill-requires : tie.Need-fill-requires
-fill-requires c κs = let p = st-places (c .before .before) .pre in (p .0, p .1, p .2, p .7)
-
 sub-agrees : tie.Need-sub-agrees
 sub-agrees c = search needs
 
@@ -121,36 +109,28 @@ part-agrees-start : tie.Need-part-agrees-start
 part-agrees-start c = search needs
 
 part-agrees-end : tie.Need-part-agrees-end
-part-agrees-end c = simp length-append (omega (arith, facts (st-starts3 c), starts-long (places-at-fill (c .before .before .before))))
+part-agrees-end c = simp length-append (omega (arith, facts (st-places (c .before .before)), starts-long (c .before .before)))
 
 agrees-requires : tie.Need-agrees-requires
 agrees-requires c κs =
-    let g = st-agrees-arg2 c in
+    let g = st-agrees-arg c in
     let a = g .args in
     let p = g .pre in
-    let k = share-len-at-agrees-arg2 c in
-    let e = places-at-agrees-arg2 c .places .ensures in (
+    let k = share-len-at-agrees-arg c in
+    let e = places-at-agrees-arg c .places .ensures in (
       p .0,
-      lent-long (a .sizes) (a .capacity) (a .len) (a .stripes) _ (a .boards .now) (a .area .now) _ _ (p .0 .known) (p .0 .counted) (p .6) (p .3) (p .5) (as-long k) e,
-      lent-placed (a .sizes) (a .capacity) (a .len) (a .stripes) _ (a .boards .now) (a .area .now) _ _ (p .0 .known) (p .0 .counted) (p .6) (p .3) (p .5) (as-long k) e,
-      omega (arith, p .4, p .5),
-      p .3,
-      fill-at-agrees-arg2 c .fill .ensures,
+      lent-long (a .sizes) (a .capacity) (a .len) (a .stripes) _ (a .boards .now) (a .area .now) _ _ (p .0 .known) (p .0 .counted) (p .4) (p .1) (p .3) (as-long k) e,
+      lent-placed (a .sizes) (a .capacity) (a .len) (a .stripes) _ (a .boards .now) (a .area .now) _ _ (p .0 .known) (p .0 .counted) (p .4) (p .1) (p .3) (as-long k) e,
+      omega (arith, p .2, p .3),
+      p .1,
+      p .5,
     )
 
-same-length : tie.Need-same-length
-same-length c = search needs
-
 returns : tie.Need-returns
-returns c =
-    (passes (Disagree when not (there (st-agrees-arg2 (c .before .before)))) (ap not (sym (found (c .before)) ∙ c .if1 .taken)), fill-at-agrees-arg2 (c .before .before) .fill .ensures)
-
-same-length-2 : tie.Need-same-length-2
-same-length-2 c = search needs
+returns c = passes (Disagree when not (there (st-agrees-arg (c .before .before)))) (ap not (sym (found (c .before)) ∙ c .if1 .taken))
 
 returns-2 : tie.Need-returns-2
-returns-2 c =
-    (refuses (Disagree when not (there (st-agrees-arg2 (c .before .before)))) (ap not (sym (found (c .before)) ∙ c .if1 .left)), fill-at-agrees-arg2 (c .before .before) .fill .ensures)
+returns-2 c = refuses (Disagree when not (there (st-agrees-arg (c .before .before)))) (ap not (sym (found (c .before)) ∙ c .if1 .left))
 
 pub check-agrees-spec : {M : Type 1} → statement M
 check-agrees-spec =
@@ -162,12 +142,9 @@ check-agrees-spec =
     part-starts-start
     part-starts-end
     places-requires
-    fill-requires
     sub-agrees
     part-agrees-start
     part-agrees-end
     agrees-requires
-    same-length
     returns
-    same-length-2
     returns-2)

@@ -1,14 +1,11 @@
--- What the kernels of a read ask, from what its checks told.
+-- What the kernels of a read and of an edit ask, from what the checks before them told.
 -- Assumes nothing.
 use Prim.Native.Nat.{ℕ}
 use mathlib.Core.Path.{_≡_}
 use mathlib.Core.Bool.{true}
 use mathlib.Core.List.{List}
-use native.Mathlib.Omega.{arith}
 use lib.ListN.{length}
 use Rattle.lists.specs.Tests.{below, different}
-use Rattle.sizes.specs.declared.Refusal.{Refusal}
-use Rattle.sizes.specs.declared.Check.the-variants.{Pass, Refuse}
 use Rattle.store_spec.specs.Record.{Record, sound, areaLen}
 use Rattle.shared_checks.proofs.Facts.{Ready, ready}
 use Rattle.decode_stripe.specs.Steps.{Asked}
@@ -33,7 +30,3 @@ readable s m boards h a b k d =
       };
       area-is = a;
     }
-
--- a refusal is no pass
-pub not-passed : {x : Refusal} {P : Type 0} → Refuse x ≡ Pass → P
-not-passed e = let z : _≡_ {A = ℕ} 0 1 = cc in absurd (omega arith)

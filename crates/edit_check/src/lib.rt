@@ -1,0 +1,61 @@
+//! The check of an edit (request A.6): its lines in their order, up to DOWN. Each check's answer is taken apart, and a refusal returned early.
+//! DISAGREE, which is behind them all, is asked by `store_decode`.
+ghost use mathlib.Core.Path.{_≡_};
+ghost use Prim.Native.Nat.{_+_};
+ghost use lib.Dec.{ltb};
+ghost use Rattle.sizes.specs.Refusals.{_when_, first, storeOrder};
+ghost use Rattle.line_checks.specs.Steps.{asked};
+ghost use Rattle.store_checks.specs.Steps.{recordOf};
+ghost use Rattle.edit_check.specs.Steps.{askedLines};
+use sizes::Check;
+use sizes::Refusal;
+use sizes::Sizes;
+
+// 15 RANGE: so many bytes at an offset go beyond a file's length. Their sum, which could wrap, is not worked out.
+fn check_range(len: usize, offset: usize, count: usize) -> Check
+    ensures { λ r. ⌜ r ≡ asked (Refusal.Range when ltb len (offset + count)) ⌝ }
+{
+    if len < count {
+        return Check::Refuse(Refusal::Range);
+    }
+    if len - count < offset {
+        return Check::Refuse(Refusal::Range);
+    }
+    Check::Pass
+}
+
+// The first refusal of an edit of so many bytes at an offset, with these boards to read from, DISAGREE aside, on a record of these parts and an
+// area of so many bytes.
+pub fn check_edit(
+    sizes: Sizes,
+    points: &[u8],
+    capacity: usize,
+    written: bool,
+    len: usize,
+    marks: &[bool],
+    lent: usize,
+    offset: usize,
+    count: usize,
+    boards: &[usize],
+) -> Check
+    ensures { λ r. ⌜ r ≡ first storeOrder (askedLines (recordOf sizes (now (points .entry)) capacity written len (now (marks .entry))) lent offset count (now (boards .entry))) ⌝ }
+{
+    if let Check::Refuse(area) = shared_checks::check_area(
+        sizes,
+        points,
+        capacity,
+        written,
+        len,
+        marks,
+        lent,
+    ) {
+        return Check::Refuse(area);
+    }
+    if let Check::Refuse(empty) = store_checks::check_written(written) {
+        return Check::Refuse(empty);
+    }
+    if let Check::Refuse(beyond) = check_range(len, offset, count) {
+        return Check::Refuse(beyond);
+    }
+    shared_checks::check_boards(sizes, sizes.k, marks, boards)
+}

@@ -1,0 +1,4 @@
+pub mod Stripes
+pub mod Serving
+pub mod Zeros
+pub mod Edited

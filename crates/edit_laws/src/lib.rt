@@ -1,0 +1,2 @@
+// An edit by stripes, and that it is the edit by boards. This crate has no functions.
+// Assumes nothing.
