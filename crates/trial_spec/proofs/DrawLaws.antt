@@ -19,9 +19,9 @@ use Rattle.sizes.specs.Refusals.{Said}
 use Rattle.board_spec.specs.Demand1.{value}
 use Rattle.board_spec.specs.Text.{decimal, textLine}
 use Rattle.printer.proofs.Forms.{line-taken, step}
-use Rattle.store_spec.specs.Ledger.{Call, write, lose, repair, read, Reply, State, act, replyOf, left}
+use Rattle.store_spec.specs.Ledger.{Call, write, lose, repair, read, Reply, State, act, replyOf}
 use Rattle.generator.specs.Generator.{after, emitted}
-use Rattle.trial_spec.specs.Trial.{Load, eightLines, taken, loaded, Drawn, counted, boardCall, drawn, drawnCalls, word, callLine, printed, storeReplies}
+use Rattle.trial_spec.specs.Trial.{Load, eightLines, taken, loaded, Drawn, counted, boardCall, drawn, drawnCalls, word, callLine, printed, left, storeReplies}
 use Rattle.trial_spec.specs.DrawLaws.{Eight, Numbers, asks, spelt, Asked, byte, CountsOn, SameForEach, Repairs, Reads, before, numbers, DrawLaws}
 
 -- ---- what is read
