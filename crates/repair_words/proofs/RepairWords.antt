@@ -2,22 +2,24 @@
 -- Assumes nothing.
 use mathlib.Core.Path.{_≡_, refl, sym, ap, ap₂, _∙_, subst}
 use mathlib.Core.Bool.{Bool, true, false}
-use mathlib.Core.List.{List, [], _∷_, _++_}
-use Prim.Native.Nat.{ℕ, zero, suc, _+_, _-_, _*_, _≤_, _<_}
+use mathlib.Core.List.{List, [], _∷_, _++_, append-assoc, append-nil}
+use Prim.Native.Nat.{ℕ, zero, suc, _+_, _-_, _*_, _/_, _%_, _^_, _≤_, _<_}
+use native.Mathlib.Nat.{mul-comm}
 use native.Mathlib.Omega.{arith}
 use lib.Dec.{ltb, eqb}
-use lib.ListN.{length, getD, take, drop, length-append, length-drop, take-append-drop}
-use lib.Seq.{take-all, take-at, drop-at, drop-drop, length-take-le}
+use lib.ListN.{length, getD, take, drop, replicate, length-append, length-drop, take-append-drop, List·getD-append}
+use lib.Seq.{take-all, take-at, drop-at, drop-drop, getD-drop, length-take-le}
 use borrow.Author.Tests.{ltb-true, lt-ltb, eqb-true, eq-eqb}
 use Rattle.lists.specs.Tests.{pick, every, alls}
 use Rattle.lists.specs.Lists.{All, Bytes, tabulate, join, joined, piece}
 use Rattle.lists.proofs.Alls.{all-at, append-all, take-alls, drop-alls, all-imp}
 use Rattle.lists.proofs.Put.{part-end}
-use Rattle.lists.proofs.Pieces.{join-ext, join-piece, length-piece, piece-bytes, piece-join, length-joined, join-joined, length-tabulate, tabulate-ext, tabulate-getD, tabulate-all, tabulate-take}
+use Rattle.lists.proofs.Pieces.{join-ext, join-piece, length-piece, piece-bytes, piece-at, piece-join, length-joined, join-joined, length-tabulate, tabulate-ext, tabulate-at, tabulate-getD, tabulate-all, tabulate-take}
 use Rattle.lists.proofs.Tests.{alls-hold, hold-alls, every-all, all-every}
-use Rattle.store_spec.specs.Running.{Running}
+use Rattle.store_spec.specs.Running.{Running, idle}
 use Rattle.store_spec.specs.MarkLaws.{Arrays}
 use Rattle.record_words.specs.Words.{bytes, fromBytes, word}
+use Rattle.record_words.proofs.Places.{byte-at}
 use Rattle.record_words.proofs.Points.{length-bytes, word-back, is-word, bytes-number, points-bytes}
 use Rattle.repair_words.specs.RepairWords.{pack, isRepair, repairFrom, repairWordsOf, RepairWordLaws}
 
@@ -38,7 +40,7 @@ module _ (m : ℕ) (xs : List ℕ) (h : Bytes xs) (e : length xs ≡ m * 8) wher
       sym (join-joined (bytes 8) (pack m xs))
       ∙ ap (λ (n : ℕ). join n (λ t. bytes 8 (getD (pack m xs) t 0))) (length-tabulate m (λ q. fromBytes (piece 8 q xs)))
       ∙ join-ext m (λ t. bytes 8 (getD (pack m xs) t 0)) (λ q. piece 8 q xs)
-      (λ q k. ap (bytes 8) (Rattle.lists.proofs.Pieces.tabulate-at m (λ q. fromBytes (piece 8 q xs)) 0 q k)
+      (λ q k. ap (bytes 8) (tabulate-at m (λ q. fromBytes (piece 8 q xs)) 0 q k)
       ∙ ap (λ (n : ℕ). bytes n (fromBytes (piece 8 q xs))) (sym (long q k)) ∙ bytes-number (piece 8 q xs) (piece-bytes 8 q xs h))
       ∙ join-piece m 8 xs ∙ take-all (m * 8) xs (omega (arith, e))
 
@@ -168,5 +170,77 @@ module _ (p : Running) (a : Arrays p) where
       ∙ ap (λ (l : List ℕ). record { running = p .running; count = p .count; carried = p .carried; fresh = p .fresh; helpers = p .helpers; standIns = l })
       (ap (joined (bytes 8)) e3 ∙ packed-bytes 32 (p .standIns) (a .stand-ins-bytes) (a .stand-ins-long))
 
+-- ---- the words in their places
+
+words-length : (p : Running) → length (repairWordsOf p) ≡ 71
+words-length p = refl
+
+first-words : (p : Running) → take 3 (repairWordsOf p) ≡ pick (p .running) 1 0 ∷ p .count ∷ p .carried ∷ []
+first-words p = refl
+
+-- byte j of word q of a packed array
+packed-at : (m : ℕ) (xs : List ℕ) → Bytes xs → (q j : ℕ) → q < m → j < 8 → getD (pack m xs) q 0 / 256 ^ j % 256 ≡ getD xs (8 * q + j) 0
+packed-at m xs h q j hq hj =
+    ap (λ (w : ℕ). w / 256 ^ j % 256) (tabulate-at m (λ t. fromBytes (piece 8 t xs)) 0 q hq)
+    ∙ byte-at (piece 8 q xs) (piece-bytes 8 q xs h) j
+    ∙ piece-at 8 q xs j 0 hj
+    ∙ ap (λ (n : ℕ). getD xs (n + j) 0) (mul-comm q 8)
+
+-- word q of an array that stands behind the first n words, and before others
+word-at : (ps l r : List ℕ) (n q : ℕ) → drop n ps ≡ l ++ r → q < length l → getD ps (n + q) 0 ≡ getD l q 0
+word-at ps l r n q e h = sym (getD-drop n ps q 0) ∙ ap (λ (x : List ℕ). getD x q 0) e ∙ List·getD-append l r 0 q h
+
+module _ (p : Running) where
+  fresh-at : Bytes (p .fresh) → (q j : ℕ) → q < 4 → j < 8 → getD (repairWordsOf p) (3 + q) 0 / 256 ^ j % 256 ≡ getD (p .fresh) (8 * q + j) 0
+  fresh-at h q j hq hj =
+      let l : List ℕ = pack 4 (p .fresh) in
+      ap (λ (w : ℕ). w / 256 ^ j % 256) (word-at (repairWordsOf p) l (pack 32 (p .helpers) ++ pack 32 (p .standIns)) 3 q refl (omega (arith, packed-long 4 (p .fresh), hq)))
+      ∙ packed-at 4 (p .fresh) h q j hq hj
+
+  helpers-at : Bytes (p .helpers) → (q j : ℕ) → q < 32 → j < 8 → getD (repairWordsOf p) (7 + q) 0 / 256 ^ j % 256 ≡ getD (p .helpers) (8 * q + j) 0
+  helpers-at h q j hq hj =
+      let l : List ℕ = pack 32 (p .helpers) in
+      let d : drop 7 (repairWordsOf p) ≡ l ++ pack 32 (p .standIns) =
+      drop-at (pack 4 (p .fresh)) (l ++ pack 32 (p .standIns)) 4 (packed-long 4 (p .fresh)) in
+      ap (λ (w : ℕ). w / 256 ^ j % 256) (word-at (repairWordsOf p) l (pack 32 (p .standIns)) 7 q d (omega (arith, packed-long 32 (p .helpers), hq)))
+      ∙ packed-at 32 (p .helpers) h q j hq hj
+
+  stand-ins-at : Bytes (p .standIns) → (q j : ℕ) → q < 32 → j < 8 → getD (repairWordsOf p) (39 + q) 0 / 256 ^ j % 256 ≡ getD (p .standIns) (8 * q + j) 0
+  stand-ins-at h q j hq hj =
+      let l : List ℕ = pack 32 (p .standIns) in
+      let front : List ℕ = pack 4 (p .fresh) ++ pack 32 (p .helpers) in
+      let long : length front ≡ 36 = length-append (pack 4 (p .fresh)) (pack 32 (p .helpers)) ∙ ap₂ _+_ (packed-long 4 (p .fresh)) (packed-long 32 (p .helpers)) in
+      let d : drop 39 (repairWordsOf p) ≡ l ++ [] =
+      ap (drop 36) (sym (append-assoc (pack 4 (p .fresh)) (pack 32 (p .helpers)) l)) ∙ drop-at front l 36 long ∙ sym (append-nil l) in
+      ap (λ (w : ℕ). w / 256 ^ j % 256) (word-at (repairWordsOf p) l [] 39 q d (omega (arith, packed-long 32 (p .standIns), hq)))
+      ∙ packed-at 32 (p .standIns) h q j hq hj
+
+idle-words : repairWordsOf idle ≡ replicate 71 0
+unfolding piece
+idle-words = refl
+
+-- ---- which words are a repair's record
+
+are-repair : (ps : List ℕ) → length ps ≡ 71 → getD ps 0 0 < 2 → All (λ w. w < 18446744073709551616) (drop 3 ps) → isRepair ps ≡ true
+unfolding isRepair
+are-repair ps l w h =
+    hold-alls (eqb (length ps) 71 ∷ ltb (getD ps 0 0) 2 ∷ every word (drop 3 ps) ∷ [])
+    (eq-eqb (length ps) 71 l, (lt-ltb (getD ps 0 0) 2 w, (all-every word (drop 3 ps) (all-imp (λ x. x < 18446744073709551616) (λ x. word x ≡ true) (λ x k. lt-ltb x 18446744073709551616 k) (drop 3 ps) h), tt)))
+
 pub repair-words : RepairWordLaws
-repair-words = record { words-back = words-back; is-arrays = is-arrays; are-words = are-words; repair-back = repair-back }
+repair-words = record {
+  words-back = words-back;
+  is-arrays = is-arrays;
+  are-words = are-words;
+  repair-back = repair-back;
+  is-repair-is = λ ps. (
+    (λ h. let f = facts ps h in (f .long-enough, f .flag, all-imp (λ x. word x ≡ true) (λ x. x < 18446744073709551616) (λ x k. ltb-true x 18446744073709551616 k) (drop 3 ps) (f .words))),
+    (λ k. are-repair ps (k .0) (k .1) (k .2)),
+  );
+  words-length = words-length;
+  first-words = first-words;
+  fresh-at = fresh-at;
+  helpers-at = helpers-at;
+  stand-ins-at = stand-ins-at;
+  idle-words = idle-words;
+}
