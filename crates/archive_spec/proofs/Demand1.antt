@@ -1,7 +1,7 @@
 -- Demand 1 of the archive: that of the definitions, with answers and records in words.
 -- Assumes nothing.
 use Prim.Native.Nat.{ℕ, _+_, _-_, _*_, _≤_, _<_, min}
-use mathlib.Core.Path.{_≡_, refl, sym, ap, ap₂, subst, _∙_}
+use mathlib.Core.Path.{_≡_, refl, sym, ap, subst, _∙_}
 use mathlib.Core.Bool.{Bool, true, false, not}
 use mathlib.Core.Logic.{_≢_, _↔_, _⊎_, inl, inr, ⊎-elim}
 use mathlib.Core.List.{List, [], _∷_}
@@ -29,7 +29,7 @@ use Rattle.store_spec.specs.Record.{Record, newRecord, sound, held}
 use Rattle.store_spec.specs.Running.{Running, idle, freshOf, packetCount, soundBeside}
 use Rattle.store_spec.specs.Calls.{StoreOutcome, settle, accepted, refused, recordLine, readLines, readDone, readCall}
 use Rattle.store_spec.specs.Both.{Outcome, beside, bothLine, readLinesBoth, leftOf, stepLast, stepOn, stepDone, setUpBoth, readBoth}
-use Rattle.store_spec.specs.BothCalls.{BothEnds, storeLines, storeDone}
+use Rattle.store_spec.specs.BothCalls.{storeLines, storeDone}
 use Rattle.store_spec.specs.Ledger.{Call, write, lose, repair, read, edit, start, step, act, outputOf, packetsOfCall}
 use Rattle.store_spec.proofs.BothCalls.{both-calls}
 use Rattle.store_spec.proofs.Demand1 as at-store

@@ -1,13 +1,12 @@
 -- Demand 3 of the archive: a list of its calls and of power failures is one of the definitions', with both records in words.
 -- Assumes nothing.
-use Prim.Native.Nat.{ℕ, _+_, _*_, _%_, _≤_, _<_}
+use Prim.Native.Nat.{ℕ, _+_, _*_, _%_, _≤_}
 use mathlib.Core.Path.{_≡_, refl, sym, ap, ap₂, subst, _∙_}
 use mathlib.Core.Bool.{Bool, true, false}
 use mathlib.Core.List.{List, [], _∷_, _++_, map}
 use mathlib.Core.Logic.{_↔_}
 use mathlib.Core.Option.{some}
 use native.Mathlib.Omega.{arith}
-use native.Mathlib.Nat.{mod-lt}
 use lib.Dec.{eqb}
 use lib.ListN.{length, getD}
 use borrow.Author.Tests.{eqb-true, eq-eqb}
@@ -21,8 +20,7 @@ use Rattle.sizes.specs.declared.Check.the-variants.{Pass, Refuse}
 use Rattle.sizes.specs.declared.Refusal.the-variants.{Busy}
 use Rattle.sizes.specs.declared.Answer.the-variants.{Done, Refused}
 use Rattle.sizes.specs.Sizing.{legal, maxStripes}
-use Rattle.sizes.specs.Refusals.{Said, said, first, storeOrder}
-use Rattle.sizes.proofs.Laws.{number-low}
+use Rattle.sizes.specs.Refusals.{Said, first, storeOrder}
 use Rattle.sizes.proofs.Legal.{legal-facts}
 use Rattle.sizes.proofs.Orders.{clear-off}
 use Rattle.mbcr.specs.Share.{pointed}
@@ -31,13 +29,12 @@ use Rattle.board_spec.specs.Calls.{fileOf}
 use Rattle.store_spec.specs.Record.{Record, newRecord}
 use Rattle.store_spec.specs.Packets.{total, repairPackets}
 use Rattle.store_spec.specs.Running.{Running, idle, packetsLen}
-use Rattle.store_spec.specs.Calls.{StoreOutcome, accepted, repairCall}
-use Rattle.store_spec.specs.Both.{Outcome, beside, repairLinesBoth, setUpBoth, repairBoth, readBoth, stepCall}
+use Rattle.store_spec.specs.Both.{Outcome, repairLinesBoth, setUpBoth, repairBoth}
 use Rattle.store_spec.specs.BothCalls.{storeLines, storeDone}
 use Rattle.store_spec.specs.MarkLaws.{Arrays}
-use Rattle.store_spec.specs.Ledger.{Call, write, lose, repair, read, edit, start, step, Event, call, powerFails, Reply, Book, Repairing, State, Step, Altered, Unaltered, FairEvent, Allowed}
-use Rattle.store_spec.specs.Ledger.{packetsAfter, act, lent, next, replies, final, outputOf, packetsOfCall, openBook, bookNext, bookLength, bookFinal}
-use Rattle.store_spec.specs.Demand3.{Intact, WholeStep, Demand3, begun, events}
+use Rattle.store_spec.specs.Ledger.{Call, write, lose, repair, read, edit, start, step, Event, call, powerFails, Book, Repairing, State, Step, Altered, Unaltered, FairEvent, Allowed}
+use Rattle.store_spec.specs.Ledger.{packetsAfter, act, lent, next, replies, final, outputOf, packetsOfCall, openBook, bookNext, bookLength}
+use Rattle.store_spec.specs.Demand3.{Intact, Demand3, begun, events}
 use Rattle.store_spec.specs.Premises.{noneCarried, files, IdleGiven, lentAgain, bare}
 use Rattle.store_spec.proofs.BothCalls.{by, act-is, done-accepted}
 use Rattle.store_spec.proofs.Demand3.{demand-3, set-up-done, set-up-both, both-done, accepted-both, both-taken}
@@ -54,7 +51,7 @@ use Rattle.repair_words.specs.RepairWords.{isRepair, repairFrom, repairWordsOf}
 use Rattle.repair_words.proofs.RepairWords.{repair-words}
 use Rattle.archive_spec.specs.Lent.{Lent, inWords, zbkSetUp, zbk}
 use Rattle.archive_spec.specs.Demand3.{Held, stateOf, packetsLeft, heldNext, lentAt, lents, lastHeld, Worded, AllowedLents, Told, told, inWord, LentWhole, newlyHeld, endHeld, endBook}
-use Rattle.archive_spec.specs.Demand3.{ArchiveRun, ArchiveDemand3, ArchiveRepaired, ArchiveRepairs, WordsGiven, unalteredLents, ArchivePremises}
+use Rattle.archive_spec.specs.Demand3.{ArchiveRun, ArchiveDemand3, ArchiveRepairs, WordsGiven, unalteredLents, ArchivePremises}
 use Rattle.archive_spec.proofs.InWords.{both-hold, lent-back, taken, set-up-lent}
 use Rattle.archive_spec.proofs.InWords as in-words
 

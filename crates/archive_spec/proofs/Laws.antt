@@ -1,7 +1,7 @@
 -- On a refusal no word and no byte changes.
 -- Assumes nothing.
 use Prim.Native.Nat.{ℕ, _+_, _*_}
-use mathlib.Core.Path.{_≡_, refl, sym, ap, ap₂, subst, _∙_}
+use mathlib.Core.Path.{_≡_, refl, sym, ap, subst, _∙_}
 use mathlib.Core.Bool.{Bool, true, false}
 use mathlib.Core.Logic.{_⊎_, inl, inr}
 use mathlib.Core.List.{List, [], _∷_}
@@ -24,8 +24,7 @@ use Rattle.board_spec.specs.Calls.{exchangeLines, exchangeCall, finishedLines, 
 use Rattle.board_spec.specs.Text.{shareText}
 use Rattle.store_spec.specs.Record.{Record, newRecord}
 use Rattle.store_spec.specs.Running.{Running, idle, namedIn}
-use Rattle.store_spec.specs.Calls.{settle}
-use Rattle.store_spec.specs.Both.{Outcome, lostBeside, setUpBoth}
+use Rattle.store_spec.specs.Both.{Outcome, setUpBoth}
 use Rattle.store_spec.specs.BothCalls.{storeLines, storeDone}
 use Rattle.store_spec.specs.Ledger.{Call, write, lose, repair, read, edit, start, State, act, outputOf, packetsOfCall}
 use Rattle.store_spec.proofs.BothCalls.{by, act-is}

@@ -18,7 +18,7 @@ use Rattle.mbcr.specs.Share.{pointed}
 use Rattle.board_spec.specs.Calls.{fileOf}
 use Rattle.store_spec.specs.Record.{held}
 use Rattle.store_spec.specs.Packets.{contents, total, repairPackets, freshShare}
-use Rattle.store_spec.specs.Running.{Running, idle, packetsLen}
+use Rattle.store_spec.specs.Running.{idle, packetsLen}
 use Rattle.store_spec.specs.MarkLaws.{Arrays}
 use Rattle.store_spec.specs.Ledger.{Call, write, lose, repair, read, edit, start, step, Event, call, powerFails, Reply, Book, Repairing, State, Step, Altered, Unaltered}
 use Rattle.store_spec.specs.Ledger.{FairEvent, openBook, bookLength, bookNext, bookReplies, bookFinal}

@@ -6,12 +6,12 @@ use mathlib.Core.Bool.{Bool, true, false}
 use mathlib.Core.List.{List, [], _∷_, _++_, append-nil}
 use native.Mathlib.Numerals.{add-one}
 use native.Mathlib.Omega.{arith}
-use lib.Dec.{eqb, ltb}
+use lib.Dec.{ltb}
 use lib.ListN.{length, getD, drop, set, length-drop, drop-of-length-le}
 use lib.Seq.{drop-cons, getD-drop}
 use borrow.Author.Tests.{eq-eqb, ne-eqb}
 use Rattle.lists.specs.Tests.{pick, every}
-use Rattle.lists.specs.Lists.{Bytes, All, join, joined}
+use Rattle.lists.specs.Lists.{Bytes, join, joined}
 use Rattle.lists.proofs.Alls.{all-of, drop-alls}
 use Rattle.lists.proofs.Pieces.{join-joined}
 use Rattle.record_words.specs.Words.{bytes, fromBytes, word}

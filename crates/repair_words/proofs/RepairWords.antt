@@ -3,15 +3,15 @@
 use mathlib.Core.Path.{_≡_, refl, sym, ap, ap₂, _∙_, subst}
 use mathlib.Core.Bool.{Bool, true, false}
 use mathlib.Core.List.{List, [], _∷_, _++_, append-assoc, append-nil}
-use Prim.Native.Nat.{ℕ, zero, suc, _+_, _-_, _*_, _/_, _%_, _^_, _≤_, _<_}
+use Prim.Native.Nat.{ℕ, zero, suc, _+_, _*_, _/_, _%_, _^_, _<_}
 use native.Mathlib.Nat.{mul-comm}
 use native.Mathlib.Omega.{arith}
 use lib.Dec.{ltb, eqb}
 use lib.ListN.{length, getD, take, drop, replicate, length-append, length-drop, take-append-drop, List·getD-append}
 use lib.Seq.{take-all, take-at, drop-at, drop-drop, getD-drop, length-take-le}
 use borrow.Author.Tests.{ltb-true, lt-ltb, eqb-true, eq-eqb}
-use Rattle.lists.specs.Tests.{pick, every, alls}
-use Rattle.lists.specs.Lists.{All, Bytes, tabulate, join, joined, piece}
+use Rattle.lists.specs.Tests.{pick, every}
+use Rattle.lists.specs.Lists.{All, Bytes, join, joined, piece}
 use Rattle.lists.proofs.Alls.{all-at, append-all, take-alls, drop-alls, all-imp}
 use Rattle.lists.proofs.Put.{part-end}
 use Rattle.lists.proofs.Pieces.{join-ext, join-piece, length-piece, piece-bytes, piece-at, piece-join, length-joined, join-joined, length-tabulate, tabulate-ext, tabulate-at, tabulate-getD, tabulate-all, tabulate-take}
