@@ -1,7 +1,7 @@
 -- Demand 3 of the archive's store calls with both records in words: a list of them is a list of the definitions' calls.
 -- Assumes nothing.
 use mathlib.Core.Path.{_≡_, refl, sym, ap, ap₂, subst, _∙_}
-use mathlib.Core.Bool.{Bool, true, false}
+use mathlib.Core.Bool.{Bool, true}
 use mathlib.Core.List.{List, [], _∷_, _++_, map}
 use Prim.Native.Nat.{ℕ, _+_, _*_, _%_}
 use lib.Dec.{eqb}
@@ -10,7 +10,6 @@ use Rattle.lists.specs.Tests.{pick, alls}
 use Rattle.lists.specs.Lists.{Bytes}
 use Rattle.lists.proofs.Tests.{hold-alls}
 use Rattle.lists.proofs.Pieces.{map-append}
-use Rattle.sizes.specs.declared.Sizes.{Sizes}
 use Rattle.sizes.specs.declared.Check.{Check}
 use Rattle.sizes.specs.declared.Check.the-variants.{Pass, Refuse}
 use Rattle.sizes.specs.declared.Answer.the-variants.{Done, Refused}
@@ -19,12 +18,12 @@ use Rattle.sizes.specs.Refusals.{Said, said, first, storeOrder}
 use Rattle.sizes.proofs.Legal.{legal-facts}
 use Rattle.mbcr.proofs.PointLaws.{pointed-facts}
 use Rattle.store_spec.specs.Record.{Record, newRecord}
-use Rattle.store_spec.specs.Running.{Running, idle}
-use Rattle.store_spec.specs.Calls.{accepted}
-use Rattle.store_spec.specs.Both.{Outcome, beside, setUpBoth}
+use Rattle.store_spec.specs.Running.{Running}
+use Rattle.store_spec.specs.Both.{Outcome}
 use Rattle.store_spec.specs.BothCalls.{storeLines, storeDone}
 use Rattle.store_spec.specs.MarkLaws.{Arrays}
-use Rattle.store_spec.specs.Ledger.{Call, write, lose, repair, read, edit, start, step, Event, call, powerFails, Reply, Book, State, Step, Altered, FairEvent, Allowed, packetsAfter, act, replyOf, lent, next, told, replies, final, outputOf, packetsOfCall, openBook, bookNext, bookReplies, bookFinal}
+use Rattle.store_spec.specs.Ledger.{Call, write, lose, repair, read, edit, start, step, Event, call, powerFails, Book, State, Step, Altered, FairEvent, Allowed, packetsAfter, act, lent, next, told}
+use Rattle.store_spec.specs.Ledger.{replies, final, outputOf, packetsOfCall, openBook, bookNext, bookFinal}
 use Rattle.store_spec.specs.Demand3.{Intact, begun, events}
 use Rattle.store_spec.proofs.BothCalls.{by, act-is, done-accepted}
 use Rattle.store_spec.proofs.Demand3.{demand-3, set-up-done, set-up-both}

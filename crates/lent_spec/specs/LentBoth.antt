@@ -1,7 +1,6 @@
 -- Request A.8, the archive's calls of the store with both records in words, and demand 3 over lists of them. proofs/LentBoth.antt has `lent-demand-3 : LentDemand3`.
 -- Assumes nothing.
 use mathlib.Core.Path.{_≡_}
-use mathlib.Core.Bool.{true}
 use mathlib.Core.List.{List, [], _∷_, _++_, map}
 use Prim.Native.Nat.{ℕ, _%_}
 use lib.Dec.{eqb}
@@ -12,10 +11,11 @@ use Rattle.sizes.specs.declared.Refusal.the-variants.{Size}
 use Rattle.sizes.specs.declared.Answer.the-variants.{Refused}
 use Rattle.sizes.specs.Refusals.{said}
 use Rattle.store_spec.specs.Record.{Record}
-use Rattle.store_spec.specs.Running.{Running, idle}
+use Rattle.store_spec.specs.Running.{Running}
 use Rattle.store_spec.specs.Both.{Outcome, setUpBoth}
 use Rattle.store_spec.specs.MarkLaws.{Arrays}
-use Rattle.store_spec.specs.Ledger.{Call, write, lose, repair, read, edit, start, step, Event, call, powerFails, Reply, Book, State, Step, Altered, FairEvent, act, outputOf, packetsOfCall, openBook, bookNext, bookReplies, bookFinal}
+use Rattle.store_spec.specs.Ledger.{Call, write, lose, repair, read, edit, start, step, Event, call, powerFails, Reply, Book, Step, Altered, FairEvent, act, outputOf, packetsOfCall, openBook}
+use Rattle.store_spec.specs.Ledger.{bookNext, bookReplies, bookFinal}
 use Rattle.store_spec.specs.Demand3.{Intact, events}
 use Rattle.answer_word.specs.Answers.{wordOf}
 use Rattle.record_words.specs.Words.{isRecord, recordFrom, wordsOf}

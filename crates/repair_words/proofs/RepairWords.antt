@@ -3,15 +3,15 @@
 use mathlib.Core.Path.{_≡_, refl, sym, ap, ap₂, _∙_, subst}
 use mathlib.Core.Bool.{Bool, true, false}
 use mathlib.Core.List.{List, [], _∷_, _++_}
-use Prim.Native.Nat.{ℕ, zero, suc, _+_, _-_, _*_, _≤_, _<_}
+use Prim.Native.Nat.{ℕ, zero, suc, _+_, _-_, _*_, _<_}
 use native.Mathlib.Omega.{arith}
 use lib.Dec.{ltb, eqb}
 use lib.ListN.{length, getD, take, drop, length-append, length-drop, take-append-drop}
 use lib.Seq.{take-all, take-at, drop-at, drop-drop, length-take-le}
 use borrow.Author.Tests.{ltb-true, lt-ltb, eqb-true, eq-eqb}
-use Rattle.lists.specs.Tests.{pick, every, alls}
-use Rattle.lists.specs.Lists.{All, Bytes, tabulate, join, joined, piece}
-use Rattle.lists.proofs.Alls.{all-at, append-all, take-alls, drop-alls, all-imp}
+use Rattle.lists.specs.Tests.{pick, every}
+use Rattle.lists.specs.Lists.{All, Bytes, join, joined, piece}
+use Rattle.lists.proofs.Alls.{all-at, append-all, take-alls, drop-alls}
 use Rattle.lists.proofs.Put.{part-end}
 use Rattle.lists.proofs.Pieces.{join-ext, join-piece, length-piece, piece-bytes, piece-join, length-joined, join-joined, length-tabulate, tabulate-ext, tabulate-getD, tabulate-all, tabulate-take}
 use Rattle.lists.proofs.Tests.{alls-hold, hold-alls, every-all, all-every}
@@ -159,14 +159,17 @@ module _ (p : Running) (a : Arrays p) where
       let e1 : take 4 (x ++ (y ++ z)) ≡ x = take-at x (y ++ z) 4 (packed-long 4 (p .fresh)) in
       let e2 : take 32 (drop 4 (x ++ (y ++ z))) ≡ y = ap (take 32) d ∙ take-at y z 32 (packed-long 32 (p .helpers)) in
       let e3 : drop 36 (x ++ (y ++ z)) ≡ z = sym (drop-drop 32 4 (x ++ (y ++ z))) ∙ ap (drop 32) d ∙ drop-at y z 32 (packed-long 32 (p .helpers)) in
-      ap (λ (b : Bool). record { running = b; count = p .count; carried = p .carried; fresh = joined (bytes 8) (take 4 (x ++ (y ++ z))); helpers = joined (bytes 8) (take 32 (drop 4 (x ++ (y ++ z)))); standIns = joined (bytes 8) (drop 36 (x ++ (y ++ z))) })
-      (is-flag (p .running))
-      ∙ ap (λ (l : List ℕ). record { running = p .running; count = p .count; carried = p .carried; fresh = l; helpers = joined (bytes 8) (take 32 (drop 4 (x ++ (y ++ z)))); standIns = joined (bytes 8) (drop 36 (x ++ (y ++ z))) })
-      (ap (joined (bytes 8)) e1 ∙ packed-bytes 4 (p .fresh) (a .fresh-bytes) (a .fresh-long))
-      ∙ ap (λ (l : List ℕ). record { running = p .running; count = p .count; carried = p .carried; fresh = p .fresh; helpers = l; standIns = joined (bytes 8) (drop 36 (x ++ (y ++ z))) })
-      (ap (joined (bytes 8)) e2 ∙ packed-bytes 32 (p .helpers) (a .helpers-bytes) (a .helpers-long))
-      ∙ ap (λ (l : List ℕ). record { running = p .running; count = p .count; carried = p .carried; fresh = p .fresh; helpers = p .helpers; standIns = l })
-      (ap (joined (bytes 8)) e3 ∙ packed-bytes 32 (p .standIns) (a .stand-ins-bytes) (a .stand-ins-long))
+      ap₂ {C = Running} (λ (b : Bool) (l : List ℕ). made b l (take 32 (drop 4 (x ++ (y ++ z)))) (drop 36 (x ++ (y ++ z)))) (is-flag (p .running)) e1
+      ∙ ap₂ {C = Running} (λ (m n : List ℕ). made (p .running) x m n) e2 e3
+      ∙ ap (λ (l : List ℕ). record { running = p .running; count = p .count; carried = p .carried; fresh = l; helpers = joined (bytes 8) y; standIns = joined (bytes 8) z })
+      (packed-bytes 4 (p .fresh) (a .fresh-bytes) (a .fresh-long))
+      ∙ ap₂ {C = Running} (λ (m n : List ℕ). record { running = p .running; count = p .count; carried = p .carried; fresh = p .fresh; helpers = m; standIns = n })
+      (packed-bytes 32 (p .helpers) (a .helpers-bytes) (a .helpers-long)) (packed-bytes 32 (p .standIns) (a .stand-ins-bytes) (a .stand-ins-long))
+    where
+      -- the record of these words of its arrays
+      made : Bool → List ℕ → List ℕ → List ℕ → Running
+      made b l m n =
+          record { running = b; count = p .count; carried = p .carried; fresh = joined (bytes 8) l; helpers = joined (bytes 8) m; standIns = joined (bytes 8) n }
 
 pub repair-words : RepairWordLaws
 repair-words = record { words-back = words-back; is-arrays = is-arrays; are-words = are-words; repair-back = repair-back }

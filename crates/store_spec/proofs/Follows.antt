@@ -10,7 +10,7 @@ use Rattle.store_spec.specs.Both.{Outcome}
 use Rattle.store_spec.specs.Ledger.{Call, write, lose, repair, read, edit, start, step, Event, call, powerFails, State, Step, Reply}
 use Rattle.store_spec.specs.Ledger.{replyOf, packetsAfter, act, lent, next, replies, final, openBook, bookFinal}
 use Rattle.store_spec.specs.Demand3.{Intact, begun, events}
-use Rattle.store_spec.specs.Follows.{Given, Moment, gave, anew, outcomeOf, Meets, handedOn, Follows, repliesIn, ending, FollowsDemand3, FollowsLaws}
+use Rattle.store_spec.specs.Follows.{Moment, gave, anew, outcomeOf, Meets, handedOn, Follows, repliesIn, ending, FollowsDemand3, FollowsLaws}
 use Rattle.store_spec.proofs.Demand3.{demand-3}
 
 -- a call does not look at the packet area that the last step left
