@@ -30,7 +30,7 @@ use Rattle.record_words.specs.Words.{isRecord, recordFrom}
 use Rattle.repair_words.specs.RepairWords.{isRepair}
 use Rattle.archive_spec.specs.Lent.{zbkSetUp}
 use Rattle.archive_spec.specs.Texts.{zbkReadText}
-use Rattle.archive_spec.specs.Demand3.{Held, heldNext, Worded, AllowedLents, newlyHeld}
+use Rattle.archive_spec.specs.Demand3.{Held, heldNext, GivenWords, AllowedLents, firstHeld}
 use Rattle.archive_figures.specs.ArchiveFigures.{blank, four, points, any, beside, steps, ArchiveFigures}
 
 -- ---- the premises of a list, tested
@@ -70,7 +70,7 @@ abbrev toldEvent : Event → Bool
 toldEvent (call c) = true
 toldEvent (powerFails p) = told p
 
-worded : (e : Event) → toldEvent e ≡ true → Worded e
+worded : (e : Event) → toldEvent e ≡ true → GivenWords e
 worded (call c) h = tt
 worded (powerFails p) h = tells p h
 
@@ -113,7 +113,7 @@ archive-figures = record {
   disagrees = refl;
   calls-say = refl;
   ledger-says = refl;
-  allowed = allow (newlyHeld any beside four points 1 blank) (openBook four points 1 12) steps refl;
+  allowed = allow (firstHeld any beside four points 1 blank steps) (openBook four points 1 12) steps refl;
   last-held = refl;
   last-book = refl;
   listed = refl;

@@ -15,7 +15,7 @@ use Rattle.store_spec.specs.Demand3.{events}
 use Rattle.archive_spec.specs.Archive.{sizesOf}
 use Rattle.archive_spec.specs.Lent.{Lent, zbkSetUp, zbk}
 use Rattle.archive_spec.specs.Texts.{TextLent, zbkReadText}
-use Rattle.archive_spec.specs.Demand3.{lents, AllowedLents, Told, told, inWord, newlyHeld, endHeld, endBook}
+use Rattle.archive_spec.specs.Demand3.{lents, AllowedLents, Told, told, inWord, firstHeld, endHeld, endBook}
 
 -- n = 4, k = 1, d = 1, r = 2, points 05, 00, 80, 1D, C = 1: the file 01 02 03 is written on any bytes, boards 0 and 1 are lost and spoiled, one is read in vain, both
 -- are rebuilt. They are lost and spoiled again; a repair of both is started, and the power fails before its last packet; it is started again and
@@ -227,10 +227,10 @@ pub record ArchiveFigures : Type 0 where
         packets = [];
       }
   -- what is compared: the calls' words and outputs, and the ledger's
-  pub calls-say : map told (lents (newlyHeld any beside four points 1 blank) steps) ≡ answers
+  pub calls-say : map told (lents (firstHeld any beside four points 1 blank steps) steps) ≡ answers
   pub ledger-says : map inWord (bookReplies (openBook four points 1 12) (events steps)) ≡ answers
   -- bytes of lost boards altered between the calls are allowed
-  pub allowed : AllowedLents (newlyHeld any beside four points 1 blank) (openBook four points 1 12) steps
+  pub allowed : AllowedLents (firstHeld any beside four points 1 blank steps) (openBook four points 1 12) steps
   -- where it ends: all four boards in service, with the file
   pub last-held : endHeld any beside four points 1 blank steps ≡ record { words = words4 15; repair = idles; area = area; packets = packets4 }
   pub last-book : endBook any beside four points 1 blank steps

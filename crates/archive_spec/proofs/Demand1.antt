@@ -47,7 +47,7 @@ use Rattle.repair_words.specs.RepairWords.{isRepair, repairFrom, repairWordsOf}
 use Rattle.archive_spec.specs.Lent.{Lent, inWords, zbkSetUp, zbk}
 use Rattle.archive_spec.specs.Texts.{TextLent, noRoom, readInWords, zbkReadText}
 use Rattle.archive_spec.specs.Demand1.{LentEnds, WordEnds, TextEnds, tells, Unchanged, Neither, ArchiveCalls}
-use Rattle.archive_spec.proofs.InWords.{both-hold, one-off, lent, not-lent, back-words, set-up-lent}
+use Rattle.archive_spec.proofs.InWords.{both-yes, both-no, lent, not-lent, back-words, set-up-lent}
 
 -- a refusal's word is its number
 abbrev word-number : (x : Refusal) → number x + 256 * 0 ≡ number x
@@ -64,7 +64,7 @@ module _ (ws ps area : List ℕ) (call : Call) where
   calling s p = act (record { kept = s; running = p; area = area; packets = [] }) call
 
   none : Neither ws ps → Unchanged (zbk ws ps area call) ws ps area (outputOf call) (packetsOfCall call)
-  none h = sym (not-lent calling ws ps area (outputOf call) (packetsOfCall call) h)
+  none h = not-lent calling ws ps area (outputOf call) (packetsOfCall call) h
 
   -- by the lines of the store's call, what it does, and the number that it then reports
   lent-ends : (reported : ℕ) → isRecord ws ≡ true → isRepair ps ≡ true → storeDone (recordFrom ws) (repairFrom ps) area call .answer ≡ said (Done reported)
@@ -124,7 +124,7 @@ module _ (ws ps : List ℕ) (z : Sizes) (xs : List ℕ) (c : ℕ) where
 
   set-up-none : (length ws ≢ 12) ⊎ (length ps ≢ 71) → Unchanged (zbkSetUp ws ps z xs c) ws ps [] [] []
   unfolding zbkSetUp
-  set-up-none h = ap (λ (t : Bool). set t made) (one-off (eqb (length ws) 12) (eqb (length ps) 71) (other h))
+  set-up-none h = ap (λ (t : Bool). set t made) (both-no (eqb (length ws) 12) (eqb (length ps) 71) (other h))
     where
       other : (length ws ≢ 12) ⊎ (length ps ≢ 71) → (eqb (length ws) 12 ≡ false) ⊎ (eqb (length ps) 71 ≡ false)
       other (inl n) = inl (ne-eqb (length ws) 12 n)
@@ -135,7 +135,7 @@ module _ (ws ps : List ℕ) (z : Sizes) (xs : List ℕ) (c : ℕ) where
   unfolding zbkSetUp
   set-up-ends h k =
       let ends = both-calls .set-up-ends (newRecord z xs c) idle z xs c in
-      let long = ap (λ (t : Bool). set t made) (both-hold (eqb (length ws) 12) (eqb (length ps) 71) (eq-eqb (length ws) 12 h) (eq-eqb (length ps) 71 k)) in
+      let long = ap (λ (t : Bool). set t made) (both-yes (eqb (length ws) 12) (eqb (length ps) 71) (eq-eqb (length ws) 12 h) (eq-eqb (length ps) 71 k)) in
       record {
         one = ends .one;
         refuses = λ x f.

@@ -1,19 +1,19 @@
--- Demand 3 of the archive: a list of its calls and of power failures is one of the definitions', with both records in words.
+-- Demand 3 of the archive: a list of its calls is a list of the definitions' calls, with both records in words.
 -- Assumes nothing.
 use Prim.Native.Nat.{ℕ, _+_, _*_, _%_, _≤_}
 use mathlib.Core.Path.{_≡_, refl, sym, ap, ap₂, subst, _∙_}
 use mathlib.Core.Bool.{Bool, true, false}
 use mathlib.Core.List.{List, [], _∷_, _++_, map}
 use mathlib.Core.Logic.{_↔_}
-use mathlib.Core.Option.{some}
 use native.Mathlib.Omega.{arith}
+use native.Mathlib.Nat.{mod-lt}
 use lib.Dec.{eqb}
-use lib.ListN.{length, getD}
+use lib.ListN.{length, replicate}
 use borrow.Author.Tests.{eqb-true, eq-eqb}
-use Rattle.lists.specs.Tests.{pick, alls, among, different, every}
+use Rattle.lists.specs.Tests.{pick, alls}
 use Rattle.lists.specs.Lists.{All, Bytes, over}
-use Rattle.lists.proofs.Tests.{alls-hold}
 use Rattle.lists.proofs.Pieces.{map-append}
+use Rattle.lists.proofs.Tests.{alls-hold}
 use Rattle.sizes.specs.declared.Sizes.{Sizes}
 use Rattle.sizes.specs.declared.Check.{Check}
 use Rattle.sizes.specs.declared.Check.the-variants.{Pass, Refuse}
@@ -28,20 +28,23 @@ use Rattle.mbcr.proofs.PointLaws.{pointed-facts}
 use Rattle.board_spec.specs.Calls.{fileOf}
 use Rattle.store_spec.specs.Record.{Record, newRecord}
 use Rattle.store_spec.specs.Packets.{total, repairPackets}
-use Rattle.store_spec.specs.Running.{Running, idle, packetsLen}
-use Rattle.store_spec.specs.Both.{Outcome, repairLinesBoth, setUpBoth, repairBoth}
+use Rattle.store_spec.specs.Running.{Running, idle}
+use Rattle.store_spec.specs.Both.{Outcome, repairLinesBoth, setUpBoth, repairBoth, stepCall}
 use Rattle.store_spec.specs.BothCalls.{storeLines, storeDone}
 use Rattle.store_spec.specs.MarkLaws.{Arrays}
-use Rattle.store_spec.specs.Ledger.{Call, write, lose, repair, read, edit, start, step, Event, call, powerFails, Book, Repairing, State, Step, Altered, Unaltered, FairEvent, Allowed}
-use Rattle.store_spec.specs.Ledger.{packetsAfter, act, lent, next, replies, final, outputOf, packetsOfCall, openBook, bookNext, bookLength}
-use Rattle.store_spec.specs.Demand3.{Intact, Demand3, begun, events}
-use Rattle.store_spec.specs.Premises.{noneCarried, files, IdleGiven, lentAgain, bare}
+use Rattle.store_spec.specs.Ledger.{Call, write, lose, repair, read, edit, start, step, Event, call, powerFails, Book, State, Step}
+use Rattle.store_spec.specs.Ledger.{Altered, FairEvent, Allowed, packetsAfter, act, lent, next, replies, final, outputOf, packetsOfCall, openBook, bookNext}
+use Rattle.store_spec.specs.Ledger.{told as toldBy}
+use Rattle.store_spec.specs.Demand3.{Intact, Demand3, WholeStep, begun, events}
+use Rattle.store_spec.specs.Premises.{files, IdleGiven, lentAgain, bare}
+use Rattle.store_spec.proofs.AloneLaws.{alone-laws}
 use Rattle.store_spec.proofs.BothCalls.{by, act-is, done-accepted}
-use Rattle.store_spec.proofs.Demand3.{demand-3, set-up-done, set-up-both, both-done, accepted-both, both-taken}
+use Rattle.store_spec.proofs.Demand1.{demand-1}
+use Rattle.store_spec.proofs.Demand3.{demand-3, set-up-done, set-up-both, both-done, accepted-both}
+use Rattle.store_spec.proofs.Records.{sound-facts}
 use Rattle.store_spec.proofs.Follows.{act-any}
 use Rattle.store_spec.proofs.MarkLaws.{mark-laws}
-use Rattle.store_spec.proofs.Premises.{as-it-was, lent-as-left, first-free, premises}
-use Rattle.store_spec.proofs.Records.{sound-facts}
+use Rattle.store_spec.proofs.Premises.{as-it-was, fair, again-bare}
 use Rattle.answer_word.specs.Answers.{wordOf}
 use Rattle.answer_word.proofs.Laws.{answer-laws}
 use Rattle.record_words.specs.Words.{isRecord, recordFrom, wordsOf}
@@ -50,49 +53,46 @@ use Rattle.record_words.proofs.Laws.{word-laws}
 use Rattle.repair_words.specs.RepairWords.{isRepair, repairFrom, repairWordsOf}
 use Rattle.repair_words.proofs.RepairWords.{repair-words}
 use Rattle.archive_spec.specs.Lent.{Lent, inWords, zbkSetUp, zbk}
-use Rattle.archive_spec.specs.Demand3.{Held, stateOf, packetsLeft, heldNext, lentAt, lents, lastHeld, Worded, AllowedLents, Told, told, inWord, LentWhole, newlyHeld, endHeld, endBook}
-use Rattle.archive_spec.specs.Demand3.{ArchiveRun, ArchiveDemand3, ArchiveRepairs, WordsGiven, unalteredLents, ArchivePremises}
-use Rattle.archive_spec.proofs.InWords.{both-hold, lent-back, taken, set-up-lent}
-use Rattle.archive_spec.proofs.InWords as in-words
+use Rattle.archive_spec.specs.Demand3.{Held, packetsLeft, heldNext, lentAt, lents, lastHeld, GivenWords, AllowedLents, Told, told, inWord, heldState, WholeInWords}
+use Rattle.archive_spec.specs.Demand3.{firstHeld, endHeld, endBook, ArchiveRun, ArchiveDemand3, ArchiveRepairs, unalteredLents, ArchivePremises}
+use Rattle.archive_spec.proofs.InWords.{both-yes, lent as lent-call, lent-back, taken, set-up-lent}
 
 -- ---- one call
 
--- the low eight bits of an accepted answer's word are 0
+-- the low eight bits of an answer's word are its refusal
 done-word : (a : Said) → a .refusal ≡ 0 → wordOf a % 256 ≡ a .refusal
 done-word a e = ap (λ (r : ℕ). (r + 256 * a .reported) % 256) e ∙ answer-laws .refusal-is (Done (a .reported)) ∙ sym e
 
--- the low eight bits of an answer's word are its refusal
-pub answer-word : (w : State) (c : Call) → wordOf (act w c .answer) % 256 ≡ act w c .answer .refusal
+answer-word : (w : State) (c : Call) → wordOf (act w c .answer) % 256 ≡ act w c .answer .refusal
 answer-word w c =
     subst (λ (o : Outcome). wordOf (o .answer) % 256 ≡ o .answer .refusal) (sym (act-is w c)) (go (first storeOrder (storeLines (w .kept) (w .running) (w .area) c)))
   where
-    go : (t : Check)
-        → let o = by (w .kept) (w .running) (w .area) (outputOf c) (packetsOfCall c) (storeDone (w .kept) (w .running) (w .area) c) t in
-        wordOf (o .answer) % 256 ≡ o .answer .refusal
-    go Pass = done-word (storeDone (w .kept) (w .running) (w .area) c .answer) (done-accepted (w .kept) (w .running) (w .area) c)
+    done : Outcome
+    done = storeDone (w .kept) (w .running) (w .area) c
+
+    go : (t : Check) → let o = by (w .kept) (w .running) (w .area) (outputOf c) (packetsOfCall c) done t in wordOf (o .answer) % 256 ≡ o .answer .refusal
+    go Pass = done-word (done .answer) (done-accepted (w .kept) (w .running) (w .area) c)
     go (Refuse x) = answer-laws .refusal-is (Refused x)
 
--- a call on the words of two records of 32 marks and points and of the arrays is the definitions' call on the records
-zbk-is : (s : Record) (p : Running) → Whole s → Arrays p → (area packets : List ℕ) (c : Call)
-    → zbk (wordsOf s) (repairWordsOf p) area c ≡ inWords (act (record { kept = s; running = p; area = area; packets = packets }) c)
-zbk-is s p full arrays area packets c =
-    lent-back (λ x y. act (record { kept = x; running = y; area = area; packets = [] }) c) s p area (outputOf c) (packetsOfCall c) full arrays
-    ∙ ap inWords (act-any s p area [] packets c)
-
--- ---- lists of calls
-
--- the words tell the records of the definitions' state
+-- the words held tell the records of the definitions' state
 record Tells (h : Held) (w : State) : Type 0 where
   words-are : h .words ≡ wordsOf (w .kept)
   repair-are : h .repair ≡ repairWordsOf (w .running)
   area-is : h .area ≡ w .area
   packets-are : h .packets ≡ w .packets
-  full : Whole (w .kept)
+  whole : Whole (w .kept)
   arrays : Arrays (w .running)
+
+-- a call on the words of records is the definitions' call on the records
+zbk-is : (s : Record) (p : Running) → Whole s → Arrays p → (area packets : List ℕ) (c : Call)
+    → zbk (wordsOf s) (repairWordsOf p) area c ≡ inWords (act (record { kept = s; running = p; area = area; packets = packets }) c)
+zbk-is s p f a area packets c =
+    lent-back (λ x q. act (record { kept = x; running = q; area = area; packets = [] }) c) s p area (outputOf c) (packetsOfCall c) f a
+    ∙ ap inWords (act-any s p area [] packets c)
 
 one : (h : Held) (w : State) → Tells h w → (t : Step) (c : Call) → zbk (h .words) (h .repair) (t .area) c ≡ inWords (act (lent w t) c)
 one h w k t c =
-    ap₂ (λ (x y : List ℕ). zbk x y (t .area) c) (k .words-are) (k .repair-are) ∙ zbk-is (w .kept) (w .running) (k .full) (k .arrays) (t .area) (w .packets) c
+    ap₂ (λ (x y : List ℕ). zbk x y (t .area) c) (k .words-are) (k .repair-are) ∙ zbk-is (w .kept) (w .running) (k .whole) (k .arrays) (t .area) (w .packets) c
 
 -- the packet area that is kept
 left-same : (before : List ℕ) (w : State) (c : Call) → packetsLeft before c (inWords (act w c)) ≡ packetsAfter before c (act w c)
@@ -114,7 +114,7 @@ still-whole w c f =
       points-bytes = subst Bytes (sym e) (f .points-bytes);
     }
 
-following : (h : Held) (w : State) → Tells h w → (t : Step) (e : Event) → Worded e → Tells (heldNext h (t .area) e) (next (lent w t) e)
+following : (h : Held) (w : State) → Tells h w → (t : Step) (e : Event) → GivenWords e → Tells (heldNext h (t .area) e) (next (lent w t) e)
 following h w k t (call c) g =
     let o = one h w k t c in
     record {
@@ -122,18 +122,20 @@ following h w k t (call c) g =
       repair-are = ap (λ (x : Lent). x .repair) o;
       area-is = ap (λ (x : Lent). x .area) o;
       packets-are = ap₂ (λ (l : List ℕ) (x : Lent). packetsLeft l c x) (k .packets-are) o ∙ left-same (w .packets) (lent w t) c;
-      full = still-whole (lent w t) c (k .full);
+      whole = still-whole (lent w t) c (k .whole);
       arrays = mark-laws .arrays-stay (lent w t) c (k .arrays);
     }
-following h w k t (powerFails p) g = record { words-are = k .words-are; repair-are = refl; area-is = refl; packets-are = refl; full = k .full; arrays = g }
+following h w k t (powerFails p) g = record { words-are = k .words-are; repair-are = refl; area-is = refl; packets-are = refl; whole = k .whole; arrays = g }
+
+-- ---- lists
 
 back : (h : Held) (w : State) → Tells h w → recordFrom (h .words) ≡ w .kept
-back h w k = ap recordFrom (k .words-are) ∙ word-laws .record-back (w .kept) (k .full)
+back h w k = ap recordFrom (k .words-are) ∙ word-laws .record-back (w .kept) (k .whole)
 
 repair-back : (h : Held) (w : State) → Tells h w → repairFrom (h .repair) ≡ w .running
 repair-back h w k = ap repairFrom (k .repair-are) ∙ repair-words .repair-back (w .running) (k .arrays)
 
-state-is : (h : Held) (w : State) → Tells h w → stateOf h ≡ w
+state-is : (h : Held) (w : State) → Tells h w → heldState h ≡ w
 state-is h w k =
     ap₂ {C = State} (λ (s : Record) (q : Running). record { kept = s; running = q; area = h .area; packets = h .packets }) (back h w k) (repair-back h w k)
     ∙ ap₂ {C = State} (λ (x y : List ℕ). record { kept = w .kept; running = w .running; area = x; packets = y }) (k .area-is) (k .packets-are)
@@ -146,186 +148,189 @@ allowed (t ∷ ts) h w b k a = (
   allowed ts (heldNext h (t .area) (t .event)) (next (lent w t) (t .event)) (bookNext b (t .event)) (following h w k t (t .event) (a .2)) (a .3),
 )
 
-told-same : (h : Held) (w : State) → Tells h w → (t : Step) (e : Event)
-    → map told (lentAt h (t .area) e) ≡ map inWord (Rattle.store_spec.specs.Ledger.told (lent w t) e)
+told-same : (h : Held) (w : State) → Tells h w → (t : Step) (e : Event) → map told (lentAt h (t .area) e) ≡ map inWord (toldBy (lent w t) e)
 told-same h w k t (call c) = ap (λ (o : Lent). told o ∷ []) (one h w k t c)
 told-same h w k t (powerFails p) = refl
 
-record Ran (h : Held) (w : State) (steps : List Step) : Type 0 where
-  alike : map told (lents h steps) ≡ map inWord (replies w steps)
-  ends : Tells (lastHeld h steps) (final w steps)
+answers : (steps : List Step) (h : Held) (w : State) (b : Book) → Tells h w → AllowedLents h b steps → map told (lents h steps) ≡ map inWord (replies w steps)
+answers [] h w b k a = refl
+answers (t ∷ ts) h w b k a =
+    map-append told (lentAt h (t .area) (t .event)) (lents (heldNext h (t .area) (t .event)) ts)
+    ∙ ap₂ {C = List Told} (λ (x y : List Told). x ++ y) (told-same h w k t (t .event))
+    (answers ts (heldNext h (t .area) (t .event)) (next (lent w t) (t .event)) (bookNext b (t .event)) (following h w k t (t .event) (a .2)) (a .3))
+    ∙ sym (map-append inWord (toldBy (lent w t) (t .event)) (replies (next (lent w t) (t .event)) ts))
 
-ran : (steps : List Step) (h : Held) (w : State) (b : Book) → Tells h w → AllowedLents h b steps → Ran h w steps
-ran [] h w b k a = record { alike = refl; ends = k }
-ran (t ∷ ts) h w b k a =
-    let r = ran ts (heldNext h (t .area) (t .event)) (next (lent w t) (t .event)) (bookNext b (t .event)) (following h w k t (t .event) (a .2)) (a .3) in
-    record {
-      alike = map-append told (lentAt h (t .area) (t .event)) (lents (heldNext h (t .area) (t .event)) ts)
-          ∙ ap₂ {C = List Told} (λ (x y : List Told). x ++ y) (told-same h w k t (t .event)) (r .alike)
-          ∙ sym (map-append inWord (Rattle.store_spec.specs.Ledger.told (lent w t) (t .event)) (replies (next (lent w t) (t .event)) ts));
-      ends = r .ends;
-    }
+ends : (steps : List Step) (h : Held) (w : State) (b : Book) → Tells h w → AllowedLents h b steps → Tells (lastHeld h steps) (final w steps)
+ends [] h w b k a = k
+ends (t ∷ ts) h w b k a = ends ts (heldNext h (t .area) (t .event)) (next (lent w t) (t .event)) (bookNext b (t .event)) (following h w k t (t .event) (a .2)) (a .3)
 
 -- ---- the start
 
-record Begins (ws ps : List ℕ) (z : Sizes) (xs : List ℕ) (c : ℕ) : Type 0 where
-  accepts : setUpBoth (newRecord z xs c) idle z xs c .answer .refusal ≡ 0
-  words-are : zbkSetUp ws ps z xs c .words ≡ wordsOf (setUpBoth (newRecord z xs c) idle z xs c .handed)
-  repair-are : zbkSetUp ws ps z xs c .repair ≡ repairWordsOf (setUpBoth (newRecord z xs c) idle z xs c .running)
+module _ (ws ps : List ℕ) (z : Sizes) (xs : List ℕ) (c : ℕ) where
+  abbrev made : Outcome
+  made = setUpBoth (newRecord z xs c) idle z xs c
 
-begins : (ws ps : List ℕ) (z : Sizes) (xs : List ℕ) (c : ℕ) → zbkSetUp ws ps z xs c .answer ≡ 0 → Begins ws ps z xs c
-unfolding zbkSetUp
-begins ws ps z xs c e =
-    let p = go (setUpBoth (newRecord z xs c) idle z xs c) (alls (eqb (length ws) 12 ∷ eqb (length ps) 71 ∷ [])) e in
-    record { accepts = p .0; words-are = p .1; repair-are = p .2 }
-  where
-    made : Outcome → Bool → Lent
-    made o t = set-up-lent ws ps o t (eqb (wordOf (o .answer)) 0)
+  record Begins : Type 0 where
+    accepts : made .answer .refusal ≡ 0
+    twelve : length ws ≡ 12
+    seventy-one : length ps ≡ 71
+    words-are : zbkSetUp ws ps z xs c .words ≡ wordsOf (made .handed)
+    repair-are : zbkSetUp ws ps z xs c .repair ≡ repairWordsOf (made .running)
 
-    go : (o : Outcome) (t : Bool) → made o t .answer ≡ 0
-        → (o .answer .refusal ≡ 0) × (made o t .words ≡ wordsOf (o .handed)) × (made o t .repair ≡ repairWordsOf (o .running))
-    go o true e = let k = eq-eqb (wordOf (o .answer)) 0 e in (
-      omega (arith, e),
-      ap (λ (b : Bool). pick b (wordsOf (o .handed)) ws) k,
-      ap (λ (b : Bool). pick b (repairWordsOf (o .running)) ps) k,
-    )
-    go o false e = absurd (omega (arith, e))
+  begins : zbkSetUp ws ps z xs c .answer ≡ 0 → Begins
+  unfolding zbkSetUp
+  begins e =
+      let p = go (setUpBoth (newRecord z xs c) idle z xs c) (alls (eqb (length ws) 12 ∷ eqb (length ps) 71 ∷ [])) refl e in
+      record { accepts = p .0; twelve = p .1; seventy-one = p .2; words-are = p .3; repair-are = p .4 }
+    where
+      given : Outcome → Bool → Lent
+      given o t = set-up-lent ws ps o t (eqb (wordOf (o .answer)) 0)
 
--- a call whose word is no refusal's is accepted
-accepted-word : (w : State) (c : Call) (v : ℕ) → wordOf (act w c .answer) ≡ 256 * v → act w c .answer .refusal ≡ 0
-accepted-word w c v e = let k = answer-word w c in omega (arith, k, e)
+      go : (o : Outcome) (t : Bool) → alls (eqb (length ws) 12 ∷ eqb (length ps) 71 ∷ []) ≡ t → given o t .answer ≡ 0
+          → (o .answer .refusal ≡ 0) × (length ws ≡ 12) × (length ps ≡ 71)
+          × (given o t .words ≡ wordsOf (o .handed)) × (given o t .repair ≡ repairWordsOf (o .running))
+      go o true q e =
+          let l = alls-hold (eqb (length ws) 12 ∷ eqb (length ps) 71 ∷ []) q in (
+            omega (arith, e),
+            eqb-true _ _ (l .0),
+            eqb-true _ _ (l .1 .0),
+            rw (eq-eqb (wordOf (o .answer)) 0 e) refl,
+            rw (eq-eqb (wordOf (o .answer)) 0 e) refl,
+          )
+      go o false q e = absurd (omega (arith, e))
+
+  -- the records that an accepted set-up hands on have all their entries
+  whole-made : made .answer .refusal ≡ 0 → Whole (made .handed)
+  whole-made ok =
+      let g = sound-facts (newRecord z xs c) (set-up-both (newRecord z xs c) idle z xs c ok) in
+      let f = pointed-facts z xs (legal-facts z (g .is-legal) .few) (g .is-pointed) in
+      subst Whole (sym (ap (λ (o : Outcome). o .handed) (set-up-done (newRecord z xs c) idle z xs c ok))) (record { marks = refl; points = f .long; points-bytes = f .bytes })
+
+  arrays-made : made .answer .refusal ≡ 0 → Arrays (made .running)
+  arrays-made ok = subst Arrays (sym (ap (λ (o : Outcome). o .running) (set-up-done (newRecord z xs c) idle z xs c ok))) (mark-laws .arrays-idle)
+
+-- ---- a step to the end
+
+module _ (h : Held) (is : isRecord (h .words) ≡ true) (so : isRepair (h .repair) ≡ true) where
+  abbrev s : Record
+  s = recordFrom (h .words)
+
+  abbrev p : Running
+  p = repairFrom (h .repair)
+
+  -- 71 words 0 tell no repair
+  zeros-are : isRepair (replicate 71 0) ≡ true
+  zeros-are = subst (λ (l : List ℕ). isRepair l ≡ true) (repair-words .idle-words) (repair-words .are-words idle (mark-laws .arrays-idle))
+
+  zeros-tell : repairFrom (replicate 71 0) ≡ idle
+  zeros-tell = ap repairFrom (sym (repair-words .idle-words)) ∙ repair-words .repair-back idle (mark-laws .arrays-idle)
+
+  stepped : (now packets : List ℕ) (allowance : ℕ) → zbk (h .words) (h .repair) now (step allowance packets) ≡ inWords (stepCall s p now packets allowance)
+  unfolding act
+  stepped now packets allowance =
+      sym (lent-call (λ x q. act (record { kept = x; running = q; area = now; packets = [] }) (step allowance packets)) (h .words) (h .repair) now [] packets is so)
+
+  repaired : (now fresh helpers standIns : List ℕ) → zbk (h .words) (replicate 71 0) now (repair fresh helpers standIns) ≡ inWords (repairBoth s idle now fresh helpers standIns)
+  unfolding act
+  repaired now fresh helpers standIns =
+      sym (lent-call (λ x q. act (record { kept = x; running = q; area = now; packets = [] }) (repair fresh helpers standIns)) (h .words) (replicate 71 0) now [] [] is zeros-are)
+      ∙ ap (λ (q : Running). inWords (repairBoth s q now fresh helpers standIns)) zeros-tell
+
+  whole-in-words : (now packets : List ℕ) (allowance : ℕ) (fresh helpers standIns : List ℕ) (left : ℕ) → WholeStep s p now packets allowance fresh helpers standIns left
+      → WholeInWords h now packets allowance fresh helpers standIns left
+  whole-in-words now packets allowance fresh helpers standIns left w =
+      let a = stepped now packets allowance in
+      let b = repaired now fresh helpers standIns in
+      let zero : 0 + 256 * left ≡ 256 * left = omega arith in
+      record {
+        answers = ap (λ (o : Lent). o .answer) a ∙ ap wordOf (w .answers) ∙ zero;
+        would-be-taken = ap (λ (o : Lent). o .answer % 256) b ∙ done-word (repairBoth s idle now fresh helpers standIns .answer) (w .would-be-taken) ∙ w .would-be-taken;
+        same-words = ap (λ (o : Lent). o .words) a ∙ ap wordsOf (w .same-record) ∙ sym (ap (λ (o : Lent). o .words) b);
+        same-repair = ap (λ (o : Lent). o .repair) a ∙ ap repairWordsOf (w .same-running) ∙ sym (ap (λ (o : Lent). o .repair) b);
+        same-area = ap (λ (o : Lent). o .area) a ∙ w .same-area ∙ sym (ap (λ (o : Lent). o .area) b);
+        same-packets = ap (λ (o : Lent). o .packets) a ∙ w .same-packets;
+      }
+
+-- ---- a list after a set-up
 
 module _ (ws ps : List ℕ) (z : Sizes) (xs : List ℕ) (c : ℕ) (area : List ℕ) (steps : List Step) (e : zbkSetUp ws ps z xs c .answer ≡ 0) where
   -- the definitions' store at the start, and at the end
-  abbrev first-state : State
-  first-state = begun (newRecord z xs c) idle z xs c area
+  abbrev starts : State
+  starts = begun (newRecord z xs c) idle z xs c area
 
   abbrev last : State
-  last = final first-state steps
+  last = final starts steps
 
-  abbrev h : Held
-  h = endHeld ws ps z xs c area steps
+  abbrev book : Book
+  book = openBook z xs c (length area)
 
-  tells-start : Tells (newlyHeld ws ps z xs c area) first-state
-  tells-start =
-      let ok = begins ws ps z xs c e .accepts in
-      let d = set-up-done (newRecord z xs c) idle z xs c ok in
-      let g = sound-facts (newRecord z xs c) (set-up-both (newRecord z xs c) idle z xs c ok) in
-      let f = pointed-facts z xs (legal-facts z (g .is-legal) .few) (g .is-pointed) in
-      record {
-        words-are = begins ws ps z xs c e .words-are;
-        repair-are = begins ws ps z xs c e .repair-are;
-        area-is = refl;
-        packets-are = refl;
-        full = subst Whole (sym (ap (λ (o : Outcome). o .handed) d)) (record { marks = refl; points = f .long; points-bytes = f .bytes });
-        arrays = subst Arrays (sym (ap (λ (o : Outcome). o .running) d)) (mark-laws .arrays-idle);
-      }
+  abbrev first-held : Held
+  first-held = firstHeld ws ps z xs c area steps
 
-  module _ (ok : AllowedLents (newlyHeld ws ps z xs c area) (openBook z xs c (length area)) steps) where
+  abbrev end-held : Held
+  end-held = endHeld ws ps z xs c area steps
+
+  begun-so : Begins ws ps z xs c
+  begun-so = begins ws ps z xs c e
+
+  tells-start : Tells first-held starts
+  tells-start = record {
+    words-are = begun-so .words-are;
+    repair-are = begun-so .repair-are;
+    area-is = refl;
+    packets-are = refl;
+    whole = whole-made ws ps z xs c (begun-so .accepts);
+    arrays = arrays-made ws ps z xs c (begun-so .accepts);
+  }
+
+  module _ (ok : AllowedLents first-held book steps) where
+    tells-last : Tells end-held last
+    tells-last = ends steps first-held starts book tells-start ok
+
     of-definitions : Demand3 (newRecord z xs c) idle z xs c area steps
-    of-definitions =
-        demand-3 (newRecord z xs c) idle z xs c area steps (begins ws ps z xs c e .accepts)
-        (allowed steps (newlyHeld ws ps z xs c area) first-state (openBook z xs c (length area)) tells-start ok)
+    of-definitions = demand-3 (newRecord z xs c) idle z xs c area steps (begun-so .accepts) (allowed steps first-held starts book tells-start ok)
 
-    run-of : Ran (newlyHeld ws ps z xs c area) first-state steps
-    run-of = ran steps (newlyHeld ws ps z xs c area) first-state (openBook z xs c (length area)) tells-start ok
+    intact : Intact (heldState end-held) (endBook ws ps z xs c area steps)
+    intact = subst (λ (w : State). Intact w (endBook ws ps z xs c area steps)) (sym (state-is end-held last tells-last)) (of-definitions .after)
 
-    tells-last : Tells h last
-    tells-last = run-of .ends
+    are-words : isRecord (end-held .words) ≡ true
+    are-words = ap isRecord (tells-last .words-are) ∙ word-laws .are-words (last .kept) (tells-last .whole)
 
-    intact : Intact (stateOf h) (endBook ws ps z xs c area steps)
-    intact = subst (λ (w : State). Intact w (endBook ws ps z xs c area steps)) (sym (state-is h last tells-last)) (of-definitions .after)
-
-    are-words : isRecord (h .words) ≡ true
-    are-words = ap isRecord (tells-last .words-are) ∙ word-laws .are-words (last .kept) (tells-last .full)
-
-    are-repair : isRepair (h .repair) ≡ true
+    are-repair : isRepair (end-held .repair) ≡ true
     are-repair = ap isRepair (tells-last .repair-are) ∙ repair-words .are-words (last .running) (tells-last .arrays)
 
-    -- a call on the last words, on these words of a repair's record
-    called : (qs now : List ℕ) → isRepair qs ≡ true → (k : Call)
-        → zbk (h .words) qs now k ≡ inWords (act (record { kept = recordFrom (h .words); running = repairFrom qs; area = now; packets = [] }) k)
-    called qs now is k =
-        sym (in-words.lent (λ s p. act (record { kept = s; running = p; area = now; packets = [] }) k) (h .words) qs now (outputOf k) (packetsOfCall k) are-words is)
-
-    gives : (now : List ℕ) → Altered (endBook ws ps z xs c area steps) (recordFrom (h .words)) (h .area) now
-        → (boards output : List ℕ)
-        → length boards ≡ endBook ws ps z xs c area steps .sizes .k
-        → different boards ≡ true
-        → every (among (endBook ws ps z xs c area steps .service)) boards ≡ true
-        → bookLength (endBook ws ps z xs c area steps) ≤ length output
-        → zbk (h .words) (h .repair) now (read boards output)
-        ≡ record {
-          answer = 0;
-          words = h .words;
-          repair = h .repair;
-          area = now;
-          output = over (fileOf (endBook ws ps z xs c area steps .file)) output;
-          packets = [];
-        }
-    unfolding act
-    gives now a boards output count diff up room =
-        called (h .repair) now are-repair (read boards output)
-        ∙ ap inWords (intact .gives now a boards output count diff up room)
-        ∙ ap₂ {C = Lent} (λ (x y : List ℕ). record {
-          answer = 0;
-          words = x;
-          repair = y;
-          area = now;
-          output = over (fileOf (endBook ws ps z xs c area steps .file)) output;
-          packets = [];
-        })
-        (word-laws .words-back (h .words) are-words) (repair-words .words-back (h .repair) are-repair)
-
-    idle-is : repairFrom (repairWordsOf idle) ≡ idle
-    idle-is = repair-words .repair-back idle (mark-laws .arrays-idle)
-
-    finishes : (r : Repairing) → endBook ws ps z xs c area steps .repairing ≡ some r
-        → (now : List ℕ) → Altered (endBook ws ps z xs c area steps) (recordFrom (h .words)) (h .area) now
-        → (packets : List ℕ) → length packets ≡ packetsLen (recordFrom (h .words)) (length (r .fresh))
-        → Unaltered (endBook ws ps z xs c area steps) (h .packets) packets
-        → (allowance : ℕ) → r .left ≤ allowance
-        → LentWhole (h .words) (h .repair) now packets allowance (r .fresh) (r .helpers) (r .standIns) (r .left)
-    unfolding act
-    finishes r runs now a packets long same allowance enough =
-        let f = intact .finishes r runs now a packets long same allowance enough in
-        let s : Record = recordFrom (h .words) in
-        let k = called (h .repair) now are-repair (step allowance packets) in
-        let q : zbk (h .words) (repairWordsOf idle) now (repair (r .fresh) (r .helpers) (r .standIns)) ≡ inWords (repairBoth s idle now (r .fresh) (r .helpers) (r .standIns)) =
-        called (repairWordsOf idle) now (repair-words .are-words idle (mark-laws .arrays-idle)) (repair (r .fresh) (r .helpers) (r .standIns))
-        ∙ ap (λ (p : Running). inWords (repairBoth s p now (r .fresh) (r .helpers) (r .standIns))) idle-is in
-        record {
-          answers = ap (λ (o : Lent). o .answer) k ∙ ap wordOf (f .answers) ∙ none-refused (r .left);
-          would-be-taken = (
-            repairBoth s idle now (r .fresh) (r .helpers) (r .standIns) .answer .reported,
-            ap (λ (o : Lent). o .answer) q ∙ no-refusal (repairBoth s idle now (r .fresh) (r .helpers) (r .standIns) .answer) (f .would-be-taken),
-          );
-          same-words = ap (λ (o : Lent). o .words) k ∙ ap wordsOf (f .same-record) ∙ sym (ap (λ (o : Lent). o .words) q);
-          same-repair = ap (λ (o : Lent). o .repair) k ∙ ap repairWordsOf (f .same-running) ∙ sym (ap (λ (o : Lent). o .repair) q);
-          same-area = ap (λ (o : Lent). o .area) k ∙ f .same-area ∙ sym (ap (λ (o : Lent). o .area) q);
-          same-packets = ap (λ (o : Lent). o .packets) k ∙ f .same-packets;
-        }
-      where
-        none-refused : (v : ℕ) → 0 + 256 * v ≡ 256 * v
-        none-refused v = omega arith
-
-        no-refusal : (a : Said) → a .refusal ≡ 0 → wordOf a ≡ 256 * a .reported
-        no-refusal a e = omega (arith, e)
-
     runs : ArchiveRun ws ps z xs c area steps
+    unfolding act
     runs = record {
-      alike = run-of .alike ∙ ap (map inWord) (of-definitions .alike);
+      alike = answers steps first-held starts book tells-start ok ∙ ap (map inWord) (of-definitions .alike);
       are-words = are-words;
       are-repair = are-repair;
       after = intact;
-      gives = gives;
-      finishes = finishes;
+      gives = λ now a boards output count diff up room.
+          sym (lent-call (λ x q. act (record { kept = x; running = q; area = now; packets = [] }) (read boards output)) (end-held .words) (end-held .repair) now output []
+          are-words are-repair)
+          ∙ ap inWords (intact .gives now a boards output count diff up room)
+          ∙ ap₂ (λ (l m : List ℕ). record { answer = 0; words = l; repair = m; area = now; output = over (fileOf (endBook ws ps z xs c area steps .file)) output; packets = [] })
+          (word-laws .words-back (end-held .words) are-words) (repair-words .words-back (end-held .repair) are-repair);
+      finishes = λ r q now a packets long same allowance enough.
+          whole-in-words end-held are-words are-repair now packets allowance (r .fresh) (r .helpers) (r .standIns) (r .left)
+          (intact .finishes r q now a packets long same allowance enough);
     }
 
 pub archive-demand-3 : ArchiveDemand3
 archive-demand-3 = runs
 
 -- ---- repairs
+
+-- a word that is a multiple of 256 is of an accepted call
+small : (w : State) (c : Call) (v : ℕ) → wordOf (act w c .answer) ≡ 256 * v → act w c .answer .refusal ≡ 0
+small w c v h = sym (answer-word w c) ∙ ap (λ (n : ℕ). n % 256) h ∙ none v
+  where
+    none : (v : ℕ) → (256 * v) % 256 ≡ 0
+    none v = omega (arith, mod-lt (256 * v) {m = 256} (omega arith))
+
+none-refused : (v : ℕ) → 0 + 256 * v ≡ 256 * v
+none-refused v = omega arith
 
 -- with none running
 none-busy : (s : Record) (p : Running) (area fresh helpers standIns : List ℕ) → repairBoth s p area fresh helpers standIns .answer .refusal ≡ 0 → p .running ≡ false
@@ -337,110 +342,83 @@ none-busy s p area fresh helpers standIns h =
 pub archive-repairs : ArchiveRepairs
 unfolding act
 archive-repairs ws ps area fresh helpers standIns v h =
-    let s : Record = recordFrom ws in
-    let p : Running = repairFrom ps in
-    let c : Call = repair fresh helpers standIns in
-    let f : Record → Running → Outcome = λ x y. act (record { kept = x; running = y; area = area; packets = [] }) c in
-    let e = taken f ws ps area [] [] v h in
-    let is = sym (in-words.lent f ws ps area [] [] (e .0) (e .1)) in
-    let ok : repairBoth s p area fresh helpers standIns .answer .refusal ≡ 0 =
-    accepted-word (record { kept = s; running = p; area = area; packets = [] }) c v (sym (ap (λ (o : Lent). o .answer) is) ∙ h) in
-    let k = accepted-both s p area fresh helpers standIns ok in
+    let s = recordFrom ws in
+    let p = repairFrom ps in
+    let calling : Record → Running → Outcome = λ x q. act (record { kept = x; running = q; area = area; packets = [] }) (repair fresh helpers standIns) in
+    let e = taken calling ws ps area [] [] v h in
+    let is = lent-call calling ws ps area [] [] (e .0) (e .1) in
+    let ok = small (record { kept = s; running = p; area = area; packets = [] }) (repair fresh helpers standIns) v (ap (λ (o : Lent). o .answer) is ∙ h) in
+    let q = accepted-both s p area fresh helpers standIns ok in
+    let m = q .1 in
     record {
       is-record = e .0;
       is-repair = e .1;
       none-runs = none-busy s p area fresh helpers standIns ok;
-      repaired = k .1;
-      reports = ap (λ (o : Lent). o .answer) is
-          ∙ ap (λ (o : Outcome). wordOf (o .answer)) (k .0)
-          ∙ ap wordOf (k .1 .moved)
+      repaired = m;
+      reports = sym (ap (λ (o : Lent). o .answer) is) ∙ ap (λ (o : Outcome). wordOf (o .answer)) (q .0) ∙ ap wordOf (m .moved)
           ∙ none-refused (total (repairPackets s area fresh helpers standIns));
-      has = λ i m. ap (λ (o : Lent). Rattle.store_spec.specs.Record.held s (o .area) i) is
-          ∙ ap (λ (o : Outcome). Rattle.store_spec.specs.Record.held s (o .area) i) (k .0)
-          ∙ k .1 .has i m;
-      repair-stays = ap (λ (o : Lent). o .repair) is ∙ ap (λ (o : Outcome). repairWordsOf (o .running)) (k .0) ∙ repair-words .words-back ps (e .1);
+      has = λ i k. ap (λ (l : List ℕ). Rattle.store_spec.specs.Record.held s l i) (sym (ap (λ (o : Lent). o .area) is) ∙ ap (λ (o : Outcome). o .area) (q .0)) ∙ m .has i k;
+      repair-stays = sym (ap (λ (o : Lent). o .repair) is) ∙ ap (λ (o : Outcome). repairWordsOf (o .running)) (q .0) ∙ repair-words .words-back ps (e .1);
     }
-  where
-    none-refused : (v : ℕ) → 0 + 256 * v ≡ 256 * v
-    none-refused v = omega arith
 
 -- ---- what the premises allow
 
+-- a set-up beside any record of a repair is accepted where the set-up alone is
+both-accepted : (z : Sizes) (xs : List ℕ) (c : ℕ)
+    → (setUpBoth (newRecord z xs c) idle z xs c .answer .refusal ≡ 0) ↔ ((legal z ≡ true) × (pointed z xs ≡ true) × (1 ≤ c) × (c ≤ maxStripes))
+both-accepted z xs c =
+    let same = ap (λ (a : Said). a .refusal) (alone-laws .set-up-alone (newRecord z xs c) idle z xs c .answer-is) in
+    let k = demand-1 .set-up-accepted (newRecord z xs c) z xs c in
+    (λ h. k .0 (sym same ∙ h), λ h. same ∙ k .1 h)
+
+accepted-word : (z : Sizes) (xs : List ℕ) (c : ℕ) → setUpBoth (newRecord z xs c) idle z xs c .answer .refusal ≡ 0 → wordOf (setUpBoth (newRecord z xs c) idle z xs c .answer) ≡ 0
+accepted-word z xs c ok = ap (λ (o : Outcome). wordOf (o .answer)) (set-up-done (newRecord z xs c) idle z xs c ok)
+
 set-up-accepted : (ws ps : List ℕ) (z : Sizes) (xs : List ℕ) (c : ℕ)
-    → (zbkSetUp ws ps z xs c .answer ≡ 0)
-    ↔ ((length ws ≡ 12) × (length ps ≡ 71) × (legal z ≡ true) × (pointed z xs ≡ true) × (1 ≤ c) × (c ≤ maxStripes))
+    → (zbkSetUp ws ps z xs c .answer ≡ 0) ↔ ((length ws ≡ 12) × (length ps ≡ 71) × (legal z ≡ true) × (pointed z xs ≡ true) × (1 ≤ c) × (c ≤ maxStripes))
 unfolding zbkSetUp
-set-up-accepted ws ps z xs c = (there, back-again)
-  where
-    o : Outcome
-    o = setUpBoth (newRecord z xs c) idle z xs c
+set-up-accepted ws ps z xs c = (
+  (λ e.
+      let b = begins ws ps z xs c e in
+      let h = both-accepted z xs c .0 (b .accepts) in
+      (b .twelve, b .seventy-one, h .0, h .1, h .2, h .3)),
+  (λ h.
+      ap (λ (t : Bool). set-up-lent ws ps (setUpBoth (newRecord z xs c) idle z xs c) t (eqb (wordOf (setUpBoth (newRecord z xs c) idle z xs c .answer)) 0) .answer)
+      (both-yes (eqb (length ws) 12) (eqb (length ps) 71) (eq-eqb _ _ (h .0)) (eq-eqb _ _ (h .1)))
+      ∙ accepted-word z xs c (both-accepted z xs c .1 (h .2, h .3, h .4, h .5))),
+)
 
-    there : zbkSetUp ws ps z xs c .answer ≡ 0 → (length ws ≡ 12) × (length ps ≡ 71) × (legal z ≡ true) × (pointed z xs ≡ true) × (1 ≤ c) × (c ≤ maxStripes)
-    there e =
-        let g = sound-facts (newRecord z xs c) (set-up-both (newRecord z xs c) idle z xs c (begins ws ps z xs c e .accepts)) in
-        let k = alls-hold (eqb (length ws) 12 ∷ eqb (length ps) 71 ∷ []) (long (alls (eqb (length ws) 12 ∷ eqb (length ps) 71 ∷ [])) refl e) in
-        (eqb-true (length ws) 12 (k .0), eqb-true (length ps) 71 (k .1 .0), g .is-legal, g .is-pointed, g .cap-low, g .cap-high)
-      where
-        long : (t : Bool) → alls (eqb (length ws) 12 ∷ eqb (length ps) 71 ∷ []) ≡ t
-            → set-up-lent ws ps o t (eqb (wordOf (o .answer)) 0) .answer ≡ 0 → alls (eqb (length ws) 12 ∷ eqb (length ps) 71 ∷ []) ≡ true
-        long true q e = q
-        long false q e = absurd (omega (arith, e))
+-- a record given is as it was, whatever packet area is lent
+given-again : (w : State) (b : Book) (e : Event) → GivenWords e → GivenWords (lentAgain w b e)
+given-again w b (call (write file)) g = tt
+given-again w b (call (lose board)) g = tt
+given-again w b (call (repair fresh helpers standIns)) g = tt
+given-again w b (call (read boards output)) g = tt
+given-again w b (call (edit offset bytes boards)) g = tt
+given-again w b (call (start fresh helpers standIns)) g = tt
+given-again w b (call (step allowance packets)) g = tt
+given-again w b (powerFails p) g = g
 
-    back-again : (length ws ≡ 12) × (length ps ≡ 71) × (legal z ≡ true) × (pointed z xs ≡ true) × (1 ≤ c) × (c ≤ maxStripes) → zbkSetUp ws ps z xs c .answer ≡ 0
-    back-again h =
-        ap (λ (t : Bool). set-up-lent ws ps o t (eqb (wordOf (o .answer)) 0) .answer)
-        (both-hold (eqb (length ws) 12) (eqb (length ps) 71) (eq-eqb (length ws) 12 (h .0)) (eq-eqb (length ps) 71 (h .1)))
-        ∙ ap (λ (x : Outcome). wordOf (x .answer)) (set-up-done (newRecord z xs c) idle z xs c (both-taken (newRecord z xs c) idle z xs c (h .2) (h .3) (h .4) (h .5)))
+all-allowed : (h : Held) (b : Book) (es : List Event) → All Bytes (files es) → IdleGiven es → All GivenWords es → AllowedLents h b (unalteredLents h b es)
+all-allowed h b [] f i g = tt
+all-allowed h b (e ∷ es) f i g =
+    let again : Event = lentAgain (heldState h) b e in
+    let k = fair (heldState h) b e es f i in (
+      as-it-was b (recordFrom (h .words)) (h .area),
+      k .0,
+      given-again (heldState h) b e (g .0),
+      all-allowed (heldNext h (h .area) again) (bookNext b again) es (k .1) (k .2) (g .1),
+    )
 
-by-turns : (b : Book) (old packets : List ℕ) → Unaltered b old (pick (noneCarried b) packets old)
-by-turns b old packets = go (noneCarried b) refl
-  where
-    go : (t : Bool) → noneCarried b ≡ t → Unaltered b old (pick t packets old)
-    go true e = first-free b old packets e
-    go false e = lent-as-left b old
-
--- of the first event, and of the others
-record Met (w : State) (b : Book) (e : Event) (es : List Event) : Type 0 where
-  fair : FairEvent b (w .packets) (lentAgain w b e)
-  worded : Worded (lentAgain w b e)
-  other-bytes : All Bytes (files es)
-  other-idle : IdleGiven es
-  other-words : WordsGiven es
-
-met : (w : State) (b : Book) (e : Event) (es : List Event) → All Bytes (files (e ∷ es)) → IdleGiven (e ∷ es) → WordsGiven (e ∷ es) → Met w b e es
-met w b (call (write file)) es m i g = record { fair = m .0; worded = tt; other-bytes = m .1; other-idle = i; other-words = g }
-met w b (call (lose board)) es m i g = record { fair = tt; worded = tt; other-bytes = m; other-idle = i; other-words = g }
-met w b (call (repair fresh helpers standIns)) es m i g = record { fair = tt; worded = tt; other-bytes = m; other-idle = i; other-words = g }
-met w b (call (read boards output)) es m i g = record { fair = tt; worded = tt; other-bytes = m; other-idle = i; other-words = g }
-met w b (call (edit offset bytes boards)) es m i g = record { fair = m .0; worded = tt; other-bytes = m .1; other-idle = i; other-words = g }
-met w b (call (start fresh helpers standIns)) es m i g = record { fair = tt; worded = tt; other-bytes = m; other-idle = i; other-words = g }
-met w b (call (step allowance packets)) es m i g =
-    record { fair = by-turns b (w .packets) packets; worded = tt; other-bytes = m; other-idle = i; other-words = g }
-met w b (powerFails p) es m i g = record { fair = i .0; worded = g .0; other-bytes = m; other-idle = i .1; other-words = g .1 }
-
--- the same event, but for the packet area lent
-again-bare : (w : State) (b : Book) (e : Event) → bare (lentAgain w b e) ≡ bare e
-again-bare w b e = ap (λ (l : List Event). getD l 0 e) (premises .same-events w b (e ∷ []))
+same-events : (h : Held) (b : Book) (es : List Event) → map bare (events (unalteredLents h b es)) ≡ map bare es
+same-events h b [] = refl
+same-events h b (e ∷ es) =
+    let again : Event = lentAgain (heldState h) b e in
+    ap₂ {C = List Event} (λ x r. x ∷ r) (again-bare (heldState h) b e) (same-events (heldNext h (h .area) again) (bookNext b again) es)
 
 pub archive-premises : ArchivePremises
 archive-premises = record {
   set-up-accepted = set-up-accepted;
-  all-allowed = λ ws ps z xs c area es m i g. allow (newlyHeld ws ps z xs c area) (openBook z xs c (length area)) es m i g;
-  same-events = same;
+  all-allowed = λ ws ps z xs c area es f i g. all-allowed (firstHeld ws ps z xs c area []) (openBook z xs c (length area)) es f i g;
+  same-events = same-events;
 }
-  where
-    allow : (h : Held) (b : Book) (es : List Event) → All Bytes (files es) → IdleGiven es → WordsGiven es → AllowedLents h b (unalteredLents h b es)
-    allow h b [] m i g = tt
-    allow h b (e ∷ es) m i g =
-        let f = met (stateOf h) b e es m i g in (
-          as-it-was b (recordFrom (h .words)) (h .area),
-          f .fair,
-          f .worded,
-          allow (heldNext h (h .area) (lentAgain (stateOf h) b e)) (bookNext b (lentAgain (stateOf h) b e)) es (f .other-bytes) (f .other-idle) (f .other-words),
-        )
-
-    same : (h : Held) (b : Book) (es : List Event) → map bare (events (unalteredLents h b es)) ≡ map bare es
-    same h b [] = refl
-    same h b (e ∷ es) =
-        ap₂ {C = List Event} (λ (x : Event) (r : List Event). x ∷ r) (again-bare (stateOf h) b e)
-        (same (heldNext h (h .area) (lentAgain (stateOf h) b e)) (bookNext b (lentAgain (stateOf h) b e)) es)

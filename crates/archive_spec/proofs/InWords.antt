@@ -1,4 +1,4 @@
--- Of a call over the records that the words tell: where they tell both, where they do not, and where they are two records' own.
+-- Of a call over the records that the words tell: where they tell both, where they do not, and where they are the records' own.
 -- Assumes nothing.
 use Prim.Native.Nat.{ℕ, _*_}
 use mathlib.Core.Path.{_≡_, refl, sym, ap, ap₂, _∙_}
@@ -10,27 +10,27 @@ use Rattle.lists.specs.Tests.{pick, alls}
 use Rattle.lists.proofs.Tests.{alls-hold, hold-alls}
 use Rattle.store_spec.specs.Record.{Record}
 use Rattle.store_spec.specs.Running.{Running}
-use Rattle.store_spec.specs.MarkLaws.{Arrays}
 use Rattle.store_spec.specs.Both.{Outcome}
+use Rattle.store_spec.specs.MarkLaws.{Arrays}
 use Rattle.answer_word.specs.Answers.{wordOf}
 use Rattle.record_words.specs.Words.{isRecord, recordFrom, wordsOf}
 use Rattle.record_words.specs.Laws.{Whole}
 use Rattle.record_words.proofs.Laws.{word-laws}
 use Rattle.repair_words.specs.RepairWords.{isRepair, repairFrom, repairWordsOf}
 use Rattle.repair_words.proofs.RepairWords.{repair-words}
-use Rattle.archive_spec.specs.Lent.{Lent, noRecord, inWords, lentBy}
+use Rattle.archive_spec.specs.Lent.{Lent, noRecord, inWords, areRecords, lentBy}
 
--- two tests, both of which hold or one of which does not
-pub both-hold : (a b : Bool) → a ≡ true → b ≡ true → alls (a ∷ b ∷ []) ≡ true
-both-hold a b h k = hold-alls (a ∷ b ∷ []) (h, (k, tt))
+-- ---- two tests
 
-pub one-off : (a b : Bool) → (a ≡ false) ⊎ (b ≡ false) → alls (a ∷ b ∷ []) ≡ false
-one-off a b (inl h) = ap (λ (t : Bool). alls (t ∷ b ∷ [])) h
-one-off a b (inr h) = ap (λ (t : Bool). alls (a ∷ t ∷ [])) h ∙ go a
-  where
-    go : (t : Bool) → alls (t ∷ false ∷ []) ≡ false
-    go true = refl
-    go false = refl
+pub both-yes : (a b : Bool) → a ≡ true → b ≡ true → alls (a ∷ b ∷ []) ≡ true
+both-yes a b p q = hold-alls (a ∷ b ∷ []) (p, (q, tt))
+
+pub both-no : (a b : Bool) → (a ≡ false) ⊎ (b ≡ false) → alls (a ∷ b ∷ []) ≡ false
+both-no a b (inl h) = ap (λ (t : Bool). alls (t ∷ b ∷ [])) h
+both-no true b (inr h) = ap (λ (t : Bool). alls (true ∷ t ∷ [])) h
+both-no false b (inr h) = refl
+
+-- ---- calls
 
 module _ (call : Record → Running → Outcome) (ws ps area output packets : List ℕ) where
   abbrev pub by : Bool → Lent
@@ -38,17 +38,17 @@ module _ (call : Record → Running → Outcome) (ws ps area output packets : Li
 
   -- of words that are both records'
   pub lent : isRecord ws ≡ true → isRepair ps ≡ true → inWords (call (recordFrom ws) (repairFrom ps)) ≡ lentBy call ws ps area output packets
-  lent h k = ap by (sym (both-hold (isRecord ws) (isRepair ps) h k))
+  lent h k = ap by (sym (both-yes (isRecord ws) (isRepair ps) h k))
 
-  -- and of others
-  pub not-lent : (isRecord ws ≡ false) ⊎ (isRepair ps ≡ false) → noRecord ws ps area output packets ≡ lentBy call ws ps area output packets
-  not-lent h = ap by (sym (one-off (isRecord ws) (isRepair ps) h))
+  -- and of words that are not
+  pub not-lent : (isRecord ws ≡ false) ⊎ (isRepair ps ≡ false) → lentBy call ws ps area output packets ≡ noRecord ws ps area output packets
+  not-lent h = ap by (both-no (isRecord ws) (isRepair ps) h)
 
-  -- an answer that is no refusal is not that of words that are no record's
+  -- an answer that is no refusal is not that of such words
   pub taken : (v : ℕ) → lentBy call ws ps area output packets .answer ≡ 256 * v → (isRecord ws ≡ true) × (isRepair ps ≡ true)
-  taken v e = let k = alls-hold (isRecord ws ∷ isRepair ps ∷ []) (go (alls (isRecord ws ∷ isRepair ps ∷ [])) refl e) in (k .0, k .1 .0)
+  taken v e = let h = alls-hold (isRecord ws ∷ isRepair ps ∷ []) (go (areRecords ws ps) refl e) in (h .0, h .1 .0)
     where
-      go : (t : Bool) → alls (isRecord ws ∷ isRepair ps ∷ []) ≡ t → by t .answer ≡ 256 * v → alls (isRecord ws ∷ isRepair ps ∷ []) ≡ true
+      go : (t : Bool) → areRecords ws ps ≡ t → by t .answer ≡ 256 * v → areRecords ws ps ≡ true
       go true q e = q
       go false q e = absurd (omega (arith, e))
 
@@ -60,7 +60,7 @@ back-words ws ps h k w area output packets =
     ap₂ {C = Lent} (λ (x y : List ℕ). record { answer = w; words = x; repair = y; area = area; output = output; packets = packets })
     (word-laws .words-back ws h) (repair-words .words-back ps k)
 
--- and of two records' own words
+-- and of the records' own words
 pub lent-back : (call : Record → Running → Outcome) (s : Record) (p : Running) (area output packets : List ℕ) → Whole s → Arrays p
     → lentBy call (wordsOf s) (repairWordsOf p) area output packets ≡ inWords (call s p)
 lent-back call s p area output packets full arrays =

@@ -210,7 +210,7 @@ as-store ws ps area left call h k =
 no-record : (ws ps area : List ℕ) (call : Call) → (isRecord ws ≡ false) ⊎ (isRepair ps ≡ false)
     → zbk ws ps area call ≡ record { answer = 1; words = ws; repair = ps; area = area; output = outputOf call; packets = packetsOfCall call }
 no-record ws ps area call h =
-    sym (not-lent (λ s p. act (record { kept = s; running = p; area = area; packets = [] }) call) ws ps area (outputOf call) (packetsOfCall call) h)
+    not-lent (λ s p. act (record { kept = s; running = p; area = area; packets = [] }) call) ws ps area (outputOf call) (packetsOfCall call) h
 
 pub archive-laws : ArchiveLaws
 unfolding storeDone

@@ -1,6 +1,7 @@
--- The archive's calls of the store: what each answers, and both records' words, area, output and packet area after it. The store's record stands in twelve
--- words, that of a started repair in 71 (request A.8).
+-- The archive's calls of the store: what each answers, and words, area, output and packet area after it. The store's record stands in twelve words, that of a
+-- repair beside it (request A.8) in 71.
 -- Assumes nothing.
+use mathlib.Core.Bool.{Bool}
 use mathlib.Core.List.{List, [], _∷_}
 use Prim.Native.Nat.{ℕ}
 use lib.Dec.{eqb}
@@ -36,12 +37,15 @@ abbrev pub inWords : Outcome → Lent
 inWords o =
     record { answer = wordOf (o .answer); words = wordsOf (o .handed); repair = repairWordsOf (o .running); area = o .area; output = o .output; packets = o .packets }
 
+-- words that tell both records
+abbrev pub areRecords : List ℕ → List ℕ → Bool
+areRecords ws ps = alls (isRecord ws ∷ isRepair ps ∷ [])
+
 -- a call of the store on the records that the words tell
 abbrev pub lentBy : (Record → Running → Outcome) → List ℕ → List ℕ → List ℕ → List ℕ → List ℕ → Lent
-lentBy call ws ps area output packets =
-    pick (alls (isRecord ws ∷ isRepair ps ∷ [])) (inWords (call (recordFrom ws) (repairFrom ps))) (noRecord ws ps area output packets)
+lentBy call ws ps area output packets = pick (areRecords ws ps) (inWords (call (recordFrom ws) (repairFrom ps))) (noRecord ws ps area output packets)
 
--- "set up takes any twelve words", and any 71 beside them: they are not examined, and stay where it refuses
+-- "set up takes any twelve words" and any 71: they are not examined, and stay where it refuses
 unfoldable pub zbkSetUp : List ℕ → List ℕ → Sizes → List ℕ → ℕ → Lent
 zbkSetUp ws ps z xs c =
     let o = setUpBoth (newRecord z xs c) idle z xs c in
@@ -57,6 +61,6 @@ zbkSetUp ws ps z xs c =
     })
     (noRecord ws ps [] [] [])
 
--- a call of the store on these words and this area; losing is lent no area, so that it stays whatever it is. A step's packet area is lent with the call
+-- a call of the store on these words and this area; losing is lent no area, so that it stays whatever it is; a step alone is lent a packet area
 abbrev pub zbk : List ℕ → List ℕ → List ℕ → Call → Lent
 zbk ws ps area c = lentBy (λ s p. act (record { kept = s; running = p; area = area; packets = [] }) c) ws ps area (outputOf c) (packetsOfCall c)

@@ -1,7 +1,7 @@
 -- The ledger's figures, and those of repairs with stand-ins: antt computes them.
 -- Assumes nothing.
 use mathlib.Core.Path.{_≡_, refl}
-use mathlib.Core.List.{List, [], _∷_}
+use mathlib.Core.List.{[], _∷_}
 use mathlib.Core.Option.{some, none}
 use Rattle.store_spec.specs.Demand3.{events}
 use Rattle.store_spec.specs.FurtherFigures.{five, fiveFile}

@@ -1,7 +1,7 @@
 -- Figures of a stepped repair: antt computes them.
 -- Assumes nothing.
 use mathlib.Core.Path.{_≡_, refl}
-use mathlib.Core.List.{List, [], _∷_, _++_}
+use mathlib.Core.List.{[], _∷_, _++_}
 use lib.ListN.{replicate}
 use Rattle.store_spec.specs.Demand3.{events}
 use Rattle.store_spec.specs.Premises.{unaltered}
@@ -18,8 +18,9 @@ use Rattle.store_spec.specs.Edit.{editLines}
 use Rattle.store_spec.specs.Running.{soundBeside, runningBy}
 use Rattle.store_spec.specs.FurtherFigures.{helpers, spoiled}
 use Rattle.store_spec.specs.Lying.{helpersLying, exchangesMade, partnersLying, shareLying, packetsNow}
-use Rattle.store_spec.specs.Both.{writeLinesBoth, loseLinesBoth, repairLinesBoth, readLinesBoth, editLinesBoth, stepLines, setUpBoth, writeBoth, loseBoth, repairBoth, readBoth, editBoth, startCall, stepCall}
-use Rattle.store_spec.specs.Ledger.{repairAsked, bookLines, accept, enter, act, replies, final, bookReplies}
+use Rattle.store_spec.specs.Both.{writeLinesBoth, loseLinesBoth, repairLinesBoth, readLinesBoth, editLinesBoth, stepLines, setUpBoth, writeBoth, loseBoth, repairBoth, readBoth, editBoth, startCall}
+use Rattle.store_spec.specs.Both.{stepCall}
+use Rattle.store_spec.specs.Ledger.{repairAsked, bookLines, accept, enter, act, replies, bookReplies}
 use Rattle.ledger_figures.specs.StepFigures.{newly, opened, happened, told, lying, lost, altered, StepFigures}
 
 store-replies : replies newly (unaltered newly opened happened) ≡ told

@@ -2,14 +2,14 @@
 -- of lost boards altered between them; the book after them. proofs/LedgerFigures.antt has `ledger-figures`.
 -- Assumes nothing.
 use mathlib.Core.Path.{_≡_}
-use mathlib.Core.List.{List, [], _∷_, _++_, map}
+use mathlib.Core.List.{List, [], _∷_, _++_}
 use mathlib.Core.Option.{some, none}
 use Prim.Native.Nat.{ℕ}
 use lib.ListN.{replicate}
 use Rattle.mbcr.specs.Share.{standard}
 use Rattle.store_spec.specs.Record.{newRecord}
 use Rattle.store_spec.specs.Running.{idle}
-use Rattle.store_spec.specs.Ledger.{Call, Event, call, write, lose, repair, read, Reply, Book, State, Step, Allowed, openBook, replies, bookReplies, bookFinal}
+use Rattle.store_spec.specs.Ledger.{Call, call, write, lose, repair, read, Reply, Book, State, Step, Allowed, openBook, replies, bookReplies, bookFinal}
 use Rattle.store_spec.specs.Demand3.{begun, events}
 use Rattle.store_spec.specs.FurtherFigures.{five, fiveFile, helpers}
 

@@ -11,7 +11,7 @@ use Rattle.store_spec.specs.Record.{Record, newRecord}
 use Rattle.sizes.specs.declared.Sizes.{Sizes}
 use Rattle.store_spec.specs.Running.{idle, runningBy}
 use Rattle.store_spec.specs.Both.{stepCall}
-use Rattle.store_spec.specs.Ledger.{Call, write, lose, read, edit, start, step, Event, call, powerFails, Reply, Book, State, openBook, replies, final, bookReplies}
+use Rattle.store_spec.specs.Ledger.{Call, write, lose, read, edit, start, step, Event, call, powerFails, Reply, Book, State, openBook, replies, bookReplies}
 use Rattle.store_spec.specs.Demand3.{begun, events}
 use Rattle.store_spec.specs.Premises.{unaltered}
 use Rattle.store_spec.specs.FurtherFigures.{five, helpers, spoiled}

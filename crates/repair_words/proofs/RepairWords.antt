@@ -2,21 +2,23 @@
 -- Assumes nothing.
 use mathlib.Core.Path.{_≡_, refl, sym, ap, ap₂, _∙_, subst}
 use mathlib.Core.Bool.{Bool, true, false}
-use mathlib.Core.List.{List, [], _∷_, _++_, append-assoc, append-nil}
+use mathlib.Core.Logic.{_↔_}
+use mathlib.Core.List.{List, [], _∷_, _++_}
 use Prim.Native.Nat.{ℕ, zero, suc, _+_, _*_, _/_, _%_, _^_, _<_}
 use native.Mathlib.Nat.{mul-comm}
 use native.Mathlib.Omega.{arith}
 use lib.Dec.{ltb, eqb}
-use lib.ListN.{length, getD, take, drop, replicate, length-append, length-drop, take-append-drop, List·getD-append}
-use lib.Seq.{take-all, take-at, drop-at, drop-drop, getD-drop, length-take-le}
+use lib.ListN.{length, getD, take, drop, length-append, length-drop, take-append-drop, List·getD-append}
+use lib.Seq.{take-all, take-at, drop-at, drop-drop, length-take-le, getD-drop}
 use borrow.Author.Tests.{ltb-true, lt-ltb, eqb-true, eq-eqb}
 use Rattle.lists.specs.Tests.{pick, every}
 use Rattle.lists.specs.Lists.{All, Bytes, join, joined, piece}
 use Rattle.lists.proofs.Alls.{all-at, append-all, take-alls, drop-alls, all-imp}
 use Rattle.lists.proofs.Put.{part-end}
-use Rattle.lists.proofs.Pieces.{join-ext, join-piece, length-piece, piece-bytes, piece-at, piece-join, length-joined, join-joined, length-tabulate, tabulate-ext, tabulate-at, tabulate-getD, tabulate-all, tabulate-take}
+use Rattle.lists.proofs.Pieces.{join-ext, join-piece, length-piece, piece-bytes, piece-at, piece-join, length-joined, join-joined, length-tabulate, tabulate-at, tabulate-ext, tabulate-getD}
+use Rattle.lists.proofs.Pieces.{tabulate-all, tabulate-take}
 use Rattle.lists.proofs.Tests.{alls-hold, hold-alls, every-all, all-every}
-use Rattle.store_spec.specs.Running.{Running, idle}
+use Rattle.store_spec.specs.Running.{Running}
 use Rattle.store_spec.specs.MarkLaws.{Arrays}
 use Rattle.record_words.specs.Words.{bytes, fromBytes, word}
 use Rattle.record_words.proofs.Places.{byte-at}
@@ -161,86 +163,94 @@ module _ (p : Running) (a : Arrays p) where
       let e1 : take 4 (x ++ (y ++ z)) ≡ x = take-at x (y ++ z) 4 (packed-long 4 (p .fresh)) in
       let e2 : take 32 (drop 4 (x ++ (y ++ z))) ≡ y = ap (take 32) d ∙ take-at y z 32 (packed-long 32 (p .helpers)) in
       let e3 : drop 36 (x ++ (y ++ z)) ≡ z = sym (drop-drop 32 4 (x ++ (y ++ z))) ∙ ap (drop 32) d ∙ drop-at y z 32 (packed-long 32 (p .helpers)) in
-      ap (λ (b : Bool). record { running = b; count = p .count; carried = p .carried; fresh = joined (bytes 8) (take 4 (x ++ (y ++ z))); helpers = joined (bytes 8) (take 32 (drop 4 (x ++ (y ++ z)))); standIns = joined (bytes 8) (drop 36 (x ++ (y ++ z))) })
-      (is-flag (p .running))
-      ∙ ap (λ (l : List ℕ). record { running = p .running; count = p .count; carried = p .carried; fresh = l; helpers = joined (bytes 8) (take 32 (drop 4 (x ++ (y ++ z)))); standIns = joined (bytes 8) (drop 36 (x ++ (y ++ z))) })
-      (ap (joined (bytes 8)) e1 ∙ packed-bytes 4 (p .fresh) (a .fresh-bytes) (a .fresh-long))
-      ∙ ap (λ (l : List ℕ). record { running = p .running; count = p .count; carried = p .carried; fresh = p .fresh; helpers = l; standIns = joined (bytes 8) (drop 36 (x ++ (y ++ z))) })
-      (ap (joined (bytes 8)) e2 ∙ packed-bytes 32 (p .helpers) (a .helpers-bytes) (a .helpers-long))
-      ∙ ap (λ (l : List ℕ). record { running = p .running; count = p .count; carried = p .carried; fresh = p .fresh; helpers = p .helpers; standIns = l })
-      (ap (joined (bytes 8)) e3 ∙ packed-bytes 32 (p .standIns) (a .stand-ins-bytes) (a .stand-ins-long))
+      ap₂ {C = Running} (λ (b : Bool) (l : List ℕ). made b l (take 32 (drop 4 (x ++ (y ++ z)))) (drop 36 (x ++ (y ++ z)))) (is-flag (p .running)) e1
+      ∙ ap₂ {C = Running} (λ (m n : List ℕ). made (p .running) x m n) e2 e3
+      ∙ ap (λ (l : List ℕ). record { running = p .running; count = p .count; carried = p .carried; fresh = l; helpers = joined (bytes 8) y; standIns = joined (bytes 8) z })
+      (packed-bytes 4 (p .fresh) (a .fresh-bytes) (a .fresh-long))
+      ∙ ap₂ {C = Running} (λ (m n : List ℕ). record { running = p .running; count = p .count; carried = p .carried; fresh = p .fresh; helpers = m; standIns = n })
+      (packed-bytes 32 (p .helpers) (a .helpers-bytes) (a .helpers-long)) (packed-bytes 32 (p .standIns) (a .stand-ins-bytes) (a .stand-ins-long))
+    where
+      -- the record of these words of its arrays
+      made : Bool → List ℕ → List ℕ → List ℕ → Running
+      made b l m n =
+          record { running = b; count = p .count; carried = p .carried; fresh = joined (bytes 8) l; helpers = joined (bytes 8) m; standIns = joined (bytes 8) n }
 
 -- ---- the words in their places
 
-words-length : (p : Running) → length (repairWordsOf p) ≡ 71
-words-length p = refl
-
-first-words : (p : Running) → take 3 (repairWordsOf p) ≡ pick (p .running) 1 0 ∷ p .count ∷ p .carried ∷ []
-first-words p = refl
-
--- byte j of word q of a packed array
 packed-at : (m : ℕ) (xs : List ℕ) → Bytes xs → (q j : ℕ) → q < m → j < 8 → getD (pack m xs) q 0 / 256 ^ j % 256 ≡ getD xs (8 * q + j) 0
-packed-at m xs h q j hq hj =
-    ap (λ (w : ℕ). w / 256 ^ j % 256) (tabulate-at m (λ t. fromBytes (piece 8 t xs)) 0 q hq)
+packed-at m xs h q j k l =
+    ap (λ (w : ℕ). w / 256 ^ j % 256) (tabulate-at m (λ q. fromBytes (piece 8 q xs)) 0 q k)
     ∙ byte-at (piece 8 q xs) (piece-bytes 8 q xs h) j
-    ∙ piece-at 8 q xs j 0 hj
+    ∙ piece-at 8 q xs j 0 l
     ∙ ap (λ (n : ℕ). getD xs (n + j) 0) (mul-comm q 8)
 
--- word q of an array that stands behind the first n words, and before others
-word-at : (ps l r : List ℕ) (n q : ℕ) → drop n ps ≡ l ++ r → q < length l → getD ps (n + q) 0 ≡ getD l q 0
-word-at ps l r n q e h = sym (getD-drop n ps q 0) ∙ ap (λ (x : List ℕ). getD x q 0) e ∙ List·getD-append l r 0 q h
+-- an entry of the second list of two, by its place in both
+beyond : (l m : List ℕ) (n i : ℕ) → length l ≡ n → getD (l ++ m) (n + i) 0 ≡ getD m i 0
+beyond l m n i e = sym (getD-drop n (l ++ m) i 0) ∙ ap (λ (k : List ℕ). getD k i 0) (drop-at l m n e)
 
 module _ (p : Running) where
+  abbrev first-three : List ℕ
+  first-three = pick (p .running) 1 0 ∷ p .count ∷ p .carried ∷ []
+
+  words-length : length (repairWordsOf p) ≡ 71
+  words-length =
+      let n : length (pack 4 (p .fresh) ++ (pack 32 (p .helpers) ++ pack 32 (p .standIns))) ≡ 68 =
+      length-append (pack 4 (p .fresh)) (pack 32 (p .helpers) ++ pack 32 (p .standIns))
+      ∙ ap₂ _+_ (packed-long 4 (p .fresh)) (length-append (pack 32 (p .helpers)) (pack 32 (p .standIns)) ∙ ap₂ _+_ (packed-long 32 (p .helpers)) (packed-long 32 (p .standIns))) in
+      omega (arith, n)
+
   fresh-at : Bytes (p .fresh) → (q j : ℕ) → q < 4 → j < 8 → getD (repairWordsOf p) (3 + q) 0 / 256 ^ j % 256 ≡ getD (p .fresh) (8 * q + j) 0
-  fresh-at h q j hq hj =
-      let l : List ℕ = pack 4 (p .fresh) in
-      ap (λ (w : ℕ). w / 256 ^ j % 256) (word-at (repairWordsOf p) l (pack 32 (p .helpers) ++ pack 32 (p .standIns)) 3 q refl (omega (arith, packed-long 4 (p .fresh), hq)))
-      ∙ packed-at 4 (p .fresh) h q j hq hj
+  fresh-at h q j k l =
+      ap (λ (w : ℕ). w / 256 ^ j % 256)
+      (beyond first-three (pack 4 (p .fresh) ++ (pack 32 (p .helpers) ++ pack 32 (p .standIns))) 3 q refl
+      ∙ List·getD-append (pack 4 (p .fresh)) (pack 32 (p .helpers) ++ pack 32 (p .standIns)) 0 q (omega (arith, packed-long 4 (p .fresh), k)))
+      ∙ packed-at 4 (p .fresh) h q j k l
 
   helpers-at : Bytes (p .helpers) → (q j : ℕ) → q < 32 → j < 8 → getD (repairWordsOf p) (7 + q) 0 / 256 ^ j % 256 ≡ getD (p .helpers) (8 * q + j) 0
-  helpers-at h q j hq hj =
-      let l : List ℕ = pack 32 (p .helpers) in
-      let d : drop 7 (repairWordsOf p) ≡ l ++ pack 32 (p .standIns) =
-      drop-at (pack 4 (p .fresh)) (l ++ pack 32 (p .standIns)) 4 (packed-long 4 (p .fresh)) in
-      ap (λ (w : ℕ). w / 256 ^ j % 256) (word-at (repairWordsOf p) l (pack 32 (p .standIns)) 7 q d (omega (arith, packed-long 32 (p .helpers), hq)))
-      ∙ packed-at 32 (p .helpers) h q j hq hj
+  helpers-at h q j k l =
+      let e : 7 + q ≡ 3 + (4 + q) = omega arith in
+      ap (λ (w : ℕ). w / 256 ^ j % 256)
+      (ap (λ (n : ℕ). getD (repairWordsOf p) n 0) e
+      ∙ beyond first-three (pack 4 (p .fresh) ++ (pack 32 (p .helpers) ++ pack 32 (p .standIns))) 3 (4 + q) refl
+      ∙ beyond (pack 4 (p .fresh)) (pack 32 (p .helpers) ++ pack 32 (p .standIns)) 4 q (packed-long 4 (p .fresh))
+      ∙ List·getD-append (pack 32 (p .helpers)) (pack 32 (p .standIns)) 0 q (omega (arith, packed-long 32 (p .helpers), k)))
+      ∙ packed-at 32 (p .helpers) h q j k l
 
   stand-ins-at : Bytes (p .standIns) → (q j : ℕ) → q < 32 → j < 8 → getD (repairWordsOf p) (39 + q) 0 / 256 ^ j % 256 ≡ getD (p .standIns) (8 * q + j) 0
-  stand-ins-at h q j hq hj =
-      let l : List ℕ = pack 32 (p .standIns) in
-      let front : List ℕ = pack 4 (p .fresh) ++ pack 32 (p .helpers) in
-      let long : length front ≡ 36 = length-append (pack 4 (p .fresh)) (pack 32 (p .helpers)) ∙ ap₂ _+_ (packed-long 4 (p .fresh)) (packed-long 32 (p .helpers)) in
-      let d : drop 39 (repairWordsOf p) ≡ l ++ [] =
-      ap (drop 36) (sym (append-assoc (pack 4 (p .fresh)) (pack 32 (p .helpers)) l)) ∙ drop-at front l 36 long ∙ sym (append-nil l) in
-      ap (λ (w : ℕ). w / 256 ^ j % 256) (word-at (repairWordsOf p) l [] 39 q d (omega (arith, packed-long 32 (p .standIns), hq)))
-      ∙ packed-at 32 (p .standIns) h q j hq hj
+  stand-ins-at h q j k l =
+      let e : 39 + q ≡ 3 + (4 + (32 + q)) = omega arith in
+      ap (λ (w : ℕ). w / 256 ^ j % 256)
+      (ap (λ (n : ℕ). getD (repairWordsOf p) n 0) e
+      ∙ beyond first-three (pack 4 (p .fresh) ++ (pack 32 (p .helpers) ++ pack 32 (p .standIns))) 3 (4 + (32 + q)) refl
+      ∙ beyond (pack 4 (p .fresh)) (pack 32 (p .helpers) ++ pack 32 (p .standIns)) 4 (32 + q) (packed-long 4 (p .fresh))
+      ∙ beyond (pack 32 (p .helpers)) (pack 32 (p .standIns)) 32 q (packed-long 32 (p .helpers)))
+      ∙ packed-at 32 (p .standIns) h q j k l
 
-idle-words : repairWordsOf idle ≡ replicate 71 0
-unfolding piece
-idle-words = refl
+below-word : (w : ℕ) → word w ≡ true → w < 18446744073709551616
+below-word w h = ltb-true w 18446744073709551616 h
 
--- ---- which words are a repair's record
-
-are-repair : (ps : List ℕ) → length ps ≡ 71 → getD ps 0 0 < 2 → All (λ w. w < 18446744073709551616) (drop 3 ps) → isRepair ps ≡ true
+is-repair-is : (ps : List ℕ) → (isRepair ps ≡ true) ↔ ((length ps ≡ 71) × (getD ps 0 0 < 2) × All (λ w. w < 18446744073709551616) (drop 3 ps))
 unfolding isRepair
-are-repair ps l w h =
-    hold-alls (eqb (length ps) 71 ∷ ltb (getD ps 0 0) 2 ∷ every word (drop 3 ps) ∷ [])
-    (eq-eqb (length ps) 71 l, (lt-ltb (getD ps 0 0) 2 w, (all-every word (drop 3 ps) (all-imp (λ x. x < 18446744073709551616) (λ x. word x ≡ true) (λ x k. lt-ltb x 18446744073709551616 k) (drop 3 ps) h), tt)))
+is-repair-is ps = (
+  (λ h. let f = facts ps h in (f .long-enough, f .flag, all-imp (λ w. word w ≡ true) (λ w. w < 18446744073709551616) below-word (drop 3 ps) (f .words))),
+  (λ h. hold-alls (eqb (length ps) 71 ∷ ltb (getD ps 0 0) 2 ∷ every word (drop 3 ps) ∷ [])
+      (eq-eqb _ _ (h .0), (lt-ltb _ _ (h .1),
+      (all-every word (drop 3 ps) (all-imp (λ w. w < 18446744073709551616) (λ w. word w ≡ true) (λ w k. lt-ltb w 18446744073709551616 k) (drop 3 ps) (h .2)), tt)))),
+)
 
 pub repair-words : RepairWordLaws
+unfolding piece
 repair-words = record {
   words-back = words-back;
   is-arrays = is-arrays;
   are-words = are-words;
   repair-back = repair-back;
-  is-repair-is = λ ps. (
-    (λ h. let f = facts ps h in (f .long-enough, f .flag, all-imp (λ x. word x ≡ true) (λ x. x < 18446744073709551616) (λ x k. ltb-true x 18446744073709551616 k) (drop 3 ps) (f .words))),
-    (λ k. are-repair ps (k .0) (k .1) (k .2)),
-  );
+  is-repair-is = is-repair-is;
   words-length = words-length;
-  first-words = first-words;
+  first-words = λ p. refl;
   fresh-at = fresh-at;
   helpers-at = helpers-at;
   stand-ins-at = stand-ins-at;
-  idle-words = idle-words;
+  idle-words = refl;
+  first-tells = λ ps. refl;
 }

@@ -164,7 +164,9 @@ module _ (s : Record) (area fresh helpers standIns : List ℕ) (m : ℕ) (laws :
 
   E-wide : Wide S E
   unfolding exchangePackets
-  E-wide = wide-of (λ i k. exchangePacket (s .sizes) (s .points) S (sendersOf (sentTo i H)) (contents (sentTo i H)) k) S (λ i k. laws .exchange-length S (sendersOf (sentTo i H)) (contents (sentTo i H)) k) (hearPartners fresh)
+  E-wide =
+      wide-of (λ i k. exchangePacket (s .sizes) (s .points) S (sendersOf (sentTo i H)) (contents (sentTo i H)) k) S
+      (λ i k. laws .exchange-length S (sendersOf (sentTo i H)) (contents (sentTo i H)) k) (hearPartners fresh)
 
   pub H-count : length H ≡ length fresh * s .sizes .d
   unfolding helperPackets

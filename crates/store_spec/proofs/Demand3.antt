@@ -31,7 +31,8 @@ use Rattle.store_spec.specs.Running.{Running, idle, runningBy, packetsLe
 use Rattle.store_spec.specs.Both.{Outcome, beside, repairLinesBoth, repairBoth, readBoth, setUpBoth}
 use Rattle.store_spec.specs.Demand3.{Repaired, events, WholeStep, Intact, begun, Demand3Claim, Demand3At, Demand3Standard, Demand3FirstSeries}
 use Rattle.store_spec.specs.Ledger.{State, Book, Repairing, Step, Event, call, powerFails, replies, bookReplies, final, bookFinal, Call, Fair, FairEvent, act, bookRecord, Tells, carriedBy}
-use Rattle.store_spec.specs.Ledger.{Reply, replyOf, packetsAfter, told, bookTold, next, bookNext, lent, enter, Altered, Unaltered, Allowed, bookLength, openBook, write, lose, repair, read, edit, start, step}
+use Rattle.store_spec.specs.Ledger.{Reply, replyOf, packetsAfter, told, bookTold, next, bookNext, lent, enter, Altered, Unaltered, Allowed, bookLength, openBook, write, lose, repair, read, edit}
+use Rattle.store_spec.specs.Ledger.{start, step}
 use Rattle.store_spec.specs.Packets.{helperPackets, standInPackets, exchangePackets, hearHelpers, hearPartners, standInsEach, partnerPackets, freshShare, repairPackets}
 use Rattle.store_spec.specs.Record.{Record, allOff, held, usedLen, sound, newRecord}
 use Rattle.store_spec.proofs.Area.{shares-same}
@@ -200,7 +201,8 @@ module _ (laws : AllLaws) where
             → readBoth s (w .running) now boards output ≡ beside (w .running) (accepted 0 s now (over (fileOf (b .file)) output)))
             (sym (h .same-record))
             (read-gives laws b now (altered-at w b now h k .inv) (w .packets) (altered-at w b now h k .runs) (w .running) (h .same-running));
-        finishes = λ r e now k packets long same allowance enough. finishes (record { kept = w .kept; running = w .running; area = now; packets = w .packets }) b (altered-at w b now h k) r e packets long same allowance enough;
+        finishes = λ r e now k packets long same allowance enough.
+            finishes (record { kept = w .kept; running = w .running; area = now; packets = w .packets }) b (altered-at w b now h k) r e packets long same allowance enough;
       }
 
   run : (steps : List Step) (w : State) (b : Book) → Between w b → Allowed w b steps → Run w b steps

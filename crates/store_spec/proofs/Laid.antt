@@ -6,17 +6,17 @@ use mathlib.Core.Bool.{Bool, true, false}
 use mathlib.Core.List.{List, [], _∷_, _++_, map, append-nil}
 use native.Mathlib.Omega.{arith}
 use native.Mathlib.Nat.{suc-mul, zero-mul}
-use lib.Dec.{eqb}
-use lib.ListN.{length, take, drop, getD, List·getD-map}
-use lib.Seq.{take-add, take-take, drop-drop}
-use borrow.Author.Tests.{eq-eqb, ne-eqb}
+use lib.Dec.{ltb, eqb}
+use lib.ListN.{length, take, drop, getD, length-map, List·getD-map, List·getD-append}
+use lib.Seq.{take-add, take-take, drop-drop, drop-at, getD-drop}
+use borrow.Author.Tests.{eq-eqb, ne-eqb, ltb-true, ltb-false, lt-ltb, le-ltb}
 use Rattle.lists.specs.Lists.{without}
 use Rattle.lists.specs.Tests.{pick, among, different}
-use Rattle.lists.proofs.Boards.{different-cons, getD-among}
+use Rattle.lists.proofs.Boards.{different-cons, getD-among, without-none}
 use Rattle.lists.proofs.Put.{within}
 use Rattle.lists.proofs.Tests.{true-false}
-use Rattle.store_spec.specs.Packets.{Packet, Hearing, contents, sendersOf, sentTo, hearHelpers, hearPartners}
-use Rattle.store_spec.specs.Lying.{laidTo, laid}
+use Rattle.store_spec.specs.Packets.{Packet, Hearing, packetsOf, contents, sendersOf, sentTo, hearHelpers, hearPartners}
+use Rattle.store_spec.specs.Lying.{laidTo, laid, blank}
 use Rattle.store_spec.proofs.Packets.{EachHears, receivers, to-append}
 
 -- ---- packets of one hearing
@@ -73,7 +73,8 @@ sent-laid w c (h ∷ hs) bytes each once (suc a) k =
     let rest : List ℕ = drop (length (h .senders) * w) bytes in
     let ih = sent-laid w c hs rest (each .1) (different-cons (h .receiver) (receivers hs) once .1) a (omega arith) in
     let r : getD (receivers hs) a 0 ≡ g .receiver = List·getD-map (λ (x : Hearing). x .receiver) hs a no-hearing in
-    let there : among (receivers hs) (g .receiver) ≡ true = subst (λ (x : ℕ). among (receivers hs) x ≡ true) r (getD-among (receivers hs) a (omega (arith, lib.ListN.length-map hs (λ (x : Hearing). x .receiver)))) in
+    let there : among (receivers hs) (g .receiver) ≡ true = subst (λ (x : ℕ). among (receivers hs) x ≡ true) r
+    (getD-among (receivers hs) a (omega (arith, length-map hs (λ (x : Hearing). x .receiver)))) in
     let o : eqb (h .receiver) (g .receiver) ≡ false =
     ne-eqb (h .receiver) (g .receiver) (λ q. true-false there (subst (λ (x : ℕ). among (receivers hs) x ≡ false) q (different-cons (h .receiver) (receivers hs) once .0))) in
     let p : length (h .senders) * w + a * (c * w) ≡ suc a * (c * w) = ap (λ (x : ℕ). x * w + a * (c * w)) (each .0) ∙ omega (arith, suc-mul a (c * w)) in
@@ -100,6 +101,60 @@ partner-at fresh a k = part fresh a k
     part [] a k = absurd (omega arith)
     part (x ∷ l) zero k = (refl, refl)
     part (x ∷ l) (suc a) k = part l a (omega arith)
+
+-- ---- packets by their places
+
+-- in a list of packets and then others: those, and behind them these
+pub behind : (ps qs : List Packet) (n i : ℕ) → length ps ≡ n → getD (ps ++ qs) (n + i) blank ≡ getD qs i blank
+behind ps qs n i e = sym (getD-drop n (ps ++ qs) i blank) ∙ ap (λ (l : List Packet). getD l i blank) (drop-at ps qs n e)
+
+one-at : (f : ℕ → ℕ → List ℕ) (i : ℕ) (l : List ℕ) (j : ℕ) → j < length l
+    → getD (map (λ x. record { sender = x; receiver = i; bytes = f x i }) l) j blank ≡ record { sender = getD l j 0; receiver = i; bytes = f (getD l j 0) i }
+one-at f i [] j h = absurd (omega arith)
+one-at f i (x ∷ l) zero h = refl
+one-at f i (x ∷ l) (suc j) h = one-at f i l j (omega arith)
+
+-- the j-th packet of the a-th hearing, where each board hears c others
+pub packet-at : (f : ℕ → ℕ → List ℕ) (c : ℕ) (hs : List Hearing) → EachHears (λ i l. length l ≡ c) hs → (a j : ℕ) → a < length hs → j < c
+    → let h = getD hs a no-hearing in getD (packetsOf f hs) (a * c + j) blank ≡ record { sender = getD (h .senders) j 0; receiver = h .receiver; bytes = f (getD (h .senders) j 0) (h .receiver) }
+packet-at f c [] each a j k m = absurd (omega arith)
+packet-at f c (h ∷ hs) each zero j k m =
+    let mine : List Packet = map (λ x. record { sender = x; receiver = h .receiver; bytes = f x (h .receiver) }) (h .senders) in
+    let n : length mine ≡ c = length-map (h .senders) (λ x. record { sender = x; receiver = h .receiver; bytes = f x (h .receiver) }) ∙ each .0 in
+    let z : zero * c + j ≡ j = omega (arith, zero-mul c) in
+    ap (λ (q : ℕ). getD (mine ++ packetsOf f hs) q blank) z
+    ∙ List·getD-append mine (packetsOf f hs) blank j (omega (arith, n, m))
+    ∙ one-at f (h .receiver) (h .senders) j (omega (arith, each .0, m))
+packet-at f c (h ∷ hs) each (suc a) j k m =
+    let mine : List Packet = map (λ x. record { sender = x; receiver = h .receiver; bytes = f x (h .receiver) }) (h .senders) in
+    let n : length mine ≡ c = length-map (h .senders) (λ x. record { sender = x; receiver = h .receiver; bytes = f x (h .receiver) }) ∙ each .0 in
+    let z : suc a * c + j ≡ c + (a * c + j) = omega (arith, suc-mul a c) in
+    ap (λ (q : ℕ). getD (mine ++ packetsOf f hs) q blank) z
+    ∙ behind mine (packetsOf f hs) c (a * c + j) n
+    ∙ packet-at f c hs (each .1) a j (omega arith) m
+
+-- a list without its a-th board, by places
+pub other-at : (l : List ℕ) (a j : ℕ) → different l ≡ true → a < length l → suc j < length l
+    → getD (without (getD l a 0) l) j 0 ≡ getD l (pick (ltb j a) j (suc j)) 0
+other-at [] a j d h k = absurd (omega arith)
+other-at (x ∷ l) zero j d h k =
+    rw (eq-eqb x x refl, without-none x l (different-cons x l d .0), le-ltb j zero (omega arith)) refl
+other-at (x ∷ l) (suc a) j d h k =
+    let y : ℕ = getD l a 0 in
+    let there : among l y ≡ true = getD-among l a (omega arith) in
+    let o : eqb x y ≡ false = ne-eqb x y (λ q. true-false there (subst (λ (z : ℕ). among l z ≡ false) q (different-cons x l d .0))) in
+    rw o (go j k (λ i m. other-at l a i (different-cons x l d .1) (omega arith) m))
+  where
+    go : (j : ℕ) → suc j < length (x ∷ l) → ((i : ℕ) → suc i < length l → getD (without (getD l a 0) l) i 0 ≡ getD l (pick (ltb i a) i (suc i)) 0)
+        → getD (x ∷ without (getD l a 0) l) j 0 ≡ getD (x ∷ l) (pick (ltb j (suc a)) j (suc j)) 0
+    go zero k ih = rw (lt-ltb zero (suc a) (omega arith)) refl
+    go (suc j) k ih = ih j (omega arith) ∙ by (ltb j a) (ltb (suc j) (suc a)) refl refl
+      where
+        by : (t u : Bool) → ltb j a ≡ t → ltb (suc j) (suc a) ≡ u → getD l (pick t j (suc j)) 0 ≡ getD (x ∷ l) (pick u (suc j) (suc (suc j))) 0
+        by true true p q = refl
+        by false false p q = refl
+        by true false p q = absurd (omega (arith, ltb-true j a p, ltb-false (suc j) (suc a) q))
+        by false true p q = absurd (omega (arith, ltb-false j a p, ltb-true (suc j) (suc a) q))
 
 -- ---- packets by their first bytes
 

@@ -24,7 +24,8 @@ use Rattle.sizes.proofs.Orders.{clear-off}
 use Rattle.sizes.proofs.Laws.{number-low}
 use Rattle.board_spec.specs.Calls.{fileOf}
 use Rattle.store_spec.specs.Calls.{settle}
-use Rattle.store_spec.specs.Ledger.{Call, write, lose, repair, read, edit, start, step, Book, Repairing, during, keptOn, ended, goesOn, repairAsked, Entry, outputOf, replied, bookLength, bookLines, accept, enter}
+use Rattle.store_spec.specs.Ledger.{Call, write, lose, repair, read, edit, start, step, Book, Repairing, during, keptOn, ended, goesOn, repairAsked, Entry, outputOf, replied, bookLength}
+use Rattle.store_spec.specs.Ledger.{bookLines, accept, enter}
 use Rattle.store_spec.specs.LedgerLaws.{Accepted, LedgerLaws}
 use Rattle.store_spec.proofs.Marks.{among-first}
 
@@ -226,4 +227,21 @@ by-length b allowance packets packets′ e =
     (during (b .repairing) (replied (said (Done 0)) [] b) (λ r. pick (leb (r .left) allowance) (ended b r) (goesOn b r allowance)))) e
 
 pub ledger-laws : LedgerLaws
-ledger-laws = record { refused = refused; stay = stay; writes = writes; loses = loses; repairs = repairs; edits = edits; starts = starts; steps-on = λ b r a ps q e h. steps-on b r a ps q e h; steps-last = λ b r a ps q e h. steps-last b r a ps q e h; steps-none = steps-none; by-length = by-length; loses-repair = loses-repair; reads = reads }
+ledger-laws = record {
+  refused = refused;
+  stay = stay;
+  writes = writes;
+  loses = loses;
+  repairs = repairs;
+  edits = edits;
+  starts = starts;
+  steps-on = steps-on;
+  steps-last = steps-last;
+  steps-none = steps-none;
+  by-length = by-length;
+  loses-repair = loses-repair;
+  reads = reads;
+  record-is = λ b. refl;
+  tells-none = λ z p. (λ h. h, λ h. h);
+  tells-some = λ z r p. (λ h. h, λ h. h);
+}

@@ -27,8 +27,10 @@ pub mod MarkLaws
 pub mod Exact
 pub mod Demand1
 pub mod BothCalls
+pub mod AloneLaws
 pub mod Still
 pub mod Stepped
+pub mod SteppedLists
 pub mod StepLaws
 pub mod Figures
 pub mod Tested

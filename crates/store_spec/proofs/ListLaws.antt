@@ -1,15 +1,15 @@
 -- Lists of calls and power failures one after another.
 -- Assumes nothing.
 use mathlib.Core.Path.{_≡_, refl, sym, _∙_, ap}
-use mathlib.Core.Bool.{Bool, true, false}
+use mathlib.Core.Bool.{Bool}
 use mathlib.Core.Logic.{_≢_}
 use mathlib.Core.List.{List, [], _∷_, _++_, append-assoc, append-nil}
 use Prim.Native.Nat.{ℕ}
-use lib.Dec.{eqb}
 use borrow.Author.Tests.{eq-eqb, ne-eqb}
 use Rattle.lists.specs.Tests.{pick}
 use Rattle.lists.proofs.Pieces.{map-append}
-use Rattle.store_spec.specs.Ledger.{Call, write, lose, repair, read, edit, start, step, Event, call, powerFails, Reply, Book, State, Step, act, lent, next, told, bookNext, bookTold, replies, final, bookReplies, bookFinal}
+use Rattle.store_spec.specs.Ledger.{Call, write, lose, repair, read, edit, start, step, Event, call, Reply, Book, State, Step, act, lent, next, told, bookNext, bookTold, replies, final}
+use Rattle.store_spec.specs.Ledger.{bookReplies, bookFinal}
 use Rattle.store_spec.specs.ListLaws.{ListLaws}
 
 final-parts : (w : State) (ts us : List Step) → final w (ts ++ us) ≡ final (final w ts) us

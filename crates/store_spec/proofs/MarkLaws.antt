@@ -159,17 +159,20 @@ refused-keeps w c =
     subst
     (λ (o : Outcome). (o .answer .refusal ≡ 0 → ⊥) → o ≡ record { answer = o .answer; handed = w .kept; running = w .running; area = w .area; output = outputOf c; packets = packetsOfCall c })
     (sym (act-is w c))
-    (keeps (w .kept) (w .running) (w .area) (outputOf c) (packetsOfCall c) (storeDone (w .kept) (w .running) (w .area) c) (first storeOrder (storeLines (w .kept) (w .running) (w .area) c)) (done-accepted (w .kept) (w .running) (w .area) c))
+    (keeps (w .kept) (w .running) (w .area) (outputOf c) (packetsOfCall c) (storeDone (w .kept) (w .running) (w .area) c)
+    (first storeOrder (storeLines (w .kept) (w .running) (w .area) c)) (done-accepted (w .kept) (w .running) (w .area) c))
 
 full-marks : (w : State) (c : Call) → length (w .kept .marks) ≡ maxBoards → length (act w c .handed .marks) ≡ maxBoards
 full-marks w c e =
     ap (λ (o : Outcome). length (o .handed .marks)) (act-is w c)
-    ∙ full (w .kept) (w .running) (w .area) (outputOf c) (packetsOfCall c) (storeDone (w .kept) (w .running) (w .area) c) (first storeOrder (storeLines (w .kept) (w .running) (w .area) c)) e (done-full (w .kept) (w .running) (w .area) c e)
+    ∙ full (w .kept) (w .running) (w .area) (outputOf c) (packetsOfCall c) (storeDone (w .kept) (w .running) (w .area) c)
+    (first storeOrder (storeLines (w .kept) (w .running) (w .area) c)) e (done-full (w .kept) (w .running) (w .area) c e)
 
 points-stay : (w : State) (c : Call) → act w c .handed .points ≡ w .kept .points
 points-stay w c =
     ap (λ (o : Outcome). o .handed .points) (act-is w c)
-    ∙ points-by (w .kept) (w .running) (w .area) (outputOf c) (packetsOfCall c) (storeDone (w .kept) (w .running) (w .area) c) (first storeOrder (storeLines (w .kept) (w .running) (w .area) c)) (done-points (w .kept) (w .running) (w .area) c)
+    ∙ points-by (w .kept) (w .running) (w .area) (outputOf c) (packetsOfCall c) (storeDone (w .kept) (w .running) (w .area) c)
+    (first storeOrder (storeLines (w .kept) (w .running) (w .area) c)) (done-points (w .kept) (w .running) (w .area) c)
 
 -- the arrays of the record beside
 

@@ -1,6 +1,6 @@
 -- Demand 3's premises can be met.
 -- Assumes nothing.
-use Prim.Native.Nat.{ℕ, suc, _+_, _-_, _*_, _<_, min}
+use Prim.Native.Nat.{ℕ, _+_, _-_, _*_, _≤_, _<_, min}
 use mathlib.Core.Path.{_≡_, refl, sym, _∙_, ap, ap₂, subst}
 use mathlib.Core.Bool.{Bool, true, false}
 use mathlib.Core.List.{List, [], _∷_, map}
@@ -12,13 +12,14 @@ use native.Mathlib.Nat.{min-le-left, zero-min, zero-mul}
 use lib.Dec.{eqb}
 use borrow.Author.Tests.{eqb-true}
 use lib.Seq.{getD-take, getD-drop, ext-getD}
-use Rattle.lists.specs.Tests.{pick}
+use Rattle.lists.specs.Tests.{pick, among}
 use Rattle.lists.specs.Lists.{All, Bytes}
 use Rattle.sizes.specs.Sizing.{α, stripes}
 use Rattle.store_spec.specs.Record.{Record, part, partLen, stripeCount}
 use Rattle.store_spec.specs.Running.{packetsLen}
 use Rattle.store_spec.specs.Lying.{placeOf}
-use Rattle.store_spec.specs.Ledger.{write, lose, repair, read, edit, start, step, Event, call, powerFails, Book, Repairing, during, bookLength, bookRecord, carriedBy, State, Step, Altered, Unaltered, FairEvent, Allowed, lent, next, bookNext, openBook}
+use Rattle.store_spec.specs.Ledger.{write, lose, repair, read, edit, start, step, Event, call, powerFails, Book, Repairing, during, bookLength, bookRecord, carriedBy, State, Step, Altered}
+use Rattle.store_spec.specs.Ledger.{Unaltered, FairEvent, Allowed, lent, next, bookNext, openBook}
 use Rattle.store_spec.specs.Demand3.{begun, events}
 use Rattle.store_spec.specs.Premises.{noneCarried, files, IdleGiven, lentAgain, unaltered, AgreeInService, Asked, bare, Premises}
 
@@ -53,7 +54,7 @@ by-turns b old packets = go (noneCarried b) refl
 -- ---- lists
 
 -- an event whose file is of bytes is fair
-fair : (w : State) (b : Book) (e : Event) (es : List Event) → All Bytes (files (e ∷ es)) → IdleGiven (e ∷ es)
+pub fair : (w : State) (b : Book) (e : Event) (es : List Event) → All Bytes (files (e ∷ es)) → IdleGiven (e ∷ es)
     → FairEvent b (w .packets) (lentAgain w b e) × All Bytes (files es) × IdleGiven es
 fair w b (call (write file)) es h i = (h .0, h .1, i)
 fair w b (call (lose board)) es h i = (tt, h, i)
@@ -70,7 +71,7 @@ all-allowed w b (e ∷ es) h i =
     let f = fair w b e es h i in
     (as-it-was b (w .kept) (w .area), f .0, all-allowed (next w (lentAgain w b e)) (bookNext b (lentAgain w b e)) es (f .1) (f .2))
 
-again-bare : (w : State) (b : Book) (e : Event) → bare (lentAgain w b e) ≡ bare e
+pub again-bare : (w : State) (b : Book) (e : Event) → bare (lentAgain w b e) ≡ bare e
 again-bare w b (call (write file)) = refl
 again-bare w b (call (lose board)) = refl
 again-bare w b (call (repair fresh helpers standIns)) = refl
@@ -98,35 +99,35 @@ length-part s old new i e =
 part-short : (s : Record) (area : List ℕ) (i q : ℕ) → q < length (part s area i) → q < partLen s
 part-short s area i q h = omega (arith, length-take (partLen s) (drop (i * partLen s) area), min-le-left (partLen s) (length (drop (i * partLen s) area)))
 
-altered-is : (b : Book) (s : Record) (old new : List ℕ) → Altered b s old new ↔ ((length new ≡ length old) × AgreeInService b s old new)
-altered-is b s old new = (there, back)
-  where
-    there : Altered b s old new → (length new ≡ length old) × AgreeInService b s old new
-    there a = (
-      a .as-long,
-      λ i p e low high.
-          let q : p - i * partLen s < partLen s = omega arith in
-          let at : i * partLen s + (p - i * partLen s) ≡ p = omega arith in
-          ap (λ (m : ℕ). getD new m 0) (sym at)
-          ∙ sym (part-at s new i (p - i * partLen s) q)
-          ∙ ap (λ (l : List ℕ). getD l (p - i * partLen s) 0) (a .in-service i e)
-          ∙ part-at s old i (p - i * partLen s) q
-          ∙ ap (λ (m : ℕ). getD old m 0) at,
-    )
+-- of two areas of one length, the parts of some boards are the same exactly where all bytes are that lie in them
+pub parts-agree : (P : ℕ → Type 0) (s : Record) (old new : List ℕ) → length new ≡ length old
+    → ((i : ℕ) → P i → part s new i ≡ part s old i)
+    ↔ ((i p : ℕ) → P i → i * partLen s ≤ p → p < i * partLen s + partLen s → getD new p 0 ≡ getD old p 0)
+parts-agree P s old new l = (
+  (λ h i p e low high.
+      let q : p - i * partLen s < partLen s = omega arith in
+      let at : i * partLen s + (p - i * partLen s) ≡ p = omega arith in
+      ap (λ (m : ℕ). getD new m 0) (sym at)
+      ∙ sym (part-at s new i (p - i * partLen s) q)
+      ∙ ap (λ (l : List ℕ). getD l (p - i * partLen s) 0) (h i e)
+      ∙ part-at s old i (p - i * partLen s) q
+      ∙ ap (λ (m : ℕ). getD old m 0) at),
+  (λ h i e. ext-getD 0 (part s new i) (part s old i) (length-part s old new i l)
+      (λ q k.
+      let w : q < partLen s = part-short s new i q k in
+      part-at s new i q w ∙ h i (i * partLen s + q) e (omega arith) (omega arith) ∙ sym (part-at s old i q w))),
+)
 
-    back : (length new ≡ length old) × AgreeInService b s old new → Altered b s old new
-    back h = record {
-      as-long = h .0;
-      in-service = λ i e. ext-getD 0 (part s new i) (part s old i) (length-part s old new i (h .0))
-          (λ q k.
-          let w : q < partLen s = part-short s new i q k in
-          part-at s new i q w ∙ h .1 i (i * partLen s + q) e (omega arith) (omega arith) ∙ sym (part-at s old i q w));
-    }
+altered-is : (b : Book) (s : Record) (old new : List ℕ) → Altered b s old new ↔ ((length new ≡ length old) × AgreeInService b s old new)
+altered-is b s old new = (
+  (λ a. (a .as-long, parts-agree (λ i. among (b .service) i ≡ true) s old new (a .as-long) .0 (a .in-service))),
+  (λ h. record { as-long = h .0; in-service = parts-agree (λ i. among (b .service) i ≡ true) s old new (h .0) .1 (h .1) }),
+)
 
 -- ---- one entry more
 
 -- what is asked of the event of an entry is that it is fair
-fair-is : (w : State) (b : Book) (area : List ℕ) (e : Event) → Asked w b (record { area = area; event = e }) → FairEvent b (w .packets) e
+pub fair-is : (w : State) (b : Book) (area : List ℕ) (e : Event) → Asked w b (record { area = area; event = e }) → FairEvent b (w .packets) e
 fair-is w b area (call (write file)) a = a .writes-bytes file refl
 fair-is w b area (call (lose board)) a = tt
 fair-is w b area (call (repair fresh helpers standIns)) a = tt
@@ -136,7 +137,7 @@ fair-is w b area (call (start fresh helpers standIns)) a = tt
 fair-is w b area (call (step allowance packets)) a = a .packets-lent allowance packets refl
 fair-is w b area (powerFails p) a = a .idle-given p refl
 
-asked-is : (w : State) (b : Book) (t : Step) → Altered b (w .kept) (w .area) (t .area) → FairEvent b (w .packets) (t .event) → Asked w b t
+pub asked-is : (w : State) (b : Book) (t : Step) → Altered b (w .kept) (w .area) (t .area) → FairEvent b (w .packets) (t .event) → Asked w b t
 asked-is w b t a f = record {
   as-long = a .as-long;
   agrees = altered-is b (w .kept) (w .area) (t .area) .0 a .1;
@@ -154,7 +155,7 @@ more-allowed w b t ts = (
 )
 
 -- two lists of one length begin alike exactly where they agree in each byte of the beginning
-begins-alike : (m : ℕ) (old new : List ℕ) → length new ≡ length old
+pub begins-alike : (m : ℕ) (old new : List ℕ) → length new ≡ length old
     → (take m new ≡ take m old) ↔ ((x : ℕ) → x < m → getD new x 0 ≡ getD old x 0)
 begins-alike m old new l = (
   (λ e x h. sym (getD-take m new x 0 h) ∙ ap (λ (k : List ℕ). getD k x 0) e ∙ getD-take m old x 0 h),

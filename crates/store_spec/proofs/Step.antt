@@ -31,7 +31,8 @@ use Rattle.store_spec.specs.Calls.{settle, repairLines, listLines, write
 use Rattle.store_spec.specs.Running.{Running, idle, runningBy, freshOf, namedIn, packetCount, soundBeside}
 use Rattle.store_spec.specs.Both.{Outcome, lostBeside, writeLinesBoth, writeBoth, loseLinesBoth, loseBoth}
 use Rattle.store_spec.specs.BothCalls.{storeLines}
-use Rattle.store_spec.specs.Ledger.{Call, write, lose, replied, Book, Repairing, during, keptOn, bookRecord, Tells, carriedBy, Entry, State, replyOf, packetsAfter, Altered, bookLines, noted, going, act, enter, accept, bookLength}
+use Rattle.store_spec.specs.Ledger.{Call, write, lose, replied, Book, Repairing, during, keptOn, bookRecord, Tells, carriedBy, Entry, State, replyOf, packetsAfter, Altered, bookLines, noted}
+use Rattle.store_spec.specs.Ledger.{going, act, enter, accept, bookLength}
 use Rattle.store_spec.specs.Packets.{contents, helperPackets, standInPackets, exchangePackets, partnerPackets, repairPackets}
 use Rattle.store_spec.specs.Record.{sound, areaLen, held, usedLen, partLen, inService, Record, writtenRecord}
 use Rattle.store_spec.proofs.Agree.{Tallies, tallies-running, serves, alike, size-same}
@@ -333,7 +334,8 @@ module _ (laws : AllLaws) (b : Book) (area : List ℕ) (v : Inv b area) (packets
       × Runs (going b (kept-on o board) (without board (b .service))) (kept-on o board) area packets
   lost-by board none k l = (ap (λ (t : Bool). pick (alls (t ∷ among (namedIn (b .sizes) p) board ∷ [])) idle p .running) l ∙ l, tt)
   lost-by board (some r) k l = (
-    subst (Tells (b .sizes) (pick (among named board) none (some r))) (sym (ap (λ (x : Running). lostBeside (bookRecord b) x board) l ∙ ap (λ (l : List ℕ). pick (alls (true ∷ among l board ∷ [])) idle run) named-back))
+    subst (Tells (b .sizes) (pick (among named board) none (some r)))
+        (sym (ap (λ (x : Running). lostBeside (bookRecord b) x board) l ∙ ap (λ (l : List ℕ). pick (alls (true ∷ among l board ∷ [])) idle run) named-back))
         (either (among named board)),
     goes (among named board) refl,
   )

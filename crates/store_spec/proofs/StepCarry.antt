@@ -2,7 +2,7 @@
 -- Assumes nothing.
 use Prim.Native.Nat.{ℕ, _+_, _-_, _*_, _≤_, _<_}
 use mathlib.Core.Path.{_≡_, refl, sym, _∙_, ap, ap₂, subst, fun-ext}
-use mathlib.Core.Bool.{Bool, true, false, not}
+use mathlib.Core.Bool.{Bool, true, false}
 use mathlib.Core.List.{List, [], _∷_, _++_, map}
 use mathlib.Core.Option.{Option, some, none}
 use native.Mathlib.Omega.{arith}
@@ -31,7 +31,8 @@ use Rattle.store_spec.specs.Running.{Running, idle, runningBy, withCarri
 use Rattle.store_spec.specs.Lying.{placeOf, shareLying, carry}
 use Rattle.store_spec.specs.Both.{Outcome, startCall, stepLines, leftOf, stepDone, stepCall}
 use Rattle.store_spec.specs.BothCalls.{storeLines}
-use Rattle.store_spec.specs.Ledger.{start, step, Book, Repairing, during, going, ended, goesOn, bookRecord, Tells, bookLength, bookLines, carriedBy, packetsAfter, Altered, Unaltered, act, enter, accept, replied}
+use Rattle.store_spec.specs.Ledger.{start, step, Book, Repairing, during, going, ended, goesOn, bookRecord, Tells, bookLength, bookLines, carriedBy, packetsAfter, Altered, Unaltered, act, enter}
+use Rattle.store_spec.specs.Ledger.{accept, replied}
 use Rattle.store_spec.proofs.Beside.{fresh-back, helpers-back, stand-ins-back}
 use Rattle.store_spec.proofs.Carried.{Begins, Lies, R-count, place-is, carried-on, all-lie, shares-lie}
 use Rattle.store_spec.proofs.Marks.{marks-on}
@@ -73,7 +74,8 @@ module _ (s : Record) (old new fresh helpers standIns : List ℕ) (same : All (�
   pub repair-same : repairPackets s new fresh helpers standIns ≡ repairPackets s old fresh helpers standIns
   unfolding repairPackets partnerPackets exchangePackets
   repair-same =
-      ap₂ {C = List Packet} (λ (hs ts : List Packet). hs ++ (ts ++ packetsOf (λ i m. exchangePacket (s .sizes) (s .points) (stripeCount s) (sendersOf (sentTo i hs)) (contents (sentTo i hs)) m) (hearPartners fresh)))
+      ap₂ {C = List Packet} (λ (hs ts : List Packet). hs ++ (ts
+      ++ packetsOf (λ i m. exchangePacket (s .sizes) (s .points) (stripeCount s) (sendersOf (sentTo i hs)) (contents (sentTo i hs)) m) (hearPartners fresh)))
       helpers-same stand-ins-same
 
 -- ---- what may be altered
@@ -280,7 +282,8 @@ module _ (laws : AllLaws) (b : Book) (area : List ℕ) (v : Inv b area) (packets
           some-left = omega arith;
           within = omega arith;
           lies = subst
-              (λ (n : ℕ). Begins (carry rec (r .fresh) (r .helpers) (r .standIns) area (carriedBy b r) allowance lent) (contents (take n (repairPackets rec area (r .fresh) (r .helpers) (r .standIns)))))
+              (λ (n : ℕ). Begins (carry rec (r .fresh) (r .helpers) (r .standIns) area (carriedBy b r) allowance lent)
+              (contents (take n (repairPackets rec area (r .fresh) (r .helpers) (r .standIns)))))
               c
               (carried-on rec area (r .fresh) (r .helpers) (r .standIns) (length area) ls rf allowance (carriedBy b r) lent
               (omega (arith, R-count rec area (r .fresh) (r .helpers) (r .standIns) (length area) ls rf, all-is, x)) lent-lies .begins);

@@ -8,7 +8,7 @@ use mathlib.Core.List.{List, [], _∷_, _++_}
 use native.Mathlib.Omega.{arith}
 use native.Mathlib.Nat.{mul-le-mul-right, min-eq-left, min-eq-right}
 use native.Mathlib.Decide.{decLt}
-use lib.Dec.{leb, eqb}
+use lib.Dec.{leb, ltb, eqb}
 use lib.ListN.{length, take, drop, getD, length-append, length-map, List·getD-append}
 use lib.Seq.{take-take, take-suc, take-all, getD-take, getD-drop}
 use borrow.Author.Tests.{leb-true, leb-false, lt-leb, eqb-true}
@@ -16,7 +16,7 @@ use Rattle.lists.specs.Lists.{All, without, put}
 use Rattle.lists.specs.Tests.{pick, alls, every, among, different}
 use Rattle.lists.proofs.Alls.{all-imp, all-left}
 use Rattle.lists.proofs.Boards.{below-all}
-use Rattle.lists.proofs.Put.{length-put, put-same, put-before, put-after, within}
+use Rattle.lists.proofs.Put.{part-end, length-put, put-same, put-before, put-after, within}
 use Rattle.lists.proofs.Tests.{true-false, not-no, alls-hold, every-all}
 use Rattle.sizes.specs.declared.Answer.the-variants.{Done, Refused}
 use Rattle.sizes.specs.declared.Check.{Check}
@@ -24,7 +24,7 @@ use Rattle.sizes.specs.declared.Check.the-variants.{Pass, Refuse}
 use Rattle.sizes.specs.declared.Refusal.the-variants.{Size, Area, Empty, Serving, Idle}
 use Rattle.sizes.specs.Refusals.{said, first, storeOrder}
 use Rattle.sizes.proofs.Orders.{clear-off}
-use Rattle.mbcr.specs.Rebuild.{exchangePacket}
+use Rattle.mbcr.specs.Rebuild.{helperPacket, standInPacket, exchangePacket}
 use Rattle.store_spec.specs.Record.{Record, sound, inService, stripeCount, usedLen, areaLen, held, putShares}
 use Rattle.store_spec.specs.Packets.{Packet, packetsOf, contents, total, sendersOf, sentTo, hearHelpers, hearPartners, standInsEach, helperPackets, standInPackets}
 use Rattle.store_spec.specs.Calls.{settle, repairLines, listLines}
@@ -36,9 +36,10 @@ use Rattle.store_spec.proofs.Area.{length-shares, shares-same, byte-sta
 use Rattle.store_spec.proofs.Beside.{sound-beside, lists-taken}
 use Rattle.store_spec.proofs.Carried.{before, wide-both, wide-of, H-wide, T-wide, H-count, T-count, R-count, R-total}
 use Rattle.store_spec.proofs.Demand3.{both-done}
-use Rattle.store_spec.proofs.Laid.{laid-senders, laid-contents, sent-laid, helper-at, partner-at, laid-front}
+use Rattle.store_spec.proofs.Laid.{no-hearing, laid-senders, laid-contents, sent-laid, helper-at, partner-at, behind, packet-at, other-at, laid-front}
 use Rattle.store_spec.proofs.MarkLaws.{off}
-use Rattle.store_spec.proofs.Packets.{EachHears, Wide, packet-count, total-append, receivers-helpers, receivers-partners, length-helpers, helpers-count, partners-each, run-length, senders-append, contents-append}
+use Rattle.store_spec.proofs.Packets.{EachHears, Wide, packet-count, total-append, receivers-helpers, receivers-partners, length-helpers, helpers-count, partners-each, run-length}
+use Rattle.store_spec.proofs.Packets.{senders-append, contents-append}
 use Rattle.store_spec.proofs.Real.{code-lengths}
 use Rattle.store_spec.proofs.Records.{Repairs, repair-facts, sound-facts, used-fits}
 use Rattle.store_spec.proofs.Repair.{partners-counted, partner-count}
@@ -178,6 +179,71 @@ module _ (s : Record) (area fresh helpers standIns : List ℕ) (laws : Lengths (
   rises : (q r : ℕ) → q ≤ r → placeOf s t q ≤ placeOf s t r
   rises q r h = mul-le-mul-right S (let k : q + min q (t * d) ≤ r + min r (t * d) = omega arith in k)
 
+  -- ---- packets by their places
+
+  -- a board of a run, by its place in the list
+  in-run : (c a j : ℕ) (l : List ℕ) → j < c → getD (take c (drop (a * c) l)) j 0 ≡ getD l (a * c + j) 0
+  in-run c a j l h = getD-take c (drop (a * c) l) j 0 h ∙ getD-drop (a * c) l j 0
+
+  run-at : (g : ℕ → ℕ → List ℕ) (c : ℕ) (boards : List ℕ) → length boards ≡ t * c → (a j : ℕ) → a < t → j < c
+      → getD (packetsOf g (hearHelpers c fresh boards)) (a * c + j) blank
+      ≡ record { sender = getD boards (a * c + j) 0; receiver = getD fresh a 0; bytes = g (getD boards (a * c + j) 0) (getD fresh a 0) }
+  run-at g c boards n a j h k =
+      let r = helper-at c fresh boards a h in
+      packet-at g c (hearHelpers c fresh boards) (helpers-count c fresh boards n) a j (omega (arith, length-helpers c fresh boards, h)) k
+      ∙ ap₂ {C = Packet} (λ (x i : ℕ). record { sender = x; receiver = i; bytes = g x i }) (ap (λ (l : List ℕ). getD l j 0) (r .1) ∙ in-run c a j boards k) (r .0)
+
+  -- the places of a run lie before the end of all runs
+  in-runs : (c a j : ℕ) → a < t → j < c → a * c + j < t * c
+  in-runs c a j h k = omega (arith, part-end a c t h, k)
+
+  H-long : length H ≡ t * d
+  H-long = H-count s area fresh helpers standIns (length area) laws f
+
+  T-long : length T ≡ t * e
+  T-long = T-count s area fresh helpers standIns (length area) laws f
+
+  now-helper : (now : List ℕ) (a j : ℕ) → a < t → j < d → let h = getD helpers (a * d + j) 0 in
+      getD (N now) (a * d + j) blank ≡ record { sender = h; receiver = getD fresh a 0; bytes = helperPacket (s .sizes) (s .points) S h (getD fresh a 0) (held s area h) }
+  unfolding packetsNow helperPackets
+  now-helper now a j h k =
+      List·getD-append H (T ++ exchangesMade s fresh helpers now) blank (a * d + j) (omega (arith, in-runs d a j h k, H-long))
+      ∙ run-at (λ j i. helperPacket (s .sizes) (s .points) S j i (held s area j)) d helpers (f .helper-count) a j h k
+
+  now-stand-in : (now : List ℕ) (a j : ℕ) → a < t → j < e → let h = getD standIns (a * e + j) 0 in
+      getD (N now) (t * d + (a * e + j)) blank ≡ record { sender = h; receiver = getD fresh a 0; bytes = standInPacket (s .sizes) (s .points) S h (getD fresh a 0) (held s area h) }
+  unfolding packetsNow standInPackets
+  now-stand-in now a j h k =
+      behind H (T ++ exchangesMade s fresh helpers now) (t * d) (a * e + j) H-long
+      ∙ List·getD-append T (exchangesMade s fresh helpers now) blank (a * e + j) (omega (arith, in-runs e a j h k, T-long))
+      ∙ run-at (λ j i. standInPacket (s .sizes) (s .points) S j i (held s area j)) e standIns (f .stand-in-count) a j h k
+
+  now-exchange : (now : List ℕ) (a j : ℕ) → a < t → suc j < t → let b = pick (ltb j a) j (suc j) in
+      getD (N now) (t * d + (t * e + (a * (t - 1) + j))) blank
+      ≡ record {
+        sender = getD fresh b 0;
+        receiver = getD fresh a 0;
+        bytes = exchangePacket (s .sizes) (s .points) S (take d (drop (b * d) helpers)) (take (d * (2 * S)) (drop (b * (d * (2 * S))) now)) (getD fresh a 0);
+      }
+  unfolding packetsNow exchangesMade helpersLying
+  now-exchange now a j h k =
+      let b : ℕ = pick (ltb j a) j (suc j) in
+      let lying : List Packet = helpersLying s fresh helpers now in
+      let g : ℕ → ℕ → List ℕ = λ m i. exchangePacket (s .sizes) (s .points) S (sendersOf (sentTo m lying)) (contents (sentTo m lying)) i in
+      let r = partner-at fresh a h in
+      let who : getD (getD (hearPartners fresh) a no-hearing .senders) j 0 ≡ getD fresh b 0 = ap (λ (l : List ℕ). getD l j 0) (r .1) ∙ other-at fresh a j (f .fresh-different) h k in
+      let low : b < t = below-all-places (ltb j a) in
+      behind H (T ++ exchangesMade s fresh helpers now) (t * d) (t * e + (a * (t - 1) + j)) H-long
+      ∙ behind T (exchangesMade s fresh helpers now) (t * e) (a * (t - 1) + j) T-long
+      ∙ packet-at g (t - 1) (hearPartners fresh) others-each a j (omega (arith, others-count, h)) (omega (arith, k))
+      ∙ ap₂ {C = Packet} (λ (x i : ℕ). record { sender = x; receiver = i; bytes = g x i }) who (r .0)
+      ∙ ap₂ {C = Packet} (λ (l m : List ℕ). record { sender = getD fresh b 0; receiver = getD fresh a 0; bytes = exchangePacket (s .sizes) (s .points) S l m (getD fresh a 0) })
+      (run-senders (2 * S) d helpers now (f .helper-count) b low) (run-contents (2 * S) d helpers now (f .helper-count) b low)
+    where
+      below-all-places : (q : Bool) → pick q j (suc j) < t
+      below-all-places true = omega (arith, k)
+      below-all-places false = k
+
   lain : (now : List ℕ) → Lain s fresh helpers standIns area now
   unfolding helpersLying partnersLying shareLying packetsNow helperPackets standInPackets exchangesMade
   lain now = record {
@@ -195,6 +261,9 @@ module _ (s : Record) (area fresh helpers standIns : List ℕ) (laws : Lengths (
         (others-contents (drop (placeOf s t (t * d + t * e)) now) a h ∙ ap (λ (m : ℕ). take ((t - 1) * S) (drop (a * ((t - 1) * S)) (drop m now))) place-t);
     shares-are = λ i. refl;
     now-are = refl;
+    helper-at = now-helper now;
+    stand-in-at = now-stand-in now;
+    exchange-at = now-exchange now;
     now-count = N-count now;
     now-place = N-place now;
     now-end = place-end;
@@ -256,7 +325,8 @@ module _ (s : Record) (area fresh helpers standIns : List ℕ) (laws : Lengths (
           place-h ∙ shift t d S ∙ ap (λ (x : ℕ). x * (d * (2 * S))) (sym (length-helpers d fresh helpers)) in
           let k : take (placeOf s t (t * d)) new ≡ take (placeOf s t (t * d)) old =
           sym (take-take (placeOf s t (t * d)) (placeOf s t q) new r) ∙ ap (take (placeOf s t (t * d))) h ∙ take-take (placeOf s t (t * d)) (placeOf s t q) old r in
-          ap (λ (hs : List Packet). getD (H ++ (T ++ packetsOf (λ m i. exchangePacket (s .sizes) (s .points) (stripeCount s) (sendersOf (sentTo m hs)) (contents (sentTo m hs)) i) (hearPartners fresh))) q blank)
+          ap (λ (hs : List Packet). getD (H ++ (T
+          ++ packetsOf (λ m i. exchangePacket (s .sizes) (s .points) (stripeCount s) (sendersOf (sentTo m hs)) (contents (sentTo m hs)) i) (hearPartners fresh))) q blank)
           (laid-front (2 * S) d (hearHelpers d fresh helpers) new old (helpers-count d fresh helpers (f .helper-count))
           (ap (λ (m : ℕ). take m new) (sym n) ∙ k ∙ ap (λ (m : ℕ). take m old) n))
         where

@@ -277,7 +277,8 @@ stepped w fresh helpers standIns steps ok k a q =
     let v : State = next w (call (start fresh helpers standIns)) in
     let c : ℕ = carriedIn v steps in
     let z : 0 + c ≡ c = omega arith in
-    let m : Mid w fresh helpers standIns (final v steps) (lost v steps) c = subst (Mid w fresh helpers standIns (final v steps) (lost v steps)) z (run w fresh helpers standIns steps v [] 0 (begins w fresh helpers standIns ok) k a q) in
+    let m : Mid w fresh helpers standIns (final v steps) (lost v steps) c =
+    subst (Mid w fresh helpers standIns (final v steps) (lost v steps)) z (run w fresh helpers standIns steps v [] 0 (begins w fresh helpers standIns ok) k a q) in
     record {
       running-is = m .running-is;
       some-left = m .some-left;

@@ -13,7 +13,8 @@ use Rattle.lists.proofs.Tests.{both, every-all, same-eq}
 use Rattle.lists.proofs.Boards.{all-among, below-all}
 use Rattle.store_spec.specs.Record.{Record, part}
 use Rattle.store_spec.specs.Lying.{placeOf}
-use Rattle.store_spec.specs.Ledger.{Call, write, lose, repair, read, edit, start, step, Event, call, powerFails, Book, Repairing, during, bookRecord, carriedBy, State, Step, Altered, Fair, FairEvent, Allowed, lent, next, bookNext}
+use Rattle.store_spec.specs.Ledger.{Call, write, lose, repair, read, edit, start, step, Event, call, powerFails, Book, Repairing, during, bookRecord, carriedBy, State, Step, Altered, Fair}
+use Rattle.store_spec.specs.Ledger.{FairEvent, Allowed, lent, next, bookNext}
 
 -- a file or an edit is of bytes, and a packet area of the right length has the packets carried as they were left
 abbrev pub fairly : Book → List ℕ → Call → Bool

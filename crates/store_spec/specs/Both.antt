@@ -1,21 +1,20 @@
 -- Request A.8, every store call with both records: the store's, and beside it that of a started repair. The calls of Calls.antt and Edit.antt go on
 -- as they were; `start` and `step` are new.
 -- Assumes nothing.
-use Prim.Native.Nat.{ℕ, _+_, _-_, _*_}
-use mathlib.Core.Bool.{true, false, not}
+use Prim.Native.Nat.{ℕ, _+_, _-_}
+use mathlib.Core.Bool.{true, not}
 use mathlib.Core.List.{List, [], _∷_, _++_}
 use lib.Dec.{leb, eqb}
 use lib.ListN.{length, drop}
 use Rattle.lists.specs.Tests.{pick, alls, among}
 use Rattle.sizes.specs.declared.Sizes.{Sizes}
-use Rattle.sizes.specs.declared.Refusal.{Refusal}
 use Rattle.sizes.specs.declared.Refusal.the-variants.{Size, Area, Busy, Idle}
 use Rattle.sizes.specs.declared.Answer.the-variants.{Done, Refused}
 use Rattle.sizes.specs.Refusals.{Said, said, Line, _when_, first, storeOrder}
 use Rattle.store_spec.specs.Record.{Record, sound, newRecord, withMarks, turnOn, areaLen, putShares}
 use Rattle.store_spec.specs.Running.{Running, idle, runningBy, withCarried, freshOf, helpersOf, standInsOf, namedIn, packetCount, packetsLen, soundBeside}
 use Rattle.store_spec.specs.Lying.{shareLying, carry}
-use Rattle.store_spec.specs.Calls.{StoreOutcome, accepted, refused, settle, recordLine, emptyLine, writeLines, loseLines, repairLines, readLines, writeDone, loseDone, repairDone, readDone}
+use Rattle.store_spec.specs.Calls.{StoreOutcome, accepted, settle, recordLine, emptyLine, writeLines, loseLines, repairLines, readLines, writeDone, loseDone, repairDone, readDone}
 use Rattle.store_spec.specs.Edit.{editLines, editDone}
 
 -- what a call answers, the two records that it hands on, and all lent bytes after it

@@ -1,5 +1,5 @@
--- Demand 1 of the store's calls alone (BothCalls.antt has them with the record of a repair beside): every call ends, on any record, area and lists, with its result or with the first refusal whose line holds, and a
--- refusal hands back the record as it came and changes no byte. And what an accepted call does to record, area and output, over any area.
+-- Demand 1 of the store's calls alone (BothCalls.antt has them with the record of a repair beside): every call ends, on any record, area and lists, with its result
+-- or with the first refusal whose line holds, and a refusal hands back the record as it came and changes no byte. And what an accepted call does to record, area and output, over any area.
 -- proofs/Demand1.antt has `demand-1 : StoreCalls`.
 -- Assumes nothing.
 use mathlib.Core.Path.{_≡_}

@@ -1,4 +1,5 @@
--- Demand 3, whole: one claim over any list of writes, losses, repairs and reads, of edits (request A.6), and of starts, steps and power failures (A.8). proofs/Demand3.antt has `demand-3 : Demand3Claim`.
+-- Demand 3, whole: one claim over any list of writes, losses, repairs and reads, of edits (request A.6), and of starts, steps and power failures (A.8).
+-- proofs/Demand3.antt has `demand-3 : Demand3Claim`.
 -- Assumes nothing.
 use Prim.Native.Nat.{ℕ, _+_, _-_, _*_, _≤_, _<_}
 use mathlib.Core.Path.{_≡_}
@@ -20,7 +21,7 @@ use Rattle.store_spec.specs.Record.{Record, stripeCount, held}
 use Rattle.store_spec.specs.Packets.{sentTo, sendersOf, contents, total, helperPackets, standInPackets, exchangePackets, repairPackets, freshShare}
 use Rattle.store_spec.specs.Calls.{accepted, repairCall}
 use Rattle.store_spec.specs.Running.{Running, idle, packetsLen}
-use Rattle.store_spec.specs.Both.{Outcome, beside, setUpBoth, repairBoth, readBoth, stepCall}
+use Rattle.store_spec.specs.Both.{beside, setUpBoth, repairBoth, readBoth, stepCall}
 use Rattle.store_spec.specs.Ledger.{Event, Book, Repairing, State, Step, Altered, Unaltered, Allowed, openBook, bookLength, bookRecord, Tells, replies, final, bookReplies, bookFinal}
 
 -- A last step that leaves what the whole repair by these lists would leave over the same record and area: it is accepted, reports the packets that

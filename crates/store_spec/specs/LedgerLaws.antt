@@ -4,14 +4,17 @@
 use mathlib.Core.Path.{_≡_}
 use mathlib.Core.Bool.{true, false}
 use mathlib.Core.List.{List}
+use mathlib.Core.Logic.{_↔_}
 use mathlib.Core.Option.{some, none}
 use Prim.Native.Nat.{ℕ, _+_, _-_, _*_, _≤_, _<_}
 use lib.Dec.{ltb, eqb}
 use lib.ListN.{length}
-use Rattle.lists.specs.Tests.{pick, among}
-use Rattle.lists.specs.Lists.{put}
+use Rattle.lists.specs.Tests.{pick, among, given}
+use Rattle.lists.specs.Lists.{tabulate, put, fit}
+use Rattle.sizes.specs.declared.Sizes.{Sizes}
 use Rattle.board_spec.specs.Calls.{fileOf}
-use Rattle.store_spec.specs.Ledger.{Call, write, lose, repair, read, edit, start, step, Book, Repairing, during, keptOn, outputOf, enter}
+use Rattle.store_spec.specs.Running.{Running}
+use Rattle.store_spec.specs.Ledger.{Call, write, lose, repair, read, edit, start, step, Book, Repairing, during, keptOn, outputOf, enter, bookRecord, Tells}
 
 abbrev pub Accepted : Book → Call → Type 0
 Accepted b call = enter b call .reply .answer .refusal ≡ 0
@@ -62,3 +65,21 @@ pub record LedgerLaws : Type 0 where
   pub loses-repair : (b : Book) (board : ℕ) → Accepted b (lose board) → enter b (lose board) .book .repairing ≡ during (b .repairing) none (λ r. keptOn r board)
   -- a read changes no book
   pub reads : (b : Book) (boards output : List ℕ) → enter b (read boards output) .book ≡ b
+  -- the record that the book tells
+  pub record-is : (b : Book)
+      → bookRecord b
+      ≡ record { sizes = b .sizes; points = b .points; capacity = b .capacity; written = given (b .file); length = length (fileOf (b .file)); marks = tabulate 32 (among (b .service)) }
+  -- request A.8: that of a repair beside it. Where none runs it is any that is idle; else it has just the repair's lists, with 0 behind them, and has carried all of
+  -- t(d + r − 1) packets but those left
+  pub tells-none : (z : Sizes) (p : Running) → Tells z none p ↔ (p .running ≡ false)
+  pub tells-some : (z : Sizes) (r : Repairing) (p : Running)
+      → Tells z (some r) p
+      ↔ (p
+      ≡ record {
+        running = true;
+        count = length (r .fresh);
+        carried = length (r .fresh) * (z .d + z .r - 1) - r .left;
+        fresh = fit 32 (r .fresh);
+        helpers = fit 256 (r .helpers);
+        standIns = fit 256 (r .standIns);
+      })

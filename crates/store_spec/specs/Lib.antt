@@ -8,6 +8,7 @@ pub mod Both
 pub mod Ledger
 pub mod Demand1
 pub mod BothCalls
+pub mod AloneLaws
 pub mod Runs
 pub mod Demand3
 pub mod StepLaws

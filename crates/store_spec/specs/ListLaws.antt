@@ -8,7 +8,8 @@ use mathlib.Core.List.{List, [], _∷_, _++_}
 use Prim.Native.Nat.{ℕ}
 use Rattle.store_spec.specs.Running.{Running}
 use Rattle.store_spec.specs.Both.{Outcome, writeBoth, loseBoth, repairBoth, readBoth, editBoth, startCall, stepCall}
-use Rattle.store_spec.specs.Ledger.{Call, write, lose, repair, read, edit, start, step, Event, call, powerFails, Book, State, Step, act, replyOf, lent, next, told, enter, bookNext, bookTold, replies, final, bookReplies, bookFinal}
+use Rattle.store_spec.specs.Ledger.{Call, write, lose, repair, read, edit, start, step, Event, call, powerFails, Book, State, Step, act, replyOf, lent, next, told, enter, bookNext, bookTold}
+use Rattle.store_spec.specs.Ledger.{replies, final, bookReplies, bookFinal}
 use Rattle.store_spec.specs.Demand3.{events}
 
 pub record ListLaws : Type 0 where

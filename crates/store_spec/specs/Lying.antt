@@ -1,7 +1,7 @@
 -- Request A.8, the packets of a started repair as they lie in the lent packet area, "in the order carried"; and what a step carries.
 -- Assumes nothing.
 use mathlib.Core.List.{List, [], _∷_, _++_}
-use Prim.Native.Nat.{ℕ, zero, suc, _+_, _-_, _*_, min}
+use Prim.Native.Nat.{ℕ, zero, suc, _+_, _*_, min}
 use lib.ListN.{length, take, drop, getD}
 use Rattle.lists.specs.Lists.{put}
 use Rattle.mbcr.specs.Rebuild.{exchangePacket, finishedShare}

@@ -15,7 +15,8 @@ use Rattle.sizes.specs.declared.Sizes.{Sizes}
 use Rattle.sizes.specs.Sizing.{α, stripes}
 use Rattle.store_spec.specs.Record.{Record}
 use Rattle.store_spec.specs.Running.{Running, packetsLen}
-use Rattle.store_spec.specs.Ledger.{Call, write, lose, repair, read, edit, start, step, Event, call, powerFails, Book, Repairing, during, bookLength, bookRecord, carriedBy, State, Step, Altered, Unaltered, Allowed, lent, next, bookNext, openBook}
+use Rattle.store_spec.specs.Ledger.{Call, write, lose, repair, read, edit, start, step, Event, call, powerFails, Book, Repairing, during, bookLength, bookRecord, carriedBy, State, Step, Altered}
+use Rattle.store_spec.specs.Ledger.{Unaltered, Allowed, lent, next, bookNext, openBook}
 use Rattle.store_spec.specs.Demand3.{begun, events}
 
 -- no repair runs, or it has carried no packet

@@ -4,20 +4,21 @@
 use mathlib.Core.Path.{_≡_}
 use mathlib.Core.Bool.{true, false}
 use mathlib.Core.Logic.{_⊎_}
-use mathlib.Core.List.{List, [], _∷_, _++_}
+use mathlib.Core.List.{List, [], _++_}
 use Prim.Native.Nat.{ℕ, suc, _+_, _-_, _*_, _≤_, _<_, min}
+use lib.Dec.{ltb}
 use lib.ListN.{length, take, drop, getD}
-use Rattle.lists.specs.Tests.{among}
+use Rattle.lists.specs.Tests.{pick, among}
 use Rattle.lists.specs.Lists.{All, without}
 use Rattle.sizes.specs.declared.Answer.the-variants.{Done}
 use Rattle.sizes.specs.Refusals.{said}
 use Rattle.mbcr.specs.Rebuild.{helperPacket, standInPacket, exchangePacket, finishedShare}
 use Rattle.store_spec.specs.Record.{Record, inService, withMarks, turnOn, stripeCount, held}
-use Rattle.store_spec.specs.Packets.{Packet, contents, sendersOf, sentTo, packetsOf, total, hearHelpers, hearPartners, standInsEach, helperPackets, standInPackets}
+use Rattle.store_spec.specs.Packets.{contents, sendersOf, sentTo, packetsOf, total, hearHelpers, hearPartners, standInsEach}
 use Rattle.store_spec.specs.Running.{Running, idle, withCarried, freshOf, helpersOf, standInsOf, namedIn, packetCount, packetsLen}
 use Rattle.store_spec.specs.Lying.{placeOf, helpersLying, partnersLying, shareLying, packetsNow, blank}
 use Rattle.store_spec.specs.Demand1.{Stays}
-use Rattle.store_spec.specs.Both.{Outcome, leftOf, stepCall, loseBoth}
+use Rattle.store_spec.specs.Both.{Outcome, stepCall, loseBoth}
 
 -- the packets that lie in a packet area, by lists that a start takes: `t` fresh boards, `e` stand-ins for each
 module _ (s : Record) (fresh helpers standIns area packets : List ℕ) where
@@ -55,6 +56,21 @@ module _ (s : Record) (fresh helpers standIns area packets : List ℕ) where
         ++ packetsOf
         (λ m i. exchangePacket (s .sizes) (s .points) S (sendersOf (sentTo m (helpersLying s fresh helpers packets))) (contents (sentTo m (helpersLying s fresh helpers packets))) i)
         (hearPartners fresh))
+    -- in the order carried: "helper packets first, then stand-ins' packets, then exchanges, each by fresh board (the receiver) and then by list". An exchange's sender
+    -- is the b-th fresh board, in the order of the fresh list without the receiver; its helper packets are the b-th run of d
+    pub helper-at : (a j : ℕ) → a < t → j < d → let i = getD fresh a 0 in let h = getD helpers (a * d + j) 0 in
+        getD (packetsNow s fresh helpers standIns area packets) (a * d + j) blank
+        ≡ record { sender = h; receiver = i; bytes = helperPacket (s .sizes) (s .points) S h i (held s area h) }
+    pub stand-in-at : (a j : ℕ) → a < t → j < e → let i = getD fresh a 0 in let h = getD standIns (a * e + j) 0 in
+        getD (packetsNow s fresh helpers standIns area packets) (t * d + (a * e + j)) blank
+        ≡ record { sender = h; receiver = i; bytes = standInPacket (s .sizes) (s .points) S h i (held s area h) }
+    pub exchange-at : (a j : ℕ) → a < t → suc j < t → let i = getD fresh a 0 in let b = pick (ltb j a) j (suc j) in
+        getD (packetsNow s fresh helpers standIns area packets) (t * d + (t * e + (a * (t - 1) + j))) blank
+        ≡ record {
+          sender = getD fresh b 0;
+          receiver = i;
+          bytes = exchangePacket (s .sizes) (s .points) S (take d (drop (b * d) helpers)) (take (d * (2 * S)) (drop (b * (d * (2 * S))) packets)) i;
+        }
     pub now-count : length (packetsNow s fresh helpers standIns area packets) ≡ packetCount (s .sizes) t
     pub now-place : (q : ℕ) → q ≤ packetCount (s .sizes) t → placeOf s t q ≡ total (take q (packetsNow s fresh helpers standIns area packets))
     pub now-end : placeOf s t (packetCount (s .sizes) t) ≡ packetsLen s t

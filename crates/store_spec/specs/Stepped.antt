@@ -1,19 +1,20 @@
 -- Request A.8, a repair from its start on, over any records and any bytes: what holds while it goes on, whatever is called meanwhile. For lists from a set-up
--- on, Demand3.antt says it by the ledger. proofs/Stepped.antt has `power : Power` and `stepped : Stepped`.
+-- on, Demand3.antt says it by the ledger. proofs/Stepped.antt has `power : Power` and `stepped : Stepped`, proofs/SteppedLists.antt `stepped-lists : SteppedLists`.
 -- Assumes nothing.
 use mathlib.Core.Path.{_≡_}
 use mathlib.Core.Bool.{true, false}
+use mathlib.Core.Logic.{_≢_, _↔_}
 use mathlib.Core.List.{List, [], _∷_, _++_}
-use Prim.Native.Nat.{ℕ, _+_, _-_, _*_, _≤_, _<_}
+use Prim.Native.Nat.{ℕ, _+_, _-_, _*_, _≤_, _<_, min}
 use lib.Dec.{eqb}
-use lib.ListN.{length, take}
+use lib.ListN.{length, take, getD}
 use Rattle.lists.specs.Tests.{pick, among}
+use Rattle.sizes.specs.Sizing.{α, stripes}
 use Rattle.store_spec.specs.Record.{Record, inService, withMarks, part}
-use Rattle.store_spec.specs.Running.{Running, idle, runningBy, packetCount, packetsLen, freshOf}
+use Rattle.store_spec.specs.Running.{Running, runningBy, packetCount, packetsLen, freshOf}
 use Rattle.store_spec.specs.Lying.{placeOf}
-use Rattle.store_spec.specs.Both.{Outcome}
 use Rattle.store_spec.specs.Demand3.{WholeStep}
-use Rattle.store_spec.specs.Ledger.{Call, write, lose, repair, read, edit, start, step, Event, call, powerFails, State, Step, act, lent, next, final}
+use Rattle.store_spec.specs.Ledger.{write, lose, repair, read, edit, start, step, Event, call, powerFails, State, Step, act, lent, next, final}
 
 -- ---- what may not be altered meanwhile
 
@@ -141,3 +142,45 @@ Stepped =
     → BoardsUntouched (next w (call (start fresh helpers standIns))) steps
     → PacketsUntouched (next w (call (start fresh helpers standIns))) steps
     → Underway w fresh helpers standIns steps
+
+-- Lists however long: when boards and packets are untouched along them and the repair goes on, what was lost and what was carried meanwhile.
+pub record SteppedLists : Type 0 where
+  -- two areas have the same boards exactly where they are as long and agree in each byte that lies in the C × α bytes of a board whose mark is on
+  pub same-boards : (s : Record) (old new : List ℕ)
+      → SameBoards s old new
+      ↔ ((length new ≡ length old)
+      × ((i p : ℕ) → inService s i ≡ true
+      → i * (s .capacity * α (s .sizes)) ≤ p → p < i * (s .capacity * α (s .sizes)) + s .capacity * α (s .sizes)
+      → getD new p 0 ≡ getD old p 0))
+  -- two packet areas of the right length have the same packets exactly where they agree in each byte of those carried; one of another length is free
+  pub same-packets : (s : Record) (p : Running) (old new : List ℕ) → length new ≡ length old
+      → length old ≡ stripes (s .sizes) (s .length) * length (freshOf p) * α (s .sizes)
+      → SamePackets s p old new
+      ↔ ((x : ℕ) → x < (p .carried + min (p .carried) (length (freshOf p) * s .sizes .d)) * stripes (s .sizes) (s .length) → getD new x 0 ≡ getD old x 0)
+  pub other-packets : (s : Record) (p : Running) (old new : List ℕ) → length new ≢ packetsLen s (length (freshOf p)) → SamePackets s p old new
+  -- nothing, and one event before a list
+  pub boards-none : (w : State) → BoardsUntouched w []
+  pub boards-more : (w : State) (t : Step) (ts : List Step)
+      → BoardsUntouched w (t ∷ ts) ↔ (SameBoards (w .kept) (w .area) (t .area) × BoardsUntouched (next (lent w t) (t .event)) ts)
+  pub packets-none : (w : State) → PacketsUntouched w []
+  pub packets-more : (w : State) (t : Step) (ts : List Step)
+      → PacketsUntouched w (t ∷ ts)
+      ↔ (((allowance : ℕ) (packets : List ℕ) → t .event ≡ call (step allowance packets) → SamePackets (w .kept) (w .running) (w .packets) packets)
+      × PacketsUntouched (next (lent w t) (t .event)) ts)
+  pub goes-none : (w : State) → GoesOn w []
+  pub goes-more : (w : State) (t : Step) (ts : List Step)
+      → GoesOn w (t ∷ ts)
+      ↔ (((p : Running) → t .event ≢ powerFails p) × (next (lent w t) (t .event) .running .running ≡ true) × GoesOn (next (lent w t) (t .event)) ts)
+  -- lost are the boards of accepted losses
+  pub lost-none : (w : State) → lost w [] ≡ []
+  pub lost-one : (w : State) (board : ℕ) (t : Step) (ts : List Step) → t .event ≡ call (lose board) → act (lent w t) (lose board) .answer .refusal ≡ 0
+      → lost w (t ∷ ts) ≡ board ∷ lost (next (lent w t) (t .event)) ts
+  pub lost-refused : (w : State) (board : ℕ) (t : Step) (ts : List Step) → t .event ≡ call (lose board) → act (lent w t) (lose board) .answer .refusal ≢ 0
+      → lost w (t ∷ ts) ≡ lost (next (lent w t) (t .event)) ts
+  pub lost-other : (w : State) (t : Step) (ts : List Step) → ((board : ℕ) → t .event ≢ call (lose board)) → lost w (t ∷ ts) ≡ lost (next (lent w t) (t .event)) ts
+  -- carried are the packets that steps answered, which is 0 where one is refused
+  pub carried-none : (w : State) → carriedIn w [] ≡ 0
+  pub carried-one : (w : State) (allowance : ℕ) (packets : List ℕ) (t : Step) (ts : List Step) → t .event ≡ call (step allowance packets)
+      → carriedIn w (t ∷ ts) ≡ act (lent w t) (step allowance packets) .answer .reported + carriedIn (next (lent w t) (t .event)) ts
+  pub carried-other : (w : State) (t : Step) (ts : List Step) → ((allowance : ℕ) (packets : List ℕ) → t .event ≢ call (step allowance packets))
+      → carriedIn w (t ∷ ts) ≡ carriedIn (next (lent w t) (t .event)) ts

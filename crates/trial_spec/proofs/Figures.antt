@@ -22,7 +22,8 @@ pub figures : TrialFigures
 unfolding piece put add product reduce mul squares inverse legal B stripes pointed stripe grid F neighbours symbols kept share shares seconds received exchanged ownF
     ownG helperPair helperPacket standInPacket gFrom exchangePacket fFrom finishedStripe finishedShare through bColumn cRow aColumn decodedStripe decodedFile
     readFile sound helperPackets standInPackets exchangePackets partnerPackets repairPackets freshShare writeLines loseLines listLines repairLines readLines setUpCall writeCall loseCall
-    repairCall readCall soundBeside writeLinesBoth loseLinesBoth repairLinesBoth readLinesBoth setUpBoth writeBoth loseBoth repairBoth readBoth act step taken loaded drawn callLine trialOver trialText decimal
+    repairCall readCall soundBeside writeLinesBoth loseLinesBoth repairLinesBoth readLinesBoth setUpBoth writeBoth loseBoth repairBoth readBoth
+    act step taken loaded drawn callLine trialOver trialText decimal
 figures = record {
   calls = refl;
   lists = refl;

@@ -2,16 +2,15 @@
 -- Assumes nothing.
 use mathlib.Core.Path.{_≡_, refl, sym, ap, ap₂, subst, _∙_}
 use mathlib.Core.Bool.{Bool, true, false}
-use mathlib.Core.Logic.{_↔_, ⊎-elim}
+use mathlib.Core.Logic.{⊎-elim}
 use mathlib.Core.Option.{Option, some, none}
 use mathlib.Core.List.{List, [], _∷_, _++_, map}
-use Prim.Native.Nat.{ℕ, zero, suc, _+_, _*_, _%_, _≤_, _<_}
-use native.Mathlib.Omega.{arith}
+use Prim.Native.Nat.{ℕ, zero, suc, _+_, _%_, _≤_}
 use lib.Dec.{leb, eqb}
 use lib.ListN.{length, replicate}
 use borrow.Author.Tests.{eqb-true, eq-eqb, leb-true, le-leb}
 use Rattle.lists.specs.Tests.{pick, alls, given}
-use Rattle.lists.specs.Lists.{All, Bytes, join, over}
+use Rattle.lists.specs.Lists.{All, join, over}
 use Rattle.lists.proofs.Tests.{true-false, alls-hold, hold-alls}
 use Rattle.sizes.specs.declared.Sizes.{Sizes}
 use Rattle.sizes.specs.declared.Check.{Check}
@@ -34,7 +33,7 @@ use Rattle.generator.proofs.Laws.{generator-laws}
 use Rattle.number_lines.specs.Lines.{line}
 use Rattle.number_lines.specs.Laws.{Starts, spelled}
 use Rattle.number_lines.proofs.Laws.{line-laws}
-use Rattle.trial_spec.specs.Trial.{Load, eightLines, newStore, taken, loaded, Drawn, counted, boardCall, drawn, drawnCalls, word, callLine, printed, left, storeReplies, trialOver, trialOf, trialText}
+use Rattle.trial_spec.specs.Trial.{Load, newStore, taken, loaded, Drawn, counted, boardCall, drawn, drawnCalls, word, callLine, printed, left, storeReplies, trialOver, trialOf, trialText}
 use Rattle.trial_spec.specs.Laws.{bookText, cleared, Drawable, TrialLaws}
 
 -- ---- a set-up answers alike whatever records it is handed

@@ -1,16 +1,15 @@
 -- Request A.2, 'A load we can all repeat', the second program: what it reads, the calls that it draws, and what it prints.
 -- Assumes nothing.
-use mathlib.Core.Bool.{Bool, true, false}
+use mathlib.Core.Bool.{Bool}
 use mathlib.Core.Option.{Option, some, none}
 use mathlib.Core.List.{List, [], _∷_, _++_}
-use Prim.Native.Nat.{ℕ, zero, suc, _+_, _*_, _%_}
+use Prim.Native.Nat.{ℕ, zero, suc, _+_, _%_}
 use lib.Dec.{leb, eqb}
 use lib.ListN.{length, replicate}
 use Rattle.lists.specs.Tests.{pick, alls}
 use Rattle.lists.specs.Lists.{tabulate, join}
 use Rattle.number_lines.specs.Lines.{line}
 use Rattle.sizes.specs.declared.Sizes.{Sizes}
-use Rattle.sizes.specs.Sizing.{α}
 use Rattle.sizes.specs.Refusals.{Said}
 use Rattle.mbcr.specs.Share.{standard}
 use Rattle.board_spec.specs.Text.{decimal}
