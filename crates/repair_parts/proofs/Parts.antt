@@ -7,12 +7,12 @@ use mathlib.Core.List.{List, [], _∷_, _++_, append-nil}
 use native.Mathlib.Numerals.{add-one}
 use native.Mathlib.Omega.{arith}
 use lib.Dec.{ltb}
-use lib.ListN.{length, getD, drop, set, length-drop, drop-of-length-le}
+use lib.ListN.{length, getD, drop, set, drop-of-length-le}
 use lib.Seq.{drop-cons, getD-drop}
 use borrow.Author.Tests.{eq-eqb, ne-eqb}
 use Rattle.lists.specs.Tests.{pick, every}
-use Rattle.lists.specs.Lists.{Bytes, join, joined}
-use Rattle.lists.proofs.Alls.{all-of, drop-alls}
+use Rattle.lists.specs.Lists.{join, joined}
+use Rattle.lists.proofs.Alls.{all-of}
 use Rattle.lists.proofs.Pieces.{join-joined}
 use Rattle.record_words.specs.Words.{bytes, fromBytes, word}
 use Rattle.record_words.proofs.Bits.{all-words}
@@ -67,26 +67,33 @@ fill-done i w l₀ l e h el =
 
 -- ---- the word of bytes
 
-abbrev power : ℕ → ℕ
+abbrev pub power : ℕ → ℕ
 power zero = 1
 power (suc m) = 256 * power m
 
-under : (m : ℕ) (l : List ℕ) → Bytes l → length l ≤ m → fromBytes l < power m
-under zero [] h k = omega arith
-under zero (b ∷ l) h k = absurd (omega arith)
-under (suc m) [] h k = omega (arith, under m [] tt (omega arith))
-under (suc m) (b ∷ l) h k = omega (arith, under m l (h .1) (omega arith), h .0)
+more : (m n : ℕ) → m ≤ n → power m ≤ power n
+more zero zero h = omega arith
+more zero (suc n) h = omega (arith, more zero n (omega arith))
+more (suc m) zero h = absurd (omega arith)
+more (suc m) (suc n) h = omega (arith, more m n (omega arith))
 
-pub number-few : (l : List ℕ) (i : ℕ) → Bytes l → length l ≡ 8 → fromBytes (drop i l) < 18446744073709551616
-number-few l i h e = under 8 (drop i l) (drop-alls (λ b. b < 256) i l h) (omega (arith, e, length-drop i l))
+-- of 8 − i bytes, where i is not 0, a byte more makes a word
+pub few : (i w : ℕ) → 0 < i → w < power (8 - i) → w < 72057594037927936
+few i w h k = omega (arith, k, more (8 - i) 7 (omega (arith, h)))
+
+pub few-next : (i w b : ℕ) → 0 < i → i ≤ 8 → w < power (8 - i) → b < 256 → w * 256 + b < power (8 - (i - 1))
+few-next i w b h k f g =
+    let e : 8 - (i - 1) ≡ suc (8 - i) = omega (arith, h, k) in
+    let n : w * 256 + b < 256 * power (8 - i) = omega (arith, f, g) in
+    subst (λ (m : ℕ). w * 256 + b < power m) (sym e) n
 
 -- a turn: the next byte below
-pub number-next : (l : List ℕ) (i w : ℕ) → 0 < i → i ≤ length l → w ≡ fromBytes (drop i l) → w * 256 + getD l (i - 1) 0 ≡ fromBytes (drop (i - 1) l)
-number-next l i w h k e =
+pub number-next : (l : List ℕ) (i w b : ℕ) → 0 < i → i ≤ length l → b ≡ getD l (i - 1) 0 → w ≡ fromBytes (drop i l) → w * 256 + b ≡ fromBytes (drop (i - 1) l)
+number-next l i w b h k q e =
     let p : suc (i - 1) ≡ i = omega (arith, h) in
     let n : fromBytes (drop (i - 1) l) ≡ getD l (i - 1) 0 + 256 * fromBytes (drop i l) =
     ap fromBytes (drop-cons l (i - 1) 0 (omega (arith, h, k))) ∙ ap (λ (m : ℕ). getD l (i - 1) 0 + 256 * fromBytes (drop m l)) p in
-    omega (arith, n, e)
+    omega (arith, n, e, q)
 
 -- ---- bytes of words
 
