@@ -8,9 +8,10 @@ use borrow.Author.Needs.{needs}
 use Rattle.sizes.specs.declared.Check.the-variants.{Pass}
 use Rattle.sizes.specs.Sizing.{B}
 use Rattle.store_spec.specs.Record.{Record}
-use Rattle.store_spec.specs.Calls.{refused}
-use Rattle.store_spec.specs.Edit.{editCall}
-use Rattle.store.specs.Handing.{recordIn}
+use Rattle.store_spec.specs.Running.{Running}
+use Rattle.store_spec.specs.Both.{editBoth}
+use Rattle.record.specs.Records.{runningIn}
+use Rattle.store.specs.Handing.{recordIn, turnedDown}
 use Rattle.store.proofs.Readable.{Readable}
 use Rattle.store.proofs.EditCall.{checked, begins, edit-refuses, edit-disagrees, edit-passes, edit-asks, edit-written, edit-works}
 use Rattle.store.proofs.Store.edit.Statement.{statement}
@@ -42,23 +43,26 @@ told c = at-told (at-count (at-filled (c .before)))
 abbrev R : tie.After-check-edit → Record
 R c = recordIn (st c .args .self)
 
+abbrev P : tie.After-check-edit → Running
+P c = runningIn (st c .args .running)
+
 -- what the first check told
-begun : (c : tie.After-enum-told) → let k = at-check c in let a = st k .args in begins (R k) (a .area .now) (a .offset) (a .bytes .now) (a .boards .now) ≡ Pass
+begun : (c : tie.After-enum-told) → let k = at-check c in let a = st k .args in begins (R k) (P k) (a .area .now) (a .offset) (a .bytes .now) (a .boards .now) ≡ Pass
 begun c = sym (at-check c .check-edit .ensures) ∙ c .enum-told .given .1
 
 asks : (c : tie.After-enum-told)
     → let k = at-check c in let a = st k .args in
     Readable (R k) (length (a .area .now)) (a .boards .now) × (a .offset + length (a .bytes .now) ≤ R k .capacity * B (R k .sizes))
-asks c = let k = at-check c in let a = st k .args in edit-asks (R k) (a .area .now) (a .offset) (a .bytes .now) (a .boards .now) (begun c)
+asks c = let k = at-check c in let a = st k .args in edit-asks (R k) (P k) (a .area .now) (a .offset) (a .bytes .now) (a .boards .now) (begun c)
 
 -- and both
 passed : (c : tie.After-enum-told2)
-    → let k = at-check (told (at-agrees c)) in let a = st k .args in checked (R k) (a .area .now) (a .offset) (a .bytes .now) (a .boards .now) ≡ Pass
+    → let k = at-check (told (at-agrees c)) in let a = st k .args in checked (R k) (P k) (a .area .now) (a .offset) (a .bytes .now) (a .boards .now) ≡ Pass
 passed c =
     let t = told (at-agrees c) in
     let k = at-check t in
     let a = st k .args in
-    edit-passes (R k) (a .area .now) (a .offset) (a .bytes .now) (a .boards .now) (k .check-edit .ensures) (t .enum-told .given .1) (at-agrees c .check-agrees .ensures) (c .enum-told2 .given .1)
+    edit-passes (R k) (P k) (a .area .now) (a .offset) (a .bytes .now) (a .boards .now) (k .check-edit .ensures) (t .enum-told .given .1) (at-agrees c .check-agrees .ensures) (c .enum-told2 .given .1)
 
 -- there are 32 points, and 32 marks
 points-long : (g : tie.Start) → length (g .args .self .record .points) ≡ 32
@@ -99,26 +103,26 @@ edit-done c =
     let k = at-check (told (at-agrees q)) in
     let a = st k .args in
     let p = passed q in
-    edit-works (R k) (a .area .now) (a .offset) (a .bytes .now) (a .boards .now) _ p
-    (w .edit-shares .ensures (R k .length) (edit-written (R k) (a .area .now) (a .offset) (a .bytes .now) (a .boards .now) p))
+    edit-works (R k) (P k) (a .area .now) (a .offset) (a .bytes .now) (a .boards .now) _ p
+    (w .edit-shares .ensures (R k .length) (edit-written (R k) (P k) (a .area .now) (a .offset) (a .bytes .now) (a .boards .now) p))
 
 edit-refused : (c : tie.After-x)
     → let k = c .before .before in let a = st k .args in
-    refused (R k) (a .area .now) [] (c .x .given .0 .0) ≡ editCall (R k) (a .area .now) (a .offset) (a .bytes .now) (a .boards .now)
+    turnedDown (R k) (P k) (a .area .now) [] [] (c .x .given .0 .0) ≡ editBoth (R k) (P k) (a .area .now) (a .offset) (a .bytes .now) (a .boards .now)
 edit-refused c =
     let k = c .before .before in
     let a = st k .args in
-    edit-refuses (R k) (a .area .now) (a .offset) (a .bytes .now) (a .boards .now) (k .check-edit .ensures) (c .x .given .1)
+    edit-refuses (R k) (P k) (a .area .now) (a .offset) (a .bytes .now) (a .boards .now) (k .check-edit .ensures) (c .x .given .1)
 
 edit-disagreed : (c : tie.After-disagree)
     → let k = at-check (told (c .before .before)) in let a = st k .args in
-    refused (R k) (a .area .now) [] (c .disagree .given .0 .0) ≡ editCall (R k) (a .area .now) (a .offset) (a .bytes .now) (a .boards .now)
+    turnedDown (R k) (P k) (a .area .now) [] [] (c .disagree .given .0 .0) ≡ editBoth (R k) (P k) (a .area .now) (a .offset) (a .bytes .now) (a .boards .now)
 edit-disagreed c =
     let n = c .before .before in
     let t = told n in
     let k = at-check t in
     let a = st k .args in
-    edit-disagrees (R k) (a .area .now) (a .offset) (a .bytes .now) (a .boards .now) (k .check-edit .ensures) (t .enum-told .given .1) (n .check-agrees .ensures) (c .disagree .given .1)
+    edit-disagrees (R k) (P k) (a .area .now) (a .offset) (a .bytes .now) (a .boards .now) (k .check-edit .ensures) (t .enum-told .given .1) (n .check-agrees .ensures) (c .disagree .given .1)
 
 pub edit-spec : {M : Type 1} → statement M
 edit-spec =
@@ -127,7 +131,7 @@ edit-spec =
     (λ c κs. search needs)
     (λ c. search needs)
     (λ c κs. search needs)
-    (λ c. c .refuse .ensures _ [] ∙ edit-refused (c .before .before))
+    (λ c. c .refuse .ensures _ [] [] ∙ edit-refused (c .before .before))
     (λ c. search needs)
     (λ c κs. asks (c .before .before .before) .0 .is-ready .stated)
     (λ c. points-on (at-told (c .before)))
@@ -139,7 +143,7 @@ edit-spec =
     (λ c. search needs)
     (λ c κs. search needs)
     (λ c. search needs)
-    (λ c. c .refuse2 .ensures _ [] ∙ edit-disagreed (c .before .before))
+    (λ c. c .refuse2 .ensures _ [] [] ∙ edit-disagreed (c .before .before))
     (λ c. search needs)
     (λ c. points-on (told (at-agrees (c .before))))
     (λ c. marks-on (told (at-agrees (c .before .before))))

@@ -9,11 +9,12 @@ use Rattle.sizes.specs.declared.Check.the-variants.{Pass}
 use Rattle.sizes.proofs.Legal.{legal-facts}
 use Rattle.factors.proofs.Values.{below-more}
 use Rattle.store_spec.specs.Record.{Record}
-use Rattle.store_spec.specs.Calls.{refused, repairCall}
-use Rattle.store_spec.proofs.Records.{repair-facts}
-use Rattle.repair_check.proofs.Repairable.{Repairable, repairable}
-use Rattle.store.specs.Handing.{recordIn}
-use Rattle.store.proofs.RepairCall.{checked, runs-named, repair-refuses, repair-works}
+use Rattle.store_spec.specs.Running.{Running}
+use Rattle.store_spec.specs.Both.{repairBoth}
+use Rattle.repair_check.proofs.Repairable.{Repairable}
+use Rattle.record.specs.Records.{runningIn}
+use Rattle.store.specs.Handing.{recordIn, turnedDown}
+use Rattle.store.proofs.RepairCall.{checked, runs-named, repair-refuses, repair-asks, repair-works}
 use Rattle.store.proofs.Store.repair.Statement.{statement}
 use Rattle.store.proofs.Store.repair.Tie as tie
 
@@ -23,6 +24,9 @@ st c = c .before .before .before .before .before .before
 
 abbrev R : tie.After-check-repair → Record
 R c = recordIn (st c .args .self)
+
+abbrev P : tie.After-check-repair → Running
+P c = runningIn (st c .args .running)
 
 abbrev at-points : tie.After-inverses → tie.After-enum-told
 at-points c = c .before .before .before .before
@@ -38,14 +42,14 @@ at-shares c = c .before .before .before
 
 -- what the check told
 passed : (c : tie.After-enum-told)
-    → let k = c .before .before in let a = st k .args in checked (R k) (a .area .now) (a .fresh .now) (a .helpers .now) (a .standins .now) ≡ Pass
+    → let k = c .before .before in let a = st k .args in checked (R k) (P k) (a .area .now) (a .fresh .now) (a .helpers .now) (a .standins .now) ≡ Pass
 passed c = sym (c .before .before .check-repair .ensures) ∙ c .enum-told .given .1
 
 asks : (c : tie.After-enum-told) → let k = c .before .before in let a = st k .args in Repairable (R k) (length (a .area .now)) (a .fresh .now) (a .helpers .now) (a .standins .now)
 asks c =
     let k = c .before .before in
     let a = st k .args in
-    repairable (R k) _ (a .fresh .now) (a .helpers .now) (a .standins .now) (repair-facts (R k) _ (a .fresh .now) (a .helpers .now) (a .standins .now) (passed c))
+    repair-asks (R k) (P k) (a .area .now) (a .fresh .now) (a .helpers .now) (a .standins .now) (passed c)
 
 -- the work
 shares-ask : tie.Need-repair-shares-requires
@@ -95,15 +99,15 @@ repair-done c =
     let n = at-count (w .before) in
     let k = at-told n .before .before in
     let a = st k .args in
-    repair-works (R k) (a .area .now) (a .fresh .now) (a .helpers .now) (a .standins .now) _ _ _ _ (passed (at-told n)) (n .stripe-count .ensures .0)
+    repair-works (R k) (P k) (a .area .now) (a .fresh .now) (a .helpers .now) (a .standins .now) _ _ _ _ (passed (at-told n)) (n .stripe-count .ensures .0)
     (w .before .before .before .before .bytes-moved .ensures) (m .marks-on .ensures) (w .repair-shares .ensures)
 
 repair-refused : (c : tie.After-x)
-    → let k = c .before .before in let a = st k .args in refused (R k) (a .area .now) [] (c .x .given .0 .0) ≡ repairCall (R k) (a .area .now) (a .fresh .now) (a .helpers .now) (a .standins .now)
+    → let k = c .before .before in let a = st k .args in turnedDown (R k) (P k) (a .area .now) [] [] (c .x .given .0 .0) ≡ repairBoth (R k) (P k) (a .area .now) (a .fresh .now) (a .helpers .now) (a .standins .now)
 repair-refused c =
     let k = c .before .before in
     let a = st k .args in
-    repair-refuses (R k) (a .area .now) (a .fresh .now) (a .helpers .now) (a .standins .now) (k .check-repair .ensures) (c .x .given .1)
+    repair-refuses (R k) (P k) (a .area .now) (a .fresh .now) (a .helpers .now) (a .standins .now) (k .check-repair .ensures) (c .x .given .1)
 
 pub repair-spec : {M : Type 1} → statement M
 repair-spec =
@@ -112,7 +116,7 @@ repair-spec =
     (λ c κs. search needs)
     (λ c. search needs)
     (λ c κs. search needs)
-    (λ c. c .refuse .ensures _ [] ∙ repair-refused (c .before .before))
+    (λ c. c .refuse .ensures _ [] [] ∙ repair-refused (c .before .before))
     (λ c. search needs)
     (λ c. search needs)
     (λ c κs. search needs)
