@@ -1,1 +1,4 @@
-pub mod LentBoth
+pub mod InWords
+pub mod Laws
+pub mod Demand3
+pub mod ListLaws

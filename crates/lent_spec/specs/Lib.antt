@@ -1,1 +1,4 @@
-pub mod LentBoth
+pub mod Lent
+pub mod Laws
+pub mod Demand3
+pub mod ListLaws

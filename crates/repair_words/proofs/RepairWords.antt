@@ -2,22 +2,26 @@
 -- Assumes nothing.
 use mathlib.Core.Path.{_≡_, refl, sym, ap, ap₂, _∙_, subst}
 use mathlib.Core.Bool.{Bool, true, false}
+use mathlib.Core.Logic.{_↔_}
 use mathlib.Core.List.{List, [], _∷_, _++_}
-use Prim.Native.Nat.{ℕ, zero, suc, _+_, _-_, _*_, _<_}
+use Prim.Native.Nat.{ℕ, zero, suc, _+_, _*_, _/_, _%_, _^_, _<_}
+use native.Mathlib.Nat.{mul-comm}
 use native.Mathlib.Omega.{arith}
 use lib.Dec.{ltb, eqb}
-use lib.ListN.{length, getD, take, drop, length-append, length-drop, take-append-drop}
-use lib.Seq.{take-all, take-at, drop-at, drop-drop, length-take-le}
+use lib.ListN.{length, getD, take, drop, length-append, length-drop, take-append-drop, List·getD-append}
+use lib.Seq.{take-all, take-at, drop-at, drop-drop, length-take-le, getD-drop}
 use borrow.Author.Tests.{ltb-true, lt-ltb, eqb-true, eq-eqb}
 use Rattle.lists.specs.Tests.{pick, every}
 use Rattle.lists.specs.Lists.{All, Bytes, join, joined, piece}
-use Rattle.lists.proofs.Alls.{all-at, append-all, take-alls, drop-alls}
+use Rattle.lists.proofs.Alls.{all-at, append-all, take-alls, drop-alls, all-imp}
 use Rattle.lists.proofs.Put.{part-end}
-use Rattle.lists.proofs.Pieces.{join-ext, join-piece, length-piece, piece-bytes, piece-join, length-joined, join-joined, length-tabulate, tabulate-ext, tabulate-getD, tabulate-all, tabulate-take}
+use Rattle.lists.proofs.Pieces.{join-ext, join-piece, length-piece, piece-bytes, piece-at, piece-join, length-joined, join-joined, length-tabulate, tabulate-at, tabulate-ext, tabulate-getD}
+use Rattle.lists.proofs.Pieces.{tabulate-all, tabulate-take}
 use Rattle.lists.proofs.Tests.{alls-hold, hold-alls, every-all, all-every}
 use Rattle.store_spec.specs.Running.{Running}
 use Rattle.store_spec.specs.MarkLaws.{Arrays}
 use Rattle.record_words.specs.Words.{bytes, fromBytes, word}
+use Rattle.record_words.proofs.Places.{byte-at}
 use Rattle.record_words.proofs.Points.{length-bytes, word-back, is-word, bytes-number, points-bytes}
 use Rattle.repair_words.specs.RepairWords.{pack, isRepair, repairFrom, repairWordsOf, RepairWordLaws}
 
@@ -38,7 +42,7 @@ module _ (m : ℕ) (xs : List ℕ) (h : Bytes xs) (e : length xs ≡ m * 8) wher
       sym (join-joined (bytes 8) (pack m xs))
       ∙ ap (λ (n : ℕ). join n (λ t. bytes 8 (getD (pack m xs) t 0))) (length-tabulate m (λ q. fromBytes (piece 8 q xs)))
       ∙ join-ext m (λ t. bytes 8 (getD (pack m xs) t 0)) (λ q. piece 8 q xs)
-      (λ q k. ap (bytes 8) (Rattle.lists.proofs.Pieces.tabulate-at m (λ q. fromBytes (piece 8 q xs)) 0 q k)
+      (λ q k. ap (bytes 8) (tabulate-at m (λ q. fromBytes (piece 8 q xs)) 0 q k)
       ∙ ap (λ (n : ℕ). bytes n (fromBytes (piece 8 q xs))) (sym (long q k)) ∙ bytes-number (piece 8 q xs) (piece-bytes 8 q xs h))
       ∙ join-piece m 8 xs ∙ take-all (m * 8) xs (omega (arith, e))
 
@@ -171,5 +175,82 @@ module _ (p : Running) (a : Arrays p) where
       made b l m n =
           record { running = b; count = p .count; carried = p .carried; fresh = joined (bytes 8) l; helpers = joined (bytes 8) m; standIns = joined (bytes 8) n }
 
+-- ---- the words in their places
+
+packed-at : (m : ℕ) (xs : List ℕ) → Bytes xs → (q j : ℕ) → q < m → j < 8 → getD (pack m xs) q 0 / 256 ^ j % 256 ≡ getD xs (8 * q + j) 0
+packed-at m xs h q j k l =
+    ap (λ (w : ℕ). w / 256 ^ j % 256) (tabulate-at m (λ q. fromBytes (piece 8 q xs)) 0 q k)
+    ∙ byte-at (piece 8 q xs) (piece-bytes 8 q xs h) j
+    ∙ piece-at 8 q xs j 0 l
+    ∙ ap (λ (n : ℕ). getD xs (n + j) 0) (mul-comm q 8)
+
+-- an entry of the second list of two, by its place in both
+beyond : (l m : List ℕ) (n i : ℕ) → length l ≡ n → getD (l ++ m) (n + i) 0 ≡ getD m i 0
+beyond l m n i e = sym (getD-drop n (l ++ m) i 0) ∙ ap (λ (k : List ℕ). getD k i 0) (drop-at l m n e)
+
+module _ (p : Running) where
+  abbrev first-three : List ℕ
+  first-three = pick (p .running) 1 0 ∷ p .count ∷ p .carried ∷ []
+
+  words-length : length (repairWordsOf p) ≡ 71
+  words-length =
+      let n : length (pack 4 (p .fresh) ++ (pack 32 (p .helpers) ++ pack 32 (p .standIns))) ≡ 68 =
+      length-append (pack 4 (p .fresh)) (pack 32 (p .helpers) ++ pack 32 (p .standIns))
+      ∙ ap₂ _+_ (packed-long 4 (p .fresh)) (length-append (pack 32 (p .helpers)) (pack 32 (p .standIns)) ∙ ap₂ _+_ (packed-long 32 (p .helpers)) (packed-long 32 (p .standIns))) in
+      omega (arith, n)
+
+  fresh-at : Bytes (p .fresh) → (q j : ℕ) → q < 4 → j < 8 → getD (repairWordsOf p) (3 + q) 0 / 256 ^ j % 256 ≡ getD (p .fresh) (8 * q + j) 0
+  fresh-at h q j k l =
+      ap (λ (w : ℕ). w / 256 ^ j % 256)
+      (beyond first-three (pack 4 (p .fresh) ++ (pack 32 (p .helpers) ++ pack 32 (p .standIns))) 3 q refl
+      ∙ List·getD-append (pack 4 (p .fresh)) (pack 32 (p .helpers) ++ pack 32 (p .standIns)) 0 q (omega (arith, packed-long 4 (p .fresh), k)))
+      ∙ packed-at 4 (p .fresh) h q j k l
+
+  helpers-at : Bytes (p .helpers) → (q j : ℕ) → q < 32 → j < 8 → getD (repairWordsOf p) (7 + q) 0 / 256 ^ j % 256 ≡ getD (p .helpers) (8 * q + j) 0
+  helpers-at h q j k l =
+      let e : 7 + q ≡ 3 + (4 + q) = omega arith in
+      ap (λ (w : ℕ). w / 256 ^ j % 256)
+      (ap (λ (n : ℕ). getD (repairWordsOf p) n 0) e
+      ∙ beyond first-three (pack 4 (p .fresh) ++ (pack 32 (p .helpers) ++ pack 32 (p .standIns))) 3 (4 + q) refl
+      ∙ beyond (pack 4 (p .fresh)) (pack 32 (p .helpers) ++ pack 32 (p .standIns)) 4 q (packed-long 4 (p .fresh))
+      ∙ List·getD-append (pack 32 (p .helpers)) (pack 32 (p .standIns)) 0 q (omega (arith, packed-long 32 (p .helpers), k)))
+      ∙ packed-at 32 (p .helpers) h q j k l
+
+  stand-ins-at : Bytes (p .standIns) → (q j : ℕ) → q < 32 → j < 8 → getD (repairWordsOf p) (39 + q) 0 / 256 ^ j % 256 ≡ getD (p .standIns) (8 * q + j) 0
+  stand-ins-at h q j k l =
+      let e : 39 + q ≡ 3 + (4 + (32 + q)) = omega arith in
+      ap (λ (w : ℕ). w / 256 ^ j % 256)
+      (ap (λ (n : ℕ). getD (repairWordsOf p) n 0) e
+      ∙ beyond first-three (pack 4 (p .fresh) ++ (pack 32 (p .helpers) ++ pack 32 (p .standIns))) 3 (4 + (32 + q)) refl
+      ∙ beyond (pack 4 (p .fresh)) (pack 32 (p .helpers) ++ pack 32 (p .standIns)) 4 (32 + q) (packed-long 4 (p .fresh))
+      ∙ beyond (pack 32 (p .helpers)) (pack 32 (p .standIns)) 32 q (packed-long 32 (p .helpers)))
+      ∙ packed-at 32 (p .standIns) h q j k l
+
+below-word : (w : ℕ) → word w ≡ true → w < 18446744073709551616
+below-word w h = ltb-true w 18446744073709551616 h
+
+is-repair-is : (ps : List ℕ) → (isRepair ps ≡ true) ↔ ((length ps ≡ 71) × (getD ps 0 0 < 2) × All (λ w. w < 18446744073709551616) (drop 3 ps))
+unfolding isRepair
+is-repair-is ps = (
+  (λ h. let f = facts ps h in (f .long-enough, f .flag, all-imp (λ w. word w ≡ true) (λ w. w < 18446744073709551616) below-word (drop 3 ps) (f .words))),
+  (λ h. hold-alls (eqb (length ps) 71 ∷ ltb (getD ps 0 0) 2 ∷ every word (drop 3 ps) ∷ [])
+      (eq-eqb _ _ (h .0), (lt-ltb _ _ (h .1),
+      (all-every word (drop 3 ps) (all-imp (λ w. w < 18446744073709551616) (λ w. word w ≡ true) (λ w k. lt-ltb w 18446744073709551616 k) (drop 3 ps) (h .2)), tt)))),
+)
+
 pub repair-words : RepairWordLaws
-repair-words = record { words-back = words-back; is-arrays = is-arrays; are-words = are-words; repair-back = repair-back }
+unfolding piece
+repair-words = record {
+  words-back = words-back;
+  is-arrays = is-arrays;
+  are-words = are-words;
+  repair-back = repair-back;
+  is-repair-is = is-repair-is;
+  words-length = words-length;
+  first-words = λ p. refl;
+  fresh-at = fresh-at;
+  helpers-at = helpers-at;
+  stand-ins-at = stand-ins-at;
+  idle-words = refl;
+  first-tells = λ ps. refl;
+}

@@ -1,7 +1,7 @@
 -- Calls with a record of a repair beside are the calls alone.
 -- Assumes nothing.
 use Prim.Native.Nat.{ℕ}
-use mathlib.Core.Path.{_≡_, refl, sym, _∙_, ap, subst}
+use mathlib.Core.Path.{_≡_, refl, sym, _∙_, ap, ap₂, subst}
 use mathlib.Core.Bool.{Bool, true, false, not}
 use mathlib.Core.List.{List, [], _∷_}
 use native.Mathlib.Omega.{arith}
@@ -16,7 +16,7 @@ use Rattle.sizes.specs.declared.Check.the-variants.{Pass, Refuse}
 use Rattle.sizes.specs.declared.Refusal.{Refusal}
 use Rattle.sizes.specs.declared.Refusal.the-variants.{Size, Busy}
 use Rattle.sizes.specs.declared.Answer.the-variants.{Refused}
-use Rattle.sizes.specs.Refusals.{number, said, Line, _when_, appliesIn, first, storeOrder}
+use Rattle.sizes.specs.Refusals.{number, Said, said, Line, _when_, appliesIn, first, storeOrder}
 use Rattle.sizes.proofs.Laws.{numbers-differ, number-low}
 use Rattle.sizes.proofs.Orders.{first-same}
 use Rattle.store_spec.specs.Record.{Record, sound, newRecord}
@@ -97,6 +97,16 @@ same-either : (s : Record) (p : Running) (area output : List ℕ) (done : StoreO
 same-either s p area output done Pass = record { answer-is = refl; handed-is = refl; running-is = refl; area-is = refl; output-is = refl; packets-none = refl }
 same-either s p area output done (Refuse x) = record { answer-is = refl; handed-is = refl; running-is = refl; area-is = refl; output-is = refl; packets-none = refl }
 
+-- such an outcome, whole
+pub alone-is : (p : Running) (a : StoreOutcome) (o : Outcome) → AsAlone p a o → o ≡ beside p a
+alone-is p a o h =
+    ap₂ {C = Outcome} (λ (x : Said) (s : Record). record { answer = x; handed = s; running = o .running; area = o .area; output = o .output; packets = o .packets })
+    (h .answer-is) (h .handed-is)
+    ∙ ap₂ {C = Outcome} (λ (q : Running) (l : List ℕ). record { answer = a .answer; handed = a .handed; running = q; area = l; output = o .output; packets = o .packets })
+    (h .running-is) (h .area-is)
+    ∙ ap₂ {C = Outcome} (λ (l m : List ℕ). record { answer = a .answer; handed = a .handed; running = p; area = a .area; output = l; packets = m })
+    (h .output-is) (h .packets-none)
+
 -- ---- the calls
 
 set-up-alone : (old : Record) (p : Running) (z : Sizes) (xs : List ℕ) (c : ℕ)
@@ -151,7 +161,7 @@ edit-alone s p area offset bytes boards e =
     (sym (idle-first s p (drop 1 (editLines s area offset bytes boards)) e refl)) (same-either s p area [] done k)
 
 started-by : (s : Record) (p : Running) (area fresh helpers standIns : List ℕ) → startCall s p area fresh helpers standIns .answer .refusal ≡ 0
-    → StartedBy (s .sizes) (startCall s p area fresh helpers standIns .running) fresh helpers standIns
+    → StartedBy s area fresh helpers standIns (startCall s p area fresh helpers standIns)
 unfolding startCall repairLinesBoth repairLines listLines
 started-by s p area fresh helpers standIns ok =
     let lines : List Line = repairLinesBoth s p (length area) fresh helpers standIns in
@@ -159,7 +169,10 @@ started-by s p area fresh helpers standIns ok =
     let d : first storeOrder lines ≡ Pass = both-done (first storeOrder lines) s p area [] [] done ok in
     let pass : first storeOrder (repairLines s (length area) fresh helpers standIns) ≡ Pass =
     alone-busy s p (p .running) (drop 1 (repairLines s (length area) fresh helpers standIns)) refl d .0 in
-    subst (λ (q : Running). StartedBy (s .sizes) q fresh helpers standIns) (sym (ap (λ (o : Outcome). o .running) (settle-pass _ _ _ d))) (record {
+    subst (StartedBy s area fresh helpers standIns) (sym (settle-pass _ _ _ d)) (record {
+      reports = refl;
+      same-record = refl;
+      same-area = refl;
       runs = refl;
       none-carried = refl;
       fresh-are = fresh-back s (length area) fresh helpers standIns pass 0;

@@ -54,7 +54,7 @@ by-turns b old packets = go (noneCarried b) refl
 -- ---- lists
 
 -- an event whose file is of bytes is fair
-fair : (w : State) (b : Book) (e : Event) (es : List Event) → All Bytes (files (e ∷ es)) → IdleGiven (e ∷ es)
+pub fair : (w : State) (b : Book) (e : Event) (es : List Event) → All Bytes (files (e ∷ es)) → IdleGiven (e ∷ es)
     → FairEvent b (w .packets) (lentAgain w b e) × All Bytes (files es) × IdleGiven es
 fair w b (call (write file)) es h i = (h .0, h .1, i)
 fair w b (call (lose board)) es h i = (tt, h, i)
@@ -71,7 +71,7 @@ all-allowed w b (e ∷ es) h i =
     let f = fair w b e es h i in
     (as-it-was b (w .kept) (w .area), f .0, all-allowed (next w (lentAgain w b e)) (bookNext b (lentAgain w b e)) es (f .1) (f .2))
 
-again-bare : (w : State) (b : Book) (e : Event) → bare (lentAgain w b e) ≡ bare e
+pub again-bare : (w : State) (b : Book) (e : Event) → bare (lentAgain w b e) ≡ bare e
 again-bare w b (call (write file)) = refl
 again-bare w b (call (lose board)) = refl
 again-bare w b (call (repair fresh helpers standIns)) = refl
@@ -127,7 +127,7 @@ altered-is b s old new = (
 -- ---- one entry more
 
 -- what is asked of the event of an entry is that it is fair
-fair-is : (w : State) (b : Book) (area : List ℕ) (e : Event) → Asked w b (record { area = area; event = e }) → FairEvent b (w .packets) e
+pub fair-is : (w : State) (b : Book) (area : List ℕ) (e : Event) → Asked w b (record { area = area; event = e }) → FairEvent b (w .packets) e
 fair-is w b area (call (write file)) a = a .writes-bytes file refl
 fair-is w b area (call (lose board)) a = tt
 fair-is w b area (call (repair fresh helpers standIns)) a = tt
@@ -137,7 +137,7 @@ fair-is w b area (call (start fresh helpers standIns)) a = tt
 fair-is w b area (call (step allowance packets)) a = a .packets-lent allowance packets refl
 fair-is w b area (powerFails p) a = a .idle-given p refl
 
-asked-is : (w : State) (b : Book) (t : Step) → Altered b (w .kept) (w .area) (t .area) → FairEvent b (w .packets) (t .event) → Asked w b t
+pub asked-is : (w : State) (b : Book) (t : Step) → Altered b (w .kept) (w .area) (t .area) → FairEvent b (w .packets) (t .event) → Asked w b t
 asked-is w b t a f = record {
   as-long = a .as-long;
   agrees = altered-is b (w .kept) (w .area) (t .area) .0 a .1;

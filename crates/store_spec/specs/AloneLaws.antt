@@ -26,13 +26,16 @@ pub record AsAlone (p : Running) (a : StoreOutcome) (o : Outcome) : Type 0 where
   pub output-is : o .output ≡ a .output
   pub packets-none : o .packets ≡ []
 
--- an accepted start: it runs, by just its lists, with no packet carried
-pub record StartedBy (z : Sizes) (p : Running) (fresh helpers standIns : List ℕ) : Type 0 where
-  pub runs : p .running ≡ true
-  pub none-carried : p .carried ≡ 0
-  pub fresh-are : freshOf p ≡ fresh
-  pub helpers-are : helpersOf z p ≡ helpers
-  pub stand-ins-are : standInsOf z p ≡ standIns
+-- an accepted start: it reports 0, record and area stay, and a repair runs by just its lists, with no packet carried
+pub record StartedBy (s : Record) (area fresh helpers standIns : List ℕ) (o : Outcome) : Type 0 where
+  pub reports : o .answer .reported ≡ 0
+  pub same-record : o .handed ≡ s
+  pub same-area : o .area ≡ area
+  pub runs : o .running .running ≡ true
+  pub none-carried : o .running .carried ≡ 0
+  pub fresh-are : freshOf (o .running) ≡ fresh
+  pub helpers-are : helpersOf (s .sizes) (o .running) ≡ helpers
+  pub stand-ins-are : standInsOf (s .sizes) (o .running) ≡ standIns
 
 pub record AloneLaws : Type 0 where
   -- "set up, unless refused, hands it on idle, unexamined"
@@ -53,7 +56,7 @@ pub record AloneLaws : Type 0 where
   pub idle-sound : (s : Record) (p : Running) → p .running ≡ false → soundBeside s p ≡ true
   -- a start that is accepted
   pub started-by : (s : Record) (p : Running) (area fresh helpers standIns : List ℕ) → startCall s p area fresh helpers standIns .answer .refusal ≡ 0
-      → StartedBy (s .sizes) (startCall s p area fresh helpers standIns .running) fresh helpers standIns
+      → StartedBy s area fresh helpers standIns (startCall s p area fresh helpers standIns)
   -- ---- the record by its parts
   pub idle-is : idle ≡ record { running = false; count = 0; carried = 0; fresh = replicate 32 0; helpers = replicate 256 0; standIns = replicate 256 0 }
   pub running-is : (fresh helpers standIns : List ℕ) (carried : ℕ)
