@@ -23,7 +23,8 @@ use Rattle.store_spec.specs.MarkLaws.{Arrays}
 use Rattle.record_words.specs.Words.{bytes, fromBytes, word}
 use Rattle.record_words.proofs.Places.{byte-at}
 use Rattle.record_words.proofs.Points.{length-bytes, word-back, is-word, bytes-number, points-bytes}
-use Rattle.repair_words.specs.RepairWords.{pack, isRepair, repairFrom, repairWordsOf, RepairWordLaws}
+use Rattle.repair_words.specs.RepairWords.{pack, isRepair, repairFrom, repairWordsOf}
+use Rattle.repair_words.specs.Laws.{RepairWordLaws}
 
 -- m words and their bytes
 words-packed : (m : ℕ) (l : List ℕ) → length l ≡ m → All (λ w. word w ≡ true) l → pack m (joined (bytes 8) l) ≡ l

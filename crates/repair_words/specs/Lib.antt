@@ -1,2 +1,3 @@
 pub mod RepairWords
+pub mod Laws
 pub mod Figures
