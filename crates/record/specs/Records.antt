@@ -9,4 +9,4 @@ abbrev pub recordOf : Kept → Record
 recordOf s = record { sizes = s .sizes; points = s .points; capacity = s .capacity; written = s .written; length = s .length; marks = s .marks }
 
 abbrev pub runningIn : Running → beside.Running
-runningIn p = record { running = p .running; count = p .count; carried = p .carried; fresh = p .fresh; helpers = p .helpers; standIns = p .stand-ins }
+runningIn p = record { running = p .running; count = p .count; carried = p .carried; fresh = p .fresh; helpers = p .helpers; standIns = p .«stand_ins» }
