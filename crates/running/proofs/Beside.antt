@@ -8,7 +8,7 @@ use native.Mathlib.Omega.{arith}
 use lib.Dec.{ltb}
 use lib.ListN.{length, take}
 use Rattle.lists.specs.Tests.{alls}
-use Rattle.lists.proofs.Pieces.{length-take-le}
+use lib.Seq.{length-take-le}
 use Rattle.lists.proofs.Tests.{is-false}
 use Rattle.sizes.specs.declared.Sizes.{Sizes}
 use Rattle.sizes.specs.declared.Refusal.{Refusal}

@@ -4,14 +4,18 @@ use Prim.Native.Nat.{ℕ, _-_, _*_, _≤_, _<_}
 use mathlib.Core.Path.{_≡_, refl, sym, ap, _∙_}
 use mathlib.Core.Bool.{Bool, true, false}
 use mathlib.Core.List.{List, _++_}
+use native.Mathlib.Nat.{mul-le-mul-left, le-trans}
 use native.Mathlib.Omega.{arith}
 use lib.Dec.{leb}
-use lib.ListN.{length, take, take-of-length-le}
+use lib.ListN.{length, take, getD}
 use borrow.Author.Tests.{leb-true, leb-false}
-use Rattle.lists.specs.Tests.{among}
+use Rattle.lists.specs.Lists.{tabulate}
+use Rattle.lists.specs.Tests.{every, among}
+use Rattle.lists.proofs.Alls.{all-at}
 use Rattle.lists.proofs.Boards.{among-append-left, among-append-none}
-use Rattle.lists.proofs.Pieces.{length-take-le}
-use Rattle.lists.proofs.Tests.{alls-hold, not-no}
+use lib.Seq.{length-take-le, take-all}
+use Rattle.lists.proofs.Pieces.{tabulate-at, length-tabulate}
+use Rattle.lists.proofs.Tests.{alls-hold, not-no, every-all}
 use Rattle.sizes.specs.declared.Sizes.{Sizes}
 use Rattle.sizes.specs.declared.Refusal.the-variants.{Count}
 use Rattle.sizes.specs.Sizing.{legal}
@@ -22,7 +26,23 @@ use Rattle.store_spec.specs.Record.{Record}
 use Rattle.store_spec.specs.Calls.{listLines}
 use Rattle.store_spec.specs.Running.{Running, freshOf, helpersOf, standInsOf, namedIn, soundBeside}
 use Rattle.store_spec.proofs.Records.{countTests}
-use Rattle.store_spec.proofs.Beside.{few, sound-beside}
+use Rattle.store_spec.proofs.Beside.{sound-beside}
+
+-- ---- how many boards a repair names
+
+most-test : every (λ r. leb (r * (32 - r)) 256) (tabulate 32 (λ r. r)) ≡ true
+most-test = refl
+
+most : (r : ℕ) → r < 32 → r * (32 - r) ≤ 256
+most r h =
+    let rs : List ℕ = tabulate 32 (λ r. r) in
+    let e : getD rs r 0 ≡ r = tabulate-at 32 (λ r. r) 0 r h in
+    let t : leb (getD rs r 0 * (32 - getD rs r 0)) 256 ≡ true =
+    all-at (λ r. leb (r * (32 - r)) 256 ≡ true) 0 rs (every-all (λ r. leb (r * (32 - r)) 256) rs most-test) r (rw length-tabulate h) in
+    leb-true (r * (32 - r)) 256 (rw e at t)
+
+few : (t c : ℕ) → t < 32 → c ≤ 32 - t → t * c ≤ 256
+few t c h k = le-trans (mul-le-mul-left t k) (most t h)
 
 -- they fit their arrays
 module _ (z : Sizes) (t : ℕ) (h : legal z ≡ true) (k : t ≤ z .r) where
@@ -52,7 +72,7 @@ count-few s p legal long sound on = go (leb (p .count) 32) refl
     go true e = omega (arith, most, length-take-le (p .count) (p .fresh) (omega (arith, leb-true (p .count) 32 e, long)))
     go false e =
         let f = legal-facts (s .sizes) legal in
-        let all : length (freshOf p) ≡ 32 = ap length (take-of-length-le (p .fresh) (omega (arith, leb-false (p .count) 32 e, long))) ∙ long in
+        let all : length (freshOf p) ≡ 32 = ap length (take-all (p .count) (p .fresh) (omega (arith, leb-false (p .count) 32 e, long))) ∙ long in
         absurd (omega (arith, most, all, f .enough, f .few, f .some-read, f .read-helpers))
 
 -- the boards that it names

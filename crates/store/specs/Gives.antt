@@ -31,7 +31,7 @@ pub record CodeGives : Type 0 where
   pub record-is : (s : Store)
       → let k = s .record in recordIn s ≡ record { sizes = k .sizes; points = k .points; capacity = k .capacity; written = k .written; length = k .length; marks = k .marks }
   pub running-is : (p : Running)
-      → runningIn p ≡ record { running = p .running; count = p .count; carried = p .carried; fresh = p .fresh; helpers = p .helpers; standIns = p .stand-ins }
+      → runningIn p ≡ record { running = p .running; count = p .count; carried = p .carried; fresh = p .fresh; helpers = p .helpers; standIns = p .«stand_ins» }
   pub handed-is : (h : Handed) (area output packets : List ℕ)
       → outcomeBoth h area output packets
       ≡ record { answer = said (h .answer); handed = recordIn (h .store); running = runningIn (h .running); area = area; output = output; packets = packets }

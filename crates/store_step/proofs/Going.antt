@@ -9,7 +9,7 @@ use lib.Dec.{leb, eqb}
 use lib.ListN.{length, take}
 use borrow.Author.Tests.{eqb-true, le-leb, lt-leb}
 use Rattle.lists.specs.Tests.{pick, alls}
-use Rattle.lists.proofs.Pieces.{length-take-le}
+use lib.Seq.{length-take-le}
 use Rattle.lists.proofs.Tests.{alls-hold, not-no}
 use Rattle.sizes.specs.declared.Check.the-variants.{Pass}
 use Rattle.sizes.specs.declared.Refusal.the-variants.{Size, Area, Empty, Idle}

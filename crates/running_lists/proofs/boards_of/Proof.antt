@@ -2,7 +2,7 @@
 -- Assumes nothing.
 use mathlib.Core.Path.{_≡_, refl, _∙_}
 use mathlib.Core.List.{_++_}
-use Prim.Native.Nat.{_-_, _≤_}
+use Prim.Native.Nat.{ℕ, _-_, _≤_}
 use native.Mathlib.Omega.{arith}
 use lib.ListN.{length, getD, drop, length-set}
 use borrow.Author.Needs.{needs}
@@ -19,11 +19,11 @@ abbrev μ-loop : tie.MeasureT-loop
 
 -- places in the code
 abbrev st : tie.After-board Inv-loop μ-loop → tie.Start Inv-loop μ-loop
-st c = c .before .before .before .before
+st c = c .before .before .before .before .before .before
 
 loop-again : tie.Need-loop-again Inv-loop μ-loop
 loop-again c =
-    let l = c .before .before .loop in
+    let l = c .before .before .before .loop in
     let a = st c .args in (
       fill-loop (λ t. getD (a .bytes .now) t 0) (a .boards .now) (l .boards) (l .i) _ (omega arith) (c .board .ensures) (l .inv .0),
       omega arith,
@@ -33,8 +33,8 @@ loop-again c =
 returns : tie.Need-returns Inv-loop μ-loop
 returns c =
     let l = c .before .loop in
-    let a = c .before .before .before .args in
-    let f = λ t. getD (a .bytes .now) t 0 in
+    let a = c .before .before .before .before .args in
+    let f : ℕ → ℕ = λ t. getD (a .bytes .now) t 0 in
     fill-end f (a .boards .now) (l .boards) (l .i) (length (a .bytes .now)) (omega arith) (l .inv .0)
     ∙ fill-all f (a .boards .now) (length (a .bytes .now)) (omega arith) ∙ tabulate-getD (length (a .bytes .now)) (a .bytes .now) 0 refl
 
@@ -47,6 +47,7 @@ boards-of-spec =
     (λ c. (refl, omega arith, refl))
     (λ c. search needs)
     (λ c κs. search needs)
+    (λ c. search needs)
     (λ c. search needs)
     (λ c. search needs)
     (λ c. search needs)

@@ -18,6 +18,7 @@ byte-at-spec =
     tie.close
     (tie.spec
     (λ c. search needs)
-    (λ c. omega (arith, few c))
+    (λ c. search needs)
+    (λ c. omega (arith, few (c .before)))
     (λ c. search needs)
     (λ c. sym (List·getD-eq-default (c .before .args .boards .now) 0 (c .if1 .left))))

@@ -2,7 +2,7 @@
 -- Assumes nothing.
 use mathlib.Core.Path.{_≡_, refl, sym, _∙_}
 use mathlib.Core.List.{_++_}
-use Prim.Native.Nat.{_-_, _≤_}
+use Prim.Native.Nat.{ℕ, _-_, _≤_}
 use native.Mathlib.Omega.{arith}
 use lib.ListN.{length, getD, drop, length-set}
 use borrow.Author.Needs.{needs}
@@ -34,7 +34,7 @@ returns : tie.Need-returns Inv-loop μ-loop
 returns c =
     let l = c .before .loop in
     let a = c .before .before .before .before .args in
-    let f = λ t. getD (a .boards .now) t 0 in
+    let f : ℕ → ℕ = λ t. getD (a .boards .now) t 0 in
     let m = length (a .bytes .now) in
     fill-end f (a .bytes .now) (l .bytes) (l .i) m (omega arith) (l .inv .0)
     ∙ fill-all f (a .bytes .now) m (omega arith)

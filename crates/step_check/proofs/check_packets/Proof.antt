@@ -9,7 +9,7 @@ use lib.Dec.{eqb}
 use lib.ListN.{length}
 use borrow.Author.Needs.{needs}
 use Rattle.lists.specs.Tests.{pick}
-use Rattle.lists.proofs.Pieces.{length-take-le}
+use lib.Seq.{length-take-le}
 use Rattle.lists.proofs.Tests.{not-no}
 use Rattle.sizes.specs.declared.Refusal.the-variants.{Area}
 use Rattle.sizes.specs.Sizing.{α}
