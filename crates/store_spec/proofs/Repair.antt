@@ -71,7 +71,7 @@ module _ (s : Record) (area fresh helpers standIns : List ℕ) (m : ℕ) (laws :
   pub partner-count : (i : ℕ) → among fresh i ≡ true → suc (length (without i fresh)) ≡ length fresh
   partner-count i e = length-without i fresh (f .fresh-different) e
 
-  partners-counted : All (λ i. suc (length (without i fresh)) ≡ length fresh) fresh
+  pub partners-counted : All (λ i. suc (length (without i fresh)) ≡ length fresh) fresh
   partners-counted = all-imp (λ i. among fresh i ≡ true) (λ i. suc (length (without i fresh)) ≡ length fresh) partner-count fresh (all-is-among fresh)
 
   pub partners-are : (i : ℕ) → among fresh i ≡ true → partnersOf i ≡ without i fresh
