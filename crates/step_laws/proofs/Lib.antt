@@ -1,0 +1,4 @@
+pub mod Runs
+pub mod Now
+pub mod Shares
+pub mod Facts
