@@ -1,6 +1,6 @@
 -- What lists that a start takes are: plain facts of each board and each run; and where packets lie.
 -- Assumes nothing.
-use Prim.Native.Nat.{ℕ, zero, suc, _+_, _-_, _*_, _≤_, _<_, min}
+use Prim.Native.Nat.{ℕ, zero, suc, _+_, _-_, _*_, _/_, _≤_, _<_, min}
 use mathlib.Core.Path.{_≡_, refl, sym, _∙_, ap, ap₂, subst}
 use mathlib.Core.Bool.{Bool, true, false, not}
 use mathlib.Core.List.{List, [], _∷_, _++_, append-assoc}
@@ -24,7 +24,8 @@ use Rattle.store_spec.proofs.Records.{Repairs}
 use Rattle.repair_rows.specs.Steps.{othersAt}
 use Rattle.repair_rows.proofs.Others.{length-others, others-below}
 use Rattle.repair_rows.proofs.Without.{without-place}
-use Rattle.step_laws.specs.Steps.{Listed, placeAt, partnersAt}
+use Rattle.step_laws.specs.Steps.{Listed, Served, DifferentEach, placeAt, partnersAt}
+use Rattle.step_laws.proofs.Runs.{in-part}
 
 -- as the checks' pass gives them
 pub listed : (s : Record) (m : ℕ) (fresh helpers standIns : List ℕ) → Repairs s m fresh helpers standIns → Listed (s .sizes) fresh helpers standIns
@@ -53,6 +54,27 @@ piece-all : (P : ℕ → Type 0) (d a : ℕ) (l : List ℕ) → All P l → All 
 unfolding piece
 piece-all P d a l h = take-alls P d (drop (a * d) l) (drop-alls P (a * d) l h)
 
+-- what each board and each run of such lists is
+module _ (n c : ℕ) (fresh boards : List ℕ) (f : Served n c fresh boards) where
+  -- the p-th board serves a fresh one
+  pub serves : (p : ℕ) → p < length boards → p / c < length fresh
+  serves p h = in-part p (length fresh) c (omega (arith, f .count, h)) .0
+
+  pub some-each : (p : ℕ) → p < length boards → 0 < c
+  some-each p h = omega (arith, in-part p (length fresh) c (omega (arith, f .count, h)) .1)
+
+  pub board-low : (p : ℕ) → p < length boards → getD boards p 0 < n
+  board-low p h = all-at (λ x. x < n) 0 boards (below-all n boards (f .boards-below)) p h
+
+  pub served-low : (a : ℕ) → a < length fresh → getD fresh a 0 < n
+  served-low a h = all-at (λ x. x < n) 0 fresh (below-all n fresh (f .fresh-below)) a h
+
+  pub run-end : (a : ℕ) → a < length fresh → a * c + c ≤ length boards
+  run-end a h = omega (arith, f .count, part-end a c (length fresh) h)
+
+  pub run-below : (a : ℕ) → below n (piece c a boards) ≡ true
+  run-below a = all-below n (piece c a boards) (piece-all (λ x. x < n) c a boards (below-all n boards (f .boards-below)))
+
 module _ (z : Sizes) (fresh helpers standIns : List ℕ) (f : Listed z fresh helpers standIns) where
   abbrev t : ℕ
   t = length fresh
@@ -78,15 +100,8 @@ module _ (z : Sizes) (fresh helpers standIns : List ℕ) (f : Listed z fresh hel
   stand-ins-all : Low standIns
   stand-ins-all = all-right (λ x. x < z .n) helpers standIns named-all
 
-  -- each board
   pub fresh-low : (a : ℕ) → a < t → getD fresh a 0 < z .n
   fresh-low a h = all-at (λ x. x < z .n) 0 fresh fresh-all a h
-
-  pub helper-low : (p : ℕ) → p < t * z .d → getD helpers p 0 < z .n
-  helper-low p h = all-at (λ x. x < z .n) 0 helpers helpers-all p (let n = f .helper-count in omega arith)
-
-  pub stand-in-low : (p : ℕ) → p < t * e → getD standIns p 0 < z .n
-  stand-in-low p h = all-at (λ x. x < z .n) 0 standIns stand-ins-all p (let n = f .stand-in-count in omega arith)
 
   -- each run
   pub helpers-long : (a : ℕ) → a < t → length (piece (z .d) a helpers) ≡ z .d
@@ -94,9 +109,6 @@ module _ (z : Sizes) (fresh helpers standIns : List ℕ) (f : Listed z fresh hel
 
   pub stand-ins-long : (a : ℕ) → a < t → length (piece e a standIns) ≡ e
   stand-ins-long a h = length-piece e a standIns (let n = f .stand-in-count in omega (arith, part-end a e t h))
-
-  pub helpers-below : (a : ℕ) → below (z .n) (piece (z .d) a helpers) ≡ true
-  helpers-below a = all-below (z .n) (piece (z .d) a helpers) (piece-all (λ x. x < z .n) (z .d) a helpers helpers-all)
 
   pub run-apart : (a : ℕ) → a < t → different (piece (z .d) a helpers ++ piece e a standIns) ≡ true
   unfolding piece
@@ -107,6 +119,15 @@ module _ (z : Sizes) (fresh helpers standIns : List ℕ) (f : Listed z fresh hel
 
   pub fresh-below : below (z .n) fresh ≡ true
   fresh-below = all-below (z .n) fresh fresh-all
+
+  pub helpers-served : Served (z .n) (z .d) fresh helpers
+  helpers-served = record { count = f .helper-count; fresh-below = fresh-below; boards-below = all-below (z .n) helpers helpers-all }
+
+  pub stand-ins-served : Served (z .n) e fresh standIns
+  stand-ins-served = record { count = f .stand-in-count; fresh-below = fresh-below; boards-below = all-below (z .n) standIns stand-ins-all }
+
+  pub helpers-each : DifferentEach (z .d) fresh helpers
+  helpers-each = record { each = helpers-different }
 
   -- ---- who takes part in a share: its helpers, its partners and itself
 

@@ -4,7 +4,7 @@
 use mathlib.Core.Path.{_≡_}
 use mathlib.Core.Bool.{true}
 use mathlib.Core.List.{List, _++_}
-use Prim.Native.Nat.{ℕ, zero, suc, _+_, _-_, _*_, _/_, _%_, _≤_, min}
+use Prim.Native.Nat.{ℕ, zero, suc, _+_, _-_, _*_, _/_, _%_, _≤_, _<_, min}
 use lib.Dec.{ltb}
 use lib.ListN.{length, take, drop, getD}
 use Rattle.lists.specs.Tests.{pick, every, below, different, apart}
@@ -25,6 +25,16 @@ pub record Listed (z : Sizes) (fresh helpers standIns : List ℕ) : Type 0 where
   pub fresh-different : different fresh ≡ true
   pub named-different : every (λ h. different (h .senders)) (hearNamed (z .d) (z .r - length fresh) fresh helpers standIns) ≡ true
   pub none-fresh : apart fresh (helpers ++ standIns) ≡ true
+
+-- a run of c boards for each fresh one, all of them below n
+pub record Served (n c : ℕ) (fresh boards : List ℕ) : Type 0 where
+  pub count : length boards ≡ length fresh * c
+  pub fresh-below : below n fresh ≡ true
+  pub boards-below : below n boards ≡ true
+
+-- no run names a board twice
+pub record DifferentEach (c : ℕ) (fresh boards : List ℕ) : Type 0 where
+  pub each : (a : ℕ) → a < length fresh → different (piece c a boards) ≡ true
 
 -- the first S stripes of board j, of C
 abbrev pub heldAt : Sizes → ℕ → ℕ → List ℕ → ℕ → List ℕ
