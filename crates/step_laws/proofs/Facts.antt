@@ -16,6 +16,7 @@ use Rattle.lists.proofs.Put.{part-end}
 use Rattle.lists.proofs.Tests.{true-false, every-all, all-every}
 use Rattle.sizes.specs.declared.Sizes.{Sizes}
 use Rattle.sizes.specs.Sizing.{α}
+use Rattle.sizes.proofs.Legal.{Legal}
 use Rattle.mbcr.proofs.Points.{Boards}
 use Rattle.store_spec.specs.Record.{Record}
 use Rattle.store_spec.proofs.Named.{named-boards}
@@ -197,15 +198,19 @@ later-fits S t d r q hr h =
     same : (S t m : ℕ) → t * m * S ≡ S * t * m
     same S t m = omega arith
 
--- the helper packets of the b-th fresh board end before any later packet
-pub heard-before : (S t d q b : ℕ) → b < t → t * d ≤ q → b * d * (2 * S) + d * (2 * S) ≤ (q + t * d) * S
-heard-before S t d q b hb hq =
-    let a = part-end b (d * (2 * S)) t hb in
+-- all helper packets end before any later packet
+pub helpers-before : (S t d q : ℕ) → t * d ≤ q → t * (d * (2 * S)) ≤ (q + t * d) * S
+helpers-before S t d q hq =
     let c : (t * d + t * d) * S ≤ (q + t * d) * S = mul-le-mul-right S (omega arith) in
-    omega (arith, a, c, one b d S, one t d S, two (t * d) S)
+    omega (arith, c, same t d S)
   where
-    one : (b d S : ℕ) → b * d * (2 * S) ≡ b * (d * (2 * S))
-    one b d S = omega arith
+    same : (t d S : ℕ) → (t * d + t * d) * S ≡ t * (d * (2 * S))
+    same t d S = omega arith
 
-    two : (a S : ℕ) → (a + a) * S ≡ a * (2 * S)
-    two a S = omega arith
+-- there are few
+pub few-packets : (z : Sizes) → Legal z → (t : ℕ) → t ≤ z .r → (t * z .d ≤ 1024) × (t * (z .d + z .r - 1) ≤ 1024)
+few-packets z f t h =
+    let a : t ≤ 32 = omega (arith, f .enough, f .few) in
+    let b : z .d ≤ 32 = omega (arith, f .enough, f .few) in
+    let c : z .d + z .r - 1 ≤ 32 = omega (arith, f .enough, f .few) in
+    (mul-le-mul a b, mul-le-mul a c)

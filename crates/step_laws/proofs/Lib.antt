@@ -2,3 +2,4 @@ pub mod Runs
 pub mod Now
 pub mod Shares
 pub mod Facts
+pub mod Held

@@ -4,11 +4,12 @@ use Prim.Native.Nat.{ℕ, zero, suc, _+_, _-_, _*_, _/_, _%_, _≤_, _<_}
 use mathlib.Core.Path.{_≡_, refl, sym, _∙_, ap, ap₂, subst}
 use mathlib.Core.Bool.{Bool, true, false}
 use mathlib.Core.List.{List, [], _∷_, _++_}
+use native.Mathlib.Numerals.{add-one}
 use native.Mathlib.Omega.{arith}
 use lib.Dec.{ltb}
 use lib.ListN.{length, take, drop, getD, length-append, List·getD-append}
 use lib.Seq.{getD-append-add}
-use borrow.Author.Tests.{ltb-true, ltb-false}
+use borrow.Author.Tests.{ltb-true, ltb-false, lt-ltb, le-ltb}
 use Rattle.lists.specs.Tests.{pick, different}
 use Rattle.lists.specs.Lists.{piece, put, without}
 use Rattle.lists.proofs.Pieces.{tabulate-at}
@@ -137,3 +138,43 @@ carry-every z pts C S fresh helpers standIns area f m q packets h s ez ep ec es 
     ∙ ap₂ (λ (c n : ℕ). carryAt z pts c n fresh helpers standIns area q m packets) ec es)
     ∙ carry-at s fresh helpers standIns area (subst (λ (y : Sizes). Listed y fresh helpers standIns) (sym ez) f) m q packets
     (subst (λ (y : Sizes). q + m ≤ length fresh * (y .d + y .r - 1)) (sym ez) h)
+
+-- ---- packet q by its kind, and a turn of the loop over packets
+
+module _ (z : Sizes) (pts : List ℕ) (C S : ℕ) (fresh helpers standIns area : List ℕ) where
+  pub packet-first : (q : ℕ) (packets : List ℕ) → q < length fresh * z .d
+      → helperAt z pts C S fresh helpers area q ≡ packetAt z pts C S fresh helpers standIns area q packets
+  unfolding packetAt
+  packet-first q packets h = rw (lt-ltb q (length fresh * z .d) h) refl
+
+  pub packet-second : (q h : ℕ) (packets : List ℕ) → h ≡ length fresh * z .d → h ≤ q → q - h < length fresh * (z .r - length fresh)
+      → standInAt z pts C S fresh standIns area (q - h) ≡ packetAt z pts C S fresh helpers standIns area q packets
+  unfolding packetAt
+  packet-second q h packets eh k m =
+      ap (λ (x : ℕ). standInAt z pts C S fresh standIns area (q - x)) eh
+      ∙ rw (le-ltb q (length fresh * z .d) (omega arith), lt-ltb (q - length fresh * z .d) (length fresh * (z .r - length fresh)) (omega arith)) refl
+
+  pub packet-third : (q h e : ℕ) (packets : List ℕ) → h ≡ length fresh * z .d → e ≡ length fresh * (z .r - length fresh) → h ≤ q → e ≤ q - h
+      → exchangeAt z pts S fresh helpers packets (q - h - e) ≡ packetAt z pts C S fresh helpers standIns area q packets
+  unfolding packetAt
+  packet-third q h e packets eh ee k m =
+      ap₂ (λ (x y : ℕ). exchangeAt z pts S fresh helpers packets (q - x - y)) eh ee
+      ∙ rw (le-ltb q (length fresh * z .d) (omega arith), le-ltb (q - length fresh * z .d) (length fresh * (z .r - length fresh)) (omega arith)) refl
+
+  abbrev left : ℕ → ℕ → List ℕ → List ℕ
+  left q m packets = carryAt z pts C S fresh helpers standIns area q m packets
+
+  pub carry-start : (q m : ℕ) (packets : List ℕ) → left q (q + m - q) packets ≡ left q m packets
+  carry-start q m packets = let e : q + m - q ≡ m = omega arith in ap (λ (x : ℕ). left q x packets) e
+
+  pub carry-turn : (q end at : ℕ) (packets now all : List ℕ) → q < end → at ≡ placeAt z S (length fresh) q
+      → now ≡ put packets at (packetAt z pts C S fresh helpers standIns area q packets) → left q (end - q) packets ≡ all
+      → left (q + 1) (end - (q + 1)) now ≡ all
+  carry-turn q end at packets now all h ea en e =
+      let m : end - q ≡ suc (end - (q + 1)) = omega arith in
+      ap₂ (λ (x : ℕ) (l : List ℕ). left x (end - (q + 1)) l) (add-one q)
+      (en ∙ ap (λ (x : ℕ). put packets x (packetAt z pts C S fresh helpers standIns area q packets)) ea)
+      ∙ sym (ap (λ (x : ℕ). left q x packets) m) ∙ e
+
+  pub carry-end : (q end : ℕ) (packets all : List ℕ) → end ≤ q → left q (end - q) packets ≡ all → packets ≡ all
+  carry-end q end packets all h e = let m : end - q ≡ zero = omega arith in sym (ap (λ (x : ℕ). left q x packets) m) ∙ e
