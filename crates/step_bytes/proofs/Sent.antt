@@ -5,8 +5,8 @@ use mathlib.Core.List.{List, [], _∷_, _++_, append-assoc}
 use Prim.Native.Nat.{ℕ, zero, suc, _+_, _*_, _-_, _<_, _≤_}
 use native.Mathlib.Nat.{zero-add, suc-add, add-mul}
 use native.Mathlib.Omega.{arith}
-use lib.ListN.{length, getD, take, drop, length-append, length-take, length-drop, List·getD-append}
-use lib.Seq.{take-at, drop-at, getD-append-add}
+use lib.ListN.{length, getD, take, drop, length-append, List·getD-append}
+use lib.Seq.{take-at, getD-append-add}
 use borrow.Rule.Slice.PartMut.{putMid}
 use Rattle.lists.specs.Lists.{tabulate}
 use Rattle.lists.proofs.Pieces.{length-tabulate, tabulate-ext}
@@ -54,30 +54,16 @@ behind d mid last l a b c la lb lc h k =
 
 -- the row, from what the callees give
 pub gathered : (z : Sizes) (S s e : ℕ) (packets stood exchanges got a b c : List ℕ) → e < z .r → s < S → length stood ≡ e * S → length got ≡ z .d + z .r
-    → a ≡ received z S 1 s packets
-    → (let d = z .d in b ≡ tabulate (length (take (d + e - d) (drop d (putMid 0 (d - 0) got a)))) (λ u. getD stood (u * S + s) 0))
-    → (let d = z .d in let last = length got - 1 in
-    c ≡ tabulate (length (take (last - (d + e)) (drop (d + e) (putMid d (d + e - d) (putMid 0 (d - 0) got a) b)))) (λ u. getD exchanges (u * S + s) 0))
+    → a ≡ received z S 1 s packets → b ≡ tabulate e (λ u. getD stood (u * S + s) 0) → c ≡ tabulate (z .r - 1 - e) (λ u. getD exchanges (u * S + s) 0)
     → let d = z .d in let last = length got - 1 in
     take last (putMid (d + e) (last - (d + e)) (putMid d (d + e - d) (putMid 0 (d - 0) got a) b) c) ≡ received z S 1 s packets ++ exchanged z S s (stood ++ exchanges)
 gathered z S s e packets stood exchanges got a b c he hs ls lg ea eb ec =
-    let d : ℕ = z .d in
-    let last : ℕ = length got - 1 in
-    let m : ℕ = z .r - 1 - e in
-    let l₁ : List ℕ = putMid 0 (d - 0) got a in
-    let l₂ : List ℕ = putMid d (d + e - d) l₁ b in
-    let la : length a ≡ d = ap length ea ∙ length-received z S 1 s packets in
-    let n₁ : length l₁ ≡ z .d + z .r = simp (length-append, length-take, length-drop) (omega (arith, la, lg)) in
-    let nb : length (take (d + e - d) (drop d l₁)) ≡ e = simp (length-take, length-drop) (omega (arith, n₁, he)) in
-    let eb′ : b ≡ tabulate e (λ u. getD stood (u * S + s) 0) = eb ∙ ap (λ (n : ℕ). tabulate n (λ u. getD stood (u * S + s) 0)) nb in
-    let lb : length b ≡ e = ap length eb′ ∙ length-tabulate e _ in
-    let n₂ : length l₂ ≡ z .d + z .r = simp (length-append, length-take, length-drop) (omega (arith, lb, n₁, he)) in
-    let nc : length (take (last - (d + e)) (drop (d + e) l₂)) ≡ m = simp (length-take, length-drop) (omega (arith, n₂, lg, he)) in
-    let ec′ : c ≡ tabulate m (λ u. getD exchanges (u * S + s) 0) = ec ∙ ap (λ (n : ℕ). tabulate n (λ u. getD exchanges (u * S + s) 0)) nc in
-    let lc : length c ≡ m = ap length ec′ ∙ length-tabulate m _ in
-    behind d (d + e) last got a b c la (omega (arith, lb)) (omega (arith, lc, lg, he)) (omega arith) (omega (arith, lg, he))
+    let la : length a ≡ z .d = ap length ea ∙ length-received z S 1 s packets in
+    let lb : length b ≡ e = ap length eb ∙ length-tabulate e _ in
+    let lc : length c ≡ z .r - 1 - e = ap length ec ∙ length-tabulate (z .r - 1 - e) _ in
+    behind (z .d) (z .d + e) (length got - 1) got a b c la (lb ∙ omega arith) (lc ∙ omega (arith, lg, he)) (omega arith) (omega (arith, lg, he))
     ∙ ap₂ {C = List ℕ} (λ x y. x ++ y) ea
-    (ap₂ {C = List ℕ} (λ x y. x ++ y) eb′ ec′ ∙ sent-both z S s e m stood exchanges hs ls (omega (arith, he)))
+    (ap₂ {C = List ℕ} (λ x y. x ++ y) eb ec ∙ sent-both z S s e (z .r - 1 - e) stood exchanges hs ls (omega (arith, he)))
 
 -- a turn's byte
 pub sent-fits : (u m S s : ℕ) → u < m → s < S → u * S + s < m * S

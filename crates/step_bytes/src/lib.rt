@@ -9,12 +9,11 @@ ghost use lib.ListN.{length, getD, take};
 ghost use Rattle.lists.specs.Lists.{tabulate};
 ghost use Rattle.mbcr.specs.Rebuild.{received, exchanged};
 
-// Byte s of each of the packets of one byte for each stripe.
-fn sent_bytes(stripes: usize, s: usize, sent: &[u8], out: &mut [u8])
-    requires { ⌜ (s < stripes) × (stripes ≤ 4096) × (length (now out) ≤ 32) × (length (now sent) ≡ length (now out) * stripes) ⌝ }
-    ensures { λ _. ⌜ now (out .exit) ≡ tabulate (length (now (out .entry))) (λ u. getD (now (sent .entry)) (u * stripes + s) 0) ⌝ }
+// Byte s of each of m packets that have one byte for each stripe.
+fn sent_bytes(stripes: usize, s: usize, m: usize, sent: &[u8], out: &mut [u8])
+    requires { ⌜ (s < stripes) × (stripes ≤ 4096) × (m ≤ 32) × (length (now sent) ≡ m * stripes) × (length (now out) ≡ m) ⌝ }
+    ensures { λ _. ⌜ now (out .exit) ≡ tabulate m (λ u. getD (now (sent .entry)) (u * stripes + s) 0) ⌝ }
 {
-    let m = out.len();
     let mut u: usize = 0;
     while u < m {
         let at = u * stripes + s;
@@ -41,9 +40,10 @@ fn gather(
     let d = sizes.d;
     let mid = d + e;
     let last = got.len() - 1;
+    let rest = sizes.r - 1 - e;
     exchange::received(sizes, stripes, 1, s, packets, &mut got[0..d]);
-    sent_bytes(stripes, s, stood, &mut got[d..mid]);
-    sent_bytes(stripes, s, exchanges, &mut got[mid..last]);
+    sent_bytes(stripes, s, e, stood, &mut got[d..mid]);
+    sent_bytes(stripes, s, rest, exchanges, &mut got[mid..last]);
 }
 
 // The same, and the first bytes of the helpers.
