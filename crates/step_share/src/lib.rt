@@ -35,6 +35,7 @@ fn finish_stripe(
 fn share_by(
     sizes: Sizes,
     i: usize,
+    lanes: usize,
     rows: &[u8],
     stripes: usize,
     e: usize,
@@ -47,8 +48,8 @@ fn share_by(
     f: &mut [u8],
     out: &mut [u8],
 )
-    requires { ⌜ (legal sizes ≡ true) × (i < sizes .n) × (e < sizes .r) × (stripes ≤ 4096) × (length (now rows) ≡ (sizes .d + (sizes .d + sizes .r)) * 32) × (length (now packets) ≡ sizes .d * (2 * stripes)) × (length (now stood) ≡ e * stripes) × (length (now exchanges) ≡ (sizes .r - 1 - e) * stripes) × (length (now firsts) ≡ sizes .d) × (length (now got) ≡ sizes .d + sizes .r) × (sizes .n ≤ length (now f)) × (length (now f) ≤ 32) × (length (now g) ≡ length (now f)) × (length (now out) ≡ stripes * α sizes) ⌝ }
-    ensures { λ _. ⌜ now (out .exit) ≡ join stripes (λ s. stripeBy sizes i (length (now (f .entry))) (now (rows .entry)) stripes s (now (packets .entry)) (now (stood .entry) ++ now (exchanges .entry))) ⌝ }
+    requires { ⌜ (legal sizes ≡ true) × (i < sizes .n) × (e < sizes .r) × (stripes ≤ 4096) × (length (now rows) ≡ (sizes .d + (sizes .d + sizes .r)) * 32) × (length (now packets) ≡ sizes .d * (2 * stripes)) × (length (now stood) ≡ e * stripes) × (length (now exchanges) ≡ (sizes .r - 1 - e) * stripes) × (length (now firsts) ≡ sizes .d) × (length (now got) ≡ sizes .d + sizes .r) × (sizes .n ≤ lanes) × (lanes ≤ 32) × (length (now g) ≡ lanes) × (length (now f) ≡ lanes) × (length (now out) ≡ stripes * α sizes) ⌝ }
+    ensures { λ _. ⌜ now (out .exit) ≡ join stripes (λ s. stripeBy sizes i lanes (now (rows .entry)) stripes s (now (packets .entry)) (now (stood .entry) ++ now (exchanges .entry))) ⌝ }
 {
     let a = 2 * sizes.d + sizes.r - 1;
     let mut s: usize = 0;
@@ -86,6 +87,7 @@ pub fn share_work(
     share_by(
         sizes,
         i,
+        lanes,
         rows,
         stripes,
         e,
