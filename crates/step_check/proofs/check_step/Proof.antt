@@ -6,6 +6,7 @@ use mathlib.Core.List.{List, [], _∷_}
 use lib.Dec.{eqb}
 use lib.ListN.{length}
 use borrow.Author.Needs.{needs}
+use Rattle.lists.specs.Lists.{concat}
 use Rattle.lists.specs.Tests.{pick, alls}
 use Rattle.sizes.specs.declared.Check.{Check}
 use Rattle.sizes.specs.declared.Check.the-variants.{Refuse}
@@ -16,6 +17,7 @@ use Rattle.store_spec.specs.Calls.{emptyLine}
 use Rattle.store_spec.specs.Running.{Running, freshOf, packetsLen}
 use Rattle.store_spec.specs.Both.{bothLine, stepLines}
 use Rattle.record.specs.Records.{recordOf, runningIn}
+use Rattle.checks.proofs.Given.{chain}
 use Rattle.checks.proofs.Chain.{thens, grouped, goes-on, refuses, ends}
 use Rattle.shared_checks.specs.Steps.{areaLines}
 use Rattle.shared_checks.proofs.Facts.{Lent, area-facts}
@@ -58,7 +60,7 @@ whole : (g : tie.Start) → thens (areas g) ≡ answer g
 unfolding stepLines
 whole g =
     grouped (areas g)
-    ∙ ap (λ (c : Check). pick (bothLine (R g) (P g) .applies) (Refuse Size) c) (two-areas (eqb (g .args .lent) (areaLen (R g))) (fits g) (thens (empties g)))
+    ∙ ap (λ (c : Check). pick (bothLine (R g) (P g) .applies) (Refuse Size) c) (two-areas (eqb (g .args .lent) (areaLen (R g))) (fits g) (chain (concat (empties g))))
 
 -- 1 SIZE, 2 AREA
 abbrev st-area : tie.After-check-area → tie.Start
