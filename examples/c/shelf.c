@@ -135,12 +135,12 @@ static int work_on(uint64_t *record, uint64_t *repair, uint8_t *area, uint8_t *p
     const size_t packets_len = ZBK_PACKETS_LEN(stripes_of(length), R, D, R);
     int same = 1;
     for (uint64_t carried = 0; carried < packets_due;) {
-        const uint64_t now = accepted("step", zbk_step(RECORDS, area, AREA, packets, packets_len, 3));
-        carried += now;
+        carried += accepted("step", zbk_step(RECORDS, area, AREA, packets, packets_len, 3));
         memset(out, 0, length);
         accepted("read in between", zbk_read(RECORDS, area, AREA, readers, K, out, length));
         same &= memcmp(out, stock, length) == 0;
-        printf("%llu packets carried, then a read: %s\n", (unsigned long long)now, same ? "the file as it was written" : "ANOTHER FILE");
+        printf("%llu of %d packets carried, then a read: %s\n", (unsigned long long)carried, R * (D + R - 1),
+               same ? "the file as it was written" : "ANOTHER FILE");
     }
     return same;
 }
