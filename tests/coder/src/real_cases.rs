@@ -125,7 +125,8 @@ fn points_in_turn(random: &mut Random, turn: u64, n: usize) -> Vec<u8> {
 fn fresh_in_turn(random: &mut Random, turn: u64, r: usize) -> usize {
     match turn % 4 {
         0 | 2 => r,
-        3 if r > 2 => random.within(2, r - 1),
+        3 if r > 3 => random.within(3, r - 1),
+        3 if r > 2 => 2,
         _ => 1,
     }
 }

@@ -80,9 +80,10 @@ pub fn over(trial: &mut Trial, random: &mut Random, scene: &Scene, capacity: usi
 impl<'a> Stepping<'a> {
     fn new(random: &mut Random, scene: &'a Scene, capacity: usize, t: usize) -> Stepping<'a> {
         let Sizes { n, d, r, .. } = scene.sizes;
-        // other boards are lost too, as far as those in service are enough
+        // other boards are lost too, as far as those in service are enough; of real sizes always one
         let spare = n - d - r;
-        let lost = t + random.pick(&[0, 0, 1, spare]).min(spare);
+        let more = if scene.stripes() > 100 { 1 } else { random.pick(&[0, 0, 1, spare]) };
+        let lost = t + more.min(spare);
         let in_service = random.choose((0..n).collect(), n - lost);
         let lists = running_draw::lists_of(random, scene.sizes, &in_service, t);
         let mut area = store_cases::true_area(random, scene, capacity);
@@ -236,11 +237,11 @@ impl<'a> Stepping<'a> {
             let after = self.finish(trial, lent)?;
             self.tell(trial, PACKET_ALTERED, count > 0 && after.area != due);
         }
-        // a first byte of the helper packets of one fresh board, once all of them lie there
-        let of_helpers = self.lists.helpers.len();
+        // a first byte of the helper packets of the last fresh board, once all helper packets lie there: it sends an exchange before the last packet
+        let (of_helpers, d) = (self.lists.helpers.len(), self.scene.sizes.d);
         if of_helpers < total {
             let mut lent = self.carried(trial, random, of_helpers)?;
-            let packet = &self.order[random.below(of_helpers)];
+            let packet = &self.order[random.within(of_helpers - d, of_helpers - 1)];
             let place = packet.at.start + 2 * random.below(stripes);
             alter(random, &mut lent.packets, place..place + 1);
             let truth = self.carried(trial, random, total - 1)?;

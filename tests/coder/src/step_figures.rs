@@ -186,8 +186,7 @@ pub fn in_order(trial: &mut Trial) {
     // from each count to each other one
     for carried in 0..15 {
         for now in 0..15 - carried {
-            let after = three_lent(carried + now);
-            let lent = Lent { packets: three_lent(carried).packets, ..three_lent(carried) };
+            let (lent, after) = (three_lent(carried), three_lent(carried + now));
             figure(trial, "three boards: packets", step(now), lent, Outcome::accepted(now, after));
         }
         let lent = three_lent(carried);
