@@ -191,7 +191,7 @@ beyond l m n i e = sym (getD-drop n (l ++ m) i 0) ∙ ap (λ (k : List ℕ). get
 
 module _ (p : Running) where
   abbrev first-three : List ℕ
-  first-three = pick (p .running) 1 0 ∷ p .count ∷ p .carried ∷ []
+  first-three = take 3 (repairWordsOf p)
 
   words-length : length (repairWordsOf p) ≡ 71
   words-length =
