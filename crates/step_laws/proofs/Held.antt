@@ -58,3 +58,9 @@ put-made at w l ys b n e =
 
 pub room : (at w : ℕ) (l : List ℕ) → at + w ≤ length l → w ≤ length (take (at + w - at) (drop at l))
 room at w l h = simp (length-take, length-drop) (omega arith)
+
+-- a part that is written anew as a whole
+pub put-whole : (at w : ℕ) (l b : List ℕ) → length b ≡ w → putMid at (at + w - at) l b ≡ put l at b
+put-whole at w l b n =
+    let none : drop w (take (at + w - at) (drop at l)) ≡ [] = drop-of-length-le _ {i = w} (simp length-take (omega arith)) in
+    put-made at w l b b n (sym (ap (λ (x : List ℕ). b ++ x) none ∙ append-nil b))

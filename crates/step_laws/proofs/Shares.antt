@@ -3,14 +3,17 @@
 use Prim.Native.Nat.{ℕ, zero, suc, _+_, _-_, _*_, _≤_, _<_}
 use mathlib.Core.Path.{_≡_, refl, sym, _∙_, ap, ap₂, subst}
 use mathlib.Core.List.{List, [], _∷_, _++_}
+use native.Mathlib.Numerals.{add-one}
 use native.Mathlib.Omega.{arith}
-use native.Mathlib.Nat.{min-eq-left, min-eq-right}
+use native.Mathlib.Nat.{min-eq-left, min-eq-right, mul-assoc}
 use lib.ListN.{length, take, drop, getD}
 use Rattle.lists.specs.Lists.{piece, put, tabulate}
 use Rattle.lists.proofs.Pieces.{tabulate-getD, tabulate-suc}
 use Rattle.sizes.specs.declared.Sizes.{Sizes}
 use Rattle.sizes.specs.Sizing.{α}
+use Rattle.sizes.proofs.Legal.{Legal}
 use Rattle.mbcr.specs.Rebuild.{finishedShare}
+use Rattle.mbcr.proofs.Repair.{length-finished}
 use Rattle.puts.specs.Steps.{puts}
 use Rattle.puts.proofs.Puts.{puts-same}
 use Rattle.store_spec.specs.Record.{Record, stripeCount, partLen, putShares}
@@ -111,3 +114,33 @@ shares-every z pts C S fresh helpers standIns packets area f s ez ep ec es =
     sym (ap₂ (λ (y : Sizes) (l : List ℕ). puts (λ a. getD fresh a 0 * (s .capacity * α y)) (shareAt y l (stripeCount s) fresh helpers standIns packets) (length fresh) area) ez ep
     ∙ ap₂ (λ (c n : ℕ). puts (λ a. getD fresh a 0 * (c * α z)) (shareAt z pts n fresh helpers standIns packets) (length fresh) area) ec es)
     ∙ shares-at s fresh helpers standIns packets area (subst (λ (y : Sizes). Listed y fresh helpers standIns) (sym ez) f)
+
+-- ---- for code
+
+-- the share by the runs of helpers and of stand-ins and the three parts that lie for the a-th fresh board
+pub share-by : (z : Sizes) (pts : List ℕ) (S e : ℕ) (fresh helpers standIns packets : List ℕ) (a : ℕ) → e ≡ z .r - length fresh
+    → finishedShare z pts S (getD fresh a 0) (piece (z .d) a helpers) (piece (z .d * (2 * S)) a packets) (piece (z .r - length fresh) a standIns ++ othersAt fresh a)
+    (piece (e * S) a (drop (length fresh * (z .d * (2 * S))) packets)
+    ++ piece ((length fresh - 1) * S) a (drop (length fresh * (z .d * (2 * S)) + length fresh * (e * S)) packets))
+    ≡ shareAt z pts S fresh helpers standIns packets a
+unfolding shareAt
+share-by z pts S e fresh helpers standIns packets a ee =
+    ap (λ (k : ℕ). whole (k * S) (length fresh * (z .d * (2 * S))) (length fresh * (k * S))) ee
+    ∙ ap₂ (whole ((z .r - length fresh) * S)) (sym (mul-assoc (length fresh) (z .d) (2 * S))) (sym (mul-assoc (length fresh) (z .r - length fresh) S))
+  where
+    whole : ℕ → ℕ → ℕ → List ℕ
+    whole v x y =
+        finishedShare z pts S (getD fresh a 0) (piece (z .d) a helpers) (piece (z .d * (2 * S)) a packets) (piece (z .r - length fresh) a standIns ++ othersAt fresh a)
+        (piece v a (drop x packets) ++ piece ((length fresh - 1) * S) a (drop (x + y) packets))
+
+-- one share more, and all of them
+pub puts-more : (p : ℕ → ℕ) (f : ℕ → List ℕ) (a : ℕ) (l₀ l now : List ℕ) → now ≡ put l (p a) (f a) → l ≡ puts p f a l₀ → now ≡ puts p f (a + 1) l₀
+puts-more p f a l₀ l now e el = e ∙ ap (λ (x : List ℕ). put x (p a) (f a)) el ∙ ap (λ (m : ℕ). puts p f m l₀) (sym (add-one a))
+
+pub puts-all : (p : ℕ → ℕ) (f : ℕ → List ℕ) (a m : ℕ) (l₀ l : List ℕ) → a ≡ m → l ≡ puts p f a l₀ → l ≡ puts p f m l₀
+puts-all p f a m l₀ l e h = rw e at h
+
+pub length-share-at : (z : Sizes) → Legal z → (pts : List ℕ) (S : ℕ) (fresh helpers standIns packets : List ℕ) (a : ℕ)
+    → length (shareAt z pts S fresh helpers standIns packets a) ≡ S * α z
+unfolding shareAt
+length-share-at z legal pts S fresh helpers standIns packets a = length-finished z pts legal S (getD fresh a 0) _ _ _ _
