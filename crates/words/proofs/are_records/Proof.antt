@@ -1,6 +1,6 @@
--- `words::are_records` meets its contract.
+-- `words::are_records` meets its contract: the second is asked where the first holds.
 -- Assumes nothing.
-use mathlib.Core.Path.{sym, ap, ap₂, _∙_}
+use mathlib.Core.Path.{_≡_, refl, sym, ap, _∙_}
 use mathlib.Core.Bool.{Bool, true, false, not}
 use mathlib.Core.List.{[], _∷_}
 use borrow.Author.Needs.{needs}
@@ -9,11 +9,21 @@ use Rattle.lists.specs.Tests.{alls}
 use Rattle.words.proofs.are_records.Statement.{statement}
 use Rattle.words.proofs.are_records.Tie as tie
 
+first-off : (r a b : Bool) → r ≡ a → not r ≡ true → false ≡ alls (a ∷ b ∷ [])
+first-off r a b e h = sym (ap (λ (t : Bool). alls (t ∷ b ∷ [])) (sym e ∙ not-true r h))
+
+second : (r a b t : Bool) → r ≡ a → not r ≡ false → t ≡ b → t ≡ alls (a ∷ b ∷ [])
+second r a b t e h k = k ∙ last b ∙ sym (ap (λ (x : Bool). alls (x ∷ b ∷ [])) (sym e ∙ not-false r h))
+  where
+    last : (x : Bool) → x ≡ alls (true ∷ x ∷ [])
+    last true = refl
+    last false = refl
+
 pub are-records-spec : {M : Type 1} → statement M
 are-records-spec =
     tie.close
     (tie.spec
-    ?
-    ?
-    ?
-    ?)
+    (λ c κs. search needs)
+    (λ c. first-off (c .before .is-record .result) _ _ (c .before .is-record .ensures) (c .if1 .taken))
+    (λ c κs. search needs)
+    (λ c. let k = c .before in second (k .before .is-record .result) _ _ (c .is-repair .result) (k .before .is-record .ensures) (k .if1 .left) (c .is-repair .ensures)))
