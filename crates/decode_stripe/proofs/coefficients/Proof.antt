@@ -47,11 +47,20 @@ st-rows-of c = st-whole-vectors2 (whole-vectors2-at-rows-of c)
 abbrev st-slice-known8 : tie.After-slice-known8 → tie.Start
 st-slice-known8 c = st-rows-of (rows-of-at-slice-known8 c)
 
+abbrev slice-known8-at-values-arg2 : tie.After-values-arg2 → tie.After-slice-known8
+slice-known8-at-values-arg2 c = c .before .before
+
+abbrev values-arg2-at-values : tie.After-values → tie.After-values-arg2
+values-arg2-at-values c = c .before .before
+
 abbrev rows-of-at-values : tie.After-values → tie.After-rows-of
-rows-of-at-values c = rows-of-at-slice-known8 (c .before .before .before .before)
+rows-of-at-values c = rows-of-at-slice-known8 (slice-known8-at-values-arg2 (values-arg2-at-values c))
+
+abbrev values-at-values-arg5 : tie.After-values-arg5 → tie.After-values
+values-at-values-arg5 c = c .before .before .before .before
 
 abbrev values-at-values2 : tie.After-values2 → tie.After-values
-values-at-values2 c = c .before .before .before .before .before
+values-at-values2 c = values-at-values-arg5 (c .before)
 
 abbrev rows-of-at-values2 : tie.After-values2 → tie.After-rows-of
 rows-of-at-values2 c = rows-of-at-values (values-at-values2 c)
@@ -62,11 +71,17 @@ values2-at-slice-known10 c = c .before .before
 abbrev st-slice-known10 : tie.After-slice-known10 → tie.Start
 st-slice-known10 c = st-rows-of (rows-of-at-values2 (values2-at-slice-known10 c))
 
+abbrev slice-known10-at-tops-arg2 : tie.After-tops-arg2 → tie.After-slice-known10
+slice-known10-at-tops-arg2 c = c .before .before
+
 abbrev values2-at-tops : tie.After-tops → tie.After-values2
-values2-at-tops c = values2-at-slice-known10 (c .before .before .before)
+values2-at-tops c = values2-at-slice-known10 (slice-known10-at-tops-arg2 (c .before))
+
+abbrev tops-at-by-rows-arg2 : tie.After-by-rows-arg2 → tie.After-tops
+tops-at-by-rows-arg2 c = c .before .before .before .before
 
 abbrev tops-at-by-rows : tie.After-by-rows → tie.After-tops
-tops-at-by-rows c = c .before .before .before .before .before
+tops-at-by-rows c = tops-at-by-rows-arg2 (c .before)
 
 -- the sizes are legal
 facts : (c : tie.Start) → Legal (c .args .sizes)
@@ -148,11 +163,11 @@ part-values-start-2 : tie.Need-part-values-start-2
 part-values-start-2 c = search needs
 
 part-values-end-2 : tie.Need-part-values-end-2
-part-values-end-2 c = let g = st-slice-known8 (c .before .before) in omega (arith, square g, g .pre .18)
+part-values-end-2 c = let g = st-slice-known8 (slice-known8-at-values-arg2 c) in omega (arith, square g, g .pre .18)
 
 values-requires : tie.Need-values-requires
 values-requires c κs =
-    let o = rows-of-at-slice-known8 (c .before .before .before) in
+    let o = rows-of-at-slice-known8 (slice-known8-at-values-arg2 (c .before)) in
     let g = st-rows-of o in
     let z = g .args .sizes in
     let f = facts g in
@@ -173,7 +188,7 @@ values-requires c κs =
 
 values-requires-2 : tie.Need-values-requires-2
 values-requires-2 c κs =
-    let o = rows-of-at-values (c .before .before .before .before) in
+    let o = rows-of-at-values (values-at-values-arg5 c) in
     let g = st-rows-of o in
     let z = g .args .sizes in
     let f = facts g in
@@ -196,7 +211,7 @@ sub-tops c = omega (arith, facts (st-slice-known10 c))
 
 tops-requires : tie.Need-tops-requires
 tops-requires c κs =
-    let v2 = values2-at-slice-known10 (c .before .before) in
+    let v2 = values2-at-slice-known10 (slice-known10-at-tops-arg2 c) in
     let o = rows-of-at-values2 v2 in
     let g = st-rows-of o in
     let z = g .args .sizes in
@@ -210,33 +225,36 @@ tops-requires c κs =
 
 by-rows-requires : tie.Need-by-rows-requires
 by-rows-requires c κs =
-    let v2 = values2-at-tops (c .before .before .before .before) in
+    let v2 = values2-at-tops (tops-at-by-rows-arg2 c) in
     let g = st-rows-of (rows-of-at-values2 v2) in
     let f = facts g in
     let l = ap length (v2 .values2 .ensures) ∙ length-values _ _ _ _ _ _ _ ∙ ap₂ _*_ (g .pre .2) (g .pre .4) in
     (omega (arith, f), omega (arith, f), omega (arith, l), omega (arith, g .pre .12), g .pre .19)
 
+abbrev by-rows-at-slice-known12 : tie.After-slice-known12 → tie.After-by-rows
+by-rows-at-slice-known12 c = c .before .before
+
 same-length : tie.Need-same-length
-same-length c = search needs
+same-length c = slice-known8-at-values-arg2 (values-arg2-at-values (values-at-values2 (values2-at-tops (tops-at-by-rows (by-rows-at-slice-known12 c))))) .before .before .before .fs .given
 
 same-length-2 : tie.Need-same-length-2
-same-length-2 c = search needs
+same-length-2 c = slice-known8-at-values-arg2 (values-arg2-at-values (values-at-values2 (values2-at-tops (tops-at-by-rows (by-rows-at-slice-known12 c))))) .before .gs .given
 
 same-length-3 : tie.Need-same-length-3
-same-length-3 c = search needs
+same-length-3 c = slice-known10-at-tops-arg2 (tops-at-by-rows (by-rows-at-slice-known12 c) .before) .before .vf .given
 
 same-length-4 : tie.Need-same-length-4
-same-length-4 c = search needs
+same-length-4 c = values2-at-tops (tops-at-by-rows (by-rows-at-slice-known12 c)) .before .before .before .before .vg .given .1
 
 same-length-5 : tie.Need-same-length-5
-same-length-5 c = search needs
+same-length-5 c = c .before .cf .given
 
 same-length-6 : tie.Need-same-length-6
-same-length-6 c = search needs
+same-length-6 c = by-rows-at-slice-known12 c .before .before .before .before .tp .given
 
 returns : tie.Need-returns
 returns c =
-    let y = c .before .before in
+    let y = by-rows-at-slice-known12 c in
     let t = tops-at-by-rows y in
     let v2 = values2-at-tops t in
     let v = values-at-values2 v2 in

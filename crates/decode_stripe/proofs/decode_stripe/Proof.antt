@@ -31,17 +31,29 @@ lent-bytes-at-struct-known c = c .before .before .before .before .before .before
 abbrev st-struct-known : tie.After-struct-known → tie.Start
 st-struct-known c = st-lent-bytes (lent-bytes-at-struct-known c)
 
+abbrev struct-known-at-coefficients-arg4 : tie.After-coefficients-arg4 → tie.After-struct-known
+struct-known-at-coefficients-arg4 c = c .before .before .before .before
+
 abbrev st-coefficients-arg4 : tie.After-coefficients-arg4 → tie.Start
-st-coefficients-arg4 c = st-struct-known (c .before .before .before .before)
+st-coefficients-arg4 c = st-struct-known (struct-known-at-coefficients-arg4 c)
 
 abbrev lent-bytes-at-coefficients : tie.After-coefficients → tie.After-shared-slice-known5
-lent-bytes-at-coefficients c = lent-bytes-at-struct-known (c .before .before .before .before .before .before .before)
+lent-bytes-at-coefficients c = lent-bytes-at-struct-known (struct-known-at-coefficients-arg4 (c .before .before .before))
 
 abbrev st-coefficients : tie.After-coefficients → tie.Start
 st-coefficients c = st-lent-bytes (lent-bytes-at-coefficients c)
 
+abbrev tp-at-stripe-of-arg4 : tie.After-stripe-of-arg4 → tie.After-tp
+tp-at-stripe-of-arg4 c = c .before .before .before .before .before
+
+abbrev vg-at-stripe-of-arg4 : tie.After-stripe-of-arg4 → tie.After-vg
+vg-at-stripe-of-arg4 c = tp-at-stripe-of-arg4 c .before .before .before .before
+
+abbrev gs-at-vg : tie.After-vg → tie.After-gs
+gs-at-vg c = c .before .before .before .before
+
 abbrev coefficients-at-stripe-of-arg4 : tie.After-stripe-of-arg4 → tie.After-coefficients
-coefficients-at-stripe-of-arg4 c = c .before .before .before .before .before .before .before .before .before .before .before .before .before .before .before .before
+coefficients-at-stripe-of-arg4 c = gs-at-vg (vg-at-stripe-of-arg4 c) .before .before .before
 
 abbrev st-stripe-of-arg4 : tie.After-stripe-of-arg4 → tie.Start
 st-stripe-of-arg4 c = st-coefficients (coefficients-at-stripe-of-arg4 c)
@@ -135,28 +147,28 @@ stripe-of-requires c κs =
     (g .pre .0 .sized, g .pre .5 .seeds-long, g-long m, long, g .pre .6 .all-columns, g .pre .7)
 
 same-length : tie.Need-same-length
-same-length c = search needs
+same-length c = gs-at-vg (vg-at-stripe-of-arg4 (stripe-of-at-end c .before)) .before .before .fs .given
 
 same-length-2 : tie.Need-same-length-2
-same-length-2 c = search needs
+same-length-2 c = gs-at-vg (vg-at-stripe-of-arg4 (stripe-of-at-end c .before)) .gs .given
 
 same-length-3 : tie.Need-same-length-3
-same-length-3 c = search needs
+same-length-3 c = vg-at-stripe-of-arg4 (stripe-of-at-end c .before) .before .before .vf .given
 
 same-length-4 : tie.Need-same-length-4
-same-length-4 c = search needs
+same-length-4 c = vg-at-stripe-of-arg4 (stripe-of-at-end c .before) .vg .given
 
 same-length-5 : tie.Need-same-length-5
-same-length-5 c = search needs
+same-length-5 c = tp-at-stripe-of-arg4 (stripe-of-at-end c .before) .tp .given
 
 same-length-6 : tie.Need-same-length-6
 same-length-6 c = search needs
 
 same-length-7 : tie.Need-same-length-7
-same-length-7 c = search needs
+same-length-7 c = c .before .before .before .columns .given
 
 same-length-8 : tie.Need-same-length-8
-same-length-8 c = search needs
+same-length-8 c = c .before .u .given
 
 returns : tie.Need-returns
 returns c =

@@ -41,7 +41,7 @@ finished-share-spec =
     (λ c. let f = facts (st-at-struct-known2 c) in search needs)
     (λ c. search needs)
     (λ c. search needs)
-    (λ c. let f = facts (st-at-all c) in search needs)
+    (λ c. omega (arith, facts (st-at-all c), st-at-all c .pre))
     share-in-requires
-    (λ c. search needs)
+    (λ c. c .before .out .given)
     (λ c. search needs))

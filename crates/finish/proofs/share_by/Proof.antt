@@ -39,14 +39,17 @@ st-loop c = st-struct-known2 (c .before)
 abbrev st-turn : tie.In-loop Inv-loop μ-loop → tie.Start Inv-loop μ-loop
 st-turn c = st-loop (c .before)
 
+abbrev turn-at-stripe-by-arg4 : tie.After-stripe-by-arg4 Inv-loop μ-loop → tie.In-loop Inv-loop μ-loop
+turn-at-stripe-by-arg4 c = c .before .before .before .before
+
 abbrev st-stripe-by-arg4 : tie.After-stripe-by-arg4 Inv-loop μ-loop → tie.Start Inv-loop μ-loop
-st-stripe-by-arg4 c = st-turn (c .before .before .before .before)
+st-stripe-by-arg4 c = st-turn (turn-at-stripe-by-arg4 c)
 
 abbrev turn-at-stripe-by-arg5 : tie.After-stripe-by-arg5 Inv-loop μ-loop → tie.In-loop Inv-loop μ-loop
-turn-at-stripe-by-arg5 c = c .before .before .before .before .before
+turn-at-stripe-by-arg5 c = turn-at-stripe-by-arg4 (c .before)
 
 abbrev st-stripe-by-arg5 : tie.After-stripe-by-arg5 Inv-loop μ-loop → tie.Start Inv-loop μ-loop
-st-stripe-by-arg5 c = st-stripe-by-arg4 (c .before)
+st-stripe-by-arg5 c = st-turn (turn-at-stripe-by-arg5 c)
 
 abbrev g-at-turn-end : tie.After-slice-known10 Inv-loop μ-loop → tie.After-g Inv-loop μ-loop
 g-at-turn-end c = c .before .before .before .before .before
@@ -54,8 +57,11 @@ g-at-turn-end c = c .before .before .before .before .before
 abbrev firsts-at-turn-end : tie.After-slice-known10 Inv-loop μ-loop → tie.After-firsts Inv-loop μ-loop
 firsts-at-turn-end c = g-at-turn-end c .before .before .before .before
 
+abbrev stripe-by-arg5-at-firsts : tie.After-firsts Inv-loop μ-loop → tie.After-stripe-by-arg5 Inv-loop μ-loop
+stripe-by-arg5-at-firsts c = c .before .before
+
 abbrev loop-at-turn-end : tie.After-slice-known10 Inv-loop μ-loop → tie.At-loop Inv-loop μ-loop
-loop-at-turn-end c = turn-at-stripe-by-arg5 (firsts-at-turn-end c .before .before) .before
+loop-at-turn-end c = turn-at-stripe-by-arg5 (stripe-by-arg5-at-firsts (firsts-at-turn-end c)) .before
 
 abbrev st-turn-end : tie.After-slice-known10 Inv-loop μ-loop → tie.Start Inv-loop μ-loop
 st-turn-end c = st-loop (loop-at-turn-end c)
@@ -74,7 +80,7 @@ loop-holds : tie.Need-loop-holds Inv-loop μ-loop
 loop-holds c = (ap (λ (m : ℕ). drop m (st-struct-known2 c .args .out .now)) (sym (zero-mul (α (st-struct-known2 c .args .sizes)))), omega arith, refl, refl, refl, refl, refl)
 
 part-stripe-by-end : tie.Need-part-stripe-by-end Inv-loop μ-loop
-part-stripe-by-end c = omega (arith, stripe-end (c .before .before .before .before), few (st-stripe-by-arg4 c))
+part-stripe-by-end c = omega (arith, stripe-end (turn-at-stripe-by-arg4 c), few (st-stripe-by-arg4 c))
 
 stripe-by-requires : tie.Need-stripe-by-requires Inv-loop μ-loop
 stripe-by-requires c κs =
@@ -91,9 +97,9 @@ stripe-by-requires c κs =
       p .5,
       l .inv .3 ∙ p .6,
       l .inv .4 ∙ p .7,
-      omega arith,
-      omega arith,
-      omega arith,
+      omega (arith, p),
+      omega (arith, p),
+      omega (arith, p),
       ap length (part-piece (α z) (l .s) (l .out)) ∙ length-piece (α z) (l .s) (l .out) n,
     )
 
@@ -107,7 +113,7 @@ loop-again c =
           (λ t h. length-stripe z (facts (st-turn-end c)) (a .i) (a .lanes) (a .stripes) t (a .rows .now) (a .packets .now) (a .exchanges .now))
           (firsts-at-turn-end c .before .stripe-by .ensures ∙ ap (λ (k : ℕ). stripeBy z (a .i) k (a .rows .now) (a .stripes) (l .s) (a .packets .now) (a .exchanges .now)) L)
           (l .inv .0),
-      omega arith,
+      omega (arith, turn-at-stripe-by-arg5 (stripe-by-arg5-at-firsts (firsts-at-turn-end c)) .loop-test .taken),
       c .before .out .given .1 ∙ l .inv .2,
       firsts-at-turn-end c .firsts .given ∙ l .inv .3,
       g-at-turn-end c .before .before .got .given ∙ l .inv .4,
@@ -127,20 +133,20 @@ share-by-spec =
     (tie.spec
     Inv-loop
     μ-loop
-    (λ c. let f = facts (st-struct-known c) in search needs)
-    (λ c. let f = facts (st-struct-known2 c) in search needs)
+    (λ c. omega (arith, facts (st-struct-known c)))
+    (λ c. let f = facts (st-struct-known2 c) in omega arith)
     (λ c. let f = facts (st-struct-known2 c) in search needs)
     loop-holds
     (λ c. omega (arith, stripe-end c, few (st-turn c)))
     (λ c. omega (arith, stripe-end c, few (st-turn c)))
     (λ c. search needs)
-    (λ c. search needs)
+    (λ c. omega arith)
     part-stripe-by-end
     stripe-by-requires
-    (λ c. search needs)
-    (λ c. search needs)
+    (λ c. omega (arith, loop-at-turn-end c .loop .inv, turn-at-stripe-by-arg5 (stripe-by-arg5-at-firsts (firsts-at-turn-end c)) .loop-test .taken, st-turn-end c .pre))
+    (λ c. omega (arith, turn-at-stripe-by-arg5 (stripe-by-arg5-at-firsts (firsts-at-turn-end c)) .loop-test .taken))
     loop-again
-    (λ c. search needs)
+    (λ c. omega (arith, c .before .loop .inv))
     (λ c. search needs)
     (λ c. search needs)
     (λ c. search needs)

@@ -32,14 +32,23 @@ st-board-rows-arg2 c = st-slice-known3 (c .before .before .before)
 abbrev whole-vectors-at-board-rows : tie.After-board-rows → tie.After-whole-vectors
 whole-vectors-at-board-rows c = c .before .before .before
 
+abbrev rows-at-share-work-arg2 : tie.After-share-work-arg2 → tie.After-rows
+rows-at-share-work-arg2 c = c .before .before .before
+
+abbrev board-rows-at-share-work-arg2 : tie.After-share-work-arg2 → tie.After-board-rows
+board-rows-at-share-work-arg2 c = rows-at-share-work-arg2 c .before .before .before
+
 abbrev whole-vectors-at-share-work-arg2 : tie.After-share-work-arg2 → tie.After-whole-vectors
-whole-vectors-at-share-work-arg2 c = whole-vectors-at-board-rows (c .before .before .before .before .before .before)
+whole-vectors-at-share-work-arg2 c = whole-vectors-at-board-rows (board-rows-at-share-work-arg2 c)
 
 abbrev st-share-work-arg2 : tie.After-share-work-arg2 → tie.Start
 st-share-work-arg2 c = st-slice-known3 (whole-vectors-at-share-work-arg2 c .before)
 
+abbrev share-work-arg2-at-slice-known6 : tie.After-slice-known6 → tie.After-share-work-arg2
+share-work-arg2-at-slice-known6 c = c .before .before .before
+
 abbrev board-rows-at-end : tie.After-slice-known6 → tie.After-board-rows
-board-rows-at-end c = c .before .before .before .before .before .before .before .before .before
+board-rows-at-end c = board-rows-at-share-work-arg2 (share-work-arg2-at-slice-known6 c)
 
 abbrev whole-vectors-at-end : tie.After-slice-known6 → tie.After-whole-vectors
 whole-vectors-at-end c = whole-vectors-at-board-rows (board-rows-at-end c)
@@ -69,10 +78,10 @@ board-rows-requires c κs =
       p .1,
       below-more (a .sizes .n) 32 (a .helpers .now) (f .few) (k .0),
       below-more (a .sizes .n) 32 (a .partners .now) (f .few) (k .1),
-      omega arith,
-      omega arith,
-      omega arith,
-      omega arith,
+      omega (arith, p, f, k),
+      omega (arith, p, f, k),
+      omega (arith, p, f, k),
+      omega (arith, p, f, k),
     )
 
 share-work-requires : tie.Need-share-work-requires
@@ -82,7 +91,7 @@ share-work-requires c κs =
       p .0,
       k .2,
       p .4,
-      omega (arith, c .before .before .before .rows .given),
+      omega (arith, rows-at-share-work-arg2 c .rows .given),
       p .5,
       p .6,
       whole-vectors-at-share-work-arg2 c .whole-vectors .ensures .0,
@@ -110,7 +119,7 @@ share-in-spec =
     (λ c κs. let f = facts (st-slice-known3 c) in search needs)
     board-rows-requires
     share-work-requires
-    (λ c. search needs)
-    (λ c. search needs)
+    (λ c. rows-at-share-work-arg2 (share-work-arg2-at-slice-known6 c) .before .before .all .given)
+    (λ c. rows-at-share-work-arg2 (share-work-arg2-at-slice-known6 c) .rows .given)
     (λ c. search needs)
     returns)

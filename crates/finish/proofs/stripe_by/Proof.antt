@@ -21,14 +21,17 @@ st-received c = c .before .before .before .before .before .before .before .befor
 abbrev st-gather-arg : tie.After-gather-arg → tie.Start
 st-gather-arg c = st-received (c .before .before .before)
 
+abbrev gather-arg-at-row-sums-arg : tie.After-row-sums-arg → tie.After-gather-arg
+gather-arg-at-row-sums-arg c = c .before .before .before .before
+
 abbrev st-row-sums-arg : tie.After-row-sums-arg → tie.Start
-st-row-sums-arg c = st-gather-arg (c .before .before .before .before)
+st-row-sums-arg c = st-gather-arg (gather-arg-at-row-sums-arg c)
 
 abbrev firsts-at-row-sums-arg3 : tie.After-row-sums-arg3 → tie.After-firsts
-firsts-at-row-sums-arg3 c = c .before .before .before .before .before .before .before .before
+firsts-at-row-sums-arg3 c = gather-arg-at-row-sums-arg (c .before .before) .before .before
 
 abbrev st-row-sums-arg3 : tie.After-row-sums-arg3 → tie.Start
-st-row-sums-arg3 c = st-row-sums-arg (c .before .before)
+st-row-sums-arg3 c = st-received (firsts-at-row-sums-arg3 c .before)
 
 abbrev got-at-row-sums : tie.After-row-sums → tie.After-got
 got-at-row-sums c = c .before .before .before .before .before
@@ -39,11 +42,17 @@ g-at-finish-arg5 c = c .before .before .before .before .before .before
 abbrev got-at-finish-arg5 : tie.After-finish-arg5 → tie.After-got
 got-at-finish-arg5 c = got-at-row-sums (g-at-finish-arg5 c .before)
 
+abbrev row-sums-arg3-at-g : tie.After-g → tie.After-row-sums-arg3
+row-sums-arg3-at-g c = c .before .before
+
 abbrev st-finish-arg5 : tie.After-finish-arg5 → tie.Start
-st-finish-arg5 c = st-row-sums-arg3 (g-at-finish-arg5 c .before .before)
+st-finish-arg5 c = st-row-sums-arg3 (row-sums-arg3-at-g (g-at-finish-arg5 c))
+
+abbrev f-at-slice-known11 : tie.After-slice-known11 → tie.After-f
+f-at-slice-known11 c = c .before .before .before
 
 abbrev finish-at-end : tie.After-slice-known11 → tie.After-finish
-finish-at-end c = c .before .before .before .before .before .before
+finish-at-end c = f-at-slice-known11 c .before .before .before
 
 abbrev row-sums-at-end : tie.After-slice-known11 → tie.After-row-sums
 row-sums-at-end c = g-at-finish-arg5 (finish-at-end c .before) .before
@@ -69,8 +78,8 @@ row-sums-requires c κs =
     let p = st-row-sums-arg3 c .pre in
     let a = st-row-sums-arg3 c .args in
     let l = firsts-at-row-sums-arg3 c .firsts .given in
-    let r : length (take (a .sizes .d * 32 - 0) (drop 0 (a .rows .now))) ≡ a .sizes .d * 32 = simp length-take (omega arith) in
-    (omega arith, omega arith, omega arith)
+    let r : length (take (a .sizes .d * 32 - 0) (drop 0 (a .rows .now))) ≡ a .sizes .d * 32 = simp length-take (omega (arith, p .4)) in
+    (omega (arith, l, p .7), omega (arith, l, p .7, f .enough, f .few), omega (arith, p .10, p .11))
 
 finish-requires : tie.Need-finish-requires
 finish-requires c κs =
@@ -80,8 +89,17 @@ finish-requires c κs =
     let l = got-at-finish-arg5 c .got .given in
     let g = g-at-finish-arg5 c .g .given in
     let r : length (take (length (a .rows .now) - a .sizes .d * 32) (drop (a .sizes .d * 32) (a .rows .now))) ≡ (a .sizes .d + a .sizes .r) * 32 =
-    simp (length-take, length-drop) (omega arith) in
-    (p .1, f .few, omega arith, omega arith, omega arith, omega arith, p .9, p .10, omega arith)
+    simp (length-take, length-drop) (omega (arith, p .4)) in (
+      p .1,
+      f .few,
+      omega (arith, l, p .8, f .some-fresh),
+      omega (arith, l, p .8, f .enough, f .few),
+      omega (arith, l, p .8, r),
+      omega (arith, g, p .9, p .11),
+      p .9,
+      p .10,
+      omega (arith, l, p .8, p .12, f .some-read, f .read-helpers),
+    )
 
 returns : tie.Need-returns
 returns c =
@@ -92,7 +110,7 @@ returns c =
     let m : ℕ = z .d * 32 in
     stripe-step z (a .i) (length (a .f .now)) (length (a .g .now)) (a .stripes) (a .s) _ _ (length (a .got .now)) (a .rows .now) (a .packets .now) (a .exchanges .now) _ _ _ _ _ _
     (finish-at-end c .finish .ensures) (row-sums-at-end c .row-sums .ensures) (p .11) (received-at-end c .received .ensures) (got-at-end c .before .gather .ensures)
-    (ap (λ (k : ℕ). take k (a .rows .now)) (sub-zero m)) (take-all (length (a .rows .now) - m) (drop m (a .rows .now)) (simp length-drop (omega arith)))
+    (ap (λ (k : ℕ). take k (a .rows .now)) (sub-zero m)) (take-all (length (a .rows .now) - m) (drop m (a .rows .now)) (simp length-drop (omega (arith, p .4))))
     (omega (arith, got-at-end c .got .given)) (got-at-end c .got .given)
 
 pub stripe-by-spec : {M : Type 1} → statement M
@@ -104,15 +122,15 @@ stripe-by-spec =
     gather-requires
     (λ c. search needs)
     (λ c. search needs)
-    (λ c. let p = st-row-sums-arg c .pre in omega arith)
+    (λ c. omega (arith, st-row-sums-arg c .pre .4))
     row-sums-requires
-    (λ c. search needs)
-    (λ c. search needs)
+    (λ c. omega (arith, st-row-sums-arg3 (row-sums-arg3-at-g (c .before)) .pre))
+    (λ c. omega (arith, st-row-sums-arg3 (row-sums-arg3-at-g (c .before)) .pre))
     (λ c. search needs)
     finish-requires
-    (λ c. search needs)
-    (λ c. search needs)
-    (λ c. search needs)
-    (λ c. search needs)
-    (λ c. search needs)
+    (λ c. firsts-at-row-sums-arg3 (row-sums-at-end c .before) .firsts .given)
+    (λ c. f-at-slice-known11 c .before .before .got2 .given ∙ got-at-end c .got .given)
+    (λ c. g-at-finish-arg5 (finish-at-end c .before) .g .given)
+    (λ c. f-at-slice-known11 c .f .given)
+    (λ c. c .before .out .given)
     returns)
