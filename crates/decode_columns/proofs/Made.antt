@@ -1,6 +1,6 @@
 -- A stripe put together of its three parts, as the borrow checker has it.
 -- Assumes nothing.
-use mathlib.Core.Path.{_≡_, ap, ap₂, _∙_}
+use mathlib.Core.Path.{_≡_, refl, ap, ap₂, _∙_}
 use mathlib.Core.List.{List, _++_, append-nil}
 use Prim.Native.Nat.{ℕ, _+_, _*_, _-_, _≤_}
 use native.Mathlib.Omega.{arith}
@@ -14,6 +14,13 @@ use Rattle.sizes.proofs.Legal.{Legal}
 use Rattle.decode_laws.specs.Steps.{cell, byRows, byColumns, turned, parts, stripeBy}
 use Rattle.decode_laws.proofs.Rows.{length-sums}
 use Rattle.decode_laws.proofs.Loops.{three-parts}
+
+-- how long a part is
+pub part-is : (n at to : ℕ) (l : List ℕ) → to ≤ length l → to - at ≡ n → length (take (to - at) (drop at l)) ≡ n
+part-is n at to l h e = length-take-le (to - at) (drop at l) (rw length-drop (omega arith)) ∙ e
+
+pub part-enough : (n at to : ℕ) (l : List ℕ) → to ≤ length l → n ≤ to - at → n ≤ length (take (to - at) (drop at l))
+part-enough n at to l h e = rw (part-is (to - at) at to l h refl) e
 
 pub length-by-rows : (count m : ℕ) (a rows : List ℕ) → length (byRows count m a rows) ≡ count * 32
 unfolding byRows

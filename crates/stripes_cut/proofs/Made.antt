@@ -9,7 +9,7 @@ use native.Mathlib.Numerals.{add-one}
 use native.Mathlib.Decide.{decLt}
 use native.Mathlib.Omega.{arith}
 use lib.Dec.{leb}
-use lib.ListN.{length, getD, take, drop, length-append, length-drop, drop-of-length-le}
+use lib.ListN.{length, getD, take, drop, length-append, length-drop, drop-of-length-le, length-take}
 use lib.Seq.{take-all, take-append-le, drop-drop, length-take-le}
 use borrow.Author.Tests.{leb-true}
 use borrow.Rule.Slice.PartMut.{putMid}
@@ -43,6 +43,14 @@ take-least b n l h = go (decLt n b)
     go : Dec (n < b) → take (b - (b - n)) l ≡ take n l
     go (yes k) = let e : b - (b - n) ≡ n = omega arith in ap (λ (m : ℕ). take m l) e
     go (no k) = take-all (b - (b - n)) l (omega arith) ∙ sym (take-all n l (omega arith))
+
+-- a part of m bytes is not longer
+pub part-few : (at m n : ℕ) (l : List ℕ) → m ≤ n → length (take (at + m - at) (drop at l)) ≤ n
+part-few at m n l h = simp length-take (omega arith)
+
+-- the least of b and what is left ends within
+pub least-end : (at b L m : ℕ) → at ≤ L → m ≡ b - (b - (L - at)) → at + m ≤ L
+least-end at b L m h e = omega arith
 
 -- a turn of the loop over the stripes
 pub stripes-turn : (f : ℕ → List ℕ) (b L s m : ℕ) → ((i : ℕ) → length (f i) ≡ b) → (out₀ out u y : List ℕ)

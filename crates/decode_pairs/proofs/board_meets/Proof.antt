@@ -75,7 +75,7 @@ loop-again c =
     let l = t .before .loop in (
       alls-next (tests g) (length (g .args .boards .now)) (l .j) (t .loop-test .taken)
           (sym (ap₂ eqb (c .before .before .value-at .ensures) (c .before .value-at2 .ensures)) ∙ eq-eqb _ _ (c .if1 .left)) ∙ l .inv .0,
-      omega arith,
+      omega (arith, t),
     )
 
 returns-2 : tie.Need-returns-2 Inv-loop μ-loop

@@ -66,7 +66,7 @@ loop-again c =
     let l = t .before .loop in (
       alls-next (tests g) (length (g .args .boards .now)) (l .i) (t .loop-test .taken)
           (sym (c .before .board-meets .ensures) ∙ not-false (c .before .board-meets .result) (c .if1 .left)) ∙ l .inv .0,
-      omega arith,
+      omega (arith, t),
     )
 
 returns-2 : tie.Need-returns-2 Inv-loop μ-loop

@@ -3,7 +3,6 @@
 use mathlib.Core.Path.{_≡_, sym, ap, _∙_}
 use Prim.Native.Nat.{ℕ, _≤_, _<_, _-_, _+_, _*_}
 use native.Mathlib.Omega.{arith}
-use borrow.Author.Needs.{needs}
 use lib.ListN.{length}
 use Rattle.lists.specs.Lists.{All, Bytes}
 use Rattle.lists.proofs.Alls.{all-of}
@@ -23,8 +22,11 @@ lent-bytes-at-struct-known c = c .before .before .before .before .before
 abbrev st-struct-known : tie.After-struct-known → tie.Start
 st-struct-known c = st-lent-bytes (lent-bytes-at-struct-known c)
 
+abbrev gs-at-boards-meet-arg2 : tie.After-boards-meet-arg2 → tie.After-gs
+gs-at-boards-meet-arg2 c = c .before .before .before
+
 abbrev rows-of-at-boards-meet-arg2 : tie.After-boards-meet-arg2 → tie.After-rows-of
-rows-of-at-boards-meet-arg2 c = c .before .before .before .before .before .before
+rows-of-at-boards-meet-arg2 c = gs-at-boards-meet-arg2 c .before .before .before
 
 abbrev whole-vectors2-at-rows-of : tie.After-rows-of → tie.After-whole-vectors2
 whole-vectors2-at-rows-of c = c .before .before .before
@@ -104,10 +106,10 @@ boards-meet-requires c κs =
     )
 
 same-length : tie.Need-same-length
-same-length c = search needs
+same-length c = gs-at-boards-meet-arg2 (c .before) .before .before .fs .given
 
 same-length-2 : tie.Need-same-length-2
-same-length-2 c = search needs
+same-length-2 c = gs-at-boards-meet-arg2 (c .before) .gs .given
 
 returns : tie.Need-returns
 returns c =

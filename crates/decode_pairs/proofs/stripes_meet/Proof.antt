@@ -29,20 +29,26 @@ abbrev μ-loop : tie.MeasureT-loop
 abbrev st-loop : tie.At-loop Inv-loop μ-loop → tie.Start Inv-loop μ-loop
 st-loop c = c .before .before .before .before .before .before .before .before .before
 
+abbrev turn-at-stripe-meets-arg2 : tie.After-stripe-meets-arg2 Inv-loop μ-loop → tie.In-loop Inv-loop μ-loop
+turn-at-stripe-meets-arg2 c = c .before .before
+
 abbrev loop-at-stripe-meets-arg2 : tie.After-stripe-meets-arg2 Inv-loop μ-loop → tie.At-loop Inv-loop μ-loop
-loop-at-stripe-meets-arg2 c = c .before .before .before
+loop-at-stripe-meets-arg2 c = turn-at-stripe-meets-arg2 c .before
 
 abbrev st-stripe-meets-arg2 : tie.After-stripe-meets-arg2 Inv-loop μ-loop → tie.Start Inv-loop μ-loop
 st-stripe-meets-arg2 c = st-loop (loop-at-stripe-meets-arg2 c)
 
 abbrev turn-at-stripe-meets : tie.After-stripe-meets Inv-loop μ-loop → tie.In-loop Inv-loop μ-loop
-turn-at-stripe-meets c = c .before .before .before
+turn-at-stripe-meets c = turn-at-stripe-meets-arg2 (c .before)
+
+abbrev stripe-meets-at-slice-known4 : tie.After-slice-known4 Inv-loop μ-loop → tie.After-stripe-meets Inv-loop μ-loop
+stripe-meets-at-slice-known4 c = c .before .before .before .before
 
 abbrev stripe-meets-at-then1 : tie.Then1 Inv-loop μ-loop → tie.After-stripe-meets Inv-loop μ-loop
-stripe-meets-at-then1 c = c .before .before .before .before .before
+stripe-meets-at-then1 c = stripe-meets-at-slice-known4 (c .before)
 
 abbrev stripe-meets-at-else1 : tie.Else1 Inv-loop μ-loop → tie.After-stripe-meets Inv-loop μ-loop
-stripe-meets-at-else1 c = c .before .before .before .before .before
+stripe-meets-at-else1 c = stripe-meets-at-slice-known4 (c .before)
 
 abbrev turn-at-then1 : tie.Then1 Inv-loop μ-loop → tie.In-loop Inv-loop μ-loop
 turn-at-then1 c = turn-at-stripe-meets (stripe-meets-at-then1 c)
@@ -65,6 +71,7 @@ loop-holds c = (refl, omega arith, refl, refl)
 
 stripe-meets-requires : tie.Need-stripe-meets-requires Inv-loop μ-loop
 stripe-meets-requires c κs =
+    let more = turn-at-stripe-meets-arg2 c .loop-test .taken in
     let g = st-stripe-meets-arg2 c in
     let a = g .args in
     let l = loop-at-stripe-meets-arg2 c .loop in (
@@ -73,8 +80,8 @@ stripe-meets-requires c κs =
       g .pre .2,
       g .pre .3,
       g .pre .4,
-      placed-before (a .sizes) (a .starts .now) (a .bytes .now) (l .s + 1) (a .stripes) (omega arith) (g .pre .5),
-      omega (arith, g .pre .6),
+      placed-before (a .sizes) (a .starts .now) (a .bytes .now) (l .s + 1) (a .stripes) (omega (arith, l .inv, more, g .pre)) (g .pre .5),
+      omega (arith, g .pre .6, l .inv, more, g .pre),
       g .pre .7,
       g .pre .8,
       l .inv .2 ∙ g .pre .9,
@@ -110,9 +117,9 @@ loop-again c =
     let l = (turn-at-else1 c .before) .loop in (
       alls-next (tests (st-else1 c)) (st-else1 c .args .stripes) (l .s) (turn-at-else1 c .loop-test .taken)
           (sym (stripe-meets-at-else1 c .stripe-meets .ensures) ∙ not-false (stripe-meets-at-else1 c .stripe-meets .result) (c .if1 .left)) ∙ l .inv .0,
-      omega arith,
-      search needs,
-      search needs,
+      omega (arith, l, turn-at-stripe-meets (stripe-meets-at-slice-known4 (c .before)) .loop-test .taken),
+      omega (arith, l),
+      omega (arith, l),
     )
 
 returns-2 : tie.Need-returns-2 Inv-loop μ-loop

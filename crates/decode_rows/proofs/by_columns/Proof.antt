@@ -24,17 +24,20 @@ abbrev μ-loop : tie.MeasureT-loop
 μ-loop count from m a tables out₀ i₀ out i = count - i
 
 -- places in the code
-abbrev start-from-after-slice-known2 : tie.After-slice-known2 Inv-loop μ-loop → tie.Start Inv-loop μ-loop
-start-from-after-slice-known2 c = c .before .before .before .before .before .before .before .before .before .before
-
-abbrev at-loop-from-after-slice-known2 : tie.After-slice-known2 Inv-loop μ-loop → tie.At-loop Inv-loop μ-loop
-at-loop-from-after-slice-known2 c = c .before .before .before .before .before .before
-
 abbrev after-column-sum-from-after-slice-known2 : tie.After-slice-known2 Inv-loop μ-loop → tie.After-column-sum Inv-loop μ-loop
 after-column-sum-from-after-slice-known2 c = c .before .before .before .before
 
+abbrev at-loop-from-after-slice-known2 : tie.After-slice-known2 Inv-loop μ-loop → tie.At-loop Inv-loop μ-loop
+at-loop-from-after-slice-known2 c = after-column-sum-from-after-slice-known2 c .before .before
+
+abbrev st-at-loop : tie.At-loop Inv-loop μ-loop → tie.Start Inv-loop μ-loop
+st-at-loop c = c .before .before .before .before
+
+abbrev start-from-after-slice-known2 : tie.After-slice-known2 Inv-loop μ-loop → tie.Start Inv-loop μ-loop
+start-from-after-slice-known2 c = st-at-loop (at-loop-from-after-slice-known2 c)
+
 abbrev start-from-after-loop : tie.After-loop Inv-loop μ-loop → tie.Start Inv-loop μ-loop
-start-from-after-loop c = c .before .before .before .before .before
+start-from-after-loop c = st-at-loop (c .before)
 
 loop-holds : tie.Need-loop-holds Inv-loop μ-loop
 loop-holds c = ((λ rows lr tr. refl), omega arith, refl)
@@ -67,7 +70,7 @@ add-i : tie.Need-add-i Inv-loop μ-loop
 add-i c = search needs
 
 loop-less : tie.Need-loop-less Inv-loop μ-loop
-loop-less c = search needs
+loop-less c = omega (arith, after-column-sum-from-after-slice-known2 c .before .loop-test .taken)
 
 loop-again : tie.Need-loop-again Inv-loop μ-loop
 loop-again c =
@@ -77,12 +80,12 @@ loop-again c =
       (λ rows lr tr.
           join-loop (λ i. sums (a .m) (λ s. cell (a .a .now) s (a .from + i)) rows) 32 (l .i) (a .out .now) (l .out) _ (λ i h. length-sums (a .m) _ rows)
           ((c .before .before) .put-row .ensures
-          ∙ (after-column-sum-from-after-slice-known2 c) .column-sum .ensures (each (a .m) rows (a .tables .now) lr tr) (omega (arith, length-each (a .m) rows (a .tables .now) lr tr))
+          ∙ (after-column-sum-from-after-slice-known2 c) .column-sum .ensures (each (a .m) rows (a .tables .now) lr tr) (omega (arith, length-each (a .m) rows (a .tables .now) lr tr, l .inv))
           (each-wide (a .m) rows (a .tables .now) lr tr) (each-tabled (a .m) rows (a .tables .now) lr tr)
           ∙ column-made (a .m) rows (a .tables .now) lr tr (λ s. cell (a .a .now) s (a .from + l .i)))
           (l .inv .0 rows lr tr)),
+      omega (arith, after-column-sum-from-after-slice-known2 c .before .loop-test .taken),
       omega arith,
-      search needs,
     )
 
 same-length : tie.Need-same-length Inv-loop μ-loop

@@ -25,26 +25,32 @@ abbrev μ-loop : tie.MeasureT-loop
 μ-loop count m a tables out₀ i₀ out i = count - i
 
 -- places in the code
+abbrev st-at-loop : tie.At-loop Inv-loop μ-loop → tie.Start Inv-loop μ-loop
+st-at-loop c = c .before .before .before .before
+
 abbrev start-from-in-loop : tie.In-loop Inv-loop μ-loop → tie.Start Inv-loop μ-loop
-start-from-in-loop c = c .before .before .before .before .before
+start-from-in-loop c = st-at-loop (c .before)
+
+abbrev loop-at-row-sum-arg : tie.After-row-sum-arg Inv-loop μ-loop → tie.At-loop Inv-loop μ-loop
+loop-at-row-sum-arg c = c .before .before
 
 abbrev start-from-after-row-sum-arg : tie.After-row-sum-arg Inv-loop μ-loop → tie.Start Inv-loop μ-loop
-start-from-after-row-sum-arg c = c .before .before .before .before .before .before
-
-abbrev start-from-after-slice-known2 : tie.After-slice-known2 Inv-loop μ-loop → tie.Start Inv-loop μ-loop
-start-from-after-slice-known2 c = c .before .before .before .before .before .before .before .before .before .before .before
-
-abbrev at-loop-from-after-slice-known2 : tie.After-slice-known2 Inv-loop μ-loop → tie.At-loop Inv-loop μ-loop
-at-loop-from-after-slice-known2 c = c .before .before .before .before .before .before .before
-
-abbrev in-loop-from-after-slice-known2 : tie.After-slice-known2 Inv-loop μ-loop → tie.In-loop Inv-loop μ-loop
-in-loop-from-after-slice-known2 c = c .before .before .before .before .before .before
+start-from-after-row-sum-arg c = st-at-loop (loop-at-row-sum-arg c)
 
 abbrev after-row-sum-from-after-slice-known2 : tie.After-slice-known2 Inv-loop μ-loop → tie.After-row-sum Inv-loop μ-loop
 after-row-sum-from-after-slice-known2 c = c .before .before .before .before
 
+abbrev in-loop-from-after-slice-known2 : tie.After-slice-known2 Inv-loop μ-loop → tie.In-loop Inv-loop μ-loop
+in-loop-from-after-slice-known2 c = after-row-sum-from-after-slice-known2 c .before .before
+
+abbrev start-from-after-slice-known2 : tie.After-slice-known2 Inv-loop μ-loop → tie.Start Inv-loop μ-loop
+start-from-after-slice-known2 c = start-from-in-loop (in-loop-from-after-slice-known2 c)
+
+abbrev at-loop-from-after-slice-known2 : tie.After-slice-known2 Inv-loop μ-loop → tie.At-loop Inv-loop μ-loop
+at-loop-from-after-slice-known2 c = in-loop-from-after-slice-known2 c .before
+
 abbrev start-from-after-loop : tie.After-loop Inv-loop μ-loop → tie.Start Inv-loop μ-loop
-start-from-after-loop c = c .before .before .before .before .before
+start-from-after-loop c = st-at-loop (c .before)
 
 -- where the numbers of a turn end
 end : (c : tie.In-loop Inv-loop μ-loop) → let a = (start-from-in-loop c) .args in (c .before) .loop .i * a .m + a .m ≤ a .count * a .m
@@ -78,10 +84,9 @@ row-sum-requires : tie.Need-row-sum-requires Inv-loop μ-loop
 row-sum-requires c κs =
     let e = end (c .before) in
     let g = (start-from-after-row-sum-arg c) in
-    let l : length (take ((c .before .before) .loop .i * g .args .m + g .args .m - (c .before .before) .loop .i * g .args .m) (drop ((c .before .before) .loop .i * g .args .m) (g .args .a .now)))
-    ≡ g .args .m =
-    simp (length-take, length-drop) (omega arith) in
-    (omega arith, rw l (g .pre .3))
+    let i = loop-at-row-sum-arg c .loop .i in
+    let l : length (take (i * g .args .m + g .args .m - i * g .args .m) (drop (i * g .args .m) (g .args .a .now))) ≡ g .args .m = simp (length-take, length-drop) (omega (arith, e, g .pre)) in
+    (omega (arith, e, g .pre), rw l (g .pre .3))
 
 sub-put-row : tie.Need-sub-put-row Inv-loop μ-loop
 sub-put-row c = search needs
@@ -96,28 +101,29 @@ put-row-requires : tie.Need-put-row-requires Inv-loop μ-loop
 put-row-requires c κs = search needs
 
 add-i : tie.Need-add-i Inv-loop μ-loop
-add-i c = search needs
+add-i c = omega (arith, at-loop-from-after-slice-known2 c .loop .inv, in-loop-from-after-slice-known2 c .loop-test .taken, start-from-after-slice-known2 c .pre)
 
 loop-less : tie.Need-loop-less Inv-loop μ-loop
-loop-less c = search needs
+loop-less c = omega (arith, in-loop-from-after-slice-known2 c .loop-test .taken)
 
 loop-again : tie.Need-loop-again Inv-loop μ-loop
 loop-again c =
+    let more = in-loop-from-after-slice-known2 c .loop-test .taken in
     let g = (start-from-after-slice-known2 c) in
     let a = g .args in
     let l = (at-loop-from-after-slice-known2 c) .loop in
     let e = end (in-loop-from-after-slice-known2 c) in (
       (λ rows lr tr.
           let f : ℕ → List ℕ = λ i. sums (a .m) (λ s. getD (a .a .now) (i * a .m + s) 0) rows in
-          let n : length (take (l .i * a .m + a .m - l .i * a .m) (drop (l .i * a .m) (a .a .now))) ≡ a .m = simp (length-take, length-drop) (omega arith) in
+          let n : length (take (l .i * a .m + a .m - l .i * a .m) (drop (l .i * a .m) (a .a .now))) ≡ a .m = simp (length-take, length-drop) (omega (arith, e, g .pre)) in
           join-loop f 32 (l .i) (a .out .now) (l .out) _ (λ i h. length-sums (a .m) _ rows)
           ((c .before .before) .put-row .ensures
-          ∙ (after-row-sum-from-after-slice-known2 c) .row-sum .ensures (each (a .m) rows (a .tables .now) lr tr) (omega (arith, length-each (a .m) rows (a .tables .now) lr tr))
+          ∙ (after-row-sum-from-after-slice-known2 c) .row-sum .ensures (each (a .m) rows (a .tables .now) lr tr) (omega (arith, length-each (a .m) rows (a .tables .now) lr tr, l .inv, more))
           (each-wide (a .m) rows (a .tables .now) lr tr) (each-tabled (a .m) rows (a .tables .now) lr tr)
-          ∙ row-made (a .m) rows (a .tables .now) lr tr (a .a .now) (l .i) (omega arith))
+          ∙ row-made (a .m) rows (a .tables .now) lr tr (a .a .now) (l .i) (omega (arith, e, g .pre)))
           (l .inv .0 rows lr tr)),
-      omega arith,
-      search needs,
+      omega (arith, e, g .pre),
+      omega (arith, e, l .inv, more),
     )
 
 same-length : tie.Need-same-length Inv-loop μ-loop

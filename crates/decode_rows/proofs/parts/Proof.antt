@@ -24,20 +24,26 @@ abbrev μ-loop : tie.MeasureT-loop
 μ-loop count m rows out₀ i₀ out i = count - i
 
 -- places in the code
+abbrev st-at-slice-known : tie.After-slice-known Inv-loop μ-loop → tie.Start Inv-loop μ-loop
+st-at-slice-known c = c .before .before
+
 abbrev start-from-in-loop : tie.In-loop Inv-loop μ-loop → tie.Start Inv-loop μ-loop
-start-from-in-loop c = c .before .before .before .before
+start-from-in-loop c = st-at-slice-known (c .before .before)
 
-abbrev start-from-after-slice-known2 : tie.After-slice-known2 Inv-loop μ-loop → tie.Start Inv-loop μ-loop
-start-from-after-slice-known2 c = c .before .before .before .before .before .before .before .before .before
-
-abbrev at-loop-from-after-slice-known2 : tie.After-slice-known2 Inv-loop μ-loop → tie.At-loop Inv-loop μ-loop
-at-loop-from-after-slice-known2 c = c .before .before .before .before .before .before
+abbrev turn-at-copy-arg2 : tie.After-copy-arg2 Inv-loop μ-loop → tie.In-loop Inv-loop μ-loop
+turn-at-copy-arg2 c = c .before .before
 
 abbrev in-loop-from-after-slice-known2 : tie.After-slice-known2 Inv-loop μ-loop → tie.In-loop Inv-loop μ-loop
-in-loop-from-after-slice-known2 c = c .before .before .before .before .before
+in-loop-from-after-slice-known2 c = turn-at-copy-arg2 (c .before .before .before)
+
+abbrev start-from-after-slice-known2 : tie.After-slice-known2 Inv-loop μ-loop → tie.Start Inv-loop μ-loop
+start-from-after-slice-known2 c = start-from-in-loop (in-loop-from-after-slice-known2 c)
+
+abbrev at-loop-from-after-slice-known2 : tie.After-slice-known2 Inv-loop μ-loop → tie.At-loop Inv-loop μ-loop
+at-loop-from-after-slice-known2 c = in-loop-from-after-slice-known2 c .before
 
 abbrev start-from-after-loop : tie.After-loop Inv-loop μ-loop → tie.Start Inv-loop μ-loop
-start-from-after-loop c = c .before .before .before .before
+start-from-after-loop c = st-at-slice-known (c .before .before)
 
 -- where the part of a turn ends
 end : (c : tie.In-loop Inv-loop μ-loop) → let a = (start-from-in-loop c) .args in (c .before) .loop .i * a .m + a .m ≤ a .count * a .m
@@ -49,7 +55,7 @@ long : (c : tie.In-loop Inv-loop μ-loop) → let a = (start-from-in-loop c) .ar
 long c = simp (length-take, length-drop) (omega (arith, end c))
 
 loop-holds : tie.Need-loop-holds Inv-loop μ-loop
-loop-holds c = (ap (λ (m : ℕ). drop m ((c .before .before) .args .out .now)) (sym (zero-mul ((c .before .before) .args .m))), omega arith, refl)
+loop-holds c = (ap (λ (m : ℕ). drop m ((st-at-slice-known c) .args .out .now)) (sym (zero-mul ((st-at-slice-known c) .args .m))), omega arith, refl)
 
 mul-from : tie.Need-mul-from Inv-loop μ-loop
 mul-from c = search needs
@@ -83,27 +89,29 @@ part-copy-end-2 c = omega (arith, end (c .before))
 
 copy-requires : tie.Need-copy-requires Inv-loop μ-loop
 copy-requires c κs =
-    let e = long (c .before .before) in
-    simp (length-take, length-drop) (omega arith)
+    let e = long (turn-at-copy-arg2 c) in
+    simp (length-take, length-drop) (omega (arith, e, turn-at-copy-arg2 c .before .loop .inv, turn-at-copy-arg2 c .loop-test .taken, start-from-in-loop (turn-at-copy-arg2 c) .pre))
 
 add-i : tie.Need-add-i Inv-loop μ-loop
-add-i c = search needs
+add-i c = omega (arith, at-loop-from-after-slice-known2 c .loop .inv, in-loop-from-after-slice-known2 c .loop-test .taken, start-from-after-slice-known2 c .pre)
 
 loop-less : tie.Need-loop-less Inv-loop μ-loop
-loop-less c = search needs
+loop-less c = omega (arith, in-loop-from-after-slice-known2 c .loop-test .taken)
 
 loop-again : tie.Need-loop-again Inv-loop μ-loop
 loop-again c =
+    let asked = start-from-after-slice-known2 c .pre in
+    let more = in-loop-from-after-slice-known2 c .loop-test .taken in
     let a = (start-from-after-slice-known2 c) .args in
     let l = (at-loop-from-after-slice-known2 c) .loop in
     let n : (i : ℕ) → i < a .count → length (take (a .m) (drop 0 (piece 32 i (a .rows .now)))) ≡ a .m =
     λ i h. length-take-le (a .m) (piece 32 i (a .rows .now)) (omega
-    (arith, (start-from-after-slice-known2 c) .pre, length-piece 32 i (a .rows .now) (omega (arith, (start-from-after-slice-known2 c) .pre, row-fits i (a .count) 32 h)))) in (
-      join-loop (λ i. take (a .m) (drop 0 (piece 32 i (a .rows .now)))) (a .m) (l .i) (a .out .now) (l .out) _ (λ i h. n i (omega arith))
+    (arith, (start-from-after-slice-known2 c) .pre, length-piece 32 i (a .rows .now) (omega (arith, (start-from-after-slice-known2 c) .pre, row-fits i (a .count) 32 h, l .inv, more, asked)))) in (
+      join-loop (λ i. take (a .m) (drop 0 (piece 32 i (a .rows .now)))) (a .m) (l .i) (a .out .now) (l .out) _ (λ i h. n i (omega (arith, l .inv, more, asked)))
           ((c .before .before) .copy .ensures ∙ ap₂ (λ (m : ℕ) (p : List ℕ). take m p) (long (in-loop-from-after-slice-known2 c)) (part-piece 32 (l .i) (a .rows .now)))
           (l .inv .0),
-      omega arith,
-      search needs,
+      omega (arith, l .inv, more, asked),
+      omega (arith, asked),
     )
 
 same-length : tie.Need-same-length Inv-loop μ-loop

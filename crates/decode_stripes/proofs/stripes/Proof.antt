@@ -32,8 +32,11 @@ st-targets c = st-struct-known3 (c .before .before)
 abbrev st-boards-from : tie.After-boards-from → tie.Start
 st-boards-from c = st-targets (c .before)
 
+abbrev boards-from-at-targets3 : tie.After-targets3 → tie.After-boards-from
+boards-from-at-targets3 c = c .before .before
+
 abbrev st-stripes-by-arg : tie.After-stripes-by-arg → tie.Start
-st-stripes-by-arg c = st-boards-from (c .before .before .before)
+st-stripes-by-arg c = st-boards-from (boards-from-at-targets3 (c .before))
 
 abbrev st-stripes-by-arg3 : tie.After-stripes-by-arg3 → tie.Start
 st-stripes-by-arg3 c = st-stripes-by-arg (c .before .before)
@@ -42,7 +45,7 @@ abbrev st-stripes-by-arg5 : tie.After-stripes-by-arg5 → tie.Start
 st-stripes-by-arg5 c = st-stripes-by-arg3 (c .before .before)
 
 abbrev boards-from-at-stripes-by-arg7 : tie.After-stripes-by-arg7 → tie.After-boards-from
-boards-from-at-stripes-by-arg7 c = c .before .before .before .before .before .before .before .before .before
+boards-from-at-stripes-by-arg7 c = boards-from-at-targets3 (c .before .before .before .before .before .before .before)
 
 abbrev st-stripes-by-arg7 : tie.After-stripes-by-arg7 → tie.Start
 st-stripes-by-arg7 c = st-boards-from (boards-from-at-stripes-by-arg7 c)
@@ -128,7 +131,7 @@ part-stripes-by-start : tie.Need-part-stripes-by-start
 part-stripes-by-start c = search needs
 
 part-stripes-by-end : tie.Need-part-stripes-by-end
-part-stripes-by-end c = simp length-append (omega (arith, facts (st-boards-from (c .before .before)), near-made (c .before .before)))
+part-stripes-by-end c = simp length-append (omega (arith, facts (st-boards-from (boards-from-at-targets3 c)), near-made (boards-from-at-targets3 c)))
 
 sub-stripes-by-2 : tie.Need-sub-stripes-by-2
 sub-stripes-by-2 c = search needs
@@ -170,7 +173,7 @@ sub-stripes-by-6 : tie.Need-sub-stripes-by-6
 sub-stripes-by-6 c = search needs
 
 part-stripes-by-start-6 : tie.Need-part-stripes-by-start-6
-part-stripes-by-start-6 c = search needs
+part-stripes-by-start-6 c = omega (arith, st-stripes-by-arg5 c .pre)
 
 part-stripes-by-end-6 : tie.Need-part-stripes-by-end-6
 part-stripes-by-end-6 c = omega (arith, facts (st-stripes-by-arg5 c), st-stripes-by-arg5 c .pre .4 .long)
@@ -185,7 +188,7 @@ stripes-by-requires c κs =
     (p .0, targets-are (a .sizes) f (a .boards .now) _ (first-known g) e, p .1, p .2, p .3, tables-lent (a .sizes) (a .points .now) (a .boards .now) (a .tables .now) _ e (p .4), p .5, p .6)
 
 same-length : tie.Need-same-length
-same-length c = search needs
+same-length c = c .before .out .given
 
 returns : tie.Need-returns
 returns c = search needs

@@ -18,11 +18,14 @@ use Rattle.decode_stripes.proofs.stripes_by.Tie as tie
 abbrev st-stripe-len : tie.After-stripe-len → tie.Start
 st-stripe-len c = c .before .before .before .before .before .before .before .before .before .before .before .before .before
 
+abbrev stripe-len-at-vg : tie.After-vg → tie.After-stripe-len
+stripe-len-at-vg c = c .before .before .before .before
+
 abbrev st-vg : tie.After-vg → tie.Start
-st-vg c = st-stripe-len (c .before .before .before .before)
+st-vg c = st-stripe-len (stripe-len-at-vg c)
 
 abbrev stripe-len-at-columns : tie.After-columns → tie.After-stripe-len
-stripe-len-at-columns c = c .before .before .before .before .before .before .before
+stripe-len-at-columns c = stripe-len-at-vg (c .before .before .before)
 
 abbrev stripe-len-at-stripes-in-arg : tie.After-stripes-in-arg → tie.After-stripe-len
 stripe-len-at-stripes-in-arg c = stripe-len-at-columns (c .before .before)
@@ -144,13 +147,13 @@ stripes-in-requires c κs =
       p .4,
       p .5,
       record {
-        f-rows = part-long _ _ (omega (arith, f));
-        g-rows = part-long _ _ (omega (arith, f));
-        f-values = part-long _ _ (values-few z f);
+        f-rows = part-long (z .k * 32) _ (omega (arith, f));
+        g-rows = part-long (z .k * 32) _ (omega (arith, f));
+        f-values = part-long (z .k * (z .d + z .r)) _ (values-few z f);
         g-values = refl;
-        g-tops = part-long _ _ (tops-few z f);
-        all-rows = part-long _ _ (omega (arith, f));
-        all-columns = part-long _ _ (omega (arith, f));
+        g-tops = part-long ((z .d - z .k) * z .k) _ (tops-few z f);
+        all-rows = part-long (z .d * 32) _ (omega (arith, f));
+        all-columns = part-long ((z .d + z .r) * 32) _ (omega (arith, f));
       },
       part-long _ _ (most (stripe-len-at-stripes-in-arg c)) ∙ whole (stripe-len-at-stripes-in-arg c),
       p .6,
@@ -158,7 +161,7 @@ stripes-in-requires c κs =
     )
 
 same-length : tie.Need-same-length
-same-length c = search needs
+same-length c = c .before .out .given
 
 returns : tie.Need-returns
 returns c = search needs

@@ -37,10 +37,10 @@ part-rows-end c = search needs
 factor-rows-in-requires : tie.Need-factor-rows-in-requires
 factor-rows-in-requires c κs =
     let g = (start-from-after-factor-rows-in-arg c) in
-    (g .pre .0, g .pre .1, g .pre .2, g .pre .3, g .pre .4, g .pre .5, simp (length-take, length-drop) (omega arith), simp (length-take, length-drop) (omega arith), g .pre .6)
+    (g .pre .0, g .pre .1, g .pre .2, g .pre .3, g .pre .4, g .pre .5, simp (length-take, length-drop) (omega (arith, start-from-after-factor-rows-in-arg c .pre)), simp (length-take, length-drop) (omega (arith, start-from-after-factor-rows-in-arg c .pre)), g .pre .6)
 
 same-length : tie.Need-same-length
-same-length c = search needs
+same-length c = c .before .out .given
 
 returns : tie.Need-returns
 returns c = (after-factor-rows-in-from-after-slice-known2 c) .factor-rows-in .ensures

@@ -27,29 +27,29 @@ abbrev μ-loop : tie.MeasureT-loop
 μ-loop sizes points inverses c boards near₀ rows₀ out₀ k m t₀ near rows out t = k - t
 
 -- places in the code
-abbrev start-from-in-loop : tie.In-loop Inv-loop μ-loop → tie.Start Inv-loop μ-loop
-start-from-in-loop c = c .before .before .before .before .before .before .before .before .before
-
 abbrev start-from-after-struct-known : tie.After-struct-known Inv-loop μ-loop → tie.Start Inv-loop μ-loop
 start-from-after-struct-known c = c .before .before .before .before .before .before .before
 
-abbrev start-from-after-factors-in-arg3 : tie.After-factors-in-arg3 Inv-loop μ-loop → tie.Start Inv-loop μ-loop
-start-from-after-factors-in-arg3 c = c .before .before .before .before .before .before .before .before .before .before .before .before .before
+abbrev start-from-in-loop : tie.In-loop Inv-loop μ-loop → tie.Start Inv-loop μ-loop
+start-from-in-loop c = start-from-after-struct-known (c .before .before)
 
 abbrev in-loop-from-after-factors-in-arg3 : tie.After-factors-in-arg3 Inv-loop μ-loop → tie.In-loop Inv-loop μ-loop
 in-loop-from-after-factors-in-arg3 c = c .before .before .before .before
 
-abbrev start-from-after-slice-known6 : tie.After-slice-known6 Inv-loop μ-loop → tie.Start Inv-loop μ-loop
-start-from-after-slice-known6 c = c .before .before .before .before .before .before .before .before .before .before .before .before .before .before .before .before .before .before .before .before
-
-abbrev at-loop-from-after-slice-known6 : tie.After-slice-known6 Inv-loop μ-loop → tie.At-loop Inv-loop μ-loop
-at-loop-from-after-slice-known6 c = c .before .before .before .before .before .before .before .before .before .before .before .before
+abbrev start-from-after-factors-in-arg3 : tie.After-factors-in-arg3 Inv-loop μ-loop → tie.Start Inv-loop μ-loop
+start-from-after-factors-in-arg3 c = start-from-in-loop (in-loop-from-after-factors-in-arg3 c)
 
 abbrev after-factors-in-from-after-slice-known6 : tie.After-slice-known6 Inv-loop μ-loop → tie.After-factors-in Inv-loop μ-loop
 after-factors-in-from-after-slice-known6 c = c .before .before .before .before .before .before
 
+abbrev start-from-after-slice-known6 : tie.After-slice-known6 Inv-loop μ-loop → tie.Start Inv-loop μ-loop
+start-from-after-slice-known6 c = start-from-after-factors-in-arg3 (after-factors-in-from-after-slice-known6 c .before)
+
+abbrev at-loop-from-after-slice-known6 : tie.After-slice-known6 Inv-loop μ-loop → tie.At-loop Inv-loop μ-loop
+at-loop-from-after-slice-known6 c = in-loop-from-after-factors-in-arg3 (after-factors-in-from-after-slice-known6 c .before) .before
+
 abbrev start-from-after-loop : tie.After-loop Inv-loop μ-loop → tie.Start Inv-loop μ-loop
-start-from-after-loop c = c .before .before .before .before .before .before .before .before .before
+start-from-after-loop c = start-from-after-struct-known (c .before .before)
 
 -- where the factors of a turn end
 end : (c : tie.In-loop Inv-loop μ-loop) → let a = (start-from-in-loop c) .args in (c .before) .loop .t * ((a .sizes .n - a .c) * 32) + (a .sizes .n - a .c) * 32 ≤ length (a .boards .now) *
@@ -102,13 +102,13 @@ factors-in-requires : tie.Need-factors-in-requires Inv-loop μ-loop
 factors-in-requires c κs =
     let g = (start-from-after-factors-in-arg3 c) in
     let e = end (in-loop-from-after-factors-in-arg3 c) in
-    (g .pre .0, g .pre .1, g .pre .2, g .pre .3, known (in-loop-from-after-factors-in-arg3 c), omega arith, omega arith, simp (length-take, length-drop) (omega arith))
+    (g .pre .0, g .pre .1, g .pre .2, g .pre .3, known (in-loop-from-after-factors-in-arg3 c), omega (arith, e, in-loop-from-after-factors-in-arg3 c .before .loop .inv, in-loop-from-after-factors-in-arg3 c .loop-test .taken, start-from-after-factors-in-arg3 c .pre), omega (arith, e, in-loop-from-after-factors-in-arg3 c .before .loop .inv, in-loop-from-after-factors-in-arg3 c .loop-test .taken, start-from-after-factors-in-arg3 c .pre), simp (length-take, length-drop) (omega (arith, e, in-loop-from-after-factors-in-arg3 c .before .loop .inv, in-loop-from-after-factors-in-arg3 c .loop-test .taken, start-from-after-factors-in-arg3 c .pre)))
 
 add-t : tie.Need-add-t Inv-loop μ-loop
-add-t c = search needs
+add-t c = omega (arith, at-loop-from-after-slice-known6 c .loop .inv, in-loop-from-after-factors-in-arg3 (after-factors-in-from-after-slice-known6 c .before) .loop-test .taken, start-from-after-slice-known6 c .pre)
 
 loop-less : tie.Need-loop-less Inv-loop μ-loop
-loop-less c = search needs
+loop-less c = omega (arith, in-loop-from-after-factors-in-arg3 (after-factors-in-from-after-slice-known6 c .before) .loop-test .taken)
 
 loop-again : tie.Need-loop-again Inv-loop μ-loop
 loop-again c =
@@ -117,10 +117,10 @@ loop-again c =
     let l = (at-loop-from-after-slice-known6 c) .loop in (
       join-loop (λ t. factorsOf (a .sizes) (a .points .now) (a .c) (getD (a .boards .now) t 0)) ((a .sizes .n - a .c) * 32) (l .t) (a .out .now) (l .out) _
           (λ t h. length-factors (a .sizes) (a .points .now) (a .c) (getD (a .boards .now) t 0)) ((after-factors-in-from-after-slice-known6 c) .factors-in .ensures) (l .inv .0),
+      omega (arith, in-loop-from-after-factors-in-arg3 (after-factors-in-from-after-slice-known6 c .before) .loop-test .taken),
       omega arith,
-      search needs,
-      search needs,
-      search needs,
+      omega arith,
+      omega arith,
     )
 
 same-length : tie.Need-same-length Inv-loop μ-loop

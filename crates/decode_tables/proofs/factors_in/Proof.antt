@@ -16,23 +16,26 @@ use Rattle.decode_tables.proofs.factors_in.Statement.{statement}
 use Rattle.decode_tables.proofs.factors_in.Tie as tie
 
 -- places in the code
-abbrev start-from-after-lagrange-rows-arg2 : tie.After-lagrange-rows-arg2 → tie.Start
-start-from-after-lagrange-rows-arg2 c = c .before .before .before .before .before .before .before .before .before .before .before
-
 abbrev after-boards-from-from-after-lagrange-rows-arg2 : tie.After-lagrange-rows-arg2 → tie.After-boards-from
 after-boards-from-from-after-lagrange-rows-arg2 c = c .before .before .before .before
 
+abbrev start-from-after-lagrange-rows-arg2 : tie.After-lagrange-rows-arg2 → tie.Start
+start-from-after-lagrange-rows-arg2 c = after-boards-from-from-after-lagrange-rows-arg2 c .before .before .before .before .before .before .before
+
+abbrev lagrange-rows-at-board-factors-arg2 : tie.After-board-factors-arg2 → tie.After-lagrange-rows
+lagrange-rows-at-board-factors-arg2 c = c .before .before .before .before
+
 abbrev start-from-after-board-factors-arg2 : tie.After-board-factors-arg2 → tie.Start
-start-from-after-board-factors-arg2 c = start-from-after-lagrange-rows-arg2 (c .before .before .before .before .before)
-
-abbrev start-from-after-slice-known6 : tie.After-slice-known6 → tie.Start
-start-from-after-slice-known6 c = start-from-after-board-factors-arg2 (c .before .before .before)
-
-abbrev after-boards-from-from-after-slice-known6 : tie.After-slice-known6 → tie.After-boards-from
-after-boards-from-from-after-slice-known6 c = after-boards-from-from-after-lagrange-rows-arg2 (c .before .before .before .before .before .before .before .before)
+start-from-after-board-factors-arg2 c = start-from-after-lagrange-rows-arg2 (lagrange-rows-at-board-factors-arg2 c .before)
 
 abbrev after-lagrange-rows-from-after-slice-known6 : tie.After-slice-known6 → tie.After-lagrange-rows
-after-lagrange-rows-from-after-slice-known6 c = c .before .before .before .before .before .before .before
+after-lagrange-rows-from-after-slice-known6 c = lagrange-rows-at-board-factors-arg2 (c .before .before .before)
+
+abbrev start-from-after-slice-known6 : tie.After-slice-known6 → tie.Start
+start-from-after-slice-known6 c = start-from-after-lagrange-rows-arg2 (after-lagrange-rows-from-after-slice-known6 c .before)
+
+abbrev after-boards-from-from-after-slice-known6 : tie.After-slice-known6 → tie.After-boards-from
+after-boards-from-from-after-slice-known6 c = after-boards-from-from-after-lagrange-rows-arg2 (after-lagrange-rows-from-after-slice-known6 c .before)
 
 boards-from-requires : tie.Need-boards-from-requires
 boards-from-requires c κs = search needs
@@ -51,13 +54,13 @@ board-factors-requires c κs =
     (g .pre .2, g .pre .3, g .pre .4, omega arith, g .pre .7)
 
 same-length : tie.Need-same-length
-same-length c = search needs
+same-length c = after-lagrange-rows-from-after-slice-known6 c .before .before .before .before .near .given
 
 same-length-2 : tie.Need-same-length-2
 same-length-2 c = search needs
 
 same-length-3 : tie.Need-same-length-3
-same-length-3 c = search needs
+same-length-3 c = c .before .out .given
 
 returns : tie.Need-returns
 returns c =

@@ -23,14 +23,23 @@ abbrev μ-loop : tie.MeasureT-loop
 μ-loop count rows tables₀ s₀ tables s = count - s
 
 -- places in the code
-abbrev start-from-after-slice-known2 : tie.After-slice-known2 Inv-loop μ-loop → tie.Start Inv-loop μ-loop
-start-from-after-slice-known2 c = c .before .before .before .before .before .before .before .before .before
+abbrev turn-at-fill-multiples-arg2 : tie.After-fill-multiples-arg2 Inv-loop μ-loop → tie.In-loop Inv-loop μ-loop
+turn-at-fill-multiples-arg2 c = c .before .before
+
+abbrev turn-at-slice-known2 : tie.After-slice-known2 Inv-loop μ-loop → tie.In-loop Inv-loop μ-loop
+turn-at-slice-known2 c = turn-at-fill-multiples-arg2 (c .before .before .before)
 
 abbrev at-loop-from-after-slice-known2 : tie.After-slice-known2 Inv-loop μ-loop → tie.At-loop Inv-loop μ-loop
-at-loop-from-after-slice-known2 c = c .before .before .before .before .before .before
+at-loop-from-after-slice-known2 c = turn-at-slice-known2 c .before
+
+abbrev st-at-loop : tie.At-loop Inv-loop μ-loop → tie.Start Inv-loop μ-loop
+st-at-loop c = c .before .before .before
+
+abbrev start-from-after-slice-known2 : tie.After-slice-known2 Inv-loop μ-loop → tie.Start Inv-loop μ-loop
+start-from-after-slice-known2 c = st-at-loop (at-loop-from-after-slice-known2 c)
 
 abbrev start-from-after-loop : tie.After-loop Inv-loop μ-loop → tie.Start Inv-loop μ-loop
-start-from-after-loop c = c .before .before .before .before
+start-from-after-loop c = st-at-loop (c .before)
 
 loop-holds : tie.Need-loop-holds Inv-loop μ-loop
 loop-holds c = search needs
@@ -66,13 +75,13 @@ part-fill-multiples-end-2 : tie.Need-part-fill-multiples-end-2 Inv-loop μ-loop
 part-fill-multiples-end-2 c = search needs
 
 fill-multiples-requires : tie.Need-fill-multiples-requires Inv-loop μ-loop
-fill-multiples-requires c κs = simp (length-take, length-drop) (omega arith)
+fill-multiples-requires c κs = simp (length-take, length-drop) (omega (arith, turn-at-fill-multiples-arg2 c .before .loop .inv, turn-at-fill-multiples-arg2 c .loop-test .taken, st-at-loop (turn-at-fill-multiples-arg2 c .before) .pre))
 
 add-s : tie.Need-add-s Inv-loop μ-loop
-add-s c = search needs
+add-s c = omega (arith, at-loop-from-after-slice-known2 c .loop .inv, turn-at-slice-known2 c .loop-test .taken, start-from-after-slice-known2 c .pre)
 
 loop-less : tie.Need-loop-less Inv-loop μ-loop
-loop-less c = search needs
+loop-less c = omega (arith, turn-at-slice-known2 c .loop-test .taken)
 
 loop-again : tie.Need-loop-again Inv-loop μ-loop
 loop-again c =

@@ -11,14 +11,14 @@ use Rattle.decode_tables.proofs.seed_row.Statement.{statement}
 use Rattle.decode_tables.proofs.seed_row.Tie as tie
 
 -- places in the code
-abbrev start-from-after-slice-known4 : tie.After-slice-known4 → tie.Start
-start-from-after-slice-known4 c = c .before .before .before .before .before .before .before .before .before .before .before .before .before .before .before
-
-abbrev after-clear-from-after-slice-known4 : tie.After-slice-known4 → tie.After-clear
-after-clear-from-after-slice-known4 c = c .before .before .before .before .before .before .before .before .before .before
-
 abbrev after-fill-seeds-from-after-slice-known4 : tie.After-slice-known4 → tie.After-fill-seeds
 after-fill-seeds-from-after-slice-known4 c = c .before .before .before .before .before .before
+
+abbrev after-clear-from-after-slice-known4 : tie.After-slice-known4 → tie.After-clear
+after-clear-from-after-slice-known4 c = after-fill-seeds-from-after-slice-known4 c .before .before .before .before
+
+abbrev start-from-after-slice-known4 : tie.After-slice-known4 → tie.Start
+start-from-after-slice-known4 c = after-clear-from-after-slice-known4 c .before .before .before .before .before
 
 clear-requires : tie.Need-clear-requires
 clear-requires c κs = search needs

@@ -22,17 +22,23 @@ abbrev μ-loop : tie.MeasureT-loop
 μ-loop inverses xs d rows₀ s₀ rows s = d - s
 
 -- places in the code
-abbrev start-from-after-seed-row-arg : tie.After-seed-row-arg Inv-loop μ-loop → tie.Start Inv-loop μ-loop
-start-from-after-seed-row-arg c = c .before .before .before .before .before .before
+abbrev st-at-loop : tie.At-loop Inv-loop μ-loop → tie.Start Inv-loop μ-loop
+st-at-loop c = c .before .before .before .before
 
-abbrev start-from-after-slice-known2 : tie.After-slice-known2 Inv-loop μ-loop → tie.Start Inv-loop μ-loop
-start-from-after-slice-known2 c = c .before .before .before .before .before .before .before .before .before
+abbrev start-from-after-seed-row-arg : tie.After-seed-row-arg Inv-loop μ-loop → tie.Start Inv-loop μ-loop
+start-from-after-seed-row-arg c = st-at-loop (c .before .before)
+
+abbrev turn-at-slice-known2 : tie.After-slice-known2 Inv-loop μ-loop → tie.In-loop Inv-loop μ-loop
+turn-at-slice-known2 c = c .before .before .before .before
 
 abbrev at-loop-from-after-slice-known2 : tie.After-slice-known2 Inv-loop μ-loop → tie.At-loop Inv-loop μ-loop
-at-loop-from-after-slice-known2 c = c .before .before .before .before .before
+at-loop-from-after-slice-known2 c = turn-at-slice-known2 c .before
+
+abbrev start-from-after-slice-known2 : tie.After-slice-known2 Inv-loop μ-loop → tie.Start Inv-loop μ-loop
+start-from-after-slice-known2 c = st-at-loop (at-loop-from-after-slice-known2 c)
 
 abbrev start-from-after-loop : tie.After-loop Inv-loop μ-loop → tie.Start Inv-loop μ-loop
-start-from-after-loop c = c .before .before .before .before .before
+start-from-after-loop c = st-at-loop (c .before)
 
 loop-holds : tie.Need-loop-holds Inv-loop μ-loop
 loop-holds c = search needs
@@ -69,8 +75,8 @@ loop-again c =
     let l = (at-loop-from-after-slice-known2 c) .loop in (
       join-loop (λ s. fit 32 (interpolate (a .xs .now) (seeds (a .xs .now) s))) 32 (l .s) (a .rows .now) (l .rows) _
           (λ s h. length-fit 32 (interpolate (a .xs .now) (seeds (a .xs .now) s))) ((c .before .before) .seed-row .ensures) (l .inv .0),
+      omega (arith, turn-at-slice-known2 c .loop-test .taken),
       omega arith,
-      search needs,
     )
 
 same-length : tie.Need-same-length Inv-loop μ-loop

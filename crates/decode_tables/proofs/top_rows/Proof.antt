@@ -21,14 +21,20 @@ abbrev μ-loop : tie.MeasureT-loop
 μ-loop k m count rows out₀ i₀ out i = count - i
 
 -- places in the code
-abbrev start-from-after-slice-known2 : tie.After-slice-known2 Inv-loop μ-loop → tie.Start Inv-loop μ-loop
-start-from-after-slice-known2 c = c .before .before .before .before .before .before .before .before
-
-abbrev at-loop-from-after-slice-known2 : tie.After-slice-known2 Inv-loop μ-loop → tie.At-loop Inv-loop μ-loop
-at-loop-from-after-slice-known2 c = c .before .before .before .before .before
+abbrev column-at-slice-known2 : tie.After-slice-known2 Inv-loop μ-loop → tie.After-column Inv-loop μ-loop
+column-at-slice-known2 c = c .before .before
 
 abbrev in-loop-from-after-slice-known2 : tie.After-slice-known2 Inv-loop μ-loop → tie.In-loop Inv-loop μ-loop
-in-loop-from-after-slice-known2 c = c .before .before .before .before
+in-loop-from-after-slice-known2 c = column-at-slice-known2 c .before .before
+
+abbrev at-loop-from-after-slice-known2 : tie.After-slice-known2 Inv-loop μ-loop → tie.At-loop Inv-loop μ-loop
+at-loop-from-after-slice-known2 c = in-loop-from-after-slice-known2 c .before
+
+abbrev st-at-column-arg : tie.After-column-arg Inv-loop μ-loop → tie.Start Inv-loop μ-loop
+st-at-column-arg c = c .before .before .before .before .before
+
+abbrev start-from-after-slice-known2 : tie.After-slice-known2 Inv-loop μ-loop → tie.Start Inv-loop μ-loop
+start-from-after-slice-known2 c = st-at-column-arg (column-at-slice-known2 c .before)
 
 abbrev start-from-after-loop : tie.After-loop Inv-loop μ-loop → tie.Start Inv-loop μ-loop
 start-from-after-loop c = c .before .before .before .before
@@ -61,7 +67,7 @@ part-column-end c = search needs
 column-requires : tie.Need-column-requires Inv-loop μ-loop
 column-requires c κs =
     let e = long (c .before) in
-    (omega arith, omega arith, omega arith, omega arith)
+    (omega (arith, e, st-at-column-arg c .pre), omega (arith, e, st-at-column-arg c .pre), omega (arith, e, st-at-column-arg c .pre), omega (arith, e, st-at-column-arg c .pre))
 
 add-i : tie.Need-add-i Inv-loop μ-loop
 add-i c = search needs
@@ -76,10 +82,10 @@ loop-again c =
     let l = (at-loop-from-after-slice-known2 c) .loop in (
       join-loop (λ i. fit 32 (tabulate (a .m) (λ s. cell (a .rows .now) s (a .k + i)))) 32 (l .i) (a .out .now) (l .out) _
           (λ i h. length-fit 32 (tabulate (a .m) (λ s. cell (a .rows .now) s (a .k + i))))
-          ((c .before .before) .column .ensures ∙ ap (λ (n : ℕ). fit n (tabulate (a .m) (λ s. cell (a .rows .now) s (a .k + l .i)))) (long (in-loop-from-after-slice-known2 c)))
+          ((column-at-slice-known2 c) .column .ensures ∙ ap (λ (n : ℕ). fit n (tabulate (a .m) (λ s. cell (a .rows .now) s (a .k + l .i)))) (long (in-loop-from-after-slice-known2 c)))
           (l .inv .0),
+      omega (arith, in-loop-from-after-slice-known2 c .loop-test .taken),
       omega arith,
-      search needs,
     )
 
 same-length : tie.Need-same-length Inv-loop μ-loop

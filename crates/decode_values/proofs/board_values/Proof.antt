@@ -22,23 +22,29 @@ abbrev μ-loop : tie.MeasureT-loop
 μ-loop n c m b targets factors row out₀ q i₀ out i = q - i
 
 -- places in the code
+abbrev st-at-loop : tie.At-loop Inv-loop μ-loop → tie.Start Inv-loop μ-loop
+st-at-loop c = c .before .before .before .before .before
+
 abbrev start-from-in-loop : tie.In-loop Inv-loop μ-loop → tie.Start Inv-loop μ-loop
-start-from-in-loop c = c .before .before .before .before .before .before
+start-from-in-loop c = st-at-loop (c .before)
 
 abbrev start-from-after-shared-slice-known4 : tie.After-shared-slice-known4 Inv-loop μ-loop → tie.Start Inv-loop μ-loop
-start-from-after-shared-slice-known4 c = c .before .before .before .before .before .before .before
+start-from-after-shared-slice-known4 c = start-from-in-loop (c .before)
+
+abbrev turn-at-offset : tie.After-offset Inv-loop μ-loop → tie.In-loop Inv-loop μ-loop
+turn-at-offset c = c .before .before
 
 abbrev start-from-after-offset : tie.After-offset Inv-loop μ-loop → tie.Start Inv-loop μ-loop
-start-from-after-offset c = c .before .before .before .before .before .before .before .before
-
-abbrev start-from-after-value : tie.After-value Inv-loop μ-loop → tie.Start Inv-loop μ-loop
-start-from-after-value c = c .before .before .before .before .before .before .before .before .before
+start-from-after-offset c = start-from-in-loop (turn-at-offset c)
 
 abbrev at-loop-from-after-value : tie.After-value Inv-loop μ-loop → tie.At-loop Inv-loop μ-loop
-at-loop-from-after-value c = c .before .before .before .before
+at-loop-from-after-value c = turn-at-offset (c .before) .before
+
+abbrev start-from-after-value : tie.After-value Inv-loop μ-loop → tie.Start Inv-loop μ-loop
+start-from-after-value c = st-at-loop (at-loop-from-after-value c)
 
 abbrev start-from-after-loop : tie.After-loop Inv-loop μ-loop → tie.Start Inv-loop μ-loop
-start-from-after-loop c = c .before .before .before .before .before .before
+start-from-after-loop c = st-at-loop (c .before)
 
 -- the board of a turn
 known : (c : tie.In-loop Inv-loop μ-loop) → let a = (start-from-in-loop c) .args in getD (a .targets .now) ((c .before) .loop .i) 0 < a .n
@@ -60,7 +66,7 @@ value-requires : tie.Need-value-requires Inv-loop μ-loop
 value-requires c κs =
     let g = (start-from-after-offset c) in
     let a = g .args in
-    let o = offset-below (a .n) (a .b) (getD (a .targets .now) ((c .before .before .before) .loop .i) 0) (g .pre .3) (known (c .before .before)) in
+    let o = offset-below (a .n) (a .b) (getD (a .targets .now) ((turn-at-offset c .before) .loop .i) 0) (g .pre .3) (known (turn-at-offset c)) in
     (g .pre .0, g .pre .1, g .pre .2, rw (c .offset .ensures) o, g .pre .5, g .pre .6)
 
 slice-write-out : tie.Need-slice-write-out Inv-loop μ-loop

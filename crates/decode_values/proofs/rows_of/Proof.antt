@@ -24,26 +24,32 @@ abbrev μ-loop : tie.MeasureT-loop
 μ-loop d w starts at bytes fs₀ gs₀ k a t₀ fs gs t = k - t
 
 -- places in the code
-abbrev start-from-in-loop : tie.In-loop Inv-loop μ-loop → tie.Start Inv-loop μ-loop
-start-from-in-loop c = c .before .before .before .before .before .before
+abbrev st-at-loop : tie.At-loop Inv-loop μ-loop → tie.Start Inv-loop μ-loop
+st-at-loop c = c .before .before .before .before .before
 
-abbrev start-from-after-board-rows-arg3 : tie.After-board-rows-arg3 Inv-loop μ-loop → tie.Start Inv-loop μ-loop
-start-from-after-board-rows-arg3 c = c .before .before .before .before .before .before .before .before .before .before
+abbrev start-from-in-loop : tie.In-loop Inv-loop μ-loop → tie.Start Inv-loop μ-loop
+start-from-in-loop c = st-at-loop (c .before)
+
+abbrev turn-at-board-rows-arg2 : tie.After-board-rows-arg2 Inv-loop μ-loop → tie.In-loop Inv-loop μ-loop
+turn-at-board-rows-arg2 c = c .before .before .before
 
 abbrev in-loop-from-after-board-rows-arg3 : tie.After-board-rows-arg3 Inv-loop μ-loop → tie.In-loop Inv-loop μ-loop
-in-loop-from-after-board-rows-arg3 c = c .before .before .before .before
+in-loop-from-after-board-rows-arg3 c = turn-at-board-rows-arg2 (c .before)
 
-abbrev start-from-after-slice-known4 : tie.After-slice-known4 Inv-loop μ-loop → tie.Start Inv-loop μ-loop
-start-from-after-slice-known4 c = c .before .before .before .before .before .before .before .before .before .before .before .before .before .before .before
-
-abbrev at-loop-from-after-slice-known4 : tie.After-slice-known4 Inv-loop μ-loop → tie.At-loop Inv-loop μ-loop
-at-loop-from-after-slice-known4 c = c .before .before .before .before .before .before .before .before .before .before
+abbrev start-from-after-board-rows-arg3 : tie.After-board-rows-arg3 Inv-loop μ-loop → tie.Start Inv-loop μ-loop
+start-from-after-board-rows-arg3 c = start-from-in-loop (in-loop-from-after-board-rows-arg3 c)
 
 abbrev after-board-rows-from-after-slice-known4 : tie.After-slice-known4 Inv-loop μ-loop → tie.After-board-rows Inv-loop μ-loop
 after-board-rows-from-after-slice-known4 c = c .before .before .before .before
 
+abbrev at-loop-from-after-slice-known4 : tie.After-slice-known4 Inv-loop μ-loop → tie.At-loop Inv-loop μ-loop
+at-loop-from-after-slice-known4 c = in-loop-from-after-board-rows-arg3 (after-board-rows-from-after-slice-known4 c .before) .before
+
+abbrev start-from-after-slice-known4 : tie.After-slice-known4 Inv-loop μ-loop → tie.Start Inv-loop μ-loop
+start-from-after-slice-known4 c = st-at-loop (at-loop-from-after-slice-known4 c)
+
 abbrev start-from-after-loop : tie.After-loop Inv-loop μ-loop → tie.Start Inv-loop μ-loop
-start-from-after-loop c = c .before .before .before .before .before .before
+start-from-after-loop c = st-at-loop (c .before)
 
 -- where the bytes of a turn end
 reach : (c : tie.In-loop Inv-loop μ-loop) → let a = (start-from-in-loop c) .args in getD (a .starts .now) ((c .before) .loop .t) 0 + a .at + (a .w + (a .d - 1)) ≤ length (a .bytes .now)
@@ -95,33 +101,46 @@ part-board-rows-end-2 : tie.Need-part-board-rows-end-2 Inv-loop μ-loop
 part-board-rows-end-2 c = search needs
 
 sub-board-rows-3 : tie.Need-sub-board-rows-3 Inv-loop μ-loop
-sub-board-rows-3 c = search needs
+sub-board-rows-3 c = omega arith
 
 part-board-rows-start-3 : tie.Need-part-board-rows-start-3 Inv-loop μ-loop
-part-board-rows-start-3 c = search needs
+part-board-rows-start-3 c = omega arith
 
 part-board-rows-end-3 : tie.Need-part-board-rows-end-3 Inv-loop μ-loop
-part-board-rows-end-3 c = search needs
+part-board-rows-end-3 c = omega (arith, turn-at-board-rows-arg2 c .before .loop .inv, turn-at-board-rows-arg2 c .loop-test .taken, start-from-in-loop (turn-at-board-rows-arg2 c) .pre)
 
 board-rows-requires : tie.Need-board-rows-requires Inv-loop μ-loop
 board-rows-requires c κs =
+    let more = in-loop-from-after-board-rows-arg3 c .loop-test .taken in
+    let holds = in-loop-from-after-board-rows-arg3 c .before .loop .inv in
     let g = (start-from-after-board-rows-arg3 c) in
-    let q = reach (in-loop-from-after-board-rows-arg3 c) in
-    (g .pre .0, g .pre .1, g .pre .2, g .pre .3, simp (length-take, length-drop) (omega arith), simp (length-take, length-drop) (omega arith), simp (length-take, length-drop) (omega arith))
+    let q = reach (in-loop-from-after-board-rows-arg3 c) in (
+      g .pre .0,
+      g .pre .1,
+      g .pre .2,
+      g .pre .3,
+      simp (length-take, length-drop) (omega (arith, q, holds, more, g .pre)),
+      simp (length-take, length-drop) (omega (arith, q, holds, more, g .pre)),
+      simp (length-take, length-drop) (omega (arith, q, holds, more, g .pre)),
+    )
 
 add-t : tie.Need-add-t Inv-loop μ-loop
-add-t c = search needs
+add-t c =
+    let holds = at-loop-from-after-slice-known4 c .loop .inv in
+    let more = in-loop-from-after-board-rows-arg3 (after-board-rows-from-after-slice-known4 c .before) .loop-test .taken in
+    omega (arith, holds, more, start-from-after-slice-known4 c .pre)
 
 loop-less : tie.Need-loop-less Inv-loop μ-loop
-loop-less c = search needs
+loop-less c = omega (arith, in-loop-from-after-board-rows-arg3 (after-board-rows-from-after-slice-known4 c .before) .loop-test .taken)
 
 loop-again : tie.Need-loop-again Inv-loop μ-loop
 loop-again c =
+    let more = in-loop-from-after-board-rows-arg3 (after-board-rows-from-after-slice-known4 c .before) .loop-test .taken in
     let g = (start-from-after-slice-known4 c) in
     let a = g .args in
     let l = (at-loop-from-after-slice-known4 c) .loop in
     let from : ℕ = getD (a .starts .now) (l .t) 0 + a .at in
-    let e : from + (a .w + (a .d - 1)) - from ≡ a .w + (a .d - 1) = omega arith in
+    let e : from + (a .w + (a .d - 1)) - from ≡ a .w + (a .d - 1) = omega (arith, l .inv, more, g .pre) in
     let v = (after-board-rows-from-after-slice-known4 c) .board-rows .ensures in (
       join-loop (λ t. fRow (a .w) (take (a .w + (a .d - 1)) (drop (getD (a .starts .now) t 0 + a .at) (a .bytes .now)))) 32 (l .t) (a .fs .now) (l .fs) _
           (λ i h. length-fit 32 (take (a .w) (take (a .w + (a .d - 1)) (drop (getD (a .starts .now) i 0 + a .at) (a .bytes .now)))))
@@ -129,9 +148,9 @@ loop-again c =
       join-loop (λ t. gRow (a .w) (take (a .w + (a .d - 1)) (drop (getD (a .starts .now) t 0 + a .at) (a .bytes .now)))) 32 (l .t) (a .gs .now) (l .gs) _
           (λ i h. let q : List ℕ = take (a .w + (a .d - 1)) (drop (getD (a .starts .now) i 0 + a .at) (a .bytes .now)) in length-fit 32 (take 1 q ++ drop (a .w) q))
           (v .1 ∙ ap (λ (m : ℕ). gRow (a .w) (take m (drop from (a .bytes .now)))) e) (l .inv .1),
-      omega arith,
-      search needs,
-      search needs,
+      omega (arith, l .inv, more, g .pre),
+      omega (arith, g .pre),
+      omega (arith, g .pre),
     )
 
 same-length : tie.Need-same-length Inv-loop μ-loop
@@ -145,9 +164,9 @@ returns c =
     let g = (start-from-after-loop c) in
     let a = g .args in
     let l = (c .before) .loop in (
-      join-end (λ t. fRow (a .w) (take (a .w + (a .d - 1)) (drop (getD (a .starts .now) t 0 + a .at) (a .bytes .now)))) 32 (l .t) (length (a .starts .now)) (a .fs .now) (l .fs) (omega arith)
+      join-end (λ t. fRow (a .w) (take (a .w + (a .d - 1)) (drop (getD (a .starts .now) t 0 + a .at) (a .bytes .now)))) 32 (l .t) (length (a .starts .now)) (a .fs .now) (l .fs) (omega (arith, c .before .loop .inv, c .loop-test .left))
           (g .pre .6) (l .inv .0),
-      join-end (λ t. gRow (a .w) (take (a .w + (a .d - 1)) (drop (getD (a .starts .now) t 0 + a .at) (a .bytes .now)))) 32 (l .t) (length (a .starts .now)) (a .gs .now) (l .gs) (omega arith)
+      join-end (λ t. gRow (a .w) (take (a .w + (a .d - 1)) (drop (getD (a .starts .now) t 0 + a .at) (a .bytes .now)))) 32 (l .t) (length (a .starts .now)) (a .gs .now) (l .gs) (omega (arith, c .before .loop .inv, c .loop-test .left))
           (g .pre .7) (l .inv .1),
     )
 

@@ -23,17 +23,26 @@ abbrev μ-loop : tie.MeasureT-loop
 μ-loop d m row va out₀ k t₀ out t = k - t
 
 -- places in the code
-abbrev start-from-in-loop : tie.In-loop Inv-loop μ-loop → tie.Start Inv-loop μ-loop
-start-from-in-loop c = c .before .before .before .before .before
+abbrev st-at-loop : tie.At-loop Inv-loop μ-loop → tie.Start Inv-loop μ-loop
+st-at-loop c = c .before .before .before .before
 
-abbrev start-from-after-dot : tie.After-dot Inv-loop μ-loop → tie.Start Inv-loop μ-loop
-start-from-after-dot c = c .before .before .before .before .before .before .before .before
+abbrev start-from-in-loop : tie.In-loop Inv-loop μ-loop → tie.Start Inv-loop μ-loop
+start-from-in-loop c = st-at-loop (c .before)
+
+abbrev turn-at-dot-arg2 : tie.After-dot-arg2 Inv-loop μ-loop → tie.In-loop Inv-loop μ-loop
+turn-at-dot-arg2 c = c .before .before
+
+abbrev turn-at-dot : tie.After-dot Inv-loop μ-loop → tie.In-loop Inv-loop μ-loop
+turn-at-dot c = turn-at-dot-arg2 (c .before)
 
 abbrev at-loop-from-after-dot : tie.After-dot Inv-loop μ-loop → tie.At-loop Inv-loop μ-loop
-at-loop-from-after-dot c = c .before .before .before .before
+at-loop-from-after-dot c = turn-at-dot c .before
+
+abbrev start-from-after-dot : tie.After-dot Inv-loop μ-loop → tie.Start Inv-loop μ-loop
+start-from-after-dot c = st-at-loop (at-loop-from-after-dot c)
 
 abbrev start-from-after-loop : tie.After-loop Inv-loop μ-loop → tie.Start Inv-loop μ-loop
-start-from-after-loop c = c .before .before .before .before .before
+start-from-after-loop c = st-at-loop (c .before)
 
 -- where the values of a turn end
 end : (c : tie.In-loop Inv-loop μ-loop) → let a = (start-from-in-loop c) .args in (c .before) .loop .t * a .d + a .d ≤ length (a .out .now) * a .d
@@ -68,8 +77,8 @@ part-dot-end-2 c = omega (arith, end (c .before))
 
 dot-requires : tie.Need-dot-requires Inv-loop μ-loop
 dot-requires c κs =
-    let e = end (c .before .before) in
-    simp (length-take, length-drop) (omega arith)
+    let e = end (turn-at-dot-arg2 c) in
+    simp (length-take, length-drop) (omega (arith, e, start-from-in-loop (turn-at-dot-arg2 c) .pre))
 
 slice-write-out : tie.Need-slice-write-out Inv-loop μ-loop
 slice-write-out c = search needs
@@ -82,12 +91,13 @@ loop-less c = search needs
 
 loop-again : tie.Need-loop-again Inv-loop μ-loop
 loop-again c =
+    let more = turn-at-dot c .loop-test .taken in
     let g = (start-from-after-dot c) in
     let a = g .args in
-    let e = end (c .before .before .before) in
+    let e = end (turn-at-dot c) in
     let l = (at-loop-from-after-dot c) .loop in (
-      fill-loop _ (a .out .now) (l .out) (l .t) _ (omega arith) (top-made (a .m) (l .t * a .d) (a .row .now) (a .va .now) _ (g .pre .1) (g .pre .2) (omega arith) (c .dot .ensures)) (l .inv .0),
-      omega arith,
+      fill-loop _ (a .out .now) (l .out) (l .t) _ (omega (arith, e, more)) (top-made (a .m) (l .t * a .d) (a .row .now) (a .va .now) _ (g .pre .1) (g .pre .2) (omega (arith, e, more)) (c .dot .ensures)) (l .inv .0),
+      omega (arith, e, more),
       length-set (l .out) (l .t) _ ∙ l .inv .2,
     )
 

@@ -27,23 +27,29 @@ abbrev μ-loop : tie.MeasureT-loop
 μ-loop count k d m rows va out₀ i₀ out i = count - i
 
 -- places in the code
+abbrev st-at-slice-known : tie.After-slice-known Inv-loop μ-loop → tie.Start Inv-loop μ-loop
+st-at-slice-known c = c .before .before .before
+
 abbrev start-from-in-loop : tie.In-loop Inv-loop μ-loop → tie.Start Inv-loop μ-loop
-start-from-in-loop c = c .before .before .before .before .before
+start-from-in-loop c = st-at-slice-known (c .before .before)
+
+abbrev turn-at-top-arg2 : tie.After-top-arg2 Inv-loop μ-loop → tie.In-loop Inv-loop μ-loop
+turn-at-top-arg2 c = c .before .before
 
 abbrev start-from-after-top-arg2 : tie.After-top-arg2 Inv-loop μ-loop → tie.Start Inv-loop μ-loop
-start-from-after-top-arg2 c = c .before .before .before .before .before .before .before
-
-abbrev start-from-after-slice-known2 : tie.After-slice-known2 Inv-loop μ-loop → tie.Start Inv-loop μ-loop
-start-from-after-slice-known2 c = c .before .before .before .before .before .before .before .before .before .before
-
-abbrev at-loop-from-after-slice-known2 : tie.After-slice-known2 Inv-loop μ-loop → tie.At-loop Inv-loop μ-loop
-at-loop-from-after-slice-known2 c = c .before .before .before .before .before .before
+start-from-after-top-arg2 c = start-from-in-loop (turn-at-top-arg2 c)
 
 abbrev in-loop-from-after-slice-known2 : tie.After-slice-known2 Inv-loop μ-loop → tie.In-loop Inv-loop μ-loop
-in-loop-from-after-slice-known2 c = c .before .before .before .before .before
+in-loop-from-after-slice-known2 c = turn-at-top-arg2 (c .before .before .before)
+
+abbrev start-from-after-slice-known2 : tie.After-slice-known2 Inv-loop μ-loop → tie.Start Inv-loop μ-loop
+start-from-after-slice-known2 c = start-from-in-loop (in-loop-from-after-slice-known2 c)
+
+abbrev at-loop-from-after-slice-known2 : tie.After-slice-known2 Inv-loop μ-loop → tie.At-loop Inv-loop μ-loop
+at-loop-from-after-slice-known2 c = in-loop-from-after-slice-known2 c .before
 
 abbrev start-from-after-loop : tie.After-loop Inv-loop μ-loop → tie.Start Inv-loop μ-loop
-start-from-after-loop c = c .before .before .before .before .before
+start-from-after-loop c = st-at-slice-known (c .before .before)
 
 -- where the part of a turn ends, and how long it is
 end : (c : tie.In-loop Inv-loop μ-loop) → let a = (start-from-in-loop c) .args in (c .before) .loop .i * a .k + a .k ≤ a .count * a .k
@@ -54,7 +60,7 @@ long c = simp (length-take, length-drop) (omega (arith, end c))
 
 loop-holds : tie.Need-loop-holds Inv-loop μ-loop
 loop-holds c =
-    (ap (λ (m : ℕ). drop m ((c .before .before .before) .args .out .now)) (sym (zero-mul ((c .before .before .before) .args .k))), omega arith, refl)
+    (ap (λ (m : ℕ). drop m ((st-at-slice-known c) .args .out .now)) (sym (zero-mul ((st-at-slice-known c) .args .k))), omega arith, refl)
 
 mul-from : tie.Need-mul-from Inv-loop μ-loop
 mul-from c = search needs
@@ -89,14 +95,14 @@ part-top-end-2 c = omega (arith, end (c .before))
 top-requires : tie.Need-top-requires Inv-loop μ-loop
 top-requires c κs =
     let g = (start-from-after-top-arg2 c) in
-    let e = long (c .before .before) in
-    (g .pre .2, g .pre .3, simp (length-take, length-drop) (omega arith), omega arith, rw e (g .pre .5))
+    let e = long (turn-at-top-arg2 c) in
+    (g .pre .2, g .pre .3, simp (length-take, length-drop) (omega (arith, e, g .pre)), omega (arith, e, g .pre), rw e (g .pre .5))
 
 add-i : tie.Need-add-i Inv-loop μ-loop
-add-i c = search needs
+add-i c = omega (arith, at-loop-from-after-slice-known2 c .loop .inv, in-loop-from-after-slice-known2 c .loop-test .taken, start-from-after-slice-known2 c .pre)
 
 loop-less : tie.Need-loop-less Inv-loop μ-loop
-loop-less c = search needs
+loop-less c = omega (arith, in-loop-from-after-slice-known2 c .loop-test .taken)
 
 loop-again : tie.Need-loop-again Inv-loop μ-loop
 loop-again c =
@@ -111,8 +117,8 @@ loop-again c =
           ∙ tabulate-ext (a .k) _ _ (λ t h. sum-below (a .m) _ _ (λ s q. ap (λ (v : ℕ). mul v (getD (a .va .now) (t * a .d + s) 0))
           (ap (λ (r : List ℕ). getD r s 0) (part-piece 32 (l .i) (a .rows .now)) ∙ piece-at 32 (l .i) (a .rows .now) s 0 (omega (arith, g .pre .3))))))
           (l .inv .0),
-      omega arith,
-      search needs,
+      omega (arith, l .inv, in-loop-from-after-slice-known2 c .loop-test .taken, g .pre),
+      omega (arith, g .pre),
     )
 
 same-length : tie.Need-same-length Inv-loop μ-loop

@@ -25,26 +25,29 @@ abbrev μ-loop : tie.MeasureT-loop
 μ-loop n c m boards targets factors rows out₀ k q all t₀ out t = k - t
 
 -- places in the code
-abbrev start-from-in-loop : tie.In-loop Inv-loop μ-loop → tie.Start Inv-loop μ-loop
-start-from-in-loop c = c .before .before .before .before .before .before .before
-
 abbrev start-from-after-slice-known : tie.After-slice-known Inv-loop μ-loop → tie.Start Inv-loop μ-loop
 start-from-after-slice-known c = c .before .before .before .before .before
 
-abbrev start-from-after-board-values-arg3 : tie.After-board-values-arg3 Inv-loop μ-loop → tie.Start Inv-loop μ-loop
-start-from-after-board-values-arg3 c = c .before .before .before .before .before .before .before .before .before .before .before
+abbrev start-from-in-loop : tie.In-loop Inv-loop μ-loop → tie.Start Inv-loop μ-loop
+start-from-in-loop c = start-from-after-slice-known (c .before .before)
 
 abbrev in-loop-from-after-board-values-arg3 : tie.After-board-values-arg3 Inv-loop μ-loop → tie.In-loop Inv-loop μ-loop
 in-loop-from-after-board-values-arg3 c = c .before .before .before .before
 
-abbrev start-from-after-slice-known2 : tie.After-slice-known2 Inv-loop μ-loop → tie.Start Inv-loop μ-loop
-start-from-after-slice-known2 c = c .before .before .before .before .before .before .before .before .before .before .before .before .before .before
+abbrev start-from-after-board-values-arg3 : tie.After-board-values-arg3 Inv-loop μ-loop → tie.Start Inv-loop μ-loop
+start-from-after-board-values-arg3 c = start-from-in-loop (in-loop-from-after-board-values-arg3 c)
+
+abbrev board-values-arg3-at-slice-known2 : tie.After-slice-known2 Inv-loop μ-loop → tie.After-board-values-arg3 Inv-loop μ-loop
+board-values-arg3-at-slice-known2 c = c .before .before .before
 
 abbrev at-loop-from-after-slice-known2 : tie.After-slice-known2 Inv-loop μ-loop → tie.At-loop Inv-loop μ-loop
-at-loop-from-after-slice-known2 c = c .before .before .before .before .before .before .before .before
+at-loop-from-after-slice-known2 c = in-loop-from-after-board-values-arg3 (board-values-arg3-at-slice-known2 c) .before
+
+abbrev start-from-after-slice-known2 : tie.After-slice-known2 Inv-loop μ-loop → tie.Start Inv-loop μ-loop
+start-from-after-slice-known2 c = start-from-after-board-values-arg3 (board-values-arg3-at-slice-known2 c)
 
 abbrev start-from-after-loop : tie.After-loop Inv-loop μ-loop → tie.Start Inv-loop μ-loop
-start-from-after-loop c = c .before .before .before .before .before .before .before
+start-from-after-loop c = start-from-after-slice-known (c .before .before)
 
 -- where what a turn reads and writes ends
 end-out : (c : tie.In-loop Inv-loop μ-loop) → let a = (start-from-in-loop c) .args in (c .before) .loop .t * length (a .targets .now) + length (a .targets .now) ≤ length (a .boards .now) * length
@@ -109,7 +112,7 @@ part-board-values-start-2 : tie.Need-part-board-values-start-2 Inv-loop μ-loop
 part-board-values-start-2 c = search needs
 
 part-board-values-end-2 : tie.Need-part-board-values-end-2 Inv-loop μ-loop
-part-board-values-end-2 c = search needs
+part-board-values-end-2 c = omega arith
 
 sub-board-values-3 : tie.Need-sub-board-values-3 Inv-loop μ-loop
 sub-board-values-3 c = search needs
@@ -122,6 +125,8 @@ part-board-values-end-3 c = omega (arith, end-out (c .before .before .before))
 
 board-values-requires : tie.Need-board-values-requires Inv-loop μ-loop
 board-values-requires c κs =
+    let more = in-loop-from-after-board-values-arg3 c .loop-test .taken in
+    let holds = in-loop-from-after-board-values-arg3 c .before .loop .inv in
     let g = (start-from-after-board-values-arg3 c) in
     let a = g .args in
     let e = end-factors (in-loop-from-after-board-values-arg3 c) in (
@@ -130,20 +135,24 @@ board-values-requires c κs =
       g .pre .2,
       known (in-loop-from-after-board-values-arg3 c),
       g .pre .6,
-      simp (length-take, length-drop) (omega arith),
-      simp (length-take, length-drop) (omega arith),
+      simp (length-take, length-drop) (omega (arith, e, holds, more, g .pre)),
+      simp (length-take, length-drop) (omega (arith, e, holds, more, g .pre)),
       long
           (in-loop-from-after-board-values-arg3 c),
     )
 
 add-t : tie.Need-add-t Inv-loop μ-loop
-add-t c = search needs
+add-t c =
+    let holds = at-loop-from-after-slice-known2 c .loop .inv in
+    let more = in-loop-from-after-board-values-arg3 (board-values-arg3-at-slice-known2 c) .loop-test .taken in
+    omega (arith, holds, more, start-from-after-slice-known2 c .pre)
 
 loop-less : tie.Need-loop-less Inv-loop μ-loop
-loop-less c = search needs
+loop-less c = omega (arith, in-loop-from-after-board-values-arg3 (board-values-arg3-at-slice-known2 c) .loop-test .taken)
 
 loop-again : tie.Need-loop-again Inv-loop μ-loop
 loop-again c =
+    let more = in-loop-from-after-board-values-arg3 (board-values-arg3-at-slice-known2 c) .loop-test .taken in
     let g = (start-from-after-slice-known2 c) in
     let a = g .args in
     let l = (at-loop-from-after-slice-known2 c) .loop in (
@@ -154,8 +163,8 @@ loop-again c =
           ∙ ap₂ (λ (f r : List ℕ). tabulate (length (a .targets .now)) (λ i. valueBy (a .c) (offset (a .n) (getD (a .boards .now) (l .t) 0) (getD (a .targets .now) i 0)) (a .m) f r))
           (rest-part (l .t * ((a .n - a .c) * 32)) (a .factors .now)) (part-piece 32 (l .t) (a .rows .now)))
           (l .inv .0),
-      omega arith,
-      search needs,
+      omega (arith, more),
+      omega (arith, l .inv, more, g .pre),
     )
 
 same-length : tie.Need-same-length Inv-loop μ-loop

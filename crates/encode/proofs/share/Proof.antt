@@ -11,8 +11,11 @@ use Rattle.encode.proofs.share.Statement.{statement}
 use Rattle.encode.proofs.share.Tie as tie
 
 -- places in the code
+abbrev st-at-struct-known : tie.After-struct-known → tie.Start
+st-at-struct-known c = c .before .before .before .before
+
 abbrev st : tie.After-shared-slice-known3 → tie.Start
-st c = c .before .before .before .before .before
+st c = st-at-struct-known (c .before)
 
 abbrev st-2 : tie.After-tables → tie.Start
 st-2 c = st (c .before)
@@ -21,10 +24,10 @@ abbrev fill-powers : tie.After-slice-known2 → tie.After-fill-powers
 fill-powers c = c .before .before .before .before .before .before .before .before
 
 abbrev st-3 : tie.After-slice-known2 → tie.Start
-st-3 c = (fill-powers c) .before .before .before .before .before .before .before
+st-3 c = st-2 (fill-powers c .before)
 
 add-m : tie.Need-add-m
-add-m c = omega (arith, legal-facts _ (c .before .before .before .before .pre .0))
+add-m c = omega (arith, legal-facts _ (st-at-struct-known c .pre .0))
 
 shared-slice-read-x : tie.Need-shared-slice-read-x
 shared-slice-read-x c =
@@ -47,7 +50,7 @@ share-stripes-requires : tie.Need-share-stripes-requires
 share-stripes-requires c κs = search needs
 
 same-length : tie.Need-same-length
-same-length c = search needs
+same-length c = c .before .out .given
 
 returns : tie.Need-returns
 returns c =

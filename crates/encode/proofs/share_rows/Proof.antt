@@ -18,20 +18,26 @@ use Rattle.encode.proofs.share_rows.Statement.{statement}
 use Rattle.encode.proofs.share_rows.Tie as tie
 
 -- places in the code
+abbrev st-at-f : tie.After-f → tie.Start
+st-at-f c = c .before .before .before .before
+
 abbrev st : tie.After-f2 → tie.Start
-st c = c .before .before .before .before .before .before
+st c = st-at-f (c .before .before)
+
+abbrev put-row-at-keep-rows-arg : tie.After-keep-rows-arg → tie.After-put-row
+put-row-at-keep-rows-arg c = c .before .before .before .before
 
 abbrev column-sum : tie.After-keep-rows-arg → tie.After-column-sum
-column-sum c = c .before .before .before .before .before .before
+column-sum c = put-row-at-keep-rows-arg c .before .before
 
 abbrev rows-at : tie.After-keep-rows-arg → tie.After-rows-at
 rows-at c = (column-sum c) .before .before
 
 abbrev st-2 : tie.After-keep-rows-arg → tie.Start
-st-2 c = (rows-at c) .before .before .before .before .before
+st-2 c = st (column-sum c .before)
 
 abbrev put-row : tie.After-slice-known2 → tie.After-put-row
-put-row c = c .before .before .before .before .before .before .before
+put-row c = put-row-at-keep-rows-arg (c .before .before .before)
 
 abbrev column-sum-2 : tie.After-slice-known2 → tie.After-column-sum
 column-sum-2 c = (put-row c) .before .before
@@ -43,13 +49,13 @@ abbrev shared-slice-known2 : tie.After-slice-known2 → tie.After-shared-slice-k
 shared-slice-known2 c = (rows-at-2 c) .before .before .before
 
 abbrev st-3 : tie.After-slice-known2 → tie.Start
-st-3 c = (shared-slice-known2 c) .before .before
+st-3 c = st (column-sum-2 c .before)
 
 slice-aggregate-rows-at : tie.Need-slice-aggregate-rows-at
 slice-aggregate-rows-at c = search needs
 
 rows-at-requires : tie.Need-rows-at-requires
-rows-at-requires c κs = let f = legal-facts _ (c .before .before .before .before .pre .0) in (omega arith, omega arith, refl)
+rows-at-requires c κs = let f = legal-facts _ (st-at-f c .pre .0) in (omega arith, omega arith, refl)
 
 column-sum-requires : tie.Need-column-sum-requires
 column-sum-requires c κs = let f = legal-facts _ ((st c) .pre .0) in search needs
@@ -73,7 +79,7 @@ keep-rows-requires c κs =
       s .pre .0,
       s .pre .1,
       omega (arith, f .few, ap length ((rows-at c) .rows-at .ensures)),
-      omega (arith, f .few, ap length (c .before .before .before .before .put-row .ensures), length-row ((column-sum c) .column-sum .result)),
+      omega (arith, f .few, ap length (put-row-at-keep-rows-arg c .put-row .ensures), length-row ((column-sum c) .column-sum .result)),
       s .pre .4,
     )
 

@@ -29,38 +29,44 @@ abbrev μ-loop : tie.MeasureT-loop
 μ-loop sizes tables x i file count rows₀ out₀ w s₀ rows out s = count - s
 
 -- places in the code
-abbrev st : tie.In-loop Inv-loop μ-loop → tie.Start Inv-loop μ-loop
-st c = c .before .before .before .before .before .before .before .before
-
 abbrev st-2 : tie.After-struct-known Inv-loop μ-loop → tie.Start Inv-loop μ-loop
 st-2 c = c .before .before .before .before .before
 
 abbrev st-3 : tie.After-struct-known2 Inv-loop μ-loop → tie.Start Inv-loop μ-loop
-st-3 c = c .before .before .before .before .before .before
+st-3 c = st-2 (c .before)
+
+abbrev st : tie.In-loop Inv-loop μ-loop → tie.Start Inv-loop μ-loop
+st c = st-3 (c .before .before)
+
+abbrev rows-at-share-rows-arg : tie.After-share-rows-arg Inv-loop μ-loop → tie.After-rows Inv-loop μ-loop
+rows-at-share-rows-arg c = c .before .before
 
 abbrev in-loop : tie.After-share-rows-arg Inv-loop μ-loop → tie.In-loop Inv-loop μ-loop
-in-loop c = c .before .before .before .before .before
+in-loop c = rows-at-share-rows-arg c .before .before .before
 
 abbrev in-loop-2 : tie.After-share-rows-arg2 Inv-loop μ-loop → tie.In-loop Inv-loop μ-loop
-in-loop-2 c = c .before .before .before .before .before .before
+in-loop-2 c = in-loop (c .before)
 
 abbrev at-loop : tie.After-share-rows-arg2 Inv-loop μ-loop → tie.At-loop Inv-loop μ-loop
 at-loop c = (in-loop-2 c) .before
 
 abbrev st-4 : tie.After-share-rows-arg2 Inv-loop μ-loop → tie.Start Inv-loop μ-loop
-st-4 c = (at-loop c) .before .before .before .before .before .before .before
+st-4 c = st (in-loop-2 c)
+
+abbrev share-rows-at-slice-known4 : tie.After-slice-known4 Inv-loop μ-loop → tie.After-share-rows Inv-loop μ-loop
+share-rows-at-slice-known4 c = c .before .before
 
 abbrev stripe-rows : tie.After-slice-known4 Inv-loop μ-loop → tie.After-stripe-rows Inv-loop μ-loop
-stripe-rows c = c .before .before .before .before .before .before .before
+stripe-rows c = rows-at-share-rows-arg (share-rows-at-slice-known4 c .before .before) .before
 
 abbrev at-loop-2 : tie.After-slice-known4 Inv-loop μ-loop → tie.At-loop Inv-loop μ-loop
-at-loop-2 c = (stripe-rows c) .before .before .before
+at-loop-2 c = at-loop (share-rows-at-slice-known4 c .before)
 
 abbrev st-5 : tie.After-slice-known4 Inv-loop μ-loop → tie.Start Inv-loop μ-loop
-st-5 c = (at-loop-2 c) .before .before .before .before .before .before .before
+st-5 c = st-4 (share-rows-at-slice-known4 c .before)
 
 abbrev st-6 : tie.After-loop Inv-loop μ-loop → tie.Start Inv-loop μ-loop
-st-6 c = c .before .before .before .before .before .before .before .before
+st-6 c = st-3 (c .before .before)
 
 -- where the stripe of a turn ends
 end : (c : tie.In-loop Inv-loop μ-loop)
@@ -103,14 +109,19 @@ share-rows-requires : tie.Need-share-rows-requires Inv-loop μ-loop
 share-rows-requires c κs =
     let s = st-4 c in
     let l = (at-loop c) .loop in
-    let w = 2 * s .args .sizes .d + s .args .sizes .r - 1 in
-    (s .pre .0, s .pre .1, s .pre .2, omega (arith, c .before .before .before .rows .given, l .inv .3), part-long (l .s * w) w (l .out) (omega (arith, end ((in-loop-2 c)), l .inv .2, s .pre .5)))
+    let w = 2 * s .args .sizes .d + s .args .sizes .r - 1 in (
+      s .pre .0,
+      s .pre .1,
+      s .pre .2,
+      omega (arith, rows-at-share-rows-arg (c .before) .rows .given, l .inv .3),
+      part-long (l .s * w) w (l .out) (omega (arith, end (in-loop-2 c), l .inv .2, s .pre .5)),
+    )
 
 add-s : tie.Need-add-s Inv-loop μ-loop
-add-s c = search needs
+add-s c = omega (arith, at-loop-2 c .loop .inv, in-loop-2 (share-rows-at-slice-known4 c .before) .loop-test .taken, st-5 c .pre)
 
 loop-less : tie.Need-loop-less Inv-loop μ-loop
-loop-less c = search needs
+loop-less c = omega (arith, in-loop-2 (share-rows-at-slice-known4 c .before) .loop-test .taken)
 
 loop-again : tie.Need-loop-again Inv-loop μ-loop
 loop-again c =
@@ -121,11 +132,11 @@ loop-again c =
     let w : ℕ = 2 * z .d + z .r - 1 in (
       (λ xs lx t ex.
           join-loop (λ s. kept z xs (stripe z (a .file .now) s) (a .i)) w (l .s) (a .out .now) (l .out) _ (λ j h. length-kept z xs (legal-facts _ (s .pre .0)) (stripe z (a .file .now) j) (a .i))
-          (c .before .before .share-rows .ensures xs (stripe z (a .file .now) (l .s)) _ lx (length-stripe z (a .file .now) (l .s))
+          (share-rows-at-slice-known4 c .share-rows .ensures xs (stripe z (a .file .now) (l .s)) _ lx (length-stripe z (a .file .now) (l .s))
           t ex ((stripe-rows c) .stripe-rows .ensures xs lx t)) (l .inv .0 xs lx t ex)),
+      omega (arith, in-loop-2 (share-rows-at-slice-known4 c .before) .loop-test .taken),
       omega arith,
-      search needs,
-      search needs,
+      omega arith,
     )
 
 same-length : tie.Need-same-length Inv-loop μ-loop

@@ -34,8 +34,11 @@ abbrev μ-loop : tie.MeasureT-loop
 μ-loop tables d n rows values₀ l₀ values l = n - l
 
 -- places in the code
+abbrev column-sum-at-slice-known2 : tie.After-slice-known2 Inv-loop μ-loop → tie.After-column-sum Inv-loop μ-loop
+column-sum-at-slice-known2 c = c .before .before .before .before
+
 abbrev at-loop : tie.After-slice-known2 Inv-loop μ-loop → tie.At-loop Inv-loop μ-loop
-at-loop c = c .before .before .before .before .before .before
+at-loop c = column-sum-at-slice-known2 c .before .before
 
 abbrev shared-slice-known2 : tie.After-slice-known2 Inv-loop μ-loop → tie.After-shared-slice-known2 Inv-loop μ-loop
 shared-slice-known2 c = (at-loop c) .before .before
@@ -85,7 +88,7 @@ loop-again c =
       (λ xs lx t.
           let lr : length (powerRows xs (a .d)) ≡ a .d = length-tabulate (a .d) (powerRow xs) in
           join-loop (columnValues xs (a .d) (a .rows .now)) 32 (l .l) (a .values .now) (l .values) _ (λ i h. length-column xs (a .d) (a .rows .now) i lx)
-          (c .before .before .put-row .ensures ∙ c .before .before .before .before .column-sum .ensures (powerRows xs (a .d)) (omega (arith, lr)) (powers-wide xs (a .d) lx) t
+          (c .before .before .put-row .ensures ∙ column-sum-at-slice-known2 c .column-sum .ensures (powerRows xs (a .d)) (omega (arith, lr)) (powers-wide xs (a .d) lx) t
           ∙ values-sum (tabulate (a .d) f) xs (a .d) lx (omega (arith, length-tabulate (a .d) f))
           (tabulate-all (λ b. b < 256) (a .d) f (λ i h. omega (arith, (shared-slice-known2 c) .shared-slice-known2 .given (i * 32 + l .l))))) (l .inv .0 xs lx t)),
       omega arith,

@@ -27,20 +27,29 @@ abbrev μ-loop : tie.MeasureT-loop
 μ-loop tables k m u out₀ i₀ out i = m - i
 
 -- places in the code
+abbrev st-at-loop : tie.At-loop Inv-loop μ-loop → tie.Start Inv-loop μ-loop
+st-at-loop c = c .before .before .before .before
+
 abbrev st : tie.In-loop Inv-loop μ-loop → tie.Start Inv-loop μ-loop
-st c = c .before .before .before .before .before
+st c = st-at-loop (c .before)
+
+abbrev row-sum-at-slice-known2 : tie.After-slice-known2 Inv-loop μ-loop → tie.After-row-sum Inv-loop μ-loop
+row-sum-at-slice-known2 c = c .before .before .before .before
+
+abbrev turn-at-row-sum : tie.After-row-sum Inv-loop μ-loop → tie.In-loop Inv-loop μ-loop
+turn-at-row-sum c = c .before .before
 
 abbrev at-loop : tie.After-slice-known2 Inv-loop μ-loop → tie.At-loop Inv-loop μ-loop
-at-loop c = c .before .before .before .before .before .before .before
+at-loop c = turn-at-row-sum (row-sum-at-slice-known2 c) .before
 
 abbrev shared-slice-known2 : tie.After-slice-known2 Inv-loop μ-loop → tie.After-shared-slice-known2 Inv-loop μ-loop
 shared-slice-known2 c = (at-loop c) .before .before
 
 abbrev st-2 : tie.After-slice-known2 Inv-loop μ-loop → tie.Start Inv-loop μ-loop
-st-2 c = (shared-slice-known2 c) .before .before
+st-2 c = st-at-loop (at-loop c)
 
 abbrev st-3 : tie.After-loop Inv-loop μ-loop → tie.Start Inv-loop μ-loop
-st-3 c = c .before .before .before .before .before
+st-3 c = st-at-loop (c .before)
 
 -- where the run of a turn ends
 end : (c : tie.In-loop Inv-loop μ-loop)
@@ -88,10 +97,10 @@ put-row-requires : tie.Need-put-row-requires Inv-loop μ-loop
 put-row-requires c κs = search needs
 
 add-i : tie.Need-add-i Inv-loop μ-loop
-add-i c = search needs
+add-i c = omega (arith, at-loop c .loop .inv, turn-at-row-sum (row-sum-at-slice-known2 c) .loop-test .taken, st-2 c .pre)
 
 loop-less : tie.Need-loop-less Inv-loop μ-loop
-loop-less c = search needs
+loop-less c = omega (arith, turn-at-row-sum (row-sum-at-slice-known2 c) .loop-test .taken)
 
 loop-again : tie.Need-loop-again Inv-loop μ-loop
 loop-again c =
@@ -102,10 +111,10 @@ loop-again c =
           let lr : length (powerRows xs (a .k)) ≡ a .k = length-tabulate (a .k) _ in
           join-loop (λ i. evals (piece (a .k) i (a .u .now)) xs) 32 (l .i) (a .out .now) (l .out) _ (λ i h. length-values (piece (a .k) i (a .u .now)) xs lx)
           (c .before .before .put-row .ensures
-          ∙ run-values xs (a .u .now) (a .k) (l .i) _ _ (all-of (λ b. b < 256) 0 (a .u .now) (λ i h. omega (arith, (shared-slice-known2 c) .shared-slice-known2 .given i))) lx
-          (part-piece (a .k) (l .i) (a .u .now)) (c .before .before .before .before .row-sum .ensures (powerRows xs (a .k)) (omega (arith, lr)) (powers-wide xs (a .k) lx) t)) (l .inv .0 xs lx t)),
+          ∙ run-values xs (a .u .now) (a .k) (l .i) _ _ (all-of (λ b. b < 256) 0 (a .u .now) (λ i h. omega (arith, (shared-slice-known2 c) .shared-slice-known2 .given i, l .inv))) lx
+          (part-piece (a .k) (l .i) (a .u .now)) (row-sum-at-slice-known2 c .row-sum .ensures (powerRows xs (a .k)) (omega (arith, lr, l .inv)) (powers-wide xs (a .k) lx) t)) (l .inv .0 xs lx t)),
+      omega (arith, turn-at-row-sum (row-sum-at-slice-known2 c) .loop-test .taken),
       omega arith,
-      search needs,
     )
 
 same-length : tie.Need-same-length Inv-loop μ-loop

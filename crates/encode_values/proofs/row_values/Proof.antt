@@ -12,11 +12,17 @@ use Rattle.encode_values.proofs.row_values.Statement.{statement}
 use Rattle.encode_values.proofs.row_values.Tie as tie
 
 -- places in the code
+abbrev st-at-struct-known : tie.After-struct-known → tie.Start
+st-at-struct-known c = c .before .before .before .before
+
 abbrev st : tie.After-struct-known2 → tie.Start
-st c = c .before .before .before .before .before
+st c = st-at-struct-known (c .before)
+
+abbrev struct-known2-at-slice-known2 : tie.After-slice-known2 → tie.After-struct-known2
+struct-known2-at-slice-known2 c = c .before .before .before .before
 
 abbrev struct-known2 : tie.After-lower-values-arg → tie.After-struct-known2
-struct-known2 c = c .before .before .before .before .before
+struct-known2 c = struct-known2-at-slice-known2 (c .before)
 
 abbrev struct-known2-2 : tie.After-lower-values-arg2 → tie.After-struct-known2
 struct-known2-2 c = struct-known2 (c .before)
@@ -25,7 +31,7 @@ abbrev upper-values : tie.After-slice-known3 → tie.After-upper-values
 upper-values c = c .before .before .before .before .before .before .before
 
 abbrev st-2 : tie.After-slice-known3 → tie.Start
-st-2 c = (upper-values c) .before .before .before .before .before .before .before
+st-2 c = st (upper-values c .before .before)
 
 -- the bytes of a and b
 sizes-small : (c : tie.After-struct-known2)
@@ -42,7 +48,7 @@ sizes-small c =
     (p .1, q .1, omega arith, b, f)
 
 sub-m : tie.Need-sub-m
-sub-m c = let f = legal-facts _ (c .before .before .before .before .pre .0) in omega (arith, f .read-helpers)
+sub-m c = let f = legal-facts _ (st-at-struct-known c .pre .0) in omega (arith, f .read-helpers)
 
 add-w : tie.Need-add-w
 add-w c = let f = legal-facts _ ((st c) .pre .0) in omega (arith, f .enough, f .few)
@@ -66,13 +72,13 @@ upper-values-requires : tie.Need-upper-values-requires
 upper-values-requires c κs = let e = sizes-small (c .before) in omega arith
 
 sub-lower-values : tie.Need-sub-lower-values
-sub-lower-values c = let e = sizes-small (c .before .before .before .before) in omega arith
+sub-lower-values c = let e = sizes-small (struct-known2-at-slice-known2 c) in omega arith
 
 part-lower-values-start : tie.Need-part-lower-values-start
-part-lower-values-start c = let e = sizes-small (c .before .before .before .before) in omega arith
+part-lower-values-start c = let e = sizes-small (struct-known2-at-slice-known2 c) in omega arith
 
 part-lower-values-end : tie.Need-part-lower-values-end
-part-lower-values-end c = let e = sizes-small (c .before .before .before .before) in omega arith
+part-lower-values-end c = let e = sizes-small (struct-known2-at-slice-known2 c) in omega arith
 
 sub-lower-values-2 : tie.Need-sub-lower-values-2
 sub-lower-values-2 c = let e = sizes-small ((struct-known2 c)) in omega arith

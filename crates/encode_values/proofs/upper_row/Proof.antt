@@ -17,18 +17,24 @@ use Rattle.encode_values.proofs.upper_row.Statement.{statement}
 use Rattle.encode_values.proofs.upper_row.Tie as tie
 
 -- places in the code
+abbrev shared-slice-known2-at-row-sum-arg2 : tie.After-row-sum-arg2 → tie.After-shared-slice-known2
+shared-slice-known2-at-row-sum-arg2 c = c .before .before .before
+
 abbrev shared-slice-known2 : tie.After-plus → tie.After-shared-slice-known2
-shared-slice-known2 c = c .before .before .before .before .before .before
+shared-slice-known2 c = shared-slice-known2-at-row-sum-arg2 (c .before .before .before)
+
+abbrev st-at-shared-slice-known2 : tie.After-shared-slice-known2 → tie.Start
+st-at-shared-slice-known2 c = c .before .before
 
 abbrev st : tie.After-plus → tie.Start
-st c = (shared-slice-known2 c) .before .before
+st c = st-at-shared-slice-known2 (shared-slice-known2 c)
 
 -- where the runs of the row end
 ends : (c : tie.After-shared-slice-known2)
-    → let a = c .before .before .args in
+    → let a = st-at-shared-slice-known2 c .args in
     (a .i * a .k + a .k ≤ a .k * a .k) × (a .k * a .k ≤ 1024) × (a .i * (a .w - a .k) + (a .w - a .k) ≤ a .k * (a .w - a .k)) × (a .k * (a .w - a .k) ≤ 1024)
 ends c =
-    let s = c .before .before in
+    let s = st-at-shared-slice-known2 c in
     let a = s .args in
     let p = run-end (a .i) (a .k) (a .k) (s .pre .0) (omega arith) (omega arith) in
     let q = run-end (a .i) (a .k) (a .w - a .k) (s .pre .0) (omega arith) (omega arith) in
@@ -86,10 +92,10 @@ part-row-sum-start-3 : tie.Need-part-row-sum-start-3
 part-row-sum-start-3 c = search needs
 
 part-row-sum-end-3 : tie.Need-part-row-sum-end-3
-part-row-sum-end-3 c = let e = ends (c .before .before .before) in omega arith
+part-row-sum-end-3 c = let e = ends (shared-slice-known2-at-row-sum-arg2 c) in omega arith
 
 row-sum-requires-2 : tie.Need-row-sum-requires-2
-row-sum-requires-2 c κs = let e = ends (c .before .before .before .before) in omega arith
+row-sum-requires-2 c κs = let e = ends (shared-slice-known2-at-row-sum-arg2 (c .before)) in omega arith
 
 plus-requires : tie.Need-plus-requires
 plus-requires c κs = search needs

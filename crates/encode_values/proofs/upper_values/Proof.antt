@@ -23,14 +23,20 @@ abbrev μ-loop : tie.MeasureT-loop
 μ-loop tables k w u out₀ i₀ out i = k - i
 
 -- places in the code
+abbrev upper-row-at-slice-known2 : tie.After-slice-known2 Inv-loop μ-loop → tie.After-upper-row Inv-loop μ-loop
+upper-row-at-slice-known2 c = c .before .before .before .before
+
 abbrev at-loop : tie.After-slice-known2 Inv-loop μ-loop → tie.At-loop Inv-loop μ-loop
-at-loop c = c .before .before .before .before .before .before
+at-loop c = upper-row-at-slice-known2 c .before .before
+
+abbrev st-at-loop : tie.At-loop Inv-loop μ-loop → tie.Start Inv-loop μ-loop
+st-at-loop c = c .before .before .before .before
 
 abbrev st : tie.After-slice-known2 Inv-loop μ-loop → tie.Start Inv-loop μ-loop
-st c = (at-loop c) .before .before .before .before
+st c = st-at-loop (at-loop c)
 
 abbrev st-2 : tie.After-loop Inv-loop μ-loop → tie.Start Inv-loop μ-loop
-st-2 c = c .before .before .before .before .before
+st-2 c = st-at-loop (c .before)
 
 loop-holds : tie.Need-loop-holds Inv-loop μ-loop
 loop-holds c = ((λ xs l t. refl), omega arith, refl)
@@ -69,9 +75,9 @@ loop-again c =
     let a = s .args in (
       (λ xs lx t.
           join-loop (upperValues xs (a .k) (a .w) (a .u .now)) 32 (l .i) (a .out .now) (l .out) _ (λ i h. length-upper xs (a .k) (a .w) (a .u .now) i lx)
-          (c .before .before .put-row .ensures ∙ c .before .before .before .before .upper-row .ensures xs lx t) (l .inv .0 xs lx t)),
+          (c .before .before .put-row .ensures ∙ upper-row-at-slice-known2 c .upper-row .ensures xs lx t) (l .inv .0 xs lx t)),
+      omega (arith, upper-row-at-slice-known2 c .before .loop-test .taken),
       omega arith,
-      search needs,
     )
 
 same-length : tie.Need-same-length Inv-loop μ-loop

@@ -20,17 +20,21 @@ Inv-loop n b out₀ m a₀ t₀ out a t = (out ≡ tabulate t (λ t. (b + t) % n
 abbrev μ-loop : tie.MeasureT-loop
 μ-loop n b out₀ m a₀ t₀ out a t = m - t
 
+-- the places
+abbrev st-at-loop : tie.At-loop Inv-loop μ-loop → tie.Start Inv-loop μ-loop
+st-at-loop c = c .before .before
+
 next-requires : tie.Need-next-requires Inv-loop μ-loop
 next-requires c κs =
     let l = c .before .loop in
-    let a = c .before .before .before .args in
+    let a = st-at-loop (c .before) .args in
     let h = mod-lt (a .b + l .t) {m = a .n} (omega arith) in
     (rw (l .inv .1) h, omega arith)
 
 loop-again : tie.Need-loop-again Inv-loop μ-loop
 loop-again c =
     let l = c .before .before .loop in
-    let a = c .before .before .before .before .args in (
+    let a = st-at-loop (c .before .before) .args in (
       fill-loop (λ t. (a .b + t) % a .n) (a .out .now) (l .out) (l .t) _ (omega arith) (l .inv .1) (l .inv .0),
       board-turn (a .b) (l .t) (a .n) (l .a) _ (l .inv .1) (c .next .ensures),
       omega arith,
@@ -40,7 +44,7 @@ loop-again c =
 returns : tie.Need-returns Inv-loop μ-loop
 returns c =
     let l = c .before .loop in
-    changed _ (c .before .before .before .args .out .now) (l .out) (l .t) (omega arith) (omega arith) (l .inv .0)
+    changed _ (st-at-loop (c .before) .args .out .now) (l .out) (l .t) (omega arith) (omega arith) (l .inv .0)
 
 pub boards-from-spec : {M : Type 1} → statement M
 boards-from-spec =

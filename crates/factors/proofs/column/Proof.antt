@@ -19,14 +19,20 @@ abbrev μ-loop : tie.MeasureT-loop
 μ-loop rows m i out₀ t₀ out t = m - t
 
 -- the places
+abbrev out-at-loop : tie.At-loop Inv-loop μ-loop → tie.After-out Inv-loop μ-loop
+out-at-loop c = c .before .before
+
+abbrev st-from-loop : tie.At-loop Inv-loop μ-loop → tie.Start Inv-loop μ-loop
+st-from-loop c = out-at-loop c .before .before .before .before .before
+
 abbrev st-at-in-loop : tie.In-loop Inv-loop μ-loop → tie.Start Inv-loop μ-loop
-st-at-in-loop c = c .before .before .before .before .before .before .before .before
+st-at-in-loop c = st-from-loop (c .before)
 
 abbrev st-at-shared-slice-known2 : tie.After-shared-slice-known2 Inv-loop μ-loop → tie.Start Inv-loop μ-loop
-st-at-shared-slice-known2 c = c .before .before .before .before .before .before .before .before .before
+st-at-shared-slice-known2 c = st-at-in-loop (c .before)
 
 abbrev st-at-loop : tie.After-loop Inv-loop μ-loop → tie.Start Inv-loop μ-loop
-st-at-loop c = c .before .before .before .before .before .before .before .before
+st-at-loop c = st-from-loop (c .before)
 
 mul-out : tie.Need-mul-out Inv-loop μ-loop
 mul-out c = omega (arith, row-fits (c .before .loop .t) (st-at-in-loop c .args .m) (omega arith))
@@ -46,7 +52,7 @@ returns : tie.Need-returns Inv-loop μ-loop
 returns c =
     let l = c .before .loop in
     let a = st-at-loop c .args in
-    column-end _ (a .m) (length (a .out .now)) (l .t) _ (l .out) (omega arith) (omega arith) (c .before .before .before .before .clear .ensures) (l .inv .0)
+    column-end _ (a .m) (length (a .out .now)) (l .t) _ (l .out) (omega arith) (omega arith) (out-at-loop (c .before) .before .clear .ensures) (l .inv .0)
 
 pub column-spec : {M : Type 1} → statement M
 column-spec =
@@ -63,5 +69,5 @@ column-spec =
     (λ c. search needs)
     (λ c. search needs)
     loop-again
-    (λ c. c .before .loop .inv .2 ∙ c .before .before .before .out .given)
+    (λ c. c .before .loop .inv .2 ∙ out-at-loop (c .before) .out .given)
     returns)

@@ -22,5 +22,5 @@ factors-spec =
     (λ c. search needs)
     (λ c. search needs)
     factors-in-requires
-    (λ c. search needs)
+    (λ c. c .before .out .given)
     (λ c. search needs))

@@ -8,11 +8,11 @@ use Rattle.factors.proofs.factors_in.Statement.{statement}
 use Rattle.factors.proofs.factors_in.Tie as tie
 
 -- the places
-abbrev st-at-slice-known4 : tie.After-slice-known4 → tie.Start
-st-at-slice-known4 c = c .before .before .before .before .before .before .before .before .before .before .before .before .before .before
-
 abbrev lagrange-rows-at-slice-known4 : tie.After-slice-known4 → tie.After-lagrange-rows
 lagrange-rows-at-slice-known4 c = c .before .before .before .before .before .before .before
+
+abbrev st-at-slice-known4 : tie.After-slice-known4 → tie.Start
+st-at-slice-known4 c = lagrange-rows-at-slice-known4 c .before .before .before .before .before .before .before
 
 returns : tie.Need-returns
 returns c =

@@ -80,14 +80,14 @@ loop-holds : tie.Need-loop-holds Inv-loop μ-loop
 loop-holds c = (ap (λ (m : ℕ). drop m (st-struct-known2 c .args .out .now)) (sym (zero-mul (α (st-struct-known2 c .args .sizes)))), omega arith, refl, refl, refl, refl, refl)
 
 part-stripe-by-end : tie.Need-part-stripe-by-end Inv-loop μ-loop
-part-stripe-by-end c = omega (arith, stripe-end (turn-at-stripe-by-arg4 c), few (st-stripe-by-arg4 c))
+part-stripe-by-end c = omega (arith, stripe-end (turn-at-stripe-by-arg4 c), few (st-stripe-by-arg4 c), turn-at-stripe-by-arg4 c .before .loop .inv .2)
 
 stripe-by-requires : tie.Need-stripe-by-requires Inv-loop μ-loop
 stripe-by-requires c κs =
     let p = st-stripe-by-arg5 c .pre in
     let l = turn-at-stripe-by-arg5 c .before .loop in
     let z = st-stripe-by-arg5 c .args .sizes in
-    let n : l .s * α z + α z ≤ length (l .out) = omega (arith, stripe-end (turn-at-stripe-by-arg5 c), few (st-stripe-by-arg5 c)) in (
+    let n : l .s * α z + α z ≤ length (l .out) = omega (arith, stripe-end (turn-at-stripe-by-arg5 c), few (st-stripe-by-arg5 c), l .inv .2) in (
       p .0,
       p .1,
       turn-at-stripe-by-arg5 c .loop-test .taken,
@@ -97,9 +97,9 @@ stripe-by-requires c κs =
       p .5,
       l .inv .3 ∙ p .6,
       l .inv .4 ∙ p .7,
-      omega (arith, p),
-      omega (arith, p),
-      omega (arith, p),
+      omega (arith, l .inv .6, p .8, p .10),
+      omega (arith, l .inv .6, p .9, p .10),
+      omega (arith, l .inv .5, l .inv .6, p .10, p .11),
       ap length (part-piece (α z) (l .s) (l .out)) ∙ length-piece (α z) (l .s) (l .out) n,
     )
 

@@ -12,11 +12,11 @@ use Rattle.finish_rows.proofs.all_boards.Tie as tie
 abbrev out-at-slice-known3 : tie.After-slice-known3 → tie.After-out
 out-at-slice-known3 c = c .before .before .before .before .before
 
-abbrev st-at-slice-known3 : tie.After-slice-known3 → tie.Start
-st-at-slice-known3 c = c .before .before .before .before .before .before .before .before .before .before .before
-
 abbrev copy-boards-at-slice-known3 : tie.After-slice-known3 → tie.After-copy-boards
-copy-boards-at-slice-known3 c = c .before .before .before .before .before .before
+copy-boards-at-slice-known3 c = out-at-slice-known3 c .before
+
+abbrev st-at-slice-known3 : tie.After-slice-known3 → tie.Start
+st-at-slice-known3 c = copy-boards-at-slice-known3 c .before .before .before .before .before
 
 same-length : tie.Need-same-length
 same-length c = simp length-set (c .before .out2 .given .1 ∙ out-at-slice-known3 c .out .given .1)

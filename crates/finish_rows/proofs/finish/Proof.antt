@@ -27,7 +27,7 @@ emit-turned-requires-2 : tie.Need-emit-turned-requires-2
 emit-turned-requires-2 c κs =
     let a = st-at-emit-turned-arg3 c .args in
     let p = st-at-emit-turned-arg3 c .pre in
-    (rw (c .before .next .ensures) (mod-lt (a .i + 1) {m = a .n} (omega arith)), p .1, p .5)
+    (rw (c .before .next .ensures) (mod-lt (a .i + 1) {m = a .n} (omega (arith, p))), p .1, p .5)
 
 returns : tie.Need-returns
 returns c =
@@ -48,13 +48,13 @@ finish-spec =
     (λ c. search needs)
     (λ c. search needs)
     (λ c. search needs)
-    (λ c κs. search needs)
-    (λ c κs. search needs)
+    (λ c κs. omega arith)
+    (λ c κs. omega (arith, c .before .before .before .before .before .before .before .before .before .before .before .before .before .before .before .before .pre))
     (λ c. search needs)
     (λ c. search needs)
     (λ c. search needs)
     emit-turned-requires-2
     (λ c. search needs)
-    (λ c. search needs)
-    (λ c. search needs)
+    (λ c. emit-turned-at-slice-known6 c .before .before .before .before .f .given)
+    (λ c. c .before .out2 .given .1 ∙ c .before .before .before .before .before .before .out .given .1)
     returns)

@@ -7,6 +7,7 @@ use Prim.Native.Nat.{ℕ, _*_, _≤_}
 use lib.ListN.{length, drop}
 use borrow.Author.Tests.{not-true, not-false}
 use borrow.Author.Needs.{needs}
+use native.Mathlib.Omega.{arith}
 use Rattle.lists.specs.Tests.{different, given}
 use Rattle.sizes.specs.Sizing.{α, stripes}
 use Rattle.mbcr.specs.Read.{decodedFile, readFile}
@@ -21,17 +22,29 @@ use Rattle.gather_told.proofs.gather_told.Tie as tie
 abbrev st : tie.After-different → tie.Start
 st c = c .before .before .before .before .before .before
 
+abbrev else1-at-stripe-count : tie.After-stripe-count → tie.Else1
+else1-at-stripe-count c = c .before .before
+
 abbrev at-different : tie.After-stripe-count → tie.After-different
-at-different c = c .before .before .before
+at-different c = else1-at-stripe-count c .before
+
+abbrev fill-inverses-at-tables : tie.After-tables → tie.After-fill-inverses
+fill-inverses-at-tables c = c .before .before .before
+
+abbrev stripe-count-at-fill-inverses : tie.After-fill-inverses → tie.After-stripe-count
+stripe-count-at-fill-inverses c = c .before .before
 
 abbrev at-count : tie.After-fill → tie.After-stripe-count
-at-count c = c .before .before .before .before .before .before
+at-count c = stripe-count-at-fill-inverses (fill-inverses-at-tables (c .before))
 
 abbrev at-fill : tie.After-agrees → tie.After-fill
 at-fill c = c .before .before .before
 
+abbrev else3-at-file-arg : tie.After-file-arg → tie.Else3
+else3-at-file-arg c = c .before .before
+
 abbrev at-agrees : tie.After-file → tie.After-agrees
-at-agrees c = c .before .before .before .before
+at-agrees c = else3-at-file-arg (c .before) .before
 
 ready : (g : tie.Start) → let a = g .args in Ready (a .text .now) (a .sizes) (a .points .now) (a .len) (a .boards .now) (a .places .now)
 ready g = g .pre
@@ -42,7 +55,7 @@ unlike c = sym (c .before .different .ensures) ∙ not-false _ (c .if1 .left)
 
 asks : (c : tie.After-stripe-count) → let a = st (at-different c) .args in Asked (a .sizes) (a .points .now) (a .boards .now)
 asks c = let g = st (at-different c) in let a = g .args in
-    law.asked-told (a .text .now) (a .sizes) (a .points .now) (a .len) (a .boards .now) (a .places .now) (a .out .now) (ready g) (unlike (c .before .before))
+    law.asked-told (a .text .now) (a .sizes) (a .points .now) (a .len) (a .boards .now) (a .places .now) (a .out .now) (ready g) (unlike (else1-at-stripe-count c))
 
 -- the number of stripes
 many : (c : tie.After-stripe-count) → let a = st (at-different c) .args in c .stripe-count .result ≡ stripes (a .sizes) (a .len)
@@ -79,12 +92,12 @@ short c =
 
 fill-asks : tie.Need-fill-requires
 fill-asks c κs =
-    let i = c .before .before .before in
-    let k = i .before .before in
+    let i = fill-inverses-at-tables c in
+    let k = stripe-count-at-fill-inverses i in
     let g = st (at-different k) in
     let a = g .args in
     let t = law.points-taken (a .text .now) (a .sizes) (a .points .now) (a .len) (a .boards .now) (a .places .now) (a .out .now) (ready g) in
-    (asks k, i .fill-inverses .ensures, t .long, search needs)
+    (asks k, i .fill-inverses .ensures, t .long, omega (arith, st (at-different (stripe-count-at-fill-inverses (i))) .pre))
 
 agrees-ask : tie.Need-agrees-requires
 agrees-ask c κs =
@@ -98,12 +111,12 @@ disagrees c =
     let k = at-count (at-fill w) in
     let g = st (at-different k) in
     let a = g .args in
-    law.refuses-disagree (a .text .now) (a .sizes) (a .points .now) (a .len) (a .boards .now) (a .places .now) (a .out .now) (ready g) (unlike (k .before .before)) (k .before .if2 .left)
+    law.refuses-disagree (a .text .now) (a .sizes) (a .points .now) (a .len) (a .boards .now) (a .places .now) (a .out .now) (ready g) (unlike (else1-at-stripe-count k)) (k .before .if2 .left)
     (sym (found w) ∙ not-true _ (c .if3 .taken))
 
 file-asks : tie.Need-file-requires
 file-asks c κs =
-    let w = c .before .before .before in
+    let w = else3-at-file-arg c .before in
     let f = at-fill w in
     let k = at-count f in
     (asks k, f .fill .ensures, k .stripe-count .ensures .1, many k, ready (st (at-different k)) .as-many, spelt k, k .before .if2 .left)
@@ -111,12 +124,12 @@ file-asks c κs =
 works : tie.Need-returns-4
 works c =
     let t = c .before .before in
-    let e = t .before .before .before in
+    let e = else3-at-file-arg (t .before) in
     let w = at-agrees t in
     let k = at-count (at-fill w) in
     let g = st (at-different k) in
     let a = g .args in
-    law.works (a .text .now) (a .sizes) (a .points .now) (a .len) (a .boards .now) (a .places .now) (a .out .now) (ready g) (unlike (k .before .before)) (k .before .if2 .left)
+    law.works (a .text .now) (a .sizes) (a .points .now) (a .len) (a .boards .now) (a .places .now) (a .out .now) (ready g) (unlike (else1-at-stripe-count k)) (k .before .if2 .left)
     (sym (found w) ∙ not-false _ (e .if3 .left)) _
     (t .file .ensures ∙ ap (λ (S : ℕ). decodedFile (a .sizes) (a .points .now) (a .len) (a .boards .now) (shares g S) ++ drop (a .len) (a .out .now)) (many k))
 
@@ -131,12 +144,12 @@ gather-told-spec =
     (λ c. search needs)
     (λ c κs. search needs)
     (λ c. search needs)
-    (λ c. search needs)
+    (λ c. omega arith)
     fill-asks
-    (λ c. search needs)
+    (λ c. omega arith)
     agrees-ask
     disagrees
-    (λ c. search needs)
+    (λ c. omega (arith, st (at-different (at-count (at-fill (c .before .before)))) .pre))
     file-asks
-    (λ c. search needs)
+    (λ c. c .before .out .given)
     works)

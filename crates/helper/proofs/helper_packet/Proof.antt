@@ -39,5 +39,5 @@ helper-packet-spec =
     (λ c. search needs)
     (λ c. search needs)
     packet-in-requires
-    (λ c. search needs)
+    (λ c. c .before .out .given)
     (λ c. search needs))

@@ -14,8 +14,11 @@ use Rattle.helper.proofs.packet_in.Statement.{statement}
 use Rattle.helper.proofs.packet_in.Tie as tie
 
 -- the places
+abbrev shared-slice-known3-at-struct-known : tie.After-struct-known → tie.After-shared-slice-known3
+shared-slice-known3-at-struct-known c = c .before .before .before .before
+
 abbrev st-at-struct-known : tie.After-struct-known → tie.Start
-st-at-struct-known c = c .before .before .before .before .before .before .before
+st-at-struct-known c = shared-slice-known3-at-struct-known c .before .before .before
 
 abbrev st-at-factors-from-arg : tie.After-factors-from-arg → tie.Start
 st-at-factors-from-arg c = st-at-struct-known (c .before)
@@ -23,23 +26,29 @@ st-at-factors-from-arg c = st-at-struct-known (c .before)
 abbrev st-at-factors-from-arg2 : tie.After-factors-from-arg2 → tie.Start
 st-at-factors-from-arg2 c = st-at-factors-from-arg (c .before .before .before .before)
 
+abbrev gf-at-pairs-arg3 : tie.After-pairs-arg3 → tie.After-gf
+gf-at-pairs-arg3 c = c .before .before .before .before
+
 abbrev st-at-pairs-arg3 : tie.After-pairs-arg3 → tie.Start
-st-at-pairs-arg3 c = st-at-factors-from-arg2 (c .before .before .before .before .before .before)
+st-at-pairs-arg3 c = st-at-factors-from-arg2 (gf-at-pairs-arg3 c .before .before)
 
 abbrev ff-at-pairs-arg3 : tie.After-pairs-arg3 → tie.After-ff
-ff-at-pairs-arg3 c = c .before .before .before .before .before .before .before .before
+ff-at-pairs-arg3 c = gf-at-pairs-arg3 c .before .before .before .before
+
+abbrev pairs-at-slice-known6 : tie.After-slice-known6 → tie.After-pairs
+pairs-at-slice-known6 c = c .before .before
 
 abbrev st-at-slice-known6 : tie.After-slice-known6 → tie.Start
-st-at-slice-known6 c = st-at-pairs-arg3 (c .before .before .before)
-
-abbrev shared-slice-known3-at-slice-known6 : tie.After-slice-known6 → tie.After-shared-slice-known3
-shared-slice-known3-at-slice-known6 c = c .before .before .before .before .before .before .before .before .before .before .before .before .before .before .before .before .before .before
+st-at-slice-known6 c = st-at-pairs-arg3 (pairs-at-slice-known6 c .before)
 
 abbrev factors-from-at-slice-known6 : tie.After-slice-known6 → tie.After-factors-from
-factors-from-at-slice-known6 c = c .before .before .before .before .before .before .before .before .before .before .before .before
+factors-from-at-slice-known6 c = ff-at-pairs-arg3 (pairs-at-slice-known6 c .before) .before
+
+abbrev shared-slice-known3-at-slice-known6 : tie.After-slice-known6 → tie.After-shared-slice-known3
+shared-slice-known3-at-slice-known6 c = shared-slice-known3-at-struct-known (factors-from-at-slice-known6 c .before .before)
 
 abbrev factors-from2-at-slice-known6 : tie.After-slice-known6 → tie.After-factors-from2
-factors-from2-at-slice-known6 c = c .before .before .before .before .before .before .before .before
+factors-from2-at-slice-known6 c = gf-at-pairs-arg3 (pairs-at-slice-known6 c .before) .before
 
 facts : (c : tie.Start) → Legal (c .args .sizes)
 facts c = legal-facts _ (c .pre .0)
@@ -62,14 +71,14 @@ pairs-requires c κs =
     let p = st-at-pairs-arg3 c .pre in
     let f = facts (st-at-pairs-arg3 c) in
     let z = a .sizes in
-    let α′ : z .d + z .r + z .d - 1 ≡ α z = omega arith in (
-      omega arith,
-      omega arith,
+    let α′ : z .d + z .r + z .d - 1 ≡ α z = omega (arith, p, f) in (
+      omega (arith, p, f),
+      omega (arith, p, f),
       p .7 ∙ ap (λ (m : ℕ). a .stripes * m) (sym α′),
-      omega (arith, ff-at-pairs-arg3 c .ff .given),
-      omega (arith, c .before .before .before .before .gf .given),
-      omega arith,
-      omega arith,
+      omega (arith, ff-at-pairs-arg3 c .ff .given, p),
+      omega (arith, gf-at-pairs-arg3 c .gf .given, p),
+      omega (arith, p, f),
+      omega (arith, p, f),
       p .8,
     )
 
@@ -78,7 +87,7 @@ returns c =
     let a = st-at-slice-known6 c .args in
     let p = st-at-slice-known6 c .pre in
     let b = all-of (λ x. x < 256) 0 (a .held .now) (λ i l. omega (arith, shared-slice-known3-at-slice-known6 c .shared-slice-known3 .given i)) in
-    c .before .before .pairs .ensures
+    pairs-at-slice-known6 c .pairs .ensures
     ∙ ap (λ (l : List ℕ). l ++ drop (2 * a .stripes) (a .out .now))
     (packet-is (a .sizes) (a .points .now) (facts (st-at-slice-known6 c)) (p .2) (a .j) (a .i) (p .5) (a .stripes) (length (a .ff .now)) (length (a .gf .now)) _ _ (a .held .now)
     (p .9) (p .11) (factors-from-at-slice-known6 c .factors-from .ensures) (factors-from2-at-slice-known6 c .factors-from2 .ensures) (p .7) b)
@@ -91,7 +100,7 @@ packet-in-spec =
     factors-from-requires
     factors-from-requires-2
     pairs-requires
-    (λ c. search needs)
-    (λ c. search needs)
+    (λ c. ff-at-pairs-arg3 (pairs-at-slice-known6 c .before) .ff .given)
+    (λ c. gf-at-pairs-arg3 (pairs-at-slice-known6 c .before) .gf .given)
     (λ c. search needs)
     returns)

@@ -12,17 +12,23 @@ use Rattle.helper.proofs.pair_in.Tie as tie
 abbrev st-at-own-rows-arg2 : tie.After-own-rows-arg2 → tie.Start
 st-at-own-rows-arg2 c = c .before .before .before .before .before .before .before
 
+abbrev f-at-dot-arg : tie.After-dot-arg → tie.After-f
+f-at-dot-arg c = c .before .before .before .before
+
 abbrev st-at-dot-arg : tie.After-dot-arg → tie.Start
-st-at-dot-arg c = st-at-own-rows-arg2 (c .before .before .before .before .before .before)
+st-at-dot-arg c = st-at-own-rows-arg2 (f-at-dot-arg c .before .before)
+
+abbrev dot-arg-at-dot-arg2 : tie.After-dot-arg2 → tie.After-dot-arg
+dot-arg-at-dot-arg2 c = c .before .before
 
 abbrev st-at-dot-arg2 : tie.After-dot-arg2 → tie.Start
-st-at-dot-arg2 c = st-at-dot-arg (c .before .before)
+st-at-dot-arg2 c = st-at-dot-arg (dot-arg-at-dot-arg2 c)
 
 abbrev st-at-dot2 : tie.After-dot2 → tie.Start
 st-at-dot2 c = st-at-dot-arg2 (c .before)
 
 abbrev own-rows-at-dot2 : tie.After-dot2 → tie.After-own-rows
-own-rows-at-dot2 c = c .before .before .before .before .before .before .before .before
+own-rows-at-dot2 c = f-at-dot-arg (dot-arg-at-dot-arg2 (c .before)) .before
 
 -- the rows have 32 bytes
 long-f : (c : tie.Start) → length (c .args .f .now) ≡ 32
@@ -35,10 +41,10 @@ own-rows-requires : tie.Need-own-rows-requires
 own-rows-requires c κs = let p = st-at-own-rows-arg2 c .pre in (p .0, p .1, p .2, omega (arith, long-f (st-at-own-rows-arg2 c)), omega (arith, long-g (st-at-own-rows-arg2 c)))
 
 dot-requires : tie.Need-dot-requires
-dot-requires c κs = omega (arith, c .before .before .before .before .f .given, long-f (st-at-dot-arg c))
+dot-requires c κs = omega (arith, f-at-dot-arg c .f .given, long-f (st-at-dot-arg c))
 
 dot-requires-2 : tie.Need-dot-requires-2
-dot-requires-2 c κs = omega (arith, c .before .before .before .before .g .given, long-g (st-at-dot-arg2 c))
+dot-requires-2 c κs = omega (arith, dot-arg-at-dot-arg2 c .before .before .g .given, long-g (st-at-dot-arg2 c))
 
 returns : tie.Need-returns
 returns c =

@@ -21,17 +21,23 @@ abbrev μ-loop : tie.MeasureT-loop
 μ-loop d w ff gf stripes held out₀ a s₀ out s = stripes - s
 
 -- the places
-abbrev st-at-helper-pair-arg : tie.After-helper-pair-arg Inv-loop μ-loop → tie.Start Inv-loop μ-loop
-st-at-helper-pair-arg c = c .before .before .before .before .before .before .before
-
-abbrev st-at-helper-pair : tie.After-helper-pair Inv-loop μ-loop → tie.Start Inv-loop μ-loop
-st-at-helper-pair c = c .before .before .before .before .before .before .before .before
-
-abbrev st-at-loop : tie.After-loop Inv-loop μ-loop → tie.Start Inv-loop μ-loop
-st-at-loop c = c .before .before .before .before .before .before
+abbrev st-from-loop : tie.At-loop Inv-loop μ-loop → tie.Start Inv-loop μ-loop
+st-from-loop c = c .before .before .before .before .before
 
 abbrev st-at-in-loop : tie.In-loop Inv-loop μ-loop → tie.Start Inv-loop μ-loop
-st-at-in-loop c = c .before .before .before .before .before .before
+st-at-in-loop c = st-from-loop (c .before)
+
+abbrev st-at-helper-pair-arg : tie.After-helper-pair-arg Inv-loop μ-loop → tie.Start Inv-loop μ-loop
+st-at-helper-pair-arg c = st-at-in-loop (c .before)
+
+abbrev loop-at-helper-pair : tie.After-helper-pair Inv-loop μ-loop → tie.At-loop Inv-loop μ-loop
+loop-at-helper-pair c = c .before .before .before
+
+abbrev st-at-helper-pair : tie.After-helper-pair Inv-loop μ-loop → tie.Start Inv-loop μ-loop
+st-at-helper-pair c = st-from-loop (loop-at-helper-pair c)
+
+abbrev st-at-loop : tie.After-loop Inv-loop μ-loop → tie.Start Inv-loop μ-loop
+st-at-loop c = st-from-loop (c .before)
 
 -- where the bytes of a turn's stripe end
 stripe-end : (c : tie.In-loop Inv-loop μ-loop)
@@ -47,12 +53,12 @@ helper-pair-requires c κs =
     (p .0, p .1, ap length (part-piece (a .w + a .d - 1) (l .s) (a .held .now)) ∙ length-piece (a .w + a .d - 1) (l .s) (a .held .now) n, p .3, p .4, p .5, p .6)
 
 slice-write-out-2 : tie.Need-slice-write-out-2 Inv-loop μ-loop
-slice-write-out-2 c = omega (arith, length-set (c .before .before .before .loop .out) (c .before .before .before .loop .s * 2) (c .helper-pair .result .first))
+slice-write-out-2 c = omega (arith, length-set (loop-at-helper-pair c .loop .out) (loop-at-helper-pair c .loop .s * 2) (c .helper-pair .result .first))
 
 loop-again : tie.Need-loop-again Inv-loop μ-loop
 loop-again c =
     let a = st-at-helper-pair c .args in
-    let l = c .before .before .before .loop in
+    let l = loop-at-helper-pair c .loop in
     let f : ℕ → List ℕ = λ s. pairBy (a .w) (a .ff .now) (a .gf .now) (piece (a .w + a .d - 1) s (a .held .now)) in (
       two-turn f (a .out .now) (l .out) (l .s) _ _ (λ i. length-pair (a .w) (a .ff .now) (a .gf .now) _) (omega arith) (l .inv .2)
           (c .helper-pair .ensures ∙ ap (pairBy (a .w) (a .ff .now) (a .gf .now)) (part-piece (a .w + a .d - 1) (l .s) (a .held .now))) (l .inv .0),

@@ -12,8 +12,11 @@ use Rattle.kept_bytes.proofs.keep.Statement.{statement}
 use Rattle.kept_bytes.proofs.keep.Tie as tie
 
 -- places in the code
+abbrev st-at-struct-known : tie.After-struct-known → tie.Start
+st-at-struct-known c = c .before .before .before
+
 abbrev st : tie.After-turned-arg → tie.Start
-st c = c .before .before .before .before .before .before .before .before
+st c = st-at-struct-known (c .before .before .before .before .before)
 
 abbrev st-2 : tie.After-next → tie.Start
 st-2 c = st (c .before)
@@ -21,11 +24,14 @@ st-2 c = st (c .before)
 abbrev st-3 : tie.After-turned-arg2 → tie.Start
 st-3 c = st-2 (c .before)
 
+abbrev next-at-slice-known3 : tie.After-slice-known3 → tie.After-next
+next-at-slice-known3 c = c .before .before .before .before
+
 abbrev turned-column : tie.After-slice-known3 → tie.After-turned-column
-turned-column c = c .before .before .before .before .before .before .before .before
+turned-column c = next-at-slice-known3 c .before .before .before .before
 
 abbrev st-4 : tie.After-slice-known3 → tie.Start
-st-4 c = (turned-column c) .before .before .before .before .before
+st-4 c = st-2 (next-at-slice-known3 c)
 
 add-m : tie.Need-add-m
 add-m c = search needs
@@ -43,10 +49,10 @@ part-turned-column-start : tie.Need-part-turned-column-start
 part-turned-column-start c = search needs
 
 part-turned-column-end : tie.Need-part-turned-column-end
-part-turned-column-end c = let f = legal-facts _ (c .before .before .before .pre .0) in omega arith
+part-turned-column-end c = let f = legal-facts _ (st-at-struct-known c .pre .0) in omega arith
 
 turned-column-requires : tie.Need-turned-column-requires
-turned-column-requires c κs = let f = legal-facts _ (c .before .before .before .before .pre .0) in search needs
+turned-column-requires c κs = let f = legal-facts _ (st-at-struct-known (c .before) .pre .0) in search needs
 
 sub-turned : tie.Need-sub-turned
 sub-turned c = search needs
@@ -72,8 +78,11 @@ part-turned-end-2 c = let f = legal-facts _ ((st-2 c) .pre .0) in omega arith
 turned-requires : tie.Need-turned-requires
 turned-requires c κs =
     let f = legal-facts _ ((st-3 c) .pre .0) in
-    let a = (st-3 c) .args in
-    (omega (arith, c .before .next .ensures, mod-lt (a .i + 1) {m = a .sizes .n} (omega arith)), f .few, omega (arith, row-long (a .rows .now) (a .i) (omega arith)))
+    let a = (st-3 c) .args in (
+      omega (arith, c .before .next .ensures, mod-lt (a .i + 1) {m = a .sizes .n} (omega arith)),
+      f .few,
+      omega (arith, row-long (a .rows .now) (a .i) (omega arith)),
+    )
 
 same-length : tie.Need-same-length
 same-length c = search needs
@@ -87,7 +96,7 @@ returns c =
     let row : ℕ → ℕ = λ b. getD (a .rows .now) (a .i * 32 + b) 0 in
     let part : List ℕ = take (a .i * 32 + 32 - a .i * 32) (drop (a .i * 32) (a .rows .now)) in
     parts-kept z (λ b. getD (a .rows .now) (b * 32 + a .i) 0) row (λ b. getD part b 0) (a .i) _ (a .out .now) _ _ (omega arith)
-    (λ b h. row-of (a .rows .now) (a .i) b (omega arith)) (omega arith) (c .before .before .before .before .next .ensures)
+    (λ b h. row-of (a .rows .now) (a .i) b (omega arith)) (omega arith) (next-at-slice-known3 c .next .ensures)
     ((turned-column c) .turned-column .ensures) (c .before .before .turned .ensures)
 
 pub keep-spec : {M : Type 1} → statement M

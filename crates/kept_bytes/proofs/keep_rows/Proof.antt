@@ -12,8 +12,11 @@ use Rattle.kept_bytes.proofs.keep_rows.Statement.{statement}
 use Rattle.kept_bytes.proofs.keep_rows.Tie as tie
 
 -- places in the code
+abbrev st-at-struct-known : tie.After-struct-known → tie.Start
+st-at-struct-known c = c .before .before .before .before
+
 abbrev st : tie.After-turned-arg → tie.Start
-st c = c .before .before .before .before .before
+st c = st-at-struct-known (c .before)
 
 abbrev st-2 : tie.After-slice-known2 → tie.Start
 st-2 c = st (c .before .before .before)
@@ -24,11 +27,14 @@ st-3 c = st-2 (c .before)
 abbrev st-4 : tie.After-turned-arg2 → tie.Start
 st-4 c = st-3 (c .before)
 
+abbrev next-at-slice-known3 : tie.After-slice-known3 → tie.After-next
+next-at-slice-known3 c = c .before .before .before .before
+
 abbrev turned : tie.After-slice-known3 → tie.After-turned
-turned c = c .before .before .before .before .before .before .before
+turned c = next-at-slice-known3 c .before .before .before
 
 abbrev st-5 : tie.After-slice-known3 → tie.Start
-st-5 c = (turned c) .before .before .before .before .before .before
+st-5 c = st-3 (next-at-slice-known3 c)
 
 add-m : tie.Need-add-m
 add-m c = search needs
@@ -40,7 +46,7 @@ part-turned-start : tie.Need-part-turned-start
 part-turned-start c = search needs
 
 part-turned-end : tie.Need-part-turned-end
-part-turned-end c = let f = legal-facts _ (c .before .before .before .before .pre .0) in omega arith
+part-turned-end c = let f = legal-facts _ (st-at-struct-known c .pre .0) in omega arith
 
 turned-requires : tie.Need-turned-requires
 turned-requires c κs = let f = legal-facts _ ((st c) .pre .0) in search needs
@@ -73,7 +79,7 @@ returns c =
     let z = a .sizes in
     let f = legal-facts _ (s .pre .0) in
     parts-kept z (λ b. getD (a .f .now) b 0) (λ b. getD (a .g .now) b 0) (λ b. getD (a .g .now) b 0) (a .i) _ (a .out .now) _ _ (omega arith) (λ b h. refl) (omega arith)
-    (c .before .before .before .before .next .ensures)
+    (next-at-slice-known3 c .next .ensures)
     ((turned c) .turned .ensures) (c .before .before .turned2 .ensures)
 
 pub keep-rows-spec : {M : Type 1} → statement M

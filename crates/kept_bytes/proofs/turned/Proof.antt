@@ -22,12 +22,15 @@ abbrev μ-loop : tie.MeasureT-loop
 μ-loop row n i out₀ m b₀ t₀ out b t = m - t
 
 -- places in the code
+abbrev st-at-slice-known : tie.After-slice-known Inv-loop μ-loop → tie.Start Inv-loop μ-loop
+st-at-slice-known c = c .before .before
+
 abbrev st : tie.After-next Inv-loop μ-loop → tie.Start Inv-loop μ-loop
-st c = c .before .before .before .before .before .before
+st c = st-at-slice-known (c .before .before .before .before)
 
 loop-holds : tie.Need-loop-holds Inv-loop μ-loop
 loop-holds c =
-    let s = c .before .before in (refl, sym (ap (λ (x : ℕ). x % s .args .n) (add-zero (s .args .i)) ∙ mod-eq-of-lt (s .pre .0)), s .pre .0, omega arith, refl)
+    let s = st-at-slice-known c in (refl, sym (ap (λ (x : ℕ). x % s .args .n) (add-zero (s .args .i)) ∙ mod-eq-of-lt (s .pre .0)), s .pre .0, omega arith, refl)
 
 shared-slice-read-out : tie.Need-shared-slice-read-out Inv-loop μ-loop
 shared-slice-read-out c = search needs
@@ -63,7 +66,7 @@ same-length c = search needs
 returns : tie.Need-returns Inv-loop μ-loop
 returns c =
     let l = c .before .loop in
-    let a = c .before .before .before .before .args in
+    let a = st-at-slice-known (c .before .before) .args in
     let f : ℕ → ℕ = λ b. getD (a .row .now) b 0 in
     around-end (a .n) f (a .i) (l .t) (a .out .now) (l .out) (omega arith) (l .inv .0)
 

@@ -17,11 +17,14 @@ st-at-slice-known3 c = c .before .before .before .before .before .before .before
 abbrev st-at-shared-slice-known3 : tie.After-shared-slice-known3 → tie.Start
 st-at-shared-slice-known3 c = st-at-slice-known3 (c .before)
 
+abbrev shared-slice-known3-at-slice-known4 : tie.After-slice-known4 → tie.After-shared-slice-known3
+shared-slice-known3-at-slice-known4 c = c .before .before .before .before
+
 abbrev st-at-slice-known4 : tie.After-slice-known4 → tie.Start
-st-at-slice-known4 c = st-at-shared-slice-known3 (c .before .before .before .before)
+st-at-slice-known4 c = st-at-shared-slice-known3 (shared-slice-known3-at-slice-known4 c)
 
 abbrev scale-by-at-slice-known4 : tie.After-slice-known4 → tie.After-scale-by
-scale-by-at-slice-known4 c = c .before .before .before .before .before .before .before .before
+scale-by-at-slice-known4 c = shared-slice-known3-at-slice-known4 c .before .before .before .before
 
 shared-slice-read-scale : tie.Need-shared-slice-read-scale
 shared-slice-read-scale c =

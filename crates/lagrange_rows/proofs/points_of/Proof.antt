@@ -21,15 +21,19 @@ Inv-loop points boards out₀ m t₀ out t = (out ≡ tabulate t (λ t. getD poi
 abbrev μ-loop : tie.MeasureT-loop
 μ-loop points boards out₀ m t₀ out t = m - t
 
+-- the places
+abbrev loop-at-shared-slice-known2 : tie.After-shared-slice-known2 Inv-loop μ-loop → tie.At-loop Inv-loop μ-loop
+loop-at-shared-slice-known2 c = c .before .before .before
+
 shared-slice-read-out : tie.Need-shared-slice-read-out Inv-loop μ-loop
 shared-slice-read-out c =
-    let a = c .before .before .before .before .args in
-    all-at (λ b. b < length (a .points .now)) 0 (a .boards .now) (below-all _ (a .boards .now) (c .before .before .before .before .pre .0)) (c .before .before .before .loop .t) (omega arith)
+    let a = loop-at-shared-slice-known2 c .before .args in
+    all-at (λ b. b < length (a .points .now)) 0 (a .boards .now) (below-all _ (a .boards .now) (loop-at-shared-slice-known2 c .before .pre .0)) (loop-at-shared-slice-known2 c .loop .t) (omega arith)
 
 loop-again : tie.Need-loop-again Inv-loop μ-loop
 loop-again c =
-    let l = c .before .before .before .loop in
-    (fill-loop _ (c .before .before .before .before .args .out .now) (l .out) (l .t) _ (omega arith) refl (l .inv .0), omega arith, length-set (l .out) (l .t) _ ∙ l .inv .2)
+    let l = loop-at-shared-slice-known2 c .loop in
+    (fill-loop _ (loop-at-shared-slice-known2 c .before .args .out .now) (l .out) (l .t) _ (omega arith) refl (l .inv .0), omega arith, length-set (l .out) (l .t) _ ∙ l .inv .2)
 
 returns : tie.Need-returns Inv-loop μ-loop
 returns c =

@@ -28,26 +28,29 @@ abbrev μ-loop : tie.MeasureT-loop
 abbrev st-at-slice-known : tie.After-slice-known Inv-loop μ-loop → tie.Start Inv-loop μ-loop
 st-at-slice-known c = c .before .before .before .before .before
 
+abbrev st-at-in-loop : tie.In-loop Inv-loop μ-loop → tie.Start Inv-loop μ-loop
+st-at-in-loop c = st-at-slice-known (c .before .before)
+
+abbrev turn-at-divide-arg : tie.After-divide-arg Inv-loop μ-loop → tie.In-loop Inv-loop μ-loop
+turn-at-divide-arg c = c .before .before .before
+
 abbrev st-at-divide-arg : tie.After-divide-arg Inv-loop μ-loop → tie.Start Inv-loop μ-loop
-st-at-divide-arg c = c .before .before .before .before .before .before .before .before .before .before
-
-abbrev loop-at-row3 : tie.After-row3 Inv-loop μ-loop → tie.At-loop Inv-loop μ-loop
-loop-at-row3 c = c .before .before .before .before .before .before .before .before .before .before .before
-
-abbrev st-at-row3 : tie.After-row3 Inv-loop μ-loop → tie.Start Inv-loop μ-loop
-st-at-row3 c = c .before .before .before .before .before .before .before .before .before .before .before .before .before .before .before .before .before
-
-abbrev turn-at-row3 : tie.After-row3 Inv-loop μ-loop → tie.In-loop Inv-loop μ-loop
-turn-at-row3 c = c .before .before .before .before .before .before .before .before .before .before
+st-at-divide-arg c = st-at-in-loop (turn-at-divide-arg c)
 
 abbrev divide-at-row3 : tie.After-row3 Inv-loop μ-loop → tie.After-divide Inv-loop μ-loop
 divide-at-row3 c = c .before .before .before .before .before .before
 
-abbrev st-at-loop : tie.After-loop Inv-loop μ-loop → tie.Start Inv-loop μ-loop
-st-at-loop c = c .before .before .before .before .before .before .before
+abbrev turn-at-row3 : tie.After-row3 Inv-loop μ-loop → tie.In-loop Inv-loop μ-loop
+turn-at-row3 c = turn-at-divide-arg (divide-at-row3 c .before)
 
-abbrev st-at-in-loop : tie.In-loop Inv-loop μ-loop → tie.Start Inv-loop μ-loop
-st-at-in-loop c = c .before .before .before .before .before .before .before
+abbrev loop-at-row3 : tie.After-row3 Inv-loop μ-loop → tie.At-loop Inv-loop μ-loop
+loop-at-row3 c = turn-at-row3 c .before
+
+abbrev st-at-row3 : tie.After-row3 Inv-loop μ-loop → tie.Start Inv-loop μ-loop
+st-at-row3 c = st-at-in-loop (turn-at-row3 c)
+
+abbrev st-at-loop : tie.After-loop Inv-loop μ-loop → tie.Start Inv-loop μ-loop
+st-at-loop c = st-at-slice-known (c .before .before)
 
 -- the board of the turn is one of the 32
 known : (c : tie.In-loop Inv-loop μ-loop) → getD (st-at-in-loop c .args .boards .now) (c .before .loop .t - 1) 0 < 32
@@ -71,33 +74,36 @@ loop-holds c =
 
 divide-requires : tie.Need-divide-requires Inv-loop μ-loop
 divide-requires c κs =
-    let l = c .before .before .before .before .loop in
-    let part : length (take ((l .t - 1) * 32 + 32 - (l .t - 1) * 32) (drop ((l .t - 1) * 32) (l .rows))) ≡ 32 = simp (length-take, length-drop) (omega arith) in
-    (st-at-divide-arg c .pre .0, l .inv .4, known (c .before .before .before), part)
+    let l = turn-at-divide-arg c .before .loop in
+    let part : length (take ((l .t - 1) * 32 + 32 - (l .t - 1) * 32) (drop ((l .t - 1) * 32) (l .rows))) ≡ 32 = simp (length-take, length-drop) (omega (arith, turn-at-divide-arg c .before .loop .inv, turn-at-divide-arg c .loop-test .taken)) in
+    (st-at-divide-arg c .pre .0, l .inv .4, known (turn-at-divide-arg c), part)
 
 loop-again : tie.Need-loop-again Inv-loop μ-loop
 loop-again c =
     let l = loop-at-row3 c .loop in
     let a = st-at-row3 c .args in
-    let s : suc (l .t - 1) ≡ l .t = omega arith in
+    let s : suc (l .t - 1) ≡ l .t = omega (arith, loop-at-row3 c .loop .inv, turn-at-row3 c .loop-test .taken) in
     let rows = l .inv .0 ∙ ap (left (a .points .now) (a .boards .now) (a .xs .now)) (sym s) in
     let row = l .inv .1 ∙ ap (afterRow (a .points .now) (a .xs .now)) (sym s) in (
-      left-turn (a .points .now) (a .boards .now) (a .xs .now) (l .rows) _ (l .t - 1) (omega arith)
-          (row-done (a .points .now) (a .boards .now) (a .xs .now) _ (l .row) _ (l .t - 1) (st-at-row3 c .pre .4) (omega arith) (known (turn-at-row3 c))
-          (left-row (a .points .now) (a .boards .now) (a .xs .now) (l .rows) (l .t - 1) (omega arith) rows) row (divide-at-row3 c .divide .ensures))
+      left-turn (a .points .now) (a .boards .now) (a .xs .now) (l .rows) _ (l .t - 1) (omega (arith, loop-at-row3 c .loop .inv, turn-at-row3 c .loop-test .taken))
+          (row-done (a .points .now) (a .boards .now) (a .xs .now) _ (l .row) _ (l .t - 1) (st-at-row3 c .pre .4) (omega (arith, loop-at-row3 c .loop .inv, turn-at-row3 c .loop-test .taken)) (known (turn-at-row3 c))
+          (left-row (a .points .now) (a .boards .now) (a .xs .now) (l .rows) (l .t - 1) (omega (arith, loop-at-row3 c .loop .inv, turn-at-row3 c .loop-test .taken)) rows) row (divide-at-row3 c .divide .ensures))
           rows,
-      after-turn (a .points .now) (a .xs .now) (l .row) _ (l .t - 1) (omega arith) row (c .before .scale-by-difference .ensures),
-      omega arith,
-      search needs,
-      search needs,
+      after-turn (a .points .now) (a .xs .now) (l .row) _ (l .t - 1) (omega (arith, loop-at-row3 c .loop .inv, turn-at-row3 c .loop-test .taken)) row (c .before .scale-by-difference .ensures),
+      omega (arith, loop-at-row3 c .loop .inv, turn-at-row3 c .loop-test .taken),
+      omega (arith, turn-at-row3 c .loop-test .taken),
+      omega (arith, turn-at-row3 c .loop-test .taken),
       l .inv .5,
-      search needs,
+      omega (arith, turn-at-row3 c .loop-test .taken),
     )
 
 returns : tie.Need-returns Inv-loop μ-loop
 returns c =
     let a = st-at-loop c .args in
     left-end (a .points .now) (a .boards .now) (a .xs .now) _ (c .before .loop .t) (omega arith) (c .before .loop .inv .0)
+
+abbrev divide-arg-at-shared-slice-known6 : tie.After-shared-slice-known6 Inv-loop μ-loop → tie.After-divide-arg Inv-loop μ-loop
+divide-arg-at-shared-slice-known6 c = c .before .before .before .before
 
 pub products-after-spec : {M : Type 1} → statement M
 products-after-spec =
@@ -116,10 +122,10 @@ products-after-spec =
     (λ c. search needs)
     (λ c. search needs)
     divide-requires
-    (λ c. search needs)
-    (λ c. search needs)
-    (λ c κs. search needs)
-    (λ c. search needs)
+    (λ c. omega (arith, turn-at-divide-arg (divide-arg-at-shared-slice-known6 c) .before .loop .inv, turn-at-divide-arg (divide-arg-at-shared-slice-known6 c) .loop-test .taken))
+    (λ c. omega (arith, turn-at-divide-arg (divide-arg-at-shared-slice-known6 (c .before)) .before .loop .inv, turn-at-divide-arg (divide-arg-at-shared-slice-known6 (c .before)) .loop-test .taken))
+    (λ c κs. omega (arith, turn-at-divide-arg (divide-arg-at-shared-slice-known6 (c .before)) .before .loop .inv, turn-at-divide-arg (divide-arg-at-shared-slice-known6 (c .before)) .loop-test .taken, st-at-divide-arg (divide-arg-at-shared-slice-known6 (c .before)) .pre))
+    (λ c. omega (arith, turn-at-row3 c .loop-test .taken))
     loop-again
     (λ c. c .before .loop .inv .6)
     returns)

@@ -22,21 +22,30 @@ abbrev μ-loop : tie.MeasureT-loop
 μ-loop points xs rows₀ m row₀ t₀ rows row t = m - t
 
 -- the places
-abbrev loop-at-row3 : tie.After-row3 Inv-loop μ-loop → tie.At-loop Inv-loop μ-loop
-loop-at-row3 c = c .before .before .before .before .before .before .before .before .before .before
-
-abbrev st-at-row3 : tie.After-row3 Inv-loop μ-loop → tie.Start Inv-loop μ-loop
-st-at-row3 c = c .before .before .before .before .before .before .before .before .before .before .before .before .before .before
+abbrev copy-at-row2 : tie.After-row2 Inv-loop μ-loop → tie.After-copy Inv-loop μ-loop
+copy-at-row2 c = c .before .before .before .before
 
 abbrev copy-at-row3 : tie.After-row3 Inv-loop μ-loop → tie.After-copy Inv-loop μ-loop
-copy-at-row3 c = c .before .before .before .before .before .before
+copy-at-row3 c = copy-at-row2 (c .before .before)
+
+abbrev turn-at-copy : tie.After-copy Inv-loop μ-loop → tie.In-loop Inv-loop μ-loop
+turn-at-copy c = c .before .before .before
+
+abbrev loop-at-row3 : tie.After-row3 Inv-loop μ-loop → tie.At-loop Inv-loop μ-loop
+loop-at-row3 c = turn-at-copy (copy-at-row3 c) .before
+
+abbrev st-at-slice-known : tie.After-slice-known Inv-loop μ-loop → tie.Start Inv-loop μ-loop
+st-at-slice-known c = c .before .before .before
+
+abbrev st-at-row3 : tie.After-row3 Inv-loop μ-loop → tie.Start Inv-loop μ-loop
+st-at-row3 c = st-at-slice-known (loop-at-row3 c .before)
 
 abbrev st-at-loop : tie.After-loop Inv-loop μ-loop → tie.Start Inv-loop μ-loop
-st-at-loop c = c .before .before .before .before .before
+st-at-loop c = st-at-slice-known (c .before .before)
 
 loop-holds : tie.Need-loop-holds Inv-loop μ-loop
 loop-holds c =
-    let a = c .before .before .before .args in
+    let a = st-at-slice-known c .args in
     (refl, before-start (a .points .now) (a .xs .now), search needs, refl, refl)
 
 copy-requires : tie.Need-copy-requires Inv-loop μ-loop
@@ -48,15 +57,15 @@ loop-again : tie.Need-loop-again Inv-loop μ-loop
 loop-again c =
     let l = loop-at-row3 c .loop in
     let a = st-at-row3 c .args in
-    let n : l .t < length (a .xs .now) = omega arith in
+    let n : l .t < length (a .xs .now) = omega (arith, loop-at-row3 c .loop .inv, turn-at-copy (copy-at-row3 c) .loop-test .taken) in
     let part : List ℕ = take (l .t * 32 + 32 - l .t * 32) (drop (l .t * 32) (l .rows)) in
-    let all : length part ≡ 32 = simp (length-take, length-drop) (omega arith) in (
+    let all : length part ≡ 32 = simp (length-take, length-drop) (omega (arith, loop-at-row3 c .loop .inv, turn-at-copy (copy-at-row3 c) .loop-test .taken)) in (
       join-loop (beforeRow (a .points .now) (a .xs .now)) 32 (l .t) (a .rows .now) (l .rows) _ (λ i h. length-before (a .points .now) (a .xs .now) i)
-          (copy-at-row3 c .copy .ensures ∙ take-all (length part) (l .row) (omega arith) ∙ l .inv .1) (l .inv .0),
+          (copy-at-row3 c .copy .ensures ∙ take-all (length part) (l .row) (omega (arith, loop-at-row3 c .loop .inv, turn-at-copy (copy-at-row3 c) .loop-test .taken)) ∙ l .inv .1) (l .inv .0),
       before-turn (a .points .now) (a .xs .now) (l .row) _ (l .t) n (l .inv .1) (c .before .scale-by-difference .ensures),
-      omega arith,
-      search needs,
-      search needs,
+      omega (arith, loop-at-row3 c .loop .inv, turn-at-copy (copy-at-row3 c) .loop-test .taken),
+      omega (arith, turn-at-copy (copy-at-row3 c) .loop-test .taken),
+      omega (arith, turn-at-copy (copy-at-row3 c) .loop-test .taken),
     )
 
 returns : tie.Need-returns Inv-loop μ-loop
@@ -79,11 +88,11 @@ products-before-spec =
     (λ c. search needs)
     (λ c. search needs)
     copy-requires
-    (λ c. search needs)
-    (λ c. search needs)
-    (λ c κs. omega arith)
-    (λ c. search needs)
-    (λ c. search needs)
+    (λ c. omega arith)
+    (λ c. omega arith)
+    (λ c κs. omega (arith, turn-at-copy (copy-at-row2 c) .before .loop .inv, turn-at-copy (copy-at-row2 c) .loop-test .taken, st-at-slice-known (turn-at-copy (copy-at-row2 c) .before .before) .pre))
+    (λ c. omega arith)
+    (λ c. omega arith)
     loop-again
     (λ c. search needs)
     returns)

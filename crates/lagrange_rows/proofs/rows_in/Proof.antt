@@ -16,11 +16,14 @@ use Rattle.lagrange_rows.proofs.rows_in.Tie as tie
 abbrev st-at-points-of-arg : tie.After-points-of-arg → tie.Start
 st-at-points-of-arg c = c .before .before .before .before .before .before
 
-abbrev st-at-products-after-arg2 : tie.After-products-after-arg2 → tie.Start
-st-at-products-after-arg2 c = st-at-points-of-arg (c .before .before .before .before .before .before .before .before .before .before)
+abbrev products-before-at-products-after-arg2 : tie.After-products-after-arg2 → tie.After-products-before
+products-before-at-products-after-arg2 c = c .before .before .before .before
 
 abbrev points-of-at-products-after-arg2 : tie.After-products-after-arg2 → tie.After-points-of
-points-of-at-products-after-arg2 c = c .before .before .before .before .before .before .before .before .before
+points-of-at-products-after-arg2 c = products-before-at-products-after-arg2 c .before .before .before .before .before
+
+abbrev st-at-products-after-arg2 : tie.After-products-after-arg2 → tie.Start
+st-at-products-after-arg2 c = st-at-points-of-arg (points-of-at-products-after-arg2 c .before)
 
 points-of-requires : tie.Need-points-of-requires
 points-of-requires c κs =
@@ -37,7 +40,7 @@ products-after-requires c κs =
       p .2,
       p .3,
       e,
-      befores-made (a .points .now) (a .boards .now) _ _ e (c .before .before .before .before .products-before .ensures),
+      befores-made (a .points .now) (a .boards .now) _ _ e (products-before-at-products-after-arg2 c .products-before .ensures),
     )
 
 pub rows-in-spec : {M : Type 1} → statement M

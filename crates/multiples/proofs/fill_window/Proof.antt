@@ -13,32 +13,44 @@ use Rattle.multiples.proofs.fill_window.Statement.{statement}
 use Rattle.multiples.proofs.fill_window.Tie as tie
 
 -- places in the code
+abbrev t3-at-plus : tie.After-plus → tie.After-t3
+t3-at-plus c = c .before .before
+
 abbrev t2 : tie.After-plus → tie.After-t2
-t2 c = c .before .before .before .before .before .before
+t2 c = t3-at-plus c .before .before .before .before
 
 abbrev t : tie.After-plus → tie.After-t
 t c = (t2 c) .before .before .before .before
 
+abbrev double-all2-at-put-row : tie.After-put-row → tie.After-double-all2
+double-all2-at-put-row c = c .before .before .before .before
+
+abbrev double-all-at-row-at2 : tie.After-row-at2 → tie.After-double-all
+double-all-at-row-at2 c = c .before .before .before .before
+
 abbrev st : tie.After-plus → tie.Start
-st c = (t c) .before .before .before .before .before .before .before .before .before .before .before .before .before .before .before .before .before
+st c = double-all-at-row-at2 (double-all2-at-put-row (t c .before) .before .before) .before .before .before .before .before .before
+
+abbrev plus-at-slice-known8 : tie.After-slice-known8 → tie.After-plus
+plus-at-slice-known8 c = c .before .before .before .before
 
 abbrev put-row3 : tie.After-slice-known8 → tie.After-put-row3
-put-row3 c = c .before .before .before .before .before .before .before
+put-row3 c = t3-at-plus (plus-at-slice-known8 c) .before
 
 abbrev put-row2 : tie.After-slice-known8 → tie.After-put-row2
-put-row2 c = (put-row3 c) .before .before .before .before
+put-row2 c = t2 (plus-at-slice-known8 c) .before
 
 abbrev put-row : tie.After-slice-known8 → tie.After-put-row
-put-row c = (put-row2 c) .before .before .before .before
+put-row c = t (plus-at-slice-known8 c) .before
 
 abbrev double-all2 : tie.After-slice-known8 → tie.After-double-all2
-double-all2 c = (put-row c) .before .before .before .before
+double-all2 c = double-all2-at-put-row (put-row c)
 
 abbrev row-at2 : tie.After-slice-known8 → tie.After-row-at2
 row-at2 c = (double-all2 c) .before .before
 
 abbrev double-all : tie.After-slice-known8 → tie.After-double-all
-double-all c = (row-at2 c) .before .before .before .before
+double-all c = double-all-at-row-at2 (row-at2 c)
 
 abbrev row-at : tie.After-slice-known8 → tie.After-row-at
 row-at c = (double-all c) .before .before
@@ -47,7 +59,7 @@ abbrev slice-known : tie.After-slice-known8 → tie.After-slice-known
 slice-known c = (row-at c) .before .before .before
 
 abbrev st-2 : tie.After-slice-known8 → tie.Start
-st-2 c = (slice-known c) .before
+st-2 c = st (plus-at-slice-known8 c)
 
 row-at-requires : tie.Need-row-at-requires
 row-at-requires c κs = search needs
@@ -95,7 +107,7 @@ part-put-row-end-3 : tie.Need-part-put-row-end-3
 part-put-row-end-3 c = search needs
 
 put-row-requires-3 : tie.Need-put-row-requires-3
-put-row-requires-3 c κs = search needs
+put-row-requires-3 c κs = omega arith
 
 plus-requires : tie.Need-plus-requires
 plus-requires c κs = search needs
@@ -107,10 +119,10 @@ part-put-row-start-4 : tie.Need-part-put-row-start-4
 part-put-row-start-4 c = search needs
 
 part-put-row-end-4 : tie.Need-part-put-row-end-4
-part-put-row-end-4 c = omega (arith, (st c) .pre .1, c .before .before .t3 .given, (t2 c) .t2 .given, (t c) .t .given)
+part-put-row-end-4 c = omega (arith, (st c) .pre .1, t3-at-plus c .t3 .given, (t2 c) .t2 .given, (t c) .t .given)
 
 put-row-requires-4 : tie.Need-put-row-requires-4
-put-row-requires-4 c κs = search needs
+put-row-requires-4 c κs = omega arith
 
 same-length : tie.Need-same-length
 same-length c = search needs
@@ -127,7 +139,7 @@ returns c =
           (all-of (λ b. b < 256) 0 row (λ i h. omega (arith, (slice-known c) .slice-known .given i))) (s .pre .0) (s .pre .1)
           ((row-at c) .row-at .ensures) ((row-at2 c) .row-at2 .ensures ∙ ap (take 32) ((double-all c) .double-all .ensures))
           ((put-row c) .put-row .ensures) ((put-row2 c) .put-row2 .ensures) ((put-row3 c) .put-row3 .ensures)
-          (c .before .before .put-row4 .ensures ∙ c .before .before .before .before .plus .ensures),
+          (c .before .before .put-row4 .ensures ∙ plus-at-slice-known8 c .plus .ensures),
       (double-all2 c) .double-all2 .ensures ∙ ap (scale 2) ((double-all c) .double-all .ensures) ∙ doubled-twice row,
     )
 

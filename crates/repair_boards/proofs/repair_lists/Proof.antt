@@ -25,17 +25,20 @@ st-at-entry c = c .before .before .before .before .before .before .before
 abbrev st-at-name : tie.After-name-boards-arg → tie.Start
 st-at-name c = st-at-entry (c .before)
 
-abbrev st-at-call : tie.After-repair-shares-arg2 → tie.Start
-st-at-call c = st-at-name (c .before .before .before .before .before)
-
-abbrev name-at-call : tie.After-repair-shares-arg2 → tie.After-name-boards
-name-at-call c = c .before .before .before .before
-
 abbrev named-at-call : tie.After-repair-shares-arg2 → tie.After-named
 named-at-call c = c .before .before .before
 
+abbrev name-at-call : tie.After-repair-shares-arg2 → tie.After-name-boards
+name-at-call c = named-at-call c .before
+
+abbrev st-at-call : tie.After-repair-shares-arg2 → tie.Start
+st-at-call c = st-at-name (name-at-call c .before)
+
+abbrev repair-shares-at-slice-known4 : tie.After-slice-known4 → tie.After-repair-shares
+repair-shares-at-slice-known4 c = c .before .before
+
 abbrev st-at-end : tie.After-slice-known4 → tie.Start
-st-at-end c = st-at-call (c .before .before .before)
+st-at-end c = st-at-call (repair-shares-at-slice-known4 c .before)
 
 facts : (c : tie.Start) → Legal (c .args .sizes)
 facts c = legal-facts _ (c .pre .0)
@@ -56,8 +59,8 @@ name-requires c κs =
     let w = p .4 .whole in
     let o = p .4 .some in
     let m = few-runs (a .sizes) f (length (a .fresh .now)) (a .c) (p .4) in
-    let e : a .sizes .d + (a .c - a .sizes .d) ≡ a .c = omega arith in
-    (p .6, p .8, p .16 ∙ ap (λ (q : ℕ). length (a .fresh .now) * q) (sym e), omega arith, omega arith, omega arith)
+    let e : a .sizes .d + (a .c - a .sizes .d) ≡ a .c = omega (arith, p, f) in
+    (p .6, p .8, p .16 ∙ ap (λ (q : ℕ). length (a .fresh .now) * q) (sym e), omega (arith, p, f), omega (arith, p, f), omega (arith, p, f))
 
 shares-requires : tie.Need-repair-shares-requires
 shares-requires c κs =
@@ -89,11 +92,11 @@ returns c =
     let g = st-at-end c in
     let a = g .args in
     let w = a .capacity * α (a .sizes) in
-    c .before .before .repair-shares .ensures
+    repair-shares-at-slice-known4 c .repair-shares .ensures
     ∙ ap (λ (l : List ℕ). puts (λ b. getD (a .fresh .now) b 0 * w)
     (λ b. join (a .stripes) (λ s. rebuilt (a .sizes) (a .points .now) (λ j. piece (α (a .sizes)) s (drop (j * w) (a .area .now))) (a .fresh .now) (a .c) l b))
     (length (a .fresh .now)) (a .area .now))
-    (name-at-call (c .before .before .before) .name-boards .ensures)
+    (name-at-call (repair-shares-at-slice-known4 c .before) .name-boards .ensures)
 
 pub repair-lists-spec : {M : Type 1} → statement M
 repair-lists-spec =
@@ -102,6 +105,6 @@ repair-lists-spec =
     (λ c. omega (arith, st-at-entry c .pre .4 .helps))
     name-requires
     shares-requires
-    (λ c. search needs)
+    (λ c. named-at-call (repair-shares-at-slice-known4 c .before) .named .given)
     (λ c. search needs)
     returns)

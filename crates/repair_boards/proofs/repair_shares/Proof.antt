@@ -100,5 +100,5 @@ repair-shares-spec =
     (λ c. search needs)
     (λ c. omega (arith, few (st c)))
     lists-requires
-    (λ c. search needs)
+    (λ c. c .before .area .given)
     returns)

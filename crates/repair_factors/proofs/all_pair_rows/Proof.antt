@@ -25,5 +25,5 @@ all-pair-rows-spec =
     (λ c. search needs)
     (λ c. search needs)
     pair-rows-requires
-    (λ c. search needs)
+    (λ c. c .before .out .given)
     (λ c. search needs))

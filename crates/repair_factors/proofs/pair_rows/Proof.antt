@@ -29,8 +29,11 @@ st-lent c = c .before .before .before .before .before .before .before
 abbrev st-loop : tie.At-loop Inv-loop μ-loop → tie.Start Inv-loop μ-loop
 st-loop c = st-lent (c .before)
 
+abbrev near-at-lagrange-rows-arg2 : tie.After-lagrange-rows-arg2 Inv-loop μ-loop → tie.After-near Inv-loop μ-loop
+near-at-lagrange-rows-arg2 c = c .before .before .before
+
 abbrev turn-at-lagrange-rows-arg2 : tie.After-lagrange-rows-arg2 Inv-loop μ-loop → tie.In-loop Inv-loop μ-loop
-turn-at-lagrange-rows-arg2 c = c .before .before .before .before .before .before
+turn-at-lagrange-rows-arg2 c = near-at-lagrange-rows-arg2 c .before .before .before
 
 abbrev loop-at-lagrange-rows-arg2 : tie.After-lagrange-rows-arg2 Inv-loop μ-loop → tie.At-loop Inv-loop μ-loop
 loop-at-lagrange-rows-arg2 c = turn-at-lagrange-rows-arg2 c .before
@@ -38,20 +41,26 @@ loop-at-lagrange-rows-arg2 c = turn-at-lagrange-rows-arg2 c .before
 abbrev st-lagrange-rows-arg2 : tie.After-lagrange-rows-arg2 Inv-loop μ-loop → tie.Start Inv-loop μ-loop
 st-lagrange-rows-arg2 c = st-loop (loop-at-lagrange-rows-arg2 c)
 
+abbrev rows-at-put-rows-arg2 : tie.After-put-rows-arg2 Inv-loop μ-loop → tie.After-rows Inv-loop μ-loop
+rows-at-put-rows-arg2 c = c .before .before .before
+
+abbrev lagrange-rows-arg2-at-rows : tie.After-rows Inv-loop μ-loop → tie.After-lagrange-rows-arg2 Inv-loop μ-loop
+lagrange-rows-arg2-at-rows c = c .before .before
+
 abbrev st-put-rows-arg2 : tie.After-put-rows-arg2 Inv-loop μ-loop → tie.Start Inv-loop μ-loop
-st-put-rows-arg2 c = st-lagrange-rows-arg2 (c .before .before .before .before .before)
+st-put-rows-arg2 c = st-lagrange-rows-arg2 (lagrange-rows-arg2-at-rows (rows-at-put-rows-arg2 c))
 
 abbrev rows-at-turn-end : tie.After-slice-known6 Inv-loop μ-loop → tie.After-rows Inv-loop μ-loop
-rows-at-turn-end c = c .before .before .before .before .before .before
+rows-at-turn-end c = rows-at-put-rows-arg2 (c .before .before .before)
 
 abbrev lagrange-rows-at-turn-end : tie.After-slice-known6 Inv-loop μ-loop → tie.After-lagrange-rows Inv-loop μ-loop
 lagrange-rows-at-turn-end c = rows-at-turn-end c .before
 
 abbrev near-at-turn-end : tie.After-slice-known6 Inv-loop μ-loop → tie.After-near Inv-loop μ-loop
-near-at-turn-end c = lagrange-rows-at-turn-end c .before .before .before .before
+near-at-turn-end c = near-at-lagrange-rows-arg2 (lagrange-rows-arg2-at-rows (rows-at-turn-end c))
 
 abbrev loop-at-turn-end : tie.After-slice-known6 Inv-loop μ-loop → tie.At-loop Inv-loop μ-loop
-loop-at-turn-end c = loop-at-lagrange-rows-arg2 (lagrange-rows-at-turn-end c .before)
+loop-at-turn-end c = loop-at-lagrange-rows-arg2 (lagrange-rows-arg2-at-rows (rows-at-turn-end c))
 
 abbrev st-turn-end : tie.After-slice-known6 Inv-loop μ-loop → tie.Start Inv-loop μ-loop
 st-turn-end c = st-loop (loop-at-turn-end c)
@@ -71,19 +80,22 @@ loop-holds c =
 
 lagrange-rows-requires : tie.Need-lagrange-rows-requires Inv-loop μ-loop
 lagrange-rows-requires c κs =
+    let more = turn-at-lagrange-rows-arg2 c .loop-test .taken in
     let a = st-lagrange-rows-arg2 c .args in
     let p = st-lagrange-rows-arg2 c .pre in
     let l = loop-at-lagrange-rows-arg2 c .loop in
-    let e = c .before .before .before .before .boards-from .ensures in
-    let g = c .before .before .before .near .given in
-    (p .0, p .1, rw e (boards-below (a .n) (l .h) (length (l .near)) (turn-at-lagrange-rows-arg2 c .loop-test .taken) (p .2)), omega arith, omega arith)
+    let e = near-at-lagrange-rows-arg2 c .before .boards-from .ensures in
+    let g = near-at-lagrange-rows-arg2 c .near .given in
+    (p .0, p .1, rw e (boards-below (a .n) (l .h) (length (l .near)) (more) (p .2)), omega (arith, p, l .inv, more), omega (arith, p, l .inv, more))
 
 put-rows-requires : tie.Need-put-rows-requires Inv-loop μ-loop
 put-rows-requires c κs =
+    let holds = loop-at-lagrange-rows-arg2 (lagrange-rows-arg2-at-rows (rows-at-put-rows-arg2 c)) .loop .inv in
+    let more = turn-at-lagrange-rows-arg2 (lagrange-rows-arg2-at-rows (rows-at-put-rows-arg2 c)) .loop-test .taken in
     let a = st-put-rows-arg2 c .args in
     let p = st-put-rows-arg2 c .pre in
-    let g = c .before .before .before .rows .given in
-    (p .3, p .4, omega arith, below-more (a .n) 32 (a .fresh .now) (p .2) (p .5), p .7, p .8, omega arith)
+    let g = rows-at-put-rows-arg2 c .rows .given in
+    (p .3, p .4, omega (arith, p, holds, more), below-more (a .n) 32 (a .fresh .now) (p .2) (p .5), p .7, p .8, omega (arith, p, holds, more))
 
 loop-again : tie.Need-loop-again Inv-loop μ-loop
 loop-again c =
@@ -92,7 +104,7 @@ loop-again c =
       rows-turn (a .points .now) (a .n) (a .d) (a .c) (a .fresh .now) (a .helpers .now) (a .out .now) (l .h) _ _ (l .out) _ (st-turn-end c .pre .11) (known (st-turn-end c))
           (near-is (l .h) (a .n) (length (l .near)) (a .c) _ (l .inv .3) (near-at-turn-end c .before .boards-from .ensures))
           (lagrange-rows-at-turn-end c .lagrange-rows .ensures) (l .inv .0) (c .before .before .put-rows .ensures),
-      omega arith,
+      omega (arith, turn-at-lagrange-rows-arg2 (lagrange-rows-arg2-at-rows (rows-at-turn-end c)) .loop-test .taken),
       c .before .out .given ∙ l .inv .2,
       near-at-turn-end c .near .given ∙ l .inv .3,
       rows-at-turn-end c .rows .given ∙ l .inv .4,
@@ -117,8 +129,8 @@ pair-rows-spec =
     (λ c κs. search needs)
     lagrange-rows-requires
     put-rows-requires
-    (λ c. search needs)
-    (λ c. search needs)
+    (λ c. omega (arith, loop-at-turn-end c .loop .inv, turn-at-lagrange-rows-arg2 (lagrange-rows-arg2-at-rows (rows-at-turn-end c)) .loop-test .taken, st-turn-end c .pre))
+    (λ c. omega (arith, turn-at-lagrange-rows-arg2 (lagrange-rows-arg2-at-rows (rows-at-turn-end c)) .loop-test .taken))
     loop-again
     (λ c. c .before .loop .inv .3 ∙ sym (c .before .loop .inv .5))
     (λ c. c .before .loop .inv .4 ∙ sym (c .before .loop .inv .6))

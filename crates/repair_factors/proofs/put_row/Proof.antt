@@ -14,14 +14,20 @@ use native.Mathlib.Omega.{arith}
 use Rattle.repair_factors.proofs.put_row.Statement.{statement}
 use Rattle.repair_factors.proofs.put_row.Tie as tie
 
+abbrev then1-from-slice-known2 : tie.After-slice-known2 → tie.Then1
+then1-from-slice-known2 c = c .before .before .before .before
+
 -- the places
+abbrev then1-at-slice-known2 : tie.After-slice-known2 → tie.Then1
+then1-at-slice-known2 c = then1-from-slice-known2 c
+
 abbrev st-at-slice-known2 : tie.After-slice-known2 → tie.Start
-st-at-slice-known2 c = c .before .before .before .before .before .before .before
+st-at-slice-known2 c = then1-at-slice-known2 c .before .before .before
 
 returns : tie.Need-returns
 returns c =
     let a = st-at-slice-known2 c .args in
-    row-taken (a .j) (a .h) (a .c) (a .i) (a .rows .now) (a .out .now) _ (c .before .before .before .before .if1 .taken) (st-at-slice-known2 c .pre .3) (c .before .before .column .ensures)
+    row-taken (a .j) (a .h) (a .c) (a .i) (a .rows .now) (a .out .now) _ (then1-at-slice-known2 c .if1 .taken) (st-at-slice-known2 c .pre .3) (c .before .before .column .ensures)
 
 returns-2 : tie.Need-returns-2
 returns-2 c =

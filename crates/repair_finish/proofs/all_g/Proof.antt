@@ -31,25 +31,25 @@ abbrev st-at-entry : tie.After-struct-known Inv-loop μ-loop → tie.Start Inv-l
 st-at-entry c = c .before .before .before .before
 
 abbrev st-at-turn : tie.In-loop Inv-loop μ-loop → tie.Start Inv-loop μ-loop
-st-at-turn c = c .before .before .before .before .before .before
+st-at-turn c = st-at-entry (c .before .before)
 
 abbrev turn-at-first : tie.After-row-sums-arg Inv-loop μ-loop → tie.In-loop Inv-loop μ-loop
 turn-at-first c = c .before
 
 abbrev turn-at-second : tie.After-row-sums-arg2 Inv-loop μ-loop → tie.In-loop Inv-loop μ-loop
-turn-at-second c = c .before .before
+turn-at-second c = turn-at-first (c .before)
 
 abbrev turn-at-call : tie.After-row-sums-arg3 Inv-loop μ-loop → tie.In-loop Inv-loop μ-loop
-turn-at-call c = c .before .before .before
-
-abbrev turn-at-end : tie.After-slice-known2 Inv-loop μ-loop → tie.In-loop Inv-loop μ-loop
-turn-at-end c = c .before .before .before .before .before .before
+turn-at-call c = turn-at-second (c .before)
 
 abbrev sums-at-end : tie.After-slice-known2 Inv-loop μ-loop → tie.After-row-sums Inv-loop μ-loop
 sums-at-end c = c .before .before
 
+abbrev turn-at-end : tie.After-slice-known2 Inv-loop μ-loop → tie.In-loop Inv-loop μ-loop
+turn-at-end c = turn-at-call (sums-at-end c .before)
+
 abbrev st-at-loop : tie.After-loop Inv-loop μ-loop → tie.Start Inv-loop μ-loop
-st-at-loop c = c .before .before .before .before .before .before
+st-at-loop c = st-at-entry (c .before .before)
 
 facts : (c : tie.Start Inv-loop μ-loop) → Legal (c .args .sizes)
 facts c = legal-facts _ (c .pre .0)
@@ -92,11 +92,11 @@ row-sums-requires c κs =
     let l = t .before .loop in
     let q = few (st-at-turn t) in
     let from : ℕ = l .a * a .c in
-    let lf : length (take (from + a .sizes .d - from) (drop from (a .firsts .now))) ≡ a .sizes .d = simp (length-take, length-drop) (omega arith) in
+    let lf : length (take (from + a .sizes .d - from) (drop from (a .firsts .now))) ≡ a .sizes .d = simp (length-take, length-drop) (omega (arith, e .1, q .3, p .3)) in
     let lg = cut-long (a .lanes) (l .a) (a .t) (l .gs) (t .loop-test .taken) (l .inv .2 ∙ p .4) in
     let at : ℕ = l .a * one (st-at-turn t) in
-    let lr : length (take (at + a .sizes .d * 32 - at) (drop at (a .rows .now))) ≡ a .sizes .d * 32 = simp (length-take, length-drop) (omega arith) in
-    (omega arith, omega arith, omega arith)
+    let lr : length (take (at + a .sizes .d * 32 - at) (drop at (a .rows .now))) ≡ a .sizes .d * 32 = simp (length-take, length-drop) (omega (arith, e .0, p .2)) in
+    (omega (arith, lf, lr), omega (arith, lf, f .enough, f .few), omega (arith, lg, p .1))
 
 loop-again : tie.Need-loop-again Inv-loop μ-loop
 loop-again c =
@@ -111,7 +111,7 @@ loop-again c =
           (g-made (z .d) (one (st-at-turn t)) (a .c) (a .lanes) (l .a) _ (a .rows .now) (a .firsts .now) _ _ _ lg (row-part (a .c) (l .a) (z .d) (a .firsts .now) (p .5 .helps))
           (row-part (one (st-at-turn t)) (l .a) (z .d * 32) (a .rows .now) (omega arith)) (sums-at-end c .row-sums .ensures))
           (l .inv .0),
-      omega arith,
+      omega (arith, t .loop-test .taken),
       c .before .gs .given .1 ∙ l .inv .2,
     )
 
@@ -149,7 +149,7 @@ all-g-spec =
     (λ c. omega (arith, ends (turn-at-second c), st-at-turn (turn-at-second c) .pre .4, turn-at-second c .before .loop .inv .2))
     row-sums-requires
     (λ c. search needs)
-    (λ c. search needs)
+    (λ c. omega (arith, turn-at-end c .loop-test .taken))
     loop-again
     (λ c. search needs)
     returns)

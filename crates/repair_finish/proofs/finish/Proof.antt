@@ -39,23 +39,26 @@ st-at-got c = st-at-gather (c .before .before .before)
 abbrev st-at-rows : tie.After-finish-arg → tie.Start
 st-at-rows c = st-at-got (c .before)
 
-abbrev st-at-finish : tie.After-finish-arg5 → tie.Start
-st-at-finish c = st-at-rows (c .before .before .before .before)
-
 abbrev got-at-finish : tie.After-finish-arg5 → tie.After-got
 got-at-finish c = c .before .before .before .before .before .before
 
-abbrev st-at-end : tie.After-slice-known7 → tie.Start
-st-at-end c = st-at-finish (c .before .before .before .before .before .before .before)
+abbrev st-at-finish : tie.After-finish-arg5 → tie.Start
+st-at-finish c = st-at-gather (got-at-finish c .before .before)
 
-abbrev gather-at-end : tie.After-slice-known7 → tie.After-gather
-gather-at-end c = c .before .before .before .before .before .before .before .before .before .before .before .before .before .before
-
-abbrev got-at-end : tie.After-slice-known7 → tie.After-got
-got-at-end c = got-at-finish (c .before .before .before .before .before .before .before)
+abbrev f-at-slice-known7 : tie.After-slice-known7 → tie.After-f
+f-at-slice-known7 c = c .before .before .before
 
 abbrev finish-at-end : tie.After-slice-known7 → tie.After-finish
-finish-at-end c = c .before .before .before .before .before .before
+finish-at-end c = f-at-slice-known7 c .before .before .before
+
+abbrev st-at-end : tie.After-slice-known7 → tie.Start
+st-at-end c = st-at-finish (finish-at-end c .before)
+
+abbrev got-at-end : tie.After-slice-known7 → tie.After-got
+got-at-end c = got-at-finish (finish-at-end c .before)
+
+abbrev gather-at-end : tie.After-slice-known7 → tie.After-gather
+gather-at-end c = got-at-end c .before
 
 facts : (c : tie.Start) → Legal (c .args .sizes)
 facts c = legal-facts _ (c .pre .0)
@@ -97,8 +100,17 @@ finish-requires c κs =
     let l = got-at-finish c .got .given in
     let lg = cut-long (a .lanes) (a .a) (length (a .fresh .now)) (a .gs .now) (p .8) (p .7) in
     let lr : length (take (at + one (st-at-finish c) - (at + z .d * 32)) (drop (at + z .d * 32) (a .rows .now))) ≡ (z .d + z .r) * 32 =
-    simp (length-take, length-drop) (omega arith) in
-    (known (st-at-finish c), f .few, omega arith, omega arith, omega arith, omega arith, omega arith, omega arith, omega arith)
+    simp (length-take, length-drop) (omega (arith, e .0, p .3)) in (
+      known (st-at-finish c),
+      f .few,
+      omega (arith, l, p .9, f .some-fresh),
+      omega (arith, l, p .9, f .enough, f .few),
+      omega (arith, l, p .9, lr),
+      omega (arith, lg, p .1),
+      omega (arith, p .10, p .1),
+      omega (arith, p .10, p .2),
+      omega (arith, l, p .9, p .11, f .some-read, f .read-helpers),
+    )
 
 returns : tie.Need-returns
 returns c =
@@ -107,8 +119,8 @@ returns c =
     let z = a .sizes in
     let f = facts (st-at-end c) in
     stripe-made z (a .c) (a .lanes) _ (a .a) _ _ (length (a .got .now)) _ (a .rows .now) (a .fresh .now) (a .seconds .now) (a .gs .now) _ _ _ _ refl
-    (finish-at-end c .finish .ensures) (row-rest (one (st-at-end c)) (a .a) (z .d * 32) (a .rows .now) (omega arith)) (part-piece (a .lanes) (a .a) (a .gs .now))
-    (gather-at-end c .gather .ensures) (p .10) (omega (arith, got-at-end c .got .given)) (got-at-end c .got .given)
+    (finish-at-end c .finish .ensures) (row-rest (one (st-at-end c)) (a .a) (z .d * 32) (a .rows .now) (omega (arith, p, f))) (part-piece (a .lanes) (a .a) (a .gs .now))
+    (gather-at-end c .gather .ensures) (p .10) (omega (arith, got-at-end c .got .given, st-at-end c .pre)) (got-at-end c .got .given)
 
 pub finish-spec : {M : Type 1} → statement M
 finish-spec =
@@ -124,7 +136,7 @@ finish-spec =
     (λ c. omega (arith, ends (st-at-struct-known3 c)))
     (λ c. omega (arith, ends (st-at-struct-known3 c)))
     (λ c. let f = facts (st-at-struct-known3 c) in search needs)
-    (λ c. let p = st-at-board c .pre in search needs)
+    (λ c. omega (arith, st-at-board c .pre))
     gather-requires
     (λ c. omega (arith, ends (st-at-got c)))
     (λ c. omega (arith, ends (st-at-got c)))
@@ -133,7 +145,7 @@ finish-spec =
     (λ c. search needs)
     (λ c. omega (arith, ends (st-at-rows c), st-at-rows c .pre .7))
     finish-requires
-    (λ c. search needs)
-    (λ c. search needs)
-    (λ c. search needs)
+    (λ c. f-at-slice-known7 c .before .before .got2 .given ∙ got-at-end c .got .given)
+    (λ c. f-at-slice-known7 c .f .given)
+    (λ c. c .before .out .given)
     returns)

@@ -42,5 +42,5 @@ all-rows-spec =
     (λ c. search needs)
     (λ c. let f = facts (st-at-boards c) in search needs)
     rows-in-requires
-    (λ c. search needs)
+    (λ c. c .before .rows .given)
     (λ c. search needs))

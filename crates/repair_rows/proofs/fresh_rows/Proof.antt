@@ -35,17 +35,23 @@ st-at-boards c = st-at-partners (c .before .before .before)
 abbrev st-at-fresh : tie.After-board-rows-arg2 → tie.Start
 st-at-fresh c = st-at-boards (c .before .before)
 
-abbrev st-at-rows : tie.After-board-rows-arg4 → tie.Start
-st-at-rows c = st-at-fresh (c .before .before .before)
+abbrev boards-at-board-rows-arg4 : tie.After-board-rows-arg4 → tie.After-boards
+boards-at-board-rows-arg4 c = c .before .before .before .before .before .before
 
 abbrev partners-at-rows : tie.After-board-rows-arg4 → tie.After-partners
-partners-at-rows c = c .before .before .before .before .before .before .before
+partners-at-rows c = boards-at-board-rows-arg4 c .before
+
+abbrev st-at-rows : tie.After-board-rows-arg4 → tie.Start
+st-at-rows c = st-at-partners (partners-at-rows c .before)
+
+abbrev board-rows-at-slice-known6 : tie.After-slice-known6 → tie.After-board-rows
+board-rows-at-slice-known6 c = c .before .before .before .before
 
 abbrev st-at-end : tie.After-slice-known6 → tie.Start
-st-at-end c = st-at-rows (c .before .before .before .before .before)
+st-at-end c = st-at-rows (board-rows-at-slice-known6 c .before)
 
 abbrev partners-at-end : tie.After-slice-known6 → tie.After-partners
-partners-at-end c = partners-at-rows (c .before .before .before .before .before)
+partners-at-end c = partners-at-rows (board-rows-at-slice-known6 c .before)
 
 facts : (c : tie.Start) → Legal (c .args .sizes)
 facts c = legal-facts _ (c .pre .0)
@@ -93,7 +99,7 @@ partners-requires c κs =
     let e = ends g in
     let k = counts g .1 in
     let w = p .3 .whole in
-    (e .4, p .3 .some, omega arith, omega arith)
+    (e .4, p .3 .some, omega (arith, p, e, k), omega (arith, p, e, k))
 
 board-rows-requires : tie.Need-board-rows-requires
 board-rows-requires c κs =
@@ -115,10 +121,10 @@ board-rows-requires c κs =
           (both-below (z .n) (ss g) (othersAt (a .fresh .now) (a .a))
           (below-part (z .n) (a .a * a .c + a .c - (a .a * a .c + z .d)) (a .a * a .c + z .d) (a .named .now) (p .6))
           (others-below (z .n) (a .a) (a .fresh .now) (p .4)))),
-      omega arith,
-      omega arith,
-      omega arith,
-      omega arith,
+      omega (arith, p, f, n),
+      omega (arith, p, f, n),
+      omega (arith, p, f, n),
+      omega (arith, p, f, n),
     )
 
 returns : tie.Need-returns
@@ -126,7 +132,7 @@ returns c =
     let g = st-at-end c in
     let a = g .args in
     rows-are (a .sizes) (a .c) (a .points .now) (a .fresh .now) (a .named .now) _ _ _ _ (a .a) (partners-at-end c .partners .ensures)
-    (standins-are g) (helpers-are g) (c .before .before .before .before .board-rows .ensures)
+    (standins-are g) (helpers-are g) (board-rows-at-slice-known6 c .board-rows .ensures)
 
 pub fresh-rows-spec : {M : Type 1} → statement M
 fresh-rows-spec =
@@ -145,9 +151,9 @@ fresh-rows-spec =
     (λ c. search needs)
     (λ c. omega (arith, ends (st-at-boards c)))
     (λ c. let p = st-at-fresh c .pre in search needs)
-    (λ c. let p = st-at-fresh (c .before) .pre in search needs)
+    (λ c. omega (arith, st-at-fresh (c .before) .pre))
     board-rows-requires
-    (λ c. search needs)
-    (λ c. search needs)
-    (λ c. search needs)
+    (λ c. boards-at-board-rows-arg4 (board-rows-at-slice-known6 c .before) .boards .given)
+    (λ c. c .before .before .before .all .given)
+    (λ c. c .before .rows .given)
     returns)

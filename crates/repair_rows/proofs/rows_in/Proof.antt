@@ -30,31 +30,37 @@ abbrev st-at-struct-known : tie.After-struct-known Inv-loop μ-loop → tie.Star
 st-at-struct-known c = c .before .before .before .before .before .before .before .before
 
 abbrev st-at-struct-known2 : tie.After-struct-known2 Inv-loop μ-loop → tie.Start Inv-loop μ-loop
-st-at-struct-known2 c = c .before .before .before .before .before .before .before .before .before
+st-at-struct-known2 c = st-at-struct-known (c .before)
 
 abbrev st-at-turn : tie.In-loop Inv-loop μ-loop → tie.Start Inv-loop μ-loop
-st-at-turn c = c .before .before .before .before .before .before .before .before .before .before .before
+st-at-turn c = st-at-struct-known2 (c .before .before)
+
+abbrev turn-at-fresh-rows-arg2 : tie.After-fresh-rows-arg2 Inv-loop μ-loop → tie.In-loop Inv-loop μ-loop
+turn-at-fresh-rows-arg2 c = c .before .before
 
 abbrev st-at-fresh-rows-arg2 : tie.After-fresh-rows-arg2 Inv-loop μ-loop → tie.Start Inv-loop μ-loop
-st-at-fresh-rows-arg2 c = c .before .before .before .before .before .before .before .before .before .before .before .before .before
+st-at-fresh-rows-arg2 c = st-at-turn (turn-at-fresh-rows-arg2 c)
 
 abbrev st-at-fresh-rows-arg3 : tie.After-fresh-rows-arg3 Inv-loop μ-loop → tie.Start Inv-loop μ-loop
-st-at-fresh-rows-arg3 c = c .before .before .before .before .before .before .before .before .before .before .before .before .before .before
-
-abbrev st-at-slice-known6 : tie.After-slice-known6 Inv-loop μ-loop → tie.Start Inv-loop μ-loop
-st-at-slice-known6 c = c .before .before .before .before .before .before .before .before .before .before .before .before .before .before .before .before .before .before .before .before .before
-
-abbrev loop-at-slice-known6 : tie.After-slice-known6 Inv-loop μ-loop → tie.At-loop Inv-loop μ-loop
-loop-at-slice-known6 c = c .before .before .before .before .before .before .before .before .before .before .before
-
-abbrev fresh-rows-at-slice-known6 : tie.After-slice-known6 Inv-loop μ-loop → tie.After-fresh-rows Inv-loop μ-loop
-fresh-rows-at-slice-known6 c = c .before .before .before .before .before .before
+st-at-fresh-rows-arg3 c = st-at-fresh-rows-arg2 (c .before)
 
 abbrev boards-at-slice-known6 : tie.After-slice-known6 Inv-loop μ-loop → tie.After-boards Inv-loop μ-loop
 boards-at-slice-known6 c = c .before .before .before .before .before
 
+abbrev fresh-rows-at-slice-known6 : tie.After-slice-known6 Inv-loop μ-loop → tie.After-fresh-rows Inv-loop μ-loop
+fresh-rows-at-slice-known6 c = boards-at-slice-known6 c .before
+
+abbrev fresh-rows-arg2-at-fresh-rows : tie.After-fresh-rows Inv-loop μ-loop → tie.After-fresh-rows-arg2 Inv-loop μ-loop
+fresh-rows-arg2-at-fresh-rows c = c .before .before
+
+abbrev st-at-slice-known6 : tie.After-slice-known6 Inv-loop μ-loop → tie.Start Inv-loop μ-loop
+st-at-slice-known6 c = st-at-fresh-rows-arg2 (fresh-rows-arg2-at-fresh-rows (fresh-rows-at-slice-known6 c))
+
+abbrev loop-at-slice-known6 : tie.After-slice-known6 Inv-loop μ-loop → tie.At-loop Inv-loop μ-loop
+loop-at-slice-known6 c = turn-at-fresh-rows-arg2 (fresh-rows-arg2-at-fresh-rows (fresh-rows-at-slice-known6 c)) .before
+
 abbrev st-at-loop : tie.After-loop Inv-loop μ-loop → tie.Start Inv-loop μ-loop
-st-at-loop c = c .before .before .before .before .before .before .before .before .before .before .before
+st-at-loop c = st-at-struct-known2 (c .before .before)
 
 facts : (c : tie.Start Inv-loop μ-loop) → Legal (c .args .sizes)
 facts c = legal-facts _ (c .pre .0)
@@ -74,25 +80,26 @@ loop-holds : tie.Need-loop-holds Inv-loop μ-loop
 loop-holds c = (ap (λ (m : ℕ). drop m (st-at-struct-known2 c .args .rows .now)) (sym (zero-mul (one (st-at-struct-known2 c)))), omega arith, refl, refl, refl)
 
 part-fresh-rows-end : tie.Need-part-fresh-rows-end Inv-loop μ-loop
-part-fresh-rows-end c = omega (arith, its-end (c .before .before), st-at-fresh-rows-arg2 c .pre .9, c .before .before .before .loop .inv .2)
+part-fresh-rows-end c = omega (arith, its-end (turn-at-fresh-rows-arg2 c), st-at-fresh-rows-arg2 c .pre .9, turn-at-fresh-rows-arg2 c .before .loop .inv .2)
 
 fresh-rows-requires : tie.Need-fresh-rows-requires Inv-loop μ-loop
 fresh-rows-requires c κs =
     let p = st-at-fresh-rows-arg3 c .pre in
-    let l = c .before .before .before .before .loop in
-    let h = c .before .before .before .loop-test .taken in
+    let l = turn-at-fresh-rows-arg2 (c .before) .before .loop in
+    let h = turn-at-fresh-rows-arg2 (c .before) .loop-test .taken in
     let lr = cut-long (one (st-at-fresh-rows-arg3 c)) (l .a) (length (st-at-fresh-rows-arg3 c .args .fresh .now)) (l .rows) h (l .inv .2 ∙ p .9) in
     (p .0, p .1, p .2, p .3, p .4, p .5, p .6, h, l .inv .3 ∙ p .7, l .inv .4 ∙ p .8, lr)
 
 loop-again : tie.Need-loop-again Inv-loop μ-loop
 loop-again c =
+    let more = turn-at-fresh-rows-arg2 (fresh-rows-arg2-at-fresh-rows (fresh-rows-at-slice-known6 c)) .loop-test .taken in
     let a = st-at-slice-known6 c .args in
     let p = st-at-slice-known6 c .pre in
     let l = loop-at-slice-known6 c .loop in (
       join-loop (freshRows (a .sizes) (a .c) (a .points .now) (a .fresh .now) (a .named .now)) (one (st-at-slice-known6 c)) (l .a) (a .rows .now) (l .rows) _
-          (λ i k. length-fresh-rows (a .sizes) (facts (st-at-slice-known6 c)) (a .c) (a .points .now) (a .fresh .now) (a .named .now) i (p .3) (p .5) (omega arith))
+          (λ i k. length-fresh-rows (a .sizes) (facts (st-at-slice-known6 c)) (a .c) (a .points .now) (a .fresh .now) (a .named .now) i (p .3) (p .5) (omega (arith, p, more)))
           (fresh-rows-at-slice-known6 c .fresh-rows .ensures) (l .inv .0),
-      omega arith,
+      omega (arith, p, more),
       c .before .rows .given .1 ∙ l .inv .2,
       boards-at-slice-known6 c .boards .given ∙ l .inv .3,
       c .before .before .before .all .given ∙ l .inv .4,
@@ -116,12 +123,12 @@ rows-in-spec =
     loop-holds
     (λ c. omega (arith, its-end c, few (st-at-turn c)))
     (λ c. omega (arith, its-end c, few (st-at-turn c)))
-    (λ c. search needs)
+    (λ c. omega arith)
     (λ c. search needs)
     part-fresh-rows-end
     fresh-rows-requires
     (λ c. search needs)
-    (λ c. search needs)
+    (λ c. omega (arith, turn-at-fresh-rows-arg2 (fresh-rows-arg2-at-fresh-rows (fresh-rows-at-slice-known6 c)) .loop-test .taken))
     loop-again
     (λ c. search needs)
     (λ c. search needs)

@@ -22,56 +22,65 @@ st-at-f c = st-at-sizes (c .before)
 abbrev st-at-g : tie.After-whole-vectors2 → tie.Start
 st-at-g c = st-at-f (c .before)
 
+abbrev whole-vectors-at-whole-vectors3 : tie.After-whole-vectors3 → tie.After-whole-vectors
+whole-vectors-at-whole-vectors3 c = c .before .before
+
 abbrev st-at-widths : tie.After-whole-vectors3 → tie.Start
-st-at-widths c = st-at-g (c .before)
+st-at-widths c = st-at-f (whole-vectors-at-whole-vectors3 c)
 
 abbrev st-at-ff : tie.After-all-pair-rows-arg → tie.Start
 st-at-ff c = st-at-widths (c .before)
 
+abbrev all-pair-rows-arg-at-all-pair-rows-arg2 : tie.After-all-pair-rows-arg2 → tie.After-all-pair-rows-arg
+all-pair-rows-arg-at-all-pair-rows-arg2 c = c .before .before .before .before
+
 abbrev st-at-gf : tie.After-all-pair-rows-arg2 → tie.Start
-st-at-gf c = st-at-ff (c .before .before .before .before)
+st-at-gf c = st-at-ff (all-pair-rows-arg-at-all-pair-rows-arg2 c)
+
+abbrev all-pair-rows-arg2-at-all-rows-arg : tie.After-all-rows-arg → tie.After-all-pair-rows-arg2
+all-pair-rows-arg2-at-all-rows-arg c = c .before .before .before .before
 
 abbrev st-at-rows : tie.After-all-rows-arg → tie.Start
-st-at-rows c = st-at-gf (c .before .before .before .before)
-
-abbrev st-at-work : tie.After-repair-work-arg4 → tie.Start
-st-at-work c = st-at-rows (c .before .before .before .before .before .before .before)
-
-abbrev ff-at-work : tie.After-repair-work-arg4 → tie.After-ff
-ff-at-work c = c .before .before .before .before .before .before .before .before .before .before .before .before .before
-
-abbrev gf-at-work : tie.After-repair-work-arg4 → tie.After-gf
-gf-at-work c = c .before .before .before .before .before .before .before .before .before
+st-at-rows c = st-at-gf (all-pair-rows-arg2-at-all-rows-arg c)
 
 abbrev rows-at-work : tie.After-repair-work-arg4 → tie.After-rows
 rows-at-work c = c .before .before .before .before .before
 
+abbrev gf-at-work : tie.After-repair-work-arg4 → tie.After-gf
+gf-at-work c = rows-at-work c .before .before .before .before
+
+abbrev ff-at-work : tie.After-repair-work-arg4 → tie.After-ff
+ff-at-work c = gf-at-work c .before .before .before .before
+
 abbrev widths-at-work : tie.After-repair-work-arg4 → tie.After-whole-vectors3
-widths-at-work c = c .before .before .before .before .before .before .before .before .before .before .before .before .before .before .before .before
+widths-at-work c = ff-at-work c .before .before .before
 
-abbrev st-at-end : tie.After-slice-known8 → tie.Start
-st-at-end c = st-at-work (c .before .before .before)
-
-abbrev area-at-rows : tie.After-all-rows-arg → tie.After-slice-known4
-area-at-rows c = c .before .before .before .before .before .before .before .before .before .before .before .before .before
-
-abbrev area-at-end : tie.After-slice-known8 → tie.After-slice-known4
-area-at-end c = area-at-rows (c .before .before .before .before .before .before .before .before .before .before)
-
-abbrev widths-at-end : tie.After-slice-known8 → tie.After-whole-vectors3
-widths-at-end c = widths-at-work (c .before .before .before)
-
-abbrev ff-at-end : tie.After-slice-known8 → tie.After-all-pair-rows
-ff-at-end c = c .before .before .before .before .before .before .before .before .before .before .before .before .before .before .before .before .before
-
-abbrev gf-at-end : tie.After-slice-known8 → tie.After-all-pair-rows2
-gf-at-end c = c .before .before .before .before .before .before .before .before .before .before .before .before .before
-
-abbrev rows-at-end : tie.After-slice-known8 → tie.After-all-rows
-rows-at-end c = c .before .before .before .before .before .before .before .before .before
+abbrev st-at-work : tie.After-repair-work-arg4 → tie.Start
+st-at-work c = st-at-widths (widths-at-work c)
 
 abbrev work-at-end : tie.After-slice-known8 → tie.After-repair-work
 work-at-end c = c .before .before
+
+abbrev widths-at-end : tie.After-slice-known8 → tie.After-whole-vectors3
+widths-at-end c = widths-at-work (work-at-end c .before)
+
+abbrev st-at-end : tie.After-slice-known8 → tie.Start
+st-at-end c = st-at-widths (widths-at-end c)
+
+abbrev area-at-rows : tie.After-all-rows-arg → tie.After-slice-known4
+area-at-rows c = whole-vectors-at-whole-vectors3 (all-pair-rows-arg-at-all-pair-rows-arg2 (all-pair-rows-arg2-at-all-rows-arg c) .before) .before .before
+
+abbrev rows-at-end : tie.After-slice-known8 → tie.After-all-rows
+rows-at-end c = rows-at-work (work-at-end c .before) .before
+
+abbrev area-at-end : tie.After-slice-known8 → tie.After-slice-known4
+area-at-end c = area-at-rows (rows-at-end c .before)
+
+abbrev ff-at-end : tie.After-slice-known8 → tie.After-all-pair-rows
+ff-at-end c = ff-at-work (work-at-end c .before) .before
+
+abbrev gf-at-end : tie.After-slice-known8 → tie.After-all-pair-rows2
+gf-at-end c = gf-at-work (work-at-end c .before) .before
 
 facts : (c : tie.Start) → Legal (c .args .sizes)
 facts c = legal-facts _ (c .pre .0)
@@ -79,11 +88,11 @@ facts c = legal-facts _ (c .pre .0)
 -- so many bytes of a row count: of f, of g and at all points
 widths : (c : tie.After-whole-vectors3)
     → let z = st-at-widths c .args .sizes in
-    (z .d + z .r ≤ c .before .before .whole-vectors .result) × (c .before .before .whole-vectors .result ≤ 32)
+    (z .d + z .r ≤ whole-vectors-at-whole-vectors3 c .whole-vectors .result) × (whole-vectors-at-whole-vectors3 c .whole-vectors .result ≤ 32)
     × (z .d ≤ c .before .whole-vectors2 .result) × (c .before .whole-vectors2 .result ≤ 32)
     × (z .n ≤ c .whole-vectors3 .result) × (c .whole-vectors3 .result ≤ 32)
 widths c =
-    let f = c .before .before .whole-vectors .ensures in
+    let f = whole-vectors-at-whole-vectors3 c .whole-vectors .ensures in
     let g = c .before .whole-vectors2 .ensures in
     let a = c .whole-vectors3 .ensures in
     (f .0, f .1, g .0, g .1, a .0, a .1)
@@ -100,14 +109,14 @@ all-pair-rows-requires c κs =
     let p = st-at-ff c .pre in
     let f = facts (st-at-ff c) in
     let q = p .7 .helps in
-    (p .3, p .1, f .few, omega arith, omega arith, p .8, p .10, p .9, few (st-at-ff c), rows-long (st-at-ff c) _ (p .14))
+    (p .3, p .1, f .few, omega (arith, p, f), omega (arith, p, f), p .8, p .10, p .9, few (st-at-ff c), rows-long (st-at-ff c) _ (p .14))
 
 all-pair-rows-requires-2 : tie.Need-all-pair-rows-requires-2
 all-pair-rows-requires-2 c κs =
     let p = st-at-gf c .pre in
     let f = facts (st-at-gf c) in
     let q = p .7 .helps in
-    (p .3, p .1, f .few, omega arith, omega arith, p .8, p .10, p .9, few (st-at-gf c), rows-long (st-at-gf c) _ (p .15))
+    (p .3, p .1, f .few, omega (arith, p, f), omega (arith, p, f), p .8, p .10, p .9, few (st-at-gf c), rows-long (st-at-gf c) _ (p .15))
 
 all-rows-requires : tie.Need-all-rows-requires
 all-rows-requires c κs =
@@ -160,8 +169,8 @@ repair-in-spec =
     all-pair-rows-requires-2
     all-rows-requires
     repair-work-requires
-    (λ c. search needs)
-    (λ c. search needs)
-    (λ c. search needs)
-    (λ c. search needs)
+    (λ c. ff-at-work (work-at-end c .before) .ff .given)
+    (λ c. gf-at-work (work-at-end c .before) .gf .given)
+    (λ c. rows-at-work (work-at-end c .before) .rows .given)
+    (λ c. c .before .area .given)
     returns)

@@ -1,10 +1,13 @@
 -- `store_repair::repair_shares` meets its contract: space is lent.
 -- Assumes nothing.
-use mathlib.Core.Path.{_≡_, refl, _∙_}
+use mathlib.Core.Path.{_≡_, refl, ap, _∙_}
+use mathlib.Core.List.{List}
 use Prim.Native.Nat.{ℕ, _+_, _*_, _-_, _≤_}
 use native.Mathlib.Nat.{mul-le-mul, mul-le-mul-right}
 use native.Mathlib.Omega.{arith}
-use lib.ListN.{length}
+use native.Mathlib.Nat.{sub-zero}
+use lib.ListN.{length, take}
+use lib.Seq.{length-take-le}
 use borrow.Author.Needs.{needs}
 use Rattle.sizes.specs.Sizing.{α}
 use Rattle.sizes.proofs.Legal.{Legal, legal-facts, α-most}
@@ -35,6 +38,10 @@ st-at-gf c = st-at-ff (c .before)
 abbrev st-at-call : tie.After-repair-in-arg → tie.Start
 st-at-call c = st-at-gf (c .before .before)
 
+-- a part from the beginning on is as long as it is asked
+first-long : (n : ℕ) (l : List ℕ) → n ≤ length l → length (take (n - 0) l) ≡ n
+first-long n l h = length-take-le (n - 0) l (rw sub-zero h) ∙ sub-zero n
+
 facts : (c : tie.Start) → Legal (c .args .sizes)
 facts c = legal-facts _ (c .pre .0)
 
@@ -52,6 +59,7 @@ repair-in-requires : tie.Need-repair-in-requires
 repair-in-requires c κs =
     let p = st-at-call c .pre in
     let a = st-at-call c .args in
+    let t = length (a .fresh .now) in
     let m = few (st-at-call c) in (
       p .0,
       p .1,
@@ -59,7 +67,7 @@ repair-in-requires c κs =
       p .3,
       m .2,
       mul-le-mul-right (α (a .sizes)) (p .12),
-      omega (arith, p .11, p .12),
+      omega (arith, p .11, p .12, m),
       p .4,
       p .5,
       p .6,
@@ -67,9 +75,9 @@ repair-in-requires c κs =
       p .8,
       p .9,
       p .10,
-      search needs,
-      search needs,
-      search needs,
+      first-long (length (a .named .now) * 32) _ (omega (arith, p .6, m .0)) ∙ ap (λ (n : ℕ). n * 32) (p .6),
+      first-long (length (a .named .now) * 32) _ (omega (arith, p .6, m .0)) ∙ ap (λ (n : ℕ). n * 32) (p .6),
+      first-long (t * ((a .sizes .d + (a .sizes .d + a .sizes .r)) * 32)) _ (m .1),
       p .13,
     )
 
@@ -96,5 +104,5 @@ repair-shares-spec =
     (λ c. search needs)
     (λ c. omega (arith, few (st-at-gf c)))
     repair-in-requires
-    (λ c. search needs)
+    (λ c. c .before .area .given)
     (λ c. search needs))

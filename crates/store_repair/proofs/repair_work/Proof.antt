@@ -1,9 +1,12 @@
 -- `store_repair::repair_work` meets its contract: space is lent.
 -- Assumes nothing.
 use mathlib.Core.Path.{_≡_, refl, _∙_}
+use mathlib.Core.List.{List}
 use Prim.Native.Nat.{ℕ, _+_, _*_, _-_, _≤_}
 use native.Mathlib.Omega.{arith}
-use lib.ListN.{length}
+use native.Mathlib.Nat.{sub-zero}
+use lib.ListN.{length, take}
+use lib.Seq.{length-take-le}
 use borrow.Author.Needs.{needs}
 use Rattle.sizes.proofs.Legal.{Legal, legal-facts}
 use Rattle.repair_hear.proofs.Heard.{few-runs}
@@ -33,6 +36,10 @@ st-at-got c = st-at-gs (c .before)
 abbrev st-at-call : tie.After-repair-stripes-arg → tie.Start
 st-at-call c = st-at-got (c .before .before)
 
+-- a part from the beginning on is as long as it is asked
+first-long : (n : ℕ) (l : List ℕ) → n ≤ length l → length (take (n - 0) l) ≡ n
+first-long n l h = length-take-le (n - 0) l (rw sub-zero h) ∙ sub-zero n
+
 facts : (c : tie.Start) → Legal (c .args .sizes)
 facts c = legal-facts _ (c .pre .0)
 
@@ -49,8 +56,33 @@ few c =
 repair-stripes-requires : tie.Need-repair-stripes-requires
 repair-stripes-requires c κs =
     let p = st-at-call c .pre in
-    let m = few (st-at-call c) in
-    (p .0, p .1, p .2, p .3, p .4, p .5, p .6, p .7, p .8, p .9, p .10, p .11, p .12, p .13, p .14, p .15, p .16, search needs, search needs, search needs, search needs, search needs, p .17)
+    let a = st-at-call c .args in
+    let t = length (a .fresh .now) in
+    let m = few (st-at-call c) in (
+      p .0,
+      p .1,
+      p .2,
+      p .3,
+      p .4,
+      p .5,
+      p .6,
+      p .7,
+      p .8,
+      p .9,
+      p .10,
+      p .11,
+      p .12,
+      p .13,
+      p .14,
+      p .15,
+      p .16,
+      first-long (length (a .named .now)) _ (omega (arith, p .13, m .0)) ∙ p .13,
+      first-long (length (a .named .now)) _ (omega (arith, p .13, m .0)) ∙ p .13,
+      first-long (t * a .lanes) _ (m .1),
+      first-long (a .sizes .d + a .sizes .r) _ (m .2),
+      first-long (a .lanes) _ (p .4),
+      p .17,
+    )
 
 pub repair-work-spec : {M : Type 1} → statement M
 repair-work-spec =
@@ -72,7 +104,7 @@ repair-work-spec =
     (λ c. omega (arith, few (st-at-gs c)))
     (λ c. search needs)
     (λ c. search needs)
-    (λ c. let p = st-at-got c .pre in search needs)
+    (λ c. omega (arith, st-at-got c .pre))
     repair-stripes-requires
-    (λ c. search needs)
+    (λ c. c .before .area .given)
     (λ c. search needs))

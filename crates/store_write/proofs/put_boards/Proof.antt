@@ -24,20 +24,26 @@ abbrev μ-loop : tie.MeasureT-loop
 μ-loop sizes part at values area₀ n w i₀ area i = n - i
 
 -- places in the code
+abbrev st-at-struct-known2 : tie.After-struct-known2 Inv-loop μ-loop → tie.Start Inv-loop μ-loop
+st-at-struct-known2 c = c .before .before .before .before
+
 abbrev st : tie.In-loop Inv-loop μ-loop → tie.Start Inv-loop μ-loop
-st c = c .before .before .before .before .before .before
+st c = st-at-struct-known2 (c .before .before)
 
 abbrev st-2 : tie.After-keep-arg Inv-loop μ-loop → tie.Start Inv-loop μ-loop
-st-2 c = c .before .before .before .before .before .before .before
+st-2 c = st (c .before)
+
+abbrev turn-at-slice-known2 : tie.After-slice-known2 Inv-loop μ-loop → tie.In-loop Inv-loop μ-loop
+turn-at-slice-known2 c = c .before .before .before .before
 
 abbrev at-loop : tie.After-slice-known2 Inv-loop μ-loop → tie.At-loop Inv-loop μ-loop
-at-loop c = c .before .before .before .before .before
+at-loop c = turn-at-slice-known2 c .before
 
 abbrev st-3 : tie.After-slice-known2 Inv-loop μ-loop → tie.Start Inv-loop μ-loop
-st-3 c = (at-loop c) .before .before .before .before .before
+st-3 c = st (turn-at-slice-known2 c)
 
 abbrev st-4 : tie.After-loop Inv-loop μ-loop → tie.Start Inv-loop μ-loop
-st-4 c = c .before .before .before .before .before .before
+st-4 c = st-at-struct-known2 (c .before .before)
 
 -- where the part of a turn's board ends
 end : (c : tie.In-loop Inv-loop μ-loop)
@@ -51,10 +57,10 @@ mul-w : tie.Need-mul-w Inv-loop μ-loop
 mul-w c = omega (arith, legal-facts _ (c .before .before .before .pre .0))
 
 add-w : tie.Need-add-w Inv-loop μ-loop
-add-w c = omega (arith, legal-facts _ (c .before .before .before .before .pre .0))
+add-w c = omega (arith, legal-facts _ (st-at-struct-known2 c .pre .0))
 
 sub-w : tie.Need-sub-w Inv-loop μ-loop
-sub-w c = omega (arith, legal-facts _ (c .before .before .before .before .pre .0))
+sub-w c = omega (arith, legal-facts _ (st-at-struct-known2 c .pre .0))
 
 loop-holds : tie.Need-loop-holds Inv-loop μ-loop
 loop-holds c = (refl, omega arith, refl)
@@ -91,7 +97,7 @@ add-i : tie.Need-add-i Inv-loop μ-loop
 add-i c = search needs
 
 loop-less : tie.Need-loop-less Inv-loop μ-loop
-loop-less c = search needs
+loop-less c = omega (arith, at-loop c .loop .inv, turn-at-slice-known2 c .loop-test .taken)
 
 loop-again : tie.Need-loop-again Inv-loop μ-loop
 loop-again c =
@@ -100,11 +106,11 @@ loop-again c =
     let a = s .args in
     let z = a .sizes in
     let k = c .before .before .keep .ensures in (
-      puts-turn (λ i. i * a .part + a .at) (λ i. keptOf (a .sizes) (λ b. getD (a .values .now) (b * 32 + i) 0) (λ b. getD (a .values .now) (i * 32 + b) 0) i)
+      puts-turn (λ i. i * a .part + a .at) (λ i. keptOf (z) (λ b. getD (a .values .now) (b * 32 + i) 0) (λ b. getD (a .values .now) (i * 32 + b) 0) i)
           (α z) (l .i) (l .i * a .part + a .at) (a .area .now) (l .area) _ refl
           (ap length k ∙ length-keptOf z _ _ (l .i) ∙ α-parts z (legal-facts _ (s .pre .0))) k (l .inv .0),
+      omega (arith, turn-at-slice-known2 c .loop-test .taken),
       omega arith,
-      search needs,
     )
 
 same-length : tie.Need-same-length Inv-loop μ-loop

@@ -13,7 +13,7 @@ use Rattle.sizes.proofs.Legal.{legal-facts}
 use Rattle.mbcr.proofs.Decode.{length-decoded}
 use Rattle.decode_laws.proofs.Held.{placed-before}
 use Rattle.stripes_cut.specs.Steps.{stripeAt}
-use Rattle.stripes_cut.proofs.Made.{Kept, work-kept, stripes-turn, stripes-end, starts-in}
+use Rattle.stripes_cut.proofs.Made.{Kept, work-kept, part-few, least-end, stripes-turn, stripes-end, starts-in}
 use Rattle.stripes_cut.proofs.stripes_in.Statement.{statement}
 use Rattle.stripes_cut.proofs.stripes_in.Tie as tie
 
@@ -32,14 +32,17 @@ st-lent c = c .before .before .before .before .before .before .before .before .b
 abbrev st-turn : tie.In-loop Inv-loop μ-loop → tie.Start Inv-loop μ-loop
 st-turn c = st-lent (c .before .before)
 
+abbrev least-at-decode-stripe-arg8 : tie.After-decode-stripe-arg8 Inv-loop μ-loop → tie.After-least Inv-loop μ-loop
+least-at-decode-stripe-arg8 c = c .before .before .before .before .before .before .before .before
+
 abbrev turn-at-decode-stripe-arg8 : tie.After-decode-stripe-arg8 Inv-loop μ-loop → tie.In-loop Inv-loop μ-loop
-turn-at-decode-stripe-arg8 c = c .before .before .before .before .before .before .before .before .before
+turn-at-decode-stripe-arg8 c = least-at-decode-stripe-arg8 c .before
 
 abbrev st-decode-stripe-arg8 : tie.After-decode-stripe-arg8 Inv-loop μ-loop → tie.Start Inv-loop μ-loop
 st-decode-stripe-arg8 c = st-turn (turn-at-decode-stripe-arg8 c)
 
 abbrev least-at-decode-stripe : tie.After-decode-stripe Inv-loop μ-loop → tie.After-least Inv-loop μ-loop
-least-at-decode-stripe c = c .before .before .before .before .before .before .before .before .before
+least-at-decode-stripe c = least-at-decode-stripe-arg8 (c .before)
 
 abbrev decode-stripe-at-copy-arg : tie.After-copy-arg Inv-loop μ-loop → tie.After-decode-stripe Inv-loop μ-loop
 decode-stripe-at-copy-arg c = c .before .before .before .before .before .before .before .before .before .before .before .before .before .before .before .before .before
@@ -96,7 +99,8 @@ least-requires : tie.Need-least-requires Inv-loop μ-loop
 least-requires c κs = search needs
 
 add-end : tie.Need-add-end Inv-loop μ-loop
-add-end c = omega (arith, start (c .before), c .least .ensures, fits (st-turn (c .before)))
+add-end c =
+    let e = least-end _ (length (st-turn (c .before) .args .u .now)) _ (c .least .result) (start (c .before)) (c .least .ensures) in omega (arith, e, fits (st-turn (c .before)))
 
 add-q : tie.Need-add-q Inv-loop μ-loop
 add-q c = omega (arith, st-turn (c .before) .pre .4, c .before .loop-test .taken)
@@ -125,13 +129,16 @@ part-copy-start : tie.Need-part-copy-start Inv-loop μ-loop
 part-copy-start c = omega arith
 
 part-copy-end : tie.Need-part-copy-end Inv-loop μ-loop
-part-copy-end c = omega (arith, start (least-at-copy-arg c .before), least-at-copy-arg c .least .ensures, (least-at-copy-arg c .before .before) .loop .inv .2)
+part-copy-end c =
+    let m = least-at-copy-arg c in
+    let e = least-end _ (length (st-turn (m .before) .args .u .now)) _ (m .least .result) (start (m .before)) (m .least .ensures) in
+    omega (arith, e, m .before .before .loop .inv .2)
 
 copy-requires : tie.Need-copy-requires Inv-loop μ-loop
 copy-requires c κs =
     let l = (least-at-copy-arg (c .before) .before .before) .loop in
     let d = decode-stripe-at-copy-arg (c .before) .decode-stripe in
-    simp length-take (omega (arith, d .kept .1 .1 .1 .1 .1 .1 .1 .1 .1 .1 .1 .1 .1 .1 .1 .1 .1 .1 .1 .0, l .inv .3, least-at-copy-arg (c .before) .least .ensures))
+    part-few (l .s * length (st-turn (least-at-copy-arg (c .before) .before) .args .u .now)) (least-at-copy-arg (c .before) .least .result) _ (l .out) (omega (arith, d .kept .1 .1 .1 .1 .1 .1 .1 .1 .1 .1 .1 .1 .1 .1 .1 .1 .1 .1 .1 .0, l .inv .3, least-at-copy-arg (c .before) .least .ensures))
 
 add-s : tie.Need-add-s Inv-loop μ-loop
 add-s c = omega (arith, turn-at-turn-end c .loop-test .taken, st-turn-end c .pre .4)
@@ -149,19 +156,19 @@ loop-again c =
     let m = least-at-turn-end c .least in
     let w = c .before .before .copy in
     let b : ℕ = length (g .args .u .now) in (
-      stripes-turn (each g) b (length (g .args .out .now)) (l .s) (m .result) (each-long g) (g .args .out .now) (l .out) _ _ (start t) (omega arith) (l .inv .2)
+      stripes-turn (each g) b (length (g .args .out .now)) (l .s) (m .result) (each-long g) (g .args .out .now) (l .out) (d .last .1 .1 .1 .1 .1 .1 .1 .1 .1 .1 .1 .1 .1 .1 .1 .1 .1 .1 .1 .0) (w .last .1 .0) (start t) (omega arith) (l .inv .2)
           (m .ensures) (l .inv .0) (d .ensures) (w .ensures),
       omega (arith, t .loop-test .taken),
       same-len-mid {X = ℕ} (l .s * b) (l .s * b + m .result - l .s * b) (l .out) (w .last .1 .0) (w .kept .1 .0) ∙ l .inv .2,
-      d .kept .1 .1 .1 .1 .1 .1 .1 .1 .1 .1 .1 .1 .1 .1 .1 .1 .1 .1 .1 .0 ∙ l .inv .3,
+      _∙_ {b = length (l .u)} (d .kept .1 .1 .1 .1 .1 .1 .1 .1 .1 .1 .1 .1 .1 .1 .1 .1 .1 .1 .1 .0) (l .inv .3),
       record {
-        f-rows = d .kept .1 .1 .1 .1 .1 .1 .1 .1 .1 .1 .1 .1 .0 ∙ k .f-rows;
-        g-rows = d .kept .1 .1 .1 .1 .1 .1 .1 .1 .1 .1 .1 .1 .1 .0 ∙ k .g-rows;
-        f-values = d .kept .1 .1 .1 .1 .1 .1 .1 .1 .1 .1 .1 .1 .1 .1 .0 ∙ k .f-values;
-        g-values = d .kept .1 .1 .1 .1 .1 .1 .1 .1 .1 .1 .1 .1 .1 .1 .1 .0 ∙ k .g-values;
-        g-tops = d .kept .1 .1 .1 .1 .1 .1 .1 .1 .1 .1 .1 .1 .1 .1 .1 .1 .0 ∙ k .g-tops;
-        all-rows = d .kept .1 .1 .1 .1 .1 .1 .1 .1 .1 .1 .1 .1 .1 .1 .1 .1 .1 .0 ∙ k .all-rows;
-        all-columns = d .kept .1 .1 .1 .1 .1 .1 .1 .1 .1 .1 .1 .1 .1 .1 .1 .1 .1 .1 .0 ∙ k .all-columns;
+        f-rows = _∙_ {b = length (l .fs)} (d .kept .1 .1 .1 .1 .1 .1 .1 .1 .1 .1 .1 .1 .0) (k .f-rows);
+        g-rows = _∙_ {b = length (l .gs)} (d .kept .1 .1 .1 .1 .1 .1 .1 .1 .1 .1 .1 .1 .1 .0) (k .g-rows);
+        f-values = _∙_ {b = length (l .vf)} (d .kept .1 .1 .1 .1 .1 .1 .1 .1 .1 .1 .1 .1 .1 .1 .0) (k .f-values);
+        g-values = _∙_ {b = length (l .vg)} (d .kept .1 .1 .1 .1 .1 .1 .1 .1 .1 .1 .1 .1 .1 .1 .1 .0) (k .g-values);
+        g-tops = _∙_ {b = length (l .tp)} (d .kept .1 .1 .1 .1 .1 .1 .1 .1 .1 .1 .1 .1 .1 .1 .1 .1 .0) (k .g-tops);
+        all-rows = _∙_ {b = length (l .rows)} (d .kept .1 .1 .1 .1 .1 .1 .1 .1 .1 .1 .1 .1 .1 .1 .1 .1 .1 .0) (k .all-rows);
+        all-columns = _∙_ {b = length (l .columns)} (d .kept .1 .1 .1 .1 .1 .1 .1 .1 .1 .1 .1 .1 .1 .1 .1 .1 .1 .1 .0) (k .all-columns);
       },
     )
 
