@@ -14,8 +14,11 @@ use Rattle.board_exchange.proofs.exchange_packet.Tie as tie
 abbrev st : tie.After-check-exchange → tie.Start
 st c = c .before .before .before .before .before .before
 
+abbrev check-exchange-at-enum-told : tie.After-enum-told → tie.After-check-exchange
+check-exchange-at-enum-told c = c .before .before
+
 abbrev at-check : tie.After-stripe-count → tie.After-check-exchange
-at-check c = c .before .before .before
+at-check c = check-exchange-at-enum-told (c .before)
 
 abbrev at-inverses : tie.After-exchange-packet-arg → tie.After-fill-inverses
 at-inverses c = c .before .before .before .before
@@ -31,22 +34,25 @@ given g = g .args .t2
 abbrev answer : tie.Start → Check
 answer g = let a = g .args in checked (a .sizes) (given g) (a .len) (a .board) (a .helpers .now) (a .packets .now) (a .receiver) (a .out .now)
 
-refusal : (c : tie.After-x) → answer (st (c .before .before)) ≡ Refuse (c .x .given .0 .0)
-refusal c = sym (c .before .before .check-exchange .ensures) ∙ c .x .given .1
+abbrev check-exchange-at-x : tie.After-x → tie.After-check-exchange
+check-exchange-at-x c = c .before .before
 
-passed : (c : tie.After-enum-told) → answer (st (c .before .before)) ≡ Pass
-passed c = sym (c .before .before .check-exchange .ensures) ∙ c .enum-told .given .1
+refusal : (c : tie.After-x) → answer (st (check-exchange-at-x c)) ≡ Refuse (c .x .given .0 .0)
+refusal c = sym (check-exchange-at-x c .check-exchange .ensures) ∙ c .x .given .1
+
+passed : (c : tie.After-enum-told) → answer (st (check-exchange-at-enum-told c)) ≡ Pass
+passed c = sym (check-exchange-at-enum-told c .check-exchange .ensures) ∙ c .enum-told .given .1
 
 facts : (c : tie.After-enum-told)
-    → let g = st (c .before .before) in let a = g .args in Exchanges (a .sizes) (given g) (a .len) (a .helpers .now) (a .packets .now) (a .receiver) (a .out .now)
+    → let g = st (check-exchange-at-enum-told c) in let a = g .args in Exchanges (a .sizes) (given g) (a .len) (a .helpers .now) (a .packets .now) (a .receiver) (a .out .now)
 facts c =
-    let g = st (c .before .before) in
+    let g = st (check-exchange-at-enum-told c) in
     let a = g .args in
     exchanges (a .sizes) (given g) (a .len) (a .board) (a .helpers .now) (a .packets .now) (a .receiver) (a .out .now) (passed c)
 
 refused : tie.Need-returns
 refused c =
-    let g = st (c .before .before .before) in
+    let g = st (check-exchange-at-x (c .before)) in
     let a = g .args in
     exchange-refuses (a .sizes) (given g) (a .len) (a .board) (a .helpers .now) (a .packets .now) (a .receiver) (a .out .now) (refusal (c .before))
 

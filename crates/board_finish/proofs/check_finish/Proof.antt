@@ -81,18 +81,24 @@ st-stated c = c .before .before .before .before .before .before .before
 no-stated : (c : tie.After-stated) → Refuse (c .stated .given .0 .0) ≡ answer (st-stated (c .before .before))
 no-stated c = let k = c .before .before in refuses _ (whole (st-stated k)) (k .check-stated .ensures) (c .stated .given .1)
 
-stated-on : (c : tie.After-enum-told) → let a = st-stated (c .before .before) .args in Stated (a .sizes) (a .len)
-stated-on c = stated-facts _ _ _ (sym (c .before .before .check-stated .ensures) ∙ c .enum-told .given .1)
+abbrev check-stated-at-enum-told : tie.After-enum-told → tie.After-check-stated
+check-stated-at-enum-told c = c .before .before
+
+stated-on : (c : tie.After-enum-told) → let a = st-stated (check-stated-at-enum-told c) .args in Stated (a .sizes) (a .len)
+stated-on c = stated-facts _ _ _ (sym (check-stated-at-enum-told c .check-stated .ensures) ∙ c .enum-told .given .1)
 
 -- 4 COUNT
+abbrev enum-told-at-check-counts : tie.After-check-counts → tie.After-enum-told
+enum-told-at-check-counts c = c .before .before
+
 abbrev at-stated : tie.After-check-counts → tie.After-check-stated
-at-stated c = c .before .before .before .before
+at-stated c = check-stated-at-enum-told (enum-told-at-check-counts c)
 
 abbrev st-count : tie.After-check-counts → tie.Start
 st-count c = st-stated (at-stated c)
 
 on-count : (c : tie.After-check-counts) → thens (counts (st-count c)) ≡ answer (st-count c)
-on-count c = goes-on (whole (st-count c)) (at-stated c .check-stated .ensures) (c .before .before .enum-told .given .1)
+on-count c = goes-on (whole (st-count c)) (at-stated c .check-stated .ensures) (enum-told-at-check-counts c .enum-told .given .1)
 
 no-count : (c : tie.After-count) → Refuse (c .count .given .0 .0) ≡ answer (st-count (c .before .before))
 no-count c = let k = c .before .before in refuses _ (on-count k) (k .check-counts .ensures) (c .count .given .1)
@@ -127,8 +133,11 @@ no-repeat : (c : tie.After-repeat) → Refuse (c .repeat .given .0 .0) ≡ answe
 no-repeat c = let k = c .before .before in refuses _ (on-repeat k) (k .check-repeat-joined .ensures) (c .repeat .given .1)
 
 -- 2 AREA
+abbrev check-repeat-joined-at-enum-told4 : tie.After-enum-told4 → tie.After-check-repeat-joined
+check-repeat-joined-at-enum-told4 c = c .before .before
+
 abbrev at-repeat : tie.After-stripe-count → tie.After-check-repeat-joined
-at-repeat c = c .before .before .before
+at-repeat c = check-repeat-joined-at-enum-told4 (c .before)
 
 abbrev st-lent : tie.After-stripe-count → tie.Start
 st-lent c = st-repeat (at-repeat c)
@@ -137,8 +146,8 @@ on-lent : (c : tie.After-stripe-count) → thens (lents (st-lent c)) ≡ answer 
 on-lent c = goes-on (on-repeat (at-repeat c)) (at-repeat c .check-repeat-joined .ensures) (c .before .enum-told4 .given .1)
 
 -- what the checks so far told
-stated-at : (c : tie.After-enum-told4) → let a = st-repeat (c .before .before) .args in Stated (a .sizes) (a .len)
-stated-at c = stated-on (at-count (at-node (c .before .before)) .before .before)
+stated-at : (c : tie.After-enum-told4) → let a = st-repeat (check-repeat-joined-at-enum-told4 c) .args in Stated (a .sizes) (a .len)
+stated-at c = stated-on (enum-told-at-check-counts (at-count (at-node (check-repeat-joined-at-enum-told4 c))))
 
 sizes-on : (c : tie.After-stripe-count) → Legal (st-lent c .args .sizes)
 sizes-on c = legal-facts _ (stated-at (c .before) .is-legal)

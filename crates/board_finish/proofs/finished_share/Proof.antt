@@ -17,8 +17,11 @@ use Rattle.board_finish.proofs.finished_share.Tie as tie
 abbrev st : tie.After-check-finish → tie.Start
 st c = c .before .before .before .before .before .before .before .before
 
+abbrev check-finish-at-enum-told : tie.After-enum-told → tie.After-check-finish
+check-finish-at-enum-told c = c .before .before
+
 abbrev at-check : tie.After-stripe-count → tie.After-check-finish
-at-check c = c .before .before .before
+at-check c = check-finish-at-enum-told (c .before)
 
 abbrev at-inverses : tie.After-finished-share-arg → tie.After-fill-inverses
 at-inverses c = c .before .before .before .before
@@ -39,22 +42,25 @@ answer g =
     let a = g .args in
     checked (a .sizes) (given g) (a .len) (a .board) (a .helpers .now) (a .packets .now) (a .partners .now) (a .exchanges .now) (a .out .now)
 
-refusal : (c : tie.After-x) → answer (st (c .before .before)) ≡ Refuse (c .x .given .0 .0)
-refusal c = sym (c .before .before .check-finish .ensures) ∙ c .x .given .1
+abbrev check-finish-at-x : tie.After-x → tie.After-check-finish
+check-finish-at-x c = c .before .before
 
-passed : (c : tie.After-enum-told) → answer (st (c .before .before)) ≡ Pass
-passed c = sym (c .before .before .check-finish .ensures) ∙ c .enum-told .given .1
+refusal : (c : tie.After-x) → answer (st (check-finish-at-x c)) ≡ Refuse (c .x .given .0 .0)
+refusal c = sym (check-finish-at-x c .check-finish .ensures) ∙ c .x .given .1
 
-facts : (c : tie.After-enum-told) → let g = st (c .before .before) in let a = g .args in
+passed : (c : tie.After-enum-told) → answer (st (check-finish-at-enum-told c)) ≡ Pass
+passed c = sym (check-finish-at-enum-told c .check-finish .ensures) ∙ c .enum-told .given .1
+
+facts : (c : tie.After-enum-told) → let g = st (check-finish-at-enum-told c) in let a = g .args in
     Finishes (a .sizes) (given g) (a .len) (a .board) (a .helpers .now) (a .packets .now) (a .partners .now) (a .exchanges .now) (a .out .now)
 facts c =
-    let g = st (c .before .before) in
+    let g = st (check-finish-at-enum-told c) in
     let a = g .args in
     finishes (a .sizes) (given g) (a .len) (a .board) (a .helpers .now) (a .packets .now) (a .partners .now) (a .exchanges .now) (a .out .now) (passed c)
 
 refused : tie.Need-returns
 refused c =
-    let g = st (c .before .before .before) in
+    let g = st (check-finish-at-x (c .before)) in
     let a = g .args in
     finish-refuses (a .sizes) (given g) (a .len) (a .board) (a .helpers .now) (a .packets .now) (a .partners .now) (a .exchanges .now) (a .out .now)
     (refusal (c .before))

@@ -66,17 +66,20 @@ no-stated : (c : tie.After-stated) → Refuse (c .stated .given .0 .0) ≡ answe
 no-stated c = let k = c .before .before in refuses _ (whole (st-stated k)) (k .check-stated .ensures) (c .stated .given .1)
 
 -- 5 NODE
+abbrev enum-told-at-check-nodes : tie.After-check-nodes → tie.After-enum-told
+enum-told-at-check-nodes c = c .before .before
+
 abbrev at-stated : tie.After-check-nodes → tie.After-check-stated
-at-stated c = c .before .before .before .before
+at-stated c = enum-told-at-check-nodes c .before .before
 
 abbrev st-node : tie.After-check-nodes → tie.Start
 st-node c = st-stated (at-stated c)
 
 stated-on : (c : tie.After-check-nodes) → let g = st-node c in Stated (g .args .sizes) (g .args .len)
-stated-on c = stated-facts _ _ _ (sym (at-stated c .check-stated .ensures) ∙ c .before .before .enum-told .given .1)
+stated-on c = stated-facts _ _ _ (sym (at-stated c .check-stated .ensures) ∙ enum-told-at-check-nodes c .enum-told .given .1)
 
 on-node : (c : tie.After-check-nodes) → thens (nodes (st-node c)) ≡ answer (st-node c)
-on-node c = goes-on (whole (st-node c)) (at-stated c .check-stated .ensures) (c .before .before .enum-told .given .1)
+on-node c = goes-on (whole (st-node c)) (at-stated c .check-stated .ensures) (enum-told-at-check-nodes c .enum-told .given .1)
 
 no-node : (c : tie.After-node) → Refuse (c .node .given .0 .0) ≡ answer (st-node (c .before .before))
 no-node c = let k = c .before .before in refuses _ (on-node k) (k .check-nodes .ensures) (c .node .given .1)

@@ -15,8 +15,11 @@ use Rattle.board_helper.proofs.helper_packet.Tie as tie
 abbrev st : tie.After-check-helper → tie.Start
 st c = c .before .before .before .before .before
 
+abbrev check-helper-at-enum-told : tie.After-enum-told → tie.After-check-helper
+check-helper-at-enum-told c = c .before .before
+
 abbrev at-check : tie.After-stripe-count → tie.After-check-helper
-at-check c = c .before .before .before
+at-check c = check-helper-at-enum-told (c .before)
 
 abbrev at-inverses : tie.After-helper-packet-arg → tie.After-fill-inverses
 at-inverses c = c .before .before .before .before
@@ -35,19 +38,22 @@ given g = g .args .t2
 abbrev answer : tie.Start → Check
 answer g = let a = g .args in checked (a .sizes) (given g) (a .len) (a .helper) (a .receiver) (a .held .now) (a .out .now)
 
-refusal : (c : tie.After-x) → answer (st (c .before .before)) ≡ Refuse (c .x .given .0 .0)
-refusal c = sym (c .before .before .check-helper .ensures) ∙ c .x .given .1
+abbrev check-helper-at-x : tie.After-x → tie.After-check-helper
+check-helper-at-x c = c .before .before
 
-passed : (c : tie.After-enum-told) → answer (st (c .before .before)) ≡ Pass
-passed c = sym (c .before .before .check-helper .ensures) ∙ c .enum-told .given .1
+refusal : (c : tie.After-x) → answer (st (check-helper-at-x c)) ≡ Refuse (c .x .given .0 .0)
+refusal c = sym (check-helper-at-x c .check-helper .ensures) ∙ c .x .given .1
+
+passed : (c : tie.After-enum-told) → answer (st (check-helper-at-enum-told c)) ≡ Pass
+passed c = sym (check-helper-at-enum-told c .check-helper .ensures) ∙ c .enum-told .given .1
 
 facts : (c : tie.After-enum-told)
-    → let g = st (c .before .before) in let a = g .args in Helps (a .sizes) (given g) (a .len) (a .helper) (a .receiver) (a .held .now) (a .out .now)
-facts c = let g = st (c .before .before) in let a = g .args in helps (a .sizes) (given g) (a .len) (a .helper) (a .receiver) (a .held .now) (a .out .now) (passed c)
+    → let g = st (check-helper-at-enum-told c) in let a = g .args in Helps (a .sizes) (given g) (a .len) (a .helper) (a .receiver) (a .held .now) (a .out .now)
+facts c = let g = st (check-helper-at-enum-told c) in let a = g .args in helps (a .sizes) (given g) (a .len) (a .helper) (a .receiver) (a .held .now) (a .out .now) (passed c)
 
 refused : tie.Need-returns
 refused c =
-    let g = st (c .before .before .before) in
+    let g = st (check-helper-at-x (c .before)) in
     let a = g .args in
     helper-refuses (a .sizes) (given g) (a .len) (a .helper) (a .receiver) (a .held .now) (a .out .now) (refusal (c .before))
 

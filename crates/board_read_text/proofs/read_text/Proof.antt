@@ -42,30 +42,36 @@ returns c =
     let k = c .before .before .before in
     ap (λ (r : TextRead). outcome r (out k)) (c .refused .ensures) ∙ refuses-lines (text k) (out k) (h k) (stands k) (not-true _ (c .before .if1 .taken))
 
-there : (c : tie.Else1) → h (c .before .before) .ok ≡ true
+abbrev head-at-at-else1 : tie.Else1 → tie.After-head-at
+head-at-at-else1 c = c .before .before
+
+there : (c : tie.Else1) → h (head-at-at-else1 c) .ok ≡ true
 there c = not-false _ (c .if1 .left)
 
 returns-2 : tie.Need-returns-2
 returns-2 c =
     let e = c .before .before .before in
-    let k = e .before .before in
+    let k = head-at-at-else1 e in
     ap (λ (r : TextRead). outcome r (out k)) (c .refused2 .ensures) ∙ refuses-behind (text k) (out k) (h k) (stands k) (there e) (c .before .if2 .taken)
 
-whole : (c : tie.Else2) → let k = c .before .before .before .before in h k .next ≡ length (text k)
+abbrev else1-at-else2 : tie.Else2 → tie.Else1
+else1-at-else2 c = c .before .before
+
+whole : (c : tie.Else2) → let k = head-at-at-else1 (else1-at-else2 c) in h k .next ≡ length (text k)
 whole c = c .if2 .left
 
 returns-3 : tie.Need-returns-3
 returns-3 c =
     let w = c .before .before in
-    let e = w .before .before in
-    let k = e .before .before in
+    let e = else1-at-else2 w in
+    let k = head-at-at-else1 e in
     ap (λ (r : TextRead). outcome r (out k)) (c .refused3 .ensures) ∙ refuses-short (text k) (out k) (h k) (stands k) (there e) (whole w) (c .before .if3 .taken)
 
 fill-pairs-requires : tie.Need-fill-pairs-requires
 fill-pairs-requires c κs =
     let x = c .before in
-    let e = x .before .before .before in
-    let k = e .before .before in
+    let e = else1-at-else2 (x .before) in
+    let k = head-at-at-else1 e in
     let s = stands k in
     let l = length-take-le (h k .count) (out k) (x .if3 .left) in
     omega (arith, s .within (there e), s .ends (there e), l)
@@ -75,8 +81,8 @@ returns-4 c =
     let f = c .before .before .before .before in
     let x = f .before .before in
     let w = x .before in
-    let e = w .before .before in
-    let k = e .before .before in
+    let e = else1-at-else2 w in
+    let k = head-at-at-else1 e in
     works (text k) (out k) (h k) (stands k) (there e) (whole w) (x .if3 .left) _ (ap (λ (y : List ℕ). y ++ drop (h k .count - 0) (out k)) (f .fill-pairs .ensures))
 
 pub read-text-spec : {M : Type 1} → statement M

@@ -83,14 +83,17 @@ long-on c =
     taken-facts (a .sizes) (a .points .now) (a .len) e .long
 
 -- 2 AREA
+abbrev enum-told2-at-share-len : tie.After-share-len → tie.After-enum-told2
+enum-told2-at-share-len c = c .before .before
+
 abbrev at-node : tie.After-share-len → tie.After-check-node
-at-node c = c .before .before .before .before
+at-node c = enum-told2-at-share-len c .before .before
 
 abbrev st-area : tie.After-share-len → tie.Start
 st-area c = st-node (at-node c)
 
 on-area : (c : tie.After-share-len) → thens (areas (st-area c)) ≡ answer (st-area c)
-on-area c = let k = at-node c in goes-on (on-node k) (k .check-node .ensures) (c .before .before .enum-told2 .given .1)
+on-area c = let k = at-node c in goes-on (on-node k) (k .check-node .ensures) (enum-told2-at-share-len c .enum-told2 .given .1)
 
 few : (c : tie.After-share-len) → c .before .stripe-count .result * c .share-len .result ≤ 253952
 few c =
@@ -120,12 +123,15 @@ writes-on : (c : tie.After-enum-told3) → let a = st-short c .args in Writes (a
 writes-on c =
     let k = at-area c in
     let n = at-node (k .before) in
-    let named : asked (node-line (st-short c)) ≡ Pass = sym (n .check-node .ensures) ∙ k .before .before .before .enum-told2 .given .1 in
+    let named : asked (node-line (st-short c)) ≡ Pass = sym (n .check-node .ensures) ∙ enum-told2-at-share-len (k .before) .enum-told2 .given .1 in
     writes _ _ _ _ _ (stated-on n) (long-on n) named (sym (is-area k) ∙ c .enum-told3 .given .1)
 
-is-short : (c : tie.After-check-room) → let g = st-short (c .before .before) in c .check-room .result ≡ asked (shortLine (g .args .out .now) (length (text g)))
+abbrev enum-told3-at-check-room : tie.After-check-room → tie.After-enum-told3
+enum-told3-at-check-room c = c .before .before
+
+is-short : (c : tie.After-check-room) → let g = st-short (enum-told3-at-check-room c) in c .check-room .result ≡ asked (shortLine (g .args .out .now) (length (text g)))
 is-short c =
-    let g = st-short (c .before .before) in
+    let g = st-short (enum-told3-at-check-room c) in
     c .check-room .ensures ∙ ap (λ (m : ℕ). asked (shortLine (g .args .out .now) m)) (c .before .text-len .ensures (g .args .held .now) refl)
 
 pub check-text-spec : {M : Type 1} → statement M
@@ -149,4 +155,4 @@ check-text-spec =
     (λ c. search needs)
     (λ c κs. writes-on c)
     (λ c κs. search needs)
-    (λ c. ends (on-short (c .before .before)) (is-short c)))
+    (λ c. ends (on-short (enum-told3-at-check-room c)) (is-short c)))

@@ -36,15 +36,18 @@ st-size c = c .before .before
 no-size : (c : tie.After-size) → Refuse (c .size .given .0 .0) ≡ answer (st-size (c .before .before))
 no-size c = let k = c .before .before in refuses _ (whole (st-size k)) (k .check-sizes .ensures) (c .size .given .1)
 
-legal-on : (c : tie.After-enum-told) → legal (st-size (c .before .before) .args .sizes) ≡ true
+abbrev check-sizes-at-enum-told : tie.After-enum-told → tie.After-check-sizes
+check-sizes-at-enum-told c = c .before .before
+
+legal-on : (c : tie.After-enum-told) → legal (st-size (check-sizes-at-enum-told c) .args .sizes) ≡ true
 legal-on c =
-    let k = c .before .before in
+    let k = check-sizes-at-enum-told c in
     let a = st-size k .args in
     size-facts _ _ (passed (sizeLine (a .sizes) (a .points .now)) (sym (k .check-sizes .ensures) ∙ c .enum-told .given .1)) .0
 
 -- 3 LONG
 abbrev at-size : tie.After-check-length → tie.After-check-sizes
-at-size c = c .before .before .before
+at-size c = check-sizes-at-enum-told (c .before)
 
 on-long : (c : tie.After-check-length) → thens (longs (st-size (at-size c))) ≡ answer (st-size (at-size c))
 on-long c = goes-on (whole (st-size (at-size c))) (at-size c .check-sizes .ensures) (cc)

@@ -32,12 +32,15 @@ abbrev μ-loop : tie.MeasureT-loop
 abbrev at-loop : tie.After-plus Inv-loop μ-loop → tie.At-loop Inv-loop μ-loop
 at-loop c = c .before .before .before .before .before
 
+abbrev st-at-shared-slice-known2 : tie.After-shared-slice-known2 Inv-loop μ-loop → tie.Start Inv-loop μ-loop
+st-at-shared-slice-known2 c = c .before .before
+
 abbrev st : tie.After-plus Inv-loop μ-loop → tie.Start Inv-loop μ-loop
-st c = c .before .before .before .before .before .before .before .before
+st c = st-at-shared-slice-known2 (at-loop c .before)
 
 loop-holds : tie.Need-loop-holds Inv-loop μ-loop
 unfolding rowBytes
-loop-holds c = let a = c .before .before .args in (omega arith, λ rows l w e. sum-start (bytes (a .lines .now) (a .j) (a .m)) rows w)
+loop-holds c = let a = st-at-shared-slice-known2 c .args in (omega arith, λ rows l w e. sum-start (bytes (a .lines .now) (a .j) (a .m)) rows w)
 
 mul-at : tie.Need-mul-at Inv-loop μ-loop
 mul-at c = search needs
@@ -95,7 +98,7 @@ loop-again c =
 returns : tie.Need-returns Inv-loop μ-loop
 returns c = λ rows lr w e.
     let l = c .before .loop in
-    let a = c .before .before .before .before .args in
+    let a = st-at-shared-slice-known2 (c .before .before) .args in
     let cs : List ℕ = bytes (a .lines .now) (a .j) (a .m) in
     sym (sum-end (rowBytes (l .sum)) (drop (l .i) cs) (drop (l .i) rows) (length-row (l .sum))
     (drop-of-length-le cs {i = l .i} (omega (arith, length-tabulate (a .m) (λ i. getD (a .lines .now) (i * 32 + a .j) 0)))))

@@ -7,14 +7,20 @@ use Rattle.column_sums.proofs.product.Statement.{statement}
 use Rattle.column_sums.proofs.product.Tie as tie
 
 -- places in the code
-abbrev st : tie.After-plus3 → tie.Start
-st c = c .before .before .before .before .before .before .before .before
+abbrev row-at4-at-plus3 : tie.After-plus3 → tie.After-row-at4
+row-at4-at-plus3 c = c .before .before
 
-abbrev row-at : tie.After-plus3 → tie.After-row-at
-row-at c = c .before .before .before .before .before .before
+abbrev row-at3-at-plus3 : tie.After-plus3 → tie.After-row-at3
+row-at3-at-plus3 c = row-at4-at-plus3 c .before
 
 abbrev row-at2 : tie.After-plus3 → tie.After-row-at2
-row-at2 c = c .before .before .before .before .before
+row-at2 c = row-at3-at-plus3 c .before .before
+
+abbrev row-at : tie.After-plus3 → tie.After-row-at
+row-at c = row-at2 c .before
+
+abbrev st : tie.After-plus3 → tie.Start
+st c = row-at c .before .before
 
 cast-a : tie.Need-cast-a
 cast-a c = search needs
@@ -73,12 +79,12 @@ plus-requires-3 c κs = search needs
 returns : tie.Need-returns
 returns c = λ row lr eq.
     let s = st c in
-    product-is (s .args .t .now) row (s .args .c) (rowBytes (c .plus3 .result)) (rowBytes (c .before .before .before .before .plus .result)) (rowBytes (c .before .plus2 .result))
+    product-is (s .args .t .now) row (s .args .c) (rowBytes (c .plus3 .result)) (rowBytes (row-at3-at-plus3 c .before .plus .result)) (rowBytes (c .before .plus2 .result))
     (rowBytes ((row-at c) .row-at .result)) (rowBytes ((row-at2 c) .row-at2 .result))
-    (rowBytes (c .before .before .before .row-at3 .result)) (rowBytes (c .before .before .row-at4 .result)) (search needs) lr eq
+    (rowBytes (row-at3-at-plus3 c .row-at3 .result)) (rowBytes (row-at4-at-plus3 c .row-at4 .result)) (search needs) lr eq
     ((row-at c) .row-at .ensures) ((row-at2 c) .row-at2 .ensures)
-    (c .before .before .before .row-at3 .ensures) (c .before .before .row-at4 .ensures)
-    (c .before .before .before .before .plus .ensures) (c .before .plus2 .ensures) (c .plus3 .ensures)
+    (row-at3-at-plus3 c .row-at3 .ensures) (row-at4-at-plus3 c .row-at4 .ensures)
+    (row-at3-at-plus3 c .before .plus .ensures) (c .before .plus2 .ensures) (c .plus3 .ensures)
 
 pub product-spec : {M : Type 1} → statement M
 product-spec =

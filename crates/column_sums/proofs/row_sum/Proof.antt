@@ -27,12 +27,15 @@ abbrev μ-loop : tie.MeasureT-loop
 abbrev at-loop : tie.After-plus Inv-loop μ-loop → tie.At-loop Inv-loop μ-loop
 at-loop c = c .before .before .before .before .before
 
+abbrev st-at-shared-slice-known2 : tie.After-shared-slice-known2 Inv-loop μ-loop → tie.Start Inv-loop μ-loop
+st-at-shared-slice-known2 c = c .before .before
+
 abbrev st : tie.After-plus Inv-loop μ-loop → tie.Start Inv-loop μ-loop
-st c = c .before .before .before .before .before .before .before .before
+st c = st-at-shared-slice-known2 (at-loop c .before)
 
 loop-holds : tie.Need-loop-holds Inv-loop μ-loop
 unfolding rowBytes
-loop-holds c = (omega arith, λ rows l w e. sum-start (c .before .before .args .cs .now) rows w)
+loop-holds c = (omega arith, λ rows l w e. sum-start (st-at-shared-slice-known2 c .args .cs .now) rows w)
 
 mul-at : tie.Need-mul-at Inv-loop μ-loop
 mul-at c = search needs
@@ -82,7 +85,7 @@ loop-again c =
 returns : tie.Need-returns Inv-loop μ-loop
 returns c = λ rows lr w e.
     let l = c .before .loop in
-    let s = c .before .before .before .before in
+    let s = st-at-shared-slice-known2 (c .before .before) in
     let cs : List ℕ = s .args .cs .now in
     sym (sum-end (rowBytes (l .sum)) (drop (l .i) cs) (drop (l .i) rows) (length-row (l .sum)) (drop-of-length-le cs {i = l .i} (omega arith)))
     ∙ l .inv .1 rows lr w e

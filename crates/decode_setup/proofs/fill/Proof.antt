@@ -14,8 +14,11 @@ use Rattle.decode_setup.proofs.fill.Statement.{statement}
 use Rattle.decode_setup.proofs.fill.Tie as tie
 
 -- places in the code
+abbrev st-at-struct-known : tie.After-struct-known → tie.Start
+st-at-struct-known c = c .before .before .before .before .before
+
 abbrev st₀ : tie.After-factors-at → tie.Start
-st₀ c = c .before .before .before .before .before .before .before
+st₀ c = st-at-struct-known (c .before .before)
 
 abbrev at₀ : tie.After-factors-at-arg2 → tie.After-factors-at
 at₀ c = c .before .before .before
@@ -71,11 +74,11 @@ long₃ : (c : tie.After-row-tables) → length (y₃ c) ≡ 49152
 long₃ c = c .row-tables .kept .1 .1 .1 .1 .1 .0 ∙ long₂ (at₂ (c .before))
 
 add-w : tie.Need-add-w
-add-w c = let f = facts (c .before .before .before .before .before) in omega (arith, f .enough, f .few)
+add-w c = let f = facts (st-at-struct-known c) in omega (arith, f .enough, f .few)
 
 factors-at-requires : tie.Need-factors-at-requires
 factors-at-requires c κs =
-    let g = c .before .before .before .before .before .before in
+    let g = st-at-struct-known (c .before) in
     let a = g .pre .0 in
     let f = facts g in (
       g .pre .1,

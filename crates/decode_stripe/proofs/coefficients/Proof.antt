@@ -220,8 +220,15 @@ tops-requires c κs =
     let lp : length (points (g .args .points .now) (take (z .d) (g .args .targets .now))) ≡ z .d = length-points (g .args .points .now) (take (z .d) (g .args .targets .now)) ∙ length-few g in
     let lt = ap length (g .pre .14) ∙ length-tops (z .k) (points (g .args .points .now) (take (z .d) (g .args .targets .now))) ∙ ap (λ (m : ℕ). (m - z .k) * 32) lp in
     let v = values-at-values2 v2 .values .ensures in
-    let lg = values-long (z .k * z .d) (g .args .vg .now) _ _ (g .pre .18) (omega (arith, square g)) v (length-values _ _ _ _ _ _ _ ∙ ap₂ _*_ (g .pre .2) ld) in
-    (omega (arith, f), omega (arith, f), omega (arith, f), whole-vectors2-at-rows-of o .whole-vectors2 .ensures .1, omega (arith, lt), omega (arith, square g, lg), g .pre .20)
+    let lg = values-long (z .k * z .d) (g .args .vg .now) _ _ (g .pre .18) (omega (arith, square g)) v (length-values _ _ _ _ _ _ _ ∙ ap₂ _*_ (g .pre .2) ld) in (
+      omega (arith, f),
+      omega (arith, f),
+      omega (arith, f),
+      whole-vectors2-at-rows-of o .whole-vectors2 .ensures .1,
+      omega (arith, lt),
+      omega (arith, square g, lg),
+      g .pre .20,
+    )
 
 by-rows-requires : tie.Need-by-rows-requires
 by-rows-requires c κs =

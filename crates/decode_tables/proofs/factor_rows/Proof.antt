@@ -36,8 +36,17 @@ part-rows-end c = search needs
 
 factor-rows-in-requires : tie.Need-factor-rows-in-requires
 factor-rows-in-requires c κs =
-    let g = (start-from-after-factor-rows-in-arg c) in
-    (g .pre .0, g .pre .1, g .pre .2, g .pre .3, g .pre .4, g .pre .5, simp (length-take, length-drop) (omega (arith, start-from-after-factor-rows-in-arg c .pre)), simp (length-take, length-drop) (omega (arith, start-from-after-factor-rows-in-arg c .pre)), g .pre .6)
+    let g = (start-from-after-factor-rows-in-arg c) in (
+      g .pre .0,
+      g .pre .1,
+      g .pre .2,
+      g .pre .3,
+      g .pre .4,
+      g .pre .5,
+      simp (length-take, length-drop) (omega (arith, g .pre)),
+      simp (length-take, length-drop) (omega (arith, g .pre)),
+      g .pre .6,
+    )
 
 same-length : tie.Need-same-length
 same-length c = c .before .out .given

@@ -100,12 +100,25 @@ part-factors-in-end c = omega (arith, end (c .before .before .before))
 
 factors-in-requires : tie.Need-factors-in-requires Inv-loop μ-loop
 factors-in-requires c κs =
+    let more = in-loop-from-after-factors-in-arg3 c .loop-test .taken in
+    let holds = in-loop-from-after-factors-in-arg3 c .before .loop .inv in
     let g = (start-from-after-factors-in-arg3 c) in
-    let e = end (in-loop-from-after-factors-in-arg3 c) in
-    (g .pre .0, g .pre .1, g .pre .2, g .pre .3, known (in-loop-from-after-factors-in-arg3 c), omega (arith, e, in-loop-from-after-factors-in-arg3 c .before .loop .inv, in-loop-from-after-factors-in-arg3 c .loop-test .taken, start-from-after-factors-in-arg3 c .pre), omega (arith, e, in-loop-from-after-factors-in-arg3 c .before .loop .inv, in-loop-from-after-factors-in-arg3 c .loop-test .taken, start-from-after-factors-in-arg3 c .pre), simp (length-take, length-drop) (omega (arith, e, in-loop-from-after-factors-in-arg3 c .before .loop .inv, in-loop-from-after-factors-in-arg3 c .loop-test .taken, start-from-after-factors-in-arg3 c .pre)))
+    let e = end (in-loop-from-after-factors-in-arg3 c) in (
+      g .pre .0,
+      g .pre .1,
+      g .pre .2,
+      g .pre .3,
+      known (in-loop-from-after-factors-in-arg3 c),
+      omega (arith, e, holds, more, g .pre),
+      omega (arith, e, holds, more, g .pre),
+      simp (length-take, length-drop) (omega (arith, e, holds, more, g .pre)),
+    )
 
 add-t : tie.Need-add-t Inv-loop μ-loop
-add-t c = omega (arith, at-loop-from-after-slice-known6 c .loop .inv, in-loop-from-after-factors-in-arg3 (after-factors-in-from-after-slice-known6 c .before) .loop-test .taken, start-from-after-slice-known6 c .pre)
+add-t c =
+    let holds = at-loop-from-after-slice-known6 c .loop .inv in
+    let more = in-loop-from-after-factors-in-arg3 (after-factors-in-from-after-slice-known6 c .before) .loop-test .taken in
+    omega (arith, holds, more, start-from-after-slice-known6 c .pre)
 
 loop-less : tie.Need-loop-less Inv-loop μ-loop
 loop-less c = omega (arith, in-loop-from-after-factors-in-arg3 (after-factors-in-from-after-slice-known6 c .before) .loop-test .taken)

@@ -75,7 +75,11 @@ part-fill-multiples-end-2 : tie.Need-part-fill-multiples-end-2 Inv-loop μ-loop
 part-fill-multiples-end-2 c = search needs
 
 fill-multiples-requires : tie.Need-fill-multiples-requires Inv-loop μ-loop
-fill-multiples-requires c κs = simp (length-take, length-drop) (omega (arith, turn-at-fill-multiples-arg2 c .before .loop .inv, turn-at-fill-multiples-arg2 c .loop-test .taken, st-at-loop (turn-at-fill-multiples-arg2 c .before) .pre))
+fill-multiples-requires c κs =
+    let more = turn-at-fill-multiples-arg2 c .loop-test .taken in
+    let holds = turn-at-fill-multiples-arg2 c .before .loop .inv in
+    let asked = st-at-loop (turn-at-fill-multiples-arg2 c .before) .pre in
+    simp (length-take, length-drop) (omega (arith, holds, more, asked))
 
 add-s : tie.Need-add-s Inv-loop μ-loop
 add-s c = omega (arith, at-loop-from-after-slice-known2 c .loop .inv, turn-at-slice-known2 c .loop-test .taken, start-from-after-slice-known2 c .pre)

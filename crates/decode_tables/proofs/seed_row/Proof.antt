@@ -1,24 +1,35 @@
 -- `decode_tables::seed_row` meets its contract.
 -- Assumes nothing.
-use mathlib.Core.Path.{ap, _∙_}
-use Prim.Native.Nat.{ℕ}
+use mathlib.Core.Path.{sym, ap, _∙_}
+use Prim.Native.Nat.{ℕ, _-_}
+use native.Mathlib.Nat.{sub-zero}
 use native.Mathlib.Omega.{arith}
 use borrow.Author.Needs.{needs}
 use lib.ListN.{length, length-take, length-drop}
+use lib.Seq.{length-take-le}
 use Rattle.lists.specs.Lists.{tabulate}
 use Rattle.decode_tables.proofs.Made.{seed-row-made}
 use Rattle.decode_tables.proofs.seed_row.Statement.{statement}
 use Rattle.decode_tables.proofs.seed_row.Tie as tie
 
 -- places in the code
+abbrev fill-seeds-at-interpolate-arg : tie.After-interpolate-arg → tie.After-fill-seeds
+fill-seeds-at-interpolate-arg c = c .before .before .before
+
+abbrev row-at-fill-seeds : tie.After-fill-seeds → tie.After-row
+row-at-fill-seeds c = c .before .before .before
+
+abbrev st-at-clear : tie.After-clear → tie.Start
+st-at-clear c = c .before .before .before .before .before
+
 abbrev after-fill-seeds-from-after-slice-known4 : tie.After-slice-known4 → tie.After-fill-seeds
-after-fill-seeds-from-after-slice-known4 c = c .before .before .before .before .before .before
+after-fill-seeds-from-after-slice-known4 c = fill-seeds-at-interpolate-arg (c .before .before .before)
 
 abbrev after-clear-from-after-slice-known4 : tie.After-slice-known4 → tie.After-clear
-after-clear-from-after-slice-known4 c = after-fill-seeds-from-after-slice-known4 c .before .before .before .before
+after-clear-from-after-slice-known4 c = row-at-fill-seeds (after-fill-seeds-from-after-slice-known4 c) .before
 
 abbrev start-from-after-slice-known4 : tie.After-slice-known4 → tie.Start
-start-from-after-slice-known4 c = after-clear-from-after-slice-known4 c .before .before .before .before .before
+start-from-after-slice-known4 c = st-at-clear (after-clear-from-after-slice-known4 c)
 
 clear-requires : tie.Need-clear-requires
 clear-requires c κs = search needs
@@ -45,7 +56,13 @@ part-interpolate-end : tie.Need-part-interpolate-end
 part-interpolate-end c = search needs
 
 interpolate-requires : tie.Need-interpolate-requires
-interpolate-requires c κs = search needs
+interpolate-requires c κs =
+    let r = row-at-fill-seeds (fill-seeds-at-interpolate-arg c) in
+    let a = st-at-clear (r .before) .args in
+    let p = st-at-clear (r .before) .pre in (
+      p .0,
+      sym (length-take-le (length (a .xs .now) - 0) _ (omega (arith, c .before .before .row2 .given .1, r .row .given, p .1, p .2)) ∙ sub-zero (length (a .xs .now))),
+    )
 
 same-length : tie.Need-same-length
 same-length c = search needs

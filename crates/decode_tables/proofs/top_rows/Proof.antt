@@ -66,8 +66,9 @@ part-column-end c = search needs
 
 column-requires : tie.Need-column-requires Inv-loop μ-loop
 column-requires c κs =
+    let asked = st-at-column-arg c .pre in
     let e = long (c .before) in
-    (omega (arith, e, st-at-column-arg c .pre), omega (arith, e, st-at-column-arg c .pre), omega (arith, e, st-at-column-arg c .pre), omega (arith, e, st-at-column-arg c .pre))
+    (omega (arith, e, asked), omega (arith, e, asked), omega (arith, e, asked), omega (arith, e, asked))
 
 add-i : tie.Need-add-i Inv-loop μ-loop
 add-i c = search needs

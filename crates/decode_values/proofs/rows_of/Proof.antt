@@ -140,7 +140,7 @@ loop-again c =
     let a = g .args in
     let l = (at-loop-from-after-slice-known4 c) .loop in
     let from : ℕ = getD (a .starts .now) (l .t) 0 + a .at in
-    let e : from + (a .w + (a .d - 1)) - from ≡ a .w + (a .d - 1) = omega (arith, l .inv, more, g .pre) in
+    let e : from + (a .w + (a .d - 1)) - from ≡ a .w + (a .d - 1) = omega arith in
     let v = (after-board-rows-from-after-slice-known4 c) .board-rows .ensures in (
       join-loop (λ t. fRow (a .w) (take (a .w + (a .d - 1)) (drop (getD (a .starts .now) t 0 + a .at) (a .bytes .now)))) 32 (l .t) (a .fs .now) (l .fs) _
           (λ i h. length-fit 32 (take (a .w) (take (a .w + (a .d - 1)) (drop (getD (a .starts .now) i 0 + a .at) (a .bytes .now)))))
@@ -148,9 +148,9 @@ loop-again c =
       join-loop (λ t. gRow (a .w) (take (a .w + (a .d - 1)) (drop (getD (a .starts .now) t 0 + a .at) (a .bytes .now)))) 32 (l .t) (a .gs .now) (l .gs) _
           (λ i h. let q : List ℕ = take (a .w + (a .d - 1)) (drop (getD (a .starts .now) i 0 + a .at) (a .bytes .now)) in length-fit 32 (take 1 q ++ drop (a .w) q))
           (v .1 ∙ ap (λ (m : ℕ). gRow (a .w) (take m (drop from (a .bytes .now)))) e) (l .inv .1),
-      omega (arith, l .inv, more, g .pre),
-      omega (arith, g .pre),
-      omega (arith, g .pre),
+      omega (arith, more),
+      c .before .before .before .fs .given .1 ∙ l .inv .3,
+      c .before .gs .given .1 ∙ l .inv .4,
     )
 
 same-length : tie.Need-same-length Inv-loop μ-loop
@@ -163,10 +163,11 @@ returns : tie.Need-returns Inv-loop μ-loop
 returns c =
     let g = (start-from-after-loop c) in
     let a = g .args in
-    let l = (c .before) .loop in (
-      join-end (λ t. fRow (a .w) (take (a .w + (a .d - 1)) (drop (getD (a .starts .now) t 0 + a .at) (a .bytes .now)))) 32 (l .t) (length (a .starts .now)) (a .fs .now) (l .fs) (omega (arith, c .before .loop .inv, c .loop-test .left))
+    let l = c .before .loop in
+    let k : l .t ≡ length (a .starts .now) = omega (arith, l .inv .2, c .loop-test .left) in (
+      join-end (λ t. fRow (a .w) (take (a .w + (a .d - 1)) (drop (getD (a .starts .now) t 0 + a .at) (a .bytes .now)))) 32 (l .t) (length (a .starts .now)) (a .fs .now) (l .fs) k
           (g .pre .6) (l .inv .0),
-      join-end (λ t. gRow (a .w) (take (a .w + (a .d - 1)) (drop (getD (a .starts .now) t 0 + a .at) (a .bytes .now)))) 32 (l .t) (length (a .starts .now)) (a .gs .now) (l .gs) (omega (arith, c .before .loop .inv, c .loop-test .left))
+      join-end (λ t. gRow (a .w) (take (a .w + (a .d - 1)) (drop (getD (a .starts .now) t 0 + a .at) (a .bytes .now)))) 32 (l .t) (length (a .starts .now)) (a .gs .now) (l .gs) k
           (g .pre .7) (l .inv .1),
     )
 

@@ -96,7 +96,8 @@ loop-again c =
     let a = g .args in
     let e = end (turn-at-dot c) in
     let l = (at-loop-from-after-dot c) .loop in (
-      fill-loop _ (a .out .now) (l .out) (l .t) _ (omega (arith, e, more)) (top-made (a .m) (l .t * a .d) (a .row .now) (a .va .now) _ (g .pre .1) (g .pre .2) (omega (arith, e, more)) (c .dot .ensures)) (l .inv .0),
+      fill-loop _ (a .out .now) (l .out) (l .t) _ (omega (arith, e, more))
+          (top-made (a .m) (l .t * a .d) (a .row .now) (a .va .now) _ (g .pre .1) (g .pre .2) (omega (arith, e, more)) (c .dot .ensures)) (l .inv .0),
       omega (arith, e, more),
       length-set (l .out) (l .t) _ ∙ l .inv .2,
     )

@@ -164,7 +164,7 @@ loop-again c =
           (rest-part (l .t * ((a .n - a .c) * 32)) (a .factors .now)) (part-piece 32 (l .t) (a .rows .now)))
           (l .inv .0),
       omega (arith, more),
-      omega (arith, l .inv, more, g .pre),
+      c .before .out .given .1 ∙ l .inv .2,
     )
 
 same-length : tie.Need-same-length Inv-loop μ-loop

@@ -84,6 +84,9 @@ returns c =
     ∙ ap (upTo (z .n) (α z) (a .part) (a .at) (keptBy z (a .values .now)) (λ i. length-keptOf z _ _ i ∙ α-parts z (facts s)) (s .pre .2) (a .boards .now) (a .area .now)
     (s .pre .4) (s .pre .5) (s .pre .6)) e
 
+abbrev loop-at-shared-slice-known3 : tie.After-shared-slice-known3 Inv-loop μ-loop → tie.At-loop Inv-loop μ-loop
+loop-at-shared-slice-known3 c = c .before .before
+
 pub add-boards-spec : {M : Type 1} → statement M
 add-boards-spec =
     tie.close
@@ -97,11 +100,11 @@ add-boards-spec =
     (λ c. search needs)
     (λ c. c .before .loop-test .taken)
     (λ c. omega (arith, ends (c .before)))
-    (λ c. omega (arith, ends (c .before), st (c .before .before) .pre .2))
-    (λ c. omega (arith, ends (c .before), st (c .before .before) .pre .2))
+    (λ c. omega (arith, ends (c .before), st (loop-at-shared-slice-known3 c) .pre .2))
+    (λ c. omega (arith, ends (c .before), st (loop-at-shared-slice-known3 c) .pre .2))
     (λ c. search needs)
     (λ c. search needs)
-    (λ c. omega (arith, ends (c .before), st (c .before .before) .pre .2, st (c .before .before) .pre .6, c .before .before .loop .inv .2))
+    (λ c. omega (arith, ends (c .before), st (loop-at-shared-slice-known3 c) .pre .2, st (loop-at-shared-slice-known3 c) .pre .6, loop-at-shared-slice-known3 c .loop .inv .2))
     add-kept-requires
     (λ c. search needs)
     (λ c. search needs)

@@ -16,11 +16,17 @@ use Rattle.edit_put.proofs.add_kept.Statement.{statement}
 use Rattle.edit_put.proofs.add_kept.Tie as tie
 
 -- places in the code
+abbrev st-at-slice-known : tie.After-slice-known → tie.Start
+st-at-slice-known c = c .before .before
+
 abbrev st : tie.After-keep → tie.Start
-st c = c .before .before .before .before
+st c = st-at-slice-known (c .before .before)
+
+abbrev keep-at-kept3 : tie.After-kept3 → tie.After-keep
+keep-at-kept3 c = c .before .before
 
 abbrev keep-at-end : tie.After-slice-known2 → tie.After-keep
-keep-at-end c = c .before .before .before .before .before .before .before
+keep-at-end c = keep-at-kept3 (c .before .before .before .before .before)
 
 -- how long a stripe's share is
 wide : (c : tie.Start) → (length (c .args .out .now) ≤ 64) × (length (c .args .out .now) ≡ α (c .args .sizes))
@@ -36,12 +42,12 @@ add-kept-spec =
     (tie.spec
     (λ c. search needs)
     (λ c. search needs)
-    (λ c. omega (arith, wide (c .before .before)))
-    (λ c κs. let s = c .before .before .before in (s .pre .0, s .pre .1, s .pre .2, first-long (length (s .args .out .now)) _ (wide s .0) ∙ s .pre .3))
+    (λ c. omega (arith, wide (st-at-slice-known c)))
+    (λ c κs. let s = st-at-slice-known (c .before) in (s .pre .0, s .pre .1, s .pre .2, first-long (length (s .args .out .now)) _ (wide s .0) ∙ s .pre .3))
     (λ c. search needs)
     (λ c. search needs)
-    (λ c. simp length-append (omega (arith, wide (st (c .before .before)), kept-long (c .before .before))))
-    (λ c κs. let k = c .before .before .before .before in back-long (length (st k .args .out .now)) _ (k .keep .last .1 .1 .1 .0) (kept-long k))
+    (λ c. simp length-append (omega (arith, wide (st (keep-at-kept3 c)), kept-long (keep-at-kept3 c))))
+    (λ c κs. let k = keep-at-kept3 (c .before .before) in back-long (length (st k .args .out .now)) _ (k .keep .last .1 .1 .1 .0) (kept-long k))
     (λ c. search needs)
     (λ c.
     let k = keep-at-end c in

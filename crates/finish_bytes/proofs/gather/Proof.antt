@@ -35,11 +35,15 @@ exchanged-requires c κs = search needs
 same-length : tie.Need-same-length
 same-length c = search needs
 
+-- the places
+abbrev received-at-slice-known3 : tie.After-slice-known3 → tie.After-received
+received-at-slice-known3 c = c .before .before .before .before .before .before
+
 returns : tie.Need-returns
 returns c =
-    let g = c .before .before .before .before .before .before .before .before .before .before .before in
+    let g = received-at-slice-known3 c .before .before .before .before .before in
     let a = g .args in
-    gather-made (a .sizes) (a .stripes) (a .s) (a .packets .now) (a .exchanges .now) (a .f .now) _ _ (g .pre .0) (g .pre .5) (c .before .before .before .before .before .before .received .ensures)
+    gather-made (a .sizes) (a .stripes) (a .s) (a .packets .now) (a .exchanges .now) (a .f .now) _ _ (g .pre .0) (g .pre .5) (received-at-slice-known3 c .received .ensures)
     (c .before .before .exchanged .ensures)
 
 pub gather-spec : {M : Type 1} → statement M

@@ -2,7 +2,10 @@
 -- Assumes nothing.
 use mathlib.Core.Path.{_≡_, _∙_}
 use mathlib.Core.Bool.{true}
+use Prim.Native.Nat.{_*_, _-_}
+use native.Mathlib.Nat.{sub-zero}
 use lib.ListN.{length, take, drop, length-take, length-drop}
+use lib.Seq.{length-take-le}
 use Rattle.lists.specs.Tests.{below}
 use Rattle.finish_rows.proofs.Finished.{all-below-32, rows-made}
 use borrow.Author.Needs.{needs}
@@ -11,6 +14,12 @@ use Rattle.finish_rows.proofs.board_rows.Statement.{statement}
 use Rattle.finish_rows.proofs.board_rows.Tie as tie
 
 -- the places
+abbrev st-at-all-boards : tie.After-all-boards → tie.Start
+st-at-all-boards c = c .before .before .before .before .before .before .before .before
+
+abbrev st-at-lagrange-rows-arg : tie.After-lagrange-rows-arg → tie.Start
+st-at-lagrange-rows-arg c = st-at-all-boards (c .before .before .before)
+
 abbrev rows-at-lagrange-rows-arg3 : tie.After-lagrange-rows-arg3 → tie.After-rows
 rows-at-lagrange-rows-arg3 c = c .before .before .before
 
@@ -21,7 +30,7 @@ abbrev all-boards-at-lagrange-rows-arg3 : tie.After-lagrange-rows-arg3 → tie.A
 all-boards-at-lagrange-rows-arg3 c = all-at-lagrange-rows-arg3 c .before
 
 abbrev st-at-lagrange-rows-arg3 : tie.After-lagrange-rows-arg3 → tie.Start
-st-at-lagrange-rows-arg3 c = all-boards-at-lagrange-rows-arg3 c .before .before .before .before .before .before .before .before
+st-at-lagrange-rows-arg3 c = st-at-all-boards (all-boards-at-lagrange-rows-arg3 c)
 
 abbrev lagrange-rows-arg3-at-slice-known5 : tie.After-slice-known5 → tie.After-lagrange-rows-arg3
 lagrange-rows-arg3-at-slice-known5 c = c .before .before .before
@@ -38,6 +47,12 @@ all-at-slice-known5 c = all-at-lagrange-rows-arg3 (lagrange-rows-arg3-at-slice-k
 abbrev lagrange-rows-at-slice-known5 : tie.After-slice-known5 → tie.After-lagrange-rows
 lagrange-rows-at-slice-known5 c = rows-at-lagrange-rows-arg3 (lagrange-rows-arg3-at-slice-known5 c) .before
 
+lagrange-rows-requires : tie.Need-lagrange-rows-requires
+lagrange-rows-requires c κs =
+    let p = st-at-lagrange-rows-arg c .pre in
+    let m = length (st-at-lagrange-rows-arg c .args .helpers .now) * 32 in
+    (p .0, p .1, p .2, omega (arith, p .5, p .6), length-take-le (m - 0) _ (omega (arith, p .7)) ∙ sub-zero m)
+
 lagrange-rows-requires-2 : tie.Need-lagrange-rows-requires-2
 lagrange-rows-requires-2 c κs =
     let a = st-at-lagrange-rows-arg3 c .args in
@@ -48,15 +63,15 @@ lagrange-rows-requires-2 c κs =
       p .0,
       p .1,
       rw e (all-below-32 (a .helpers .now) (a .partners .now) (a .i) (p .2) (p .3) (p .4)),
-      omega (arith, p),
-      simp (length-take, length-drop) (omega (arith, p)),
+      omega (arith, k, p .6),
+      simp (length-take, length-drop) (omega (arith, k, l, p .7)),
     )
 
 returns : tie.Need-returns
 returns c =
     let a = st-at-slice-known5 c .args in
     rows-made (a .points .now) (a .helpers .now) (a .partners .now) (a .rows .now) _ _ _ (a .i) (all-boards-at-slice-known5 c .all-boards .ensures)
-    (omega (arith, all-at-slice-known5 c .all .given, st-at-slice-known5 c .pre))
+    (omega (arith, all-at-slice-known5 c .all .given, st-at-slice-known5 c .pre .7))
     (lagrange-rows-at-slice-known5 c .lagrange-rows .ensures) (c .before .before .lagrange-rows2 .ensures)
 
 pub board-rows-spec : {M : Type 1} → statement M
@@ -68,7 +83,7 @@ board-rows-spec =
     (λ c. search needs)
     (λ c. search needs)
     (λ c. search needs)
-    (λ c κs. search needs)
+    lagrange-rows-requires
     (λ c. omega arith)
     (λ c. search needs)
     (λ c. search needs)

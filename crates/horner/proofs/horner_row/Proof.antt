@@ -20,8 +20,11 @@ abbrev μ-loop : tie.MeasureT-loop
 μ-loop x row acc₀ m n j₀ acc j = n - j
 
 -- places in the code
+abbrev loop-at-times : tie.After-times Inv-loop μ-loop → tie.At-loop Inv-loop μ-loop
+loop-at-times c = c .before .before .before .before
+
 abbrev multiples-of : tie.After-times Inv-loop μ-loop → tie.After-multiples-of Inv-loop μ-loop
-multiples-of c = c .before .before .before .before .before
+multiples-of c = loop-at-times c .before
 
 abbrev st : tie.After-times Inv-loop μ-loop → tie.Start Inv-loop μ-loop
 st c = (multiples-of c) .before .before .before
@@ -55,7 +58,7 @@ loop-less c = search needs
 
 loop-again : tie.Need-loop-again Inv-loop μ-loop
 loop-again c =
-    let l = c .before .before .before .before .loop in
+    let l = loop-at-times c .loop in
     let a = (st c) .args in
     let m = (multiples-of c) .multiples-of in (
       row-turn (a .x) _ (a .row .now) (l .acc) _ (l .j) _ (omega arith) (omega arith) (m .ensures .0) (c .times .ensures) (l .inv .0),

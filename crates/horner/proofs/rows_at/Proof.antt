@@ -21,11 +21,14 @@ abbrev μ-loop : tie.MeasureT-loop
 abbrev at-loop : tie.After-slice-known2 Inv-loop μ-loop → tie.At-loop Inv-loop μ-loop
 at-loop c = c .before .before .before .before .before .before
 
+abbrev st-at-slice-known : tie.After-slice-known Inv-loop μ-loop → tie.Start Inv-loop μ-loop
+st-at-slice-known c = c .before .before
+
 abbrev st : tie.After-slice-known2 Inv-loop μ-loop → tie.Start Inv-loop μ-loop
-st c = (at-loop c) .before .before .before
+st c = st-at-slice-known (at-loop c .before)
 
 loop-holds : tie.Need-loop-holds Inv-loop μ-loop
-loop-holds c = let s = c .before .before in (s .pre .2 ∙ values-none (s .args .rows .now) (s .args .x) (s .args .d), omega arith, ap length (s .pre .2))
+loop-holds c = let s = st-at-slice-known c in (s .pre .2 ∙ values-none (s .args .rows .now) (s .args .x) (s .args .d), omega arith, ap length (s .pre .2))
 
 sub-i : tie.Need-sub-i Inv-loop μ-loop
 sub-i c = search needs
@@ -67,7 +70,7 @@ same-length c = search needs
 returns : tie.Need-returns Inv-loop μ-loop
 returns c =
     let l = c .before .loop in
-    let a = c .before .before .before .before .args in
+    let a = st-at-slice-known (c .before .before) .args in
     let e : l .i ≡ 0 = omega arith in
     l .inv .0 ∙ ap (valuesFrom (a .rows .now) (a .x) (a .d)) e
 

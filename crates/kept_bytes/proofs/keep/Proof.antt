@@ -77,11 +77,12 @@ part-turned-end-2 c = let f = legal-facts _ ((st-2 c) .pre .0) in omega arith
 
 turned-requires : tie.Need-turned-requires
 turned-requires c κs =
-    let f = legal-facts _ ((st-3 c) .pre .0) in
-    let a = (st-3 c) .args in (
-      omega (arith, c .before .next .ensures, mod-lt (a .i + 1) {m = a .sizes .n} (omega arith)),
+    let p = st-3 c .pre in
+    let f = legal-facts _ (p .0) in
+    let a = st-3 c .args in (
+      omega (arith, c .before .next .ensures, mod-lt (a .i + 1) {m = a .sizes .n} (omega (arith, f .some-fresh, f .enough))),
       f .few,
-      omega (arith, row-long (a .rows .now) (a .i) (omega arith)),
+      omega (arith, row-long (a .rows .now) (a .i) (omega (arith, p .1, p .2)), f .few),
     )
 
 same-length : tie.Need-same-length
@@ -95,8 +96,8 @@ returns c =
     let f = legal-facts _ (s .pre .0) in
     let row : ℕ → ℕ = λ b. getD (a .rows .now) (a .i * 32 + b) 0 in
     let part : List ℕ = take (a .i * 32 + 32 - a .i * 32) (drop (a .i * 32) (a .rows .now)) in
-    parts-kept z (λ b. getD (a .rows .now) (b * 32 + a .i) 0) row (λ b. getD part b 0) (a .i) _ (a .out .now) _ _ (omega arith)
-    (λ b h. row-of (a .rows .now) (a .i) b (omega arith)) (omega arith) (next-at-slice-known3 c .next .ensures)
+    parts-kept z (λ b. getD (a .rows .now) (b * 32 + a .i) 0) row (λ b. getD part b 0) (a .i) _ (a .out .now) _ _ (omega (arith, f .some-fresh, f .enough))
+    (λ b h. row-of (a .rows .now) (a .i) b (omega (arith, h, f .few))) (omega (arith, s .pre .3, f .some-read, f .read-helpers)) (next-at-slice-known3 c .next .ensures)
     ((turned-column c) .turned-column .ensures) (c .before .before .turned .ensures)
 
 pub keep-spec : {M : Type 1} → statement M

@@ -49,7 +49,7 @@ part-turned-end : tie.Need-part-turned-end
 part-turned-end c = let f = legal-facts _ (st-at-struct-known c .pre .0) in omega arith
 
 turned-requires : tie.Need-turned-requires
-turned-requires c κs = let f = legal-facts _ ((st c) .pre .0) in search needs
+turned-requires c κs = let p = st c .pre in (p .1, legal-facts _ (p .0) .few, p .2)
 
 next-requires : tie.Need-next-requires
 next-requires c κs = let f = legal-facts _ ((st-2 c) .pre .0) in search needs
@@ -65,9 +65,10 @@ part-turned-end-2 c = let f = legal-facts _ ((st-3 c) .pre .0) in omega arith
 
 turned-requires-2 : tie.Need-turned-requires-2
 turned-requires-2 c κs =
-    let f = legal-facts _ ((st-4 c) .pre .0) in
-    let a = (st-4 c) .args in
-    (omega (arith, c .before .next .ensures, mod-lt (a .i + 1) {m = a .sizes .n} (omega arith)), f .few, search needs)
+    let p = st-4 c .pre in
+    let f = legal-facts _ (p .0) in
+    let a = st-4 c .args in
+    (omega (arith, c .before .next .ensures, mod-lt (a .i + 1) {m = a .sizes .n} (omega (arith, f .some-fresh, f .enough))), f .few, p .3)
 
 same-length : tie.Need-same-length
 same-length c = search needs
@@ -78,8 +79,8 @@ returns c =
     let a = s .args in
     let z = a .sizes in
     let f = legal-facts _ (s .pre .0) in
-    parts-kept z (λ b. getD (a .f .now) b 0) (λ b. getD (a .g .now) b 0) (λ b. getD (a .g .now) b 0) (a .i) _ (a .out .now) _ _ (omega arith) (λ b h. refl) (omega arith)
-    (next-at-slice-known3 c .next .ensures)
+    parts-kept z (λ b. getD (a .f .now) b 0) (λ b. getD (a .g .now) b 0) (λ b. getD (a .g .now) b 0) (a .i) _ (a .out .now) _ _ (omega (arith, f .some-fresh, f .enough)) (λ b h. refl)
+    (omega (arith, s .pre .4, f .some-read, f .read-helpers)) (next-at-slice-known3 c .next .ensures)
     ((turned c) .turned .ensures) (c .before .before .turned2 .ensures)
 
 pub keep-rows-spec : {M : Type 1} → statement M

@@ -12,11 +12,14 @@ use Rattle.kept_rows.proofs.board_rows.Statement.{statement}
 use Rattle.kept_rows.proofs.board_rows.Tie as tie
 
 -- places in the code
-abbrev start-from-after-slice-known4 : tie.After-slice-known4 → tie.Start
-start-from-after-slice-known4 c = c .before .before .before .before .before .before .before .before .before .before .before .before .before .before
+abbrev padded2-at-slice-known4 : tie.After-slice-known4 → tie.After-padded2
+padded2-at-slice-known4 c = c .before .before
 
 abbrev after-padded-from-after-slice-known4 : tie.After-slice-known4 → tie.After-padded
-after-padded-from-after-slice-known4 c = c .before .before .before .before .before .before .before .before
+after-padded-from-after-slice-known4 c = padded2-at-slice-known4 c .before .before .before .before .before .before
+
+abbrev start-from-after-slice-known4 : tie.After-slice-known4 → tie.Start
+start-from-after-slice-known4 c = after-padded-from-after-slice-known4 c .before .before .before .before .before .before
 
 sub-padded : tie.Need-sub-padded
 sub-padded c = search needs
@@ -64,7 +67,7 @@ same-length-2 : tie.Need-same-length-2
 same-length-2 c =
     let a = (start-from-after-slice-known4 c) .args in
     ap length (g-made (a .w) (a .d) (a .held .now) (a .g .now) _ ((start-from-after-slice-known4 c) .pre .6) ((start-from-after-slice-known4 c) .pre .2)
-    ((start-from-after-slice-known4 c) .pre .4) ((c .before .before) .padded2 .ensures)) ∙ length-fit 32 (take 1 (a .held .now) ++ drop (a .w) (a .held .now)) ∙ sym
+    ((start-from-after-slice-known4 c) .pre .4) ((padded2-at-slice-known4 c) .padded2 .ensures)) ∙ length-fit 32 (take 1 (a .held .now) ++ drop (a .w) (a .held .now)) ∙ sym
     ((start-from-after-slice-known4 c) .pre .6)
 
 returns : tie.Need-returns
@@ -72,7 +75,7 @@ returns c =
     let a = (start-from-after-slice-known4 c) .args in (
       f-made (a .w) (a .held .now) (a .f .now) _ ((start-from-after-slice-known4 c) .pre .5) ((after-padded-from-after-slice-known4 c) .padded .ensures),
       g-made (a .w) (a .d) (a .held .now) (a .g .now) _ ((start-from-after-slice-known4 c) .pre .6) ((start-from-after-slice-known4 c) .pre .2) ((start-from-after-slice-known4 c) .pre .4)
-          ((c .before .before) .padded2 .ensures),
+          ((padded2-at-slice-known4 c) .padded2 .ensures),
     )
 
 pub board-rows-spec : {M : Type 1} → statement M

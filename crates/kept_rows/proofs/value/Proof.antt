@@ -17,14 +17,20 @@ use Rattle.kept_rows.proofs.value.Statement.{statement}
 use Rattle.kept_rows.proofs.value.Tie as tie
 
 -- places in the code
+abbrev st-at-shared-slice-known2 : tie.After-shared-slice-known2 → tie.Start
+st-at-shared-slice-known2 c = c .before .before
+
 abbrev start-from-after-shared-slice-known3 : tie.After-shared-slice-known3 → tie.Start
-start-from-after-shared-slice-known3 c = c .before .before .before .before
+start-from-after-shared-slice-known3 c = st-at-shared-slice-known2 (c .before .before)
+
+abbrev else1-at-dot : tie.After-dot → tie.Else1
+else1-at-dot c = c .before .before
 
 abbrev start-from-after-dot : tie.After-dot → tie.Start
-start-from-after-dot c = c .before .before .before .before .before
+start-from-after-dot c = st-at-shared-slice-known2 (else1-at-dot c .before)
 
 -- where the factors end
-end : (c : tie.Else1) → let a = (c .before .before .before) .args in (a .o - a .c) * 32 + 32 ≤ (a .n - a .c) * 32
+end : (c : tie.Else1) → let a = (st-at-shared-slice-known2 (c .before)) .args in (a .o - a .c) * 32 + 32 ≤ (a .n - a .c) * 32
 end c = row-fits _ _ 32 (omega arith)
 
 shared-slice-read-result : tie.Need-shared-slice-read-result
@@ -59,9 +65,9 @@ returns-2 : tie.Need-returns-2
 unfolding valueBy
 returns-2 c =
     let a = (start-from-after-dot c) .args in
-    dot-made (a .c) (a .o) (a .m) ((a .o - a .c) * 32) (a .factors .now) (a .row .now) _ refl (omega (arith, end (c .before .before))) (c .dot .ensures)
+    dot-made (a .c) (a .o) (a .m) ((a .o - a .c) * 32) (a .factors .now) (a .row .now) _ refl (omega (arith, end (else1-at-dot c))) (c .dot .ensures)
     ∙ sym (ap (λ (t : Bool). pick t (getD (a .row .now) (a .o) 0) (sum (a .m) (λ j. mul (cell (a .factors .now) (a .o - a .c) j) (getD (a .row .now) j 0))))
-    (le-ltb (a .o) (a .c) ((c .before .before) .if1 .left)))
+    (le-ltb (a .o) (a .c) ((else1-at-dot c) .if1 .left)))
 
 pub value-spec : {M : Type 1} → statement M
 value-spec =

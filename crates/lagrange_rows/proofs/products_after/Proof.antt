@@ -75,26 +75,28 @@ loop-holds c =
 divide-requires : tie.Need-divide-requires Inv-loop μ-loop
 divide-requires c κs =
     let l = turn-at-divide-arg c .before .loop in
-    let part : length (take ((l .t - 1) * 32 + 32 - (l .t - 1) * 32) (drop ((l .t - 1) * 32) (l .rows))) ≡ 32 = simp (length-take, length-drop) (omega (arith, turn-at-divide-arg c .before .loop .inv, turn-at-divide-arg c .loop-test .taken)) in
+    let part : length (take ((l .t - 1) * 32 + 32 - (l .t - 1) * 32) (drop ((l .t - 1) * 32) (l .rows))) ≡ 32 =
+    simp (length-take, length-drop) (omega (arith, l .inv, turn-at-divide-arg c .loop-test .taken)) in
     (st-at-divide-arg c .pre .0, l .inv .4, known (turn-at-divide-arg c), part)
 
 loop-again : tie.Need-loop-again Inv-loop μ-loop
 loop-again c =
+    let more = turn-at-row3 c .loop-test .taken in
     let l = loop-at-row3 c .loop in
     let a = st-at-row3 c .args in
-    let s : suc (l .t - 1) ≡ l .t = omega (arith, loop-at-row3 c .loop .inv, turn-at-row3 c .loop-test .taken) in
+    let s : suc (l .t - 1) ≡ l .t = omega (arith, l .inv, more) in
     let rows = l .inv .0 ∙ ap (left (a .points .now) (a .boards .now) (a .xs .now)) (sym s) in
     let row = l .inv .1 ∙ ap (afterRow (a .points .now) (a .xs .now)) (sym s) in (
-      left-turn (a .points .now) (a .boards .now) (a .xs .now) (l .rows) _ (l .t - 1) (omega (arith, loop-at-row3 c .loop .inv, turn-at-row3 c .loop-test .taken))
-          (row-done (a .points .now) (a .boards .now) (a .xs .now) _ (l .row) _ (l .t - 1) (st-at-row3 c .pre .4) (omega (arith, loop-at-row3 c .loop .inv, turn-at-row3 c .loop-test .taken)) (known (turn-at-row3 c))
-          (left-row (a .points .now) (a .boards .now) (a .xs .now) (l .rows) (l .t - 1) (omega (arith, loop-at-row3 c .loop .inv, turn-at-row3 c .loop-test .taken)) rows) row (divide-at-row3 c .divide .ensures))
+      left-turn (a .points .now) (a .boards .now) (a .xs .now) (l .rows) _ (l .t - 1) (omega (arith, l .inv, more))
+          (row-done (a .points .now) (a .boards .now) (a .xs .now) _ (l .row) _ (l .t - 1) (st-at-row3 c .pre .4) (omega (arith, l .inv, more)) (known (turn-at-row3 c))
+          (left-row (a .points .now) (a .boards .now) (a .xs .now) (l .rows) (l .t - 1) (omega (arith, l .inv, more)) rows) row (divide-at-row3 c .divide .ensures))
           rows,
-      after-turn (a .points .now) (a .xs .now) (l .row) _ (l .t - 1) (omega (arith, loop-at-row3 c .loop .inv, turn-at-row3 c .loop-test .taken)) row (c .before .scale-by-difference .ensures),
-      omega (arith, loop-at-row3 c .loop .inv, turn-at-row3 c .loop-test .taken),
-      omega (arith, turn-at-row3 c .loop-test .taken),
-      omega (arith, turn-at-row3 c .loop-test .taken),
+      after-turn (a .points .now) (a .xs .now) (l .row) _ (l .t - 1) (omega (arith, l .inv, more)) row (c .before .scale-by-difference .ensures),
+      omega (arith, l .inv, more),
+      omega (arith, more),
+      omega (arith, more),
       l .inv .5,
-      omega (arith, turn-at-row3 c .loop-test .taken),
+      omega (arith, more),
     )
 
 returns : tie.Need-returns Inv-loop μ-loop
@@ -124,7 +126,9 @@ products-after-spec =
     divide-requires
     (λ c. omega (arith, turn-at-divide-arg (divide-arg-at-shared-slice-known6 c) .before .loop .inv, turn-at-divide-arg (divide-arg-at-shared-slice-known6 c) .loop-test .taken))
     (λ c. omega (arith, turn-at-divide-arg (divide-arg-at-shared-slice-known6 (c .before)) .before .loop .inv, turn-at-divide-arg (divide-arg-at-shared-slice-known6 (c .before)) .loop-test .taken))
-    (λ c κs. omega (arith, turn-at-divide-arg (divide-arg-at-shared-slice-known6 (c .before)) .before .loop .inv, turn-at-divide-arg (divide-arg-at-shared-slice-known6 (c .before)) .loop-test .taken, st-at-divide-arg (divide-arg-at-shared-slice-known6 (c .before)) .pre))
+    (λ c κs.
+    let t = turn-at-divide-arg (divide-arg-at-shared-slice-known6 (c .before)) in
+    omega (arith, t .before .loop .inv, t .loop-test .taken, st-at-divide-arg (divide-arg-at-shared-slice-known6 (c .before)) .pre))
     (λ c. omega (arith, turn-at-row3 c .loop-test .taken))
     loop-again
     (λ c. c .before .loop .inv .6)

@@ -55,17 +55,18 @@ copy-requires c κs =
 
 loop-again : tie.Need-loop-again Inv-loop μ-loop
 loop-again c =
+    let more = turn-at-copy (copy-at-row3 c) .loop-test .taken in
     let l = loop-at-row3 c .loop in
     let a = st-at-row3 c .args in
-    let n : l .t < length (a .xs .now) = omega (arith, loop-at-row3 c .loop .inv, turn-at-copy (copy-at-row3 c) .loop-test .taken) in
+    let n : l .t < length (a .xs .now) = omega (arith, l .inv, more) in
     let part : List ℕ = take (l .t * 32 + 32 - l .t * 32) (drop (l .t * 32) (l .rows)) in
-    let all : length part ≡ 32 = simp (length-take, length-drop) (omega (arith, loop-at-row3 c .loop .inv, turn-at-copy (copy-at-row3 c) .loop-test .taken)) in (
+    let all : length part ≡ 32 = simp (length-take, length-drop) (omega (arith, l .inv, more)) in (
       join-loop (beforeRow (a .points .now) (a .xs .now)) 32 (l .t) (a .rows .now) (l .rows) _ (λ i h. length-before (a .points .now) (a .xs .now) i)
-          (copy-at-row3 c .copy .ensures ∙ take-all (length part) (l .row) (omega (arith, loop-at-row3 c .loop .inv, turn-at-copy (copy-at-row3 c) .loop-test .taken)) ∙ l .inv .1) (l .inv .0),
+          (copy-at-row3 c .copy .ensures ∙ take-all (length part) (l .row) (omega (arith, l .inv, more)) ∙ l .inv .1) (l .inv .0),
       before-turn (a .points .now) (a .xs .now) (l .row) _ (l .t) n (l .inv .1) (c .before .scale-by-difference .ensures),
-      omega (arith, loop-at-row3 c .loop .inv, turn-at-copy (copy-at-row3 c) .loop-test .taken),
-      omega (arith, turn-at-copy (copy-at-row3 c) .loop-test .taken),
-      omega (arith, turn-at-copy (copy-at-row3 c) .loop-test .taken),
+      omega (arith, l .inv, more),
+      omega (arith, more),
+      omega (arith, more),
     )
 
 returns : tie.Need-returns Inv-loop μ-loop

@@ -28,8 +28,11 @@ st-at-entry c = c .before .before .before
 abbrev st-at-turn : tie.In-loop Inv-loop μ-loop → tie.Start Inv-loop μ-loop
 st-at-turn c = st-at-entry (c .before .before)
 
+abbrev turn-at-put-run-arg2 : tie.After-put-run-arg2 Inv-loop μ-loop → tie.In-loop Inv-loop μ-loop
+turn-at-put-run-arg2 c = c .before .before
+
 abbrev turn-at-put : tie.After-put-run-arg3 Inv-loop μ-loop → tie.In-loop Inv-loop μ-loop
-turn-at-put c = c .before .before .before
+turn-at-put c = turn-at-put-run-arg2 (c .before)
 
 abbrev turn-at-end : tie.After-slice-known2 Inv-loop μ-loop → tie.In-loop Inv-loop μ-loop
 turn-at-end c = turn-at-put (c .before .before .before)
@@ -123,10 +126,10 @@ name-boards-spec =
     (λ c. search needs)
     (λ c. search needs)
     (λ c. omega (arith, ends (c .before), st-at-turn (c .before) .pre .1))
-    (λ c. omega (arith, ends (c .before .before)))
+    (λ c. omega (arith, ends (turn-at-put-run-arg2 c)))
     (λ c. search needs)
     (λ c. search needs)
-    (λ c. omega (arith, ends (c .before .before), st-at-turn (c .before .before) .pre .2, c .before .before .before .loop .inv .2))
+    (λ c. omega (arith, ends (turn-at-put-run-arg2 c), st-at-turn (turn-at-put-run-arg2 c) .pre .2, turn-at-put-run-arg2 c .before .loop .inv .2))
     put-run-requires
     (λ c. search needs)
     (λ c. search needs)

@@ -15,14 +15,14 @@ st-at-copy c = c .before .before .before
 abbrev st-at-second : tie.After-slice-known2 → tie.Start
 st-at-second c = st-at-copy (c .before .before .before .before)
 
-abbrev st-at-end : tie.After-slice-known3 → tie.Start
-st-at-end c = st-at-second (c .before .before .before .before)
-
-abbrev copy-at-end : tie.After-slice-known3 → tie.After-copy-boards
-copy-at-end c = c .before .before .before .before .before .before
-
 abbrev out-at-end : tie.After-slice-known3 → tie.After-out
 out-at-end c = c .before .before .before .before .before
+
+abbrev copy-at-end : tie.After-slice-known3 → tie.After-copy-boards
+copy-at-end c = out-at-end c .before
+
+abbrev st-at-end : tie.After-slice-known3 → tie.Start
+st-at-end c = st-at-copy (copy-at-end c .before .before)
 
 second-requires : tie.Need-copy-boards-requires-2
 second-requires c κs =

@@ -11,8 +11,11 @@ use Rattle.number_lines.proofs.feed.Statement.{statement}
 use Rattle.number_lines.proofs.feed.Tie as tie
 
 -- behind the test for a lone 0, and behind that for other digits
+abbrev st-at-struct-known : tie.After-struct-known → tie.Start
+st-at-struct-known c = c .before .before
+
 abbrev st : tie.After-struct-known2 → tie.Start
-st c = c .before .before .before .before
+st c = st-at-struct-known (c .before .before)
 
 abbrev st-name : tie.Else3 → tie.Start
 st-name c = st (c .before)
@@ -24,8 +27,8 @@ in-number : (c : tie.Else3) → let a = st-name c .args in length (a .name .now)
 in-number c h = let a = st-name c .args in fed-first (a .name .now) (a .most) (a .r) (a .b) (c .before .before .if1 .left) (c .if3 .left) h
 
 -- behind a first 0
-in-lone : (c : tie.Then1) → let a = c .before .before .before .args in fed (a .name .now) (a .most) (a .r) (a .b) ≡ fedLone (a .b)
-in-lone c = let a = c .before .before .before .args in fed-lone (a .name .now) (a .most) (a .r) (a .b) (c .if1 .taken)
+in-lone : (c : tie.Then1) → let a = st-at-struct-known (c .before) .args in fed (a .name .now) (a .most) (a .r) (a .b) ≡ fedLone (a .b)
+in-lone c = let a = st-at-struct-known (c .before) .args in fed-lone (a .name .now) (a .most) (a .r) (a .b) (c .if1 .taken)
 
 returns-3 : tie.Need-returns-3
 returns-3 c =

@@ -9,11 +9,11 @@ use Rattle.own_rows.proofs.own_rows.Statement.{statement}
 use Rattle.own_rows.proofs.own_rows.Tie as tie
 
 -- the places
-abbrev st-at-slice-known4 : tie.After-slice-known4 → tie.Start
-st-at-slice-known4 c = c .before .before .before .before .before .before .before .before .before .before .before .before .before .before
-
 abbrev copy-at-slice-known4 : tie.After-slice-known4 → tie.After-copy
 copy-at-slice-known4 c = c .before .before .before .before .before .before .before .before
+
+abbrev st-at-slice-known4 : tie.After-slice-known4 → tie.Start
+st-at-slice-known4 c = copy-at-slice-known4 c .before .before .before .before .before .before
 
 returns : tie.Need-returns
 returns c =

@@ -29,11 +29,14 @@ fill-multiples c = c .before .before .before .before .before
 abbrev at-loop : tie.After-power3 Inv-loop μ-loop → tie.At-loop Inv-loop μ-loop
 at-loop c = (fill-multiples c) .before .before .before .before
 
+abbrev st-at-slice-known : tie.After-slice-known Inv-loop μ-loop → tie.Start Inv-loop μ-loop
+st-at-slice-known c = c .before .before
+
 abbrev st : tie.After-power3 Inv-loop μ-loop → tie.Start Inv-loop μ-loop
-st c = (at-loop c) .before .before .before
+st c = st-at-slice-known (at-loop c .before)
 
 loop-holds : tie.Need-loop-holds Inv-loop μ-loop
-loop-holds c = let s = c .before .before in (refl, power-start (s .args .points .now) 32 (s .pre .0), omega arith, refl, refl)
+loop-holds c = let s = st-at-slice-known c in (refl, power-start (s .args .points .now) 32 (s .pre .0), omega arith, refl, refl)
 
 mul-at : tie.Need-mul-at Inv-loop μ-loop
 mul-at c = search needs
@@ -87,7 +90,7 @@ same-length c = search needs
 returns : tie.Need-returns Inv-loop μ-loop
 returns c =
     let l = c .before .loop in
-    let s = c .before .before .before .before in
+    let s = st-at-slice-known (c .before .before) in
     let e : l .j ≡ s .args .w = omega arith in
     l .inv .0 ∙ ap (λ (m : ℕ). join m (λ j. multiples (powerRow (s .args .points .now) j)) ++ drop (m * 512) (s .args .tables .now)) e
 

@@ -22,30 +22,33 @@ abbrev μ-loop : tie.MeasureT-loop
 abbrev st : tie.At-loop Inv-loop μ-loop → tie.Start Inv-loop μ-loop
 st c = c .before .before
 
+abbrev turn-at-next-digit : tie.After-next-digit Inv-loop μ-loop → tie.In-loop Inv-loop μ-loop
+turn-at-next-digit c = c .before .before
+
 loop-again : tie.Need-loop-again Inv-loop μ-loop
 loop-again c =
     let f = c .before .before .before in
-    let l = f .before .before .before in
+    let l = turn-at-next-digit f .before in
     let a = st l .args in
-    let m = digits-more (a .text .now) (a .lo) (a .hi) (l .loop .v) (l .loop .i) (f .before .before .loop-test .taken) (c .before .next .given .0 .0)
+    let m = digits-more (a .text .now) (a .lo) (a .hi) (l .loop .v) (l .loop .i) (turn-at-next-digit f .loop-test .taken) (c .before .next .given .0 .0)
     (sym (f .next-digit .ensures) ∙ c .before .next .given .1) in
     (λ go. m .0 go ∙ l .loop .inv .0 go, m .1)
 
 returns : tie.Need-returns Inv-loop μ-loop
 returns c =
     let f = c .before .before in
-    let l = f .before .before .before in
+    let l = turn-at-next-digit f .before in
     let a = st l .args in
-    let m = digits-end (a .text .now) (a .lo) (a .hi) (l .loop .v) (l .loop .i) (f .before .before .loop-test .taken) (sym (f .next-digit .ensures) ∙ c .enum-told .given .1) in
+    let m = digits-end (a .text .now) (a .lo) (a .hi) (l .loop .v) (l .loop .i) (turn-at-next-digit f .loop-test .taken) (sym (f .next-digit .ensures) ∙ c .enum-told .given .1) in
     (λ go. sym (l .loop .inv .0 go) ∙ m .0 go, λ e. (m .1, l .loop .inv .1))
 
 returns-2 : tie.Need-returns-2 Inv-loop μ-loop
 returns-2 c =
     let f = c .before .before .before in
-    let l = f .before .before .before in
+    let l = turn-at-next-digit f .before in
     let a = st l .args in (
       goes-stop (a .text .now) (a .at) _ (c .stopped .result) (l .loop .i) (c .stopped .ensures)
-          (λ go. sym (l .loop .inv .0 go) ∙ digits-stop (a .text .now) (a .lo) (a .hi) (l .loop .v) (l .loop .i) (f .before .before .loop-test .taken)
+          (λ go. sym (l .loop .inv .0 go) ∙ digits-stop (a .text .now) (a .lo) (a .hi) (l .loop .v) (l .loop .i) (turn-at-next-digit f .loop-test .taken)
           (sym (f .next-digit .ensures) ∙ c .before .enum-told2 .given .1) go),
       stopped-range (c .stopped .result) (l .loop .i) (a .lo) (a .hi) (c .stopped .ensures),
     )

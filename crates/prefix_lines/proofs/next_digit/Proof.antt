@@ -14,27 +14,31 @@ returns c = let a = c .before .before .args in rw (eq-eqb (a .b) 0x0A (c .before
 returns-2 : tie.Need-returns-2
 returns-2 c = let a = c .before .before .args in rw (eq-eqb (a .b) 0x0A (c .before .if1 .taken), lt-leb (a .lo) (a .v) (omega arith))
 
+-- the places
+abbrev st-at-is-digit : tie.After-is-digit → tie.Start
+st-at-is-digit c = c .before .before
+
 returns-3 : tie.Need-returns-3
 returns-3 c =
     let k = c .before in
-    let a = k .before .before .args in
+    let a = st-at-is-digit k .args in
     rw (ne-eqb (a .b) 0x0A (k .before .if1 .left), sym (k .is-digit .ensures) ∙ not-true _ (c .if3 .taken))
 
 sub-next : tie.Need-sub-next
-sub-next c = digit-range (c .before .before .before .args .b) (sym (c .before .is-digit .ensures) ∙ not-false _ (c .if3 .left)) .0
+sub-next c = digit-range (st-at-is-digit (c .before) .args .b) (sym (c .before .is-digit .ensures) ∙ not-false _ (c .if3 .left)) .0
 
 returns-4 : tie.Need-returns-4
 returns-4 c =
     let o = c .before in
     let k = o .before .before in
-    let a = k .before .before .args in
+    let a = st-at-is-digit k .args in
     rw (ne-eqb (a .b) 0x0A (k .before .if1 .left), sym (k .is-digit .ensures) ∙ not-false _ (o .before .if3 .left), sym (o .opens .ensures) ∙ c .if4 .taken)
 
 returns-5 : tie.Need-returns-5
 returns-5 c =
     let o = c .before in
     let k = o .before .before in
-    let a = k .before .before .args in
+    let a = st-at-is-digit k .args in
     rw (ne-eqb (a .b) 0x0A (k .before .if1 .left), sym (k .is-digit .ensures) ∙ not-false _ (o .before .if3 .left), sym (o .opens .ensures) ∙ c .if4 .left)
 
 pub next-digit-spec : {M : Type 1} → statement M

@@ -23,7 +23,10 @@ st c = c .before .before .before
 inside : (c : tie.After-shared-slice-known2) → st c .args .at < length (st c .args .text .now)
 inside c = c .before .if1 .left
 
-is-digit : (c : tie.Else4) → digit (getD (st (c .before .before .before) .args .text .now) (st (c .before .before .before) .args .at) 0) ≡ true
+abbrev else2-at-else4 : tie.Else4 → tie.Else2
+else2-at-else4 c = c .before .before
+
+is-digit : (c : tie.Else4) → digit (getD (st (else2-at-else4 c .before) .args .text .now) (st (else2-at-else4 c .before) .args .at) 0) ≡ true
 is-digit c = sym (c .before .is-digit .ensures) ∙ not-false _ (c .if4 .left)
 
 returns : tie.Need-returns
@@ -64,7 +67,7 @@ returns-4 c =
     )
 
 abbrev known : tie.Else4 → tie.After-shared-slice-known2
-known c = c .before .before .before
+known c = else2-at-else4 c .before
 
 low : (c : tie.Else4) → (0x30 ≤ getD (st (known c) .args .text .now) (st (known c) .args .at) 0) × (getD (st (known c) .args .text .now) (st (known c) .args .at) 0 ≤ 0x39)
 low c = digit-range _ (is-digit c)
@@ -75,20 +78,23 @@ returns-5 c =
     let k = known (o .before) in
     let a = st k .args in (
       goes-stop (a .text .now) (a .at) _ (c .stopped4 .result) (a .at) (c .stopped4 .ensures)
-          (λ go. number-shut (a .text .now) (a .lo) (a .hi) (a .at) go (inside k) (o .before .before .before .if2 .left) (sym (o .opens .ensures) ∙ not-true _ (c .before .if5 .taken))),
+          (λ go. number-shut (a .text .now) (a .lo) (a .hi) (a .at) go (inside k) (else2-at-else4 (o .before) .if2 .left) (sym (o .opens .ensures) ∙ not-true _ (c .before .if5 .taken))),
       stopped-range (c .stopped4 .result) (a .at) (a .lo) (a .hi) (c .stopped4 .ensures),
     )
 
-is-open : (c : tie.Else5) → opens (st (known (c .before .before)) .args .lo) (st (known (c .before .before)) .args .hi)
-    (getD (st (known (c .before .before)) .args .text .now) (st (known (c .before .before)) .args .at) 0 - 0x30) ≡ true
+abbrev else4-at-else5 : tie.Else5 → tie.Else4
+else4-at-else5 c = c .before .before
+
+is-open : (c : tie.Else5) → opens (st (known (else4-at-else5 c)) .args .lo) (st (known (else4-at-else5 c)) .args .hi)
+    (getD (st (known (else4-at-else5 c)) .args .text .now) (st (known (else4-at-else5 c)) .args .at) 0 - 0x30) ≡ true
 is-open c = sym (c .before .opens .ensures) ∙ not-false _ (c .if5 .left)
 
 returns-6 : tie.Need-returns-6
 returns-6 c =
-    let f = c .before .before .before in
+    let f = else4-at-else5 (c .before) in
     let k = known f in
     let a = st k .args in (
-      λ go. number-digit (a .text .now) (a .lo) (a .hi) (a .at) go (inside k) (f .before .before .if2 .left) (is-digit f) (is-open (c .before)) ∙ c .digits-on .ensures .0 go,
+      λ go. number-digit (a .text .now) (a .lo) (a .hi) (a .at) go (inside k) (else2-at-else4 f .if2 .left) (is-digit f) (is-open (c .before)) ∙ c .digits-on .ensures .0 go,
       c .digits-on .ensures .1,
     )
 
@@ -114,5 +120,5 @@ number-on-spec =
     (λ c κs. search needs)
     returns-5
     (λ c. search needs)
-    (λ c κs. (open-low _ _ _ (opens-yes _ _ _ (is-open c)), st (known (c .before .before)) .pre))
+    (λ c κs. (open-low _ _ _ (opens-yes _ _ _ (is-open c)), st (known (else4-at-else5 c)) .pre))
     returns-6)

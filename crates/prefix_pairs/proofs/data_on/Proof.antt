@@ -25,10 +25,19 @@ abbrev μ-loop : tie.MeasureT-loop
 abbrev st : tie.At-loop Inv-loop μ-loop → tie.Start Inv-loop μ-loop
 st c = c .before .before
 
-high : (c : tie.Else1 Inv-loop μ-loop) → let l = c .before .before .before in hexadecimal (getD (st l .args .text .now) (l .loop .i) 0) ≡ true
+abbrev turn-at-else1 : tie.Else1 Inv-loop μ-loop → tie.In-loop Inv-loop μ-loop
+turn-at-else1 c = c .before .before
+
+abbrev loop-at-else1 : tie.Else1 Inv-loop μ-loop → tie.At-loop Inv-loop μ-loop
+loop-at-else1 c = turn-at-else1 c .before
+
+high : (c : tie.Else1 Inv-loop μ-loop) → let l = loop-at-else1 c in hexadecimal (getD (st l .args .text .now) (l .loop .i) 0) ≡ true
 high c = sym (c .before .digit-at .ensures) ∙ not-false _ (c .if1 .left)
 
-low : (c : tie.Else2 Inv-loop μ-loop) → let l = c .before .before .before .before .before in hexadecimal (getD (st l .args .text .now) (l .loop .i + 1) 0) ≡ true
+abbrev else1-at-else2 : tie.Else2 Inv-loop μ-loop → tie.Else1 Inv-loop μ-loop
+else1-at-else2 c = c .before .before
+
+low : (c : tie.Else2 Inv-loop μ-loop) → let l = loop-at-else1 (else1-at-else2 c) in hexadecimal (getD (st l .args .text .now) (l .loop .i + 1) 0) ≡ true
 low c = sym (c .before .digit-at2 .ensures) ∙ not-false _ (c .if2 .left)
 
 returns : tie.Need-returns Inv-loop μ-loop
@@ -41,30 +50,30 @@ returns c =
 
 add-digit-at : tie.Need-add-digit-at Inv-loop μ-loop
 add-digit-at c =
-    let l = c .before .before .before in
+    let l = loop-at-else1 c in
     record { fits = omega (arith, digit-within (st l .args .text .now) (l .loop .i) (high c)) }
 
 returns-2 : tie.Need-returns-2 Inv-loop μ-loop
 returns-2 c =
     let d = c .before .before in
     let e = d .before in
-    let l = e .before .before .before in
+    let l = loop-at-else1 e in
     let a = st l .args in
     goes-stop (a .text .now) (a .at) _ (c .stopped2 .result) (l .loop .i + 1) (c .stopped2 .ensures)
-    (λ go. sym (l .loop .inv (go 0)) ∙ data-low (a .text .now) (l .loop .i) (l .loop .left) (e .before .before .loop-test .taken) (go 0) (high e)
+    (λ go. sym (l .loop .inv (go 0)) ∙ data-low (a .text .now) (l .loop .i) (l .loop .left) (turn-at-else1 e .loop-test .taken) (go 0) (high e)
     (sym (d .digit-at2 .ensures) ∙ not-true _ (c .before .if2 .taken)))
 
 add-i : tie.Need-add-i Inv-loop μ-loop
 add-i c =
-    let l = c .before .before .before .before .before in
+    let l = loop-at-else1 (else1-at-else2 c) in
     record { fits = omega (arith, digit-within (st l .args .text .now) (l .loop .i + 1) (low c)) }
 
 loop-again : tie.Need-loop-again Inv-loop μ-loop
 loop-again c go =
-    let e = c .before .before in
-    let l = e .before .before .before in
+    let e = else1-at-else2 c in
+    let l = loop-at-else1 e in
     let a = st l .args in
-    data-more (a .text .now) (l .loop .i) (l .loop .left) (e .before .before .loop-test .taken) go (high e) (low c) ∙ l .loop .inv go
+    data-more (a .text .now) (l .loop .i) (l .loop .left) (turn-at-else1 e .loop-test .taken) go (high e) (low c) ∙ l .loop .inv go
 
 returns-3 : tie.Need-returns-3 Inv-loop μ-loop
 returns-3 c go =

@@ -38,18 +38,24 @@ first c = sym (c .before .digit-at .ensures) ∙ not-false _ (c .if1 .left)
 inside : (c : tie.Else1) → st (c .before) .args .at < length (st (c .before) .args .text .now)
 inside c = digit-within (st (c .before) .args .text .now) (st (c .before) .args .at) (first c)
 
--- the first digit was read, and some byte with it was looked for
-abbrev else1 : tie.After-slice-known2 → tie.Else1
-else1 c = c .before .before .before .before .before .before
+abbrev some-low-at-slice-known2 : tie.After-slice-known2 → tie.After-some-low
+some-low-at-slice-known2 c = c .before .before
 
 abbrev digits : tie.After-slice-known2 → tie.After-digit-value
-digits c = c .before .before .before .before
+digits c = some-low-at-slice-known2 c .before .before
+
+abbrev else1-at-digit-value : tie.After-digit-value → tie.Else1
+else1-at-digit-value c = c .before .before
+
+-- the first digit was read, and some byte with it was looked for
+abbrev else1 : tie.After-slice-known2 → tie.Else1
+else1 c = else1-at-digit-value (digits c)
 
 looked : (c : tie.After-slice-known2) → let a = st (else1 c .before) .args in
-    c .before .before .some-low .result ≡ some 16 (λ low. may (a .points .now) (a .left) (16 * digitValue (getD (a .text .now) (a .at) 0) + low))
+    some-low-at-slice-known2 c .some-low .result ≡ some 16 (λ low. may (a .points .now) (a .left) (16 * digitValue (getD (a .text .now) (a .at) 0) + low))
 looked c =
     let a = st (else1 c .before) .args in
-    c .before .before .some-low .ensures .0
+    some-low-at-slice-known2 c .some-low .ensures .0
     ∙ ap (λ (h : ℕ). some 16 (λ low. may (a .points .now) (a .left) (16 * h + low))) (digits c .digit-value .ensures)
 
 returns : tie.Need-returns
@@ -86,7 +92,10 @@ returns-3 c =
       nothing (c .stopped3 .result) (a .at + 1) (c .stopped3 .ensures),
     )
 
-second : (c : tie.Else3) → let a = st (else1 (c .before .before .before) .before) .args in hexadecimal (getD (a .text .now) (a .at + 1) 0) ≡ true
+abbrev slice-known2-at-digit-at2 : tie.After-digit-at2 → tie.After-slice-known2
+slice-known2-at-digit-at2 c = c .before .before
+
+second : (c : tie.Else3) → let a = st (else1 (slice-known2-at-digit-at2 (c .before)) .before) .args in hexadecimal (getD (a .text .now) (a .at + 1) 0) ≡ true
 second c = sym (c .before .digit-at2 .ensures) ∙ not-false _ (c .if3 .left)
 
 -- the byte put last, and whether it may stand there
@@ -98,30 +107,36 @@ asked points now left x h e t r q =
     ap (λ (m : ℕ). set now (m - 1) x) e ∙ last-set now points x e h t in
     (q ∙ ap₂ (λ (m : ℕ) (l : List ℕ). mayPoint (m + left) left l) (length-set now (length now - 1) x ∙ e) put, put)
 
+abbrev else3-at-digit-value2 : tie.After-digit-value2 → tie.Else3
+else3-at-digit-value2 c = c .before .before
+
+abbrev digit-value2-at-may-point : tie.After-may-point → tie.After-digit-value2
+digit-value2-at-may-point c = c .before .before
+
 abbrev else3 : tie.After-may-point → tie.Else3
-else3 c = c .before .before .before .before
+else3 c = else3-at-digit-value2 (digit-value2-at-may-point c)
 
 abbrev known2 : tie.Else3 → tie.After-slice-known2
-known2 c = c .before .before .before
+known2 c = slice-known2-at-digit-at2 (c .before)
 
 abbrev args : (c : tie.Else3) → tie.Start
 args c = st (else1 (known2 c) .before)
 
 high-low : (c : tie.After-digit-value) → c .digit-value .result < 16
 high-low c =
-    let a = st (c .before .before .before) .args in
-    let h = digit-low (getD (a .text .now) (a .at) 0) (first (c .before .before)) in
+    let a = st (else1-at-digit-value c .before) .args in
+    let h = digit-low (getD (a .text .now) (a .at) 0) (first (else1-at-digit-value c)) in
     omega (arith, c .digit-value .ensures, h)
 
 low-low : (c : tie.After-digit-value2) → c .digit-value2 .result < 16
 low-low c =
-    let a = args (c .before .before) .args in
-    let h = digit-low (getD (a .text .now) (a .at + 1) 0) (second (c .before .before)) in
+    let a = args (else3-at-digit-value2 c) .args in
+    let h = digit-low (getD (a .text .now) (a .at + 1) 0) (second (else3-at-digit-value2 c)) in
     omega (arith, c .digit-value2 .ensures, h)
 
-value : (c : tie.After-may-point) → let v = c .before .before in let a = args (else3 c) .args in
+value : (c : tie.After-may-point) → let v = digit-value2-at-may-point c in let a = args (else3 c) .args in
     16 * digits (known2 (else3 c)) .digit-value .result + v .digit-value2 .result ≡ 16 * digitValue (getD (a .text .now) (a .at) 0) + digitValue (getD (a .text .now) (a .at + 1) 0)
-value c = let h = digits (known2 (else3 c)) .digit-value .ensures in let l = c .before .before .digit-value2 .ensures in omega (arith, h, l)
+value c = let h = digits (known2 (else3 c)) .digit-value .ensures in let l = digit-value2-at-may-point c .digit-value2 .ensures in omega (arith, h, l)
 
 stands : (c : tie.After-may-point) → let a = args (else3 c) .args in
     (c .may-point .result ≡ may (a .points .now) (a .left) (16 * digitValue (getD (a .text .now) (a .at) 0) + digitValue (getD (a .text .now) (a .at + 1) 0)))
@@ -166,21 +181,21 @@ pair-on-spec =
     returns
     (λ c. inside (c .before))
     (λ c κs. first (c .before))
-    (λ c κs. (st (c .before .before .before .before) .pre, high-low (c .before)))
+    (λ c κs. (st (else1-at-digit-value (c .before) .before) .pre, high-low (c .before)))
     (λ c κs. search needs)
     (λ c. search needs)
     returns-2
     (λ c. record { fits = omega (arith, inside (else1 (c .before))) })
     (λ c κs. search needs)
-    (λ c. record { fits = omega (arith, inside (else1 (c .before .before .before))) })
+    (λ c. record { fits = omega (arith, inside (else1 (slice-known2-at-digit-at2 (c .before)))) })
     (λ c κs. search needs)
     (λ c. search needs)
     returns-3
     (λ c. record { fits = omega (arith, inside (else1 (known2 c))) })
     (λ c. digit-within (args (c .before) .args .text .now) (args (c .before) .args .at + 1) (second (c .before)))
     (λ c κs. second (c .before))
-    (λ c. record { fits = omega (arith, high-low (digits (known2 (c .before .before)))) })
-    (λ c. record { fits = omega (arith, high-low (digits (known2 (c .before .before))), low-low c) })
+    (λ c. record { fits = omega (arith, high-low (digits (known2 (else3-at-digit-value2 c)))) })
+    (λ c. record { fits = omega (arith, high-low (digits (known2 (else3-at-digit-value2 c))), low-low c) })
     (λ c. search needs)
     (λ c. search needs)
     (λ c κs. search needs)

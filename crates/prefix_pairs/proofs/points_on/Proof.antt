@@ -23,14 +23,17 @@ Inv-loop text at n points₀ i₀ j₀ points i j =
 abbrev μ-loop : tie.MeasureT-loop
 μ-loop text at n points₀ i₀ j₀ points i j = n - j
 
+abbrev turn-at-pair-on : tie.After-pair-on Inv-loop μ-loop → tie.In-loop Inv-loop μ-loop
+turn-at-pair-on c = c .before .before
+
 abbrev loop : tie.After-pair-on Inv-loop μ-loop → tie.At-loop Inv-loop μ-loop
-loop c = c .before .before .before
+loop c = turn-at-pair-on c .before
 
 abbrev st : tie.At-loop Inv-loop μ-loop → tie.Start Inv-loop μ-loop
 st l = l .before .before
 
 room : (c : tie.After-pair-on Inv-loop μ-loop) → loop c .loop .j + 1 ≤ length (loop c .loop .points)
-room c = let l = loop c in let h = st l .pre in omega (arith, c .before .before .loop-test .taken, h, l .loop .inv .1)
+room c = let l = loop c in let h = st l .pre in omega (arith, turn-at-pair-on c .loop-test .taken, h, l .loop .inv .1)
 
 -- a pair more
 one : (c : tie.After-pair-on Inv-loop μ-loop) → let l = loop c in let a = st l .args in let w = c .pair-on .result in
@@ -39,7 +42,7 @@ one : (c : tie.After-pair-on Inv-loop μ-loop) → let l = loop c in let a = st 
 one c =
     let l = loop c in
     let a = st l .args in
-    points-step (a .text .now) (take (l .loop .j) (l .loop .points)) (take (l .loop .j + 1 - 0) (l .loop .points)) (a .n) (l .loop .i) (l .loop .j) (c .before .before .loop-test .taken)
+    points-step (a .text .now) (take (l .loop .j) (l .loop .points)) (take (l .loop .j + 1 - 0) (l .loop .points)) (a .n) (l .loop .i) (l .loop .j) (turn-at-pair-on c .loop-test .taken)
     (part-long (l .loop .points) (l .loop .j) (room c)) (part-before (l .loop .points) (l .loop .j) (room c)) (c .pair-on .result) (c .pair-on .ensures .0)
 
 returns : tie.Need-returns Inv-loop μ-loop
@@ -61,7 +64,7 @@ loop-again c =
           (part-back (l .loop .points) (p .pair-on .last .1 .1 .0) (l .loop .j) (new .1) ∙ new .0)
           ∙ sym (one p go ∙ yes (w .ok) _ (w .at) ok) ∙ l .loop .inv .0 go,
       part-whole (l .loop .points) (p .pair-on .last .1 .1 .0) (l .loop .j) (new .1) (room p) ∙ l .loop .inv .1,
-      omega (arith, p .before .before .loop-test .taken),
+      omega (arith, turn-at-pair-on p .loop-test .taken),
     )
 
 returns-2 : tie.Need-returns-2 Inv-loop μ-loop

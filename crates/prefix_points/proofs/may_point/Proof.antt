@@ -27,7 +27,11 @@ whole xs left d e =
 abbrev differ : tie.Else1 → tie.After-points-differ
 differ c = c .before
 
-is-different : (c : tie.Else1) → different (c .before .before .before .args .points .now) ≡ true
+-- the places
+abbrev st-at-else1 : tie.Else1 → tie.Start
+st-at-else1 c = c .before .before .before
+
+is-different : (c : tie.Else1) → different (st-at-else1 c .args .points .now) ≡ true
 is-different c = sym (c .before .points-differ .ensures) ∙ not-false _ (c .if1 .left)
 
 returns : tie.Need-returns
@@ -36,12 +40,12 @@ returns c = sym (rw (sym (c .before .points-differ .ensures) ∙ not-true _ (c .
 returns-2 : tie.Need-returns-2
 returns-2 c =
     let e = c .before .before in
-    let a = e .before .before .before .args in
+    let a = st-at-else1 e .args in
     ap not (c .in-order .ensures) ∙ whole (a .points .now) (a .left) (is-different e) (c .before .if2 .taken)
 
 returns-3 : tie.Need-returns-3
 returns-3 c =
-    let a = c .before .before .before .before .args in
+    let a = st-at-else1 (c .before) .args in
     sym (rw (is-different (c .before), ne-eqb (a .left) 0 (c .if2 .left)))
 
 pub may-point-spec : {M : Type 1} → statement M

@@ -31,12 +31,16 @@ tried : (points₀ points : List ℕ) (high left low : ℕ) → length points �
 tried points₀ points high left low e h t r q =
     q ∙ ap₂ (λ (m : ℕ) (l : List ℕ). mayPoint (m + left) left l) (length-set points (length points₀ - 1) (16 * high + low) ∙ e) (last-set points points₀ (16 * high + low) e h t)
 
+-- the places
+abbrev st-at-loop : tie.At-loop Inv-loop μ-loop → tie.Start Inv-loop μ-loop
+st-at-loop c = c .before .before
+
 returns : tie.Need-returns Inv-loop μ-loop
 returns c =
     let m = c .before in
     let t = m .before .before in
     let l = t .before in
-    let g = l .before .before in
+    let g = st-at-loop l in
     let a = g .args in
     let asked = tried (a .points .now) (l .loop .points) (a .high) (a .left) (l .loop .low - 1) (l .loop .inv .2) (g .pre .0) (l .loop .inv .1) (m .may-point .result) (m .may-point .ensures) in (
       sym (l .loop .inv .0 ∙ some-last (l .loop .low) (may (a .points .now) (a .high) (a .left)) (t .loop-test .taken) .0 (sym asked ∙ c .if1 .taken)),
@@ -48,7 +52,7 @@ loop-again c =
     let m = c .before in
     let t = m .before .before in
     let l = t .before in
-    let g = l .before .before in
+    let g = st-at-loop l in
     let a = g .args in
     let asked = tried (a .points .now) (l .loop .points) (a .high) (a .left) (l .loop .low - 1) (l .loop .inv .2) (g .pre .0) (l .loop .inv .1) (m .may-point .result) (m .may-point .ensures) in (
       l .loop .inv .0 ∙ some-last (l .loop .low) (may (a .points .now) (a .high) (a .left)) (t .loop-test .taken) .1 (sym asked ∙ c .if1 .left),
@@ -61,7 +65,7 @@ loop-again c =
 returns-2 : tie.Need-returns-2 Inv-loop μ-loop
 returns-2 c =
     let l = c .before in
-    let a = l .before .before .args in
+    let a = st-at-loop l .args in
     let z : l .loop .low ≡ 0 = omega (arith, c .loop-test .left) in
     (sym (l .loop .inv .0 ∙ ap (λ (m : ℕ). some m (may (a .points .now) (a .high) (a .left))) z), l .loop .inv .1)
 
@@ -76,7 +80,7 @@ some-low-spec =
     (λ c. search needs)
     (λ c. search needs)
     (λ c. search needs)
-    (λ c. let l = c .before in let h = l .before .before .pre .0 in omega (arith, l .loop .inv .2, h))
+    (λ c. let l = c .before in let h = st-at-loop l .pre .0 in omega (arith, l .loop .inv .2, h))
     (λ c κs. search needs)
     (λ c. search needs)
     returns

@@ -24,10 +24,13 @@ onPoints n count input = pairsOn (mayPoint n) n [] input (onData count)
 abbrev st : tie.After-name-on → tie.Start
 st c = c .before .before .before
 
-from-name : (c : tie.Else1) → let k = c .before .before in let a = st k .args in let w = k .name-on .result in
+abbrev name-on-at-else1 : tie.Else1 → tie.After-name-on
+name-on-at-else1 c = c .before .before
+
+from-name : (c : tie.Else1) → let k = name-on-at-else1 c in let a = st k .args in let w = k .name-on .result in
     w .at + onPoints (a .n) (a .count) (drop (w .at) (a .text .now)) ≡ a .at + nameOn pointsName (drop (a .at) (a .text .now)) (onPoints (a .n) (a .count))
 from-name c =
-    let k = c .before .before in
+    let k = name-on-at-else1 c in
     let a = st k .args in
     goes-from (a .text .now) (a .at) _ (k .name-on .result) (k .name-on .ensures) (not-false _ (c .if1 .left)) (λ v input. onPoints (a .n) (a .count) input)
 
@@ -40,7 +43,7 @@ returns c =
 returns-2 : tie.Need-returns-2
 returns-2 c =
     let p = c .before .before in
-    let k = p .before .before .before in
+    let k = name-on-at-else1 (p .before) in
     let a = st k .args in
     goes-end (a .text .now) (k .name-on .result .at) _ (p .points-on .result) (p .points-on .ensures) (not-true _ (c .if2 .taken)) (λ v input. onData (a .count) input)
     ∙ from-name (p .before)
@@ -49,7 +52,7 @@ returns-3 : tie.Need-returns-3
 returns-3 c =
     let f = c .before in
     let p = f .before .before in
-    let k = p .before .before .before in
+    let k = name-on-at-else1 (p .before) in
     let a = st k .args in
     c .data-line .ensures
     ∙ goes-from (a .text .now) (k .name-on .result .at) _ (p .points-on .result) (p .points-on .ensures) (not-false _ (f .if2 .left)) (λ v input. onData (a .count) input)

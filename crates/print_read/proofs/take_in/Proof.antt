@@ -16,10 +16,14 @@ use borrow.Author.Needs.{needs}
 use Rattle.print_read.proofs.take_in.Statement.{statement}
 use Rattle.print_read.proofs.take_in.Tie as tie
 
+-- the places
+abbrev st-at-slice-known : tie.After-slice-known → tie.Start
+st-at-slice-known c = c .before .before
+
 returns : tie.Need-returns
 returns c =
-    let a = c .before .before .before .before .args in
-    let e = ap (λ (z : ℤ). ltZ z (pos 0)) (sym (toZ-ofZ w64 (a .got) (c .before .before .before .before .fits .got))) ∙ c .before .if1 .taken in
+    let a = st-at-slice-known (c .before .before) .args in
+    let e = ap (λ (z : ℤ). ltZ z (pos 0)) (sym (toZ-ofZ w64 (a .got) (st-at-slice-known (c .before .before) .fits .got))) ∙ c .before .if1 .taken in
     let s : Feed = record { parser = a .p; file = a .file .now } in
     (ap (λ (q : Parser). record { parser = q; file = a .file .now }) (c .wrong .ensures) ∙ failed (a .got) (a .slice .now) s e, none-more (a .got) (a .slice .now) e)
 
@@ -27,8 +31,8 @@ returns-2 : tie.Need-returns-2
 returns-2 c =
     let fed = c .before .before in
     let at = fed .before .before .before in
-    let a = at .before .before .before .before .args in
-    let back = toZ-ofZ w64 (a .got) (at .before .before .before .before .fits .got) in
+    let a = st-at-slice-known (at .before .before) .args in
+    let back = toZ-ofZ w64 (a .got) (st-at-slice-known (at .before .before) .fits .got) in
     let e = ap (λ (z : ℤ). ltZ z (pos 0)) (sym back) ∙ at .before .if1 .left in
     let s : Feed = record { parser = a .p; file = a .file .now } in
     let n = at .count .ensures .1 ∙ ap (λ (z : ℤ). clamped z (length (a .slice .now))) back in

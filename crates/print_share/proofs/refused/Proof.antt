@@ -10,15 +10,22 @@ use borrow.Author.Needs.{needs}
 use Rattle.print_share.proofs.refused.Statement.{statement}
 use Rattle.print_share.proofs.refused.Tie as tie
 
-room : (c : tie.After-put-line-arg2) → let at = c .before .before .before in let a = at .before .before .args in 0 + length (refusedLine (a .x)) ≤ length (a .out .now)
-room c = let at = c .before .before .before in omega (arith, line-length (at .before .before .args .x), c .before .before .if1 .left, at .decimal-len .ensures)
+-- the places
+abbrev st-at-decimal-len : tie.After-decimal-len → tie.Start
+st-at-decimal-len c = c .before .before
+
+abbrev else1-at-put-line-arg2 : tie.After-put-line-arg2 → tie.Else1
+else1-at-put-line-arg2 c = c .before .before
+
+room : (c : tie.After-put-line-arg2) → let at = else1-at-put-line-arg2 c .before in let a = st-at-decimal-len at .args in 0 + length (refusedLine (a .x)) ≤ length (a .out .now)
+room c = let at = else1-at-put-line-arg2 c .before in omega (arith, line-length (st-at-decimal-len at .args .x), else1-at-put-line-arg2 c .if1 .left, at .decimal-len .ensures)
 
 add-count : tie.Need-add-count
-add-count c = record { fits = omega (arith, c .before .before .fits .x, c .decimal-len .ensures, decimal-most (c .before .before .args .x)) }
+add-count c = record { fits = omega (arith, st-at-decimal-len c .fits .x, c .decimal-len .ensures, decimal-most (st-at-decimal-len c .args .x)) }
 
 returns : tie.Need-returns
 returns c =
-    let a = c .before .before .before .args in
+    let a = st-at-decimal-len (c .before) .args in
     no-room (refusedLine (a .x)) (a .out .now) (omega (arith, line-length (a .x), c .if1 .taken, c .before .decimal-len .ensures))
 
 put-line-requires : tie.Need-put-line-requires

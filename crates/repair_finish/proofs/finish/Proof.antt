@@ -120,7 +120,7 @@ returns c =
     let f = facts (st-at-end c) in
     stripe-made z (a .c) (a .lanes) _ (a .a) _ _ (length (a .got .now)) _ (a .rows .now) (a .fresh .now) (a .seconds .now) (a .gs .now) _ _ _ _ refl
     (finish-at-end c .finish .ensures) (row-rest (one (st-at-end c)) (a .a) (z .d * 32) (a .rows .now) (omega (arith, p, f))) (part-piece (a .lanes) (a .a) (a .gs .now))
-    (gather-at-end c .gather .ensures) (p .10) (omega (arith, got-at-end c .got .given, st-at-end c .pre)) (got-at-end c .got .given)
+    (gather-at-end c .gather .ensures) (p .10) (omega (arith, got-at-end c .got .given, p)) (got-at-end c .got .given)
 
 pub finish-spec : {M : Type 1} → statement M
 finish-spec =

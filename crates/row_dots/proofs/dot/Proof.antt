@@ -22,7 +22,7 @@ abbrev loop-at-times : tie.After-times Inv-loop μ-loop → tie.At-loop Inv-loop
 loop-at-times c = c .before .before .before .before .before
 
 abbrev st-at-times : tie.After-times Inv-loop μ-loop → tie.Start Inv-loop μ-loop
-st-at-times c = c .before .before .before .before .before .before .before .before
+st-at-times c = loop-at-times c .before .before .before
 
 loop-again : tie.Need-loop-again Inv-loop μ-loop
 unfolding add

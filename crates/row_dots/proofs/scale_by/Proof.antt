@@ -19,18 +19,22 @@ abbrev μ-loop : tie.MeasureT-loop
 μ-loop b a₀ n j₀ a j = n - j
 
 -- the places
+abbrev turn-at-times : tie.After-times Inv-loop μ-loop → tie.In-loop Inv-loop μ-loop
+turn-at-times c = c .before .before .before .before
+
 abbrev loop-at-times : tie.After-times Inv-loop μ-loop → tie.At-loop Inv-loop μ-loop
-loop-at-times c = c .before .before .before .before .before
+loop-at-times c = turn-at-times c .before
 
 abbrev st-at-times : tie.After-times Inv-loop μ-loop → tie.Start Inv-loop μ-loop
-st-at-times c = c .before .before .before .before .before .before .before .before
+st-at-times c = loop-at-times c .before .before .before
 
 loop-again : tie.Need-loop-again Inv-loop μ-loop
 loop-again c =
+    let more = turn-at-times c .loop-test .taken in
     let l = loop-at-times c .loop in
     let a = st-at-times c .args in (
-      change (λ j x. mul x (getD (a .b .now) j 0)) (a .a .now) (l .a) (l .j) _ (omega arith) (cc (c .before .before .multiples-of .ensures .0)) (l .inv .0),
-      omega arith,
+      change (λ j x. mul x (getD (a .b .now) j 0)) (a .a .now) (l .a) (l .j) _ (omega (arith, more)) (cc (c .before .before .multiples-of .ensures .0)) (l .inv .0),
+      omega (arith, more),
       length-set (l .a) (l .j) _ ∙ l .inv .2,
     )
 

@@ -2,21 +2,22 @@
 -- Assumes nothing.
 use Rattle.row_sums.proofs.Words.{put-words}
 use borrow.Author.Needs.{needs}
+use native.Mathlib.Omega.{arith}
 use Rattle.row_sums.proofs.put_row.Statement.{statement}
 use Rattle.row_sums.proofs.put_row.Tie as tie
 
 -- places in the code
-abbrev st : tie.After-slice-known5 → tie.Start
-st c = c .before .before .before .before .before .before .before .before .before .before .before .before .before .before .before .before .before
-
-abbrev put-word : tie.After-slice-known5 → tie.After-put-word
-put-word c = c .before .before .before .before .before .before .before .before .before .before .before .before .before .before
-
-abbrev put-word2 : tie.After-slice-known5 → tie.After-put-word2
-put-word2 c = c .before .before .before .before .before .before .before .before .before .before
-
 abbrev put-word3 : tie.After-slice-known5 → tie.After-put-word3
 put-word3 c = c .before .before .before .before .before .before
+
+abbrev put-word2 : tie.After-slice-known5 → tie.After-put-word2
+put-word2 c = put-word3 c .before .before .before .before
+
+abbrev put-word : tie.After-slice-known5 → tie.After-put-word
+put-word c = put-word2 c .before .before .before .before
+
+abbrev st : tie.After-slice-known5 → tie.Start
+st c = put-word c .before .before .before
 
 sub-put-word : tie.Need-sub-put-word
 sub-put-word c = search needs
@@ -64,7 +65,7 @@ part-put-word-end-4 : tie.Need-part-put-word-end-4
 part-put-word-end-4 c = search needs
 
 put-word-requires-4 : tie.Need-put-word-requires-4
-put-word-requires-4 c κs = search needs
+put-word-requires-4 c κs = omega arith
 
 same-length : tie.Need-same-length
 same-length c = search needs

@@ -2,27 +2,31 @@
 -- Assumes nothing.
 use Rattle.row_sums.proofs.Words.{word-run}
 use borrow.Author.Needs.{needs}
+use native.Mathlib.Omega.{arith}
 use Rattle.row_sums.proofs.word_at.Statement.{statement}
 use Rattle.row_sums.proofs.word_at.Tie as tie
 
 -- places in the code
-abbrev wide : tie.After-wide8 → tie.After-wide
-wide c = c .before .before .before .before .before .before .before .before .before .before .before .before .before .before
-
-abbrev wide2 : tie.After-wide8 → tie.After-wide2
-wide2 c = c .before .before .before .before .before .before .before .before .before .before .before .before
-
-abbrev wide3 : tie.After-wide8 → tie.After-wide3
-wide3 c = c .before .before .before .before .before .before .before .before .before .before
-
-abbrev wide4 : tie.After-wide8 → tie.After-wide4
-wide4 c = c .before .before .before .before .before .before .before .before
+abbrev wide6-at-wide8 : tie.After-wide8 → tie.After-wide6
+wide6-at-wide8 c = c .before .before .before .before
 
 abbrev wide5 : tie.After-wide8 → tie.After-wide5
-wide5 c = c .before .before .before .before .before .before
+wide5 c = wide6-at-wide8 c .before .before
+
+abbrev wide4 : tie.After-wide8 → tie.After-wide4
+wide4 c = wide5 c .before .before
+
+abbrev wide3 : tie.After-wide8 → tie.After-wide3
+wide3 c = wide4 c .before .before
+
+abbrev wide2 : tie.After-wide8 → tie.After-wide2
+wide2 c = wide3 c .before .before
+
+abbrev wide : tie.After-wide8 → tie.After-wide
+wide c = wide2 c .before .before
 
 abbrev st : tie.After-wide8 → tie.Start
-st c = c .before .before .before .before .before .before .before .before .before .before .before .before .before .before .before .before .before
+st c = wide c .before .before .before
 
 shared-slice-read-wide : tie.Need-shared-slice-read-wide
 shared-slice-read-wide c = search needs
@@ -88,7 +92,7 @@ add-wide-7 : tie.Need-add-wide-7
 add-wide-7 c = search needs
 
 shared-slice-read-wide-8 : tie.Need-shared-slice-read-wide-8
-shared-slice-read-wide-8 c = search needs
+shared-slice-read-wide-8 c = omega (arith, c .before .before .before .before .before .before .before .before .before .before .before .before .before .before .before .before .pre)
 
 wide-requires-8 : tie.Need-wide-requires-8
 wide-requires-8 c κs = search needs
@@ -115,25 +119,25 @@ mul-result-4 : tie.Need-mul-result-4
 mul-result-4 c = search needs
 
 add-result-4 : tie.Need-add-result-4
-add-result-4 c = search needs
+add-result-4 c = omega arith
 
 mul-result-5 : tie.Need-mul-result-5
-mul-result-5 c = search needs
+mul-result-5 c = omega arith
 
 add-result-5 : tie.Need-add-result-5
-add-result-5 c = search needs
+add-result-5 c = omega arith
 
 mul-result-6 : tie.Need-mul-result-6
 mul-result-6 c = search needs
 
 add-result-6 : tie.Need-add-result-6
-add-result-6 c = search needs
+add-result-6 c = omega arith
 
 mul-result-7 : tie.Need-mul-result-7
 mul-result-7 c = search needs
 
 add-result-7 : tie.Need-add-result-7
-add-result-7 c = search needs
+add-result-7 c = omega arith
 
 returns : tie.Need-returns
 returns c =
@@ -142,7 +146,7 @@ returns c =
     let w2 = (wide3 c) .wide3 in
     let w3 = (wide4 c) .wide4 in
     let w4 = (wide5 c) .wide5 in
-    let w5 = c .before .before .before .before .wide6 in
+    let w5 = wide6-at-wide8 c .wide6 in
     let w6 = c .before .before .wide7 in
     let w7 = c .wide8 in
     let s = st c in

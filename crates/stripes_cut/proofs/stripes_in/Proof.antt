@@ -107,6 +107,7 @@ add-q c = omega (arith, st-turn (c .before) .pre .4, c .before .loop-test .taken
 
 decode-stripe-requires : tie.Need-decode-stripe-requires Inv-loop μ-loop
 decode-stripe-requires c κs =
+    let more = turn-at-decode-stripe-arg8 c .loop-test .taken in
     let g = st-decode-stripe-arg8 c in
     let a = g .args in
     let p = g .pre in
@@ -115,8 +116,8 @@ decode-stripe-requires c κs =
       p .0,
       p .1,
       p .2,
-      placed-before (a .sizes) (a .starts .now) (a .bytes .now) (a .first + s + 1) (a .first + a .count) (omega (arith, turn-at-decode-stripe-arg8 c .loop-test .taken)) (p .3),
-      omega (arith, p .4, turn-at-decode-stripe-arg8 c .loop-test .taken),
+      placed-before (a .sizes) (a .starts .now) (a .bytes .now) (a .first + s + 1) (a .first + a .count) (omega (arith, more)) (p .3),
+      omega (arith, p .4, more),
       p .5,
       work-kept (a .sizes) (p .6) (l .inv .4),
       l .inv .3 ∙ p .7,
@@ -136,9 +137,11 @@ part-copy-end c =
 
 copy-requires : tie.Need-copy-requires Inv-loop μ-loop
 copy-requires c κs =
-    let l = (least-at-copy-arg (c .before) .before .before) .loop in
+    let m = least-at-copy-arg (c .before) in
+    let l = m .before .before .loop in
     let d = decode-stripe-at-copy-arg (c .before) .decode-stripe in
-    part-few (l .s * length (st-turn (least-at-copy-arg (c .before) .before) .args .u .now)) (least-at-copy-arg (c .before) .least .result) _ (l .out) (omega (arith, d .kept .1 .1 .1 .1 .1 .1 .1 .1 .1 .1 .1 .1 .1 .1 .1 .1 .1 .1 .1 .0, l .inv .3, least-at-copy-arg (c .before) .least .ensures))
+    part-few (l .s * length (st-turn (m .before) .args .u .now)) (m .least .result) _ (l .out)
+    (omega (arith, d .kept .1 .1 .1 .1 .1 .1 .1 .1 .1 .1 .1 .1 .1 .1 .1 .1 .1 .1 .1 .0, l .inv .3, m .least .ensures))
 
 add-s : tie.Need-add-s Inv-loop μ-loop
 add-s c = omega (arith, turn-at-turn-end c .loop-test .taken, st-turn-end c .pre .4)
@@ -156,19 +159,19 @@ loop-again c =
     let m = least-at-turn-end c .least in
     let w = c .before .before .copy in
     let b : ℕ = length (g .args .u .now) in (
-      stripes-turn (each g) b (length (g .args .out .now)) (l .s) (m .result) (each-long g) (g .args .out .now) (l .out) (d .last .1 .1 .1 .1 .1 .1 .1 .1 .1 .1 .1 .1 .1 .1 .1 .1 .1 .1 .1 .0) (w .last .1 .0) (start t) (omega arith) (l .inv .2)
+      stripes-turn (each g) b (length (g .args .out .now)) (l .s) (m .result) (each-long g) (g .args .out .now) (l .out) _ _ (start t) (omega arith) (l .inv .2)
           (m .ensures) (l .inv .0) (d .ensures) (w .ensures),
       omega (arith, t .loop-test .taken),
       same-len-mid {X = ℕ} (l .s * b) (l .s * b + m .result - l .s * b) (l .out) (w .last .1 .0) (w .kept .1 .0) ∙ l .inv .2,
-      _∙_ {b = length (l .u)} (d .kept .1 .1 .1 .1 .1 .1 .1 .1 .1 .1 .1 .1 .1 .1 .1 .1 .1 .1 .1 .0) (l .inv .3),
+      d .kept .1 .1 .1 .1 .1 .1 .1 .1 .1 .1 .1 .1 .1 .1 .1 .1 .1 .1 .1 .0 ∙ l .inv .3,
       record {
-        f-rows = _∙_ {b = length (l .fs)} (d .kept .1 .1 .1 .1 .1 .1 .1 .1 .1 .1 .1 .1 .0) (k .f-rows);
-        g-rows = _∙_ {b = length (l .gs)} (d .kept .1 .1 .1 .1 .1 .1 .1 .1 .1 .1 .1 .1 .1 .0) (k .g-rows);
-        f-values = _∙_ {b = length (l .vf)} (d .kept .1 .1 .1 .1 .1 .1 .1 .1 .1 .1 .1 .1 .1 .1 .0) (k .f-values);
-        g-values = _∙_ {b = length (l .vg)} (d .kept .1 .1 .1 .1 .1 .1 .1 .1 .1 .1 .1 .1 .1 .1 .1 .0) (k .g-values);
-        g-tops = _∙_ {b = length (l .tp)} (d .kept .1 .1 .1 .1 .1 .1 .1 .1 .1 .1 .1 .1 .1 .1 .1 .1 .0) (k .g-tops);
-        all-rows = _∙_ {b = length (l .rows)} (d .kept .1 .1 .1 .1 .1 .1 .1 .1 .1 .1 .1 .1 .1 .1 .1 .1 .1 .0) (k .all-rows);
-        all-columns = _∙_ {b = length (l .columns)} (d .kept .1 .1 .1 .1 .1 .1 .1 .1 .1 .1 .1 .1 .1 .1 .1 .1 .1 .1 .0) (k .all-columns);
+        f-rows = d .kept .1 .1 .1 .1 .1 .1 .1 .1 .1 .1 .1 .1 .0 ∙ k .f-rows;
+        g-rows = d .kept .1 .1 .1 .1 .1 .1 .1 .1 .1 .1 .1 .1 .1 .0 ∙ k .g-rows;
+        f-values = d .kept .1 .1 .1 .1 .1 .1 .1 .1 .1 .1 .1 .1 .1 .1 .0 ∙ k .f-values;
+        g-values = d .kept .1 .1 .1 .1 .1 .1 .1 .1 .1 .1 .1 .1 .1 .1 .1 .0 ∙ k .g-values;
+        g-tops = d .kept .1 .1 .1 .1 .1 .1 .1 .1 .1 .1 .1 .1 .1 .1 .1 .1 .0 ∙ k .g-tops;
+        all-rows = d .kept .1 .1 .1 .1 .1 .1 .1 .1 .1 .1 .1 .1 .1 .1 .1 .1 .1 .0 ∙ k .all-rows;
+        all-columns = d .kept .1 .1 .1 .1 .1 .1 .1 .1 .1 .1 .1 .1 .1 .1 .1 .1 .1 .1 .0 ∙ k .all-columns;
       },
     )
 

@@ -23,17 +23,23 @@ abbrev μ-loop : tie.MeasureT-loop
 μ-loop c b rows out₀ n m o₀ out o = m - o
 
 -- places in the code
+abbrev loop-at-column-arg : tie.After-column-arg Inv-loop μ-loop → tie.At-loop Inv-loop μ-loop
+loop-at-column-arg c = c .before .before
+
 abbrev start-from-after-column-arg : tie.After-column-arg Inv-loop μ-loop → tie.Start Inv-loop μ-loop
-start-from-after-column-arg c = c .before .before .before .before .before
+start-from-after-column-arg c = loop-at-column-arg c .before .before .before
+
+abbrev column-at-slice-known2 : tie.After-slice-known2 Inv-loop μ-loop → tie.After-column Inv-loop μ-loop
+column-at-slice-known2 c = c .before .before
 
 abbrev start-from-after-slice-known2 : tie.After-slice-known2 Inv-loop μ-loop → tie.Start Inv-loop μ-loop
-start-from-after-slice-known2 c = c .before .before .before .before .before .before .before .before
-
-abbrev at-loop-from-after-slice-known2 : tie.After-slice-known2 Inv-loop μ-loop → tie.At-loop Inv-loop μ-loop
-at-loop-from-after-slice-known2 c = c .before .before .before .before .before
+start-from-after-slice-known2 c = start-from-after-column-arg (column-at-slice-known2 c .before)
 
 abbrev in-loop-from-after-slice-known2 : tie.After-slice-known2 Inv-loop μ-loop → tie.In-loop Inv-loop μ-loop
-in-loop-from-after-slice-known2 c = c .before .before .before .before
+in-loop-from-after-slice-known2 c = column-at-slice-known2 c .before .before
+
+abbrev at-loop-from-after-slice-known2 : tie.After-slice-known2 Inv-loop μ-loop → tie.At-loop Inv-loop μ-loop
+at-loop-from-after-slice-known2 c = in-loop-from-after-slice-known2 c .before
 
 abbrev start-from-after-loop : tie.After-loop Inv-loop μ-loop → tie.Start Inv-loop μ-loop
 start-from-after-loop c = c .before .before .before .before
@@ -74,16 +80,17 @@ part-column-end c = search needs
 
 column-requires : tie.Need-column-requires Inv-loop μ-loop
 column-requires c κs =
+    let asked = start-from-after-column-arg c .pre in
     let a = (start-from-after-column-arg c) .args in
     let e = long (c .before) in
-    let h : (a .b + (a .c + (c .before .before) .loop .o)) % a .sizes .n < a .sizes .n = mod-lt (a .b + (a .c + (c .before .before) .loop .o)) (omega arith) in
-    (omega arith, omega arith, omega arith, omega arith)
+    let h : (a .b + (a .c + (loop-at-column-arg c) .loop .o)) % a .sizes .n < a .sizes .n = mod-lt (a .b + (a .c + (loop-at-column-arg c) .loop .o)) (omega (arith, e, asked)) in
+    (omega (arith, e, asked), omega (arith, e, asked), omega (arith, e, asked), omega (arith, e, asked))
 
 add-o : tie.Need-add-o Inv-loop μ-loop
-add-o c = search needs
+add-o c = omega (arith, at-loop-from-after-slice-known2 c .loop .inv, in-loop-from-after-slice-known2 c .loop-test .taken, start-from-after-slice-known2 c .pre)
 
 loop-less : tie.Need-loop-less Inv-loop μ-loop
-loop-less c = search needs
+loop-less c = omega (arith, in-loop-from-after-slice-known2 c .loop-test .taken)
 
 loop-again : tie.Need-loop-again Inv-loop μ-loop
 loop-again c =
@@ -92,11 +99,11 @@ loop-again c =
     let l = (at-loop-from-after-slice-known2 c) .loop in (
       join-loop (λ o. fit 32 (tabulate (a .c) (λ t. cell (a .rows .now) t ((a .b + (a .c + o)) % a .sizes .n)))) 32 (l .o) (a .out .now) (l .out) _
           (λ i h. length-fit 32 (tabulate (a .c) (λ t. cell (a .rows .now) t ((a .b + (a .c + i)) % a .sizes .n))))
-          ((c .before .before) .column .ensures ∙ ap (λ (n : ℕ). fit n (tabulate (a .c) (λ t. cell (a .rows .now) t ((a .b + (a .c + l .o)) % a .sizes .n))))
+          ((column-at-slice-known2 c) .column .ensures ∙ ap (λ (n : ℕ). fit n (tabulate (a .c) (λ t. cell (a .rows .now) t ((a .b + (a .c + l .o)) % a .sizes .n))))
           (long (in-loop-from-after-slice-known2 c)))
           (l .inv .0),
+      omega (arith, in-loop-from-after-slice-known2 c .loop-test .taken),
       omega arith,
-      search needs,
     )
 
 same-length : tie.Need-same-length Inv-loop μ-loop
