@@ -3,7 +3,6 @@
 use Prim.Native.Nat.{ℕ, _+_, _*_, _%_, _≤_}
 use mathlib.Core.Path.{_≡_, refl, sym, ap, ap₂, subst, _∙_}
 use mathlib.Core.Bool.{Bool, true, false}
-use mathlib.Core.Option.{some}
 use mathlib.Core.List.{List, [], _∷_, _++_, map}
 use mathlib.Core.Logic.{_↔_}
 use native.Mathlib.Omega.{arith}
@@ -20,21 +19,19 @@ use Rattle.sizes.specs.declared.Check.{Check}
 use Rattle.sizes.specs.declared.Check.the-variants.{Pass, Refuse}
 use Rattle.sizes.specs.declared.Answer.the-variants.{Done, Refused}
 use Rattle.sizes.specs.Sizing.{legal, maxStripes}
-use Rattle.sizes.specs.Refusals.{number, Said, said, first, storeOrder}
-use Rattle.sizes.proofs.Laws.{number-low}
+use Rattle.sizes.specs.Refusals.{Said, first, storeOrder}
 use Rattle.sizes.proofs.Legal.{legal-facts}
 use Rattle.mbcr.specs.Share.{pointed}
 use Rattle.mbcr.proofs.PointLaws.{pointed-facts}
 use Rattle.board_spec.specs.Calls.{fileOf}
 use Rattle.store_spec.specs.Record.{Record, newRecord}
 use Rattle.store_spec.specs.Packets.{total, repairPackets}
-use Rattle.store_spec.specs.Running.{Running, idle, packetsLen}
-use Rattle.store_spec.specs.Calls.{StoreOutcome, accepted, settle, recordLine, setUpCall}
-use Rattle.store_spec.specs.Both.{Outcome, beside, setUpBoth, repairBoth, stepCall}
+use Rattle.store_spec.specs.Running.{Running, idle}
+use Rattle.store_spec.specs.Both.{Outcome, setUpBoth, repairBoth, stepCall}
 use Rattle.store_spec.specs.BothCalls.{storeLines, storeDone}
 use Rattle.store_spec.specs.MarkLaws.{Arrays}
-use Rattle.store_spec.specs.Ledger.{Call, write, lose, repair, read, edit, start, step, Event, call, powerFails, Book, Repairing, State, Step}
-use Rattle.store_spec.specs.Ledger.{Altered, Unaltered, FairEvent, Allowed, packetsAfter, act, lent, next, replies, final, outputOf, packetsOfCall, openBook, bookNext}
+use Rattle.store_spec.specs.Ledger.{Call, write, lose, repair, read, edit, start, step, Event, call, powerFails, Book, State, Step}
+use Rattle.store_spec.specs.Ledger.{Altered, FairEvent, Allowed, packetsAfter, act, lent, next, replies, final, outputOf, packetsOfCall, openBook, bookNext}
 use Rattle.store_spec.specs.Ledger.{told as toldBy}
 use Rattle.store_spec.specs.Demand3.{Intact, Demand3, WholeStep, begun, events}
 use Rattle.store_spec.specs.Premises.{files, IdleGiven, lentAgain, bare}

@@ -32,9 +32,9 @@ use Rattle.record_words.specs.Words.{isRecord, recordFrom, wordsOf}
 use Rattle.record_words.proofs.Laws.{word-laws}
 use Rattle.repair_words.specs.RepairWords.{isRepair, repairFrom, repairWordsOf}
 use Rattle.repair_words.proofs.RepairWords.{repair-words}
-use Rattle.lent_spec.specs.Lent.{Lent, noRecord, inWords, areRecords, zbkSetUp, zbk}
+use Rattle.lent_spec.specs.Lent.{Lent, noRecord, inWords, zbkSetUp, zbk}
 use Rattle.lent_spec.specs.Laws.{LentEnds, AsStore, Keeps, Unchanged, LentCalls}
-use Rattle.lent_spec.proofs.InWords.{both-yes, both-no, by, lent, not-lent, set-up-lent}
+use Rattle.lent_spec.proofs.InWords.{both-yes, both-no, lent, not-lent, set-up-lent}
 
 -- a refusal's word is its number
 abbrev word-number : (x : Refusal) → number x + 256 * 0 ≡ number x

@@ -23,7 +23,8 @@ use Rattle.store_spec.specs.MarkLaws.{Arrays}
 use Rattle.record_words.specs.Words.{bytes, fromBytes, word}
 use Rattle.record_words.proofs.Places.{byte-at}
 use Rattle.record_words.proofs.Points.{length-bytes, word-back, is-word, bytes-number, points-bytes}
-use Rattle.repair_words.specs.RepairWords.{pack, isRepair, repairFrom, repairWordsOf, RepairWordLaws}
+use Rattle.repair_words.specs.RepairWords.{pack, isRepair, repairFrom, repairWordsOf}
+use Rattle.repair_words.specs.Laws.{RepairWordLaws}
 
 -- m words and their bytes
 words-packed : (m : ℕ) (l : List ℕ) → length l ≡ m → All (λ w. word w ≡ true) l → pack m (joined (bytes 8) l) ≡ l
@@ -233,9 +234,13 @@ is-repair-is : (ps : List ℕ) → (isRepair ps ≡ true) ↔ ((length ps ≡ 71
 unfolding isRepair
 is-repair-is ps = (
   (λ h. let f = facts ps h in (f .long-enough, f .flag, all-imp (λ w. word w ≡ true) (λ w. w < 18446744073709551616) below-word (drop 3 ps) (f .words))),
-  (λ h. hold-alls (eqb (length ps) 71 ∷ ltb (getD ps 0 0) 2 ∷ every word (drop 3 ps) ∷ [])
-      (eq-eqb _ _ (h .0), (lt-ltb _ _ (h .1),
-      (all-every word (drop 3 ps) (all-imp (λ w. w < 18446744073709551616) (λ w. word w ≡ true) (λ w k. lt-ltb w 18446744073709551616 k) (drop 3 ps) (h .2)), tt)))),
+  (λ h. hold-alls (eqb (length ps) 71 ∷ ltb (getD ps 0 0) 2 ∷ every word (drop 3 ps) ∷ []) (
+    eq-eqb _ _ (h .0),
+    (
+      lt-ltb _ _ (h .1),
+      (all-every word (drop 3 ps) (all-imp (λ w. w < 18446744073709551616) (λ w. word w ≡ true) (λ w k. lt-ltb w 18446744073709551616 k) (drop 3 ps) (h .2)), tt),
+    ),
+  )),
 )
 
 pub repair-words : RepairWordLaws

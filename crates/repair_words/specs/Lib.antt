@@ -1,1 +1,2 @@
 pub mod RepairWords
+pub mod Laws

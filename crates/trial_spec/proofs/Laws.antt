@@ -9,7 +9,7 @@ use Prim.Native.Nat.{ℕ, zero, suc, _+_, _%_, _≤_}
 use lib.Dec.{leb, eqb}
 use lib.ListN.{length, replicate}
 use borrow.Author.Tests.{eqb-true, eq-eqb, leb-true, le-leb}
-use Rattle.lists.specs.Tests.{pick, alls, given}
+use Rattle.lists.specs.Tests.{pick, alls, among, given}
 use Rattle.lists.specs.Lists.{All, join, over}
 use Rattle.lists.proofs.Tests.{true-false, alls-hold, hold-alls}
 use Rattle.sizes.specs.declared.Sizes.{Sizes}
@@ -21,12 +21,13 @@ use Rattle.mbcr.specs.Share.{standard}
 use Rattle.board_spec.specs.Calls.{fileOf}
 use Rattle.printer.specs.Printer.{refusedLine}
 use Rattle.store_spec.specs.Record.{Record, newRecord, areaLen}
-use Rattle.store_spec.specs.Calls.{settle, refused, accepted, recordLine, setUpCall}
-use Rattle.store_spec.specs.Running.{Running, idle}
-use Rattle.store_spec.specs.Both.{Outcome, beside, setUpBoth}
+use Rattle.store_spec.specs.Calls.{settle, refused, accepted, recordLine, setUpCall, loseCall}
+use Rattle.store_spec.specs.Running.{Running, idle, namedIn}
+use Rattle.store_spec.specs.Both.{Outcome, setUpBoth, lostBeside}
 use Rattle.store_spec.specs.Ledger.{Call, write, lose, repair, read, edit, start, step, Event, call, Reply, Book, Entry, State, Step, Allowed}
 use Rattle.store_spec.specs.Ledger.{FairEvent, act, replyOf, next, replied, bookLines, accept, enter, bookNext, replies, openBook, bookReplies}
 use Rattle.store_spec.specs.Demand3.{begun, events}
+use Rattle.store_spec.proofs.AloneLaws.{alone-laws}
 use Rattle.store_spec.proofs.Demand3.{demand-3}
 use Rattle.generator.specs.Generator.{step as stepped, topByte, after, emitted}
 use Rattle.generator.proofs.Laws.{generator-laws}
@@ -39,12 +40,10 @@ use Rattle.trial_spec.specs.Laws.{bookText, cleared, Drawable, TrialLaws
 -- ---- a set-up answers alike whatever records it is handed
 
 any-record : (old new : Record) (p : Running) (z : Sizes) (xs : List ℕ) (c : ℕ) → setUpBoth old p z xs c .answer ≡ setUpCall new z xs c .answer
-unfolding setUpBoth setUpCall
-any-record old new p z xs c = by (first storeOrder (recordLine (newRecord z xs c) ∷ []))
+unfolding setUpCall
+any-record old new p z xs c = alone-laws .set-up-alone old p z xs c .answer-is ∙ by (first storeOrder (recordLine (newRecord z xs c) ∷ []))
   where
-    by : (k : Check)
-        → settle k (λ x. record { answer = said (Refused x); handed = old; running = p; area = []; output = []; packets = [] }) (beside idle (accepted 0 (newRecord z xs c) [] [])) .answer
-        ≡ settle k (refused new [] []) (accepted 0 (newRecord z xs c) [] []) .answer
+    by : (k : Check) → settle k (refused old [] []) (accepted 0 (newRecord z xs c) [] []) .answer ≡ settle k (refused new [] []) (accepted 0 (newRecord z xs c) [] []) .answer
     by Pass = refl
     by (Refuse x) = refl
 
@@ -128,6 +127,27 @@ unaltered-allowed w b (c ∷ cs) e h = (
   subst (λ (v : State). Allowed v (bookNext b (call c)) (unaltered (left (act w c)) cs)) (sym (left-is w c (h .0) e))
       (unaltered-allowed (left (act w c)) (bookNext b (call c)) cs refl (h .1)),
 )
+
+-- where no repair runs, none of these calls changes the record beside
+same-beside : (t : Bool) (p : Running) → pick t p p ≡ p
+same-beside true p = refl
+same-beside false p = refl
+
+stays-idle : (w : State) (c : Call) → Drawable c → w .running .running ≡ false → act w c .running ≡ w .running
+unfolding act
+stays-idle w (write file) h e = alone-laws .write-alone (w .kept) (w .running) (w .area) file e .running-is
+stays-idle w (lose board) h e =
+    let s = w .kept in
+    let p = w .running in
+    let l : lostBeside s p board ≡ p = ap (λ (b : Bool). pick (alls (b ∷ among (namedIn (s .sizes) p) board ∷ [])) idle p) e in
+    alone-laws .lose-alone s p (w .area) board (alone-laws .idle-sound s p e) .running-is
+    ∙ ap (λ (q : Running). pick (eqb (loseCall s (w .area) board .answer .refusal) 0) q p) l ∙ same-beside (eqb (loseCall s (w .area) board .answer .refusal) 0) p
+stays-idle w (repair fresh helpers standIns) h e = alone-laws .repair-alone (w .kept) (w .running) (w .area) fresh helpers standIns e .running-is
+stays-idle w (read boards output) h e =
+    alone-laws .read-alone (w .kept) (w .running) (w .area) boards output (alone-laws .idle-sound (w .kept) (w .running) e) .running-is
+stays-idle w (edit offset bytes boards) h e = absurd h
+stays-idle w (start fresh helpers standIns) h e = absurd h
+stays-idle w (step allowance packets) h e = absurd h
 
 -- ---- the calls drawn
 
@@ -316,4 +336,5 @@ trial-laws = record {
   refused = refuses;
   as-many = as-many;
   fair = fair;
+  stays-idle = stays-idle;
 }

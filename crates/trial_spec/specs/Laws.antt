@@ -2,7 +2,7 @@
 -- `trial-laws : TrialLaws`.
 -- Assumes nothing.
 use mathlib.Core.Path.{_≡_}
-use mathlib.Core.Bool.{true}
+use mathlib.Core.Bool.{true, false}
 use mathlib.Core.Logic.{_↔_}
 use mathlib.Core.Option.{some, none}
 use mathlib.Core.List.{List, map}
@@ -15,7 +15,7 @@ use Rattle.printer.specs.Printer.{refusedLine}
 use Rattle.store_spec.specs.Record.{Record, areaLen}
 use Rattle.store_spec.specs.Running.{Running}
 use Rattle.store_spec.specs.Both.{setUpBoth}
-use Rattle.store_spec.specs.Ledger.{Call, write, lose, repair, read, edit, start, step, call, openBook, bookReplies}
+use Rattle.store_spec.specs.Ledger.{Call, write, lose, repair, read, edit, start, step, call, State, act, openBook, bookReplies}
 use Rattle.store_spec.specs.Demand3.{begun}
 use Rattle.trial_spec.specs.Trial.{Load, newStore, taken, loaded, drawnCalls, printed, storeReplies, trialOver, trialText}
 
@@ -63,3 +63,5 @@ pub record TrialLaws : Type 0 where
   -- "calls=": so many calls are drawn, each a write, loss, repair or read, and each file drawn is of bytes
   pub as-many : (l : Load) (m state : ℕ) → length (drawnCalls l m state) ≡ m
   pub fair : (l : Load) (m state : ℕ) → All Drawable (drawnCalls l m state)
+  -- request A.8: no call drawn starts a repair, so that each is given the record that the set-up handed on beside, idle, and hands it on
+  pub stays-idle : (w : State) (c : Call) → Drawable c → w .running .running ≡ false → act w c .running ≡ w .running
