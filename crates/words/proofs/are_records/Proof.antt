@@ -6,6 +6,8 @@ use mathlib.Core.List.{[], _∷_}
 use borrow.Author.Needs.{needs}
 use borrow.Author.Tests.{not-true, not-false}
 use Rattle.lists.specs.Tests.{alls}
+use Rattle.record_words.specs.Words.{isRecord}
+use Rattle.repair_words.specs.RepairWords.{isRepair}
 use Rattle.words.proofs.are_records.Statement.{statement}
 use Rattle.words.proofs.are_records.Tie as tie
 
@@ -24,6 +26,8 @@ are-records-spec =
     tie.close
     (tie.spec
     (λ c κs. search needs)
-    (λ c. first-off (c .before .is-record .result) _ _ (c .before .is-record .ensures) (c .if1 .taken))
+    (λ c. let k = c .before in let g = k .before .before .before .args in
+    first-off (k .is-record .result) (isRecord (g .words .now)) (isRepair (g .beside .now)) (k .is-record .ensures) (c .if1 .taken))
     (λ c κs. search needs)
-    (λ c. let k = c .before in second (k .before .is-record .result) _ _ (c .is-repair .result) (k .before .is-record .ensures) (k .if1 .left) (c .is-repair .ensures)))
+    (λ c. let e = c .before in let k = e .before in let g = k .before .before .before .args in
+    second (k .is-record .result) (isRecord (g .words .now)) (isRepair (g .beside .now)) (c .is-repair .result) (k .is-record .ensures) (e .if1 .left) (c .is-repair .ensures)))
