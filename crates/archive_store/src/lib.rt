@@ -3,7 +3,7 @@
 ghost use mathlib.Core.Path.{_≡_};
 ghost use mathlib.Core.List.{List, []};
 ghost use Prim.Native.Nat.{ℕ};
-ghost use Rattle.store_spec.specs.Ledger.{write, lose, repair, read, edit};
+ghost use Rattle.store_spec.specs.Ledger.{write, lose, repair, read, edit, start, step};
 ghost use Rattle.archive_spec.specs.Archive.{sizesOf};
 ghost use Rattle.archive_spec.specs.Lent.{zbkSetUp, zbk};
 use sizes::Sizes;
@@ -12,9 +12,10 @@ use store::Store;
 // The word of SIZE, for words that are no record.
 const SIZE: u64 = 1;
 
-// A new store of these sizes, these points and this capacity, in twelve words.
+// A new store of these sizes, these points and this capacity, in twelve words, with no repair, in 71.
 pub fn set_up(
     ws: &mut [u64],
+    ps: &mut [u64],
     n: usize,
     k: usize,
     d: usize,
@@ -22,9 +23,12 @@ pub fn set_up(
     points: &[u8],
     capacity: usize,
 ) -> u64
-    ensures { λ w. ⌜ record { answer = w; words = now (ws .exit); area = []; output = [] } ≡ zbkSetUp (now (ws .entry)) (sizesOf n k d r) (now (points .entry)) capacity ⌝ }
+    ensures { λ w. ⌜ record { answer = w; words = now (ws .exit); repair = now (ps .exit); area = []; output = []; packets = [] } ≡ zbkSetUp (now (ws .entry)) (now (ps .entry)) (sizesOf n k d r) (now (points .entry)) capacity ⌝ }
 {
     if ws.len() != 12 {
+        return SIZE;
+    }
+    if ps.len() != 71 {
         return SIZE;
     }
     let sizes = Sizes {
@@ -35,84 +39,139 @@ pub fn set_up(
     };
     let xs = point_array::points_array(points);
     let blank = Store {
-        sizes: sizes,
-        points: xs,
-        capacity: capacity,
-        written: false,
-        length: 0,
-        marks: [false; 32],
+        record: record::new_kept(sizes, xs, capacity),
     };
-    let handed = blank.set_up(sizes, xs, capacity);
+    let idle = record::idle();
+    let handed = blank.set_up(idle, sizes, xs, capacity);
     let answer = handed.answer;
     let word = answer_word::word_of(answer);
     if word == 0 {
         words::put_words(handed.store, ws);
+        running_words::put_running(handed.running, ps);
     }
     word
 }
 
 // Writes a file.
-pub fn write(ws: &mut [u64], area: &mut [u8], file: &[u8]) -> u64
-    ensures { λ w. ⌜ record { answer = w; words = now (ws .exit); area = now (area .exit); output = [] } ≡ zbk (now (ws .entry)) (now (area .entry)) (write (now (file .entry))) ⌝ }
+pub fn write(ws: &mut [u64], ps: &mut [u64], area: &mut [u8], file: &[u8]) -> u64
+    ensures { λ w. ⌜ record { answer = w; words = now (ws .exit); repair = now (ps .exit); area = now (area .exit); output = []; packets = [] } ≡ zbk (now (ws .entry)) (now (ps .entry)) (now (area .entry)) (write (now (file .entry))) ⌝ }
 {
-    if !word_parts::is_record(ws) {
+    if !words::are_records(ws, ps) {
         return SIZE;
     }
     let store = words::store_of(ws);
-    let handed = store.write(area, file);
-    words::hand_on(handed, ws)
+    let running = running_words::running_of(ps);
+    let handed = store.write(running, area, file);
+    words::hand_on(handed, ws, ps)
 }
 
 // Takes a board out of service.
-pub fn lose(ws: &mut [u64], board: usize) -> u64
-    ensures { λ w. ⌜ ((area : List ℕ) → record { answer = w; words = now (ws .exit); area = area; output = [] } ≡ zbk (now (ws .entry)) area (lose board)) ⌝ }
+pub fn lose(ws: &mut [u64], ps: &mut [u64], board: usize) -> u64
+    ensures { λ w. ⌜ ((area : List ℕ) → record { answer = w; words = now (ws .exit); repair = now (ps .exit); area = area; output = []; packets = [] } ≡ zbk (now (ws .entry)) (now (ps .entry)) area (lose board)) ⌝ }
 {
-    if !word_parts::is_record(ws) {
+    if !words::are_records(ws, ps) {
         return SIZE;
     }
     let store = words::store_of(ws);
-    let handed = store.lose(board);
-    words::hand_on(handed, ws)
+    let running = running_words::running_of(ps);
+    let handed = store.lose(running, board);
+    words::hand_on(handed, ws, ps)
 }
 
 // Rebuilds one to r fresh boards together, t of them, each from its own run of d helpers and its own run of r − t stand-ins.
 pub fn repair(
     ws: &mut [u64],
+    ps: &mut [u64],
     area: &mut [u8],
     fresh: &[usize],
     helpers: &[usize],
     standins: &[usize],
 ) -> u64
-    ensures { λ w. ⌜ record { answer = w; words = now (ws .exit); area = now (area .exit); output = [] } ≡ zbk (now (ws .entry)) (now (area .entry)) (repair (now (fresh .entry)) (now (helpers .entry)) (now (standins .entry))) ⌝ }
+    ensures { λ w. ⌜ record { answer = w; words = now (ws .exit); repair = now (ps .exit); area = now (area .exit); output = []; packets = [] } ≡ zbk (now (ws .entry)) (now (ps .entry)) (now (area .entry)) (repair (now (fresh .entry)) (now (helpers .entry)) (now (standins .entry))) ⌝ }
 {
-    if !word_parts::is_record(ws) {
+    if !words::are_records(ws, ps) {
         return SIZE;
     }
     let store = words::store_of(ws);
-    let handed = store.repair(area, fresh, helpers, standins);
-    words::hand_on(handed, ws)
+    let running = running_words::running_of(ps);
+    let handed = store.repair(running, area, fresh, helpers, standins);
+    words::hand_on(handed, ws, ps)
 }
 
 // Reads the file from k boards.
-pub fn read(ws: &mut [u64], area: &[u8], boards: &[usize], out: &mut [u8]) -> u64
-    ensures { λ w. ⌜ record { answer = w; words = now (ws .exit); area = now (area .entry); output = now (out .exit) } ≡ zbk (now (ws .entry)) (now (area .entry)) (read (now (boards .entry)) (now (out .entry))) ⌝ }
+pub fn read(
+    ws: &mut [u64],
+    ps: &mut [u64],
+    area: &[u8],
+    boards: &[usize],
+    out: &mut [u8],
+) -> u64
+    ensures { λ w. ⌜ record { answer = w; words = now (ws .exit); repair = now (ps .exit); area = now (area .entry); output = now (out .exit); packets = [] } ≡ zbk (now (ws .entry)) (now (ps .entry)) (now (area .entry)) (read (now (boards .entry)) (now (out .entry))) ⌝ }
 {
-    if !word_parts::is_record(ws) {
+    if !words::are_records(ws, ps) {
         return SIZE;
     }
     let store = words::store_of(ws);
-    let handed = store.read(area, boards, out);
-    words::hand_on(handed, ws)
+    let running = running_words::running_of(ps);
+    let handed = store.read(running, area, boards, out);
+    words::hand_on(handed, ws, ps)
 }
 
 // Puts bytes into the file from an offset on, read from k boards, in all boards in service.
-pub fn edit(ws: &mut [u64], area: &mut [u8], offset: usize, bytes: &[u8], boards: &[usize]) -> u64
-    ensures { λ w. ⌜ record { answer = w; words = now (ws .exit); area = now (area .exit); output = [] } ≡ zbk (now (ws .entry)) (now (area .entry)) (edit offset (now (bytes .entry)) (now (boards .entry))) ⌝ }
+pub fn edit(
+    ws: &mut [u64],
+    ps: &mut [u64],
+    area: &mut [u8],
+    offset: usize,
+    bytes: &[u8],
+    boards: &[usize],
+) -> u64
+    ensures { λ w. ⌜ record { answer = w; words = now (ws .exit); repair = now (ps .exit); area = now (area .exit); output = []; packets = [] } ≡ zbk (now (ws .entry)) (now (ps .entry)) (now (area .entry)) (edit offset (now (bytes .entry)) (now (boards .entry))) ⌝ }
 {
-    if !word_parts::is_record(ws) {
+    if !words::are_records(ws, ps) {
         return SIZE;
     }
     let store = words::store_of(ws);
-    let handed = store.edit(area, offset, bytes, boards);
-    words::hand_on(handed, ws)
+    let running = running_words::running_of(ps);
+    let handed = store.edit(running, area, offset, bytes, boards);
+    words::hand_on(handed, ws, ps)
+}
+
+// Starts a repair by these lists: nothing is carried yet.
+pub fn start(
+    ws: &mut [u64],
+    ps: &mut [u64],
+    area: &[u8],
+    fresh: &[usize],
+    helpers: &[usize],
+    standins: &[usize],
+) -> u64
+    ensures { λ w. ⌜ record { answer = w; words = now (ws .exit); repair = now (ps .exit); area = now (area .entry); output = []; packets = [] } ≡ zbk (now (ws .entry)) (now (ps .entry)) (now (area .entry)) (start (now (fresh .entry)) (now (helpers .entry)) (now (standins .entry))) ⌝ }
+{
+    if !words::are_records(ws, ps) {
+        return SIZE;
+    }
+    let store = words::store_of(ws);
+    let running = running_words::running_of(ps);
+    let handed = store.start(running, area, fresh, helpers, standins);
+    words::hand_on(handed, ws, ps)
+}
+
+// Carries at most so many packets of the repair that runs, each to its place in the packet area.
+pub fn step(
+    ws: &mut [u64],
+    ps: &mut [u64],
+    area: &mut [u8],
+    packets: &mut [u8],
+    allowance: usize,
+) -> u64
+    ensures { λ w. ⌜ record { answer = w; words = now (ws .exit); repair = now (ps .exit); area = now (area .exit); output = []; packets = now (packets .exit) } ≡ zbk (now (ws .entry)) (now (ps .entry)) (now (area .entry)) (step allowance (now (packets .entry))) ⌝ }
+{
+    if !words::are_records(ws, ps) {
+        return SIZE;
+    }
+    let store = words::store_of(ws);
+    let running = running_words::running_of(ps);
+    let handed = store.step(running, area, packets, allowance);
+    words::hand_on(handed, ws, ps)
 }

@@ -17,14 +17,18 @@ use Rattle.sizes.specs.Refusals.{first, storeOrder}
 use Rattle.sizes.proofs.Legal.{legal-facts, row-fits}
 use Rattle.store_spec.specs.Record.{Record, stripeCount, partLen, withMarks, turnOn}
 use Rattle.store_spec.specs.Packets.{standInsEach}
-use Rattle.store_spec.specs.Calls.{StoreOutcome, accepted, refused, repairLines, repairDone, repairCall}
+use Rattle.store_spec.specs.Calls.{StoreOutcome, accepted, settle, listLines, repairLines, repairDone, repairCall, refused}
+use Rattle.store_spec.specs.Running.{Running, runningBy}
+use Rattle.store_spec.specs.Both.{Outcome, beside, repairLinesBoth, repairBoth, startCall}
 use Rattle.store_spec.proofs.Records.{repair-facts, sound-facts}
+use Rattle.store_spec.proofs.Beside.{alone-busy}
 use Rattle.store_spec.proofs.Real.{code-lengths}
 use Rattle.store_spec.proofs.Repair.{moved-is}
 use Rattle.puts.specs.Steps.{puts}
 use Rattle.repair_stripe.specs.Steps.{DifferentRuns, rebuilt}
-use Rattle.repair_check.proofs.Repairable.{Repairable}
+use Rattle.repair_check.proofs.Repairable.{Repairable, repairable}
 use Rattle.repair_seam.proofs.Repaired.{namedOf, runOf, repaired}
+use Rattle.store.specs.Handing.{turnedDown}
 use Rattle.store.proofs.Settled.{refused-by, done-by}
 
 -- no fresh board names a board twice, in the list of all that are named
@@ -44,17 +48,27 @@ runs-named s m fresh helpers standIns f = record { each = λ a h. ap different (
         ∙ ap₂ _+_ (length-piece d b helpers (omega (arith, f .helper-count, row-fits b (length fresh) d h)))
         (length-piece e b standIns (omega (arith, f .stand-in-count, row-fits b (length fresh) e h)))
 
-module _ (s : Record) (area fresh helpers standIns : List ℕ) where
+module _ (s : Record) (p : Running) (area fresh helpers standIns : List ℕ) where
   abbrev pub checked : Check
-  checked = first storeOrder (repairLines s (length area) fresh helpers standIns)
+  checked = first storeOrder (repairLinesBoth s p (length area) fresh helpers standIns)
 
-  pub repair-refuses : {r : Check} {x : Refusal} → r ≡ checked → r ≡ Refuse x → refused s area [] x ≡ repairCall s area fresh helpers standIns
-  unfolding repairCall
-  repair-refuses e h = refused-by (refused s area []) (repairDone s area fresh helpers standIns) e h
+  pub repair-refuses : {r : Check} {x : Refusal} → r ≡ checked → r ≡ Refuse x → turnedDown s p area [] [] x ≡ repairBoth s p area fresh helpers standIns
+  unfolding repairBoth
+  repair-refuses e h = refused-by (turnedDown s p area [] []) (beside p (repairDone s area fresh helpers standIns)) e h
+
+  -- the call alone passes too
+  repair-alone : checked ≡ Pass → first storeOrder (repairLines s (length area) fresh helpers standIns) ≡ Pass
+  unfolding repairLinesBoth repairLines listLines
+  repair-alone h = alone-busy s p (p .running) (drop 1 (repairLines s (length area) fresh helpers standIns)) refl h .0
+
+  -- what the check told
+  pub repair-asks : checked ≡ Pass → Repairable s (length area) fresh helpers standIns
+  repair-asks h =
+      repairable s (length area) fresh helpers standIns (repair-facts s (length area) fresh helpers standIns (repair-alone h))
 
   -- what a repair hands on with this answer, these marks and this area
-  abbrev pub mended : ℕ → List Bool → List ℕ → StoreOutcome
-  mended moved marks after = accepted moved (withMarks s marks) after []
+  abbrev pub mended : ℕ → List Bool → List ℕ → Outcome
+  mended moved marks after = beside p (accepted moved (withMarks s marks) after [])
 
   -- stripe t of the a-th fresh board
   abbrev pub stripe : ℕ → ℕ → List ℕ
@@ -68,14 +82,31 @@ module _ (s : Record) (area fresh helpers standIns : List ℕ) where
   bytes count = count * length fresh * (2 * s .sizes .d + s .sizes .r - 1)
 
   pub repair-works : (after : List ℕ) (marks : List Bool) (count moved : ℕ) → checked ≡ Pass → count ≡ stripeCount s
-      → moved ≡ bytes count → marks ≡ turnOn fresh (s .marks) → after ≡ restored count → mended moved marks after ≡ repairCall s area fresh helpers standIns
-  unfolding repairCall
-  repair-works after marks count moved p ec eb em ea =
-      let f = repair-facts s (length area) fresh helpers standIns p in
+      → moved ≡ bytes count → marks ≡ turnOn fresh (s .marks) → after ≡ restored count → mended moved marks after ≡ repairBoth s p area fresh helpers standIns
+  unfolding repairBoth repairCall
+  repair-works after marks count moved h ec eb em ea =
+      let k = repair-alone h in
+      let f = repair-facts s (length area) fresh helpers standIns k in
       let legal = sound-facts s (f .is-sound) .is-legal in
       let done = repairDone s area fresh helpers standIns in
-      let d = done-by (refused s area []) done p in
+      let taken : repairCall s area fresh helpers standIns .answer .refusal ≡ 0 =
+      ap (λ (c : Check). settle c (refused s area []) done .answer .refusal) k in
+      let d = done-by (turnedDown s p area [] []) (beside p done) h in
       let sent = moved-is s area fresh helpers standIns (length area) (code-lengths (s .points) (s .sizes) legal) f in
       let whole : after ≡ done .area =
-      ea ∙ ap restored ec ∙ repaired s area fresh helpers standIns f (ap (λ (o : StoreOutcome). o .answer .refusal) (sym d)) in
+      ea ∙ ap restored ec ∙ repaired s area fresh helpers standIns f taken in
       ap₂ (mended moved) em whole ∙ ap (λ (n : ℕ). mended n (turnOn fresh (s .marks)) (done .area)) (eb ∙ ap bytes ec ∙ sym sent) ∙ d
+
+  -- ---- start, by the same lines
+
+  -- what a start hands on with this record of a repair
+  abbrev begun : Running → Outcome
+  begun q = beside q (accepted 0 s area [])
+
+  pub start-refuses : {r : Check} {x : Refusal} → r ≡ checked → r ≡ Refuse x → turnedDown s p area [] [] x ≡ startCall s p area fresh helpers standIns
+  unfolding startCall
+  start-refuses e h = refused-by (turnedDown s p area [] []) (begun (runningBy fresh helpers standIns 0)) e h
+
+  pub start-works : (q : Running) → checked ≡ Pass → q ≡ runningBy fresh helpers standIns 0 → begun q ≡ startCall s p area fresh helpers standIns
+  unfolding startCall
+  start-works q h e = ap begun e ∙ done-by (turnedDown s p area [] []) (begun (runningBy fresh helpers standIns 0)) h

@@ -14,11 +14,12 @@ use Rattle.board_spec.specs.Text.{decimal}
 use Rattle.printer.specs.Printer.{refusedLine}
 use Rattle.text_lines.specs.Steps.{Wrote}
 use Rattle.store_spec.specs.Record.{Record, areaLen}
-use Rattle.store_spec.specs.Calls.{setUpCall}
-use Rattle.store_spec.specs.Ledger.{State, left}
+use Rattle.store_spec.specs.Running.{Running, idle}
+use Rattle.store_spec.specs.Both.{setUpBoth}
+use Rattle.store_spec.specs.Ledger.{State}
 use Rattle.store_spec.proofs.Records.{sound-facts}
-use Rattle.store_spec.proofs.Demand3.{set-up-sound}
-use Rattle.trial_spec.specs.Trial.{Load, newStore, taken, loaded, drawn, trialOver, trialOf, trialText}
+use Rattle.store_spec.proofs.Demand3.{set-up-both}
+use Rattle.trial_spec.specs.Trial.{Load, newStore, taken, loaded, drawn, left, trialOver, trialOf, trialText}
 use Rattle.trial_spec.proofs.Laws.{trial-laws}
 use Rattle.trial_input.specs.declared.Load as load
 use Rattle.trial_input.specs.declared.Loaded.{Loaded}
@@ -87,7 +88,7 @@ wrote-few l a l2 e w k = omega (arith, w .ends, ap length (w .written), put-long
 
 pub few-stripes : (l : Load) → taken l ≡ true → l .capacity ≤ 4096
 few-stripes l h =
-    sound-facts _ (set-up-sound (newStore l) (l .sizes) (standard (l .sizes)) (l .capacity) (trial-laws .taken-is l .0 h .2 (newStore l))) .cap-high
+    sound-facts _ (set-up-both (newStore l) idle (l .sizes) (standard (l .sizes)) (l .capacity) (trial-laws .taken-is l .0 h .2 (newStore l) idle)) .cap-high
 
 pub few-bytes : (l : Load) → taken l ≡ true → l .sizes .n * (l .capacity * α (l .sizes)) ≤ 32768
 few-bytes l h = trial-laws .taken-is l .0 h .3
@@ -96,13 +97,18 @@ pub few-calls : (l : Load) → taken l ≡ true → l .calls ≤ 4294967295
 few-calls l h = trial-laws .taken-is l .0 h .1
 
 -- from a store newly set up, over the beginning of an array of bytes 00
-pub text-of : (l : Load) (kept : Record) (m : ℕ) → kept ≡ setUpCall (newStore l) (l .sizes) (standard (l .sizes)) (l .capacity) .handed
+pub text-of : (l : Load) (kept : Record) (p : Running) (m : ℕ) → kept ≡ setUpBoth (newStore l) idle (l .sizes) (standard (l .sizes)) (l .capacity) .handed
+    → p ≡ setUpBoth (newStore l) idle (l .sizes) (standard (l .sizes)) (l .capacity) .running
     → m ≡ l .sizes .n * (l .capacity * α (l .sizes)) → m ≤ 32768
-    → textFrom l (l .calls) (record { kept = kept; area = take m (replicate 32768 0) }) (l .seed) ≡ trialOf (some l)
+    → textFrom l (l .calls) (record { kept = kept; running = p; area = take m (replicate 32768 0); packets = [] }) (l .seed) ≡ trialOf (some l)
 unfolding trialOver
-text-of l kept m ek em h =
-    ap₂ {C = List ℕ} (λ (k : Record) (area : List ℕ). textFrom l (l .calls) (record { kept = k; area = area }) (l .seed)) ek
-    (take-zeros m 32768 h ∙ ap (λ (m : ℕ). replicate m 0) em)
+text-of l kept p m ek ep em h =
+    let new = setUpBoth (newStore l) idle (l .sizes) (standard (l .sizes)) (l .capacity) in
+    ap₂ {C = List ℕ} (λ (k : Record) (q : Running). from k q (take m (replicate 32768 0))) ek ep
+    ∙ ap (from (new .handed) (new .running)) (take-zeros m 32768 h ∙ ap (λ (m : ℕ). replicate m 0) em)
+  where
+    from : Record → Running → List ℕ → List ℕ
+    from k q area = textFrom l (l .calls) (record { kept = k; running = q; area = area; packets = [] }) (l .seed)
 
 -- ---- by what is loaded
 

@@ -4,6 +4,7 @@ use mathlib.Core.Path.{_≡_, subst, _∙_}
 use mathlib.Core.List.{List}
 use Prim.Native.Nat.{ℕ, _≤_}
 use native.Mathlib.Omega.{arith}
+use Rattle.record.specs.Records.{runningIn}
 use Rattle.store.specs.Handing.{recordIn}
 use Rattle.trial_input.specs.Steps.{loadIn}
 use Rattle.trial_calls.proofs.Made.{length-front}
@@ -24,7 +25,8 @@ returns c =
     let m = s .before in
     let l = loadIn (m .before .args .load) in
     subst (λ (text : List ℕ). Printing text (t .turns .result))
-    (text-of l (recordIn (s .set-up .result)) (m .area-len .result) (s .set-up .ensures) (m .area-len .ensures) (few m)) (t .turns .ensures)
+    (text-of l (recordIn (s .set-up .result .store)) (runningIn (s .set-up .result .running)) (m .area-len .result) (s .set-up .ensures .0) (s .set-up .ensures .1)
+    (m .area-len .ensures) (few m)) (t .turns .ensures)
 
 pub print-spec : {M : Type 1} → statement M
 print-spec =

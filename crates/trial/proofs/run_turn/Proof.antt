@@ -12,10 +12,10 @@ use Rattle.trial.proofs.run_turn.Statement.{statement}
 use Rattle.trial.proofs.run_turn.Tie as tie
 
 few : (c : tie.After-run-one) → c .run-one .result .count ≤ 48
-few c = wrote-few _ _ _ _ (c .run-one .ensures .1 .1) (c .run-one .kept .1 .1 .1 .1 .0)
+few c = wrote-few _ _ _ _ (c .run-one .ensures .1 .1) (c .run-one .kept .1 .1 .1 .1 .1 .0)
 
-inside : (c : tie.After-run-one) → c .run-one .result .count ≤ length (c .run-one .last .1 .1 .1 .1 .0)
-inside c = omega (arith, few c, c .run-one .kept .1 .1 .1 .1 .0)
+inside : (c : tie.After-run-one) → c .run-one .result .count ≤ length (c .run-one .last .1 .1 .1 .1 .1 .0)
+inside c = omega (arith, few c, c .run-one .kept .1 .1 .1 .1 .1 .0)
 
 returns : tie.Need-returns
 returns c =

@@ -1,4 +1,4 @@
--- `words::hand_on` meets its contract: the words of the record, and the word of the answer.
+-- `words::hand_on` meets its contract: the words of both records, and the word of the answer.
 -- Assumes nothing.
 use borrow.Author.Needs.{needs}
 use Rattle.words.proofs.hand_on.Statement.{statement}
@@ -10,5 +10,7 @@ hand-on-spec =
     (tie.spec
     (λ c κs. search needs)
     (λ c κs. search needs)
+    (λ c κs. search needs)
+    (λ c. search needs)
     (λ c. search needs)
     (λ c. search needs))
