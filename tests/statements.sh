@@ -1,6 +1,6 @@
 #!/bin/sh
 # docs/STATEMENTS.md is true to the tree: each file that it names is there, each name that it cites in `file: name` stands in that file, each
-# must-fail edit that it names exists and each edit of the tree is named; the definitions a buyer reads are at most 852 lines, none of them is left
+# must-fail edit that it names exists and each edit of the tree is named; the definitions a buyer reads are at most 856 lines, none of them is left
 # out of the table of definitions and laws, and each row of it cites a law. Then that docs/ARCHITECTURE.md is true to crates.txt.
 set -eu
 cd "$(dirname "$0")/.."
@@ -44,8 +44,8 @@ definitions=$(ls crates/*/specs/*.antt | grep -v -e '/Lib.antt$')
 inner=$(ls crates/*/specs/Steps.antt crates/gf256_mul/specs/Tables.antt crates/trial_calls/specs/Acts.antt crates/trial_turn/specs/Turn.antt crates/trial_turn/specs/Walk.antt crates/trial/specs/Printing.antt crates/trial_line/specs/Line.antt)
 # the archive's words, beside the calls that they are for
 archive='crates/answer_word/specs/Answers.antt crates/record_words/specs/Words.antt crates/repair_words/specs/RepairWords.antt crates/text_words/specs/Words.antt crates/archive_spec/specs/Archive.antt crates/archive_spec/specs/Lent.antt crates/archive_spec/specs/Texts.antt'
-# what a later request defines in files of its own, each with its most lines; they are not among the 852, which are 700 for the base with its points,
-# 45 for what stand-ins (request A.3) add to the base's own definitions, 17 for what edits (request A.6) add, and 90 for what starts, steps and power
+# what a later request defines in files of its own, each with its most lines; they are not among the 856, which are 700 for the base with its points,
+# 45 for what stand-ins (request A.3) add to the base's own definitions, 17 for what edits (request A.6) add, and 94 for what starts, steps and power
 # failures (request A.8) add to the ledger
 requests='crates/size_list/specs/Combinations.antt:45 crates/text_spec/specs/Texts.antt:63 crates/text_spec/specs/Calls.antt:49 crates/prefix_spec/specs/Prefix.antt:56 crates/generator/specs/Generator.antt:10 crates/trial_spec/specs/Trial.antt:83 crates/store_spec/specs/Edit.antt:26 crates/store_spec/specs/Running.antt:38 crates/store_spec/specs/Lying.antt:34 crates/store_spec/specs/Both.antt:75'
 later=$(for f in $requests; do echo "${f%:*}"; done)
@@ -77,7 +77,7 @@ for f in $requests; do
 done
 r=$(lines $later)
 grep -qF "Definitions of requests in files of their own: $r lines" "$page" || complain "it does not say that requests' own definitions have $r lines"
-[ "$d" -le 852 ] || complain "the definitions have $d lines, more than 852"
+[ "$d" -le 856 ] || complain "the definitions have $d lines, more than 856"
 grep -qF "$d lines without imports" "$page" || complain "it does not say that the definitions have $d lines"
 grep -qF "Theorem statements: $c lines" "$page" || complain "it does not say that the theorem statements have $c lines"
 grep -qF "Tables of figures: $t lines" "$page" || complain "it does not say that the tables have $t lines"
