@@ -30,7 +30,8 @@ use Rattle.store_spec.specs.Calls.{listLines, repairLines, repairDone, r
 use Rattle.board_spec.specs.Claims.{LinesSay}
 use Rattle.board_spec.proofs.Claims.{EachSays, _and_, end, lines-say}
 use Rattle.store_spec.specs.Edit.{editLines, editDone, editCall}
-use Rattle.store_spec.specs.Demand1.{StoreEnds, Stays, StoreCalls, writeClaims, loseClaims, listClaims, repairClaims, readClaims, editClaims}
+use Rattle.store_spec.specs.Careful.{carefulLines, carefulDone, carefulCall}
+use Rattle.store_spec.specs.Demand1.{StoreEnds, Stays, StoreCalls, writeClaims, loseClaims, listClaims, repairClaims, readClaims, editClaims, carefulClaims}
 use Rattle.store_spec.specs.Packets.{freshShare, hearNamed, standInsEach}
 use Rattle.store_spec.specs.Record.{Record, newRecord, sound, inService, stripeCount, held, writtenRecord, usedLen, partLen}
 use Rattle.store_spec.proofs.Area.{held-stripe, length-shares, byte-stays, shares-same}
@@ -83,6 +84,11 @@ edit-ends : (s : Record) (area : List ℕ) (offset : ℕ) (bytes boards : List �
     → StoreEnds (editLines s area offset bytes boards) s area [] (editDone s area offset bytes boards) (editCall s area offset bytes boards)
 unfolding editCall
 edit-ends s area offset bytes boards = ends _ s area [] _ refl
+
+careful-ends : (s : Record) (area boards output : List ℕ)
+    → StoreEnds (carefulLines s area boards output) s area output (carefulDone s area boards output) (carefulCall s area boards output)
+unfolding carefulCall
+careful-ends s area boards output = ends _ s area output _ refl
 
 -- ---- records
 
@@ -304,6 +310,32 @@ edit-lines s area offset bytes boards =
     and says-no-file _
     and end)
 
+-- COUNT by two tests
+pub says-both : (a b c d : ℕ) → (not (alls (leb a b ∷ eqb c d ∷ [])) ≡ true) ↔ ((a ≤ b) × (c ≡ d) → ⊥)
+says-both a b c d = (
+  (λ q p. true-false (hold-alls tests (le-leb a b (p .0), (eq-eqb c d (p .1), tt))) (says-not (alls tests) .0 q)),
+  (λ no. says-not (alls tests) .1 (is-false (alls tests) (λ q. let p = alls-hold tests q in no (leb-true a b (p .0), eqb-true c d (p .1 .0))))),
+)
+  where
+    tests : List Bool
+    tests = leb a b ∷ eqb c d ∷ []
+
+careful-lines : (s : Record) (area boards output : List ℕ)
+    → LinesSay (carefulLines s area boards output) (carefulClaims s area boards output)
+unfolding carefulLines
+careful-lines s area boards output =
+    lines-say (carefulLines s area boards output) (carefulClaims s area boards output)
+    (says-not _
+    and says-differ _ _
+    and says-not _
+    and says-both _ _ _ _
+    and says-not _
+    and says-not _
+    and says-not _
+    and says-less _ _
+    and says-no-file _
+    and end)
+
 -- ---- what is reported, and what losing and reading leave
 
 -- what holds of a refusal and of the work holds of the call
@@ -358,12 +390,14 @@ demand-1 = record {
   repair-lines = repair-lines;
   read-lines = read-lines;
   edit-lines = edit-lines;
+  careful-lines = careful-lines;
   set-up-ends = set-up-ends;
   write-ends = write-ends;
   lose-ends = lose-ends;
   repair-ends = repair-ends;
   read-ends = read-ends;
   edit-ends = edit-ends;
+  careful-ends = careful-ends;
   set-up-accepted = set-up-accepted;
   sound-is = λ s. (sound-there s, sound-back s);
   held-place = held-place;

@@ -251,6 +251,7 @@ module _ (w : State) (fresh helpers standIns : List ℕ) where
       same-lent (call (Rattle.store_spec.specs.Ledger.edit offset bytes boards)) x = tt
       same-lent (call (start f1 h1 s1)) x = tt
       same-lent (call (step allowance packets)) x = x
+      same-lent (call (Rattle.store_spec.specs.Ledger.careful boards output)) x = tt
       same-lent (powerFails q) x = tt
 
   -- just after the start
