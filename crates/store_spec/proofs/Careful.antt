@@ -121,6 +121,29 @@ module _ (s : Record) (boards : List ℕ) (named : Named (s .sizes) (s .sizes .k
             (distinct (take (s .sizes .k) l ++ drop (s .sizes .k) l) (ap different (take-append-drop (s .sizes .k) l) ∙ leaving-different t boards (named .2)))),
       )
 
+-- ---- k boards hold the shares of one file at most
+
+module _ (s : Record) (area : List ℕ) (g : Sound s) (area-is : length area ≡ areaLen s) where
+  pub one-file : (boards : List ℕ) → Named (s .sizes) (s .sizes .k) boards → (file file′ : List ℕ) → length file ≡ s .length → length file′ ≡ s .length
+      → Bytes file → Bytes file′ → All (Holds s area file) boards → All (Holds s area file′) boards → file ≡ file′
+  one-file boards named file file′ l l′ b b′ a a′ =
+      code s area g area-is .shares-fix file file′ boards b b′ named (l ∙ sym l′)
+      (each-shares s area g area-is boards (named .1) file l a ∙ sym (each-shares s area g area-is boards (named .1) file′ l′ a′))
+
+  -- so that of k + 1 one wrong board always shows: without it, they are k
+  pub one-shows : (boards : List ℕ) → Named (s .sizes) (s .sizes .k + 1) boards → (file : List ℕ) → length file ≡ s .length → Bytes file
+      → (i : ℕ) → among boards i ≡ true → (Holds s area file i → ⊥) → All (λ j. j ≢ i → Holds s area file j) boards
+      → (file′ : List ℕ) → length file′ ≡ s .length → Bytes file′ → All (Holds s area file′) boards → ⊥
+  one-shows boards named file l b i e n a file′ l′ b′ a′ =
+      let c = named .0 in
+      let x = leave-odd (Holds s area file) i boards (named .2) a (omega (arith, c)) in
+      let rest : List ℕ = leaving (x .0) boards in
+      let m = leaving-length (x .0) boards (x .1) in
+      let low : below (s .sizes .n) rest ≡ true = all-below (s .sizes .n) rest (leaving-all (λ z. z < s .sizes .n) (x .0) boards (below-all (s .sizes .n) boards (named .1))) in
+      let same : file ≡ file′ = one-file rest (omega (arith, c, m, x .1), low, leaving-different (x .0) boards (named .2)) file file′ l l′ b b′ (x .2)
+      (leaving-all (Holds s area file′) (x .0) boards a′) in
+      n (subst (λ (f : List ℕ). Holds s area f i) (sym same) (all-among (Holds s area file′) boards i a′ e))
+
 -- ---- the careful read
 
 module _ (s : Record) (area : List ℕ) (g : Sound s) (area-is : length area ≡ areaLen s)
@@ -144,9 +167,8 @@ module _ (s : Record) (area : List ℕ) (g : Sound s) (area-is : length area ≡
       let n2 = leaving-length (y .0) rest (y .1) in
       let low : below (s .sizes .n) both ≡ true = all-below (s .sizes .n) both
       (leaving-all (λ z. z < s .sizes .n) (y .0) rest (leaving-all (λ z. z < s .sizes .n) (x .0) boards (below-all (s .sizes .n) boards (named .1)))) in
-      code s area g area-is .shares-fix file file′ both b b′ (omega arith, low, leaving-different (y .0) rest d) (l ∙ sym l′)
-      (each-shares s area g area-is both low file l (leaving-all (Holds s area file) (y .0) rest (x .2))
-      ∙ sym (each-shares s area g area-is both low file′ l′ (y .2)))
+      one-file s area g area-is both (omega arith, low, leaving-different (y .0) rest d) file file′ l l′ b b′
+      (leaving-all (Holds s area file) (y .0) rest (x .2)) (y .2)
 
   module _ (ba : Bytes area) where
     abbrev tried : ℕ → Option (List ℕ)

@@ -2,18 +2,17 @@
 -- Assumes nothing.
 use Prim.Native.Nat.{ℕ, _+_, _≤_}
 use mathlib.Core.Path.{_≡_, refl, sym, _∙_, ap, subst}
-use mathlib.Core.Bool.{Bool, true, false, not}
+use mathlib.Core.Bool.{not}
 use mathlib.Core.Logic.{_↔_}
-use mathlib.Core.List.{List, [], _∷_}
+use mathlib.Core.List.{List}
 use mathlib.Core.Option.{Option, some, none}
 use native.Mathlib.Omega.{arith}
-use lib.ListN.{length, drop}
+use lib.ListN.{length}
 use borrow.Author.Tests.{eqb-true, leb-true, ltb-false}
 use Rattle.lists.specs.Lists.{over, Bytes}
-use Rattle.lists.specs.Tests.{pick, given, alls}
+use Rattle.lists.specs.Tests.{pick, given}
 use Rattle.lists.proofs.Tests.{not-no, alls-hold, true-false}
-use Rattle.sizes.specs.Refusals.{_when_, storeOrder, first, said}
-use Rattle.sizes.specs.declared.Answer.the-variants.{Refused}
+use Rattle.sizes.specs.Refusals.{storeOrder}
 use Rattle.sizes.specs.declared.Check.{Check}
 use Rattle.sizes.specs.declared.Check.the-variants.{Refuse, Pass}
 use Rattle.sizes.specs.declared.Refusal.the-variants.{Size, Area, Count, Node, Repeat, Short, Empty, Down, Disagree}
@@ -23,11 +22,11 @@ use Rattle.board_spec.proofs.Demand1.{written}
 use Rattle.board_spec.specs.Calls.{fileOf}
 use Rattle.store_spec.specs.Calls.{StoreOutcome, accepted, refused, settle}
 use Rattle.store_spec.specs.Careful.{agreeing, odd, oddReport, carefulFile, carefulLines, carefulDone, carefulCall}
-use Rattle.store_spec.specs.Record.{Record, sound}
-use Rattle.store_spec.specs.Running.{Running, soundBeside}
-use Rattle.store_spec.specs.Both.{Outcome, beside, carefulLinesBoth, carefulBoth}
+use Rattle.store_spec.specs.Record.{Record}
+use Rattle.store_spec.specs.Both.{carefulBoth}
 use Rattle.store_spec.specs.CarefulLaws.{OddTold, CarefulLaws}
-use Rattle.store_spec.proofs.Careful.{agreeing-is, report-tells, tells-report, tells-few, few-odd, many-agree, two-never, careful-found, careful-finds, careful-none}
+use Rattle.store_spec.proofs.AloneLaws.{alone-is, alone-laws}
+use Rattle.store_spec.proofs.Careful.{agreeing-is, report-tells, tells-report, tells-few, few-odd, many-agree, two-never, one-shows, careful-found, careful-finds, careful-none}
 use Rattle.store_spec.proofs.Records.{Cares, careTests, Sound, sound-facts}
 
 -- the outcome of a careful read that found this file, or none
@@ -108,28 +107,6 @@ module _ (s : Record) (area boards output : List ℕ) (ba : Bytes area)
       there none e q file k = true-false (ap given (sym e ∙ k)) refl
       there (some f) e q file k = absurd (omega (arith, ap (λ (o : StoreOutcome). o .answer .refusal) (sym (call-is (some f) e) ∙ q)))
 
--- beside the record of a repair
-same-beside : (s : Record) (p : Running) (area boards output : List ℕ) → soundBeside s p ≡ true
-    → carefulBoth s p area boards output ≡ beside p (carefulCall s area boards output)
-unfolding carefulBoth carefulLinesBoth carefulLines carefulCall
-same-beside s p area boards output h =
-    ap (λ (t : Bool). by (not (alls (sound s ∷ t ∷ [])))) h ∙ ap (λ (t : Bool). by (not t)) (either (sound s)) ∙ lifted (first storeOrder (carefulLines s area boards output))
-  where
-    by : Bool → Outcome
-    by t =
-        settle (first storeOrder (Size when t ∷ drop 1 (carefulLines s area boards output)))
-        (λ x. record { answer = said (Refused x); handed = s; running = p; area = area; output = output; packets = [] }) (beside p (carefulDone s area boards output))
-
-    either : (t : Bool) → alls (t ∷ true ∷ []) ≡ t
-    either true = refl
-    either false = refl
-
-    lifted : (c : Check)
-        → settle c (λ x. record { answer = said (Refused x); handed = s; running = p; area = area; output = output; packets = [] }) (beside p (carefulDone s area boards output))
-        ≡ beside p (settle c (refused s area output) (carefulDone s area boards output))
-    lifted Pass = refl
-    lifted (Refuse x) = refl
-
 pub careful-laws : CarefulLaws
 careful-laws = record {
   agreeing-is = λ s area file boards i. agreeing-is s area file boards i;
@@ -139,6 +116,7 @@ careful-laws = record {
   );
   tells-one = λ s area file boards d v v′ t t′. tells-report s area file boards d v t ∙ sym (tells-report s area file boards d v′ t′);
   two-never = λ s area boards file file′ ok m named. two-never s area (sound-facts s ok) m boards named file file′;
-  same-beside = same-beside;
+  one-shows = λ s area boards file i ok m named l b e n a file′. one-shows s area (sound-facts s ok) m boards named file l b i e n a file′;
+  same-beside = λ s p area boards output h. alone-is p (carefulCall s area boards output) (carefulBoth s p area boards output) (alone-laws .careful-alone s p area boards output h);
   careful-exact = λ s area boards output ba h. (gives s area boards output ba h, refuses s area boards output ba h);
 }

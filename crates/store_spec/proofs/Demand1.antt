@@ -1,9 +1,9 @@
 -- Demand 1 of the store holds.
 -- Assumes nothing.
-use Prim.Native.Nat.{ℕ, _+_, _-_, _*_, _≤_, _<_}
+use Prim.Native.Nat.{ℕ, suc, _+_, _-_, _*_, _≤_, _<_}
 use mathlib.Core.Path.{_≡_, refl, sym, _∙_, ap, subst}
 use mathlib.Core.Bool.{Bool, true, false, not}
-use mathlib.Core.Logic.{_↔_}
+use mathlib.Core.Logic.{_↔_, _⊎_, inl, inr}
 use mathlib.Core.List.{List, [], _∷_, _++_}
 use native.Mathlib.Omega.{arith}
 use lib.ListN.{length, drop, take, getD}
@@ -27,10 +27,11 @@ use Rattle.mbcr.specs.Share.{pointed, share, stripe, kept}
 use Rattle.mbcr.proofs.Repair.{length-kept}
 use Rattle.store_spec.specs.Calls.{StoreOutcome, settle, accepted, refused, recordLine, setUpCall, writeLines, writeDone, writeCall, loseLines, loseDone, loseCall}
 use Rattle.store_spec.specs.Calls.{listLines, repairLines, repairDone, repairCall, readLines, readDone, readCall}
+use Rattle.board_spec.specs.Calls.{fileOf}
 use Rattle.board_spec.specs.Claims.{LinesSay}
 use Rattle.board_spec.proofs.Claims.{EachSays, _and_, end, lines-say}
 use Rattle.store_spec.specs.Edit.{editLines, editDone, editCall}
-use Rattle.store_spec.specs.Careful.{carefulLines, carefulDone, carefulCall}
+use Rattle.store_spec.specs.Careful.{holdsShare, odd, oddReport, carefulFile, carefulLines, carefulDone, carefulCall}
 use Rattle.store_spec.specs.Demand1.{StoreEnds, Stays, StoreCalls, writeClaims, loseClaims, listClaims, repairClaims, readClaims, editClaims, carefulClaims}
 use Rattle.store_spec.specs.Packets.{freshShare, hearNamed, standInsEach}
 use Rattle.store_spec.specs.Record.{Record, newRecord, sound, inService, stripeCount, held, writtenRecord, usedLen, partLen}
@@ -43,6 +44,7 @@ use Rattle.store_spec.proofs.Real.{code-lengths}
 use Rattle.store_spec.proofs.Records.{facts-sound, sound-facts, blank-length, blank-off, blank-if, Writes, write-facts, Sound, used-least, repair-facts, used-fits}
 use Rattle.store_spec.proofs.Repair.{fresh-length}
 use Rattle.store_spec.proofs.Step.{settle-pass}
+use Rattle.store_spec.proofs.Those.{those-among}
 
 -- ---- every call ends
 
@@ -370,6 +372,24 @@ unfolding editCall
 edit-reports s area offset bytes boards =
     either (λ o. Reports0 o × (o .output ≡ [])) (first storeOrder (editLines s area offset bytes boards)) s area [] _ (λ x. (refl, refl)) (refl, refl)
 
+-- the first of those that pass a test is one of them
+careful-reports : (s : Record) (area boards output : List ℕ)
+    → ((carefulCall s area boards output .answer .reported ≡ 0)
+    ⊎ ((i : ℕ) × (carefulCall s area boards output .answer .reported ≡ suc i) × (among boards i ≡ true)))
+    × (carefulCall s area boards output .area ≡ area)
+unfolding carefulCall
+careful-reports s area boards output =
+    either (λ o. ((o .answer .reported ≡ 0) ⊎ ((i : ℕ) × (o .answer .reported ≡ suc i) × (among boards i ≡ true))) × (o .area ≡ area))
+    (first storeOrder (carefulLines s area boards output)) s area output _ (λ x. (inl refl, refl)) (tell (odd s area file boards) refl, refl)
+  where
+    file : List ℕ
+    file = fileOf (carefulFile s area boards)
+
+    tell : (l : List ℕ) → odd s area file boards ≡ l → (oddReport l ≡ 0) ⊎ ((i : ℕ) × (oddReport l ≡ suc i) × (among boards i ≡ true))
+    tell [] e = inl refl
+    tell (i ∷ l) e =
+        inr (i, refl, those-among (λ j. not (holdsShare s area file j)) boards i (ap (λ (h : List ℕ). among h i) e ∙ among-head i l) .0)
+
 pub demand-1 : StoreCalls
 demand-1 = record {
   accepted-is = λ v s area output. refl;
@@ -379,6 +399,7 @@ demand-1 = record {
   lose-reports = lose-reports;
   read-reports = read-reports;
   edit-reports = edit-reports;
+  careful-reports = careful-reports;
   new-is = λ z xs c. refl;
   in-service-is = λ s i. refl;
   written-is = λ s L. refl;

@@ -49,6 +49,12 @@ pub record CarefulLaws : Type 0 where
   pub two-never : (s : Record) (area boards file file′ : List ℕ) → sound s ≡ true → length area ≡ areaLen s → Named (s .sizes) (s .sizes .k + 2) boards
       → length file ≡ s .length → length file′ ≡ s .length → Bytes file → Bytes file′
       → s .sizes .k + 1 ≤ length (agreeing s area file boards) → s .sizes .k + 1 ≤ length (agreeing s area file′ boards) → file ≡ file′
+  -- one wrong board among k + 1 always shows: where of k + 1 boards all but one hold their shares of a file, and that one does not, there is no file of
+  -- length L whose shares they all hold
+  pub one-shows : (s : Record) (area boards file : List ℕ) (i : ℕ) → sound s ≡ true → length area ≡ areaLen s → Named (s .sizes) (s .sizes .k + 1) boards
+      → length file ≡ s .length → Bytes file
+      → among boards i ≡ true → (Holds s area file i → ⊥) → All (λ j. j ≢ i → Holds s area file j) boards
+      → (file′ : List ℕ) → length file′ ≡ s .length → Bytes file′ → All (Holds s area file′) boards → ⊥
   -- over any area, where no line but DISAGREE holds: "it gives the file of length L whose shares agree with at least k + 1 of them, and the odd board's
   -- number or none. It refuses with DISAGREE just where no file does so"
   pub careful-exact : (s : Record) (area boards output : List ℕ) → Bytes area

@@ -7,7 +7,7 @@ use mathlib.Core.Bool.{true, false}
 use mathlib.Core.Logic.{_≢_, _↔_, _⊎_}
 use mathlib.Core.Option.{none}
 use mathlib.Core.List.{List, [], _∷_, _++_}
-use Prim.Native.Nat.{ℕ, _+_, _-_, _*_, _≤_, _<_}
+use Prim.Native.Nat.{ℕ, suc, _+_, _-_, _*_, _≤_, _<_}
 use lib.Dec.{ltb}
 use lib.ListN.{length, take, drop, getD, replicate}
 use Rattle.lists.specs.Tests.{every, alls, below, among, different, apart}
@@ -142,13 +142,18 @@ pub record StoreCalls : Type 0 where
       → accepted v s area output ≡ record { answer = record { refusal = 0; reported = v }; handed = s; area = area; output = output }
   pub refused-is : (s : Record) (area output : List ℕ) (x : Refusal)
       → refused s area output x ≡ record { answer = record { refusal = number x; reported = 0 }; handed = s; area = area; output = output }
-  -- all but a repair report 0; losing and reading leave the area, whatever they answer
+  -- all but a repair and a careful read report 0; losing and reading leave the area, whatever they answer
   pub set-up-reports : (old : Record) (z : Sizes) (xs : List ℕ) (c : ℕ) → setUpCall old z xs c .answer .reported ≡ 0
   pub write-reports : (s : Record) (area file : List ℕ) → writeCall s area file .answer .reported ≡ 0
   pub lose-reports : (s : Record) (area : List ℕ) (board : ℕ) → (loseCall s area board .answer .reported ≡ 0) × (loseCall s area board .area ≡ area)
   pub read-reports : (s : Record) (area boards output : List ℕ) → (readCall s area boards output .answer .reported ≡ 0) × (readCall s area boards output .area ≡ area)
   pub edit-reports : (s : Record) (area : List ℕ) (offset : ℕ) (bytes boards : List ℕ)
       → (editCall s area offset bytes boards .answer .reported ≡ 0) × (editCall s area offset bytes boards .output ≡ [])
+  -- a careful read reports 0 or the number plus 1 of a board that it names, and leaves the area too
+  pub careful-reports : (s : Record) (area boards output : List ℕ)
+      → ((carefulCall s area boards output .answer .reported ≡ 0)
+      ⊎ ((i : ℕ) × (carefulCall s area boards output .answer .reported ≡ suc i) × (among boards i ≡ true)))
+      × (carefulCall s area boards output .area ≡ area)
   -- when a set-up is accepted
   pub set-up-accepted : (old : Record) (z : Sizes) (xs : List ℕ) (c : ℕ)
       → (setUpCall old z xs c .answer .refusal ≡ 0) ↔ ((legal z ≡ true) × (pointed z xs ≡ true) × (1 ≤ c) × (c ≤ maxStripes))
