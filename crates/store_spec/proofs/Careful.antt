@@ -5,7 +5,7 @@ use Prim.Native.Nat.{ℕ, zero, suc, _+_, _*_, _≤_, _<_}
 use mathlib.Core.Path.{_≡_, refl, sym, _∙_, ap, ap₂, subst}
 use mathlib.Core.Bool.{Bool, true, false, not}
 use mathlib.Core.List.{List, [], _∷_, _++_, map}
-use mathlib.Core.Logic.{_≢_, inl, inr}
+use mathlib.Core.Logic.{_≢_, _⊎_, inl, inr}
 use mathlib.Core.Option.{Option, some, none}
 use native.Mathlib.Nat.{zero-mul, suc-mul, add-comm}
 use native.Mathlib.Omega.{arith}
@@ -48,6 +48,14 @@ module _ (s : Record) (area file : List ℕ) where
     (λ e. let p = those-among (holdsShare s area file) boards i e in (p .0, holds-fact i (p .1))),
     (λ p. among-those (holdsShare s area file) boards i (p .0) (fact-holds i (p .1))),
   )
+
+  -- what is reported is 0 or the number plus 1 of one of the boards
+  pub odd-named : (boards : List ℕ) → let v = oddReport (odd s area file boards) in (v ≡ 0) ⊎ ((i : ℕ) × (v ≡ suc i) × (among boards i ≡ true))
+  odd-named boards = go (odd s area file boards) refl
+    where
+      go : (l : List ℕ) → odd s area file boards ≡ l → (oddReport l ≡ 0) ⊎ ((i : ℕ) × (oddReport l ≡ suc i) × (among boards i ≡ true))
+      go [] e = inl refl
+      go (i ∷ l) e = inr (i, refl, those-among (λ j. not (holdsShare s area file j)) boards i (ap (λ (h : List ℕ). among h i) e ∙ among-head i l) .0)
 
   -- all but at most one of the boards hold their shares: then the report tells which
   pub report-tells : (boards : List ℕ) → length (odd s area file boards) ≤ 1 → OddTold s area file boards (oddReport (odd s area file boards))

@@ -31,11 +31,12 @@ use Rattle.board_spec.specs.Calls.{fileOf}
 use Rattle.board_spec.specs.Claims.{LinesSay}
 use Rattle.board_spec.proofs.Claims.{EachSays, _and_, end, lines-say}
 use Rattle.store_spec.specs.Edit.{editLines, editDone, editCall}
-use Rattle.store_spec.specs.Careful.{holdsShare, odd, oddReport, carefulFile, carefulLines, carefulDone, carefulCall}
+use Rattle.store_spec.specs.Careful.{carefulFile, carefulLines, carefulDone, carefulCall}
 use Rattle.store_spec.specs.Demand1.{StoreEnds, Stays, StoreCalls, writeClaims, loseClaims, listClaims, repairClaims, readClaims, editClaims, carefulClaims}
 use Rattle.store_spec.specs.Packets.{freshShare, hearNamed, standInsEach}
 use Rattle.store_spec.specs.Record.{Record, newRecord, sound, inService, stripeCount, held, writtenRecord, usedLen, partLen}
 use Rattle.store_spec.proofs.Area.{held-stripe, length-shares, byte-stays, shares-same}
+use Rattle.store_spec.proofs.Careful.{odd-named}
 use Rattle.store_spec.proofs.Demand3.{set-up-sound, set-up-taken, passes}
 use Rattle.store_spec.proofs.Exact.{read-exact}
 use Rattle.store_spec.proofs.Marks.{off-from, off-none, on-below, off-above, first-below, among-first}
@@ -44,7 +45,6 @@ use Rattle.store_spec.proofs.Real.{code-lengths}
 use Rattle.store_spec.proofs.Records.{facts-sound, sound-facts, blank-length, blank-off, blank-if, Writes, write-facts, Sound, used-least, repair-facts, used-fits}
 use Rattle.store_spec.proofs.Repair.{fresh-length}
 use Rattle.store_spec.proofs.Step.{settle-pass}
-use Rattle.store_spec.proofs.Those.{those-among}
 
 -- ---- every call ends
 
@@ -372,7 +372,6 @@ unfolding editCall
 edit-reports s area offset bytes boards =
     either (λ o. Reports0 o × (o .output ≡ [])) (first storeOrder (editLines s area offset bytes boards)) s area [] _ (λ x. (refl, refl)) (refl, refl)
 
--- the first of those that pass a test is one of them
 careful-reports : (s : Record) (area boards output : List ℕ)
     → ((carefulCall s area boards output .answer .reported ≡ 0)
     ⊎ ((i : ℕ) × (carefulCall s area boards output .answer .reported ≡ suc i) × (among boards i ≡ true)))
@@ -380,15 +379,7 @@ careful-reports : (s : Record) (area boards output : List ℕ)
 unfolding carefulCall
 careful-reports s area boards output =
     either (λ o. ((o .answer .reported ≡ 0) ⊎ ((i : ℕ) × (o .answer .reported ≡ suc i) × (among boards i ≡ true))) × (o .area ≡ area))
-    (first storeOrder (carefulLines s area boards output)) s area output _ (λ x. (inl refl, refl)) (tell (odd s area file boards) refl, refl)
-  where
-    file : List ℕ
-    file = fileOf (carefulFile s area boards)
-
-    tell : (l : List ℕ) → odd s area file boards ≡ l → (oddReport l ≡ 0) ⊎ ((i : ℕ) × (oddReport l ≡ suc i) × (among boards i ≡ true))
-    tell [] e = inl refl
-    tell (i ∷ l) e =
-        inr (i, refl, those-among (λ j. not (holdsShare s area file j)) boards i (ap (λ (h : List ℕ). among h i) e ∙ among-head i l) .0)
+    (first storeOrder (carefulLines s area boards output)) s area output _ (λ x. (inl refl, refl)) (odd-named s area (fileOf (carefulFile s area boards)) boards, refl)
 
 pub demand-1 : StoreCalls
 demand-1 = record {

@@ -33,7 +33,7 @@ use Rattle.store_spec.specs.Demand3.{begun, events}
 use Rattle.store_spec.specs.Ledger.{Call, write, lose, repair, read, edit, start, step, careful, Event, call, powerFails, Book, Repairing, during, State, Step, Tells, Fair, Unaltered}
 use Rattle.store_spec.specs.Ledger.{act, lent, next, bookNext, enter, outputOf, packetsOfCall, openBook, bookLength, bookRecord, carriedBy, final, bookFinal}
 use Rattle.store_spec.specs.Premises.{filesOf}
-use Rattle.store_spec.specs.CarefulLaws.{OddTold, OfBytes, AnyBytes, Worn, WornClaim}
+use Rattle.store_spec.specs.CarefulLaws.{OddTold, OfBytes, AnyBytes, AskedWorn, WornPremises, Worn, WornClaim}
 use Rattle.store_spec.proofs.Agree.{every-same}
 use Rattle.store_spec.proofs.Beside.{both-pass}
 use Rattle.store_spec.proofs.BothCalls.{by, act-is}
@@ -288,6 +288,33 @@ run [] w i b h a =
 run (t ∷ ts) w i b h a =
     let n = one-worn (lent w t) i b (t .event) (a .0) (a .1) (record { same-kept = h .same-kept; same-beside = h .same-beside; between = h .between }) in
     run ts (next (lent w t) (t .event)) (n .0) (bookNext b (t .event)) (n .1) (subst (λ (m : ℕ). AnyBytes m ts) (sym (stays b (t .event))) (a .2))
+
+-- ---- what is asked
+
+of-bytes : (m : ℕ) (area : List ℕ) (e : Event) → AskedWorn m (record { area = area; event = e }) → OfBytes e
+of-bytes m area (call (write file)) a = (a .writes-bytes file refl, tt)
+of-bytes m area (call (lose board)) a = tt
+of-bytes m area (call (repair fresh helpers standIns)) a = tt
+of-bytes m area (call (read boards output)) a = tt
+of-bytes m area (call (edit offset bytes boards)) a = (a .edits-bytes offset bytes boards refl, tt)
+of-bytes m area (call (start fresh helpers standIns)) a = tt
+of-bytes m area (call (step allowance packets)) a = tt
+of-bytes m area (call (careful boards output)) a = tt
+of-bytes m area (powerFails p) a = a .idle-given p refl
+
+asked : (m : ℕ) (t : Step) → length (t .area) ≡ m → OfBytes (t .event) → AskedWorn m t
+asked m t l h = record {
+  as-long = l;
+  writes-bytes = λ file e. subst OfBytes e h .0;
+  edits-bytes = λ offset bytes boards e. subst OfBytes e h .0;
+  idle-given = λ given e. subst OfBytes e h;
+}
+
+pub worn-premises : WornPremises
+worn-premises = record {
+  none-asked = λ m. tt;
+  more-asked = λ m t ts. ((λ a. (asked m t (a .0) (a .1), a .2)), (λ a. (a .0 .as-long, of-bytes m (t .area) (t .event) (a .0), a .1)));
+}
 
 pub worn : WornClaim
 worn old p z xs c area steps accepted ok =

@@ -1,6 +1,7 @@
 -- Request A.11, 'A board that answers wrongly': what a careful read answers over any area, and that a worn board costs no file. Demand 3's own claim
 -- "keeps its premise that boards in service are unaltered"; the one here has none of them unaltered.
--- proofs/CarefulLaws.antt has `careful-laws : CarefulLaws`, proofs/Worn.antt has `worn : WornClaim`.
+-- proofs/CarefulLaws.antt has `careful-laws : CarefulLaws`, proofs/Worn.antt has `worn : WornClaim` and
+-- `worn-premises : WornPremises`.
 -- Assumes nothing.
 use mathlib.Core.Path.{_≡_}
 use mathlib.Core.Bool.{true, false}
@@ -21,7 +22,7 @@ use Rattle.store_spec.specs.Calls.{accepted, refused}
 use Rattle.store_spec.specs.Running.{Running, soundBeside}
 use Rattle.store_spec.specs.Both.{beside, setUpBoth, carefulBoth}
 use Rattle.store_spec.specs.Careful.{agreeing, carefulLines, carefulCall}
-use Rattle.store_spec.specs.Ledger.{Book, State, Step, Event, call, powerFails, Tells, openBook, bookLength, bookRecord, final, bookFinal}
+use Rattle.store_spec.specs.Ledger.{write, edit, Book, State, Step, Event, call, powerFails, Tells, openBook, bookLength, bookRecord, final, bookFinal}
 use Rattle.store_spec.specs.Demand3.{begun, events}
 use Rattle.store_spec.specs.Premises.{filesOf}
 
@@ -76,6 +77,17 @@ OfBytes (powerFails p) = p .running ≡ false
 abbrev pub AnyBytes : ℕ → List Step → Type 0
 AnyBytes m [] = Unit
 AnyBytes m (t ∷ ts) = (length (t .area) ≡ m) × OfBytes (t .event) × AnyBytes m ts
+
+-- of an entry of such a list nothing but this is asked
+pub record AskedWorn (m : ℕ) (t : Step) : Type 0 where
+  pub as-long : length (t .area) ≡ m
+  pub writes-bytes : (file : List ℕ) → t .event ≡ call (write file) → Bytes file
+  pub edits-bytes : (offset : ℕ) (bytes boards : List ℕ) → t .event ≡ call (edit offset bytes boards) → Bytes bytes
+  pub idle-given : (given : Running) → t .event ≡ powerFails given → given .running ≡ false
+
+pub record WornPremises : Type 0 where
+  pub none-asked : (m : ℕ) → AnyBytes m []
+  pub more-asked : (m : ℕ) (t : Step) (ts : List Step) → AnyBytes m (t ∷ ts) ↔ (AskedWorn m t × AnyBytes m ts)
 
 -- After such a list, over any area of bytes.
 pub record Worn (w : State) (b : Book) : Type 0 where
