@@ -1,23 +1,18 @@
 -- `step_finish::finish_board` meets its contract: the runs of helpers and of stand-ins of the a-th fresh board, and its place in the area.
 -- Assumes nothing.
-use mathlib.Core.Path.{_≡_, ap, ap₂, _∙_}
+use mathlib.Core.Path.{_≡_, ap, _∙_}
 use mathlib.Core.Bool.{true}
 use mathlib.Core.List.{List, [], _∷_, _++_}
 use Prim.Native.Nat.{ℕ, _+_, _-_, _*_, _<_, _≤_}
-use native.Mathlib.Nat.{mul-le-mul}
 use lib.ListN.{length, getD, take, drop}
 use Rattle.lists.specs.Lists.{piece}
 use Rattle.lists.specs.Tests.{below, different}
 use Rattle.lists.proofs.Pieces.{part-piece}
-use Rattle.sizes.specs.Sizing.{α}
 use Rattle.sizes.proofs.Legal.{Legal, legal-facts}
-use Rattle.mbcr.specs.Rebuild.{finishedShare}
 use Rattle.repair_rows.specs.Steps.{othersAt}
-use borrow.Rule.Slice.PartMut.{putMid}
-use Rattle.step_laws.specs.Steps.{shareAt}
-use Rattle.step_laws.proofs.Facts.{helpers-served, stand-ins-served, run-end, fresh-low, fresh-below, helpers-long, stand-ins-long, parties-below, parties-different, few-packets}
-use Rattle.step_laws.proofs.Held.{Held, held-in, held-long, put-whole}
-use Rattle.step_laws.proofs.Shares.{share-by, length-share-at}
+use Rattle.step_laws.proofs.Facts.{fresh-low, fresh-below, helpers-long, stand-ins-long, parties-below, parties-different}
+use Rattle.step_laws.proofs.Held.{Held, held-in, held-long}
+use Rattle.step_finish.proofs.Boards.{Runs, runs, share-put}
 use borrow.Author.Needs.{needs}
 use native.Mathlib.Omega.{arith}
 use Rattle.step_finish.proofs.finish_board.Statement.{statement}
@@ -58,34 +53,19 @@ board c = getD (c .args .fresh .now) (c .args .a) 0
 low : (c : tie.Start) → board c < c .args .sizes .n
 low c = let a = c .args in fresh-low (a .sizes) (a .fresh .now) (a .helpers .now) (a .standins .now) (c .pre .4) (a .a) (c .pre .9)
 
+held-by : (c : tie.Start) (j : ℕ) → j < c .args .sizes .n → Held (c .args .sizes) (c .args .capacity) (c .args .stripes) j
+held-by c j h = let a = c .args in held-in (a .sizes) (facts c) (a .capacity) (a .stripes) j (c .pre .5) (c .pre .6) h
+
 held : (c : tie.Start) → Held (c .args .sizes) (c .args .capacity) (c .args .stripes) (board c)
-held c = let a = c .args in held-in (a .sizes) (facts c) (a .capacity) (a .stripes) (board c) (c .pre .5) (c .pre .6) (low c)
+held c = held-by c (board c) (low c)
 
--- where the runs of helpers and of stand-ins end
-record Runs (t d e a h s : ℕ) : Type 0 where
-  helpers-end : a * d + d ≤ h
-  helpers-few : h ≤ 1024
-  stand-ins-end : a * e + e ≤ s
-  stand-ins-few : s ≤ 1024
+-- there is a board of its place's number too
+own : (c : tie.Start) → Held (c .args .sizes) (c .args .capacity) (c .args .stripes) (c .args .a)
+own c = let f = facts c in held-by c (c .args .a) (omega (arith, c .pre .9, c .pre .4 .few-fresh, f .enough))
 
-runs : (c : tie.Start) → let a = c .args in let t = length (a .fresh .now) in
-    Runs t (a .sizes .d) (a .sizes .r - t) (a .a) (length (a .helpers .now)) (length (a .standins .now))
-runs c =
-    let a = c .args in
-    let z = a .sizes in
-    let p = c .pre in
-    let l = p .4 in
-    let t : ℕ = length (a .fresh .now) in
-    let f = facts c in
-    let most : t ≤ 32 = omega (arith, l .few-fresh, f .enough, f .few) in
-    let each : z .r - t ≤ 32 = omega (arith, f .enough, f .few) in
-    let many = few-packets z f t (l .few-fresh) in
-    record {
-      helpers-end = run-end (z .n) (z .d) (a .fresh .now) (a .helpers .now) (helpers-served z (a .fresh .now) (a .helpers .now) (a .standins .now) l) (a .a) (p .9);
-      helpers-few = omega (arith, l .helper-count, many .0);
-      stand-ins-end = run-end (z .n) (z .r - t) (a .fresh .now) (a .standins .now) (stand-ins-served z (a .fresh .now) (a .helpers .now) (a .standins .now) l) (a .a) (p .9);
-      stand-ins-few = omega (arith, l .stand-in-count, mul-le-mul most each);
-    }
+-- where its runs of helpers and of stand-ins end
+run-ends : (c : tie.Start) → let a = c .args in Runs (a .sizes .d) (a .sizes .r - length (a .fresh .now)) (a .a) (length (a .helpers .now)) (length (a .standins .now))
+run-ends c = let a = c .args in runs (a .sizes) (facts c) (a .fresh .now) (a .helpers .now) (a .standins .now) (c .pre .4) (a .a) (c .pre .9)
 
 -- the runs
 abbrev helper-run : tie.Start → List ℕ
@@ -144,19 +124,8 @@ returns : tie.Need-returns
 returns c =
     let s = st-end c in
     let a = s .args in
-    let z = a .sizes in
-    let S : ℕ = a .stripes in
-    let t : ℕ = length (a .fresh .now) in
-    let e : ℕ = length (stand-in-run s) in
-    let lent : List ℕ → List ℕ → List ℕ =
-    λ hs ss. finishedShare z (a .points .now) S (board s) hs (piece (z .d * (2 * S)) (a .a) (a .packets .now)) (ss ++ othersAt (a .fresh .now) (a .a))
-    (piece (e * S) (a .a) (drop (t * (z .d * (2 * S))) (a .packets .now))
-    ++ piece ((t - 1) * S) (a .a) (drop (t * (z .d * (2 * S)) + t * (e * S)) (a .packets .now))) in
-    let at : ℕ = board s * (a .capacity * α z) in
-    ap (putMid at (at + S * α z - at) (a .area .now))
-    (share-end c .share-of .ensures ∙ ap₂ lent (helpers-are s .0) (stand-ins-are s .0)
-    ∙ share-by z (a .points .now) S e (a .fresh .now) (a .helpers .now) (a .standins .now) (a .packets .now) (a .a) (stand-ins-are s .1))
-    ∙ put-whole at (S * α z) (a .area .now) _ (length-share-at z (facts s) (a .points .now) S (a .fresh .now) (a .helpers .now) (a .standins .now) (a .packets .now) (a .a))
+    share-put (a .sizes) (facts s) (a .points .now) (a .capacity) (a .stripes) (a .fresh .now) (a .helpers .now) (a .standins .now) (a .packets .now) (a .area .now) (a .a)
+    (helper-run s) (stand-in-run s) _ (helpers-are s .0) (stand-ins-are s .0) (stand-ins-are s .1) (share-end c .share-of .ensures)
 
 pub finish-board-spec : {M : Type 1} → statement M
 finish-board-spec =
@@ -166,27 +135,27 @@ finish-board-spec =
     (λ c. let f = facts (st-w (c .before)) in omega (arith, f .enough, f .few))
     (λ c. let f = facts (st-w (c .before)) in omega (arith, f .some-fresh))
     (λ c. omega (arith, st-e c .pre .4 .few-fresh))
-    (λ c. let r = runs (st-e c) in omega (arith, r .helpers-end, r .helpers-few))
-    (λ c. let r = runs (st-e c) in omega (arith, r .helpers-end, r .helpers-few))
-    (λ c. let r = runs (st-e c) in omega (arith, r .stand-ins-end, r .stand-ins-few))
-    (λ c. let r = runs (st-e c) in omega (arith, r .stand-ins-end, r .stand-ins-few))
+    (λ c. let r = run-ends (st-e c) in omega (arith, r .helpers-end, r .helpers-few))
+    (λ c. let r = run-ends (st-e c) in omega (arith, r .helpers-end, r .helpers-few))
+    (λ c. let r = run-ends (st-e c) in omega (arith, r .stand-ins-end, r .stand-ins-few))
+    (λ c. let r = run-ends (st-e c) in omega (arith, r .stand-ins-end, r .stand-ins-few))
     (λ c. search needs)
     (λ c. omega (arith, st-at c .pre .9))
     (λ c. let h = held (st-at c) in omega (arith, h .few))
-    (λ c. let h = held (st-at c) in omega (arith, h .ends, h .all))
+    (λ c. let h = held (st-at c) in omega (arith, h .ends, own (st-at c) .ends, h .all))
     (λ c. let h = held (st-at c) in omega (arith, h .used, h .few))
-    (λ c. let h = held (st-at c) in omega (arith, h .ends, h .used, h .all))
-    (λ c. let r = runs (st-at c) in omega (arith, r .helpers-end, r .helpers-few))
+    (λ c. let h = held (st-at c) in omega (arith, h .ends, own (st-at c) .ends, h .used, h .all))
+    (λ c. let r = run-ends (st-at c) in omega (arith, r .helpers-end, r .helpers-few))
     (λ c. search needs)
     (λ c. search needs)
-    (λ c. let r = runs (st-at c) in omega (arith, r .helpers-end))
-    (λ c. let r = runs (st-1 c) in omega (arith, r .stand-ins-end, r .stand-ins-few))
+    (λ c. let r = run-ends (st-at c) in omega (arith, r .helpers-end))
+    (λ c. let r = run-ends (st-1 c) in omega (arith, r .stand-ins-end, r .stand-ins-few))
     (λ c. search needs)
     (λ c. search needs)
-    (λ c. let r = runs (st-1 c) in omega (arith, r .stand-ins-end))
+    (λ c. let r = run-ends (st-1 c) in omega (arith, r .stand-ins-end))
     (λ c. search needs)
     (λ c. search needs)
-    (λ c. let h = held (st-2 c) in omega (arith, h .ends, h .used, st-2 c .pre .8))
+    (λ c. let h = held (st-2 c) in omega (arith, h .ends, own (st-2 c) .ends, h .used, st-2 c .pre .8))
     share-of-requires
     (λ c. search needs)
     returns)

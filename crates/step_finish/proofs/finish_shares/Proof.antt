@@ -1,7 +1,7 @@
 -- `step_finish::finish_shares` meets its contract: the inverses are made once; the shares by places are those of the definition.
 -- Assumes nothing.
-use mathlib.Core.Path.{_≡_, _∙_}
-use Rattle.step_laws.proofs.Shares.{shares-every}
+use Rattle.sizes.proofs.Legal.{legal-facts}
+use Rattle.step_finish.proofs.Boards.{all-put}
 use borrow.Author.Needs.{needs}
 use Rattle.step_finish.proofs.finish_shares.Statement.{statement}
 use Rattle.step_finish.proofs.finish_shares.Tie as tie
@@ -20,10 +20,10 @@ finish-all-requires c κs =
 
 returns : tie.Need-returns
 returns c =
-    let a = st-arg (all-end c .before) .args in
-    let p = st-arg (all-end c .before) .pre in
-    λ s ez ep ec es. all-end c .finish-all .ensures
-        ∙ shares-every (a .sizes) (a .points .now) (a .capacity) (a .stripes) (a .fresh .now) (a .helpers .now) (a .standins .now) (a .packets .now) (a .area .now) (p .3) s ez ep ec es
+    let s = st-arg (all-end c .before) in
+    let a = s .args in
+    all-put (a .sizes) (legal-facts _ (s .pre .0)) (a .points .now) (a .capacity) (a .stripes) (a .fresh .now) (a .helpers .now) (a .standins .now) (a .packets .now) (a .area .now) _
+    (s .pre .3) (all-end c .finish-all .ensures)
 
 pub finish-shares-spec : {M : Type 1} → statement M
 finish-shares-spec =
