@@ -45,8 +45,8 @@ turn c = c .before .before .before
 abbrev st : tie.In-loop Inv-loop μ-loop → tie.Start Inv-loop μ-loop
 st c = c .before .before .before
 
-abbrev made : tie.After-next Inv-loop μ-loop → tie.After-run-turn Inv-loop μ-loop
-made c = c .before .before .before
+abbrev made : tie.After-after Inv-loop μ-loop → tie.After-run-turn Inv-loop μ-loop
+made c = c .before .before .before .before
 
 add-count : tie.Need-add-count Inv-loop μ-loop
 add-count c =
