@@ -103,7 +103,8 @@ repair-done c =
     (w .before .before .before .before .bytes-moved .ensures) (m .marks-on .ensures) (w .repair-shares .ensures)
 
 repair-refused : (c : tie.After-x)
-    → let k = c .before .before in let a = st k .args in turnedDown (R k) (P k) (a .area .now) [] [] (c .x .given .0 .0) ≡ repairBoth (R k) (P k) (a .area .now) (a .fresh .now) (a .helpers .now) (a .standins .now)
+    → let k = c .before .before in let a = st k .args in
+    turnedDown (R k) (P k) (a .area .now) [] [] (c .x .given .0 .0) ≡ repairBoth (R k) (P k) (a .area .now) (a .fresh .now) (a .helpers .now) (a .standins .now)
 repair-refused c =
     let k = c .before .before in
     let a = st k .args in
