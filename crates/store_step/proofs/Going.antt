@@ -4,6 +4,7 @@ use Prim.Native.Nat.{ℕ, _+_, _-_, _*_, _≤_, _<_}
 use mathlib.Core.Path.{_≡_, refl, sym, ap, ap₂, _∙_}
 use mathlib.Core.Bool.{Bool, true, false, not}
 use mathlib.Core.List.{List, [], _∷_, _++_}
+use native.Mathlib.Nat.{mul-le-mul-right}
 use native.Mathlib.Omega.{arith}
 use lib.Dec.{leb, eqb}
 use lib.ListN.{length, take}
@@ -17,17 +18,40 @@ use Rattle.sizes.specs.declared.Sizes.{Sizes}
 use Rattle.sizes.specs.declared.Check.the-variants.{Pass}
 use Rattle.sizes.specs.declared.Refusal.the-variants.{Size, Area, Empty, Idle}
 use Rattle.sizes.specs.declared.Answer.the-variants.{Done}
+use Rattle.sizes.specs.Sizing.{B, stripes}
 use Rattle.sizes.specs.Refusals.{first, storeOrder, said}
+use Rattle.sizes.proofs.Legal.{legal-facts, stripes-least}
 use Rattle.sizes.proofs.Orders.{clear-off}
+use Rattle.mbcr.specs.Share.{DifferentPoints}
+use Rattle.line_checks.specs.Steps.{Stated}
 use Rattle.store_spec.specs.Record.{Record, sound, areaLen, withMarks, turnOn, putShares}
 use Rattle.store_spec.specs.Running.{Running, idle, withCarried, freshOf, helpersOf, standInsOf, packetCount, packetsLen, soundBeside}
 use Rattle.store_spec.specs.Lying.{shareLying, carry}
 use Rattle.store_spec.specs.Both.{Outcome, stepLines, leftOf, carriedOn, stepLast, stepOn, stepDone}
-use Rattle.store_spec.proofs.Records.{sound-facts, repair-facts}
+use Rattle.store_spec.proofs.Records.{sound-facts, sound-points, repair-facts}
 use Rattle.store_spec.proofs.Beside.{sound-beside, lists-taken}
 use Rattle.step_laws.specs.Steps.{Listed}
 use Rattle.running_lists.proofs.Lists.{count-few, fit-fresh}
 use Rattle.store_step.specs.Steps.{Going, Listing}
+
+-- ---- what the work asks of a record
+
+pub record Ready (s : Record) : Type 0 where
+  pub stated : Stated (s .sizes) (s .length)
+  pub differ : DifferentPoints (s .sizes) (s .points)
+  pub cap-high : s .capacity ≤ 4096
+  pub few-stripes : stripes (s .sizes) (s .length) ≤ s .capacity
+
+pub ready : (s : Record) → sound s ≡ true → Ready s
+ready s h =
+    let f = sound-facts s h in
+    let most : s .capacity * B (s .sizes) ≤ 4096 * B (s .sizes) = mul-le-mul-right (B (s .sizes)) (f .cap-high) in
+    record {
+      stated = record { is-legal = f .is-legal; not-long = omega (arith, f .fits, most) };
+      differ = sound-points s f;
+      cap-high = f .cap-high;
+      few-stripes = stripes-least (s .sizes) (legal-facts _ (f .is-legal)) (s .length) (s .capacity) (f .fits);
+    }
 
 -- ---- past the checks
 
@@ -102,6 +126,12 @@ module _ (s : Record) (p : Running) (area packets : List ℕ) (pass : first stor
 pub fresh-below : (z : Sizes) (fresh helpers standIns : List ℕ) → Listed z fresh helpers standIns → below (z .n) fresh ≡ true
 fresh-below z fresh helpers standIns l =
     all-below (z .n) fresh (all-left (λ x. x < z .n) fresh (helpers ++ standIns) (below-all (z .n) (fresh ++ (helpers ++ standIns)) (l .named-below)))
+
+-- packets carried leave the rest as it was
+pub still-going : (s : Record) (fresh helpers standIns area packets after : List ℕ) → Going s fresh helpers standIns area packets → length after ≡ length packets
+    → Going s fresh helpers standIns area after
+still-going s fresh helpers standIns area packets after g e =
+    record { is-sound = g .is-sound; listed = g .listed; area-is = g .area-is; packets-are = e ∙ g .packets-are }
 
 -- what a step hands on, by its parts
 abbrev leaves : ℕ → Record → Running → List ℕ → List ℕ → Outcome
