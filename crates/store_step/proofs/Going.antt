@@ -31,7 +31,7 @@ use Rattle.store_spec.specs.Both.{Outcome, stepLines, leftOf, carriedOn, stepLa
 use Rattle.store_spec.proofs.Records.{sound-facts, sound-points, repair-facts}
 use Rattle.store_spec.proofs.Beside.{sound-beside, lists-taken}
 use Rattle.step_laws.specs.Steps.{Listed}
-use Rattle.running_lists.proofs.Lists.{count-few, fit-fresh}
+use Rattle.running_lists.proofs.Lists.{count-few, fit-fresh, fit-helpers, fit-stand-ins}
 use Rattle.store_step.specs.Steps.{Going, Listing}
 
 -- ---- what the work asks of a record
@@ -55,6 +55,18 @@ ready s h =
 
 -- ---- past the checks
 
+-- the lists of a repair that runs at the beginning of these arrays
+pub record Lists (s : Record) (p : Running) (area packets F H I : List ℕ) : Type 0 where
+  pub few : p .count ≤ s .sizes .r
+  pub fresh-fit : p .count ≤ 32
+  pub helpers-fit : p .count * s .sizes .d ≤ 256
+  pub stand-ins-fit : p .count * (s .sizes .r - p .count) ≤ 256
+  pub fresh-long : length F ≡ 32
+  pub helpers-long : length H ≡ 256
+  pub stand-ins-long : length I ≡ 256
+  pub is-going : Going s (take (p .count) F) (take (p .count * s .sizes .d) H) (take (p .count * (s .sizes .r - p .count)) I) area packets
+  pub is-listing : Listing s p (take (p .count) F) (take (p .count * s .sizes .d) H) (take (p .count * (s .sizes .r - p .count)) I)
+
 module _ (s : Record) (p : Running) (area packets : List ℕ) (pass : first storeOrder (stepLines s p (length area) (length packets)) ≡ Pass) where
   -- the tests of SIZE and of AREA
   sizes-hold : (sound s ≡ true) × (soundBeside s p ≡ true)
@@ -63,7 +75,7 @@ module _ (s : Record) (p : Running) (area packets : List ℕ) (pass : first stor
       let e = alls-hold (sound s ∷ soundBeside s p ∷ []) (not-no _ (clear-off (stepLines s p (length area) (length packets)) storeOrder pass Size refl)) in
       (e .0, e .1 .0)
 
-  pub on : p .running ≡ true
+  on : p .running ≡ true
   unfolding stepLines
   on = not-no _ (clear-off (stepLines s p (length area) (length packets)) storeOrder pass Idle refl)
 
@@ -80,10 +92,10 @@ module _ (s : Record) (p : Running) (area packets : List ℕ) (pass : first stor
   is-written = not-no _ (clear-off (stepLines s p (length area) (length packets)) storeOrder pass Empty refl)
 
   -- the lists
-  pub count-most : length (p .fresh) ≡ 32 → p .count ≤ s .sizes .r
+  count-most : length (p .fresh) ≡ 32 → p .count ≤ s .sizes .r
   count-most long = count-few s p (sound-facts s (sizes-hold .0) .is-legal) long (sizes-hold .1) on
 
-  pub t-is : length (p .fresh) ≡ 32 → length (freshOf p) ≡ p .count
+  t-is : length (p .fresh) ≡ 32 → length (freshOf p) ≡ p .count
   t-is long =
       let h = fit-fresh (s .sizes) (p .count) (sound-facts s (sizes-hold .0) .is-legal) (count-most long) in
       length-take-le (p .count) (p .fresh) (omega (arith, h, long))
@@ -106,7 +118,7 @@ module _ (s : Record) (p : Running) (area packets : List ℕ) (pass : first stor
         none-fresh = f .none-fresh;
       }
 
-  pub going : Going s (freshOf p) (helpersOf (s .sizes) p) (standInsOf (s .sizes) p) area packets
+  going : Going s (freshOf p) (helpersOf (s .sizes) p) (standInsOf (s .sizes) p) area packets
   going =
       let packets-fit : pick true (eqb (length packets) (packetsLen s (length (freshOf p)))) true ≡ true =
       ap (λ (r : Bool). pick r (eqb (length packets) (packetsLen s (length (freshOf p)))) true) (sym on) ∙ areas-hold .1 in
@@ -117,8 +129,36 @@ module _ (s : Record) (p : Running) (area packets : List ℕ) (pass : first stor
         packets-are = eqb-true _ _ packets-fit;
       }
 
-  pub listing : Listing s p (freshOf p) (helpersOf (s .sizes) p) (standInsOf (s .sizes) p)
+  listing : Listing s p (freshOf p) (helpersOf (s .sizes) p) (standInsOf (s .sizes) p)
   listing = record { runs = on; fresh-are = refl; helpers-are = refl; stand-ins-are = refl; some-left = sound-beside s p (sizes-hold .1) on .1 }
+
+  -- the same of lists that are taken out of these arrays by the record's count
+  pub lists-of : (F H I : List ℕ) → F ≡ p .fresh → H ≡ p .helpers → I ≡ p .standIns → length (p .fresh) ≡ 32 → length (p .helpers) ≡ 256
+      → length (p .standIns) ≡ 256 → Lists s p area packets F H I
+  lists-of F H I ef eh ei lf lh li =
+      let t : ℕ = p .count in
+      let z : Sizes = s .sizes in
+      let legal = sound-facts s (sizes-hold .0) .is-legal in
+      let fresh-are : take t F ≡ freshOf p = ap (take t) ef in
+      let helpers-are : take (t * z .d) H ≡ helpersOf z p = ap₂ (λ (m : ℕ) (l : List ℕ). take (m * z .d) l) (sym (t-is lf)) eh in
+      let stand-ins-are : take (t * (z .r - t)) I ≡ standInsOf z p = ap₂ (λ (m : ℕ) (l : List ℕ). take (m * (z .r - m)) l) (sym (t-is lf)) ei in
+      record {
+        few = count-most lf;
+        fresh-fit = fit-fresh z t legal (count-most lf);
+        helpers-fit = fit-helpers z t legal (count-most lf);
+        stand-ins-fit = fit-stand-ins z t legal (count-most lf);
+        fresh-long = ap length ef ∙ lf;
+        helpers-long = ap length eh ∙ lh;
+        stand-ins-long = ap length ei ∙ li;
+        is-going = rw (fresh-are, helpers-are, stand-ins-are) going;
+        is-listing = record {
+          runs = on;
+          fresh-are = fresh-are;
+          helpers-are = helpers-are;
+          stand-ins-are = stand-ins-are;
+          some-left = rw fresh-are (listing .some-left);
+        };
+      }
 
 -- ---- the work
 

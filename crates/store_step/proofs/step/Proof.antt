@@ -1,122 +1,112 @@
+-- `store_step::step` meets its contract: the lists of the repair's record, as its count and the sizes tell them.
+-- Assumes nothing.
+use Prim.Native.Nat.{ℕ, _≤_}
+use mathlib.Core.Path.{_≡_, sym}
+use mathlib.Core.List.{List}
+use native.Mathlib.Omega.{arith}
+use lib.ListN.{length, take}
+use lib.Seq.{length-take-le}
 use borrow.Author.Needs.{needs}
+use Rattle.store_spec.specs.Record.{Record}
+use Rattle.store_spec.specs.Running.{Running}
+use Rattle.record.specs.Records.{recordOf, runningIn}
+use Rattle.store_step.proofs.Going.{Lists, lists-of}
 use Rattle.store_step.proofs.step.Statement.{statement}
 use Rattle.store_step.proofs.step.Tie as tie
-use Rattle.store_step.proofs.step.Reads as reads
-use Rattle.store_step.proofs.step.Lts as lts
-use Rattle.running_lists.proofs.boards_of.Reads as boards-of-reads
-use Rattle.store_step.proofs.step_by.Reads as step-by-reads
 
--- src/lib.rt:153:30
-slice-aggregate-boards-of : tie.Need-slice-aggregate-boards-of
-slice-aggregate-boards-of c = search needs
+abbrev R : tie.Start → Record
+R g = recordOf (g .args .kept)
 
--- src/lib.rt:153:38
-slice-aggregate-boards-of-2 : tie.Need-slice-aggregate-boards-of-2
-slice-aggregate-boards-of-2 c = search needs
+abbrev P : tie.Start → Running
+P g = runningIn (g .args .running)
 
--- src/lib.rt:153:5
-boards-of-requires : tie.Need-boards-of-requires
-boards-of-requires c κs = ?
+-- its arrays
+fresh-long : (g : tie.Start) → length (g .args .running .fresh) ≡ 32
+fresh-long g = search needs
 
--- src/lib.rt:154:30
-slice-aggregate-boards-of-3 : tie.Need-slice-aggregate-boards-of-3
-slice-aggregate-boards-of-3 c = search needs
+helpers-long : (g : tie.Start) → length (g .args .running .helpers) ≡ 256
+helpers-long g = search needs
 
--- src/lib.rt:154:40
-slice-aggregate-boards-of-4 : tie.Need-slice-aggregate-boards-of-4
-slice-aggregate-boards-of-4 c = search needs
+stand-ins-long : (g : tie.Start) → length (g .args .running .«stand_ins») ≡ 256
+stand-ins-long g = search needs
 
--- src/lib.rt:154:5
-boards-of-requires-2 : tie.Need-boards-of-requires-2
-boards-of-requires-2 c κs = ?
+-- the places
+abbrev st-a : tie.After-fresh2 → tie.Start
+st-a c = c .before .before .before .before .before .before
 
--- src/lib.rt:155:30
-slice-aggregate-boards-of-5 : tie.Need-slice-aggregate-boards-of-5
-slice-aggregate-boards-of-5 c = search needs
+abbrev st-1 : tie.After-boards-of → tie.Start
+st-1 c = st-a (c .before .before)
 
--- src/lib.rt:155:41
-slice-aggregate-boards-of-6 : tie.Need-slice-aggregate-boards-of-6
-slice-aggregate-boards-of-6 c = search needs
+abbrev at-1 : tie.After-b → tie.After-boards-of
+at-1 c = c .before .before .before
 
--- src/lib.rt:155:5
-boards-of-requires-3 : tie.Need-boards-of-requires-3
-boards-of-requires-3 c κs = ?
+abbrev at-2 : tie.After-c → tie.After-boards-of2
+at-2 c = c .before .before .before
 
--- src/lib.rt:157:13
-mul-h : tie.Need-mul-h
-mul-h c = ?
+abbrev at-3 : tie.After-struct-known → tie.After-boards-of3
+at-3 c = c .before .before
 
--- src/lib.rt:158:18
-sub-e : tie.Need-sub-e
-sub-e c = ?
+abbrev first-of : tie.After-boards-of3 → tie.After-boards-of
+first-of c = at-1 (at-2 (c .before) .before)
 
--- src/lib.rt:158:13
-mul-e : tie.Need-mul-e
-mul-e c = ?
+abbrev st : tie.After-boards-of3 → tie.Start
+st c = st-1 (first-of c)
 
--- src/lib.rt:162:9
-array-share-prefix-a : tie.Need-array-share-prefix-a
-array-share-prefix-a c = ?
+-- the boards of the three arrays
+abbrev F : tie.After-boards-of3 → List ℕ
+F c = first-of c .boards-of .last .1 .0
 
--- src/lib.rt:162:9
-slice-aggregate-step-by : tie.Need-slice-aggregate-step-by
-slice-aggregate-step-by c = ?
+abbrev H : tie.After-boards-of3 → List ℕ
+H c = at-2 (c .before) .boards-of2 .last .1 .0
 
--- src/lib.rt:163:9
-array-share-prefix-b : tie.Need-array-share-prefix-b
-array-share-prefix-b c = ?
+abbrev I : tie.After-boards-of3 → List ℕ
+I c = c .boards-of3 .last .1 .0
 
--- src/lib.rt:163:9
-slice-aggregate-step-by-2 : tie.Need-slice-aggregate-step-by-2
-slice-aggregate-step-by-2 c = ?
+lists : (c : tie.After-boards-of3) → let g = st c in Lists (R g) (P g) (g .args .area .now) (g .args .packets .now) (F c) (H c) (I c)
+lists c =
+    let g = st c in
+    lists-of (R g) (P g) (g .args .area .now) (g .args .packets .now) (g .pre) (F c) (H c) (I c)
+    (first-of c .boards-of .ensures) (at-2 (c .before) .boards-of2 .ensures) (c .boards-of3 .ensures) (fresh-long g) (helpers-long g) (stand-ins-long g)
 
--- src/lib.rt:164:9
-array-share-prefix-c : tie.Need-array-share-prefix-c
-array-share-prefix-c c = ?
+abbrev at-e : tie.After-struct-known2 → tie.After-boards-of3
+at-e c = at-3 (c .before)
 
--- src/lib.rt:164:9
-slice-aggregate-step-by-3 : tie.Need-slice-aggregate-step-by-3
-slice-aggregate-step-by-3 c = ?
+abbrev at-a3 : tie.After-a3 → tie.After-boards-of3
+at-a3 c = at-e (c .before)
 
--- src/lib.rt:159:5
-step-by-requires : tie.Need-step-by-requires
-step-by-requires c κs = ?
+abbrev at-b3 : tie.After-b3 → tie.After-boards-of3
+at-b3 c = at-a3 (c .before)
 
--- src/lib.rt:137:1
-same-length : tie.Need-same-length
-same-length c = search needs
+abbrev at-c3 : tie.After-c3 → tie.After-boards-of3
+at-c3 c = at-b3 (c .before)
 
--- src/lib.rt:137:1
-same-length-2 : tie.Need-same-length-2
-same-length-2 c = search needs
-
--- src/lib.rt:137:1
-returns : tie.Need-returns
-returns c = search needs
+-- as many as are taken
+taken : (m : ℕ) (l : List ℕ) → m ≤ length l → m ≡ length (take m l)
+taken m l h = sym (length-take-le m l h)
 
 pub step-spec : {M : Type 1} → statement M
 step-spec =
     tie.close
     (tie.spec
-    slice-aggregate-boards-of
-    slice-aggregate-boards-of-2
-    boards-of-requires
-    slice-aggregate-boards-of-3
-    slice-aggregate-boards-of-4
-    boards-of-requires-2
-    slice-aggregate-boards-of-5
-    slice-aggregate-boards-of-6
-    boards-of-requires-3
-    mul-h
-    sub-e
-    mul-e
-    array-share-prefix-a
-    slice-aggregate-step-by
-    array-share-prefix-b
-    slice-aggregate-step-by-2
-    array-share-prefix-c
-    slice-aggregate-step-by-3
-    step-by-requires
-    same-length
-    same-length-2
-    returns)
+    (λ c. sym (fresh-long (st-a c)))
+    (λ c. search needs)
+    (λ c κs. sym (fresh-long (st-a (c .before))))
+    (λ c. sym (helpers-long (st-1 (c .before .before))))
+    (λ c. search needs)
+    (λ c κs. sym (helpers-long (st-1 (at-1 c))))
+    (λ c. sym (stand-ins-long (st-1 (at-1 (c .before .before .before)))))
+    (λ c. search needs)
+    (λ c κs. sym (stand-ins-long (st-1 (at-1 (at-2 c .before)))))
+    (λ c. omega (arith, lists (at-3 c) .helpers-fit))
+    (λ c. lists (at-e c) .few)
+    (λ c. omega (arith, lists (at-e c) .stand-ins-fit))
+    (λ c. let l = lists (at-e c) in omega (arith, l .fresh-fit, l .fresh-long))
+    (λ c. let k = at-a3 c in let l = lists k in taken _ (F k) (omega (arith, l .fresh-fit, l .fresh-long)))
+    (λ c. let l = lists (at-a3 c) in omega (arith, l .helpers-fit, l .helpers-long))
+    (λ c. let k = at-b3 c in let l = lists k in taken _ (H k) (omega (arith, l .helpers-fit, l .helpers-long)))
+    (λ c. let l = lists (at-b3 c) in omega (arith, l .stand-ins-fit, l .stand-ins-long))
+    (λ c. let k = at-c3 c in let l = lists k in taken _ (I k) (omega (arith, l .stand-ins-fit, l .stand-ins-long)))
+    (λ c κs. let l = lists (at-c3 (c .before .before)) in (l .is-going, l .is-listing))
+    (λ c. search needs)
+    (λ c. search needs)
+    (λ c. search needs))
