@@ -2,16 +2,14 @@
 -- Assumes nothing.
 use Prim.Native.Nat.{ℕ, _+_, _-_, _*_, _≤_, _<_}
 use mathlib.Core.Path.{_≡_, refl, sym, ap, ap₂, _∙_}
-use mathlib.Core.Bool.{Bool, true, false, not}
-use mathlib.Core.List.{List, [], _∷_, _++_}
+use mathlib.Core.Bool.{Bool, true, not}
+use mathlib.Core.List.{List, [], _∷_}
 use native.Mathlib.Nat.{mul-le-mul-right}
 use native.Mathlib.Omega.{arith}
 use lib.Dec.{leb, eqb}
 use lib.ListN.{length, take}
 use borrow.Author.Tests.{eqb-true, le-leb, lt-leb}
-use Rattle.lists.specs.Tests.{pick, alls, below}
-use Rattle.lists.proofs.Alls.{all-left}
-use Rattle.lists.proofs.Boards.{below-all, all-below}
+use Rattle.lists.specs.Tests.{pick, alls}
 use lib.Seq.{length-take-le}
 use Rattle.lists.proofs.Tests.{alls-hold, not-no}
 use Rattle.sizes.specs.declared.Sizes.{Sizes}
@@ -31,6 +29,7 @@ use Rattle.store_spec.specs.Both.{Outcome, stepLines, leftOf, carriedOn, stepLa
 use Rattle.store_spec.proofs.Records.{sound-facts, sound-points, repair-facts}
 use Rattle.store_spec.proofs.Beside.{sound-beside, lists-taken}
 use Rattle.step_laws.specs.Steps.{Listed}
+use Rattle.step_laws.proofs.Facts as laws
 use Rattle.running_lists.proofs.Lists.{count-few, fit-fresh, fit-helpers, fit-stand-ins}
 use Rattle.store_step.specs.Steps.{Going, Listing}
 
@@ -106,17 +105,8 @@ module _ (s : Record) (p : Running) (area packets : List ℕ) (pass : first stor
       let F = freshOf p in
       let H = helpersOf (s .sizes) p in
       let I = standInsOf (s .sizes) p in
-      let f = repair-facts s (length area) F H I (lists-taken s (length area) F H I (sizes-hold .0) (ap not (areas-hold .0)) is-written l) in
-      record {
-        some-fresh = f .some-fresh;
-        few-fresh = f .few-fresh;
-        helper-count = f .helper-count;
-        stand-in-count = f .stand-in-count;
-        named-below = f .named-below;
-        fresh-different = f .fresh-different;
-        named-different = f .named-different;
-        none-fresh = f .none-fresh;
-      }
+      laws.listed s (length area) F H I
+      (repair-facts s (length area) F H I (lists-taken s (length area) F H I (sizes-hold .0) (ap not (areas-hold .0)) is-written l))
 
   going : Going s (freshOf p) (helpersOf (s .sizes) p) (standInsOf (s .sizes) p) area packets
   going =
@@ -161,11 +151,6 @@ module _ (s : Record) (p : Running) (area packets : List ℕ) (pass : first stor
       }
 
 -- ---- the work
-
--- the fresh boards are boards
-pub fresh-below : (z : Sizes) (fresh helpers standIns : List ℕ) → Listed z fresh helpers standIns → below (z .n) fresh ≡ true
-fresh-below z fresh helpers standIns l =
-    all-below (z .n) fresh (all-left (λ x. x < z .n) fresh (helpers ++ standIns) (below-all (z .n) (fresh ++ (helpers ++ standIns)) (l .named-below)))
 
 -- packets carried leave the rest as it was
 pub still-going : (s : Record) (fresh helpers standIns area packets after : List ℕ) → Going s fresh helpers standIns area packets → length after ≡ length packets

@@ -9,8 +9,9 @@ use Rattle.sizes.specs.Sizing.{α}
 use Rattle.sizes.proofs.Legal.{legal-facts}
 use Rattle.factors.proofs.Values.{below-more}
 use Rattle.store_spec.specs.Record.{Record, withMarks}
+use Rattle.step_laws.proofs.Facts.{fresh-below}
 use Rattle.record.specs.Records.{recordOf}
-use Rattle.store_step.proofs.Going.{Ready, ready, fresh-below}
+use Rattle.store_step.proofs.Going.{Ready, ready}
 use Rattle.store_step.proofs.finish.Statement.{statement}
 use Rattle.store_step.proofs.finish.Tie as tie
 

@@ -96,7 +96,7 @@ step-by-spec =
     (λ c. omega (arith, few (st c)))
     (λ c. omega (arith, some-left (st c)))
     carry-on-requires
-    (λ c. let t = then-end c in omega (arith, allowed t, few (st (t .before))))
+    (λ c. let t = then-end c in let g = st (t .before) in omega (arith, allowed t, few g, some-left g))
     (λ c. search needs)
     (λ c. search needs)
     returns
