@@ -218,12 +218,12 @@ impl Store {
         if let Check::Refuse(x) = record_checks::check_lose(kept, running, board) {
             return refuse(self, running, x);
         }
-        let after = running_lists::lost_beside(kept, running, board);
+        let beside = running_lists::lost_beside(kept, running, board);
         let mut next = kept;
         next.marks[board] = false;
         Handed {
             store: Store { record: next },
-            running: after,
+            running: beside,
             answer: Answer::Done(0),
         }
     }

@@ -1,8 +1,6 @@
 -- `store::check_agrees` meets its contract.
 -- Assumes nothing.
-use mathlib.Core.Path.{_≡_, sym}
-use lib.ListN.{length}
-use borrow.Author.Needs.{needs}
+use mathlib.Core.Path.{sym}
 use Rattle.shared_checks.proofs.Facts.{Ready, ready}
 use Rattle.record.specs.Records.{recordOf}
 use Rattle.store.proofs.Readable.{read-asked}
