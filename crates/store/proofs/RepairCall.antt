@@ -14,10 +14,10 @@ use Rattle.sizes.specs.declared.Check.{Check}
 use Rattle.sizes.specs.declared.Check.the-variants.{Pass, Refuse}
 use Rattle.sizes.specs.Sizing.{α}
 use Rattle.sizes.specs.Refusals.{first, storeOrder}
-use Rattle.sizes.proofs.Legal.{legal-facts, row-fits}
+use Rattle.sizes.proofs.Legal.{row-fits}
 use Rattle.store_spec.specs.Record.{Record, stripeCount, partLen, withMarks, turnOn}
 use Rattle.store_spec.specs.Packets.{standInsEach, repairPackets, total}
-use Rattle.store_spec.specs.Calls.{StoreOutcome, accepted, settle, listLines, repairLines, repairDone, repairCall, refused}
+use Rattle.store_spec.specs.Calls.{accepted, settle, listLines, repairLines, repairDone, repairCall, refused}
 use Rattle.store_spec.specs.Running.{Running, runningBy}
 use Rattle.store_spec.specs.Both.{Outcome, beside, repairLinesBoth, repairBoth, startCall}
 use Rattle.store_spec.proofs.Records.{repair-facts, sound-facts}

@@ -15,6 +15,7 @@ ghost use Rattle.store_spec.specs.Calls.{repairLines, readLines, fileHeld, repa
 ghost use Rattle.store_spec.specs.Edit.{editLines, editDone};
 ghost use Rattle.store_spec.specs.Both.{setUpBoth, writeBoth, loseBoth, repairBoth, readBoth, editBoth, startCall, stepCall};
 ghost use Rattle.store_checks.specs.Steps.{Bounded};
+ghost use Rattle.decode_stripe.specs.Steps.{Asked};
 ghost use Rattle.decode_setup.specs.Steps.{Made};
 ghost use Rattle.record.specs.Records.{recordOf, runningIn};
 ghost use Rattle.store.specs.Handing.{recordIn, outcomeBoth, turnedDown};
@@ -90,16 +91,23 @@ fn rebuild(
     bytes_moved(sizes, fresh.len(), stripes)
 }
 
-// 10 DISAGREE, of k boards; and the tables to read from them, which it fills.
-fn check_agrees(kept: Kept, boards: &[usize], area: &[u8], tables: &mut [u8]) -> Check
-    requires { ⌜ Readable (recordOf kept) (length (now area)) (now boards) × (length (now tables) ≡ 49152) ⌝ }
-    ensures { λ r. ⌜ r ≡ asked (Disagree when not (given (fileHeld (recordOf kept) (now (area .entry)) (now (boards .entry))))) ⌝ }
+// The tables to read from k boards.
+fn fill_tables(kept: Kept, boards: &[usize], tables: &mut [u8])
+    requires { ⌜ Asked (kept .sizes) (kept .points) (now boards) × (length (now tables) ≡ 49152) ⌝ }
     ensures { λ _. ⌜ Made (kept .sizes) (kept .points) (now (boards .entry)) (now (tables .exit)) ⌝ }
+{
+    let points = kept.points;
+    store_decode::fill_tables(kept.sizes, &points, boards, tables);
+}
+
+// 10 DISAGREE, of k boards with their tables.
+fn check_agrees(kept: Kept, boards: &[usize], area: &[u8], tables: &[u8]) -> Check
+    requires { ⌜ Readable (recordOf kept) (length (now area)) (now boards) × Made (kept .sizes) (kept .points) (now boards) (now tables) ⌝ }
+    ensures { λ r. ⌜ r ≡ asked (Disagree when not (given (fileHeld (recordOf kept) (now (area .entry)) (now (boards .entry))))) ⌝ }
 {
     let sizes = kept.sizes;
     let points = kept.points;
     let count = checks::stripe_count(sizes, kept.length);
-    store_decode::fill_tables(sizes, &points, boards, tables);
     store_decode::check_agrees(
         sizes,
         kept.capacity,
@@ -210,12 +218,12 @@ impl Store {
         if let Check::Refuse(x) = record_checks::check_lose(kept, running, board) {
             return refuse(self, running, x);
         }
-        let after = running_lists::lost_beside(kept, running, board);
+        let beside = running_lists::lost_beside(kept, running, board);
         let mut next = kept;
         next.marks[board] = false;
         Handed {
             store: Store { record: next },
-            running: after,
+            running: beside,
             answer: Answer::Done(0),
         }
     }
@@ -264,7 +272,8 @@ impl Store {
             return refuse(self, running, x);
         }
         let mut tables = [0u8; 49152];
-        if let Check::Refuse(disagree) = check_agrees(kept, boards, area, &mut tables) {
+        fill_tables(kept, boards, &mut tables);
+        if let Check::Refuse(disagree) = check_agrees(kept, boards, area, &tables) {
             return refuse(self, running, disagree);
         }
         read_file(kept, boards, area, &tables, out);
@@ -299,7 +308,8 @@ impl Store {
             return refuse(self, running, x);
         }
         let mut tables = [0u8; 49152];
-        if let Check::Refuse(disagree) = check_agrees(kept, boards, area, &mut tables) {
+        fill_tables(kept, boards, &mut tables);
+        if let Check::Refuse(disagree) = check_agrees(kept, boards, area, &tables) {
             return refuse(self, running, disagree);
         }
         edit_boards(kept, offset, bytes, boards, &tables, area);

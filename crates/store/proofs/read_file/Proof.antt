@@ -1,6 +1,6 @@
 -- `store::read_file` meets its contract.
 -- Assumes nothing.
-use mathlib.Core.Path.{_≡_, sym}
+use mathlib.Core.Path.{sym}
 use lib.ListN.{length}
 use borrow.Author.Needs.{needs}
 use Rattle.shared_checks.proofs.Facts.{Ready, ready}

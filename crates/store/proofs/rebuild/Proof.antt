@@ -1,6 +1,6 @@
 -- `store::rebuild` meets its contract.
 -- Assumes nothing.
-use mathlib.Core.Path.{_≡_, sym}
+use mathlib.Core.Path.{sym}
 use lib.ListN.{length}
 use borrow.Author.Needs.{needs}
 use Rattle.repair_check.proofs.Repairable.{Repairable}
