@@ -41,6 +41,10 @@ mod archive;
 mod board;
 mod board_cases;
 mod call;
+mod careful;
+mod careful_cases;
+mod careful_figures;
+mod careful_met;
 mod code;
 mod draw;
 mod edit_cases;
@@ -85,6 +89,7 @@ mod text_spoil;
 mod texts;
 mod tight;
 mod trial;
+mod worn;
 
 use printer::Printer;
 use random::Random;
@@ -238,6 +243,8 @@ fn run_case(trial: &mut Trial, case: u64) {
         altered::run(trial, &mut random, sizes);
         edit_cases::run(trial, &mut random, sizes);
         step_cases::run(trial, &mut random, sizes);
+        careful_cases::run(trial, &mut random, sizes);
+        worn::run(trial, &mut random, sizes);
         text_cases::run(trial, &mut random, sizes);
         prefix_cases::first(trial, &mut random, sizes);
         stream_cases::first(trial, &mut random);
@@ -247,7 +254,7 @@ fn run_case(trial: &mut Trial, case: u64) {
         return real_cases::run(trial, &mut random, turn);
     }
     let sizes = draw::sizes(&mut random);
-    match random.below(23) {
+    match random.below(25) {
         0..=1 => histories::run(trial, &mut random, sizes),
         2..=9 => store_cases::run(trial, &mut random, sizes),
         10..=11 => tight::run(trial, &mut random, sizes),
@@ -260,6 +267,8 @@ fn run_case(trial: &mut Trial, case: u64) {
         15 => stream_cases::run(trial, &mut random),
         16 => edit_cases::run(trial, &mut random, sizes),
         17 => step_cases::run(trial, &mut random, sizes),
+        18 => careful_cases::run(trial, &mut random, sizes),
+        19 => worn::run(trial, &mut random, sizes),
         _ => board_cases::run(trial, &mut random, sizes),
     }
 }
