@@ -153,9 +153,12 @@ impl Reading<'_> {
         if stripes <= 4 && self.scene.sizes.n <= 12 {
             all.extend((0..k + 2).map(Altered::Board));
         }
-        // where elimination takes its time, not those that alter every stripe of several boards
-        let many = [Altered::AllOther, Altered::AllPadded, Altered::TwoBoards(one, other), Altered::Any];
-        all.retain(|kind| self.scene.sizes.stripe_len() <= HEAVY || !many.contains(kind));
+        // where elimination takes its time, not those that alter every stripe, and not the one that takes an elimination of its own
+        let long = |kind: &Altered| {
+            use Altered::{AllOther, AllPadded, Any, Board, FirstAgree, OthersWrong, TwoBoards};
+            matches!(kind, AllOther | AllPadded | Any | Board(_) | FirstAgree(_) | OthersWrong | TwoBoards(..))
+        };
+        all.retain(|kind| self.scene.sizes.stripe_len() <= HEAVY || stripes == 1 || !long(kind));
         all
     }
 

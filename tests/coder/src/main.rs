@@ -18,11 +18,12 @@
 //! seed, made of the run's seed and the case's number: `--only` repeats one case.
 //! `--wrong` alters what the archive answers to one call, to show that this is reported. `--first` ends the run at the first case with a mismatch.
 //! `--trace` prints each call before it is made, `--verbose` how often each call gave each refusal, with which points, how often an altered byte was
-//! accepted and refused, how many boards repairs had, where edits stood, how repairs were stepped, what careful reads were of, and what was met at real sizes. `--multiply` tries all products and quotients through the
-//! archive and nothing else. `--products`, `--printer`, `--sizes`, `--trial` and `--load` make no call: the first writes all products and inverses of
-//! the coder's own field, the second reads standard input and writes what the share printer or the points printer must write for it, the third writes
-//! a line for each legal combination of sizes with at most N boards (request A.12), the fourth reads standard input and writes what the program
-//! `trial` must write for it (request A.2), and the fifth writes one of the inputs that it is tried with.
+//! accepted and refused, how many boards repairs had, where edits stood, how repairs were stepped, what careful reads were of, and what was met at real
+//! sizes. `--multiply` tries all products and quotients through the archive and nothing else. `--products`, `--printer`, `--sizes`, `--trial` and `--load`
+//! make no call: the first writes all products and inverses of the coder's own field, the second reads standard input and writes what the share printer
+//! or the points printer must write for it, the third writes a line for each legal combination of sizes with at most N boards (request A.12), the fourth
+//! reads standard input and writes what the program `trial` must write for it (request A.2), and the fifth writes one of the inputs that it is tried
+//! with.
 //!
 //! Texts of shares are read and gathered in cases of their own (request A.1), and asked how far they make sense in others (request A.14): whole, cut
 //! at every byte, altered at every place, with bytes behind, and with points that are about to be 0 to n − 1. Every kind of these must have been met,

@@ -32,11 +32,11 @@ struct Worn {
     packets: Vec<u8>,
 }
 
-/// From how many products of a byte on that the checks of k + 2 boards take a list has few calls.
+/// From how many products of a byte on that the checks of k + 2 boards take a list has few calls, and over many stripes none.
 const HEAVY: usize = 50_000_000;
 
 /// The most calls that are drawn over many stripes.
-const FEW: usize = 6;
+const FEW: usize = 4;
 
 /// A few stripes.
 pub fn run(trial: &mut Trial, random: &mut Random, sizes: Sizes) {
@@ -50,9 +50,12 @@ pub fn run(trial: &mut Trial, random: &mut Random, sizes: Sizes) {
 /// A file written, a board worn and named, an edit, the board lost and rebuilt; another one worn while a repair runs, which power ends; a board rebuilt by the
 /// worn one; and then so many calls as they are drawn.
 pub fn whole(trial: &mut Trial, random: &mut Random, scene: &Scene, capacity: usize, calls: usize) {
-    let Some(mut worn) = Worn::new(trial, random, scene, capacity) else { return };
     let Sizes { n, k, .. } = scene.sizes;
     let heavy = scene.sizes.stripe_len().pow(2) * (k + 2) * scene.sizes.share_len() > HEAVY;
+    if heavy && scene.stripes() > 100 {
+        return;
+    }
+    let Some(mut worn) = Worn::new(trial, random, scene, capacity) else { return };
     if n >= k + 2 {
         let alike = worn.through_an_edit(trial, random)
             && !heavy
