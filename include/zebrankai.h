@@ -61,8 +61,8 @@ enum zbk_refusal_number {
     ZBK_ACCEPTED = 0,
     /* The sizes are not legal, the capacity is not 1 to 4,096 stripes, the record is one that no call hands out, the points repeat, or one from
      * n up is not 00; or a repair is running by a repair record that no call hands out beside this record. A record of another number of words than
-     * 12, a repair record of another than 71 or with a first word above 1, a text's head of another than 6 and a list of points of another length
-     * than 32 are refused with it before all else. */
+     * 12, a repair record of another than 71, a text's head of another than 6 and a list of points of another length than 32 are refused with it
+     * before all else, and so is, but in zbk_set_up, a repair record with a first word above 1. */
     ZBK_SIZE = 1,
     /* The area, the packet area of a repair that is running, or a slice of shares or packets, has another length than the sizes give. */
     ZBK_AREA = 2,
@@ -119,7 +119,7 @@ enum zbk_record_word {
 };
 
 /* The words of the record of a started repair, by place. Where the first is 0 no repair is running, and what the others are does not matter: such a
- * record goes through every call as it came, until a start. The lists are bytes, a board number each, eight in a word, the lowest first; a start
+ * record goes through every call as it came, but a set-up and a start that are accepted. The lists are bytes, a board number each, eight in a word, the lowest first; a start
  * writes 00 behind them. A set-up that is accepted, the last step and the loss of a board that the repair names write 71 words 0. */
 enum zbk_repair_word {
     /* 1 where a repair is running, else 0 */
@@ -215,11 +215,14 @@ uint64_t zbk_text_prefix(const uint8_t *text, size_t text_len);
  * holds the boards one after another. Each call is given both records and the area as the last call left them.
  *
  * Power. What a robot keeps through a power failure is the record and the area; the repair's record and the packet area are what it may lose. Behind a
- * failure the calls are given the record and the area as they stand, and an idle repair record: any 71 words of which the first is 0.
+ * failure the calls are given the record and the area as they stand, and an idle repair record: any 71 words of which the first is 0. This is a must:
+ * no call can tell that packets in the packet area were lost or altered, or that a running record is an old one whose boards happen to fit; the last
+ * step would then put wrong shares into service.
  * - Between two packets, and inside a step that has not carried the last packet of all, the record is that before the start but for the boards lost
  *   since, boards in service hold what they held, and any k of them give the file. The repair is started anew, from its first packet.
  * - Inside the step that carries the last packet, and inside zbk_repair, only bytes of fresh boards change in the area, and these are out of service by
- *   the record that was kept before the call. Where the record is kept in a place of its own, keep the new one once the call has come back.
+ *   the record that was kept before the call (what a call does before it comes back is how it is made, and not among what is proved). So lend the
+ *   calls a copy of the record, and keep the new one once the call has come back; a set-up, too.
  * - A write or an edit changes boards in service. Where power cuts one, some boards are changed and others not, and no call is promised anything of such
  *   an area: a read may give a file that nobody wrote. Keep a second record and area, and use the two in turn. */
 
@@ -272,9 +275,9 @@ uint64_t zbk_edit(uint64_t *record, size_t record_words, uint64_t *repair, size_
                   const uint8_t *bytes, size_t bytes_len, const size_t *boards, size_t boards_count);
 
 /* Repair a packet at a time, while the bus is shared. A start takes the lists of zbk_repair, refuses what that refuses, and carries nothing; steps
- * carry the packets, t * (d + r - 1) in all, as many in each as the caller allows. Until the last one the fresh boards are out of service and nothing
- * changes in record and area. Reads go on meanwhile, careful ones too, and losses; a write, an edit, a repair and a start are ZBK_BUSY. Stepped to its
- * end, with no bytes altered of boards in service and of packets carried, it leaves what zbk_repair would leave in the place of its last step. */
+ * carry the packets, t * (d + r - 1) in all, as many in each as the caller allows. Until the last one the fresh boards are out of service and no step
+ * changes the record or the area. Reads go on meanwhile, careful ones too, and losses; a write, an edit, a repair and a start are ZBK_BUSY. Stepped to
+ * its end, with no bytes altered of boards in service and of packets carried, it leaves what zbk_repair would leave in the place of its last step. */
 
 /* Starts a repair: writes the repair record. The area is asked for its length alone. */
 uint64_t zbk_start(uint64_t *record, size_t record_words, uint64_t *repair, size_t repair_words, const uint8_t *area, size_t area_len,

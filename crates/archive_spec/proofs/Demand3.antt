@@ -164,6 +164,38 @@ ends : (steps : List Step) (h : Held) (w : State) (b : Book) → Tells h w → A
 ends [] h w b k a = k
 ends (t ∷ ts) h w b k a = ends ts (heldNext h (t .area) (t .event)) (next (lent w t) (t .event)) (bookNext b (t .event)) (following h w k t (t .event) (a .2)) (a .3)
 
+-- from any words that tell both records, whatever is altered
+goes-as : (steps : List Step) (h : Held) (w : State) → Tells h w → All (λ t. GivenWords (t .event)) steps
+    → Tells (lastHeld h steps) (final w steps) × (map told (lents h steps) ≡ map inWord (replies w steps))
+goes-as [] h w k g = (k, refl)
+goes-as (t ∷ ts) h w k g =
+    let r = goes-as ts (heldNext h (t .area) (t .event)) (next (lent w t) (t .event)) (following h w k t (t .event) (g .0)) (g .1) in (
+      r .0,
+      map-append told (lentAt h (t .area) (t .event)) (lents (heldNext h (t .area) (t .event)) ts)
+          ∙ ap₂ {C = List Told} (λ (x y : List Told). x ++ y) (told-same h w k t (t .event)) (r .1)
+          ∙ sym (map-append inWord (toldBy (lent w t) (t .event)) (replies (next (lent w t) (t .event)) ts)),
+    )
+
+pub final-is : (h : Held) (steps : List Step) → isRecord (h .words) ≡ true → isRepair (h .repair) ≡ true → All (λ t. GivenWords (t .event)) steps
+    → (isRecord (lastHeld h steps .words) ≡ true) × (isRepair (lastHeld h steps .repair) ≡ true) × (heldState (lastHeld h steps) ≡ final (heldState h) steps)
+    × (map told (lents h steps) ≡ map inWord (replies (heldState h) steps))
+final-is h steps a b g =
+    let k : Tells h (heldState h) = record {
+      words-are = sym (word-laws .words-back (h .words) a);
+      repair-are = sym (repair-words .words-back (h .repair) b);
+      area-is = refl;
+      packets-are = refl;
+      whole = word-laws .is-whole (h .words) a;
+      arrays = repair-words .is-arrays (h .repair) b;
+    } in
+    let r = goes-as steps h (heldState h) k g in
+    let w = final (heldState h) steps in (
+      ap isRecord (r .0 .words-are) ∙ word-laws .are-words (w .kept) (r .0 .whole),
+      ap isRepair (r .0 .repair-are) ∙ repair-words .are-words (w .running) (r .0 .arrays),
+      state-is (lastHeld h steps) w (r .0),
+      r .1,
+    )
+
 -- ---- the start
 
 module _ (ws ps : List ℕ) (z : Sizes) (xs : List ℕ) (c : ℕ) where

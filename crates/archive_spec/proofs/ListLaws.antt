@@ -18,6 +18,7 @@ use Rattle.repair_words.proofs.RepairWords.{repair-words}
 use Rattle.archive_spec.specs.Lent.{Lent, zbk}
 use Rattle.archive_spec.specs.Demand3.{Held, heldNext, lentAt, lents, lastHeld, GivenWords, AllowedLents, heldState}
 use Rattle.archive_spec.specs.ListLaws.{LentLaws}
+use Rattle.archive_spec.proofs.Demand3.{final-is}
 
 lents-parts : (h : Held) (ts us : List Step) → lents h (ts ++ us) ≡ lents h ts ++ lents (lastHeld h ts) us
 lents-parts h [] us = refl
@@ -97,6 +98,7 @@ lent-laws = record {
   held-parts = held-parts;
   ends-are = λ ws ps z xs c area steps. (refl, refl, refl, refl);
   state-is = λ h. refl;
+  final-is = final-is;
   told-is = λ o. (refl, refl);
   in-word-is = λ r. (refl, refl);
   none-allowed = λ h b. tt;

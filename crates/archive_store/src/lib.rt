@@ -2,15 +2,34 @@
 //! Each meets its definition in the crate `archive_spec`: the answer as one word, and every word and byte that it was lent.
 ghost use mathlib.Core.Path.{_≡_};
 ghost use mathlib.Core.List.{List, []};
-ghost use Prim.Native.Nat.{ℕ};
+ghost use Prim.Native.Nat.{ℕ, _<_};
+ghost use lib.ListN.{length};
+ghost use Rattle.sizes.specs.Refusals.{said};
 ghost use Rattle.store_spec.specs.Ledger.{write, lose, repair, read, edit, start, step};
+ghost use Rattle.record.specs.Records.{runningIn};
+ghost use Rattle.store.specs.Handing.{recordIn};
+ghost use Rattle.answer_word.specs.Answers.{wordOf};
+ghost use Rattle.record_words.specs.Words.{wordsOf};
+ghost use Rattle.repair_words.specs.RepairWords.{repairWordsOf};
 ghost use Rattle.archive_spec.specs.Archive.{sizesOf};
 ghost use Rattle.archive_spec.specs.Lent.{zbkSetUp, zbk};
 use sizes::Sizes;
+use store::Handed;
 use store::Store;
 
 // The word of SIZE, for words that are no record.
 const SIZE: u64 = 1;
+
+// Both records that a call of the store hands on, in their words; and the word of its answer.
+fn hand_on(handed: Handed, words: &mut [u64], beside: &mut [u64]) -> u64
+    requires { ⌜ (length (now words) ≡ 12) × (length (now beside) ≡ 71) × (said (handed .answer) .reported < 72057594037927936) ⌝ }
+    ensures { λ w. ⌜ (w ≡ wordOf (said (handed .answer))) × (now (words .exit) ≡ wordsOf (recordIn (handed .store))) × (now (beside .exit) ≡ repairWordsOf (runningIn (handed .running))) ⌝ }
+{
+    words::put_kept(handed.store.record, words);
+    running_words::put_running(handed.running, beside);
+    let answer = handed.answer;
+    answer_word::word_of(answer)
+}
 
 // A new store of these sizes, these points and this capacity, in twelve words, with no repair, in 71.
 pub fn set_up(
@@ -46,7 +65,7 @@ pub fn set_up(
     let answer = handed.answer;
     let word = answer_word::word_of(answer);
     if word == 0 {
-        words::put_words(handed.store, ws);
+        words::put_kept(handed.store.record, ws);
         running_words::put_running(handed.running, ps);
     }
     word
@@ -59,10 +78,12 @@ pub fn write(ws: &mut [u64], ps: &mut [u64], area: &mut [u8], file: &[u8]) -> u6
     if !words::are_records(ws, ps) {
         return SIZE;
     }
-    let store = words::store_of(ws);
+    let store = Store {
+        record: words::kept_of(ws),
+    };
     let running = running_words::running_of(ps);
     let handed = store.write(running, area, file);
-    words::hand_on(handed, ws, ps)
+    hand_on(handed, ws, ps)
 }
 
 // Takes a board out of service.
@@ -72,10 +93,12 @@ pub fn lose(ws: &mut [u64], ps: &mut [u64], board: usize) -> u64
     if !words::are_records(ws, ps) {
         return SIZE;
     }
-    let store = words::store_of(ws);
+    let store = Store {
+        record: words::kept_of(ws),
+    };
     let running = running_words::running_of(ps);
     let handed = store.lose(running, board);
-    words::hand_on(handed, ws, ps)
+    hand_on(handed, ws, ps)
 }
 
 // Rebuilds one to r fresh boards together, t of them, each from its own run of d helpers and its own run of r − t stand-ins.
@@ -92,29 +115,27 @@ pub fn repair(
     if !words::are_records(ws, ps) {
         return SIZE;
     }
-    let store = words::store_of(ws);
+    let store = Store {
+        record: words::kept_of(ws),
+    };
     let running = running_words::running_of(ps);
     let handed = store.repair(running, area, fresh, helpers, standins);
-    words::hand_on(handed, ws, ps)
+    hand_on(handed, ws, ps)
 }
 
 // Reads the file from k boards.
-pub fn read(
-    ws: &mut [u64],
-    ps: &mut [u64],
-    area: &[u8],
-    boards: &[usize],
-    out: &mut [u8],
-) -> u64
+pub fn read(ws: &mut [u64], ps: &mut [u64], area: &[u8], boards: &[usize], out: &mut [u8]) -> u64
     ensures { λ w. ⌜ record { answer = w; words = now (ws .exit); repair = now (ps .exit); area = now (area .entry); output = now (out .exit); packets = [] } ≡ zbk (now (ws .entry)) (now (ps .entry)) (now (area .entry)) (read (now (boards .entry)) (now (out .entry))) ⌝ }
 {
     if !words::are_records(ws, ps) {
         return SIZE;
     }
-    let store = words::store_of(ws);
+    let store = Store {
+        record: words::kept_of(ws),
+    };
     let running = running_words::running_of(ps);
     let handed = store.read(running, area, boards, out);
-    words::hand_on(handed, ws, ps)
+    hand_on(handed, ws, ps)
 }
 
 // Puts bytes into the file from an offset on, read from k boards, in all boards in service.
@@ -131,10 +152,12 @@ pub fn edit(
     if !words::are_records(ws, ps) {
         return SIZE;
     }
-    let store = words::store_of(ws);
+    let store = Store {
+        record: words::kept_of(ws),
+    };
     let running = running_words::running_of(ps);
     let handed = store.edit(running, area, offset, bytes, boards);
-    words::hand_on(handed, ws, ps)
+    hand_on(handed, ws, ps)
 }
 
 // Starts a repair by these lists: nothing is carried yet.
@@ -151,10 +174,12 @@ pub fn start(
     if !words::are_records(ws, ps) {
         return SIZE;
     }
-    let store = words::store_of(ws);
+    let store = Store {
+        record: words::kept_of(ws),
+    };
     let running = running_words::running_of(ps);
     let handed = store.start(running, area, fresh, helpers, standins);
-    words::hand_on(handed, ws, ps)
+    hand_on(handed, ws, ps)
 }
 
 // Carries at most so many packets of the repair that runs, each to its place in the packet area.
@@ -170,8 +195,10 @@ pub fn step(
     if !words::are_records(ws, ps) {
         return SIZE;
     }
-    let store = words::store_of(ws);
+    let store = Store {
+        record: words::kept_of(ws),
+    };
     let running = running_words::running_of(ps);
     let handed = store.step(running, area, packets, allowance);
-    words::hand_on(handed, ws, ps)
+    hand_on(handed, ws, ps)
 }

@@ -9,13 +9,7 @@ use record::Running;
 use sizes::Check;
 
 // The first refusal of a read from these boards, DISAGREE aside, of an area of so many bytes.
-pub fn check_read(
-    kept: Kept,
-    running: Running,
-    lent: usize,
-    boards: &[usize],
-    out: &[u8],
-) -> Check
+pub fn check_read(kept: Kept, running: Running, lent: usize, boards: &[usize], out: &[u8]) -> Check
     ensures { λ r. ⌜ r ≡ first storeOrder (askedLines (recordOf kept) (runningIn running) lent (now (boards .entry)) (now (out .entry))) ⌝ }
 {
     let sizes = kept.sizes;

@@ -39,7 +39,11 @@ fn byte_at(boards: &[usize], at: usize) -> u8
     requires { ⌜ below 256 (now boards) ≡ true ⌝ }
     ensures { λ r. ⌜ r ≡ getD (now (boards .entry)) at 0 ⌝ }
 {
-    if at < boards.len() { boards[at] as u8 } else { 0 }
+    if at < boards.len() {
+        boards[at] as u8
+    } else {
+        0
+    }
 }
 
 // Boards as bytes, with 00 in what is left.

@@ -40,7 +40,8 @@ fn finish_board(
     let to = from + d;
     let start = a * e;
     let end = start + e;
-    let at = fresh[a] * (capacity * w);
+    let board = fresh[a];
+    let at = board * (capacity * w);
     let next = at + stripes * w;
     step_board::share_of(
         sizes,

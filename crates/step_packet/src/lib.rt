@@ -20,7 +20,11 @@ fn place(h: usize, stripes: usize, q: usize) -> usize
     requires { ⌜ (h ≤ 1024) × (q ≤ 2048) × (stripes ≤ 4096) ⌝ }
     ensures { λ r. ⌜ r ≡ (q + min q h) * stripes ⌝ }
 {
-    if q < h { (q + q) * stripes } else { (q + h) * stripes }
+    if q < h {
+        (q + q) * stripes
+    } else {
+        (q + h) * stripes
+    }
 }
 
 // Packet q, to place `at`.

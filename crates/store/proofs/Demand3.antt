@@ -1,6 +1,6 @@
 -- Demand 3 of the code: a run of the methods follows the definitions.
 -- Assumes nothing.
-use mathlib.Core.Path.{_≡_, sym, ap, _∙_}
+use mathlib.Core.Path.{sym, ap, _∙_}
 use Rattle.store_spec.specs.Both.{Outcome}
 use Rattle.store_spec.specs.Ledger.{act}
 use Rattle.store_spec.proofs.Demand3.{accepted-both}

@@ -1,17 +1,17 @@
 -- What demand 3 says, said of what the methods gave.
 -- Assumes nothing.
 use mathlib.Core.Path.{_≡_, refl, sym, ap, _∙_}
-use mathlib.Core.List.{List}
+use mathlib.Core.List.{List, [], _∷_, _++_}
 use Prim.Native.Nat.{ℕ}
 use Rattle.sizes.specs.Refusals.{Said}
 use Rattle.store_spec.specs.Record.{held}
 use Rattle.store_spec.specs.Calls.{repairCall}
 use Rattle.store_spec.specs.Both.{Outcome, beside, repairBoth}
-use Rattle.store_spec.specs.Ledger.{repair, act}
+use Rattle.store_spec.specs.Ledger.{repair, call, powerFails, Step, act}
 use Rattle.store_spec.specs.Demand3.{Repaired}
-use Rattle.store_spec.specs.Follows.{Given}
+use Rattle.store_spec.specs.Follows.{Given, Moment, gave, anew, Follows, handedOn, areaAt, packetsAt, ending}
 use Rattle.store_spec.proofs.Demand3.{accepted-both}
-use Rattle.store_spec.proofs.Follows.{act-any, follows-laws}
+use Rattle.store_spec.proofs.Follows.{follows-laws}
 use Rattle.store.specs.Demand3.{Records, keptIn, besideIn, Meets}
 use Rattle.store.specs.Gives.{CodeGives}
 
@@ -21,6 +21,17 @@ module _ (x : Records) (area fresh helpers standIns : List ℕ) (g : Given Recor
   unfolding act
   is-repaired = accepted-both (keptIn x) (besideIn x) area fresh helpers standIns (ap (λ (o : Outcome). o .answer .refusal) (sym m) ∙ ok)
 
+-- a run ends where the last of its events ended
+ends-last : (ts : List Step) (run : List (Moment Records)) (x : Records) (area packets : List ℕ) → Follows Records keptIn besideIn x ts run → (t : Step) (h : Moment Records)
+    → ending Records keptIn besideIn x area packets (ts ++ (t ∷ [])) (run ++ (h ∷ []))
+    ≡ ending Records keptIn besideIn (handedOn Records keptIn besideIn h) (areaAt Records keptIn besideIn (t .area) h)
+    (packetsAt Records keptIn besideIn (ending Records keptIn besideIn x area packets ts run .packets) (t .event) h) [] []
+ends-last [] [] x area packets r t h = refl
+ends-last [] (m ∷ ms) x area packets r t h = absurd r
+ends-last (u ∷ us) [] x area packets r t h = absurd r
+ends-last (u ∷ us) (m ∷ ms) x area packets r t h =
+    ends-last us ms (handedOn Records keptIn besideIn m) (areaAt Records keptIn besideIn (u .area) m) (packetsAt Records keptIn besideIn packets (u .event) m) (r .1) t h
+
 pub code-gives : CodeGives
 unfolding act
 code-gives = record {
@@ -29,6 +40,9 @@ code-gives = record {
   handed-is = λ h area output packets. refl;
   gave-is = λ h area output packets. refl;
   runs = follows-laws Records keptIn besideIn;
+  ending-none = λ x area. refl;
+  ending-last = λ x area ts run r now c g. ends-last ts run x area [] r (record { area = now; event = call c }) (gave g);
+  ending-fails = λ x area ts run r now p y. ends-last ts run x area [] r (record { area = now; event = powerFails p }) (anew y);
   reads = λ x area packets b k lent a boards output count diff up room g m. m ∙ k .gives lent a boards output count diff up room;
   finishes = λ x area packets b k r e lent a lying long same allowance most g m.
       let w = k .finishes r e lent a lying long same allowance most in (

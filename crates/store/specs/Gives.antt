@@ -2,7 +2,7 @@
 -- Assumes nothing.
 use mathlib.Core.Path.{_≡_}
 use mathlib.Core.Bool.{true}
-use mathlib.Core.List.{List}
+use mathlib.Core.List.{List, [], _∷_, _++_}
 use mathlib.Core.Option.{some}
 use Prim.Native.Nat.{ℕ, _+_, _-_, _*_, _≤_}
 use lib.ListN.{length}
@@ -14,17 +14,18 @@ use Rattle.board_spec.specs.Calls.{fileOf}
 use Rattle.store_spec.specs.Record.{stripeCount, held}
 use Rattle.store_spec.specs.Packets.{repairPackets, freshShare, contents}
 use Rattle.store_spec.specs.Calls.{accepted}
+use Rattle.store_spec.specs.Running as spec
 use Rattle.store_spec.specs.Running.{idle, packetsLen}
 use Rattle.store_spec.specs.Both.{beside, repairBoth}
-use Rattle.store_spec.specs.Ledger.{repair, read, step, Book, Repairing, Altered, Unaltered, bookLength}
+use Rattle.store_spec.specs.Ledger.{Call, repair, read, step, call, powerFails, Step, Book, Repairing, Altered, Unaltered, bookLength, packetsAfter}
 use Rattle.store_spec.specs.Demand3.{Intact}
-use Rattle.store_spec.specs.Follows.{Given, FollowsLaws, outcomeOf}
+use Rattle.store_spec.specs.Follows.{Given, Moment, gave, anew, FollowsLaws, outcomeOf}
 use Rattle.record.specs.declared.Running.{Running}
 use Rattle.record.specs.Records.{runningIn}
 use Rattle.store.specs.declared.Store.{Store}
 use Rattle.store.specs.declared.Handed.{Handed}
 use Rattle.store.specs.Handing.{recordIn, outcomeBoth}
-use Rattle.store.specs.Demand3.{Records, keptIn, besideIn, gaveBack, Meets}
+use Rattle.store.specs.Demand3.{Records, keptIn, besideIn, gaveBack, Meets, Run, ending}
 
 pub record CodeGives : Type 0 where
   -- the store's record and that of a repair by their fields, and what a call gave by its parts
@@ -39,6 +40,21 @@ pub record CodeGives : Type 0 where
       → outcomeOf Records keptIn besideIn (gaveBack h area output packets) ≡ outcomeBoth h area output packets
   -- what calls gave, each by its contract on the records that the last one handed on, is a run: nothing else is asked; and where it ends
   pub runs : FollowsLaws Records keptIn besideIn
+  -- a run ends where the last of its events ended, however many there are before it
+  pub ending-none : (x : Records) (area : List ℕ) → ending x area [] [] ≡ record { kept = keptIn x; running = besideIn x; area = area; packets = [] }
+  pub ending-last : (x : Records) (area : List ℕ) (ts : List Step) (run : List (Moment Records)) → Run x ts run
+      → (now : List ℕ) (c : Call) (g : Given Records)
+      → ending x area (ts ++ (record { area = now; event = call c } ∷ [])) (run ++ (gave g ∷ []))
+      ≡ record {
+        kept = keptIn (g .handed);
+        running = besideIn (g .handed);
+        area = g .area;
+        packets = packetsAfter (ending x area ts run .packets) c (outcomeOf Records keptIn besideIn g);
+      }
+  pub ending-fails : (x : Records) (area : List ℕ) (ts : List Step) (run : List (Moment Records)) → Run x ts run
+      → (now : List ℕ) (p : spec.Running) (y : Records)
+      → ending x area (ts ++ (record { area = now; event = powerFails p } ∷ [])) (run ++ (anew y ∷ []))
+      ≡ record { kept = keptIn y; running = besideIn y; area = now; packets = [] }
   -- where demand 3's ending holds: a read of any k different boards in service, with output long enough, gave exactly the last file accepted
   pub reads : (x : Records) (area packets : List ℕ) (b : Book) → Intact (record { kept = keptIn x; running = besideIn x; area = area; packets = packets }) b
       → (lent : List ℕ) → Altered b (keptIn x) area lent

@@ -123,16 +123,7 @@ fn step_by(
             count: allowance,
         };
     }
-    carry_on(
-        kept,
-        fresh,
-        helpers,
-        standins,
-        area,
-        from,
-        left,
-        packets,
-    );
+    carry_on(kept, fresh, helpers, standins, area, from, left, packets);
     let last = finish(kept, fresh, helpers, standins, packets, area);
     let idle = record::idle();
     Stepped {

@@ -1,7 +1,7 @@
 -- The load turn by turn: the lines so far, then the text of the calls that are left, are the whole text.
 -- Assumes nothing.
 use mathlib.Core.Path.{_≡_, refl, sym, ap, ap₂, _∙_}
-use mathlib.Core.Bool.{true}
+use mathlib.Core.Bool.{Bool, true}
 use mathlib.Core.Option.{Option, some, none}
 use mathlib.Core.List.{List, [], _∷_, _++_, append-nil, append-assoc}
 use Prim.Native.Nat.{ℕ, zero, suc, _+_, _*_, _-_, _≤_, _<_}
@@ -65,13 +65,15 @@ onward l text count m w state h s more v next em ev en =
       long = omega (arith, length-append (s .said) line, s .long, em);
     }
 
-pub finished : (l : Load) (text : List ℕ) (count m : ℕ) (w : State) (state : ℕ) → Sofar l text count m w state → Printing text (record { count = count; left = m })
-finished l text count m w state s = record {
+pub finished : (l : Load) (text : List ℕ) (count m : ℕ) (w : State) (state : ℕ) (good : Bool) → (good ≡ true → m ≡ 0) → Sofar l text count m w state
+    → Printing text (record { count = count; left = m; good = good })
+finished l text count m w state good h s = record {
   said = s .said;
   unsaid = textFrom l m w state;
   whole = s .whole;
   long = s .long;
   all = λ e. ap (λ (m : ℕ). textFrom l m w state) e;
+  made = h;
 }
 
 -- ---- a line
@@ -125,6 +127,6 @@ pub text-loaded : (input : List ℕ) (o : Option Load) → loaded input ≡ o �
 unfolding trialText
 text-loaded input o e = sym (ap trialOf e)
 
-pub refused-line : Printing (refusedLine 1) (record { count = 10; left = 0 })
+pub refused-line : (good : Bool) → Printing (refusedLine 1) (record { count = 10; left = 0; good = good })
 unfolding decimal
-refused-line = record { said = refusedLine 1; unsaid = []; whole = append-nil (refusedLine 1); long = refl; all = λ e. refl }
+refused-line good = record { said = refusedLine 1; unsaid = []; whole = append-nil (refusedLine 1); long = refl; all = λ e. refl; made = λ e. refl }

@@ -17,10 +17,11 @@ use store::Store;
 use trial_input::Load;
 use trial_input::Loaded;
 
-// How many bytes the lines have that were to be written, and how many calls were not made since a line could not be written.
+// How many bytes the lines have that were to be written, how many calls were not made, and whether every line was written: else a call may be left.
 struct Printed {
     count: usize,
     left: u32,
+    good: bool,
 }
 
 // What a turn leaves: both records, the generator's state, how many bytes its line has, and whether it was written.
@@ -79,6 +80,7 @@ fn turns(kept: Store, running: Running, load: Load, area: &mut [u8]) -> Printed
     Printed {
         count: count,
         left: left,
+        good: good,
     }
 }
 
@@ -99,8 +101,12 @@ fn print(load: Load) -> Printed
 fn refuse() -> Printed
     ensures { λ r. ⌜ Printing (refusedLine 1) r ⌝ }
 {
-    io::write_all(1, b"refused=1\n");
-    Printed { count: 10, left: 0 }
+    let good = io::write_all(1, b"refused=1\n");
+    Printed {
+        count: 10,
+        left: 0,
+        good: good,
+    }
 }
 
 // What an input asks for: all of its text, or its beginning where a line could not be written.

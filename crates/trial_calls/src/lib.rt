@@ -20,13 +20,7 @@ pub struct Turned {
 }
 
 // A write of a file as long as the slice: "A write takes the next L bytes". They are drawn into the slice.
-fn write_into(
-    kept: Store,
-    running: Running,
-    state: u32,
-    file: &mut [u8],
-    area: &mut [u8],
-) -> Turned
+fn write_into(kept: Store, running: Running, state: u32, file: &mut [u8], area: &mut [u8]) -> Turned
     ensures { λ r. ⌜ Acts (stateIn kept running (now (area .entry))) (write (emitted (length (now (file .entry))) state)) (r .handed) (now (area .exit)) ⌝ }
     ensures { λ r. ⌜ r .state ≡ after (length (now (file .entry))) state ⌝ }
 {
@@ -39,13 +33,7 @@ fn write_into(
 }
 
 // A write of a file of this length.
-pub fn write_drawn(
-    kept: Store,
-    running: Running,
-    len: usize,
-    state: u32,
-    area: &mut [u8],
-) -> Turned
+pub fn write_drawn(kept: Store, running: Running, len: usize, state: u32, area: &mut [u8]) -> Turned
     requires { ⌜ len ≤ 16384 ⌝ }
     ensures { λ r. ⌜ Acts (stateIn kept running (now (area .entry))) (write (emitted len state)) (r .handed) (now (area .exit)) ⌝ }
     ensures { λ r. ⌜ r .state ≡ after len state ⌝ }

@@ -45,8 +45,13 @@ first-room c =
     let s = st-helper c in
     let a = s .args in
     let z = a .sizes in
-    omega (arith, s .pre .9, s .pre .10, place-first z (a .stripes) (length (a .fresh .now)) (a .q) (first c),
-    first-fits (a .stripes) (length (a .fresh .now)) (z .d) (z .r) (a .q) (facts s .some-fresh) (first c))
+    omega (
+      arith,
+      s .pre .9,
+      s .pre .10,
+      place-first z (a .stripes) (length (a .fresh .now)) (a .q) (first c),
+      first-fits (a .stripes) (length (a .fresh .now)) (z .d) (z .r) (a .q) (facts s .some-fresh) (first c),
+    )
 
 carry-helper-requires : tie.Need-carry-helper-requires
 carry-helper-requires c κs =
@@ -122,9 +127,13 @@ exchange-number c =
     let s = st-else (c .before) in
     let a = s .args in
     let f = s .pre .4 in
-    omega (arith, f .helper-count, f .stand-in-count,
-    third-count (length (a .fresh .now)) (a .sizes .d) (a .sizes .r) (a .q) (f .some-fresh) (f .few-fresh) (s .pre .8) (later (c .before))
-    (omega (arith, c .if2 .left, f .helper-count, f .stand-in-count)))
+    omega (
+      arith,
+      f .helper-count,
+      f .stand-in-count,
+      third-count (length (a .fresh .now)) (a .sizes .d) (a .sizes .r) (a .q) (f .some-fresh) (f .few-fresh) (s .pre .8) (later (c .before))
+          (omega (arith, c .if2 .left, f .helper-count, f .stand-in-count)),
+    )
 
 carry-exchange-requires : tie.Need-carry-exchange-requires
 carry-exchange-requires c κs =

@@ -23,8 +23,8 @@ returns c =
     let a = st-arg (carry-end c .before) .args in
     let p = st-arg (carry-end c .before) .pre in
     λ s ez ep ec es. carry-end c .carry-all .ensures
-        ∙ carry-every (a .sizes) (a .points .now) (a .capacity) (a .stripes) (a .fresh .now) (a .helpers .now) (a .standins .now) (a .area .now) (p .3) (a .count) (a .from) (a .packets .now) (p .7)
-        s ez ep ec es
+    ∙ carry-every (a .sizes) (a .points .now) (a .capacity) (a .stripes) (a .fresh .now) (a .helpers .now) (a .standins .now) (a .area .now) (p .3) (a .count) (a .from) (a .packets .now) (p .7)
+    s ez ep ec es
 
 pub carry-packets-spec : {M : Type 1} → statement M
 carry-packets-spec =

@@ -53,9 +53,17 @@ finish-requires c κs =
     let a = st-finish c .args in
     let g = g-finish c .g .given in
     let r : length (take (length (a .rows .now) - a .sizes .d * 32) (drop (a .sizes .d * 32) (a .rows .now))) ≡ (a .sizes .d + a .sizes .r) * 32 =
-    simp (length-take, length-drop) (omega (arith, p .2)) in
-    (p .1, f .few, omega (arith, p .4, f .some-fresh), omega (arith, p .4, f .enough, f .few), omega (arith, r, p .4), omega (arith, g, p .5, p .7), p .5, p .6,
-    omega (arith, p .4, p .8, f .some-read, f .read-helpers))
+    simp (length-take, length-drop) (omega (arith, p .2)) in (
+      p .1,
+      f .few,
+      omega (arith, p .4, f .some-fresh),
+      omega (arith, p .4, f .enough, f .few),
+      omega (arith, r, p .4),
+      omega (arith, g, p .5, p .7),
+      p .5,
+      p .6,
+      omega (arith, p .4, p .8, f .some-read, f .read-helpers),
+    )
 
 returns : tie.Need-returns
 returns c =

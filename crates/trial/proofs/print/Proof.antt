@@ -18,10 +18,17 @@ use Rattle.trial.proofs.print.Tie as tie
 few : (c : tie.After-area-len) → c .area-len .result ≤ 32768
 few c = omega (arith, c .area-len .ensures, few-bytes (loadIn (c .before .args .load)) (c .before .pre))
 
+-- past the store that was set up, past the area's length
+abbrev set : tie.After-running → tie.After-set-up
+set c = c .before .before
+
+abbrev long : tie.After-running → tie.After-area-len
+long c = set c .before
+
 returns : tie.Need-returns
 returns c =
     let t = c .before in
-    let s = t .before .before in
+    let s = set (t .before .before) in
     let m = s .before in
     let l = loadIn (m .before .args .load) in
     subst (λ (text : List ℕ). Printing text (t .turns .result))
@@ -34,7 +41,7 @@ print-spec =
     (tie.spec
     (λ c κs. let l = loadIn (c .args .load) in record { is-legal = taken-legal l (c .pre); few = few-stripes l (c .pre) })
     (λ c κs. search needs)
-    (λ c. few (c .before))
-    (λ c. let m = c .before .before in length-front (m .area-len .result) 32768 (few m))
-    (λ c κs. c .before .before .before .pre)
+    (λ c. few (long c))
+    (λ c. let m = long (c .before) in length-front (m .area-len .result) 32768 (few m))
+    (λ c κs. long (c .before) .before .pre)
     returns)

@@ -5,6 +5,7 @@ use mathlib.Core.Path.{_≡_, refl, _∙_}
 use mathlib.Core.List.{List}
 use Prim.Native.Nat.{ℕ, _+_, _*_, _≤_, _<_}
 use native.Mathlib.Omega.{arith}
+use Rattle.lists.proofs.Tests.{true-false}
 use lib.ListN.{length}
 use Rattle.record.specs.declared.Running.{Running}
 use Rattle.store.specs.declared.Store.{Store}
@@ -45,8 +46,8 @@ turn c = c .before .before .before
 abbrev st : tie.In-loop Inv-loop μ-loop → tie.Start Inv-loop μ-loop
 st c = c .before .before .before
 
-abbrev made : tie.After-next Inv-loop μ-loop → tie.After-run-turn Inv-loop μ-loop
-made c = c .before .before .before
+abbrev made : tie.After-after Inv-loop μ-loop → tie.After-run-turn Inv-loop μ-loop
+made c = c .before .before .before .before
 
 add-count : tie.Need-add-count Inv-loop μ-loop
 add-count c =
@@ -63,7 +64,7 @@ loop-again c =
     let a = st k .args in
     let r = t .run-turn in
     let n = r .ensures .1 .1 .1 in
-    let some : 0 < i .left = k .loop-test .taken in (
+    let some : 0 < i .left = omega (arith, k .loop-test .taken) in (
       onward (loadIn (a .load)) (text (a .load) (a .kept) (a .running) (a .area .now)) (i .count) (i .left) (stateIn (i .store) (i .beside) (i .area)) (i .state) some (i .inv .0)
           (r .result .count) (stateIn (r .result .store) (r .result .running) (r .last .1 .1 .1 .1 .0)) (r .result .state) (r .ensures .1 .1 .0) (r .ensures .0) (r .ensures .1 .0),
       omega (arith, n, i .inv .1, some),
@@ -71,10 +72,10 @@ loop-again c =
     )
 
 returns : tie.Need-returns Inv-loop μ-loop
-returns c = let i = c .before .before .loop in finished _ _ (i .count) (i .left) _ _ (i .inv .0)
+returns c = let i = c .before .before .loop in finished _ _ (i .count) (i .left) _ _ (i .good) (λ e. absurd (true-false e (c .if1 .left))) (i .inv .0)
 
 returns-2 : tie.Need-returns-2 Inv-loop μ-loop
-returns-2 c = let i = c .before .loop in finished _ _ (i .count) (i .left) _ _ (i .inv .0)
+returns-2 c = let i = c .before .loop in finished _ _ (i .count) (i .left) _ _ (i .good) (λ e. omega (arith, c .loop-test .left)) (i .inv .0)
 
 pub turns-spec : {M : Type 1} → statement M
 turns-spec =

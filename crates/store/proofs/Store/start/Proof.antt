@@ -1,8 +1,8 @@
 -- `store::Store::start` meets its contract: it hands on what its check refuses, and past it the record of a repair by its lists.
 -- Assumes nothing.
 use mathlib.Core.Path.{_≡_, sym, _∙_}
-use mathlib.Core.List.{List, []}
-use Prim.Native.Nat.{ℕ}
+use mathlib.Core.List.{[]}
+use Prim.Native.Nat.{_≤_}
 use native.Mathlib.Omega.{arith}
 use lib.ListN.{length}
 use borrow.Author.Needs.{needs}
@@ -47,8 +47,12 @@ bytes-ask c κs =
     let k = c .before .before in
     let f = asks c in
     let n = R k .sizes .n in
-    let few = omega (arith, legal-facts _ (f .is-ready .stated .is-legal) .few) in
-    (below-more n 256 _ few (f .fresh-known), below-more n 256 _ few (f .helpers-known), below-more n 256 _ few (f .stand-ins-known))
+    let few : n ≤ 256 = omega (arith, legal-facts _ (f .is-ready .stated .is-legal) .few) in
+    let a = st k .args in (
+      below-more n 256 (a .fresh .now) few (f .fresh-known),
+      below-more n 256 (a .helpers .now) few (f .helpers-known),
+      below-more n 256 (a .standins .now) few (f .stand-ins-known),
+    )
 
 start-refused : (c : tie.After-x)
     → let k = c .before .before in let a = st k .args in

@@ -1,4 +1,4 @@
--- `words::store_of` meets its contract: each field from its word.
+-- `words::kept_of` meets its contract: each field from its word.
 -- Assumes nothing.
 use Prim.Native.Nat.{_-_}
 use mathlib.Core.Path.{_≡_}
@@ -7,8 +7,8 @@ use borrow.Author.Needs.{needs}
 use lib.ListN.{length}
 use Rattle.record_words.proofs.Bits.{words-facts}
 use Rattle.word_parts.proofs.Twelve.{told}
-use Rattle.words.proofs.store_of.Statement.{statement}
-use Rattle.words.proofs.store_of.Tie as tie
+use Rattle.words.proofs.kept_of.Statement.{statement}
+use Rattle.words.proofs.kept_of.Tie as tie
 
 -- the places: after the marks, after the points, and where r is read
 abbrev st : tie.After-marks2 → tie.Start
@@ -20,8 +20,8 @@ at-r c = c .before .before .before .before
 twelve : (g : tie.Start) → length (g .args .words .now) ≡ 12
 twelve g = words-facts (g .args .words .now) (g .pre) .twelve
 
-pub store-of-spec : {M : Type 1} → statement M
-store-of-spec =
+pub kept-of-spec : {M : Type 1} → statement M
+kept-of-spec =
     tie.close
     (tie.spec
     (λ c. omega (arith, twelve (c .before .before)))
