@@ -15,7 +15,7 @@
  * - It ends on all input, made-up records and lists included, with its result or with one refusal.
  * - It answers one number. zbk_refusal(answer) is 0 where the call was accepted, else the refusal's number. zbk_value(answer) is what an
  *   accepted call reports: the bytes written by a board-level call, the bytes of a text that make sense by zbk_text_prefix, the bytes moved by a
- *   repair, the packets carried by a step, else 0.
+ *   repair, the packets carried by a step, the odd board's number plus 1 by a careful read, else 0.
  *   zbk_trial_file alone answers no such number: it refuses nothing, and gives a state.
  * - After a refusal no word of a record and no byte of any buffer has changed.
  * - It keeps nothing between calls and allocates nothing.
@@ -23,7 +23,7 @@
  * What the caller owes: a pointer is followed by the number of its elements, and points to that many, aligned as their type asks; it is not
  * NULL, also where that number is 0; and what a call may change (record, repair, area, packets, out; head and points of zbk_read_text) does not
  * overlap anything else that the call is lent, and no other thread uses it meanwhile. Both records must be writable in every call that takes them, a
- * read and a refusal included: such a call may write words again as they are. A call takes less than 64 kB of stack, zbk_edit less than 81 kB, as measured; where
+ * read and a refusal included: such a call may write words again as they are. A call takes less than 64 kB of stack, as measured; where
  * the C library's functions are bound late, the dynamic linker takes 3 kB more in the first call. size_t has 64 bits.
  *
  * Lists of shares and packets are one buffer each, the pieces one after another in the order of their list of boards.
@@ -61,14 +61,15 @@ enum zbk_refusal_number {
     ZBK_ACCEPTED = 0,
     /* The sizes are not legal, the capacity is not 1 to 4,096 stripes, the record is one that no call hands out, the points repeat, or one from
      * n up is not 00; or a repair is running by a repair record that no call hands out beside this record. A record of another number of words than
-     * 12, a repair record of another than 71 or with a first word above 1, a text's head of another than 6 and a list of points of another length
-     * than 32 are refused with it before all else. */
+     * 12, a repair record of another than 71, a text's head of another than 6 and a list of points of another length than 32 are refused with it
+     * before all else, and so is, but in zbk_set_up, a repair record with a first word above 1. */
     ZBK_SIZE = 1,
     /* The area, the packet area of a repair that is running, or a slice of shares or packets, has another length than the sizes give. */
     ZBK_AREA = 2,
     /* The file is longer than the store's capacity, or than 4,096 stripes at board level. */
     ZBK_LONG = 3,
-    /* A list has the wrong number of boards, there are not 1 to r fresh boards, or the texts to gather are not k. */
+    /* A list has the wrong number of boards, not k + 2 of them for a careful read, or k + 2 is above n; there are not 1 to r fresh boards; or the texts
+     * to gather are not k. */
     ZBK_COUNT = 4,
     /* A board number is n or more. */
     ZBK_NODE = 5,
@@ -76,11 +77,12 @@ enum zbk_refusal_number {
     ZBK_REPEAT = 6,
     /* The output is shorter than what is to be written. */
     ZBK_SHORT = 7,
-    /* A repair, a read, an edit, a start or a step before any file was written. */
+    /* A repair, a read, a careful read, an edit, a start or a step before any file was written. */
     ZBK_EMPTY = 8,
     /* A board to read from, a helper or a stand-in is out of service. */
     ZBK_DOWN = 9,
-    /* No file of this length has these shares. */
+    /* No file of this length has these shares; of a careful read, none has all of them but one. No guard against altered bytes: k boards show that they
+     * fit together, not that none is altered, and often another file has them (zbk_read says what k, k + 1 and k + 2 boards show). */
     ZBK_DISAGREE = 10,
     /* The text is none that zbk_share_text writes. */
     ZBK_TEXT = 12,
@@ -117,7 +119,7 @@ enum zbk_record_word {
 };
 
 /* The words of the record of a started repair, by place. Where the first is 0 no repair is running, and what the others are does not matter: such a
- * record goes through every call as it came, until a start. The lists are bytes, a board number each, eight in a word, the lowest first; a start
+ * record goes through every call as it came, but a set-up and a start that are accepted. The lists are bytes, a board number each, eight in a word, the lowest first; a start
  * writes 00 behind them. A set-up that is accepted, the last step and the loss of a board that the repair names write 71 words 0. */
 enum zbk_repair_word {
     /* 1 where a repair is running, else 0 */
@@ -213,11 +215,14 @@ uint64_t zbk_text_prefix(const uint8_t *text, size_t text_len);
  * holds the boards one after another. Each call is given both records and the area as the last call left them.
  *
  * Power. What a robot keeps through a power failure is the record and the area; the repair's record and the packet area are what it may lose. Behind a
- * failure the calls are given the record and the area as they stand, and an idle repair record: any 71 words of which the first is 0.
+ * failure the calls are given the record and the area as they stand, and an idle repair record: any 71 words of which the first is 0. This is a must:
+ * no call can tell that packets in the packet area were lost or altered, or that a running record is an old one whose boards happen to fit; the last
+ * step would then put wrong shares into service.
  * - Between two packets, and inside a step that has not carried the last packet of all, the record is that before the start but for the boards lost
  *   since, boards in service hold what they held, and any k of them give the file. The repair is started anew, from its first packet.
  * - Inside the step that carries the last packet, and inside zbk_repair, only bytes of fresh boards change in the area, and these are out of service by
- *   the record that was kept before the call. Where the record is kept in a place of its own, keep the new one once the call has come back.
+ *   the record that was kept before the call (what a call does before it comes back is how it is made, and not among what is proved). So lend the
+ *   calls a copy of the record, and keep the new one once the call has come back; a set-up, too.
  * - A write or an edit changes boards in service. Where power cuts one, some boards are changed and others not, and no call is promised anything of such
  *   an area: a read may give a file that nobody wrote. Keep a second record and area, and use the two in turn. */
 
@@ -243,9 +248,22 @@ uint64_t zbk_repair(uint64_t *record, size_t record_words, uint64_t *repair, siz
                     const size_t *fresh, size_t fresh_count, const size_t *helpers, size_t helpers_count, const size_t *stand_ins,
                     size_t stand_ins_count);
 
-/* Reads the file from k boards into the first bytes of out; the rest of out stays. What records and area say does not change. */
+/* Reads the file from k boards into the first bytes of out; the rest of out stays. What records and area say does not change.
+ *
+ * What boards show of altered bytes in service. k boards show that they fit together, not that none is altered: only the values that two of them share are
+ * compared, and a wrong byte on one of them often gives another file, accepted. Among k + 1 boards one that is wrong always shows: two reads of k of
+ * them that leave out different boards do not then both give the same file. Among k + 2 it is named, and the file is given all the same:
+ * zbk_read_careful. */
 uint64_t zbk_read(uint64_t *record, size_t record_words, uint64_t *repair, size_t repair_words, const uint8_t *area, size_t area_len,
                   const size_t *boards, size_t boards_count, uint8_t *out, size_t out_len);
+
+/* Reads the file from k + 2 boards of which one may answer wrong bytes, as a worn board does that is still in service: the file of which at least k + 1
+ * of them hold their shares goes to the first bytes of out; the rest of out stays. Reports 0 where all of them hold theirs; else the number of the odd
+ * board, the one that does not, plus 1, so that 1 is board 0. ZBK_DISAGREE just where there is no such file; there are never two. Shares count whole, all
+ * stripes and the padding of the last, so that two boards that are wrong in different stripes are not mended stripe by stripe. ZBK_COUNT also where k + 2
+ * is above n, whatever the list. What records and area say does not change: the odd board keeps its bytes and stays in service; lose it, and rebuild it. */
+uint64_t zbk_read_careful(uint64_t *record, size_t record_words, uint64_t *repair, size_t repair_words, const uint8_t *area, size_t area_len,
+                          const size_t *boards, size_t boards_count, uint8_t *out, size_t out_len);
 
 /* Puts `bytes` in the place of as many bytes of the file, from byte `offset` on: the file that reads give is from then on the edited one. Its length
  * stays; ZBK_RANGE where offset and bytes_len together are more than that. The old bytes are those that the k boards in service in `boards` hold, of
@@ -257,9 +275,9 @@ uint64_t zbk_edit(uint64_t *record, size_t record_words, uint64_t *repair, size_
                   const uint8_t *bytes, size_t bytes_len, const size_t *boards, size_t boards_count);
 
 /* Repair a packet at a time, while the bus is shared. A start takes the lists of zbk_repair, refuses what that refuses, and carries nothing; steps
- * carry the packets, t * (d + r - 1) in all, as many in each as the caller allows. Until the last one the fresh boards are out of service and nothing
- * changes in record and area. Reads go on meanwhile, and losses; a write, an edit, a repair and a start are ZBK_BUSY. Stepped to its end, with no
- * bytes altered of boards in service and of packets carried, it leaves what zbk_repair would leave in the place of its last step. */
+ * carry the packets, t * (d + r - 1) in all, as many in each as the caller allows. Until the last one the fresh boards are out of service and no step
+ * changes the record or the area. Reads go on meanwhile, careful ones too, and losses; a write, an edit, a repair and a start are ZBK_BUSY. Stepped to
+ * its end, with no bytes altered of boards in service and of packets carried, it leaves what zbk_repair would leave in the place of its last step. */
 
 /* Starts a repair: writes the repair record. The area is asked for its length alone. */
 uint64_t zbk_start(uint64_t *record, size_t record_words, uint64_t *repair, size_t repair_words, const uint8_t *area, size_t area_len,

@@ -10,7 +10,7 @@ use borrow.Author.Tests.{eq-eqb, ne-eqb}
 use Rattle.lists.specs.Tests.{pick}
 use Rattle.store_spec.specs.Running.{Running}
 use Rattle.store_spec.specs.MarkLaws.{Arrays}
-use Rattle.store_spec.specs.Ledger.{Call, write, lose, repair, read, edit, start, step, Event, call, powerFails, Book, Step, bookNext}
+use Rattle.store_spec.specs.Ledger.{Call, write, lose, repair, read, edit, start, step, careful, Event, call, powerFails, Book, Step, bookNext}
 use Rattle.store_spec.specs.Premises.{Asked}
 use Rattle.store_spec.proofs.Premises.{asked-is, fair-is, premises}
 use Rattle.record_words.specs.Words.{recordFrom}
@@ -18,6 +18,7 @@ use Rattle.repair_words.proofs.RepairWords.{repair-words}
 use Rattle.archive_spec.specs.Lent.{Lent, zbk}
 use Rattle.archive_spec.specs.Demand3.{Held, heldNext, lentAt, lents, lastHeld, GivenWords, AllowedLents, heldState}
 use Rattle.archive_spec.specs.ListLaws.{LentLaws}
+use Rattle.archive_spec.proofs.Demand3.{final-is}
 
 lents-parts : (h : Held) (ts us : List Step) → lents h (ts ++ us) ≡ lents h ts ++ lents (lastHeld h ts) us
 lents-parts h [] us = refl
@@ -47,6 +48,7 @@ refused-leave h area (start fresh helpers standIns) e = refl
 refused-leave h area (step allowance packets) e =
     let o = zbk (h .words) (h .repair) area (step allowance packets) in
     ap (λ (t : Bool). pick t (o .packets) (h .packets)) (ne-eqb (o .answer % 256) 0 e)
+refused-leave h area (careful boards output) e = refl
 
 others-leave : (h : Held) (area : List ℕ) (c : Call) → ((allowance : ℕ) (packets : List ℕ) → c ≢ step allowance packets) → heldNext h area (call c) .packets ≡ h .packets
 others-leave h area (write file) e = refl
@@ -56,6 +58,7 @@ others-leave h area (read boards output) e = refl
 others-leave h area (edit offset bytes boards) e = refl
 others-leave h area (start fresh helpers standIns) e = refl
 others-leave h area (step allowance packets) e = absurd (e allowance packets refl)
+others-leave h area (careful boards output) e = refl
 
 -- ---- one event more
 
@@ -97,6 +100,7 @@ lent-laws = record {
   held-parts = held-parts;
   ends-are = λ ws ps z xs c area steps. (refl, refl, refl, refl);
   state-is = λ h. refl;
+  final-is = final-is;
   told-is = λ o. (refl, refl);
   in-word-is = λ r. (refl, refl);
   none-allowed = λ h b. tt;

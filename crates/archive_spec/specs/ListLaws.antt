@@ -4,19 +4,20 @@
 use mathlib.Core.Path.{_≡_}
 use mathlib.Core.Bool.{true}
 use mathlib.Core.Logic.{_≢_, _↔_}
-use mathlib.Core.List.{List, [], _∷_, _++_}
+use mathlib.Core.List.{List, [], _∷_, _++_, map}
 use Prim.Native.Nat.{ℕ, _+_, _*_, _%_}
 use lib.ListN.{length, getD}
+use Rattle.lists.specs.Lists.{All}
 use Rattle.sizes.specs.declared.Sizes.{Sizes}
 use Rattle.store_spec.specs.Running.{Running}
 use Rattle.store_spec.specs.MarkLaws.{Arrays}
-use Rattle.store_spec.specs.Ledger.{Call, step, call, powerFails, Reply, Book, Step, FairEvent, openBook, bookNext, bookFinal}
+use Rattle.store_spec.specs.Ledger.{Call, step, call, powerFails, Reply, Book, Step, FairEvent, replies, final, openBook, bookNext, bookFinal}
 use Rattle.store_spec.specs.Demand3.{events}
 use Rattle.store_spec.specs.Premises.{Asked}
-use Rattle.record_words.specs.Words.{recordFrom}
+use Rattle.record_words.specs.Words.{isRecord, recordFrom}
 use Rattle.repair_words.specs.RepairWords.{isRepair, repairFrom, repairWordsOf}
 use Rattle.archive_spec.specs.Lent.{Lent, zbkSetUp, zbk}
-use Rattle.archive_spec.specs.Demand3.{Held, heldNext, lentAt, lents, lastHeld, AllowedLents, told, inWord, heldState, firstHeld, ran, endHeld, endBook}
+use Rattle.archive_spec.specs.Demand3.{Held, heldNext, lentAt, lents, lastHeld, GivenWords, AllowedLents, told, inWord, heldState, firstHeld, ran, endHeld, endBook}
 
 pub record LentLaws : Type 0 where
   -- a call is on the words held and the area as it was altered; it leaves the words that it gave, and the area
@@ -49,6 +50,13 @@ pub record LentLaws : Type 0 where
       (firstHeld ws ps z xs c area steps ≡ h) × (ran ws ps z xs c area steps ≡ lents h steps) × (endHeld ws ps z xs c area steps ≡ lastHeld h steps)
       × (endBook ws ps z xs c area steps ≡ bookFinal (openBook z xs c (length area)) (events steps))
   pub state-is : (h : Held) → heldState h ≡ record { kept = recordFrom (h .words); running = repairFrom (h .repair); area = h .area; packets = h .packets }
+  -- from any words that tell both records, and over any bytes, calls and power failures go as the definitions' list goes on the records that the words tell: the words at
+  -- the end tell the records where that ends, with the same areas, and every answer and output is its reply. So what is said of such lists (store_spec, Stepped.antt: Power,
+  -- Stepped) holds of the C calls
+  pub final-is : (h : Held) (steps : List Step) → isRecord (h .words) ≡ true → isRepair (h .repair) ≡ true
+      → All (λ t. GivenWords (t .event)) steps
+      → (isRecord (lastHeld h steps .words) ≡ true) × (isRepair (lastHeld h steps .repair) ≡ true) × (heldState (lastHeld h steps) ≡ final (heldState h) steps)
+      × (map told (lents h steps) ≡ map inWord (replies (heldState h) steps))
   -- compared are the whole word and all bytes of the output
   pub told-is : (o : Lent) → (told o .answer ≡ o .answer) × (told o .output ≡ o .output)
   pub in-word-is : (r : Reply) → (inWord r .answer ≡ r .answer .refusal + 256 * r .answer .reported) × (inWord r .output ≡ r .output)

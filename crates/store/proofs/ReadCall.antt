@@ -1,6 +1,6 @@
 -- A read, at the record's points: what it hands on where its check refuses, and where it passes.
 -- Assumes nothing.
-use Prim.Native.Nat.{ℕ}
+use Prim.Native.Nat.{ℕ, _≤_}
 use mathlib.Core.Path.{_≡_, refl, sym, ap, _∙_}
 use mathlib.Core.Bool.{true, not}
 use mathlib.Core.List.{List, [], _∷_, _++_}
@@ -32,8 +32,38 @@ use Rattle.store_checks.specs.Steps.{recordOf}
 use Rattle.read_check.specs.Steps.{askedLines}
 use Rattle.shared_checks.proofs.Facts.{both-facts}
 use Rattle.store.specs.Handing.{turnedDown}
-use Rattle.store.proofs.Readable.{Readable, readable}
+use Rattle.store.specs.Steps.{Readable}
 use Rattle.store.proofs.Settled.{refused-by, done-by}
+
+-- the work alone, of a read that passes
+module _ (s : Record) (area boards output : List ℕ) where
+  pub read-readable : first storeOrder (readLines s area boards output) ≡ Pass → Readable s (length area) boards
+  read-readable h =
+      let f = read-facts s area boards output h .0 in
+      record { is-sound = f .is-sound; area-is = f .area-is; count = f .count; named-below = f .named-below; all-different = f .all-different }
+
+  pub read-room : first storeOrder (readLines s area boards output) ≡ Pass → s .length ≤ length output
+  read-room h = read-facts s area boards output h .0 .room
+
+  -- the bytes that these boards' shares decode to, before the rest of the output
+  abbrev pub decoded : List ℕ
+  decoded =
+      decodedFile (s .sizes) (s .points) (s .length) boards (joined (held (recordOf (s .sizes) [] (s .capacity) true (s .length) []) area) boards)
+      ++ drop (s .length) output
+
+  pub read-decodes : (written : List ℕ) → first storeOrder (readLines s area boards output) ≡ Pass → written ≡ decoded
+      → written ≡ readDone s area boards output .output
+  read-decodes written h e =
+      let z = s .sizes in
+      let xs = s .points in
+      let L = s .length in
+      let H = joined (held s area) boards in
+      let F = fileOf (fileHeld s area boards) in
+      let k = read-facts s area boards output h in
+      let f = legal-facts z (sound-facts s (k .0 .is-sound) .is-legal) in
+      let read : F ≡ decodedFile z xs L boards H = file-is z xs L boards H (k .1) in
+      let long : length F ≡ L = ap length read ∙ length-decoded-file z xs f boards (k .0 .count) L H in
+      e ∙ ap (λ (l : List ℕ). l ++ drop L output) (sym read) ∙ ap (λ (m : ℕ). F ++ drop m output) (sym long)
 
 module _ (s : Record) (p : Running) (area boards output : List ℕ) where
   abbrev pub checked : Check
@@ -66,8 +96,13 @@ module _ (s : Record) (p : Running) (area boards output : List ℕ) where
   pub read-asks : begins ≡ Pass → Readable s (length area) boards
   read-asks h =
       let off = clear-off (askedLines s p (length area) boards output) storeOrder h in
-      readable s (length area) boards (both-facts s p (off Size refl) .0) (eqb-true _ _ (not-no _ (off Area refl)))
-      (eqb-true _ _ (not-no _ (off Count refl))) (not-no _ (off Node refl)) (not-no _ (off Repeat refl))
+      record {
+        is-sound = both-facts s p (off Size refl) .0;
+        area-is = eqb-true _ _ (not-no _ (off Area refl));
+        count = eqb-true _ _ (not-no _ (off Count refl));
+        named-below = not-no _ (off Node refl);
+        all-different = not-no _ (off Repeat refl);
+      }
 
   -- the call alone passes too
   pub read-alone : checked ≡ Pass → first storeOrder (readLines s area boards output) ≡ Pass
@@ -78,23 +113,6 @@ module _ (s : Record) (p : Running) (area boards output : List ℕ) where
   abbrev pub filled : List ℕ → Outcome
   filled bytes = beside p (accepted 0 s area bytes)
 
-  -- the bytes that these boards' shares decode to, before the rest of the output
-  abbrev pub decoded : List ℕ
-  decoded =
-      decodedFile (s .sizes) (s .points) (s .length) boards (joined (held (recordOf (s .sizes) [] (s .capacity) true (s .length) []) area) boards)
-      ++ drop (s .length) output
-
-  pub read-works : (written : List ℕ) → checked ≡ Pass → written ≡ decoded → filled written ≡ readBoth s p area boards output
+  pub read-works : (written : List ℕ) → checked ≡ Pass → written ≡ readDone s area boards output .output → filled written ≡ readBoth s p area boards output
   unfolding readBoth
-  read-works written h e =
-      let z = s .sizes in
-      let xs = s .points in
-      let L = s .length in
-      let H = joined (held s area) boards in
-      let F = fileOf (fileHeld s area boards) in
-      let k = read-facts s area boards output (read-alone h) in
-      let f = legal-facts z (sound-facts s (k .0 .is-sound) .is-legal) in
-      let read : F ≡ decodedFile z xs L boards H = file-is z xs L boards H (k .1) in
-      let long : length F ≡ L = ap length read ∙ length-decoded-file z xs f boards (k .0 .count) L H in
-      ap filled (e ∙ ap (λ (l : List ℕ). l ++ drop L output) (sym read) ∙ ap (λ (m : ℕ). F ++ drop m output) (sym long))
-      ∙ done-by (turnedDown s p area output []) (beside p (readDone s area boards output)) h
+  read-works written h e = ap filled e ∙ done-by (turnedDown s p area output []) (beside p (readDone s area boards output)) h

@@ -14,10 +14,10 @@ use Rattle.sizes.specs.declared.Check.{Check}
 use Rattle.sizes.specs.declared.Check.the-variants.{Pass, Refuse}
 use Rattle.sizes.specs.Sizing.{α}
 use Rattle.sizes.specs.Refusals.{first, storeOrder}
-use Rattle.sizes.proofs.Legal.{legal-facts, row-fits}
+use Rattle.sizes.proofs.Legal.{row-fits}
 use Rattle.store_spec.specs.Record.{Record, stripeCount, partLen, withMarks, turnOn}
-use Rattle.store_spec.specs.Packets.{standInsEach}
-use Rattle.store_spec.specs.Calls.{StoreOutcome, accepted, settle, listLines, repairLines, repairDone, repairCall, refused}
+use Rattle.store_spec.specs.Packets.{standInsEach, repairPackets, total}
+use Rattle.store_spec.specs.Calls.{accepted, settle, listLines, repairLines, repairDone, repairCall, refused}
 use Rattle.store_spec.specs.Running.{Running, runningBy}
 use Rattle.store_spec.specs.Both.{Outcome, beside, repairLinesBoth, repairBoth, startCall}
 use Rattle.store_spec.proofs.Records.{repair-facts, sound-facts}
@@ -48,27 +48,13 @@ runs-named s m fresh helpers standIns f = record { each = λ a h. ap different (
         ∙ ap₂ _+_ (length-piece d b helpers (omega (arith, f .helper-count, row-fits b (length fresh) d h)))
         (length-piece e b standIns (omega (arith, f .stand-in-count, row-fits b (length fresh) e h)))
 
-module _ (s : Record) (p : Running) (area fresh helpers standIns : List ℕ) where
-  abbrev pub checked : Check
-  checked = first storeOrder (repairLinesBoth s p (length area) fresh helpers standIns)
+-- the work alone, of a repair that passes
+module _ (s : Record) (area fresh helpers standIns : List ℕ) where
+  abbrev alone : Check
+  alone = first storeOrder (repairLines s (length area) fresh helpers standIns)
 
-  pub repair-refuses : {r : Check} {x : Refusal} → r ≡ checked → r ≡ Refuse x → turnedDown s p area [] [] x ≡ repairBoth s p area fresh helpers standIns
-  unfolding repairBoth
-  repair-refuses e h = refused-by (turnedDown s p area [] []) (beside p (repairDone s area fresh helpers standIns)) e h
-
-  -- the call alone passes too
-  repair-alone : checked ≡ Pass → first storeOrder (repairLines s (length area) fresh helpers standIns) ≡ Pass
-  unfolding repairLinesBoth repairLines listLines
-  repair-alone h = alone-busy s p (p .running) (drop 1 (repairLines s (length area) fresh helpers standIns)) refl h .0
-
-  -- what the check told
-  pub repair-asks : checked ≡ Pass → Repairable s (length area) fresh helpers standIns
-  repair-asks h =
-      repairable s (length area) fresh helpers standIns (repair-facts s (length area) fresh helpers standIns (repair-alone h))
-
-  -- what a repair hands on with this answer, these marks and this area
-  abbrev pub mended : ℕ → List Bool → List ℕ → Outcome
-  mended moved marks after = beside p (accepted moved (withMarks s marks) after [])
+  pub repair-repairable : alone ≡ Pass → Repairable s (length area) fresh helpers standIns
+  repair-repairable h = repairable s (length area) fresh helpers standIns (repair-facts s (length area) fresh helpers standIns h)
 
   -- stripe t of the a-th fresh board
   abbrev pub stripe : ℕ → ℕ → List ℕ
@@ -78,24 +64,50 @@ module _ (s : Record) (p : Running) (area fresh helpers standIns : List ℕ) whe
   abbrev pub restored : ℕ → List ℕ
   restored count = puts (λ a. getD fresh a 0 * partLen s) (λ a. join count (stripe a)) (length fresh) area
 
+  pub repair-rebuilds : (after : List ℕ) (count : ℕ) → alone ≡ Pass → count ≡ stripeCount s → after ≡ restored count
+      → after ≡ repairDone s area fresh helpers standIns .area
+  unfolding repairCall
+  repair-rebuilds after count h ec ea =
+      let taken : repairCall s area fresh helpers standIns .answer .refusal ≡ 0 =
+      ap (λ (c : Check). settle c (refused s area []) (repairDone s area fresh helpers standIns) .answer .refusal) h in
+      ea ∙ ap restored ec ∙ repaired s area fresh helpers standIns (repair-facts s (length area) fresh helpers standIns h) taken
+
   abbrev bytes : ℕ → ℕ
   bytes count = count * length fresh * (2 * s .sizes .d + s .sizes .r - 1)
 
-  pub repair-works : (after : List ℕ) (marks : List Bool) (count moved : ℕ) → checked ≡ Pass → count ≡ stripeCount s
-      → moved ≡ bytes count → marks ≡ turnOn fresh (s .marks) → after ≡ restored count → mended moved marks after ≡ repairBoth s p area fresh helpers standIns
-  unfolding repairBoth repairCall
-  repair-works after marks count moved h ec eb em ea =
-      let k = repair-alone h in
-      let f = repair-facts s (length area) fresh helpers standIns k in
+  pub repair-moves : (moved count : ℕ) → alone ≡ Pass → count ≡ stripeCount s → moved ≡ bytes count → moved ≡ total (repairPackets s area fresh helpers standIns)
+  repair-moves moved count h ec eb =
+      let f = repair-facts s (length area) fresh helpers standIns h in
       let legal = sound-facts s (f .is-sound) .is-legal in
+      eb ∙ ap bytes ec ∙ sym (moved-is s area fresh helpers standIns (length area) (code-lengths (s .points) (s .sizes) legal) f)
+
+module _ (s : Record) (p : Running) (area fresh helpers standIns : List ℕ) where
+  abbrev pub checked : Check
+  checked = first storeOrder (repairLinesBoth s p (length area) fresh helpers standIns)
+
+  pub repair-refuses : {r : Check} {x : Refusal} → r ≡ checked → r ≡ Refuse x → turnedDown s p area [] [] x ≡ repairBoth s p area fresh helpers standIns
+  unfolding repairBoth
+  repair-refuses e h = refused-by (turnedDown s p area [] []) (beside p (repairDone s area fresh helpers standIns)) e h
+
+  -- the call alone passes too
+  pub repair-alone : checked ≡ Pass → first storeOrder (repairLines s (length area) fresh helpers standIns) ≡ Pass
+  unfolding repairLinesBoth repairLines listLines
+  repair-alone h = alone-busy s p (p .running) (drop 1 (repairLines s (length area) fresh helpers standIns)) refl h .0
+
+  -- what the check told
+  pub repair-asks : checked ≡ Pass → Repairable s (length area) fresh helpers standIns
+  repair-asks h = repair-repairable s area fresh helpers standIns (repair-alone h)
+
+  -- what a repair hands on with this answer, these marks and this area
+  abbrev pub mended : ℕ → List Bool → List ℕ → Outcome
+  mended moved marks after = beside p (accepted moved (withMarks s marks) after [])
+
+  pub repair-works : (after : List ℕ) (marks : List Bool) (moved : ℕ) → checked ≡ Pass → moved ≡ total (repairPackets s area fresh helpers standIns)
+      → marks ≡ turnOn fresh (s .marks) → after ≡ repairDone s area fresh helpers standIns .area → mended moved marks after ≡ repairBoth s p area fresh helpers standIns
+  unfolding repairBoth
+  repair-works after marks moved h eb em ea =
       let done = repairDone s area fresh helpers standIns in
-      let taken : repairCall s area fresh helpers standIns .answer .refusal ≡ 0 =
-      ap (λ (c : Check). settle c (refused s area []) done .answer .refusal) k in
-      let d = done-by (turnedDown s p area [] []) (beside p done) h in
-      let sent = moved-is s area fresh helpers standIns (length area) (code-lengths (s .points) (s .sizes) legal) f in
-      let whole : after ≡ done .area =
-      ea ∙ ap restored ec ∙ repaired s area fresh helpers standIns f taken in
-      ap₂ (mended moved) em whole ∙ ap (λ (n : ℕ). mended n (turnOn fresh (s .marks)) (done .area)) (eb ∙ ap bytes ec ∙ sym sent) ∙ d
+      ap₂ (mended moved) em ea ∙ ap (λ (n : ℕ). mended n (turnOn fresh (s .marks)) (done .area)) eb ∙ done-by (turnedDown s p area [] []) (beside p done) h
 
   -- ---- start, by the same lines
 

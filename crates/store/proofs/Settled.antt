@@ -17,9 +17,9 @@ use Rattle.sizes.specs.Refusals.{first, storeOrder}
 use Rattle.sizes.proofs.Legal.{legal-facts}
 use Rattle.mbcr.specs.Share.{share}
 use Rattle.store_spec.specs.Record.{Record, newRecord, writtenRecord, partLen, putShares}
-use Rattle.store_spec.specs.Calls.{StoreOutcome, accepted, settle, recordLine, writeLines, writeDone, loseLines, loseDone}
+use Rattle.store_spec.specs.Calls.{accepted, settle, recordLine, writeLines, writeDone, loseLines, loseDone}
 use Rattle.store_spec.specs.Running.{Running, idle, soundBeside}
-use Rattle.store_spec.specs.Both.{Outcome, beside, bothLine, setUpBoth, writeLinesBoth, writeBoth, lostBeside, loseLinesBoth, loseBoth}
+use Rattle.store_spec.specs.Both.{Outcome, beside, setUpBoth, writeLinesBoth, writeBoth, lostBeside, loseLinesBoth, loseBoth}
 use Rattle.store_spec.proofs.Records.{sound-facts, lose-facts}
 use Rattle.store_spec.proofs.Beside.{alone, alone-busy}
 use Rattle.store_checks.specs.Steps.{recordOf}

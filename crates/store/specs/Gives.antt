@@ -17,7 +17,7 @@ use Rattle.store_spec.specs.Calls.{accepted}
 use Rattle.store_spec.specs.Running as spec
 use Rattle.store_spec.specs.Running.{idle, packetsLen}
 use Rattle.store_spec.specs.Both.{beside, repairBoth}
-use Rattle.store_spec.specs.Ledger.{Call, repair, read, step, Event, call, powerFails, Step, Book, Repairing, Altered, Unaltered, bookLength, packetsAfter}
+use Rattle.store_spec.specs.Ledger.{Call, repair, read, step, call, powerFails, Step, Book, Repairing, Altered, Unaltered, bookLength, packetsAfter}
 use Rattle.store_spec.specs.Demand3.{Intact}
 use Rattle.store_spec.specs.Follows.{Given, Moment, gave, anew, FollowsLaws, outcomeOf}
 use Rattle.record.specs.declared.Running.{Running}

@@ -1,12 +1,25 @@
 //! Document 01, the store: its record, and the calls as methods by value. Each takes the record of a started repair beside it (request A.8), hands on
 //! both records with its answer, and meets its definition in the crate `store_spec`, for all input: the answer, the records, and every lent byte.
 ghost use mathlib.Core.Path.{_≡_};
+ghost use mathlib.Core.Bool.{not};
 ghost use mathlib.Core.List.{List, []};
 ghost use Prim.Native.Nat.{ℕ, _+_, _*_, _-_, _≤_};
+ghost use lib.ListN.{length};
+ghost use Rattle.lists.specs.Tests.{given};
+ghost use Rattle.sizes.specs.declared.Check.the-variants.{Pass};
+ghost use Rattle.sizes.specs.declared.Refusal.the-variants.{Disagree};
+ghost use Rattle.sizes.specs.Refusals.{_when_, first, storeOrder};
+ghost use Rattle.line_checks.specs.Steps.{asked};
+ghost use Rattle.store_spec.specs.Packets.{repairPackets, total};
+ghost use Rattle.store_spec.specs.Calls.{repairLines, readLines, fileHeld, repairDone, readDone};
+ghost use Rattle.store_spec.specs.Edit.{editLines, editDone};
 ghost use Rattle.store_spec.specs.Both.{setUpBoth, writeBoth, loseBoth, repairBoth, readBoth, editBoth, startCall, stepCall};
 ghost use Rattle.store_checks.specs.Steps.{Bounded};
-ghost use Rattle.record.specs.Records.{runningIn};
+ghost use Rattle.decode_stripe.specs.Steps.{Asked};
+ghost use Rattle.decode_setup.specs.Steps.{Made};
+ghost use Rattle.record.specs.Records.{recordOf, runningIn};
 ghost use Rattle.store.specs.Handing.{recordIn, outcomeBoth, turnedDown};
+ghost use Rattle.store.specs.Steps.{Readable};
 use record::Kept;
 use record::Running;
 use sizes::Answer;
@@ -45,6 +58,115 @@ fn bytes_moved(sizes: Sizes, t: usize, stripes: usize) -> usize
     ensures { λ r. ⌜ r ≡ stripes * t * (2 * sizes .d + sizes .r - 1) ⌝ }
 {
     stripes * t * (2 * sizes.d + sizes.r - 1)
+}
+
+// Rebuilds the fresh boards in the area, and answers the bytes that are moved.
+fn rebuild(
+    kept: Kept,
+    fresh: &[usize],
+    helpers: &[usize],
+    standins: &[usize],
+    area: &mut [u8],
+) -> usize
+    requires { ⌜ first storeOrder (repairLines (recordOf kept) (length (now area)) (now fresh) (now helpers) (now standins)) ≡ Pass ⌝ }
+    ensures { λ r. ⌜ r ≡ total (repairPackets (recordOf kept) (now (area .entry)) (now (fresh .entry)) (now (helpers .entry)) (now (standins .entry))) ⌝ }
+    ensures { λ _. ⌜ now (area .exit) ≡ repairDone (recordOf kept) (now (area .entry)) (now (fresh .entry)) (now (helpers .entry)) (now (standins .entry)) .area ⌝ }
+{
+    let sizes = kept.sizes;
+    let points = kept.points;
+    let mut inverses = [0u8; 256];
+    inverses::fill_inverses(&mut inverses);
+    let stripes = checks::stripe_count(sizes, kept.length);
+    repair_boards::repair_shares(
+        sizes,
+        kept.capacity,
+        &points,
+        &inverses,
+        stripes,
+        fresh,
+        helpers,
+        standins,
+        area,
+    );
+    bytes_moved(sizes, fresh.len(), stripes)
+}
+
+// The tables to read from k boards.
+fn fill_tables(kept: Kept, boards: &[usize], tables: &mut [u8])
+    requires { ⌜ Asked (kept .sizes) (kept .points) (now boards) × (length (now tables) ≡ 49152) ⌝ }
+    ensures { λ _. ⌜ Made (kept .sizes) (kept .points) (now (boards .entry)) (now (tables .exit)) ⌝ }
+{
+    let points = kept.points;
+    store_decode::fill_tables(kept.sizes, &points, boards, tables);
+}
+
+// 10 DISAGREE, of k boards with their tables.
+fn check_agrees(kept: Kept, boards: &[usize], area: &[u8], tables: &[u8]) -> Check
+    requires { ⌜ Readable (recordOf kept) (length (now area)) (now boards) × Made (kept .sizes) (kept .points) (now boards) (now tables) ⌝ }
+    ensures { λ r. ⌜ r ≡ asked (Disagree when not (given (fileHeld (recordOf kept) (now (area .entry)) (now (boards .entry))))) ⌝ }
+{
+    let sizes = kept.sizes;
+    let points = kept.points;
+    let count = checks::stripe_count(sizes, kept.length);
+    store_decode::check_agrees(
+        sizes,
+        kept.capacity,
+        &points,
+        kept.length,
+        count,
+        boards,
+        area,
+        tables,
+    )
+}
+
+// The file that k boards hold goes to the beginning of the output.
+fn read_file(kept: Kept, boards: &[usize], area: &[u8], tables: &[u8], out: &mut [u8])
+    requires { ⌜ (first storeOrder (readLines (recordOf kept) (now area) (now boards) (now out)) ≡ Pass) × Made (kept .sizes) (kept .points) (now boards) (now tables) ⌝ }
+    ensures { λ _. ⌜ now (out .exit) ≡ readDone (recordOf kept) (now (area .entry)) (now (boards .entry)) (now (out .entry)) .output ⌝ }
+{
+    let sizes = kept.sizes;
+    let points = kept.points;
+    let count = checks::stripe_count(sizes, kept.length);
+    store_decode::file(
+        sizes,
+        kept.capacity,
+        &points,
+        kept.length,
+        count,
+        boards,
+        area,
+        tables,
+        out,
+    );
+}
+
+// Puts bytes into the file in all boards in service; the file is read from k boards.
+fn edit_boards(
+    kept: Kept,
+    offset: usize,
+    bytes: &[u8],
+    boards: &[usize],
+    tables: &[u8],
+    area: &mut [u8],
+)
+    requires { ⌜ (first storeOrder (editLines (recordOf kept) (now area) offset (now bytes) (now boards)) ≡ Pass) × Made (kept .sizes) (kept .points) (now boards) (now tables) ⌝ }
+    ensures { λ _. ⌜ now (area .exit) ≡ editDone (recordOf kept) (now (area .entry)) offset (now (bytes .entry)) (now (boards .entry)) .area ⌝ }
+{
+    let sizes = kept.sizes;
+    let points = kept.points;
+    let marks = kept.marks;
+    store_edit::edit_shares(
+        sizes,
+        kept.capacity,
+        &points,
+        &marks,
+        offset,
+        bytes,
+        boards,
+        tables,
+        area,
+    );
 }
 
 impl Store {
@@ -96,12 +218,12 @@ impl Store {
         if let Check::Refuse(x) = record_checks::check_lose(kept, running, board) {
             return refuse(self, running, x);
         }
-        let after = running_lists::lost_beside(kept, running, board);
+        let beside = running_lists::lost_beside(kept, running, board);
         let mut next = kept;
         next.marks[board] = false;
         Handed {
             store: Store { record: next },
-            running: after,
+            running: beside,
             answer: Answer::Done(0),
         }
     }
@@ -129,24 +251,8 @@ impl Store {
         ) {
             return refuse(self, running, x);
         }
-        let sizes = kept.sizes;
-        let points = kept.points;
+        let moved = rebuild(kept, fresh, helpers, standins, area);
         let mut marks = kept.marks;
-        let mut inverses = [0u8; 256];
-        inverses::fill_inverses(&mut inverses);
-        let stripes = checks::stripe_count(sizes, kept.length);
-        let moved = bytes_moved(sizes, fresh.len(), stripes);
-        repair_boards::repair_shares(
-            sizes,
-            kept.capacity,
-            &points,
-            &inverses,
-            stripes,
-            fresh,
-            helpers,
-            standins,
-            area,
-        );
         store_checks::marks_on(fresh, &mut marks);
         let mut next = kept;
         next.marks = marks;
@@ -165,34 +271,12 @@ impl Store {
         if let Check::Refuse(x) = read_check::check_read(kept, running, area.len(), boards, out) {
             return refuse(self, running, x);
         }
-        let sizes = kept.sizes;
-        let points = kept.points;
-        let count = checks::stripe_count(sizes, kept.length);
         let mut tables = [0u8; 49152];
-        store_decode::fill_tables(sizes, &points, boards, &mut tables);
-        if let Check::Refuse(disagree) = store_decode::check_agrees(
-            sizes,
-            kept.capacity,
-            &points,
-            kept.length,
-            count,
-            boards,
-            area,
-            &tables,
-        ) {
+        fill_tables(kept, boards, &mut tables);
+        if let Check::Refuse(disagree) = check_agrees(kept, boards, area, &tables) {
             return refuse(self, running, disagree);
         }
-        store_decode::file(
-            sizes,
-            kept.capacity,
-            &points,
-            kept.length,
-            count,
-            boards,
-            area,
-            &tables,
-            out,
-        );
+        read_file(kept, boards, area, &tables, out);
         Handed {
             store: self,
             running: running,
@@ -223,35 +307,12 @@ impl Store {
         ) {
             return refuse(self, running, x);
         }
-        let sizes = kept.sizes;
-        let points = kept.points;
-        let marks = kept.marks;
-        let count = checks::stripe_count(sizes, kept.length);
         let mut tables = [0u8; 49152];
-        store_decode::fill_tables(sizes, &points, boards, &mut tables);
-        if let Check::Refuse(disagree) = store_decode::check_agrees(
-            sizes,
-            kept.capacity,
-            &points,
-            kept.length,
-            count,
-            boards,
-            area,
-            &tables,
-        ) {
+        fill_tables(kept, boards, &mut tables);
+        if let Check::Refuse(disagree) = check_agrees(kept, boards, area, &tables) {
             return refuse(self, running, disagree);
         }
-        store_edit::edit_shares(
-            sizes,
-            kept.capacity,
-            &points,
-            &marks,
-            offset,
-            bytes,
-            boards,
-            &tables,
-            area,
-        );
+        edit_boards(kept, offset, bytes, boards, &tables, area);
         Handed {
             store: self,
             running: running,

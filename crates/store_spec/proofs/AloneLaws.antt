@@ -1,34 +1,40 @@
 -- Calls with a record of a repair beside are the calls alone.
 -- Assumes nothing.
-use Prim.Native.Nat.{ℕ}
+use Prim.Native.Nat.{ℕ, _+_, _-_, _*_, _≤_, _<_}
 use mathlib.Core.Path.{_≡_, refl, sym, _∙_, ap, ap₂, subst}
 use mathlib.Core.Bool.{Bool, true, false, not}
-use mathlib.Core.List.{List, [], _∷_}
+use mathlib.Core.Logic.{_↔_}
+use mathlib.Core.List.{List, [], _∷_, _++_}
+use native.Mathlib.Nat.{mul-le-mul-left}
 use native.Mathlib.Omega.{arith}
 use lib.Dec.{eqb}
 use lib.ListN.{length, drop}
-use borrow.Author.Tests.{eqb-true, ne-eqb}
-use Rattle.lists.specs.Tests.{pick, alls}
-use Rattle.lists.proofs.Tests.{true-false}
+use borrow.Author.Tests.{eqb-true, eq-eqb, ne-eqb, leb-true}
+use Rattle.lists.specs.Tests.{pick, every, alls}
+use Rattle.lists.proofs.Tests.{true-false, every-all, alls-hold, not-no}
 use Rattle.sizes.specs.declared.Sizes.{Sizes}
 use Rattle.sizes.specs.declared.Check.{Check}
 use Rattle.sizes.specs.declared.Check.the-variants.{Pass, Refuse}
 use Rattle.sizes.specs.declared.Refusal.{Refusal}
-use Rattle.sizes.specs.declared.Refusal.the-variants.{Size, Busy}
+use Rattle.sizes.specs.declared.Refusal.the-variants.{Size, Busy, Count, Down}
 use Rattle.sizes.specs.declared.Answer.the-variants.{Refused}
 use Rattle.sizes.specs.Refusals.{number, Said, said, Line, _when_, appliesIn, first, storeOrder}
 use Rattle.sizes.proofs.Laws.{numbers-differ, number-low}
-use Rattle.sizes.proofs.Orders.{first-same}
-use Rattle.store_spec.specs.Record.{Record, sound, newRecord}
+use Rattle.sizes.proofs.Legal.{Legal, legal-facts}
+use Rattle.sizes.proofs.Orders.{stands, clear-off, first-same}
+use Rattle.sizes.proofs.Lines.{first-clear}
+use Rattle.store_spec.specs.Record.{Record, inService, sound, newRecord, areaLen}
 use Rattle.store_spec.specs.Calls.{StoreOutcome, accepted, refused, settle, recordLine, writeLines, loseLines, listLines, repairLines, readLines, writeDone, loseDone, repairDone, readDone}
 use Rattle.store_spec.specs.Calls.{setUpCall, writeCall, loseCall, repairCall, readCall}
 use Rattle.store_spec.specs.Edit.{editLines, editDone, editCall}
 use Rattle.store_spec.specs.Careful.{carefulLines, carefulDone, carefulCall}
-use Rattle.store_spec.specs.Running.{Running, idle, runningBy, soundBeside}
+use Rattle.store_spec.specs.Running.{Running, idle, runningBy, freshOf, helpersOf, standInsOf, soundBeside}
 use Rattle.store_spec.specs.Both.{Outcome, beside, bothLine, writeLinesBoth, loseLinesBoth, repairLinesBoth, readLinesBoth, editLinesBoth, carefulLinesBoth, lostBeside}
 use Rattle.store_spec.specs.Both.{setUpBoth, writeBoth, loseBoth, repairBoth, readBoth, editBoth, carefulBoth, startCall}
 use Rattle.store_spec.specs.AloneLaws.{AsAlone, StartedBy, AloneLaws}
-use Rattle.store_spec.proofs.Beside.{alone-busy, fresh-back, helpers-back, stand-ins-back}
+use Rattle.store_spec.proofs.Beside.{alone-busy, fresh-back, helpers-back, stand-ins-back, sound-beside, lists-taken, lists-pass}
+use Rattle.store_spec.proofs.Records.{sound-facts, countTests}
+use Rattle.store_spec.proofs.Demand1.{demand-1}
 use Rattle.store_spec.proofs.BothCalls.{both-calls}
 use Rattle.store_spec.proofs.Demand3.{both-done}
 use Rattle.store_spec.proofs.Step.{settle-pass}
@@ -191,6 +197,75 @@ started-by s p area fresh helpers standIns ok =
       stand-ins-are = stand-ins-back s (length area) fresh helpers standIns pass 0;
     })
 
+-- ---- lists that a start would refuse
+
+first-up : (s : Record) (l m : List ℕ) → 1 ≤ length l → every (inService s) (l ++ m) ≡ true → (i : ℕ) × (inService s i ≡ true)
+first-up s [] m h e = absurd (omega (arith, h))
+first-up s (j ∷ l) m h e = (j, every-all (inService s) (j ∷ (l ++ m)) e .0)
+
+-- lists that pass name a helper in service, so a file was written
+has-file : (s : Record) (fresh helpers standIns : List ℕ) → sound s ≡ true → first storeOrder (listLines s fresh helpers standIns) ≡ Pass → s .written ≡ true
+unfolding listLines
+has-file s fresh helpers standIns ok h = go (s .written) refl
+  where
+    off : (x : Refusal) → stands storeOrder x ≡ true → appliesIn (listLines s fresh helpers standIns) x ≡ false
+    off = clear-off (listLines s fresh helpers standIns) storeOrder h
+
+    l : Legal (s .sizes)
+    l = legal-facts (s .sizes) (sound-facts s ok .is-legal)
+
+    up : (i : ℕ) × (inService s i ≡ true)
+    up =
+        let c = alls-hold (countTests s fresh helpers standIns) (not-no (alls (countTests s fresh helpers standIns)) (off Count refl)) in
+        let n : 1 ≤ length fresh = leb-true 1 (length fresh) (c .0) in
+        let k : length helpers ≡ length fresh * s .sizes .d = eqb-true (length helpers) (length fresh * s .sizes .d) (c .1 .1 .0) in
+        let d : 1 ≤ s .sizes .d = omega (arith, l .some-read, l .read-helpers) in
+        let m : length fresh * 1 ≤ length fresh * s .sizes .d = mul-le-mul-left (length fresh) d in
+        first-up s helpers standIns (omega (arith, n, k, m)) (not-no (every (inService s) (helpers ++ standIns)) (off Down refl))
+
+    go : (t : Bool) → s .written ≡ t → s .written ≡ true
+    go true e = e
+    go false e = absurd (demand-1 .sound-is s .0 ok .6 e .1 (up .0) (up .1))
+
+start-would : (s : Record) (p : Running) (area : List ℕ) → sound s ≡ true → p .running ≡ true → length area ≡ areaLen s
+    → (soundBeside s p ≡ true)
+    ↔ ((startCall s idle area (freshOf p) (helpersOf (s .sizes) p) (standInsOf (s .sizes) p) .answer .refusal ≡ 0)
+    × (p .carried < length (freshOf p) * (s .sizes .d + s .sizes .r - 1)))
+unfolding startCall repairLinesBoth repairLines listLines
+start-would s p area ok runs long = (there, back)
+  where
+    f : List ℕ
+    f = freshOf p
+
+    h : List ℕ
+    h = helpersOf (s .sizes) p
+
+    i : List ℕ
+    i = standInsOf (s .sizes) p
+
+    there : soundBeside s p ≡ true → (startCall s idle area f h i .answer .refusal ≡ 0) × (p .carried < length f * (s .sizes .d + s .sizes .r - 1))
+    there e =
+        let g = sound-beside s p e runs in
+        let pass = lists-taken s (length area) f h i ok (ap not (eq-eqb (length area) (areaLen s) long)) (has-file s f h i ok (g .0)) (g .0) in
+        let d = idle-first s idle (drop 1 (repairLines s (length area) f h i)) refl refl ∙ pass in
+        (ap (λ (o : Outcome). o .answer .refusal) (settle-pass _ _ _ d), g .1)
+
+    back : (startCall s idle area f h i .answer .refusal ≡ 0) × (p .carried < length f * (s .sizes .d + s .sizes .r - 1)) → soundBeside s p ≡ true
+    back k =
+        let lines : List Line = repairLinesBoth s idle (length area) f h i in
+        let done : Outcome = beside (runningBy f h i 0) (accepted 0 s area []) in
+        let d : first storeOrder lines ≡ Pass = both-done (first storeOrder lines) s idle area [] [] done (k .0) in
+        let pass : first storeOrder (repairLines s (length area) f h i) ≡ Pass = alone-busy s idle false (drop 1 (repairLines s (length area) f h i)) refl d .0 in
+        both-calls .beside-is s p .1 (λ e. (first-clear (listLines s f h i) storeOrder (lists-pass s (length area) f h i pass), k .1))
+
+none-beside : (s : Record) (p : Running) → sound s ≡ true → p .running ≡ true → s .written ≡ false → soundBeside s p ≡ false
+none-beside s p ok runs e = go (soundBeside s p) refl
+  where
+    go : (t : Bool) → soundBeside s p ≡ t → soundBeside s p ≡ false
+    go false k = k
+    go true k =
+        absurd (true-false (has-file s (freshOf p) (helpersOf (s .sizes) p) (standInsOf (s .sizes) p) ok (sound-beside s p k runs .0)) e)
+
 pub alone-laws : AloneLaws
 alone-laws = record {
   set-up-alone = set-up-alone;
@@ -201,6 +276,8 @@ alone-laws = record {
   repair-alone = repair-alone;
   edit-alone = edit-alone;
   idle-sound = idle-sound;
+  start-would = start-would;
+  none-beside = none-beside;
   started-by = started-by;
   idle-is = refl;
   running-is = λ fresh helpers standIns carried. refl;

@@ -91,6 +91,10 @@ module _ (X : Type 0) (kept : X → Record) (beside : X → Running) where
     none-follows = λ x. tt;
     call-follows = λ x area c g ts hs e f. (e, f);
     fails-follows = λ x y area p ts hs a b f. ((a, b), f);
+    final-is = λ x area packets steps run f.
+        let w : State = record { kept = kept x; running = beside x; area = area; packets = packets } in
+        let r = ran steps x w run (record { same-record = refl; same-running = refl }) f in
+        (r .alike, r .ends);
     outcome-is = λ g. refl;
     replies-none = refl;
     replies-call = λ g hs. refl;

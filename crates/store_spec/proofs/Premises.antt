@@ -4,23 +4,24 @@ use Prim.Native.Nat.{ℕ, _+_, _-_, _*_, _≤_, _<_, min}
 use mathlib.Core.Path.{_≡_, refl, sym, _∙_, ap, ap₂, subst}
 use mathlib.Core.Bool.{Bool, true, false}
 use mathlib.Core.List.{List, [], _∷_, map}
-use mathlib.Core.Option.{Option, some, Option·some-injective}
+use mathlib.Core.Option.{Option, some, none, Option·some-injective}
 use mathlib.Core.Logic.{_≢_, _↔_}
 use native.Mathlib.Omega.{arith}
 use lib.ListN.{length, take, drop, getD, length-take, length-drop}
 use native.Mathlib.Nat.{min-le-left, zero-min, zero-mul}
 use lib.Dec.{eqb}
-use borrow.Author.Tests.{eqb-true}
+use borrow.Author.Tests.{eqb-true, eq-eqb}
 use lib.Seq.{getD-take, getD-drop, ext-getD}
 use Rattle.lists.specs.Tests.{pick, among}
 use Rattle.lists.specs.Lists.{All, Bytes}
 use Rattle.sizes.specs.Sizing.{α, stripes}
 use Rattle.store_spec.specs.Record.{Record, part, partLen, stripeCount}
-use Rattle.store_spec.specs.Running.{packetsLen}
+use Rattle.store_spec.specs.Running.{Running, packetsLen}
 use Rattle.store_spec.specs.Lying.{placeOf}
 use Rattle.store_spec.specs.Ledger.{Call, write, lose, repair, read, edit, start, step, careful, Event, call, powerFails, Book, Repairing, during, bookLength, bookRecord}
 use Rattle.store_spec.specs.Ledger.{carriedBy, State, Step, Altered, Unaltered, Fair, FairEvent, Allowed, lent, next, bookNext, openBook}
 use Rattle.store_spec.specs.Demand3.{begun, events}
+use Rattle.store_spec.specs.Stepped.{IsCall}
 use Rattle.store_spec.specs.Premises.{noneCarried, filesOf, files, IdleGiven, lentAgain, unaltered, AgreeInService, Asked, bare, Premises}
 
 pub as-it-was : (b : Book) (s : Record) (area : List ℕ) → Altered b s area area
@@ -40,6 +41,19 @@ first-free b old new e r q l =
     let p : placeOf (bookRecord b) t (carriedBy b r) ≡ 0 =
     ap (placeOf (bookRecord b) t) z ∙ ap (λ (m : ℕ). (0 + m) * S) (zero-min (t * b .sizes .d)) ∙ zero-mul S in
     ap (λ (m : ℕ). take m new) p ∙ sym (ap (λ (m : ℕ). take m old) p)
+
+-- nothing is carried exactly where as many are left as there are
+none-carried-is : (b : Book)
+    → (noneCarried b ≡ true) ↔ ((r : Repairing) → b .repairing ≡ some r → length (r .fresh) * (b .sizes .d + b .sizes .r - 1) ≤ r .left)
+none-carried-is b = (
+  (λ e r q. omega (arith, eqb-true (carriedBy b r) 0 (ap (λ (o : Option Repairing). during o true (λ r. eqb (carriedBy b r) 0)) (sym q) ∙ e))),
+  (λ h. back (b .repairing) h),
+)
+  where
+    back : (o : Option Repairing) → ((r : Repairing) → o ≡ some r → length (r .fresh) * (b .sizes .d + b .sizes .r - 1) ≤ r .left)
+        → during o true (λ r. eqb (carriedBy b r) 0) ≡ true
+    back none h = refl
+    back (some r) h = eq-eqb (carriedBy b r) 0 (omega (arith, h r refl))
 
 wrong-free : (b : Book) (old new : List ℕ) → ((r : Repairing) → b .repairing ≡ some r → length new ≢ packetsLen (bookRecord b) (length (r .fresh))) → Unaltered b old new
 wrong-free b old new h r q l = absurd (h r q l)
@@ -193,6 +207,41 @@ unaltered-is b r old new e l m = (
     same : (r′ : Repairing) → b .repairing ≡ some r′ → r ≡ r′
     same r′ e′ = Option·some-injective r r′ (sym e ∙ e′)
 
+files-other : (e : Event) (es : List Event) → ((file : List ℕ) → e ≢ call (write file)) → ((offset : ℕ) (bytes boards : List ℕ) → e ≢ call (edit offset bytes boards))
+    → files (e ∷ es) ≡ files es
+files-other (call (write file)) es a b = absurd (a file refl)
+files-other (call (lose board)) es a b = refl
+files-other (call (repair fresh helpers standIns)) es a b = refl
+files-other (call (read boards output)) es a b = refl
+files-other (call (edit offset bytes boards)) es a b = absurd (b offset bytes boards refl)
+files-other (call (start fresh helpers standIns)) es a b = refl
+files-other (call (step allowance packets)) es a b = refl
+files-other (call (careful boards output)) es a b = refl
+files-other (powerFails p) es a b = refl
+
+idle-there : (e : Event) (es : List Event) → IdleGiven (e ∷ es) → ((p : Running) → e ≡ powerFails p → p .running ≡ false) × IdleGiven es
+idle-there (call c) es h = ((λ p q. absurd (subst IsCall q tt)), h)
+idle-there (powerFails p) es h = ((λ x q. ap given-running (sym q) ∙ h .0), h .1)
+  where
+    given-running : Event → Bool
+    given-running (call c) = false
+    given-running (powerFails p) = p .running
+
+idle-back : (e : Event) (es : List Event) → ((p : Running) → e ≡ powerFails p → p .running ≡ false) → IdleGiven es → IdleGiven (e ∷ es)
+idle-back (call c) es h i = i
+idle-back (powerFails p) es h i = (h p refl, i)
+
+again-other : (w : State) (b : Book) (e : Event) → ((allowance : ℕ) (packets : List ℕ) → e ≢ call (step allowance packets)) → lentAgain w b e ≡ e
+again-other w b (call (write file)) h = refl
+again-other w b (call (lose board)) h = refl
+again-other w b (call (repair fresh helpers standIns)) h = refl
+again-other w b (call (read boards output)) h = refl
+again-other w b (call (edit offset bytes boards)) h = refl
+again-other w b (call (start fresh helpers standIns)) h = refl
+again-other w b (call (step allowance packets)) h = absurd (h allowance packets refl)
+again-other w b (call (careful boards output)) h = refl
+again-other w b (powerFails p) h = refl
+
 pub premises : Premises
 premises = record {
   all-allowed = λ old p z xs c area es h i. all-allowed (begun old p z xs c area) (openBook z xs c (length area)) es h i;
@@ -200,7 +249,19 @@ premises = record {
   same-events = same-events;
   none-allowed = λ w b. tt;
   more-allowed = more-allowed;
-  first-free = first-free;
+  first-free = λ b old new h. first-free b old new (none-carried-is b .1 h);
+  none-carried-is = none-carried-is;
+  files-none = refl;
+  files-write = λ file es. refl;
+  files-edit = λ offset bytes boards es. refl;
+  files-other = files-other;
+  idle-none = tt;
+  idle-more = λ e es. (idle-there e es, (λ h. idle-back e es (h .0) (h .1)));
+  again-free = λ w b allowance packets e. ap (λ (t : Bool). call (step allowance (pick t packets (w .packets)))) e;
+  again-left = λ w b allowance packets e. ap (λ (t : Bool). call (step allowance (pick t packets (w .packets)))) e;
+  again-other = again-other;
+  unaltered-none = λ w b. refl;
+  unaltered-more = λ w b e es. refl;
   wrong-free = wrong-free;
   altered-is = altered-is;
   unaltered-is = unaltered-is;

@@ -11,21 +11,22 @@ use native.Mathlib.Decide.{decLt}
 use lib.Dec.{leb, ltb, eqb}
 use lib.ListN.{length, take, drop, getD, length-append, length-map, List·getD-append}
 use lib.Seq.{take-take, take-suc, take-all, getD-take, getD-drop}
-use borrow.Author.Tests.{leb-true, leb-false, lt-leb, eqb-true}
+use borrow.Author.Tests.{leb-true, leb-false, lt-leb, le-leb, eqb-true, eq-eqb}
 use Rattle.lists.specs.Lists.{All, without, put}
 use Rattle.lists.specs.Tests.{pick, alls, every, among, different}
 use Rattle.lists.proofs.Alls.{all-imp, all-left}
 use Rattle.lists.proofs.Boards.{below-all}
 use Rattle.lists.proofs.Put.{part-end, length-put, put-same, put-before, put-after, within}
-use Rattle.lists.proofs.Tests.{true-false, not-no, alls-hold, every-all}
+use Rattle.lists.proofs.Tests.{true-false, not-no, alls-hold, hold-alls, every-all}
 use Rattle.sizes.specs.declared.Answer.the-variants.{Done, Refused}
 use Rattle.sizes.specs.declared.Check.{Check}
 use Rattle.sizes.specs.declared.Check.the-variants.{Pass, Refuse}
 use Rattle.sizes.specs.declared.Refusal.the-variants.{Size, Area, Empty, Serving, Idle}
 use Rattle.sizes.specs.Refusals.{said, first, storeOrder}
-use Rattle.sizes.proofs.Orders.{clear-off}
+use Rattle.sizes.proofs.Lines.{first-clear}
+use Rattle.sizes.proofs.Orders.{_also_, clear-off, off-pass}
 use Rattle.mbcr.specs.Rebuild.{helperPacket, standInPacket, exchangePacket}
-use Rattle.store_spec.specs.Record.{Record, sound, inService, stripeCount, usedLen, areaLen, held, putShares}
+use Rattle.store_spec.specs.Record.{Record, sound, inService, stripeCount, usedLen, areaLen, held, putShares, withMarks, turnOn}
 use Rattle.store_spec.specs.Packets.{Packet, packetsOf, contents, total, sendersOf, sentTo, hearHelpers, hearPartners, standInsEach, helperPackets, standInPackets}
 use Rattle.store_spec.specs.Calls.{settle, repairLines, listLines}
 use Rattle.store_spec.specs.Running.{Running, idle, withCarried, freshOf, helpersOf, standInsOf, namedIn, packetCount, packetsLen, soundBeside}
@@ -34,6 +35,7 @@ use Rattle.store_spec.specs.Both.{Outcome, leftOf, carriedOn, stepLast, 
 use Rattle.store_spec.specs.StepLaws.{Lain, StepTaken, StepLaws}
 use Rattle.store_spec.proofs.Area.{length-shares, shares-same, byte-stays}
 use Rattle.store_spec.proofs.Beside.{sound-beside, lists-taken}
+use Rattle.store_spec.proofs.BothCalls.{both-calls}
 use Rattle.store_spec.proofs.Carried.{before, wide-both, wide-of, H-wide, T-wide, H-count, T-count, R-count, R-total}
 use Rattle.store_spec.proofs.Demand3.{both-done}
 use Rattle.store_spec.proofs.Laid.{no-hearing, laid-senders, laid-contents, sent-laid, helper-at, partner-at, behind, packet-at, other-at, laid-front}
@@ -556,6 +558,108 @@ none-moved s p area packets ok =
     ∙ ap (λ (n : ℕ). record { answer = said (Done 0); handed = s; running = withCarried p n; area = area; output = []; packets = packets })
     (let z : p .carried + 0 ≡ p .carried = omega arith in z)
 
+-- ---- a step in parts
+
+carry-parts : (s : Record) (fresh helpers standIns area : List ℕ) (a b q : ℕ) (packets : List ℕ)
+    → carry s fresh helpers standIns area q (a + b) packets ≡ carry s fresh helpers standIns area (q + a) b (carry s fresh helpers standIns area q a packets)
+carry-parts s fresh helpers standIns area zero b q packets =
+    let e : zero + b ≡ b = omega arith in
+    let d : q ≡ q + zero = omega arith in
+    ap₂ (λ (m n : ℕ). carry s fresh helpers standIns area n m packets) e d
+carry-parts s fresh helpers standIns area (suc a) b q packets =
+    let e : suc a + b ≡ suc (a + b) = omega arith in
+    let d : suc q + a ≡ q + suc a = omega arith in
+    let now : List ℕ = put packets (placeOf s (length fresh) q) (getD (packetsNow s fresh helpers standIns area packets) q blank .bytes) in
+    ap (λ (m : ℕ). carry s fresh helpers standIns area q m packets) e
+    ∙ carry-parts s fresh helpers standIns area a b (suc q) now
+    ∙ ap (λ (n : ℕ). carry s fresh helpers standIns area n b (carry s fresh helpers standIns area (suc q) a now)) d
+
+module _ (s : Record) (p : Running) (area packets : List ℕ) (a b : ℕ) (ok : stepCall s p area packets a .answer .refusal ≡ 0)
+    (h : p .carried + a < packetCount (s .sizes) (length (freshOf p))) where
+  abbrev more : ℕ
+  more = packetCount (s .sizes) (length (freshOf p)) - (p .carried + a)
+
+  first-part : stepCall s p area packets a ≡ stepOn s p area packets a
+  first-part = outcome s p area packets a ok false (lt-leb (leftOf s p area packets) a (omega (arith, h)))
+
+  on-sound : soundBeside s (withCarried p (p .carried + a)) ≡ true
+  on-sound =
+      both-calls .beside-is s (withCarried p (p .carried + a)) .1
+      (λ e. (
+        first-clear (listLines s (freshOf p) (helpersOf (s .sizes) p) (standInsOf (s .sizes) p)) storeOrder
+            (sound-beside s p (known s p area packets a ok .both .1) (known s p area packets a ok .runs) .0),
+        h,
+      ))
+
+  mid-long : length (carriedOn s p area packets a) ≡ packetsLen s (length (freshOf p))
+  mid-long =
+      carry-long s area (freshOf p) (helpersOf (s .sizes) p) (standInsOf (s .sizes) p) (laws s p area packets a ok) (f s p area packets a ok) a (p .carried) packets
+      (omega (arith, h)) (known s p area packets a ok .long)
+      ∙ known s p area packets a ok .long
+
+  on-pass : first storeOrder (stepLines s (withCarried p (p .carried + a)) (length area) (length (carriedOn s p area packets a))) ≡ Pass
+  unfolding stepLines
+  on-pass =
+      let k = known s p area packets a ok in
+      let two : List Bool = eqb (length area) (areaLen s) ∷ pick (p .running) (eqb (length (carriedOn s p area packets a)) (packetsLen s (length (freshOf p)))) true ∷ [] in
+      off-pass (stepLines s (withCarried p (p .carried + a)) (length area) (length (carriedOn s p area packets a))) storeOrder
+      (ap not (hold-alls (sound s ∷ soundBeside s (withCarried p (p .carried + a)) ∷ []) (k .both .0, (on-sound, tt)))
+      also ap not (hold-alls two (
+        k .area-is,
+        (ap (λ (x : Bool). pick x (eqb (length (carriedOn s p area packets a)) (packetsLen s (length (freshOf p)))) true) (k .runs) ∙ eq-eqb _ _ mid-long, tt),
+      ))
+      also ap not (k .written) also ap not (k .runs) also tt)
+
+  abbrev second : Outcome
+  second = stepCall s (withCarried p (p .carried + a)) area (carriedOn s p area packets a) b
+
+  second-is : second ≡ stepDone s (withCarried p (p .carried + a)) area (carriedOn s p area packets a) b
+  unfolding stepCall
+  second-is = settle-pass _ _ _ on-pass
+
+  whole-is : stepCall s p area packets (a + b) ≡ stepDone s p area packets (a + b)
+  unfolding stepCall
+  whole-is = settle-pass _ _ _ (pass s p area packets a ok)
+
+  -- both outcomes, whichever it is
+  abbrev joined-up : Outcome → Outcome
+  joined-up q = record { answer = said (Done (a + q .answer .reported)); handed = q .handed; running = q .running; area = q .area; output = []; packets = q .packets }
+
+  same-done : (x : Bool) → leb more b ≡ x → stepDone s p area packets (a + b) ≡ joined-up (stepDone s (withCarried p (p .carried + a)) area (carriedOn s p area packets a) b)
+  same-done true e =
+      let l : leftOf s p area packets ≡ a + more = omega (arith, h) in
+      let w : leb (leftOf s p area packets) (a + b) ≡ true = le-leb (leftOf s p area packets) (a + b) (omega (arith, leb-true more b e, h)) in
+      let c : carriedOn s p area packets (leftOf s p area packets) ≡ carriedOn s (withCarried p (p .carried + a)) area (carriedOn s p area packets a) more =
+      ap (carriedOn s p area packets) l
+      ∙ carry-parts s (freshOf p) (helpersOf (s .sizes) p) (standInsOf (s .sizes) p) area a more (p .carried) packets in
+      ap (λ (t : Bool). pick t (stepLast s p area packets) (stepOn s p area packets (a + b))) w
+      ∙ ap₂ {C = Outcome} (λ (n : ℕ) (now : List ℕ). record {
+        answer = said (Done n);
+        handed = withMarks s (turnOn (freshOf p) (s .marks));
+        running = idle;
+        area = putShares s (shareLying s (freshOf p) (helpersOf (s .sizes) p) (standInsOf (s .sizes) p) now) (freshOf p) area;
+        output = [];
+        packets = now;
+      }) l c
+      ∙ sym (ap (λ (t : Bool). joined-up (pick t (stepLast s (withCarried p (p .carried + a)) area (carriedOn s p area packets a))
+      (stepOn s (withCarried p (p .carried + a)) area (carriedOn s p area packets a) b))) e)
+  same-done false e =
+      let k = leb-false more b e in
+      let w : leb (leftOf s p area packets) (a + b) ≡ false = lt-leb (leftOf s p area packets) (a + b) (omega (arith, k, h)) in
+      let n : p .carried + (a + b) ≡ p .carried + a + b = omega arith in
+      ap (λ (t : Bool). pick t (stepLast s p area packets) (stepOn s p area packets (a + b))) w
+      ∙ ap₂ {C = Outcome} (λ (c : ℕ) (now : List ℕ). record { answer = said (Done (a + b)); handed = s; running = withCarried p c; area = area; output = []; packets = now }) n
+      (carry-parts s (freshOf p) (helpersOf (s .sizes) p) (standInsOf (s .sizes) p) area a b (p .carried) packets)
+      ∙ sym (ap (λ (t : Bool). joined-up (pick t (stepLast s (withCarried p (p .carried + a)) area (carriedOn s p area packets a))
+      (stepOn s (withCarried p (p .carried + a)) area (carriedOn s p area packets a) b))) e)
+
+  in-parts : let o = stepCall s p area packets a in let q = stepCall s (o .running) (o .area) (o .packets) b in
+      stepCall s p area packets (a + b)
+      ≡ record { answer = said (Done (a + q .answer .reported)); handed = q .handed; running = q .running; area = q .area; output = []; packets = q .packets }
+  in-parts =
+      subst (λ (o : Outcome). stepCall s p area packets (a + b) ≡ joined-up (stepCall s (o .running) (o .area) (o .packets) b)) (sym first-part)
+      (whole-is ∙ same-done (leb more b) refl ∙ ap joined-up (sym second-is))
+
 -- what a loss does to the record beside
 module _ (s : Record) (p : Running) (area : List ℕ) (board : ℕ) (r : p .running ≡ true) where
   abbrev lost : Running
@@ -596,6 +700,7 @@ pub step-laws : StepLaws
 step-laws = record {
   step-taken = taken;
   none-moved = none-moved;
+  in-parts = in-parts;
   loss-ends = λ s p area board r q ok. loss-ends s p area board r q ok;
   loss-goes-on = λ s p area board r q. loss-goes-on s p area board r q;
 }

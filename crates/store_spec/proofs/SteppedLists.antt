@@ -1,16 +1,16 @@
 -- Lists along which a repair goes on, one event after another.
 -- Assumes nothing.
 use Prim.Native.Nat.{ℕ, _+_, _*_, _<_, min}
-use native.Mathlib.Nat.{zero-add}
-use mathlib.Core.Path.{_≡_, refl, ap, _∙_, subst}
+use native.Mathlib.Nat.{zero-add, zero-min, zero-mul}
+use mathlib.Core.Path.{_≡_, refl, sym, ap, _∙_, subst}
 use mathlib.Core.Bool.{Bool, true}
 use mathlib.Core.Logic.{_≢_, _↔_}
 use mathlib.Core.List.{List, [], _∷_, _++_}
-use lib.ListN.{length, getD}
+use lib.ListN.{length, take, getD}
 use borrow.Author.Tests.{eq-eqb, ne-eqb}
 use Rattle.lists.specs.Tests.{pick}
 use Rattle.sizes.specs.Sizing.{α, stripes}
-use Rattle.store_spec.specs.Record.{Record, inService}
+use Rattle.store_spec.specs.Record.{Record, inService, stripeCount}
 use Rattle.store_spec.specs.Running.{Running, freshOf}
 use Rattle.store_spec.specs.Lying.{placeOf}
 use Rattle.store_spec.specs.Ledger.{write, lose, repair, read, edit, start, step, careful, Event, call, powerFails, State, Step, act, lent, next}
@@ -25,6 +25,14 @@ same-packets : (s : Record) (p : Running) (old new : List ℕ) → length new �
 same-packets s p old new l m =
     let place : ℕ = placeOf s (length (freshOf p)) (p .carried) in
     ((λ h. begins-alike place old new l .0 (h (l ∙ m))), (λ h e. begins-alike place old new l .1 h))
+
+-- before the first packet nothing is compared
+first-packets : (s : Record) (p : Running) (old new : List ℕ) → p .carried ≡ 0 → SamePackets s p old new
+first-packets s p old new z e =
+    let t : ℕ = length (freshOf p) in
+    let q : placeOf s t (p .carried) ≡ 0 =
+    ap (placeOf s t) z ∙ ap (λ (m : ℕ). (0 + m) * stripeCount s) (zero-min (t * s .sizes .d)) ∙ zero-mul (stripeCount s) in
+    ap (λ (m : ℕ). take m new) q ∙ sym (ap (λ (m : ℕ). take m old) q)
 
 -- a step is lent the same packets; of any other event nothing is asked
 lent-there : (w : State) (e : Event) → SameLent w e → (allowance : ℕ) (packets : List ℕ) → e ≡ call (step allowance packets) → SamePackets (w .kept) (w .running) (w .packets) packets
@@ -94,6 +102,7 @@ stepped-lists = record {
     (λ h. (h .0, parts-agree (λ i. inService s i ≡ true) s old new (h .0) .1 (h .1))),
   );
   same-packets = same-packets;
+  first-packets = first-packets;
   other-packets = λ s p old new h e. absurd (h e);
   boards-none = λ w. tt;
   boards-more = λ w t ts. ((λ h. h), (λ h. h));

@@ -3,15 +3,16 @@
 -- Assumes nothing.
 use mathlib.Core.Path.{_≡_}
 use mathlib.Core.Bool.{true, false}
+use mathlib.Core.Logic.{_↔_}
 use mathlib.Core.List.{List, [], _∷_, _++_}
-use Prim.Native.Nat.{ℕ, _+_, _-_, _*_}
+use Prim.Native.Nat.{ℕ, _+_, _-_, _*_, _<_}
 use lib.Dec.{eqb}
 use lib.ListN.{length, take, replicate}
 use Rattle.lists.specs.Tests.{pick, alls, among}
 use Rattle.lists.specs.Lists.{fit}
 use Rattle.sizes.specs.declared.Sizes.{Sizes}
 use Rattle.sizes.specs.Sizing.{stripes}
-use Rattle.store_spec.specs.Record.{Record}
+use Rattle.store_spec.specs.Record.{Record, sound, areaLen}
 use Rattle.store_spec.specs.Calls.{StoreOutcome, setUpCall, writeCall, loseCall, repairCall, readCall}
 use Rattle.store_spec.specs.Edit.{editCall}
 use Rattle.store_spec.specs.Careful.{carefulCall}
@@ -57,6 +58,14 @@ pub record AloneLaws : Type 0 where
       → AsAlone p (editCall s area offset bytes boards) (editBoth s p area offset bytes boards)
   -- a record that is not running is not SIZE, whatever else it has
   pub idle-sound : (s : Record) (p : Running) → p .running ≡ false → soundBeside s p ≡ true
+  -- "lists that a start would refuse": beside a sound record of the store a record that runs is not SIZE exactly where a start by its lists, with none running and an
+  -- area of the right length, would be accepted, and packets are left
+  pub start-would : (s : Record) (p : Running) (area : List ℕ) → sound s ≡ true → p .running ≡ true → length area ≡ areaLen s
+      → (soundBeside s p ≡ true)
+      ↔ ((startCall s idle area (freshOf p) (helpersOf (s .sizes) p) (standInsOf (s .sizes) p) .answer .refusal ≡ 0)
+      × (p .carried < length (freshOf p) * (s .sizes .d + s .sizes .r - 1)))
+  -- so beside a store with no file none may run
+  pub none-beside : (s : Record) (p : Running) → sound s ≡ true → p .running ≡ true → s .written ≡ false → soundBeside s p ≡ false
   -- a start that is accepted
   pub started-by : (s : Record) (p : Running) (area fresh helpers standIns : List ℕ) → startCall s p area fresh helpers standIns .answer .refusal ≡ 0
       → StartedBy s area fresh helpers standIns (startCall s p area fresh helpers standIns)

@@ -11,7 +11,7 @@ use Rattle.sizes.specs.Refusals.{Said}
 use Rattle.store_spec.specs.Record.{Record}
 use Rattle.store_spec.specs.Running.{Running}
 use Rattle.store_spec.specs.Both.{Outcome, setUpBoth}
-use Rattle.store_spec.specs.Ledger.{Call, Event, call, powerFails, State, Step, Reply, replyOf, packetsAfter, act, Allowed, openBook, bookReplies, bookFinal}
+use Rattle.store_spec.specs.Ledger.{Call, Event, call, powerFails, State, Step, Reply, replyOf, packetsAfter, act, Allowed, replies, final, openBook, bookReplies, bookFinal}
 use Rattle.store_spec.specs.Demand3.{Intact, begun, events}
 use Rattle.store_spec.specs.CarefulLaws.{AnyBytes, Worn}
 
@@ -100,6 +100,11 @@ module _ (X : Type 0) (kept : X → Record) (beside : X → Running) where
         → Follows x (record { area = area; event = call c } ∷ ts) (gave g ∷ hs)
     pub fails-follows : (x y : X) (area : List ℕ) (p : Running) (ts : List Step) (hs : List (Moment X))
         → kept y ≡ kept x → beside y ≡ p → Follows y ts hs → Follows x (record { area = area; event = powerFails p } ∷ ts) (anew y ∷ hs)
+    -- from any records and over any bytes a run goes as the definitions' list goes: its replies are theirs, and it ends where that ends. So what is said of such lists
+    -- (Stepped.antt: Power, Stepped) holds of runs
+    pub final-is : (x : X) (area packets : List ℕ) (steps : List Step) (run : List (Moment X)) → Follows x steps run
+        → let w : State = record { kept = kept x; running = beside x; area = area; packets = packets } in
+        (repliesIn run ≡ replies w steps) × (ending x area packets steps run ≡ final w steps)
     pub outcome-is : (g : Given X)
         → outcomeOf g ≡ record { answer = g .answer; handed = kept (g .handed); running = beside (g .handed); area = g .area; output = g .output; packets = g .packets }
     pub replies-none : repliesIn [] ≡ []

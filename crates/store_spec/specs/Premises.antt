@@ -105,8 +105,27 @@ pub record Premises : Type 0 where
   pub more-allowed : (w : State) (b : Book) (t : Step) (ts : List Step)
       → Allowed w b (t ∷ ts) ↔ (Asked w b t × Allowed (next (lent w t) (t .event)) (bookNext b (t .event)) ts)
   -- while no packet of a repair is carried, any packet area may be lent; and so may any of another length at any time
-  pub first-free : (b : Book) (old new : List ℕ) → noneCarried b ≡ true → Unaltered b old new
+  pub first-free : (b : Book) (old new : List ℕ) → ((r : Repairing) → b .repairing ≡ some r → length (r .fresh) * (b .sizes .d + b .sizes .r - 1) ≤ r .left) → Unaltered b old new
   pub wrong-free : (b : Book) (old new : List ℕ) → ((r : Repairing) → b .repairing ≡ some r → length new ≢ packetsLen (bookRecord b) (length (r .fresh))) → Unaltered b old new
+  -- what the lists above have: in propositions, when no packet is carried; what is to be of bytes, and after what an idle record is given; and the entries that a list
+  -- has with nothing altered
+  pub none-carried-is : (b : Book)
+      → (noneCarried b ≡ true) ↔ ((r : Repairing) → b .repairing ≡ some r → length (r .fresh) * (b .sizes .d + b .sizes .r - 1) ≤ r .left)
+  pub files-none : files [] ≡ []
+  pub files-write : (file : List ℕ) (es : List Event) → files (call (write file) ∷ es) ≡ file ∷ files es
+  pub files-edit : (offset : ℕ) (bytes boards : List ℕ) (es : List Event) → files (call (edit offset bytes boards) ∷ es) ≡ bytes ∷ files es
+  pub files-other : (e : Event) (es : List Event) → ((file : List ℕ) → e ≢ call (write file)) → ((offset : ℕ) (bytes boards : List ℕ) → e ≢ call (edit offset bytes boards))
+      → files (e ∷ es) ≡ files es
+  pub idle-none : IdleGiven []
+  pub idle-more : (e : Event) (es : List Event) → IdleGiven (e ∷ es) ↔ (((p : Running) → e ≡ powerFails p → p .running ≡ false) × IdleGiven es)
+  pub again-free : (w : State) (b : Book) (allowance : ℕ) (packets : List ℕ) → noneCarried b ≡ true
+      → lentAgain w b (call (step allowance packets)) ≡ call (step allowance packets)
+  pub again-left : (w : State) (b : Book) (allowance : ℕ) (packets : List ℕ) → noneCarried b ≡ false
+      → lentAgain w b (call (step allowance packets)) ≡ call (step allowance (w .packets))
+  pub again-other : (w : State) (b : Book) (e : Event) → ((allowance : ℕ) (packets : List ℕ) → e ≢ call (step allowance packets)) → lentAgain w b e ≡ e
+  pub unaltered-none : (w : State) (b : Book) → unaltered w b [] ≡ []
+  pub unaltered-more : (w : State) (b : Book) (e : Event) (es : List Event) → let a = lentAgain w b e in
+      unaltered w b (e ∷ es) ≡ record { area = w .area; event = a } ∷ unaltered (next w a) (bookNext b a) es
   -- altered is an area exactly where it is as long and agrees in each byte of a board in service
   pub altered-is : (b : Book) (s : Record) (old new : List ℕ) → Altered b s old new ↔ ((length new ≡ length old) × AgreeInService b s old new)
   -- two packet areas of the right length, lent while a repair runs: unaltered exactly where they agree in each byte of the packets carried, t(d + r − 1) less

@@ -113,6 +113,13 @@ pub record StepLaws : Type 0 where
   -- "An allowance of 0 moves nothing."
   pub none-moved : (s : Record) (p : Running) (area packets : List ℕ) → stepCall s p area packets 0 .answer .refusal ≡ 0
       → stepCall s p area packets 0 ≡ record { answer = said (Done 0); handed = s; running = p; area = area; output = []; packets = packets }
+  -- "A failure inside a step counts as one after a step allowed just the packets carried by then": a step is smaller ones, one after another. Where `a` packets are not the
+  -- last, a step that allows a + b leaves, byte for byte, what one that allows a, and then on what that left one that allows b, leave; and it answers the packets of both
+  pub in-parts : (s : Record) (p : Running) (area packets : List ℕ) (a b : ℕ) → stepCall s p area packets a .answer .refusal ≡ 0
+      → p .carried + a < packetCount (s .sizes) (length (freshOf p))
+      → let o = stepCall s p area packets a in let q = stepCall s (o .running) (o .area) (o .packets) b in
+      stepCall s p area packets (a + b)
+      ≡ record { answer = said (Done (a + q .answer .reported)); handed = q .handed; running = q .running; area = q .area; output = []; packets = q .packets }
   -- "Losing a board named in the repair ends it, fresh boards out of service"; losing another does not
   pub loss-ends : (s : Record) (p : Running) (area : List ℕ) (board : ℕ) → p .running ≡ true → among (namedIn (s .sizes) p) board ≡ true
       → loseBoth s p area board .answer .refusal ≡ 0

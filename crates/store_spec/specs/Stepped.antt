@@ -160,6 +160,8 @@ pub record SteppedLists : Type 0 where
       → length old ≡ stripes (s .sizes) (s .length) * length (freshOf p) * α (s .sizes)
       → SamePackets s p old new
       ↔ ((x : ℕ) → x < (p .carried + min (p .carried) (length (freshOf p) * s .sizes .d)) * stripes (s .sizes) (s .length) → getD new x 0 ≡ getD old x 0)
+  -- and so is any while no packet is carried
+  pub first-packets : (s : Record) (p : Running) (old new : List ℕ) → p .carried ≡ 0 → SamePackets s p old new
   pub other-packets : (s : Record) (p : Running) (old new : List ℕ) → length new ≢ packetsLen s (length (freshOf p)) → SamePackets s p old new
   -- nothing, and one event before a list
   pub boards-none : (w : State) → BoardsUntouched w []

@@ -3,9 +3,10 @@
 //! word and byte that it was lent.
 //! A slice is a pointer and a length. A record is a lent slice of twelve words: n, k, d, r, capacity, written, length, marks, and four words
 //! with the points of eight boards each. Beside it stands that of a started repair, a lent slice of 71 words: 1 where one runs, else 0; the number of
-//! its fresh boards; the packets carried; 4, 32 and 32 words with fresh boards, helpers and stand-ins, eight in each. The head of a text is a lent slice of six words: n, k, d, r, board number, length. Points are a lent slice
-//! of 32 bytes. Another number of them than these is SIZE. An answer has the refusal's number in its low eight bits, 0 where there is none, and the
-//! number reported above them; the trial file, which refuses nothing, answers the generator's state.
+//! its fresh boards; the packets carried; 4, 32 and 32 words with fresh boards, helpers and stand-ins, eight in each. The head of a text is a lent
+//! slice of six words: n, k, d, r, board number, length. Points are a lent slice of 32 bytes. Another number of them than these is SIZE. An answer
+//! has the refusal's number in its low eight bits, 0 where there is none, and the number reported above them; the trial file, which refuses nothing,
+//! answers the generator's state.
 ghost use mathlib.Core.Path.{_≡_};
 ghost use mathlib.Core.List.{List, []};
 ghost use Prim.Native.Nat.{ℕ};

@@ -1,13 +1,12 @@
 -- `step_finish::finish_all` meets its contract: the shares of the fresh boards passed are put, each at its place.
 -- Assumes nothing.
 use mathlib.Core.Path.{_≡_, refl, _∙_}
-use Prim.Native.Nat.{ℕ, _-_, _*_, _≤_}
+use Prim.Native.Nat.{_-_, _*_, _≤_}
 use lib.ListN.{length, getD}
 use Rattle.sizes.specs.Sizing.{α}
 use Rattle.puts.specs.Steps.{puts}
 use Rattle.step_laws.specs.Steps.{shareAt}
 use Rattle.step_laws.proofs.Shares.{puts-more, puts-all}
-use borrow.Author.Needs.{needs}
 use native.Mathlib.Omega.{arith}
 use Rattle.step_finish.proofs.finish_all.Statement.{statement}
 use Rattle.step_finish.proofs.finish_all.Tie as tie

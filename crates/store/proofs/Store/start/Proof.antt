@@ -1,7 +1,7 @@
 -- `store::Store::start` meets its contract: it hands on what its check refuses, and past it the record of a repair by its lists.
 -- Assumes nothing.
 use mathlib.Core.Path.{_≡_, sym, _∙_}
-use mathlib.Core.List.{List, []}
+use mathlib.Core.List.{[]}
 use Prim.Native.Nat.{_≤_}
 use native.Mathlib.Omega.{arith}
 use lib.ListN.{length}
