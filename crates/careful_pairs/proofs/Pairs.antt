@@ -6,16 +6,15 @@ use mathlib.Core.Bool.{Bool, true, false, not}
 use mathlib.Core.List.{List, [], _∷_, _++_, append-nil}
 use mathlib.Core.Logic.{_⊎_, inl, inr}
 use native.Mathlib.Decide.{decLt}
-use native.Mathlib.Nat.{add-zero}
 use native.Mathlib.Omega.{arith}
 use lib.Dec.{leb, ltb, eqb}
-use lib.ListN.{length, getD, length-map}
+use lib.ListN.{length, getD}
 use lib.Seq.{ext-getD}
 use borrow.Author.Tests.{lt-ltb, le-ltb, le-leb, leb-true, eqb-true, eqb-false}
-use Rattle.lists.specs.Tests.{pick, among, below, different}
+use Rattle.lists.specs.Tests.{pick, among, different}
 use Rattle.lists.specs.Lists.{All, tabulate}
 use Rattle.lists.proofs.Alls.{all-imp}
-use Rattle.lists.proofs.Boards.{below-all, all-below, among-head, among-tail, all-is-among}
+use Rattle.lists.proofs.Boards.{all-is-among}
 use Rattle.lists.proofs.Pieces.{length-tabulate, tabulate-at}
 use Rattle.lists.proofs.Tests.{is-false}
 use Rattle.store_spec.specs.Careful.{those, leaving, oddReport}
@@ -154,7 +153,8 @@ some-pair zero end t h k = absurd (omega arith)
 some-pair (suc n) zero t h k = absurd (omega arith)
 some-pair (suc n) (suc end) t h k = go (decLt t (suc end - 2)) (some-pair n (suc end - 2) t (omega arith))
   where
-    go : Dec (t < suc end - 2) → (t < suc end - 2 → (q : ℕ) × (q < length (placesFrom n (suc end - 2))) × ((t ≡ getD (placesFrom n (suc end - 2)) q 0) ⊎ (t ≡ suc (getD (placesFrom n (suc end - 2)) q 0))))
+    go : Dec (t < suc end - 2)
+        → (t < suc end - 2 → (q : ℕ) × (q < length (placesFrom n (suc end - 2))) × ((t ≡ getD (placesFrom n (suc end - 2)) q 0) ⊎ (t ≡ suc (getD (placesFrom n (suc end - 2)) q 0))))
         → (q : ℕ) × (q < length (placesFrom (suc n) (suc end))) × ((t ≡ getD (placesFrom (suc n) (suc end)) q 0) ⊎ (t ≡ suc (getD (placesFrom (suc n) (suc end)) q 0)))
     go (yes l) ih = let r = ih l in (suc (r .0), omega (arith, r .1), r .2)
     go (no l) ih = (0, omega arith, which (eqb t (suc end - 2)) refl)

@@ -1,8 +1,8 @@
 -- The tries of a careful read: which boards each leaves out, and what is told where the others hold a file.
 -- Assumes nothing.
 use mathlib.Core.Bool.{Bool, true}
-use mathlib.Core.List.{List, [], _∷_}
-use Prim.Native.Nat.{ℕ, zero, suc, _-_}
+use mathlib.Core.List.{List}
+use Prim.Native.Nat.{ℕ, suc, _-_}
 use Rattle.lists.specs.Tests.{pick}
 use Rattle.store_spec.specs.Careful.{leaving}
 

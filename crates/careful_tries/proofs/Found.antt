@@ -172,14 +172,20 @@ module _ (s : Record) (area : List ℕ) (g : Sound s) (area-is : length area ≡
   few = omega (arith, named .0)
 
   pub all-are : Rest s area boards (length boards)
-  all-are = (length boards, omega arith,
-      tries-enough s area g area-is boards named ba (map (pair s area boards) (placesFrom (length boards) (length boards)))
-      (map-all (Named (s .sizes) k) (λ p. p + 2 ≤ length boards) (pair s area boards) pair-named (placesFrom (length boards) (length boards)) (places-low (length boards) (length boards) (length boards) (omega arith) few))
-      (λ t h.
-      let r = some-pair (length boards) (length boards) t (omega arith) h in
-      (r .0, omega (arith, r .1, length-map (placesFrom (length boards) (length boards)) (pair s area boards)),
-      subst (λ (l : List ℕ). All (λ j. among (leaving t boards) j ≡ true) l) (sym (map-at (pair s area boards) (placesFrom (length boards) (length boards)) (r .0) (r .1)))
-      (either t (getD (placesFrom (length boards) (length boards)) (r .0) 0) (r .2)))))
+  all-are = (
+    length boards,
+    omega arith,
+    tries-enough s area g area-is boards named ba (map (pair s area boards) (placesFrom (length boards) (length boards)))
+        (map-all (Named (s .sizes) k) (λ p. p + 2 ≤ length boards) (pair s area boards) pair-named (placesFrom (length boards) (length boards))
+        (places-low (length boards) (length boards) (length boards) (omega arith) few))
+        (λ t h.
+        let r = some-pair (length boards) (length boards) t (omega arith) h in (
+          r .0,
+          omega (arith, r .1, length-map (placesFrom (length boards) (length boards)) (pair s area boards)),
+          subst (λ (l : List ℕ). All (λ j. among (leaving t boards) j ≡ true) l) (sym (map-at (pair s area boards) (placesFrom (length boards) (length boards)) (r .0) (r .1)))
+              (either t (getD (placesFrom (length boards) (length boards)) (r .0) 0) (r .2)),
+        )),
+  )
     where
       either : (t q : ℕ) → (t ≡ q) ⊎ (t ≡ suc q) → All (λ j. among (leaving t boards) j ≡ true) (leavingPair q boards)
       either t q (inl e) = subst (λ (i : ℕ). All (λ j. among (leaving i boards) j ≡ true) (leavingPair q boards)) (sym e) (pair-among q boards)

@@ -2,24 +2,23 @@
 -- Assumes nothing.
 use mathlib.Core.Path.{_≡_, refl, sym, ap, ap₂, _∙_}
 use mathlib.Core.Bool.{Bool, true, false}
-use mathlib.Core.List.{List, [], _∷_, _++_, append-nil, map}
+use mathlib.Core.List.{List, append-nil, map}
 use mathlib.Core.Option.{Option, some, none}
 use Prim.Native.Nat.{ℕ, zero, suc, _+_, _*_, _-_, _<_, _≤_}
-use native.Mathlib.Nat.{add-zero, mul-le-mul-right, sub-zero}
+use native.Mathlib.Nat.{add-zero, mul-le-mul-right}
 use native.Mathlib.Numerals.{add-one}
 use native.Mathlib.Omega.{arith}
-use lib.ListN.{length, getD, take, drop, length-drop, length-append}
-use lib.Seq.{drop-drop, length-take-le, take-all}
+use lib.ListN.{length, take, drop, length-append}
+use lib.Seq.{drop-drop, take-all}
 use borrow.Rule.Slice.PartMut.{putMid}
-use Rattle.lists.specs.Tests.{pick, alls, same, below, given}
+use Rattle.lists.specs.Tests.{pick, alls, same, given}
 use Rattle.lists.specs.Lists.{All, Bytes, tabulate, join, joined, piece}
 use Rattle.lists.proofs.Pieces.{tabulate-ext}
 use Rattle.lists.proofs.Put.{within, part-end}
 use Rattle.sizes.specs.declared.Sizes.{Sizes}
-use Rattle.sizes.specs.Sizing.{α, B, stripes}
-use Rattle.sizes.proofs.Legal.{Legal, legal-facts, row-fits, stripes-least}
+use Rattle.sizes.specs.Sizing.{α, stripes}
+use Rattle.sizes.proofs.Legal.{Legal, legal-facts, stripes-least}
 use Rattle.mbcr.specs.Demand2.{Named}
-use Rattle.mbcr.specs.Read.{decodedStripe}
 use Rattle.mbcr.specs.Share.{stripe, share, shares, kept}
 use Rattle.mbcr.proofs.Points.{boards-of}
 use Rattle.mbcr.proofs.Read.{stripe-decoded}
@@ -27,10 +26,10 @@ use Rattle.board_spec.specs.Calls.{fileOf}
 use Rattle.store_spec.specs.Record.{Record, held, stripeCount, partLen, usedLen, areaLen}
 use Rattle.store_spec.specs.Calls.{fileHeld}
 use Rattle.store_spec.specs.Careful.{holdsShare}
-use Rattle.store_spec.proofs.Records.{Sound, sound-points, used-fits}
+use Rattle.store_spec.proofs.Records.{Sound, sound-points}
 use Rattle.store_spec.proofs.Held.{file-has, each-shares}
 use Rattle.store_spec.proofs.Careful.{holds-by-stripes}
-use Rattle.decode_laws.specs.Steps.{heldAt, Placed}
+use Rattle.decode_laws.specs.Steps.{heldAt}
 use Rattle.decode_laws.proofs.Agree.{decoded-ext}
 use Rattle.decode.proofs.Shares.{held-there}
 use Rattle.stripes_cut.specs.Steps.{stripeAt}

@@ -13,7 +13,7 @@ use Rattle.lists.proofs.Pieces.{length-tabulate, length-fit, length-join, join-
 use Rattle.row_dots.proofs.Rows.{fit-zeros}
 use Rattle.sizes.specs.declared.Sizes.{Sizes}
 use Rattle.sizes.specs.Sizing.{B}
-use Rattle.sizes.proofs.Legal.{Legal, B-parts}
+use Rattle.sizes.proofs.Legal.{Legal}
 use Rattle.polynomial.specs.Polynomial.{entry}
 use Rattle.mbcr.specs.Share.{grid}
 use Rattle.mbcr.proofs.Shape.{upper-row, lower-row}

@@ -53,6 +53,6 @@ check-many-spec =
     (λ c. search needs)
     (λ c κs. search needs)
     (λ c.
-        let e = c .before .before in
-        let a = st-two (e .before) .args in
-        c .check-boards .ensures ∙ enough (a .sizes) (a .marks .now) (a .boards .now) (omega (arith, e .before .before .before .if1 .left, e .if2 .left))))
+    let e = c .before .before in
+    let a = st-two (e .before) .args in
+    c .check-boards .ensures ∙ enough (a .sizes) (a .marks .now) (a .boards .now) (omega (arith, e .before .before .before .if1 .left, e .if2 .left))))

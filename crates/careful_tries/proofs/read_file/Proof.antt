@@ -1,12 +1,12 @@
 -- `careful_tries::read_file` meets its contract: the file by the boards and the tables of the try that found it.
 -- Assumes nothing.
-use mathlib.Core.Path.{_≡_, refl, sym, ap, _∙_, subst}
-use mathlib.Core.Bool.{true, false}
+use mathlib.Core.Path.{_≡_, refl, sym, _∙_, subst}
+use mathlib.Core.Bool.{true}
 use mathlib.Core.List.{List}
-use Prim.Native.Nat.{ℕ, _+_, _*_, _-_, _<_, _≤_}
+use Prim.Native.Nat.{ℕ, _*_, _-_, _≤_}
 use native.Mathlib.Nat.{mul-le-mul-right}
 use native.Mathlib.Omega.{arith}
-use lib.ListN.{length, take, drop, replicate}
+use lib.ListN.{length, replicate}
 use borrow.Author.Needs.{needs}
 use borrow.Author.Tests.{not-true, not-false}
 use Rattle.lists.proofs.Tests.{true-false}
@@ -112,7 +112,9 @@ returns-2 c =
       (
         (λ h. f .is-odd),
         (
-          (λ h. written-is (R q) (facts q) (q .args .area .now) (q .args .boards .now) (chosen m) _ (tables m) (q .args .out .now) _ _ f (own-back (k m) zeros (chosen m) (long m)) (n .file .ensures)),
+          (λ h.
+              written-is (R q) (facts q) (q .args .area .now) (q .args .boards .now) (chosen m) _ (tables m) (q .args .out .now) _ _ f
+              (own-back (k m) zeros (chosen m) (long m)) (n .file .ensures)),
           (λ h. absurd (true-false yes h)),
         ),
       ),

@@ -1,7 +1,6 @@
 -- `careful_tries::try_pair` meets its contract: the k boards' agreement, and what of the two left out holds its share.
 -- Assumes nothing.
 use mathlib.Core.Path.{_≡_, refl, sym, ap, _∙_, subst}
-use mathlib.Core.Bool.{Bool, true, false}
 use mathlib.Core.List.{List}
 use Prim.Native.Nat.{ℕ, _+_, _<_, _≤_}
 use native.Mathlib.Omega.{arith}
@@ -168,9 +167,9 @@ try-pair-spec =
     (λ c. search needs)
     hold-two-requires
     (λ c κs.
-        let q = st (left-at-fill (filled-at-agrees (agrees-at-hold c))) in
-        let f = facts q .few in
-        (omega (arith, f, low q (q .args .p) (omega (arith, q .pre .2))), omega (arith, f, low q (q .args .p + 1) (omega (arith, q .pre .2)))))
+    let q = st (left-at-fill (filled-at-agrees (agrees-at-hold c))) in
+    let f = facts q .few in
+    (omega (arith, f, low q (q .args .p) (omega (arith, q .pre .2))), omega (arith, f, low q (q .args .p + 1) (omega (arith, q .pre .2)))))
     (λ c. search needs)
     (λ c. search needs)
     returns-2)

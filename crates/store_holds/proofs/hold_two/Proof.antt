@@ -1,11 +1,10 @@
 -- `store_holds::hold_two` meets its contract: the parts of boards are their shares, compared stripe by stripe.
 -- Assumes nothing.
-use mathlib.Core.Path.{_≡_, refl, sym, ap, _∙_}
-use mathlib.Core.Bool.{true}
+use mathlib.Core.Path.{_≡_, sym, ap, _∙_}
 use mathlib.Core.List.{List}
 use Prim.Native.Nat.{ℕ, _+_, _*_, _-_, _<_, _≤_}
 use native.Mathlib.Omega.{arith}
-use lib.ListN.{length, take, drop, replicate, length-append}
+use lib.ListN.{length, replicate, length-append}
 use borrow.Author.Needs.{needs}
 use Rattle.lists.specs.Lists.{Bytes}
 use Rattle.lists.specs.Tests.{pick}
@@ -18,7 +17,7 @@ use Rattle.store_spec.specs.Record.{Record, partLen}
 use Rattle.store_spec.proofs.Records.{Sound, sound-facts}
 use Rattle.record.specs.Records.{recordOf}
 use Rattle.decode_stripe.proofs.Made.{part-long}
-use Rattle.store_decode.proofs.Parts.{below-32, lent, lent-are, lent-long, lent-placed}
+use Rattle.store_decode.proofs.Parts.{below-32, lent-are, lent-long, lent-placed}
 use Rattle.store_holds.proofs.Stripes.{stripes-few, asked-is, part-short, area-short, starts-low, stripes-low}
 use Rattle.store_holds.proofs.hold_two.Statement.{statement}
 use Rattle.store_holds.proofs.hold_two.Tie as tie
@@ -120,8 +119,10 @@ hold-stripes-requires c κs =
     let r = a .kept in
     let p = q .pre in (
       p .2,
-      lent-long (r .sizes) (r .capacity) (r .length) (a .stripes) (part n) (a .boards .now) (a .area .now) zeros (starts k) (p .2 .known) (p .2 .counted) (p .5) (p .1) (few q) (part-is n) (k .places .ensures),
-      lent-placed (r .sizes) (r .capacity) (r .length) (a .stripes) (part n) (a .boards .now) (a .area .now) zeros (starts k) (p .2 .known) (p .2 .counted) (p .5) (p .1) (few q) (part-is n) (k .places .ensures),
+      lent-long (r .sizes) (r .capacity) (r .length) (a .stripes) (part n) (a .boards .now) (a .area .now) zeros (starts k)
+          (p .2 .known) (p .2 .counted) (p .5) (p .1) (few q) (part-is n) (k .places .ensures),
+      lent-placed (r .sizes) (r .capacity) (r .length) (a .stripes) (part n) (a .boards .now) (a .area .now) zeros (starts k)
+          (p .2 .known) (p .2 .counted) (p .5) (p .1) (few q) (part-is n) (k .places .ensures),
       omega (arith, few q, good q .cap-high),
       p .6,
       points-long q,
@@ -145,7 +146,8 @@ returns c =
     let p = q .pre in
     let bytes : Bytes (a .area .now) = all-of (λ b. b < 256) 0 (a .area .now) (λ i h. omega (arith, n .before .before .before .before .before .before .shared-slice-known2 .given i)) in
     let named : Named (r .sizes) (r .sizes .k) (a .boards .now) = (p .2 .counted, p .2 .known, p .2 .unlike) in
-    let are = lent-are (r .sizes) (r .capacity) (r .length) (a .stripes) (part n) (a .boards .now) (a .area .now) zeros (starts k) (p .2 .known) (p .2 .counted) (p .5) (p .1) (few q) (part-is n) (k .places .ensures) in (
+    let are = lent-are (r .sizes) (r .capacity) (r .length) (a .stripes) (part n) (a .boards .now) (a .area .now) zeros (starts k)
+    (p .2 .known) (p .2 .counted) (p .5) (p .1) (few q) (part-is n) (k .places .ensures) in (
       (λ there. asked-is (R q) (a .area .now) (good q) (p .5) bytes (a .boards .now) named there (a .p) (a .stripes) (part n) _ _ (p .3) (p .1) (part-is n) are (m .hold-stripes .ensures .0)),
       (λ there. asked-is (R q) (a .area .now) (good q) (p .5) bytes (a .boards .now) named there (a .q) (a .stripes) (part n) _ _ (p .4) (p .1) (part-is n) are (m .hold-stripes .ensures .1)),
     )

@@ -1,13 +1,12 @@
 -- `stripe_grid::fill_rows` meets its contract. The loop's invariant: the rows so far, before what was there.
 -- Assumes nothing.
-use mathlib.Core.Path.{_≡_, refl, ap, ap₂, _∙_}
-use mathlib.Core.List.{List, _++_}
+use mathlib.Core.Path.{_≡_, refl}
+use mathlib.Core.List.{_++_}
 use Prim.Native.Nat.{ℕ, _+_, _*_, _-_, _<_, _≤_}
 use native.Mathlib.Omega.{arith}
 use lib.ListN.{length, drop}
 use borrow.Author.Needs.{needs}
-use Rattle.lists.specs.Lists.{join, piece, fit}
-use Rattle.lists.proofs.Pieces.{length-fit, part-piece}
+use Rattle.lists.specs.Lists.{join}
 use Rattle.row_dots.proofs.Rows.{join-loop, join-end}
 use Rattle.sizes.proofs.Legal.{row-fits}
 use Rattle.stripe_grid.proofs.Rows.{rowOf, length-row, row-is, runs-fit}

@@ -1,18 +1,16 @@
 -- `stripe_kept::fill_powers` meets its contract: the powers so far, before what was there, and the next.
 -- Assumes nothing.
-use mathlib.Core.Path.{_≡_, refl, sym, ap, ap₂, _∙_}
-use mathlib.Core.List.{List, _++_}
-use Prim.Native.Nat.{ℕ, _+_, _*_, _-_, _<_, _≤_}
+use mathlib.Core.Path.{_≡_, refl, _∙_}
+use mathlib.Core.List.{_++_}
+use Prim.Native.Nat.{_+_, _-_, _≤_}
 use native.Mathlib.Omega.{arith}
-use lib.ListN.{length, getD, take, drop, length-set}
+use lib.ListN.{length, drop, length-set}
 use borrow.Author.Needs.{needs}
 use Rattle.lists.proofs.Pieces.{fill-loop}
 use Rattle.row_dots.proofs.Rows.{changed}
 use Rattle.stripe_kept.proofs.Values.{power-turn}
-
 use Rattle.lists.specs.Lists.{tabulate}
-use Rattle.gf256.specs.Field.{add, mul}
-use Rattle.polynomial.specs.Polynomial.{sum, power}
+use Rattle.polynomial.specs.Polynomial.{power}
 use Rattle.stripe_kept.proofs.fill_powers.Statement.{statement}
 use Rattle.stripe_kept.proofs.fill_powers.Tie as tie
 

@@ -1,9 +1,8 @@
 -- `stripe_kept::g_values` meets its contract: the powers of x, the sums of the rows, and their values.
 -- Assumes nothing.
-use mathlib.Core.Path.{_≡_, refl, sym, ap, ap₂, _∙_}
-use mathlib.Core.List.{List, _++_}
-use Prim.Native.Nat.{ℕ, _+_, _*_, _-_, _<_, _≤_}
-use native.Mathlib.Omega.{arith}
+use mathlib.Core.Path.{_≡_, ap, _∙_}
+use mathlib.Core.List.{List}
+use Prim.Native.Nat.{ℕ, _+_, _*_, _-_, _≤_}
 use lib.ListN.{length, getD, take, drop}
 use borrow.Author.Needs.{needs}
 use lib.ListN.{replicate}
@@ -12,7 +11,6 @@ use Rattle.lists.specs.Lists.{tabulate}
 use Rattle.gf256.specs.Field.{mul}
 use Rattle.polynomial.specs.Polynomial.{evals, sum, power}
 use Rattle.stripe_kept.proofs.Values.{filled-most, filled-back, sums-by}
-
 use Rattle.stripe_kept.proofs.g_values.Statement.{statement}
 use Rattle.stripe_kept.proofs.g_values.Tie as tie
 

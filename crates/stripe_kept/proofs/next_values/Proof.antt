@@ -1,16 +1,14 @@
 -- `stripe_kept::next_values` meets its contract: the values so far are changed, and the rest is as it was.
 -- Assumes nothing.
-use mathlib.Core.Path.{_≡_, refl, sym, ap, ap₂, _∙_}
-use mathlib.Core.List.{List, _++_}
-use Prim.Native.Nat.{ℕ, _+_, _*_, _-_, _<_, _≤_}
+use mathlib.Core.Path.{_≡_, refl, _∙_}
+use mathlib.Core.List.{_++_}
+use Prim.Native.Nat.{_+_, _-_, _≤_}
 use native.Mathlib.Omega.{arith}
-use lib.ListN.{length, getD, take, drop, length-set}
+use lib.ListN.{length, getD, drop, length-set}
 use borrow.Author.Needs.{needs}
 use Rattle.row_dots.proofs.Rows.{change, changed}
-
 use Rattle.lists.specs.Lists.{tabulate}
 use Rattle.gf256.specs.Field.{add, mul}
-use Rattle.polynomial.specs.Polynomial.{sum, power}
 use Rattle.stripe_kept.proofs.next_values.Statement.{statement}
 use Rattle.stripe_kept.proofs.next_values.Tie as tie
 

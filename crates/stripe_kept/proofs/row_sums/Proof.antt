@@ -1,19 +1,17 @@
 -- `stripe_kept::row_sums` meets its contract: the sums of the rows so far, before what was there.
 -- Assumes nothing.
-use mathlib.Core.Path.{_≡_, refl, sym, ap, ap₂, _∙_}
-use mathlib.Core.List.{List, _++_}
-use Prim.Native.Nat.{ℕ, _+_, _*_, _-_, _<_, _≤_}
+use mathlib.Core.Path.{_≡_, refl, _∙_}
+use mathlib.Core.List.{_++_}
+use Prim.Native.Nat.{_+_, _*_, _-_, _≤_}
 use native.Mathlib.Omega.{arith}
-use lib.ListN.{length, getD, take, drop, length-set}
+use lib.ListN.{length, getD, drop, length-set}
 use borrow.Author.Needs.{needs}
-
 use Rattle.lists.proofs.Pieces.{fill-loop}
 use Rattle.row_dots.proofs.Rows.{changed}
 use Rattle.stripe_kept.proofs.Values.{row-turn, row-long}
-
 use Rattle.lists.specs.Lists.{tabulate}
-use Rattle.gf256.specs.Field.{add, mul}
-use Rattle.polynomial.specs.Polynomial.{sum, power}
+use Rattle.gf256.specs.Field.{mul}
+use Rattle.polynomial.specs.Polynomial.{sum}
 use Rattle.stripe_kept.proofs.row_sums.Statement.{statement}
 use Rattle.stripe_kept.proofs.row_sums.Tie as tie
 
@@ -53,9 +51,9 @@ row-sums-spec =
     (λ c. search needs)
     (λ c. search needs)
     (λ c κs.
-        let t = c .before in
-        let q = t .before .before .before .before .before in
-        row-long (t .before .loop .i) (q .args .rows .now) (length (q .args .ps .now)) (omega arith) (q .pre .2))
+    let t = c .before in
+    let q = t .before .before .before .before .before in
+    row-long (t .before .loop .i) (q .args .rows .now) (length (q .args .ps .now)) (omega arith) (q .pre .2))
     (λ c. search needs)
     (λ c. search needs)
     (λ c. search needs)

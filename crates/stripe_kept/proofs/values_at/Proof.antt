@@ -1,15 +1,12 @@
 -- `stripe_kept::values_at` meets its contract. The loop's invariant: the values of the coefficients from the j-th on.
 -- Assumes nothing.
-use mathlib.Core.Path.{_≡_, refl, sym, ap, ap₂, _∙_}
-use mathlib.Core.List.{List, _++_}
-use Prim.Native.Nat.{ℕ, suc, _+_, _*_, _-_, _<_, _≤_}
+use mathlib.Core.Path.{_≡_, sym, ap, _∙_}
+use Prim.Native.Nat.{suc, _-_, _≤_}
 use native.Mathlib.Omega.{arith}
-use lib.ListN.{length, getD, take, drop}
+use lib.ListN.{length}
 use borrow.Author.Needs.{needs}
 use Rattle.lists.proofs.Pieces.{length-tabulate}
-
 use Rattle.stripe_kept.proofs.Values.{valuesFrom, values-none, values-turn, values-all}
-
 use Rattle.stripe_kept.proofs.values_at.Statement.{statement}
 use Rattle.stripe_kept.proofs.values_at.Tie as tie
 
