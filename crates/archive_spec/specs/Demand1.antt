@@ -1,4 +1,4 @@
--- Demand 1 of the archive, and the reader's exactness, for every words, area, list and text: what each of the fourteen calls answers, and every word and
+-- Demand 1 of the archive, and the reader's exactness, for every words, area, list and text: what each of the fifteen calls answers, and every word and
 -- byte that it was lent, are those of the definitions of document 01, over the record that the words tell; where they tell none it is SIZE, and
 -- nothing changes. proofs/Demand1.antt has `archive-demand-1 : ArchiveCalls`.
 -- Assumes nothing.

@@ -29,7 +29,7 @@ lents ws [] = []
 lents ws (t ∷ ts) = zbk ws (t .area) (t .call) ∷ lents (zbk ws (t .area) (t .call) .words) ts
 
 -- each area is the one that the last call left, altered at most in bytes of boards out of service by the book, in the record that the words
--- tell; a file to write is of bytes
+-- tell; a file to write is of bytes, and so are an edit's
 abbrev pub AllowedLents : List ℕ → List ℕ → Book → List Step → Type 0
 AllowedLents ws area b [] = Unit
 AllowedLents ws area b (t ∷ ts) =

@@ -1,4 +1,4 @@
--- "On a refusal no word and no byte changes", for all fourteen calls. An answer that is no multiple of 256 is a refusal.
+-- "On a refusal no word and no byte changes", for all fifteen calls. An answer that is no multiple of 256 is a refusal.
 -- proofs/Laws.antt has `archive-laws : ArchiveLaws`.
 -- Assumes nothing.
 use mathlib.Core.Path.{_≡_}

@@ -334,6 +334,12 @@ unfolding readCall
 read-reports s area boards output =
     either (λ o. Reports0 o × (o .area ≡ area)) (first storeOrder (readLines s area boards output)) s area output _ (λ x. (refl, refl)) (refl, refl)
 
+edit-reports : (s : Record) (area : List ℕ) (offset : ℕ) (bytes boards : List ℕ)
+    → (editCall s area offset bytes boards .answer .reported ≡ 0) × (editCall s area offset bytes boards .output ≡ [])
+unfolding editCall
+edit-reports s area offset bytes boards =
+    either (λ o. Reports0 o × (o .output ≡ [])) (first storeOrder (editLines s area offset bytes boards)) s area [] _ (λ x. (refl, refl)) (refl, refl)
+
 pub demand-1 : StoreCalls
 demand-1 = record {
   accepted-is = λ v s area output. refl;
@@ -342,6 +348,7 @@ demand-1 = record {
   write-reports = write-reports;
   lose-reports = lose-reports;
   read-reports = read-reports;
+  edit-reports = edit-reports;
   new-is = λ z xs c. refl;
   in-service-is = λ s i. refl;
   written-is = λ s L. refl;

@@ -30,6 +30,7 @@ list-laws = record {
   loses = λ w area board. refl;
   repairs = λ w area fresh helpers standIns. refl;
   reads = λ w area boards output. refl;
+  edits = λ w area offset bytes boards. refl;
   acts = λ w call. refl;
   lefts = λ o. (refl, refl);
   replies-are = λ o. (refl, refl);

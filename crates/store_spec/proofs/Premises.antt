@@ -83,6 +83,11 @@ premises = record {
   all-allowed = λ old z xs c area cs h. all-allowed (begun old z xs c area) (openBook z xs c (length area)) cs h;
   none-allowed = λ w b. tt;
   more-allowed = more-allowed;
+  fair-write = λ file. (λ h. h, λ h. h);
+  fair-lose = λ board. tt;
+  fair-repair = λ fresh helpers standIns. tt;
+  fair-read = λ boards output. tt;
+  fair-edit = λ offset bytes boards. (λ h. h, λ h. h);
   same-calls = same-calls;
   altered-is = altered-is;
 }

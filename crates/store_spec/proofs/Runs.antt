@@ -21,12 +21,13 @@ use Rattle.mbcr.proofs.Points.{Boards, boards-of}
 use Rattle.board_spec.specs.Runs.{equalPoints, ownRuns, finishRuns, readRuns, In}
 use Rattle.board_spec.proofs.Runs.{unequal-append, unequal-concat, own-runs, finish-runs, read-runs, in-left, in-right, in-groups, own-within}
 use Rattle.store_spec.specs.Calls.{repairLines, readLines}
+use Rattle.store_spec.specs.Edit.{editLines}
 use Rattle.store_spec.specs.Packets.{standInsEach}
 use Rattle.store_spec.specs.Record.{Record}
 use Rattle.store_spec.specs.Runs.{runsOf, repairRuns, RepairAre, StoreRuns}
 use Rattle.store_spec.proofs.Named.{named-boards}
 use Rattle.store_spec.proofs.Packets.{run-different}
-use Rattle.store_spec.proofs.Records.{Sound, Repairs, sound-facts, sound-points, repair-facts, read-facts}
+use Rattle.store_spec.proofs.Records.{Sound, Repairs, sound-facts, sound-points, repair-facts, read-facts, edit-facts}
 
 unequal-all : (xs : List ℕ) (rs : List (List (List ℕ))) → All (λ r. equalPoints xs r ≡ false) rs → equalPoints xs (concat rs) ≡ false
 unequal-all xs [] h = refl
@@ -83,13 +84,21 @@ repair-apart : (s : Record) (m : ℕ) (fresh helpers standIns : List ℕ)
     → first storeOrder (repairLines s m fresh helpers standIns) ≡ Pass → equalPoints (s .points) (repairRuns s fresh helpers standIns) ≡ false
 repair-apart s m fresh helpers standIns h = all-runs s m fresh helpers standIns (repair-facts s m fresh helpers standIns h)
 
+-- of k boards that a call decodes from
+decode-apart : (s : Record) (boards : List ℕ) → Sound s → Boards (s .sizes) boards → equalPoints (s .points) (readRuns (s .sizes) boards) ≡ false
+decode-apart s boards g b = read-runs (s .sizes) (s .points) (legal-facts (s .sizes) (g .is-legal)) (sound-points s g) boards b
+
 read-apart : (s : Record) (area boards output : List ℕ)
     → first storeOrder (readLines s area boards output) ≡ Pass → equalPoints (s .points) (readRuns (s .sizes) boards) ≡ false
 read-apart s area boards output h =
     let f = read-facts s area boards output h .0 in
-    let g = sound-facts s (f .is-sound) in
-    read-runs (s .sizes) (s .points) (legal-facts (s .sizes) (g .is-legal)) (sound-points s g) boards
-    (boards-of (s .sizes) boards (f .named-below) (f .all-different))
+    decode-apart s boards (sound-facts s (f .is-sound)) (boards-of (s .sizes) boards (f .named-below) (f .all-different))
+
+edit-apart : (s : Record) (area : List ℕ) (offset : ℕ) (bytes boards : List ℕ)
+    → first storeOrder (editLines s area offset bytes boards) ≡ Pass → equalPoints (s .points) (readRuns (s .sizes) boards) ≡ false
+edit-apart s area offset bytes boards h =
+    let f = edit-facts s area offset bytes boards h .0 in
+    decode-apart s boards (sound-facts s (f .is-sound)) (boards-of (s .sizes) boards (f .named-below) (f .all-different))
 
 -- ---- the interpolations of the definitions
 
@@ -127,4 +136,4 @@ repair-are s fresh helpers standIns a h = record {
     finishing run k = in-places run (length fresh) runs a h (in-right run (concat (map (ownRuns z) (hs ++ ss))) (finishRuns i hs (ss ++ without i fresh)) k)
 
 pub store-runs : StoreRuns
-store-runs = record { repair-are = repair-are; repair-apart = repair-apart; read-apart = read-apart }
+store-runs = record { repair-are = repair-are; repair-apart = repair-apart; read-apart = read-apart; edit-apart = edit-apart }

@@ -138,6 +138,8 @@ pub record StoreCalls : Type 0 where
   pub write-reports : (s : Record) (area file : List ℕ) → writeCall s area file .answer .reported ≡ 0
   pub lose-reports : (s : Record) (area : List ℕ) (board : ℕ) → (loseCall s area board .answer .reported ≡ 0) × (loseCall s area board .area ≡ area)
   pub read-reports : (s : Record) (area boards output : List ℕ) → (readCall s area boards output .answer .reported ≡ 0) × (readCall s area boards output .area ≡ area)
+  pub edit-reports : (s : Record) (area : List ℕ) (offset : ℕ) (bytes boards : List ℕ)
+      → (editCall s area offset bytes boards .answer .reported ≡ 0) × (editCall s area offset bytes boards .output ≡ [])
   -- when a set-up is accepted
   pub set-up-accepted : (old : Record) (z : Sizes) (xs : List ℕ) (c : ℕ)
       → (setUpCall old z xs c .answer .refusal ≡ 0) ↔ ((legal z ≡ true) × (pointed z xs ≡ true) × (1 ≤ c) × (c ≤ maxStripes))

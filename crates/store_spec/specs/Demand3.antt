@@ -1,4 +1,4 @@
--- Demand 3, whole: one claim over any list of writes, losses, repairs and reads. proofs/Demand3.antt has `demand-3 : Demand3Claim`.
+-- Demand 3, whole: one claim over any list of writes, losses, repairs, reads and edits. proofs/Demand3.antt has `demand-3 : Demand3Claim`.
 -- Assumes nothing.
 use Prim.Native.Nat.{ℕ, _+_, _-_, _*_, _≤_, _<_}
 use mathlib.Core.Path.{_≡_}

@@ -6,7 +6,8 @@ use mathlib.Core.List.{List, [], _∷_, _++_}
 use Prim.Native.Nat.{ℕ}
 use Rattle.store_spec.specs.Record.{Record}
 use Rattle.store_spec.specs.Calls.{StoreOutcome, writeCall, loseCall, repairCall, readCall}
-use Rattle.store_spec.specs.Ledger.{Call, write, lose, repair, read, Reply, Book, State, Step, act, replyOf, left, stepOutcome, enter, replies, final, bookReplies, bookFinal}
+use Rattle.store_spec.specs.Edit.{editCall}
+use Rattle.store_spec.specs.Ledger.{Call, write, lose, repair, read, edit, Reply, Book, State, Step, act, replyOf, left, stepOutcome, enter, replies, final, bookReplies, bookFinal}
 use Rattle.store_spec.specs.Demand3.{calls}
 
 pub record ListLaws : Type 0 where
@@ -16,6 +17,8 @@ pub record ListLaws : Type 0 where
   pub repairs : (w : State) (area fresh helpers standIns : List ℕ)
       → stepOutcome w (record { area = area; call = repair fresh helpers standIns }) ≡ repairCall (w .kept) area fresh helpers standIns
   pub reads : (w : State) (area boards output : List ℕ) → stepOutcome w (record { area = area; call = read boards output }) ≡ readCall (w .kept) area boards output
+  pub edits : (w : State) (area : List ℕ) (offset : ℕ) (bytes boards : List ℕ)
+      → stepOutcome w (record { area = area; call = edit offset bytes boards }) ≡ editCall (w .kept) area offset bytes boards
   pub acts : (w : State) (call : Call) → act w call ≡ stepOutcome w (record { area = w .area; call = call })
   -- it leaves the record that it hands on and the area; its reply is its answer and its output
   pub lefts : (o : StoreOutcome) → (left o .kept ≡ o .handed) × (left o .area ≡ o .area)

@@ -12,7 +12,7 @@ use Rattle.lists.specs.Lists.{All, Bytes}
 use Rattle.sizes.specs.declared.Sizes.{Sizes}
 use Rattle.sizes.specs.Sizing.{α}
 use Rattle.store_spec.specs.Record.{Record}
-use Rattle.store_spec.specs.Ledger.{Call, write, lose, repair, read, edit, Book, State, Step, Altered, Allowed, left, act, stepOutcome, enter, openBook}
+use Rattle.store_spec.specs.Ledger.{Call, write, lose, repair, read, edit, Book, State, Step, Altered, Fair, Allowed, left, act, stepOutcome, enter, openBook}
 use Rattle.store_spec.specs.Demand3.{begun, calls}
 
 -- the files that a list of calls writes, and the bytes that it edits
@@ -44,6 +44,12 @@ pub record Premises : Type 0 where
   pub none-allowed : (w : State) (b : Book) → Allowed w b []
   pub more-allowed : (w : State) (b : Book) (t : Step) (ts : List Step) → length (t .area) ≡ length (w .area) → AgreeInService b (w .kept) (w .area) (t .area)
       → All Bytes (files (t .call ∷ [])) → Allowed (left (stepOutcome w t)) (enter b (t .call) .book) ts → Allowed w b (t ∷ ts)
+  -- what is asked of a call itself, and no more: that the file to write is of bytes, and an edit's bytes are
+  pub fair-write : (file : List ℕ) → Fair (write file) ↔ Bytes file
+  pub fair-lose : (board : ℕ) → Fair (lose board)
+  pub fair-repair : (fresh helpers standIns : List ℕ) → Fair (repair fresh helpers standIns)
+  pub fair-read : (boards output : List ℕ) → Fair (read boards output)
+  pub fair-edit : (offset : ℕ) (bytes boards : List ℕ) → Fair (edit offset bytes boards) ↔ Bytes bytes
   -- these steps are of these calls
   pub same-calls : (w : State) (cs : List Call) → calls (unaltered w cs) ≡ cs
   -- altered is an area exactly where it is as long and agrees in each byte of a board in service

@@ -14,6 +14,7 @@ use Rattle.board_spec.specs.Runs.{equalPoints, ownRuns, finishRuns, readRuns, W
 use Rattle.store_spec.specs.Record.{Record}
 use Rattle.store_spec.specs.Packets.{standInsEach}
 use Rattle.store_spec.specs.Calls.{repairLines, readLines}
+use Rattle.store_spec.specs.Edit.{editLines}
 
 -- the boards at whose points a repair interpolates: each helper and each stand-in for its f and g, each fresh board for its own, where its partners are
 -- its stand-ins and the other fresh boards
@@ -39,3 +40,6 @@ pub record StoreRuns : Type 0 where
       → first storeOrder (repairLines s m fresh helpers standIns) ≡ Pass → equalPoints (s .points) (repairRuns s fresh helpers standIns) ≡ false
   pub read-apart : (s : Record) (area boards output : List ℕ)
       → first storeOrder (readLines s area boards output) ≡ Pass → equalPoints (s .points) (readRuns (s .sizes) boards) ≡ false
+  -- an edit decodes from its k boards as a read does
+  pub edit-apart : (s : Record) (area : List ℕ) (offset : ℕ) (bytes boards : List ℕ)
+      → first storeOrder (editLines s area offset bytes boards) ≡ Pass → equalPoints (s .points) (readRuns (s .sizes) boards) ≡ false

@@ -1,4 +1,4 @@
--- The contracts of the archive's fifteen calls are what the definitions say: `zbk` and `zbkSetUp` for the store, `zbkReadText`, `longest`, `emitted` and
+-- The contracts of the archive's sixteen calls are what the definitions say: `zbk` and `zbkSetUp` for the store, `zbkReadText`, `longest`, `emitted` and
 -- `after`, and board level's calls.
 -- A contract is taken as the checker hands it to a caller: `Asked` is its `requires`, `Learnt` its `ensures`. So a call that ensures less, or requires
 -- something, is refused here.

@@ -163,14 +163,19 @@ impl Editing<'_> {
         }
     }
 
-    /// Where the file is edited under an alteration: any place; with none also no bytes at L; and where the boards may disagree, no bytes at all, and a
-    /// stripe that is not the altered one, if there is one, and the altered one.
+    /// Where the file is edited under an alteration: any place; with none also no bytes at L, bytes that end where a stripe ends, and the last four; and
+    /// where the boards may disagree, no bytes at all, and a stripe that is not the altered one, if there is one, and the altered one.
     fn places(&self, random: &mut Random, kind: Altered) -> Vec<(usize, usize)> {
         let Scene { sizes, .. } = *self.scene;
         let length = self.scene.length();
         let mut places = vec![edits::within(random, sizes, length)];
         if kind == Altered::Nothing {
             places.push((length, 0));
+            let end = random.within(1, self.scene.stripes()) * sizes.stripe_len();
+            for end in [end.min(length), length] {
+                let count = end.min(4);
+                places.push((end - count, count));
+            }
         }
         if let Some(stripe) = self.altered_stripe(kind) {
             places.push((random.within(0, length), 0));

@@ -8,7 +8,7 @@ use crate::store::{self, word};
 
 /// What an edit may be, with what it is answered; one may be several. Each must have been met, and those that are not marked `Small` also with five
 /// boards or more and over 100 stripes.
-pub const KINDS: [(&str, u8, Where); 27] = [
+pub const KINDS: [(&str, u8, Where); 31] = [
     ("no bytes", ACCEPTED, Where::Any),
     ("no bytes, at L", ACCEPTED, Where::Any),
     ("no bytes of a file of none", ACCEPTED, Where::Small),
@@ -36,6 +36,10 @@ pub const KINDS: [(&str, u8, Where); 27] = [
     ("a stripe that it leaves", DISAGREE, Where::Any),
     ("a stripe that it reaches", DISAGREE, Where::Any),
     ("the padding alone, which it leaves", DISAGREE, Where::Any),
+    ("up to a stripe's end that is not L", ACCEPTED, Where::Any),
+    ("up to L, the last stripe full", ACCEPTED, Where::Any),
+    ("an offset above 65,535", ACCEPTED, Where::Any),
+    ("one board read", ACCEPTED, Where::Any),
 ];
 
 /// Where a kind is due.
@@ -141,6 +145,10 @@ impl Place {
             (12, !changed),
             (13, changed && marks < sizes.n),
             (14, changed && marks == sizes.k),
+            (27, offset + count < length && (offset + count) % sizes.stripe_len() == 0),
+            (28, offset + count == length && length == stripes * sizes.stripe_len()),
+            (29, changed && offset > 65_535),
+            (30, changed && sizes.k == 1),
         ]
     }
 
@@ -173,10 +181,10 @@ pub fn within(random: &mut Random, sizes: Sizes, length: usize) -> (usize, usize
     let offset = match random.below(8) {
         0 => 0,
         1..=2 => last,
-        // a stripe's end after the first of the bytes, or before the last of them
+        // a stripe's end after the first of the bytes, before the last of them, or behind it
         3..=4 if count > 1 => {
             let end = random.within(0, sizes.stripes(length)) * sizes.stripe_len();
-            end.saturating_sub(random.pick(&[1, count - 1])).min(last)
+            end.saturating_sub(random.pick(&[1, count - 1, count])).min(last)
         }
         _ => random.within(0, last),
     };

@@ -20,7 +20,7 @@ use crate::trial::Trial;
 use std::ops::RangeInclusive;
 
 /// How many cases stand behind those of extreme sizes in each run.
-const FIRST: u64 = 13;
+const FIRST: u64 = 14;
 
 /// After how many cases there is one more.
 const EVERY: u64 = 1000;
@@ -71,6 +71,7 @@ impl Plan {
             9 => Plan::drawn(random, 9..=16, 1001),
             10 => Plan::drawn(random, 17..=32, 101),
             11 => Plan::drawn(random, 2..=4, 101),
+            12 => Plan::one_read(random),
             _ if random.once_in(4) => Plan::full(random, 5..=32),
             _ => Plan::drawn(random, 2..=32, 101),
         }
@@ -81,6 +82,18 @@ impl Plan {
         let sizes = sizes(random, boards, MAX_STRIPES);
         let length = sizes.longest() - random.below(sizes.stripe_len());
         Plan { sizes, capacity: MAX_STRIPES, length, calls: 8 }
+    }
+
+    /// Many boards of which one is read, and a file that fills its last stripe.
+    fn one_read(random: &mut Random) -> Plan {
+        let sizes = loop {
+            let drawn = draw::sizes(random);
+            if drawn.n > 4 && drawn.k == 1 && work(drawn) * MAX_STRIPES <= WORK {
+                break drawn;
+            }
+        };
+        let stripes = random.within(101, MAX_STRIPES);
+        Plan { sizes, capacity: random.within(stripes, MAX_STRIPES), length: stripes * sizes.stripe_len(), calls: 10 }
     }
 
     /// So many stripes or more.
@@ -100,7 +113,7 @@ fn work(sizes: Sizes) -> usize {
 }
 
 /// Sizes with boards of a number in a range, of which so many stripes are no more work than there may be. From five boards on more than one is read,
-/// and more than one can be rebuilt.
+/// and more than one can be rebuilt; `one_read` has the others.
 fn sizes(random: &mut Random, boards: RangeInclusive<usize>, stripes: usize) -> Sizes {
     loop {
         let drawn = draw::sizes(random);
