@@ -34,14 +34,8 @@ pub fn set_up(
         r: r,
     };
     let xs = point_array::points_array(points);
-    let blank = Store {
-        sizes: sizes,
-        points: xs,
-        capacity: capacity,
-        written: false,
-        length: 0,
-        marks: [false; 32],
-    };
+    let kept = record::new_kept(sizes, xs, capacity);
+    let blank = Store { record: kept };
     let handed = blank.set_up(sizes, xs, capacity);
     let answer = handed.answer;
     let word = answer_word::word_of(answer);

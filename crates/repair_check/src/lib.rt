@@ -2,38 +2,27 @@
 ghost use mathlib.Core.Path.{_≡_};
 ghost use Rattle.sizes.specs.Refusals.{first, storeOrder};
 ghost use Rattle.store_spec.specs.Calls.{repairLines};
-ghost use Rattle.store_checks.specs.Steps.{recordOf};
+ghost use Rattle.record.specs.Records.{recordOf};
+use record::Kept;
 use sizes::Check;
-use sizes::Sizes;
 
-// The first refusal of a repair of these fresh boards by these helpers and stand-ins, on a record of these parts and an area of so many bytes.
+// The first refusal of a repair of these fresh boards by these helpers and stand-ins, to an area of so many bytes.
 pub fn check_repair(
-    sizes: Sizes,
-    points: &[u8],
-    capacity: usize,
-    written: bool,
-    len: usize,
-    marks: &[bool],
+    kept: Kept,
     lent: usize,
     fresh: &[usize],
     helpers: &[usize],
     standins: &[usize],
 ) -> Check
-    ensures { λ r. ⌜ r ≡ first storeOrder (repairLines (recordOf sizes (now (points .entry)) capacity written len (now (marks .entry))) lent (now (fresh .entry)) (now (helpers .entry)) (now (standins .entry))) ⌝ }
+    ensures { λ r. ⌜ r ≡ first storeOrder (repairLines (recordOf kept) lent (now (fresh .entry)) (now (helpers .entry)) (now (standins .entry))) ⌝ }
 {
-    if let Check::Refuse(area) = shared_checks::check_area(
-        sizes,
-        points,
-        capacity,
-        written,
-        len,
-        marks,
-        lent,
-    ) {
+    let sizes = kept.sizes;
+    let marks = kept.marks;
+    if let Check::Refuse(area) = shared_checks::check_area(kept, lent) {
         return Check::Refuse(area);
     }
-    if let Check::Refuse(empty) = store_checks::check_written(written) {
+    if let Check::Refuse(empty) = store_checks::check_written(kept.written) {
         return Check::Refuse(empty);
     }
-    list_check::check_lists(sizes, marks, fresh, helpers, standins)
+    list_check::check_lists(sizes, &marks, fresh, helpers, standins)
 }

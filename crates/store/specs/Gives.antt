@@ -21,7 +21,7 @@ use Rattle.store.specs.Demand3.{Given, gave, Meets, Run, ending}
 pub record CodeGives : Type 0 where
   -- the store's record by its fields, and what a call gave by its parts
   pub record-is : (s : Store)
-      → recordIn s ≡ record { sizes = s .sizes; points = s .points; capacity = s .capacity; written = s .written; length = s .length; marks = s .marks }
+      → let k = s .record in recordIn s ≡ record { sizes = k .sizes; points = k .points; capacity = k .capacity; written = k .written; length = k .length; marks = k .marks }
   pub gave-is : (h : Given) → gave h ≡ record { answer = said (h .handed .answer); handed = recordIn (h .handed .store); area = h .area; output = h .output }
   -- calls end where the last of them ended, however many there are
   pub ending-none : (s : Store) (area : List ℕ) → ending s area [] ≡ record { kept = recordIn s; area = area }
@@ -38,6 +38,6 @@ pub record CodeGives : Type 0 where
       → gave h ≡ accepted 0 (recordIn s) lent (over (fileOf (b .file)) output)
   -- an accepted repair, over any record and any area: the bytes moved, and what each fresh board holds in the area that it left
   pub moved : (s : Store) (area fresh helpers standIns : List ℕ) (h : Given) → Meets s area (repair fresh helpers standIns) h → said (h .handed .answer) .refusal ≡ 0
-      → said (h .handed .answer) .reported ≡ stripeCount (recordIn s) * length fresh * (2 * s .sizes .d + s .sizes .r - 1)
+      → said (h .handed .answer) .reported ≡ stripeCount (recordIn s) * length fresh * (2 * s .record .sizes .d + s .record .sizes .r - 1)
   pub has : (s : Store) (area fresh helpers standIns : List ℕ) (h : Given) → Meets s area (repair fresh helpers standIns) h → said (h .handed .answer) .refusal ≡ 0
       → (i : ℕ) → among fresh i ≡ true → held (recordIn s) (h .area) i ≡ freshShare (recordIn s) area fresh helpers standIns i

@@ -5,11 +5,12 @@ use Prim.Native.Nat.{ℕ}
 use Rattle.sizes.specs.Refusals.{said}
 use Rattle.store_spec.specs.Record.{Record}
 use Rattle.store_spec.specs.Calls.{StoreOutcome}
+use Rattle.record.specs.Records.{recordOf}
 use Rattle.store.specs.declared.Store.{Store}
 use Rattle.store.specs.declared.Handed.{Handed}
 
 abbrev pub recordIn : Store → Record
-recordIn s = record { sizes = s .sizes; points = s .points; capacity = s .capacity; written = s .written; length = s .length; marks = s .marks }
+recordIn s = recordOf (s .record)
 
 abbrev pub outcomeIn : Handed → List ℕ → List ℕ → StoreOutcome
 outcomeIn h area output = record { answer = said (h .answer); handed = recordIn (h .store); area = area; output = output }

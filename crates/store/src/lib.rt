@@ -7,19 +7,16 @@ ghost use Rattle.store_spec.specs.Calls.{refused, setUpCall, writeCall, loseCal
 ghost use Rattle.store_spec.specs.Edit.{editCall};
 ghost use Rattle.store_checks.specs.Steps.{Bounded};
 ghost use Rattle.store.specs.Handing.{recordIn, outcomeIn};
+use record::Kept;
 use sizes::Answer;
 use sizes::Check;
 use sizes::Refusal;
 use sizes::Sizes;
 
-// The sizes, a point for each board, the capacity in stripes, whether a file was accepted, its length, and a mark for each board: in service or not.
+// A store is its record: the sizes, a point for each board, the capacity in stripes, whether a file was accepted, its length, and a mark for each
+// board: in service or not.
 pub struct Store {
-    pub sizes: Sizes,
-    pub points: [u8; 32],
-    pub capacity: usize,
-    pub written: bool,
-    pub length: usize,
-    pub marks: [bool; 32],
+    pub record: Kept,
 }
 
 // What a call hands on: the record after it, and its answer.
@@ -52,18 +49,12 @@ impl Store {
     pub fn set_up(self, sizes: Sizes, points: [u8; 32], capacity: usize) -> Handed
         ensures { λ r. ⌜ outcomeIn r [] [] ≡ setUpCall (recordIn self) sizes points capacity ⌝ }
     {
-        if let Check::Refuse(x) = record_checks::check_set_up(sizes, &points, capacity) {
+        if let Check::Refuse(x) = record_checks::check_set_up(sizes, points, capacity) {
             return refuse(self, x);
         }
+        let next = record::new_kept(sizes, points, capacity);
         Handed {
-            store: Store {
-                sizes: sizes,
-                points: points,
-                capacity: capacity,
-                written: false,
-                length: 0,
-                marks: [false; 32],
-            },
+            store: Store { record: next },
             answer: Answer::Done(0),
         }
     }
@@ -72,33 +63,21 @@ impl Store {
     pub fn write(self, area: &mut [u8], file: &[u8]) -> Handed
         ensures { λ r. ⌜ outcomeIn r (now (area .exit)) [] ≡ writeCall (recordIn self) (now (area .entry)) (now (file .entry)) ⌝ }
     {
-        let sizes = self.sizes;
-        let points = self.points;
-        let capacity = self.capacity;
-        let marks = self.marks;
-        if let Check::Refuse(x) = write_check::check_write(
-            sizes,
-            &points,
-            capacity,
-            self.written,
-            self.length,
-            &marks,
-            area.len(),
-            file,
-        ) {
+        let kept = self.record;
+        if let Check::Refuse(x) = write_check::check_write(kept, area.len(), file) {
             return refuse(self, x);
         }
+        let sizes = kept.sizes;
+        let points = kept.points;
         let count = checks::stripe_count(sizes, file.len());
-        store_write::write_shares(sizes, capacity, &points, file, count, area);
+        store_write::write_shares(sizes, kept.capacity, &points, file, count, area);
+        let marks = store_checks::first_on(sizes.n);
+        let mut next = kept;
+        next.written = true;
+        next.length = file.len();
+        next.marks = marks;
         Handed {
-            store: Store {
-                sizes: sizes,
-                points: points,
-                capacity: capacity,
-                written: true,
-                length: file.len(),
-                marks: store_checks::first_on(sizes.n),
-            },
+            store: Store { record: next },
             answer: Answer::Done(0),
         }
     }
@@ -107,24 +86,14 @@ impl Store {
     pub fn lose(self, board: usize) -> Handed
         ensures { λ r. ⌜ ((area : List ℕ) → outcomeIn r area [] ≡ loseCall (recordIn self) area board) ⌝ }
     {
-        let sizes = self.sizes;
-        let points = self.points;
-        let marks = self.marks;
-        if let Check::Refuse(x) = record_checks::check_lose(
-            sizes,
-            &points,
-            self.capacity,
-            self.written,
-            self.length,
-            &marks,
-            board,
-        ) {
+        let kept = self.record;
+        if let Check::Refuse(x) = record_checks::check_lose(kept, board) {
             return refuse(self, x);
         }
-        let mut next = self;
+        let mut next = kept;
         next.marks[board] = false;
         Handed {
-            store: next,
+            store: Store { record: next },
             answer: Answer::Done(0),
         }
     }
@@ -140,19 +109,9 @@ impl Store {
     ) -> Handed
         ensures { λ r. ⌜ outcomeIn r (now (area .exit)) [] ≡ repairCall (recordIn self) (now (area .entry)) (now (fresh .entry)) (now (helpers .entry)) (now (standins .entry)) ⌝ }
     {
-        let sizes = self.sizes;
-        let points = self.points;
-        let capacity = self.capacity;
-        let written = self.written;
-        let length = self.length;
-        let mut marks = self.marks;
+        let kept = self.record;
         if let Check::Refuse(x) = repair_check::check_repair(
-            sizes,
-            &points,
-            capacity,
-            written,
-            length,
-            &marks,
+            kept,
             area.len(),
             fresh,
             helpers,
@@ -160,13 +119,16 @@ impl Store {
         ) {
             return refuse(self, x);
         }
+        let sizes = kept.sizes;
+        let points = kept.points;
+        let mut marks = kept.marks;
         let mut inverses = [0u8; 256];
         inverses::fill_inverses(&mut inverses);
-        let stripes = checks::stripe_count(sizes, length);
+        let stripes = checks::stripe_count(sizes, kept.length);
         let moved = bytes_moved(sizes, fresh.len(), stripes);
         repair_boards::repair_shares(
             sizes,
-            capacity,
+            kept.capacity,
             &points,
             &inverses,
             stripes,
@@ -176,15 +138,10 @@ impl Store {
             area,
         );
         store_checks::marks_on(fresh, &mut marks);
+        let mut next = kept;
+        next.marks = marks;
         Handed {
-            store: Store {
-                sizes: sizes,
-                points: points,
-                capacity: capacity,
-                written: written,
-                length: length,
-                marks: marks,
-            },
+            store: Store { record: next },
             answer: Answer::Done(moved),
         }
     }
@@ -193,32 +150,20 @@ impl Store {
     pub fn read(self, area: &[u8], boards: &[usize], out: &mut [u8]) -> Handed
         ensures { λ r. ⌜ outcomeIn r (now (area .entry)) (now (out .exit)) ≡ readCall (recordIn self) (now (area .entry)) (now (boards .entry)) (now (out .entry)) ⌝ }
     {
-        let sizes = self.sizes;
-        let points = self.points;
-        let capacity = self.capacity;
-        let length = self.length;
-        let marks = self.marks;
-        if let Check::Refuse(x) = read_check::check_read(
-            sizes,
-            &points,
-            capacity,
-            self.written,
-            length,
-            &marks,
-            area.len(),
-            boards,
-            out,
-        ) {
+        let kept = self.record;
+        if let Check::Refuse(x) = read_check::check_read(kept, area.len(), boards, out) {
             return refuse(self, x);
         }
-        let count = checks::stripe_count(sizes, length);
+        let sizes = kept.sizes;
+        let points = kept.points;
+        let count = checks::stripe_count(sizes, kept.length);
         let mut tables = [0u8; 49152];
         store_decode::fill_tables(sizes, &points, boards, &mut tables);
         if let Check::Refuse(disagree) = store_decode::check_agrees(
             sizes,
-            capacity,
+            kept.capacity,
             &points,
-            length,
+            kept.length,
             count,
             boards,
             area,
@@ -228,9 +173,9 @@ impl Store {
         }
         store_decode::file(
             sizes,
-            capacity,
+            kept.capacity,
             &points,
-            length,
+            kept.length,
             count,
             boards,
             area,
@@ -248,18 +193,9 @@ impl Store {
     pub fn edit(self, area: &mut [u8], offset: usize, bytes: &[u8], boards: &[usize]) -> Handed
         ensures { λ r. ⌜ outcomeIn r (now (area .exit)) [] ≡ editCall (recordIn self) (now (area .entry)) offset (now (bytes .entry)) (now (boards .entry)) ⌝ }
     {
-        let sizes = self.sizes;
-        let points = self.points;
-        let capacity = self.capacity;
-        let length = self.length;
-        let marks = self.marks;
+        let kept = self.record;
         if let Check::Refuse(x) = edit_check::check_edit(
-            sizes,
-            &points,
-            capacity,
-            self.written,
-            length,
-            &marks,
+            kept,
             area.len(),
             offset,
             bytes.len(),
@@ -267,14 +203,17 @@ impl Store {
         ) {
             return refuse(self, x);
         }
-        let count = checks::stripe_count(sizes, length);
+        let sizes = kept.sizes;
+        let points = kept.points;
+        let marks = kept.marks;
+        let count = checks::stripe_count(sizes, kept.length);
         let mut tables = [0u8; 49152];
         store_decode::fill_tables(sizes, &points, boards, &mut tables);
         if let Check::Refuse(disagree) = store_decode::check_agrees(
             sizes,
-            capacity,
+            kept.capacity,
             &points,
-            length,
+            kept.length,
             count,
             boards,
             area,
@@ -284,7 +223,7 @@ impl Store {
         }
         store_edit::edit_shares(
             sizes,
-            capacity,
+            kept.capacity,
             &points,
             &marks,
             offset,

@@ -14,15 +14,8 @@ pub fn set_up(load: Load) -> Store
 {
     let sizes = load.sizes;
     let points = checks::standard_points(sizes);
-    let marks = [false; 32];
-    let old = Store {
-        sizes: sizes,
-        points: points,
-        capacity: load.capacity,
-        written: false,
-        length: 0,
-        marks: marks,
-    };
+    let kept = record::new_kept(sizes, points, load.capacity);
+    let old = Store { record: kept };
     let handed = old.set_up(sizes, points, load.capacity);
     handed.store
 }

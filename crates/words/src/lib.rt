@@ -8,6 +8,7 @@ ghost use Rattle.sizes.specs.Refusals.{said};
 ghost use Rattle.store.specs.Handing.{recordIn};
 ghost use Rattle.answer_word.specs.Answers.{wordOf};
 ghost use Rattle.record_words.specs.Words.{bits, fromBits, bytes, isRecord, recordFrom, wordsOf};
+use record::Kept;
 use row_sums::Row;
 use sizes::Sizes;
 use store::Handed;
@@ -54,7 +55,7 @@ pub fn store_of(words: &[u64]) -> Store
     let mut marks = [false; 32];
     word_parts::fill_marks(words[7], &mut marks);
     let points = points_of(words);
-    Store {
+    let kept = Kept {
         sizes: Sizes {
             n: words[0] as usize,
             k: words[1] as usize,
@@ -66,7 +67,8 @@ pub fn store_of(words: &[u64]) -> Store
         written: words[5] == 1,
         length: words[6] as usize,
         marks: marks,
-    }
+    };
+    Store { record: kept }
 }
 
 // The words that tell a store's record.
@@ -74,16 +76,17 @@ pub fn put_words(store: Store, words: &mut [u64])
     requires { ⌜ length (now words) ≡ 12 ⌝ }
     ensures { λ _. ⌜ now (words .exit) ≡ wordsOf (recordIn store) ⌝ }
 {
-    let marks = store.marks;
-    let points = store.points;
+    let kept = store.record;
+    let marks = kept.marks;
+    let points = kept.points;
     word_parts::put_points(&points, words);
-    words[0] = store.sizes.n as u64;
-    words[1] = store.sizes.k as u64;
-    words[2] = store.sizes.d as u64;
-    words[3] = store.sizes.r as u64;
-    words[4] = store.capacity as u64;
-    words[5] = store.written as u64;
-    words[6] = store.length as u64;
+    words[0] = kept.sizes.n as u64;
+    words[1] = kept.sizes.k as u64;
+    words[2] = kept.sizes.d as u64;
+    words[3] = kept.sizes.r as u64;
+    words[4] = kept.capacity as u64;
+    words[5] = kept.written as u64;
+    words[6] = kept.length as u64;
     words[7] = marks_word(&marks);
 }
 

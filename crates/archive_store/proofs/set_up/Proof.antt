@@ -19,7 +19,7 @@ use Rattle.archive_store.proofs.set_up.Tie as tie
 
 -- the places
 abbrev at-array : tie.After-set-up → tie.After-points-array
-at-array c = c .before
+at-array c = c .before .before
 
 abbrev st : tie.After-points-array → tie.Start
 st c = c .before .before .before .before
@@ -60,6 +60,7 @@ set-up-spec =
     tie.close
     (tie.spec
     not-twelve
+    (λ c κs. search needs)
     (λ c κs. search needs)
     (λ c κs. search needs)
     (λ c κs. as-told (c .set-up .result) [] [] _ (c .set-up .ensures) (set-up-few _ _ _ _))

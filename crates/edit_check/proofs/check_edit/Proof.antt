@@ -1,9 +1,10 @@
 -- `edit_check::check_edit` meets its contract: each early return is the first line that holds.
 -- Assumes nothing.
 use Prim.Native.Nat.{_+_}
-use mathlib.Core.Path.{_≡_}
+use mathlib.Core.Path.{_≡_, sym}
 use mathlib.Core.List.{List, [], _∷_}
 use lib.Dec.{ltb}
+use lib.ListN.{length}
 use borrow.Author.Needs.{needs}
 use Rattle.sizes.specs.declared.Refusal.the-variants.{Range}
 use Rattle.sizes.specs.declared.Check.{Check}
@@ -11,7 +12,7 @@ use Rattle.sizes.specs.declared.Check.the-variants.{Refuse}
 use Rattle.sizes.specs.Refusals.{Line, _when_, first, storeOrder}
 use Rattle.store_spec.specs.Record.{Record}
 use Rattle.store_spec.specs.Calls.{emptyLine}
-use Rattle.store_checks.specs.Steps.{recordOf}
+use Rattle.record.specs.Records.{recordOf}
 use Rattle.shared_checks.specs.Steps.{areaLines, boardLines}
 use Rattle.checks.proofs.Chain.{thens, grouped, goes-on, refuses, ends}
 use Rattle.edit_check.specs.Steps.{askedLines}
@@ -19,14 +20,14 @@ use Rattle.edit_check.proofs.check_edit.Statement.{statement}
 use Rattle.edit_check.proofs.check_edit.Tie as tie
 
 abbrev R : tie.Start → Record
-R g = recordOf (g .args .sizes) (g .args .points .now) (g .args .capacity) (g .args .written) (g .args .len) (g .args .marks .now)
+R g = recordOf (g .args .kept)
 
 -- the lines that each check asks, and those after it
 abbrev boards : tie.Start → List (List Line)
-boards g = boardLines (g .args .sizes) (g .args .sizes .k) (g .args .marks .now) (g .args .boards .now) ∷ []
+boards g = boardLines (R g .sizes) (R g .sizes .k) (R g .marks) (g .args .boards .now) ∷ []
 
 abbrev ranges : tie.Start → List (List Line)
-ranges g = (Range when ltb (g .args .len) (g .args .offset + g .args .count) ∷ []) ∷ boards g
+ranges g = (Range when ltb (R g .length) (g .args .offset + g .args .count) ∷ []) ∷ boards g
 
 abbrev empties : tie.Start → List (List Line)
 empties g = (emptyLine (R g) ∷ []) ∷ ranges g
@@ -39,6 +40,10 @@ answer g = first storeOrder (askedLines (R g) (g .args .lent) (g .args .offset) 
 
 whole : (g : tie.Start) → thens (areas g) ≡ answer g
 whole g = grouped (areas g)
+
+-- there are 32 marks
+marks-long : (g : tie.Start) → length (g .args .kept .marks) ≡ 32
+marks-long g = search needs
 
 -- 1 SIZE, 2 AREA
 abbrev st-area : tie.After-check-area → tie.Start
@@ -75,7 +80,7 @@ no-range c = let k = c .before .before in refuses _ (on-range k) (k .check-range
 
 -- 4 COUNT, 5 NODE, 6 REPEAT, 9 DOWN
 abbrev at-range : tie.After-check-boards → tie.After-check-range
-at-range c = c .before .before .before
+at-range c = c .before .before .before .before
 
 abbrev st-boards : tie.After-check-boards → tie.Start
 st-boards c = st-range (at-range c)
@@ -99,5 +104,6 @@ check-edit-spec =
     (λ c. search needs)
     (λ c. no-range (c .before))
     (λ c. search needs)
+    (λ c. sym (marks-long (st-range (c .before .before .before))))
     (λ c κs. search needs)
     (λ c. ends (on-boards c) (c .check-boards .ensures)))

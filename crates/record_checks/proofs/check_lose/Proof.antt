@@ -10,16 +10,16 @@ use Rattle.board_spec.specs.Calls.{nodeLine}
 use Rattle.store_spec.specs.Record.{Record}
 use Rattle.store_spec.specs.Calls.{recordLine, loseLines}
 use Rattle.checks.proofs.Chain.{thens, grouped, goes-on, refuses, ends}
-use Rattle.store_checks.specs.Steps.{recordOf}
+use Rattle.record.specs.Records.{recordOf}
 use Rattle.record_checks.proofs.check_lose.Statement.{statement}
 use Rattle.record_checks.proofs.check_lose.Tie as tie
 
 abbrev R : tie.Start → Record
-R g = recordOf (g .args .sizes) (g .args .points .now) (g .args .capacity) (g .args .written) (g .args .len) (g .args .marks .now)
+R g = recordOf (g .args .kept)
 
 -- the lines that each check asks, and those after it
 abbrev nodes : tie.Start → List (List Line)
-nodes g = (nodeLine (g .args .sizes) (g .args .board ∷ []) ∷ []) ∷ []
+nodes g = (nodeLine (R g .sizes) (g .args .board ∷ []) ∷ []) ∷ []
 
 abbrev records : tie.Start → List (List Line)
 records g = (recordLine (R g) ∷ []) ∷ nodes g
@@ -33,17 +33,17 @@ whole g = grouped (records g)
 
 -- 1 SIZE
 abbrev st-record : tie.After-check-record → tie.Start
-st-record c = c .before .before .before
+st-record c = c .before
 
 no-size : (c : tie.After-size) → Refuse (c .size .given .0 .0) ≡ answer (st-record (c .before .before))
 no-size c = let k = c .before .before in refuses _ (whole (st-record k)) (k .check-record .ensures) (c .size .given .1)
 
 -- 5 NODE
 abbrev at-record : tie.After-check-node → tie.After-check-record
-at-record c = c .before .before .before
+at-record c = c .before .before .before .before
 
 on-node : (c : tie.After-check-node) → thens (nodes (st-record (at-record c))) ≡ answer (st-record (at-record c))
-on-node c = goes-on (whole (st-record (at-record c))) (at-record c .check-record .ensures) (c .before .enum-told .given .1)
+on-node c = goes-on (whole (st-record (at-record c))) (at-record c .check-record .ensures) (c .before .before .enum-told .given .1)
 
 pub check-lose-spec : {M : Type 1} → statement M
 check-lose-spec =

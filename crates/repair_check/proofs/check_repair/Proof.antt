@@ -3,6 +3,7 @@
 use mathlib.Core.Path.{_≡_, refl, sym, _∙_}
 use mathlib.Core.Bool.{true}
 use mathlib.Core.List.{List, [], _∷_}
+use lib.ListN.{length}
 use borrow.Author.Needs.{needs}
 use Rattle.sizes.specs.declared.Check.{Check}
 use Rattle.sizes.specs.declared.Check.the-variants.{Refuse}
@@ -13,7 +14,7 @@ use Rattle.store_spec.proofs.Records.{sound-facts}
 use Rattle.store_spec.specs.Calls.{emptyLine, listLines, repairLines}
 use Rattle.checks.proofs.Chain.{thens, grouped, goes-on, refuses, ends}
 use Rattle.checks.proofs.Given.{chain}
-use Rattle.store_checks.specs.Steps.{recordOf}
+use Rattle.record.specs.Records.{recordOf}
 use Rattle.shared_checks.specs.Steps.{areaLines}
 use Rattle.shared_checks.proofs.Facts.{area-facts}
 use Rattle.list_tests.specs.Steps.{named}
@@ -21,7 +22,7 @@ use Rattle.repair_check.proofs.check_repair.Statement.{statement}
 use Rattle.repair_check.proofs.check_repair.Tie as tie
 
 abbrev R : tie.Start → Record
-R g = recordOf (g .args .sizes) (g .args .points .now) (g .args .capacity) (g .args .written) (g .args .len) (g .args .marks .now)
+R g = recordOf (g .args .kept)
 
 -- the lines that each check asks, and those after it
 abbrev lists : tie.Start → List (List Line)
@@ -42,10 +43,14 @@ whole g = grouped (areas g)
 
 -- the lists' lines ask only sizes and marks
 lists-are : (g : tie.Start)
-    → first storeOrder (listLines (named (g .args .sizes) (g .args .marks .now)) (g .args .fresh .now) (g .args .helpers .now) (g .args .standins .now))
+    → first storeOrder (listLines (named (R g .sizes) (R g .marks)) (g .args .fresh .now) (g .args .helpers .now) (g .args .standins .now))
     ≡ chain (listLines (R g) (g .args .fresh .now) (g .args .helpers .now) (g .args .standins .now))
 unfolding listLines
 lists-are g = refl
+
+-- there are 32 marks
+marks-long : (g : tie.Start) → length (g .args .kept .marks) ≡ 32
+marks-long g = search needs
 
 -- 1 SIZE, 2 AREA
 abbrev st-area : tie.After-check-area → tie.Start
@@ -55,7 +60,7 @@ no-area : (c : tie.After-area) → Refuse (c .area .given .0 .0) ≡ answer (st-
 no-area c = let k = c .before .before in refuses _ (whole (st-area k)) (k .check-area .ensures) (c .area .given .1)
 
 -- what is known of the record past it
-legal-on : (c : tie.After-enum-told) → legal (st-area (c .before .before) .args .sizes) ≡ true
+legal-on : (c : tie.After-enum-told) → legal (R (st-area (c .before .before)) .sizes) ≡ true
 legal-on c =
     let k = c .before .before in
     sound-facts _ (area-facts _ _ (sym (k .check-area .ensures) ∙ c .enum-told .given .1) .is-sound) .is-legal
@@ -75,7 +80,7 @@ no-empty c = let k = c .before .before in refuses _ (on-empty k) (k .check-writt
 
 -- the lists
 abbrev at-empty : tie.After-check-lists → tie.After-check-written
-at-empty c = c .before .before .before
+at-empty c = c .before .before .before .before
 
 abbrev st-lists : tie.After-check-lists → tie.Start
 st-lists c = st-empty (at-empty c)
@@ -95,5 +100,6 @@ check-repair-spec =
     (λ c. search needs)
     (λ c. no-empty (c .before))
     (λ c. search needs)
-    (λ c κs. legal-on (c .before .before .before))
+    (λ c. sym (marks-long (st-empty (c .before .before .before))))
+    (λ c κs. legal-on (c .before .before .before .before))
     (λ c. ends (on-lists c) (c .check-lists .ensures ∙ lists-are (st-lists c))))

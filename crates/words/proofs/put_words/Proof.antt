@@ -15,7 +15,7 @@ abbrev at-points : tie.After-marks-word → tie.After-put-points
 at-points c = c .before .before .before .before .before
 
 abbrev st : tie.After-put-points → tie.Start
-st c = c .before .before .before .before .before .before
+st c = c .before .before .before .before .before .before .before
 
 all-marks : tie.Need-slice-aggregate-marks-word
 all-marks c = search needs
@@ -39,4 +39,4 @@ put-words-spec =
     (λ c. simp length-set (omega arith))
     (λ c. simp length-set (omega arith))
     (λ c. let p = at-points c in let g = st p in
-    words-put (recordIn (g .args .store)) (g .args .words .now) _ _ _ (g .pre) (p .put-points .ensures) (flag-word (g .args .store .written)) (c .marks-word .ensures)))
+    words-put (recordIn (g .args .store)) (g .args .words .now) _ _ _ (g .pre) (p .put-points .ensures) (flag-word (g .args .store .record .written)) (c .marks-word .ensures)))

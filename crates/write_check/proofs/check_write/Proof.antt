@@ -14,7 +14,7 @@ use Rattle.sizes.specs.Refusals.{Line, _when_, first, storeOrder}
 use Rattle.store_spec.specs.Record.{Record}
 use Rattle.store_spec.specs.Calls.{writeLines}
 use Rattle.store_spec.proofs.Records.{Sound, sound-facts}
-use Rattle.store_checks.specs.Steps.{recordOf}
+use Rattle.record.specs.Records.{recordOf}
 use Rattle.shared_checks.specs.Steps.{areaLines}
 use Rattle.checks.proofs.Chain.{thens, grouped, goes-on, refuses, ends}
 use Rattle.shared_checks.proofs.Facts.{area-facts}
@@ -22,11 +22,11 @@ use Rattle.write_check.proofs.check_write.Statement.{statement}
 use Rattle.write_check.proofs.check_write.Tie as tie
 
 abbrev R : tie.Start → Record
-R g = recordOf (g .args .sizes) (g .args .points .now) (g .args .capacity) (g .args .written) (g .args .len) (g .args .marks .now)
+R g = recordOf (g .args .kept)
 
 -- the lines that each check asks, and those after it
 abbrev longs : tie.Start → List (List Line)
-longs g = (Long when ltb (g .args .capacity * B (g .args .sizes)) (length (g .args .file .now)) ∷ []) ∷ []
+longs g = (Long when ltb (R g .capacity * B (R g .sizes)) (length (g .args .file .now)) ∷ []) ∷ []
 
 abbrev areas : tie.Start → List (List Line)
 areas g = areaLines (R g) (g .args .lent) ∷ longs g
@@ -40,17 +40,17 @@ whole g = grouped (areas g)
 
 -- 1 SIZE, 2 AREA
 abbrev st-area : tie.After-check-area → tie.Start
-st-area c = c .before .before .before .before
+st-area c = c .before .before
 
-no-area : (c : tie.After-lent) → Refuse (c .lent .given .0 .0) ≡ answer (st-area (c .before .before))
-no-area c = let k = c .before .before in refuses _ (whole (st-area k)) (k .check-area .ensures) (c .lent .given .1)
+no-area : (c : tie.After-area) → Refuse (c .area .given .0 .0) ≡ answer (st-area (c .before .before))
+no-area c = let k = c .before .before in refuses _ (whole (st-area k)) (k .check-area .ensures) (c .area .given .1)
 
 sound-on : (c : tie.After-enum-told) → Sound (R (st-area (c .before .before)))
 sound-on c = sound-facts _ (area-facts _ _ (sym (c .before .before .check-area .ensures) ∙ c .enum-told .given .1) .is-sound)
 
 -- 3 LONG
 abbrev at-area : tie.After-check-fits → tie.After-check-area
-at-area c = c .before .before .before
+at-area c = c .before .before .before .before
 
 on-long : (c : tie.After-check-fits) → thens (longs (st-area (at-area c))) ≡ answer (st-area (at-area c))
 on-long c = goes-on (whole (st-area (at-area c))) (at-area c .check-area .ensures) (cc)
@@ -63,5 +63,5 @@ check-write-spec =
     (λ c. search needs)
     (λ c. no-area (c .before))
     (λ c. search needs)
-    (λ c κs. record { is-legal = sound-on c .is-legal; few = sound-on c .cap-high })
+    (λ c κs. let f = sound-on (c .before) in record { is-legal = f .is-legal; few = f .cap-high })
     (λ c. ends (on-long c) (c .check-fits .ensures)))

@@ -14,7 +14,7 @@ use Rattle.store.proofs.Store.lose.Tie as tie
 
 -- the places
 abbrev st : tie.After-check-lose → tie.Start
-st c = c .before .before .before .before .before .before
+st c = c .before .before
 
 abbrev R : tie.After-check-lose → Record
 R c = recordIn (st c .args .self)
@@ -31,8 +31,6 @@ pub lose-spec : {M : Type 1} → statement M
 lose-spec =
     tie.close
     (tie.spec
-    (λ c. search needs)
-    (λ c. search needs)
     (λ c κs. search needs)
     (λ c. search needs)
     (λ c κs. search needs)

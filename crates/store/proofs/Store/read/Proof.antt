@@ -14,20 +14,27 @@ use Rattle.store.proofs.Store.read.Statement.{statement}
 use Rattle.store.proofs.Store.read.Tie as tie
 
 -- the places
-abbrev at-points : tie.After-check-read → tie.After-points2
-at-points c = c .before .before .before
-
 abbrev st : tie.After-check-read → tie.Start
-st c = at-points c .before .before .before .before .before .before .before
+st c = c .before .before .before .before .before .before
 
 abbrev at-check : tie.After-enum-told → tie.After-check-read
 at-check c = c .before .before
 
-abbrev at-told : tie.After-points4 → tie.After-enum-told
-at-told c = c .before .before .before .before .before .before
+abbrev at-told : tie.After-stripe-count → tie.After-enum-told
+at-told c = c .before .before .before
+
+abbrev at-count : tie.After-fill-tables → tie.After-stripe-count
+at-count c = c .before .before .before
+
+abbrev at-filled : tie.After-check-agrees → tie.After-fill-tables
+at-filled c = c .before .before .before .before
 
 abbrev at-agrees : tie.After-enum-told2 → tie.After-check-agrees
 at-agrees c = c .before .before
+
+-- from where DISAGREE was asked to where the first check had passed
+abbrev told : tie.After-check-agrees → tie.After-enum-told
+told c = at-told (at-count (at-filled c))
 
 abbrev R : tie.After-check-read → Record
 R c = recordIn (st c .args .self)
@@ -41,45 +48,49 @@ asks c = let k = at-check c in read-asks (R k) (st k .args .area .now) (st k .ar
 
 -- and both
 passed : (c : tie.After-enum-told2)
-    → let k = at-check (at-told (at-agrees c .before .before)) in checked (R k) (st k .args .area .now) (st k .args .boards .now) (st k .args .out .now) ≡ Pass
+    → let k = at-check (told (at-agrees c)) in checked (R k) (st k .args .area .now) (st k .args .boards .now) (st k .args .out .now) ≡ Pass
 passed c =
-    let t = at-told (at-agrees c .before .before) in
+    let t = told (at-agrees c) in
     let k = at-check t in
     let a = st k .args in
     read-passes (R k) (a .area .now) (a .boards .now) (a .out .now) (k .check-read .ensures) (t .enum-told .given .1) (at-agrees c .check-agrees .ensures) (c .enum-told2 .given .1)
 
 -- there are 32 points
-points-long : tie.Need-slice-aggregate-check-read
-points-long c = search needs
+points-long : (g : tie.Start) → length (g .args .self .record .points) ≡ 32
+points-long g = search needs
+
+points-on : (c : tie.After-enum-told) → 32 ≡ length (R (at-check c) .points)
+points-on c = sym (points-long (st (at-check c)))
 
 -- DISAGREE
 agrees-asks : tie.Need-check-agrees-requires
 agrees-asks c κs =
-    let t = at-told (c .before) in
-    let f = asks t in
+    let w = c .before .before .before in
+    let n = at-count w in
+    let f = asks (at-told n) in
     let r = f .is-ready in
-    let e = c .before .before .before .before .before .before .stripe-count .ensures .0 in
-    (f .is-asked, e, r .cap-high, rw e (r .few-stripes), f .area-is, c .before .before .before .fill-tables .ensures)
+    let e = n .stripe-count .ensures .0 in
+    (f .is-asked, e, r .cap-high, rw e (r .few-stripes), f .area-is, w .fill-tables .ensures)
 
 -- the work
 file-asks : tie.Need-file-requires
 file-asks c κs =
     let q = c .before .before .before in
-    let n = at-agrees q .before in
-    let t = at-told (n .before) in
-    let k = at-check t in
-    let a = st k .args in
+    let w = at-filled (at-agrees q) in
+    let n = at-count w in
+    let t = at-told n in
+    let a = st (at-check t) .args in
     let f = asks t in
     let r = f .is-ready in
-    let e = n .before .before .before .before .before .before .stripe-count .ensures .0 in
-    let room = read-facts (R k) (a .area .now) (a .boards .now) (a .out .now) (passed q) .0 .room in
-    (f .is-asked, e, r .cap-high, rw e (r .few-stripes), f .area-is, n .before .before .before .fill-tables .ensures, room)
+    let e = n .stripe-count .ensures .0 in
+    let room = read-facts (R (at-check t)) (a .area .now) (a .boards .now) (a .out .now) (passed q) .0 .room in
+    (f .is-asked, e, r .cap-high, rw e (r .few-stripes), f .area-is, w .fill-tables .ensures, room)
 
 read-done : tie.Need-returns-3
 read-done c =
     let w = c .before .before in
     let q = w .before .before .before .before in
-    let k = at-check (at-told (at-agrees q .before .before)) in
+    let k = at-check (told (at-agrees q)) in
     read-works (R k) (st k .args .area .now) (st k .args .boards .now) (st k .args .out .now) _ (passed q) (w .file .ensures)
 
 read-refused : (c : tie.After-x)
@@ -91,11 +102,11 @@ read-refused c =
     read-refuses (R k) (a .area .now) (a .boards .now) (a .out .now) (k .check-read .ensures) (c .x .given .1)
 
 read-disagreed : (c : tie.After-disagree)
-    → let k = at-check (at-told (c .before .before .before .before)) in let a = st k .args in
+    → let k = at-check (told (c .before .before)) in let a = st k .args in
     refused (R k) (a .area .now) (a .out .now) (c .disagree .given .0 .0) ≡ readCall (R k) (a .area .now) (a .boards .now) (a .out .now)
 read-disagreed c =
     let n = c .before .before in
-    let t = at-told (n .before .before) in
+    let t = told n in
     let k = at-check t in
     let a = st k .args in
     read-disagrees (R k) (a .area .now) (a .boards .now) (a .out .now) (k .check-read .ensures) (t .enum-told .given .1) (n .check-agrees .ensures) (c .disagree .given .1)
@@ -104,19 +115,17 @@ pub read-spec : {M : Type 1} → statement M
 read-spec =
     tie.close
     (tie.spec
-    points-long
-    (λ c. search needs)
     (λ c κs. search needs)
     (λ c. search needs)
     (λ c κs. search needs)
     (λ c. search needs)
     (λ c. c .refuse .ensures _ _ ∙ read-refused (c .before .before))
     (λ c. search needs)
-    (λ c κs. asks c .is-ready .stated)
-    (λ c. points-long (at-points (at-check (c .before .before))))
+    (λ c κs. asks (c .before .before) .is-ready .stated)
+    (λ c. points-on (at-told (c .before)))
     (λ c. search needs)
-    (λ c κs. let f = asks (c .before .before .before) in (f .is-asked, f .is-ready .points-taken .long, search needs))
-    (λ c. points-long (at-points (at-check (at-told c))))
+    (λ c κs. let f = asks (at-told (c .before .before)) in (f .is-asked, f .is-ready .points-taken .long, search needs))
+    (λ c. points-on (at-told (at-count (c .before .before))))
     (λ c. search needs)
     agrees-asks
     (λ c. search needs)
@@ -124,7 +133,7 @@ read-spec =
     (λ c. search needs)
     (λ c. c .refuse2 .ensures _ _ ∙ read-disagreed (c .before .before))
     (λ c. search needs)
-    (λ c. points-long (at-points (at-check (at-told (at-agrees (c .before) .before .before)))))
+    (λ c. points-on (told (at-agrees (c .before))))
     (λ c. search needs)
     file-asks
     (λ c. search needs)

@@ -19,18 +19,21 @@ use Rattle.store.proofs.Store.repair.Tie as tie
 
 -- the places
 abbrev st : tie.After-check-repair → tie.Start
-st c = c .before .before .before .before .before .before .before .before .before .before
+st c = c .before .before .before .before .before .before
 
 abbrev R : tie.After-check-repair → Record
 R c = recordIn (st c .args .self)
 
+abbrev at-points : tie.After-inverses → tie.After-enum-told
+at-points c = c .before .before .before .before
+
 abbrev at-told : tie.After-stripe-count → tie.After-enum-told
-at-told c = c .before .before .before .before
+at-told c = at-points (c .before .before .before)
 
 abbrev at-count : tie.After-repair-shares-arg → tie.After-stripe-count
 at-count c = c .before .before .before .before
 
-abbrev at-shares : tie.After-marks3 → tie.After-repair-shares
+abbrev at-shares : tie.After-marks2 → tie.After-repair-shares
 at-shares c = c .before .before .before
 
 -- what the check told
@@ -72,18 +75,18 @@ shares-ask c κs =
     )
 
 -- there are 32 points, and 32 marks
-points-long : tie.Need-slice-aggregate-check-repair
-points-long c = search needs
+points-long : (g : tie.Start) → length (g .args .self .record .points) ≡ 32
+points-long g = search needs
 
-marks-long : tie.Need-slice-aggregate-check-repair-2
-marks-long c = search needs
+marks-long : (g : tie.Start) → length (g .args .self .record .marks) ≡ 32
+marks-long g = search needs
 
 marks-ask : tie.Need-marks-on-requires
 marks-ask c κs =
     let t = at-told (at-count (at-shares c .before)) in
     let k = t .before .before in
     let f = asks t in
-    below-more (R k .sizes .n) (length (R k .marks)) (st k .args .fresh .now) (omega (arith, marks-long (k .before), legal-facts _ (f .is-ready .stated .is-legal) .few)) (f .fresh-known)
+    below-more (R k .sizes .n) (length (R k .marks)) (st k .args .fresh .now) (omega (arith, marks-long (st k), legal-facts _ (f .is-ready .stated .is-legal) .few)) (f .fresh-known)
 
 repair-done : tie.Need-returns-2
 repair-done c =
@@ -106,8 +109,6 @@ pub repair-spec : {M : Type 1} → statement M
 repair-spec =
     tie.close
     (tie.spec
-    points-long
-    marks-long
     (λ c κs. search needs)
     (λ c. search needs)
     (λ c κs. search needs)
@@ -115,12 +116,12 @@ repair-spec =
     (λ c. search needs)
     (λ c. search needs)
     (λ c κs. search needs)
-    (λ c κs. asks (c .before .before .before) .is-ready .stated)
+    (λ c κs. asks (at-points (c .before .before)) .is-ready .stated)
     (λ c κs. let f = asks (at-told c) in (record { is-legal = f .is-ready .stated .is-legal; few = c .stripe-count .ensures .1 }, f .few-fresh))
-    (λ c. points-long (at-told (c .before .before) .before .before .before .before))
+    (λ c. sym (points-long (st (at-told (c .before .before) .before .before))))
     (λ c. search needs)
     shares-ask
-    (λ c. marks-long (at-told (at-count (at-shares c .before)) .before .before .before))
+    (λ c. sym (marks-long (st (at-told (at-count (at-shares c .before)) .before .before))))
     marks-ask
     (λ c. search needs)
     repair-done)

@@ -20,7 +20,13 @@ use Rattle.store.proofs.Store.write.Tie as tie
 
 -- the places
 abbrev st : tie.After-check-write → tie.Start
-st c = c .before .before .before .before .before .before .before .before
+st c = c .before .before .before .before
+
+abbrev at-told : tie.After-stripe-count → tie.After-enum-told
+at-told c = c .before .before .before
+
+abbrev at-count : tie.After-write-shares-arg → tie.After-stripe-count
+at-count c = c .before .before
 
 abbrev R : tie.After-check-write → Record
 R c = recordIn (st c .args .self)
@@ -42,24 +48,26 @@ at-most c =
     let p : s .capacity * B (s .sizes) ≤ 4096 * B (s .sizes) = mul-le-mul-right (B (s .sizes)) (sound-on c .cap-high) in
     omega (arith, facts c .file-fits, p)
 
--- the work
-all-points : tie.Need-slice-aggregate-write-shares
-all-points c = search needs
+-- there are 32 points
+points-long : (g : tie.Start) → length (g .args .self .record .points) ≡ 32
+points-long g = search needs
 
+-- the work
 shares-ask : tie.Need-write-shares-requires
 shares-ask c κs =
-    let n = c .before .before in
-    let t = n .before in
-    let s = R (t .before .before) in
+    let n = at-count c in
+    let t = at-told n in
+    let k = t .before .before in
+    let s = R k in
     let f = sound-on t in
     let g = legal-facts _ (f .is-legal) in
     let e = n .stripe-count .ensures .0 in
-    (f .is-legal, f .cap-high, sym (all-points (c .before)), e, rw e (stripes-least (s .sizes) g _ (s .capacity) (facts t .file-fits)), facts t .area-is)
+    (f .is-legal, f .cap-high, points-long (st k), e, rw e (stripes-least (s .sizes) g _ (s .capacity) (facts t .file-fits)), facts t .area-is)
 
 write-done : tie.Need-returns-2
 write-done c =
     let w = c .before .before .before in
-    let t = w .before .before .before .before in
+    let t = at-told (at-count (w .before)) in
     let k = t .before .before in
     write-works (R k) (st k .args .area .now) (st k .args .file .now) _ _ (passed t) (c .first-on .ensures) (w .write-shares .ensures)
 
@@ -73,15 +81,13 @@ pub write-spec : {M : Type 1} → statement M
 write-spec =
     tie.close
     (tie.spec
-    (λ c. search needs)
-    (λ c. search needs)
     (λ c κs. search needs)
     (λ c. search needs)
     (λ c κs. search needs)
     (λ c. c .refuse .ensures _ [] ∙ write-refused (c .before .before))
     (λ c. search needs)
-    (λ c κs. record { is-legal = sound-on c .is-legal; not-long = at-most c })
-    all-points
+    (λ c κs. let t = c .before .before in record { is-legal = sound-on t .is-legal; not-long = at-most t })
+    (λ c. sym (points-long (st (at-told (c .before) .before .before))))
     shares-ask
     (λ c κs. search needs)
     (λ c. search needs)
