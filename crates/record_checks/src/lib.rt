@@ -4,9 +4,11 @@ ghost use mathlib.Core.Path.{_≡_};
 ghost use mathlib.Core.List.{[], _∷_};
 ghost use Rattle.sizes.specs.Refusals.{first, storeOrder};
 ghost use Rattle.store_spec.specs.Record.{newRecord};
-ghost use Rattle.store_spec.specs.Calls.{recordLine, loseLines};
-ghost use Rattle.record.specs.Records.{recordOf};
+ghost use Rattle.store_spec.specs.Calls.{recordLine};
+ghost use Rattle.store_spec.specs.Both.{loseLinesBoth};
+ghost use Rattle.record.specs.Records.{recordOf, runningIn};
 use record::Kept;
+use record::Running;
 use sizes::Check;
 use sizes::Sizes;
 
@@ -19,10 +21,10 @@ pub fn check_set_up(sizes: Sizes, points: [u8; 32], capacity: usize) -> Check
 }
 
 // The first refusal of losing this board.
-pub fn check_lose(kept: Kept, board: usize) -> Check
-    ensures { λ r. ⌜ r ≡ first storeOrder (loseLines (recordOf kept) board) ⌝ }
+pub fn check_lose(kept: Kept, running: Running, board: usize) -> Check
+    ensures { λ r. ⌜ r ≡ first storeOrder (loseLinesBoth (recordOf kept) (runningIn running) board) ⌝ }
 {
-    if let Check::Refuse(size) = store_checks::check_record(kept) {
+    if let Check::Refuse(size) = running::check_both(kept, running) {
         return Check::Refuse(size);
     }
     let sizes = kept.sizes;

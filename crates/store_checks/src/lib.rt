@@ -8,7 +8,7 @@ ghost use lib.Dec.{ltb};
 ghost use lib.ListN.{length, getD, drop};
 ghost use Rattle.lists.specs.Lists.{tabulate};
 ghost use Rattle.lists.specs.Tests.{every, below};
-ghost use Rattle.sizes.specs.declared.Refusal.the-variants.{Long, Empty, Down};
+ghost use Rattle.sizes.specs.declared.Refusal.the-variants.{Long, Empty, Busy, Idle, Down};
 ghost use Rattle.sizes.specs.Sizing.{legal, B};
 ghost use Rattle.sizes.specs.Refusals.{_when_};
 ghost use Rattle.board_spec.specs.Calls.{nodeLine};
@@ -112,6 +112,26 @@ pub fn check_written(written: bool) -> Check
 {
     if !written {
         return Check::Refuse(Refusal::Empty);
+    }
+    Check::Pass
+}
+
+// 16 BUSY.
+pub fn check_busy(running: bool) -> Check
+    ensures { λ r. ⌜ r ≡ asked (Busy when running) ⌝ }
+{
+    if running {
+        return Check::Refuse(Refusal::Busy);
+    }
+    Check::Pass
+}
+
+// 17 IDLE.
+pub fn check_idle(running: bool) -> Check
+    ensures { λ r. ⌜ r ≡ asked (Idle when not running) ⌝ }
+{
+    if !running {
+        return Check::Refuse(Refusal::Idle);
     }
     Check::Pass
 }

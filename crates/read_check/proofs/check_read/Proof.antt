@@ -10,7 +10,8 @@ use Rattle.sizes.specs.Refusals.{Line, first, storeOrder}
 use Rattle.board_spec.specs.Calls.{shortLine}
 use Rattle.store_spec.specs.Record.{Record}
 use Rattle.store_spec.specs.Calls.{emptyLine}
-use Rattle.record.specs.Records.{recordOf}
+use Rattle.store_spec.specs.Running.{Running}
+use Rattle.record.specs.Records.{recordOf, runningIn}
 use Rattle.shared_checks.specs.Steps.{areaLines, boardLines}
 use Rattle.checks.proofs.Chain.{thens, grouped, goes-on, refuses, ends}
 use Rattle.read_check.specs.Steps.{askedLines}
@@ -19,6 +20,9 @@ use Rattle.read_check.proofs.check_read.Tie as tie
 
 abbrev R : tie.Start → Record
 R g = recordOf (g .args .kept)
+
+abbrev P : tie.Start → Running
+P g = runningIn (g .args .running)
 
 -- the lines that each check asks, and those after it
 abbrev shorts : tie.Start → List (List Line)
@@ -31,10 +35,10 @@ abbrev empties : tie.Start → List (List Line)
 empties g = (emptyLine (R g) ∷ []) ∷ boards g
 
 abbrev areas : tie.Start → List (List Line)
-areas g = areaLines (R g) (g .args .lent) ∷ empties g
+areas g = areaLines (R g) (P g) (g .args .lent) ∷ empties g
 
 abbrev answer : tie.Start → Check
-answer g = first storeOrder (askedLines (R g) (g .args .lent) (g .args .boards .now) (g .args .out .now))
+answer g = first storeOrder (askedLines (R g) (P g) (g .args .lent) (g .args .boards .now) (g .args .out .now))
 
 whole : (g : tie.Start) → thens (areas g) ≡ answer g
 whole g = grouped (areas g)

@@ -1,7 +1,7 @@
 -- `store::Store::write` meets its contract: it hands on what its check refuses, and past it the shares are written.
 -- Assumes nothing.
-use Prim.Native.Nat.{ℕ, _*_, _≤_}
-use mathlib.Core.Path.{_≡_, refl, sym, ap, _∙_}
+use Prim.Native.Nat.{_*_, _≤_}
+use mathlib.Core.Path.{_≡_, sym, ap, _∙_}
 use native.Mathlib.Nat.{mul-le-mul-right}
 use native.Mathlib.Omega.{arith}
 use mathlib.Core.List.{[]}
@@ -11,10 +11,12 @@ use Rattle.sizes.specs.declared.Check.the-variants.{Pass}
 use Rattle.sizes.specs.Sizing.{B}
 use Rattle.sizes.proofs.Legal.{legal-facts, stripes-least}
 use Rattle.store_spec.specs.Record.{Record}
-use Rattle.store_spec.specs.Calls.{refused, writeCall}
+use Rattle.store_spec.specs.Running.{Running}
+use Rattle.store_spec.specs.Both.{writeBoth}
 use Rattle.store_spec.proofs.Records.{Sound, sound-facts, Writes, write-facts}
-use Rattle.store.specs.Handing.{recordIn}
-use Rattle.store.proofs.Settled.{checked, write-refuses, write-works}
+use Rattle.record.specs.Records.{runningIn}
+use Rattle.store.specs.Handing.{recordIn, turnedDown}
+use Rattle.store.proofs.Settled.{checked, write-refuses, write-alone, write-works}
 use Rattle.store.proofs.Store.write.Statement.{statement}
 use Rattle.store.proofs.Store.write.Tie as tie
 
@@ -31,12 +33,18 @@ at-count c = c .before .before
 abbrev R : tie.After-check-write → Record
 R c = recordIn (st c .args .self)
 
+abbrev P : tie.After-check-write → Running
+P c = runningIn (st c .args .running)
+
 -- what the check told
-passed : (c : tie.After-enum-told) → let k = c .before .before in checked (R k) (st k .args .area .now) (st k .args .file .now) ≡ Pass
+passed : (c : tie.After-enum-told) → let k = c .before .before in checked (R k) (P k) (st k .args .area .now) (st k .args .file .now) ≡ Pass
 passed c = sym (c .before .before .check-write .ensures) ∙ c .enum-told .given .1
 
 facts : (c : tie.After-enum-told) → let k = c .before .before in Writes (R k) (length (st k .args .area .now)) (st k .args .file .now)
-facts c = let k = c .before .before in write-facts (R k) (length (st k .args .area .now)) (st k .args .file .now) (passed c)
+facts c =
+    let k = c .before .before in
+    let a = st k .args in
+    write-facts (R k) (length (a .area .now)) (a .file .now) (write-alone (R k) (P k) (a .area .now) (a .file .now) (passed c))
 
 sound-on : (c : tie.After-enum-told) → Sound (R (c .before .before))
 sound-on c = sound-facts _ (facts c .is-sound)
@@ -69,13 +77,13 @@ write-done c =
     let w = c .before .before .before in
     let t = at-told (at-count (w .before)) in
     let k = t .before .before in
-    write-works (R k) (st k .args .area .now) (st k .args .file .now) _ _ (passed t) (c .first-on .ensures) (w .write-shares .ensures)
+    write-works (R k) (P k) (st k .args .area .now) (st k .args .file .now) _ _ (passed t) (c .first-on .ensures) (w .write-shares .ensures)
 
 write-refused : (c : tie.After-x)
-    → let k = c .before .before in let a = st k .args in refused (R k) (a .area .now) [] (c .x .given .0 .0) ≡ writeCall (R k) (a .area .now) (a .file .now)
+    → let k = c .before .before in let a = st k .args in turnedDown (R k) (P k) (a .area .now) [] [] (c .x .given .0 .0) ≡ writeBoth (R k) (P k) (a .area .now) (a .file .now)
 write-refused c =
     let k = c .before .before in
-    write-refuses (R k) (st k .args .area .now) (st k .args .file .now) (k .check-write .ensures) (c .x .given .1)
+    write-refuses (R k) (P k) (st k .args .area .now) (st k .args .file .now) (k .check-write .ensures) (c .x .given .1)
 
 pub write-spec : {M : Type 1} → statement M
 write-spec =
@@ -84,7 +92,7 @@ write-spec =
     (λ c κs. search needs)
     (λ c. search needs)
     (λ c κs. search needs)
-    (λ c. c .refuse .ensures _ [] ∙ write-refused (c .before .before))
+    (λ c. c .refuse .ensures _ [] [] ∙ write-refused (c .before .before))
     (λ c. search needs)
     (λ c κs. let t = c .before .before in record { is-legal = sound-on t .is-legal; not-long = at-most t })
     (λ c. sym (points-long (st (at-told (c .before) .before .before))))
