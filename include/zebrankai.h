@@ -15,16 +15,16 @@
  * - It ends on all input, made-up records and lists included, with its result or with one refusal.
  * - It answers one number. zbk_refusal(answer) is 0 where the call was accepted, else the refusal's number. zbk_value(answer) is what an
  *   accepted call reports: the bytes written by a board-level call, the bytes of a text that make sense by zbk_text_prefix, the bytes moved by a
- *   repair, else 0.
+ *   repair, the packets carried by a step, else 0.
  *   zbk_trial_file alone answers no such number: it refuses nothing, and gives a state.
- * - After a refusal no word of the record and no byte of any buffer has changed.
+ * - After a refusal no word of a record and no byte of any buffer has changed.
  * - It keeps nothing between calls and allocates nothing.
  *
  * What the caller owes: a pointer is followed by the number of its elements, and points to that many, aligned as their type asks; it is not
- * NULL, also where that number is 0; and what a call may change (record, area, out; head and points of zbk_read_text) does not overlap anything
- * else that the call is lent, and no other thread uses it meanwhile. The record must be writable in every call that takes it, a read and a
- * refusal included: such a call may write words again as they are. A call takes less than 64 kB of stack, zbk_edit less than 81 kB, as
- * measured; where the C library's functions are bound late, the dynamic linker takes 3 kB more in the first call. size_t has 64 bits.
+ * NULL, also where that number is 0; and what a call may change (record, repair, area, packets, out; head and points of zbk_read_text) does not
+ * overlap anything else that the call is lent, and no other thread uses it meanwhile. Both records must be writable in every call that takes them, a
+ * read and a refusal included: such a call may write words again as they are. A call takes less than 64 kB of stack, as measured; where
+ * the C library's functions are bound late, the dynamic linker takes 3 kB more in the first call. size_t has 64 bits.
  *
  * Lists of shares and packets are one buffer each, the pieces one after another in the order of their list of boards.
  */
@@ -42,24 +42,29 @@
 extern "C" {
 #endif
 
-/* Limits of the sizes, and the words of a record and of a text's head. */
+/* Limits of the sizes, and the words of a record, of the record of a started repair and of a text's head. */
 enum {
     ZBK_MAX_BOARDS = 32,
     ZBK_MAX_STRIPES = 4096,
     ZBK_RECORD_WORDS = 12,
+    ZBK_REPAIR_WORDS = 71,
     ZBK_HEAD_WORDS = 6
 };
 
-/* Why a call was refused. Where several hold, the first is given: of the store in the order 1, 2, 3, 8, 15, 4, 5, 6, 14, 9, 7, 10, at board
- * level in the order 12, 1, 3, 13, 4, 5, 6, 2, 7, 10. 11 is not used: no call answers it. */
+/* The bytes of the packet area of a started repair of t fresh boards, of a file of so many stripes. */
+#define ZBK_PACKETS_LEN(stripes, t, d, r) ((size_t)(stripes) * (size_t)(t) * (2 * (size_t)(d) + (size_t)(r) - 1))
+
+/* Why a call was refused. Where several hold, the first is given: of the store in the order 1, 2, 3, 8, 16, 17, 15, 4, 5, 6, 14, 9, 7, 10, at
+ * board level in the order 12, 1, 3, 13, 4, 5, 6, 2, 7, 10. 11 is not used: no call answers it. */
 enum zbk_refusal_number {
     /* The call was accepted. */
     ZBK_ACCEPTED = 0,
     /* The sizes are not legal, the capacity is not 1 to 4,096 stripes, the record is one that no call hands out, the points repeat, or one from
-     * n up is not 00. A record of another number of words than 12, a text's head of another than 6 and a list of points of another length than
-     * 32 are refused with it before all else. */
+     * n up is not 00; or a repair is running by a repair record that no call hands out beside this record. A record of another number of words than
+     * 12, a repair record of another than 71, a text's head of another than 6 and a list of points of another length than 32 are refused with it
+     * before all else, and so is, but in zbk_set_up, a repair record with a first word above 1. */
     ZBK_SIZE = 1,
-    /* The area, or a slice of shares or packets, has another length than the sizes give. */
+    /* The area, the packet area of a repair that is running, or a slice of shares or packets, has another length than the sizes give. */
     ZBK_AREA = 2,
     /* The file is longer than the store's capacity, or than 4,096 stripes at board level. */
     ZBK_LONG = 3,
@@ -71,7 +76,7 @@ enum zbk_refusal_number {
     ZBK_REPEAT = 6,
     /* The output is shorter than what is to be written. */
     ZBK_SHORT = 7,
-    /* A repair, a read or an edit before any file was written. */
+    /* A repair, a read, an edit, a start or a step before any file was written. */
     ZBK_EMPTY = 8,
     /* A board to read from, a helper or a stand-in is out of service. */
     ZBK_DOWN = 9,
@@ -84,7 +89,11 @@ enum zbk_refusal_number {
     /* A fresh board is in service. */
     ZBK_SERVING = 14,
     /* The edit goes beyond the end of the file. */
-    ZBK_RANGE = 15
+    ZBK_RANGE = 15,
+    /* A repair is running. */
+    ZBK_BUSY = 16,
+    /* No repair is running. */
+    ZBK_IDLE = 17
 };
 
 /* The words of a record, by place. Keep them together with the area; change them only by the calls. A record of eight words, as calls without
@@ -105,6 +114,24 @@ enum zbk_record_word {
     ZBK_WORD_MARKS = 7,
     /* four words, 8 to 11: word 8 + q has the points of boards 8q to 8q + 7, the lowest byte first */
     ZBK_WORD_POINTS = 8
+};
+
+/* The words of the record of a started repair, by place. Where the first is 0 no repair is running, and what the others are does not matter: such a
+ * record goes through every call as it came, but a set-up and a start that are accepted. The lists are bytes, a board number each, eight in a word, the lowest first; a start
+ * writes 00 behind them. A set-up that is accepted, the last step and the loss of a board that the repair names write 71 words 0. */
+enum zbk_repair_word {
+    /* 1 where a repair is running, else 0 */
+    ZBK_REPAIR_RUNNING = 0,
+    /* t, how many boards are fresh */
+    ZBK_REPAIR_COUNT = 1,
+    /* the packets carried so far, 0 to t * (d + r - 1) - 1 */
+    ZBK_REPAIR_CARRIED = 2,
+    /* four words, 3 to 6: the t fresh boards */
+    ZBK_REPAIR_FRESH = 3,
+    /* 32 words, 7 to 38: their t * d helpers */
+    ZBK_REPAIR_HELPERS = 7,
+    /* 32 words, 39 to 70: their t * (r - t) stand-ins */
+    ZBK_REPAIR_STAND_INS = 39
 };
 
 /* The words of a text's head, by place: its sizes, its board, and the length of the file. */
@@ -182,40 +209,75 @@ uint64_t zbk_gather(const uint8_t *text, size_t text_len, uint8_t *out, size_t o
  * whole length, and so does one that is merely cut short; no bytes report 0. */
 uint64_t zbk_text_prefix(const uint8_t *text, size_t text_len);
 
-/* The store: a record of twelve words, and an area of n * capacity * (2d + r - 1) bytes that holds the boards one after another. Each call is
- * given the record and the area as the last call left them. */
+/* The store: a record of twelve words, beside it the record of a started repair, of 71, and an area of n * capacity * (2d + r - 1) bytes that
+ * holds the boards one after another. Each call is given both records and the area as the last call left them.
+ *
+ * Power. What a robot keeps through a power failure is the record and the area; the repair's record and the packet area are what it may lose. Behind a
+ * failure the calls are given the record and the area as they stand, and an idle repair record: any 71 words of which the first is 0. This is a must:
+ * no call can tell that packets in the packet area were lost or altered, or that a running record is an old one whose boards happen to fit; the last
+ * step would then put wrong shares into service.
+ * - Between two packets, and inside a step that has not carried the last packet of all, the record is that before the start but for the boards lost
+ *   since, boards in service hold what they held, and any k of them give the file. The repair is started anew, from its first packet.
+ * - Inside the step that carries the last packet, and inside zbk_repair, only bytes of fresh boards change in the area, and these are out of service by
+ *   the record that was kept before the call (what a call does before it comes back is how it is made, and not among what is proved). So lend the
+ *   calls a copy of the record, and keep the new one once the call has come back; a set-up, too.
+ * - A write or an edit changes boards in service. Where power cuts one, some boards are changed and others not, and no call is promised anything of such
+ *   an area: a read may give a file that nobody wrote. Keep a second record and area, and use the two in turn. */
 
-/* A new store with no file: where it is accepted all twelve words are written, and what they were before does not matter. The record keeps the
- * points; the other calls take them from it. */
-uint64_t zbk_set_up(uint64_t *record, size_t record_words, size_t n, size_t k, size_t d, size_t r, const uint8_t *points,
-                    size_t points_len, size_t capacity);
+/* A new store with no file: where it is accepted all twelve words and all 71 are written, and what they were before does not matter. The record keeps
+ * the points; the other calls take them from it. No repair is running then. */
+uint64_t zbk_set_up(uint64_t *record, size_t record_words, uint64_t *repair, size_t repair_words, size_t n, size_t k, size_t d, size_t r,
+                    const uint8_t *points, size_t points_len, size_t capacity);
 
 /* Writes a file: every board gets its share and comes into service. */
-uint64_t zbk_write(uint64_t *record, size_t record_words, uint8_t *area, size_t area_len, const uint8_t *file, size_t file_len);
+uint64_t zbk_write(uint64_t *record, size_t record_words, uint64_t *repair, size_t repair_words, uint8_t *area, size_t area_len,
+                   const uint8_t *file, size_t file_len);
 
-/* Takes a board out of service. */
-uint64_t zbk_lose(uint64_t *record, size_t record_words, size_t board);
+/* Takes a board out of service. Where a repair is running that names the board, fresh, helper or stand-in, that repair has ended, and its fresh boards
+ * stay out of service; the loss of another board does not touch it. */
+uint64_t zbk_lose(uint64_t *record, size_t record_words, uint64_t *repair, size_t repair_words, size_t board);
 
 /* Rebuilds t fresh boards together, 1 to r of them, each out of service; t is fresh_count. `helpers` has t * d numbers: the d helpers of the first
  * fresh board, then those of the second, and so on. `stand_ins` has t * (r - t), in the same order: r - t for each fresh board, none where t is r.
  * A stand-in sends half of what a helper sends. The helpers and stand-ins of one fresh board are all different, and no fresh board is among those
  * of any; a helper of one may stand in for another. All fresh boards come into service; reports the bytes moved between boards,
  * S * t * (2d + r - 1). */
-uint64_t zbk_repair(uint64_t *record, size_t record_words, uint8_t *area, size_t area_len, const size_t *fresh, size_t fresh_count,
-                    const size_t *helpers, size_t helpers_count, const size_t *stand_ins, size_t stand_ins_count);
+uint64_t zbk_repair(uint64_t *record, size_t record_words, uint64_t *repair, size_t repair_words, uint8_t *area, size_t area_len,
+                    const size_t *fresh, size_t fresh_count, const size_t *helpers, size_t helpers_count, const size_t *stand_ins,
+                    size_t stand_ins_count);
 
-/* Reads the file from k boards into the first bytes of out; the rest of out stays. What record and area say does not change. */
-uint64_t zbk_read(uint64_t *record, size_t record_words, const uint8_t *area, size_t area_len, const size_t *boards, size_t boards_count,
-                  uint8_t *out, size_t out_len);
+/* Reads the file from k boards into the first bytes of out; the rest of out stays. What records and area say does not change. */
+uint64_t zbk_read(uint64_t *record, size_t record_words, uint64_t *repair, size_t repair_words, const uint8_t *area, size_t area_len,
+                  const size_t *boards, size_t boards_count, uint8_t *out, size_t out_len);
 
 /* Puts `bytes` in the place of as many bytes of the file, from byte `offset` on: the file that reads give is from then on the edited one. Its length
  * stays; ZBK_RANGE where offset and bytes_len together are more than that. The old bytes are those that the k boards in service in `boards` hold, of
  * which all stripes are looked at, as by a read. Every board in service, whether it was read or not, is changed by its share of the difference of old
  * and new bytes, and only in stripes that the edit reaches: a board that held its share holds that of the edited file, and one that held wrong bytes
  * stays wrong. Boards out of service keep their bytes. No bytes at all, at an offset up to the file's length, are accepted and change nothing, where
- * the boards pass the same checks. What the record says does not change. */
-uint64_t zbk_edit(uint64_t *record, size_t record_words, uint8_t *area, size_t area_len, size_t offset, const uint8_t *bytes, size_t bytes_len,
-                  const size_t *boards, size_t boards_count);
+ * the boards pass the same checks. What the records say does not change. */
+uint64_t zbk_edit(uint64_t *record, size_t record_words, uint64_t *repair, size_t repair_words, uint8_t *area, size_t area_len, size_t offset,
+                  const uint8_t *bytes, size_t bytes_len, const size_t *boards, size_t boards_count);
+
+/* Repair a packet at a time, while the bus is shared. A start takes the lists of zbk_repair, refuses what that refuses, and carries nothing; steps
+ * carry the packets, t * (d + r - 1) in all, as many in each as the caller allows. Until the last one the fresh boards are out of service and no step
+ * changes the record or the area. Reads go on meanwhile, and losses; a write, an edit, a repair and a start are ZBK_BUSY. Stepped to its end, with no
+ * bytes altered of boards in service and of packets carried, it leaves what zbk_repair would leave in the place of its last step. */
+
+/* Starts a repair: writes the repair record. The area is asked for its length alone. */
+uint64_t zbk_start(uint64_t *record, size_t record_words, uint64_t *repair, size_t repair_words, const uint8_t *area, size_t area_len,
+                   const size_t *fresh, size_t fresh_count, const size_t *helpers, size_t helpers_count, const size_t *stand_ins,
+                   size_t stand_ins_count);
+
+/* Carries the next packets of the repair that is running, at most `allowance`, fewer only where fewer are left, and reports how many; 0 is taken, and
+ * moves nothing. `packets` is the packet area, of ZBK_PACKETS_LEN(S, t, d, r) bytes, the same in each step of a repair; what it holds at first does
+ * not matter. In it the packets lie one after another: those of helpers, 2S bytes each, then those of stand-ins, then the exchanges, S bytes each;
+ * in each of these by receiver, in the order of `fresh`, and then by its list of senders, which for exchanges is `fresh` without the receiver. Each packet
+ * is written at its place when it is carried, and all other bytes there stay: a helper's and a stand-in's by what the board holds then, an exchange by
+ * its sender's helper packets as they lie there. With the last packet each fresh board gets the share that the packets lying there make, all come
+ * into service, and the repair has ended. ZBK_IDLE where none is running; the length of `packets` is not looked at then. */
+uint64_t zbk_step(uint64_t *record, size_t record_words, uint64_t *repair, size_t repair_words, uint8_t *area, size_t area_len,
+                  uint8_t *packets, size_t packets_len, size_t allowance);
 
 /* The trial file: bytes to try things with. The same seed gives the same bytes on every machine, and whoever sees some of them can tell the rest. */
 

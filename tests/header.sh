@@ -19,13 +19,13 @@ fail() {
 # ---- the calls, each as one line in C: 'uint64_t zbk_lose(uint64_t *record, size_t record_words, size_t board)'
 
 # in_c PATTERN FILE..: the declarations that begin with the pattern, in Rattle or in Rust, in C. A slice is a pointer and the number of its elements,
-# sizes are four numbers, and four parameters have a longer name in C. A type that is not known stays as it is, so that it differs.
+# sizes are four numbers, and five parameters have a longer name in C. A type that is not known stays as it is, so that it differs.
 in_c() {
     pattern=$1
     shift
     sed 's,//.*,,' "$@" | tr '\n\t' '  ' | awk -v pattern="$pattern" '
         BEGIN {
-            longer["len"] = "length"; longer["ws"] = "record"; longer["exchanges"] = "partner_packets"; longer["standins"] = "stand_ins"
+            longer["len"] = "length"; longer["ws"] = "record"; longer["ps"] = "repair"; longer["exchanges"] = "partner_packets"; longer["standins"] = "stand_ins"
             element["u8"] = "uint8_t"; element["u32"] = "uint32_t"; element["u64"] = "uint64_t"; element["usize"] = "size_t"
             counted["u8"] = "_len"; counted["u64"] = "_words"; counted["usize"] = "_count"
         }
@@ -148,12 +148,12 @@ nm -g --defined-only "$archive" 2>/dev/null | awk -v other="${ZBK_ARCHIVE:-}" '
     NF == 3 && (other == "" || ($3 !~ /^_/ && $3 !~ /[.$]/)) { print $3 }' | LC_ALL=C sort >"$work/exported"
 named "the archive exports just these" "$work/exported"
 
-# ---- the constants: each that the header has stands in header.c with a number, once
+# ---- the constants: each that the header has stands in header.c with a number, once; a macro with parameters with some arguments
 {
     plain | awk '{ while (match($0, /ZBK_[A-Z0-9_]+/)) { print substr($0, RSTART, RLENGTH); $0 = substr($0, RSTART + RLENGTH) } }'
     sed -n 's/^ *# *define *\(ZBK_[A-Z0-9_]*\).*/\1/p' include/zebrankai.h
 } | LC_ALL=C sort -u >"$work/constants"
-sed -n 's/^IS(\(ZBK_[A-Z0-9_]*\), [0-9]*);$/\1/p' tests/header/header.c | LC_ALL=C sort >"$work/held"
+sed -n 's/^IS(\(ZBK_[A-Z0-9_]*\)\(([0-9, ]*)\)\{0,1\}, [0-9]*);$/\1/p' tests/header/header.c | LC_ALL=C sort >"$work/held"
 if diff "$work/constants" "$work/held" >"$work/diff"; then
     echo "ok each constant of the header is held to a number: $(wc -l <"$work/held" | tr -d ' ')"
 else

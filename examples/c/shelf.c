@@ -5,7 +5,9 @@
  * on both robots.
  *
  * Three of its shares are also written as texts, as before boards are pulled for the workshop, and loaded again: one for its share, all three for
- * the file. At last a carton is loaded: one pack count, four bytes of the file, is changed by an edit, and read back from other boards.
+ * the file. Then two boards are rebuilt while the arm works, three packets at a time with reads in between; power fails in the middle, the file is
+ * still there, and the repair is started anew. At last a carton is loaded: one pack count, four bytes of the file, is changed by an edit, and read back
+ * from other boards.
  *
  * Build, from the top folder:  cc -std=c11 -Iinclude examples/c/shelf.c target/staticlib/libzebrankai.a -o shelf
  */
@@ -24,6 +26,9 @@ enum { SHARE = 2 * D + R - 1, STRIPE = K * (2 * D + R - K) };
 
 /* stripes that each board has room for, and the bytes of all boards */
 enum { CAPACITY = 8, AREA = N * CAPACITY * SHARE };
+
+/* both records, as each call of the store takes them: what a robot keeps through a power failure, and what it may lose */
+#define RECORDS record, ZBK_RECORD_WORDS, repair, ZBK_REPAIR_WORDS
 
 static const char stock[] = "aspirin 100 mg: 42 boxes\n"
                             "ibuprofen 400 mg: 17 boxes\n"
@@ -50,17 +55,17 @@ static void refused(const char *call, uint64_t answer, unsigned number) {
 static void spoil(uint8_t *area, size_t board) { memset(area + board * CAPACITY * SHARE, 0xEE, CAPACITY * SHARE); }
 
 /* Loses one board and rebuilds it alone: of the other boards four help, and one stands in for a second fresh board. Gives the bytes moved. */
-static uint64_t swap_one(uint64_t *record, uint8_t *area) {
+static uint64_t swap_one(uint64_t *record, uint64_t *repair, uint8_t *area) {
     const size_t lost[1] = {6}, helpers[D] = {0, 1, 2, 3}, stand_ins[R - 1] = {4};
     refused("a repair of a board in service",
-            zbk_repair(record, ZBK_RECORD_WORDS, area, AREA, lost, 1, helpers, D, stand_ins, R - 1), ZBK_SERVING);
-    accepted("lose", zbk_lose(record, ZBK_RECORD_WORDS, lost[0]));
+            zbk_repair(RECORDS, area, AREA, lost, 1, helpers, D, stand_ins, R - 1), ZBK_SERVING);
+    accepted("lose", zbk_lose(RECORDS, lost[0]));
     spoil(area, lost[0]);
     printf("board %zu lost\n", lost[0]);
     refused("a repair of one board without a stand-in",
-            zbk_repair(record, ZBK_RECORD_WORDS, area, AREA, lost, 1, helpers, D, stand_ins, 0), ZBK_COUNT);
+            zbk_repair(RECORDS, area, AREA, lost, 1, helpers, D, stand_ins, 0), ZBK_COUNT);
     const uint64_t moved =
-        accepted("repair of one board", zbk_repair(record, ZBK_RECORD_WORDS, area, AREA, lost, 1, helpers, D, stand_ins, R - 1));
+        accepted("repair of one board", zbk_repair(RECORDS, area, AREA, lost, 1, helpers, D, stand_ins, R - 1));
     printf("board %zu rebuilt, board %zu standing in, %llu bytes moved\n", lost[0], stand_ins[0], (unsigned long long)moved);
     return moved;
 }
@@ -120,16 +125,68 @@ static int write_and_load(const uint8_t *points, const uint8_t *area, const size
     return same;
 }
 
+/* The stripes of the file, and the bytes of the packet area of a repair of R boards. */
+static size_t stripes_of(size_t length) { return (length + STRIPE - 1) / STRIPE; }
+enum { PACKETS = CAPACITY * R * SHARE };
+
+/* Steps of three packets, each with a read from boards in service behind it, until so many packets are carried; gives whether each read gave the file. */
+static int work_on(uint64_t *record, uint64_t *repair, uint8_t *area, uint8_t *packets, uint8_t *out, size_t length, uint64_t packets_due) {
+    const size_t readers[K] = {0, 3, 6};
+    const size_t packets_len = ZBK_PACKETS_LEN(stripes_of(length), R, D, R);
+    int same = 1;
+    for (uint64_t carried = 0; carried < packets_due;) {
+        carried += accepted("step", zbk_step(RECORDS, area, AREA, packets, packets_len, 3));
+        memset(out, 0, length);
+        accepted("read in between", zbk_read(RECORDS, area, AREA, readers, K, out, length));
+        same &= memcmp(out, stock, length) == 0;
+        printf("%llu of %d packets carried, then a read: %s\n", (unsigned long long)carried, R * (D + R - 1),
+               same ? "the file as it was written" : "ANOTHER FILE");
+    }
+    return same;
+}
+
+/* Loses two boards and rebuilds them while the arm works; power fails after six packets, and the repair is started anew. Gives whether all reads gave the
+ * file, and the rebuilt boards do. */
+static int swap_while_working(uint64_t *record, uint64_t *repair, uint8_t *area, uint8_t *out, size_t length) {
+    static uint8_t packets[PACKETS];
+    const size_t lost[R] = {2, 5}, helpers[R * D] = {0, 1, 3, 4, 6, 4, 3, 1}, none[1] = {0}, rebuilt[K] = {5, 2, 0};
+    const uint64_t all = R * (D + R - 1);
+    for (size_t i = 0; i < R; i++) {
+        accepted("lose", zbk_lose(RECORDS, lost[i]));
+        spoil(area, lost[i]);
+        printf("board %zu lost\n", lost[i]);
+    }
+    refused("a step with no repair running", zbk_step(RECORDS, area, AREA, packets, 0, 3), ZBK_IDLE);
+    accepted("start", zbk_start(RECORDS, area, AREA, lost, R, helpers, R * D, none, 0));
+    int same = work_on(record, repair, area, packets, out, length, 6);
+    refused("a write meanwhile", zbk_write(RECORDS, area, AREA, (const uint8_t *)stock, length), ZBK_BUSY);
+
+    /* power fails: the repair's record and the packets are gone, the record and the area were kept */
+    memset(repair, 0, ZBK_REPAIR_WORDS * sizeof *repair);
+    memset(packets, 0xEE, sizeof packets);
+    printf("power fails; the repair is started anew\n");
+    accepted("start anew", zbk_start(RECORDS, area, AREA, lost, R, helpers, R * D, none, 0));
+    same &= work_on(record, repair, area, packets, out, length, all);
+    same &= repair[ZBK_REPAIR_RUNNING] == 0;
+
+    memset(out, 0, length);
+    accepted("read from rebuilt boards", zbk_read(RECORDS, area, AREA, rebuilt, K, out, length));
+    same &= memcmp(out, stock, length) == 0;
+    printf("boards 2 and 5 rebuilt by %llu packets, read from boards 5, 2 and 0: %s\n", (unsigned long long)all,
+           same ? "the file as it was written" : "ANOTHER FILE");
+    return same;
+}
+
 /* Loads a carton of 24 bags: four bytes of the file, "120 ", become "144 ", without a rewrite. Three boards tell the old bytes, and three others give
  * the edited file back; gives whether it is that. */
-static int load_carton(uint64_t *record, uint8_t *area, uint8_t *out, size_t length) {
+static int load_carton(uint64_t *record, uint64_t *repair, uint8_t *area, uint8_t *out, size_t length) {
     const size_t tellers[K] = {0, 2, 5}, readers[K] = {3, 4, 6};
     const char count[] = "144 ";
     const size_t offset = (size_t)(strstr(stock, "120 ") - stock), count_len = sizeof count - 1;
     refused("an edit beyond the file's end",
-            zbk_edit(record, ZBK_RECORD_WORDS, area, AREA, length - 3, (const uint8_t *)count, count_len, tellers, K), ZBK_RANGE);
-    accepted("edit", zbk_edit(record, ZBK_RECORD_WORDS, area, AREA, offset, (const uint8_t *)count, count_len, tellers, K));
-    accepted("read after an edit", zbk_read(record, ZBK_RECORD_WORDS, area, AREA, readers, K, out, length));
+            zbk_edit(RECORDS, area, AREA, length - 3, (const uint8_t *)count, count_len, tellers, K), ZBK_RANGE);
+    accepted("edit", zbk_edit(RECORDS, area, AREA, offset, (const uint8_t *)count, count_len, tellers, K));
+    accepted("read after an edit", zbk_read(RECORDS, area, AREA, readers, K, out, length));
     char due[sizeof stock];
     memcpy(due, stock, sizeof stock);
     memcpy(due + offset, count, count_len);
@@ -141,31 +198,31 @@ static int load_carton(uint64_t *record, uint8_t *area, uint8_t *out, size_t len
 
 /* The stock file on one robot, over an area and an output that are lent; gives whether all was as it must be. */
 static int robot(const uint8_t *points, uint8_t *area, uint8_t *out, size_t length) {
-    uint64_t record[ZBK_RECORD_WORDS] = {0};
+    uint64_t record[ZBK_RECORD_WORDS] = {0}, repair[ZBK_REPAIR_WORDS] = {0};
     memset(area, 0xEE, AREA);
     memset(out, 0, length);
 
-    accepted("set up", zbk_set_up(record, ZBK_RECORD_WORDS, N, K, D, R, points, ZBK_MAX_BOARDS, CAPACITY));
-    accepted("write", zbk_write(record, ZBK_RECORD_WORDS, area, AREA, (const uint8_t *)stock, length));
+    accepted("set up", zbk_set_up(RECORDS, N, K, D, R, points, ZBK_MAX_BOARDS, CAPACITY));
+    accepted("write", zbk_write(RECORDS, area, AREA, (const uint8_t *)stock, length));
     printf("%zu bytes written to %d boards with the points %d to %d\n", length, N, points[0], points[N - 1]);
 
-    const uint64_t moved_for_one = swap_one(record, area);
+    const uint64_t moved_for_one = swap_one(record, repair, area);
 
     const size_t lost[R] = {1, 4};
     for (size_t i = 0; i < R; i++) {
-        accepted("lose", zbk_lose(record, ZBK_RECORD_WORDS, lost[i]));
+        accepted("lose", zbk_lose(RECORDS, lost[i]));
         spoil(area, lost[i]);
         printf("board %zu lost\n", lost[i]);
     }
     const size_t readers[K] = {4, 1, 6};
-    refused("a read of lost boards", zbk_read(record, ZBK_RECORD_WORDS, area, AREA, readers, K, out, length), ZBK_DOWN);
+    refused("a read of lost boards", zbk_read(RECORDS, area, AREA, readers, K, out, length), ZBK_DOWN);
 
     /* four helpers for board 1, four for board 4, and nobody stands in: the list has no elements, and is no null pointer */
     const size_t helpers[R * D] = {0, 2, 3, 5, 6, 5, 3, 2}, none[1] = {0};
-    const uint64_t moved = accepted("repair", zbk_repair(record, ZBK_RECORD_WORDS, area, AREA, lost, R, helpers, R * D, none, 0));
+    const uint64_t moved = accepted("repair", zbk_repair(RECORDS, area, AREA, lost, R, helpers, R * D, none, 0));
     printf("boards 1 and 4 rebuilt together, %llu bytes moved\n", (unsigned long long)moved);
 
-    accepted("read", zbk_read(record, ZBK_RECORD_WORDS, area, AREA, readers, K, out, length));
+    accepted("read", zbk_read(RECORDS, area, AREA, readers, K, out, length));
     const int same = memcmp(out, stock, length) == 0;
     printf("read from boards 4, 1 and 6: %s\n", same ? "the file as it was written" : "ANOTHER FILE");
 
@@ -173,9 +230,9 @@ static int robot(const uint8_t *points, uint8_t *area, uint8_t *out, size_t leng
 
     /* the text says the points where board i has another one than i */
     const int said = print_text(record, points, area, 4) == (points[0] != 0);
-    if (!load_carton(record, area, out, length)) return 0;
-    const uint64_t stripes = (length + STRIPE - 1) / STRIPE;
-    const uint64_t board_moved = stripes * (2 * D + R - 1);
+    if (!swap_while_working(record, repair, area, out, length)) return 0;
+    if (!load_carton(record, repair, area, out, length)) return 0;
+    const uint64_t board_moved = stripes_of(length) * (2 * D + R - 1);
     return same && said && moved_for_one == board_moved && moved == R * board_moved;
 }
 
@@ -198,9 +255,9 @@ int main(void) {
     const int first = robot(points, area, out, length);
 
     /* two boards at one point */
-    uint64_t record[ZBK_RECORD_WORDS] = {0};
+    uint64_t record[ZBK_RECORD_WORDS] = {0}, repair[ZBK_REPAIR_WORDS] = {0};
     points[0] = points[1];
-    refused("a set up with a point twice", zbk_set_up(record, ZBK_RECORD_WORDS, N, K, D, R, points, ZBK_MAX_BOARDS, CAPACITY), ZBK_SIZE);
+    refused("a set up with a point twice", zbk_set_up(RECORDS, N, K, D, R, points, ZBK_MAX_BOARDS, CAPACITY), ZBK_SIZE);
 
     free(out);
     free(area);

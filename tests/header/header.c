@@ -1,5 +1,5 @@
 /*
- * header.c: include/zebrankai.h held to the archive, in C11 and in C++11. Each constant is held to its number, written out here; each of the sixteen
+ * header.c: include/zebrankai.h held to the archive, in C11 and in C++11. Each constant is held to its number, written out here; each of the eighteen
  * calls is made with arguments that differ, and its whole answer, every word and every byte that it was lent, and those behind, are held to what must
  * stand there; and each refusal is brought about and held to its name.
  *
@@ -20,7 +20,9 @@
 IS(ZBK_MAX_BOARDS, 32);
 IS(ZBK_MAX_STRIPES, 4096);
 IS(ZBK_RECORD_WORDS, 12);
+IS(ZBK_REPAIR_WORDS, 71);
 IS(ZBK_HEAD_WORDS, 6);
+IS(ZBK_PACKETS_LEN(3, 2, 4, 5), 72);
 
 IS(ZBK_ACCEPTED, 0);
 IS(ZBK_SIZE, 1);
@@ -37,6 +39,8 @@ IS(ZBK_TEXT, 12);
 IS(ZBK_MIXED, 13);
 IS(ZBK_SERVING, 14);
 IS(ZBK_RANGE, 15);
+IS(ZBK_BUSY, 16);
+IS(ZBK_IDLE, 17);
 
 IS(ZBK_WORD_N, 0);
 IS(ZBK_WORD_K, 1);
@@ -47,6 +51,13 @@ IS(ZBK_WORD_WRITTEN, 5);
 IS(ZBK_WORD_LENGTH, 6);
 IS(ZBK_WORD_MARKS, 7);
 IS(ZBK_WORD_POINTS, 8);
+
+IS(ZBK_REPAIR_RUNNING, 0);
+IS(ZBK_REPAIR_COUNT, 1);
+IS(ZBK_REPAIR_CARRIED, 2);
+IS(ZBK_REPAIR_FRESH, 3);
+IS(ZBK_REPAIR_HELPERS, 7);
+IS(ZBK_REPAIR_STAND_INS, 39);
 
 IS(ZBK_HEAD_N, 0);
 IS(ZBK_HEAD_K, 1);
@@ -347,52 +358,73 @@ static void record_is(int line, const uint64_t *record, const struct due *due) {
     check(line, record[ZBK_RECORD_WORDS] == 88 && record[ZBK_RECORD_WORDS + 1] == 89, "the words behind the record");
 }
 
-/* A record that holds nothing yet, and the two words behind it. */
-static void made_up(uint64_t *record) {
+/* Words that are no records yet, and the two words behind each. */
+static void made_up(uint64_t *record, uint64_t *repair) {
     for (size_t i = 0; i < ZBK_RECORD_WORDS + 2; i++) record[i] = i + 88 - ZBK_RECORD_WORDS;
+    for (size_t i = 0; i < ZBK_REPAIR_WORDS + 2; i++) repair[i] = i + 1098 - ZBK_REPAIR_WORDS;
 }
+
+/* What the record of a started repair must say: each word by its name, 0 in all others, and the two words behind it as they were. */
+struct repair_due {
+    uint64_t running, count, carried, fresh, helpers, stand_ins;
+};
+
+static void repair_is(int line, const uint64_t *repair, const struct repair_due *due) {
+    check(line, repair[ZBK_REPAIR_RUNNING] == due->running, "ZBK_REPAIR_RUNNING");
+    check(line, repair[ZBK_REPAIR_COUNT] == due->count, "ZBK_REPAIR_COUNT");
+    check(line, repair[ZBK_REPAIR_CARRIED] == due->carried, "ZBK_REPAIR_CARRIED");
+    check(line, repair[ZBK_REPAIR_FRESH] == due->fresh, "ZBK_REPAIR_FRESH");
+    check(line, repair[ZBK_REPAIR_HELPERS] == due->helpers, "ZBK_REPAIR_HELPERS");
+    check(line, repair[ZBK_REPAIR_STAND_INS] == due->stand_ins, "ZBK_REPAIR_STAND_INS");
+    for (size_t i = 0; i < ZBK_REPAIR_WORDS; i++)
+        if (i > ZBK_REPAIR_FRESH && i != ZBK_REPAIR_HELPERS && i != ZBK_REPAIR_STAND_INS) check(line, repair[i] == 0, "a word of the repair that is not used");
+    check(line, repair[ZBK_REPAIR_WORDS] == 1098 && repair[ZBK_REPAIR_WORDS + 1] == 1099, "the words behind the repair");
+}
+
+/* no repair, as calls leave it */
+static const struct repair_due none_running = {0, 0, 0, 0, 0, 0};
 
 /* The area of stock: 9 boards, 5 stripes of 10 bytes each, of which the first 3 hold the file; and bytes behind it. */
 enum { CAPACITY = 5, BOARD = CAPACITY * 10, AREA = 9 * BOARD, SPOILT = 0x5A };
 
 /* An edit, with board 4 out of service and a wrong byte on board 8: the value of F at its own point and that of board 3, in the second stripe. */
-static void edits(uint64_t *record, uint8_t *area, uint8_t *area_due, const struct due *due) {
+static void edits(uint64_t *record, uint64_t *repair, uint8_t *area, uint8_t *area_due, const struct due *due) {
     enum { WRONG = 8 * BOARD + 10 + 4 };
     const uint8_t *const bytes = (const uint8_t *)edited + EDITED_FROM;
     const size_t two[2] = {7, 3}, down[2] = {7, 4}, disagree[2] = {8, 3}, beyond[2] = {9, 9}, repeated[2] = {4, 4};
     area[WRONG] ^= 0x99;
     area_due[WRONG] ^= 0x99;
 
-    answers(__LINE__, zbk_edit(record, ZBK_RECORD_WORDS - 1, area, AREA - 1, STOCK, bytes, EDITED, two, 1), ZBK_SIZE);
-    answers(__LINE__, zbk_edit(record, ZBK_RECORD_WORDS, area, AREA - 1, STOCK, bytes, EDITED, two, 1), ZBK_AREA);
-    answers(__LINE__, zbk_edit(record, ZBK_RECORD_WORDS, area, AREA, STOCK - EDITED + 1, bytes, EDITED, two, 1), ZBK_RANGE);
-    answers(__LINE__, zbk_edit(record, ZBK_RECORD_WORDS, area, AREA, SIZE_MAX - EDITED + 1, bytes, EDITED, two, 2), ZBK_RANGE);
-    answers(__LINE__, zbk_edit(record, ZBK_RECORD_WORDS, area, AREA, STOCK + 1, bytes, 0, two, 2), ZBK_RANGE);
-    answers(__LINE__, zbk_edit(record, ZBK_RECORD_WORDS, area, AREA, EDITED_FROM, bytes, EDITED, beyond, 1), ZBK_COUNT);
-    answers(__LINE__, zbk_edit(record, ZBK_RECORD_WORDS, area, AREA, EDITED_FROM, bytes, EDITED, beyond, 2), ZBK_NODE);
-    answers(__LINE__, zbk_edit(record, ZBK_RECORD_WORDS, area, AREA, EDITED_FROM, bytes, EDITED, repeated, 2), ZBK_REPEAT);
-    answers(__LINE__, zbk_edit(record, ZBK_RECORD_WORDS, area, AREA, EDITED_FROM, bytes, EDITED, down, 2), ZBK_DOWN);
-    answers(__LINE__, zbk_edit(record, ZBK_RECORD_WORDS, area, AREA, EDITED_FROM, bytes, EDITED, disagree, 2), ZBK_DISAGREE);
+    answers(__LINE__, zbk_edit(record, ZBK_RECORD_WORDS - 1, repair, ZBK_REPAIR_WORDS, area, AREA - 1, STOCK, bytes, EDITED, two, 1), ZBK_SIZE);
+    answers(__LINE__, zbk_edit(record, ZBK_RECORD_WORDS, repair, ZBK_REPAIR_WORDS, area, AREA - 1, STOCK, bytes, EDITED, two, 1), ZBK_AREA);
+    answers(__LINE__, zbk_edit(record, ZBK_RECORD_WORDS, repair, ZBK_REPAIR_WORDS, area, AREA, STOCK - EDITED + 1, bytes, EDITED, two, 1), ZBK_RANGE);
+    answers(__LINE__, zbk_edit(record, ZBK_RECORD_WORDS, repair, ZBK_REPAIR_WORDS, area, AREA, SIZE_MAX - EDITED + 1, bytes, EDITED, two, 2), ZBK_RANGE);
+    answers(__LINE__, zbk_edit(record, ZBK_RECORD_WORDS, repair, ZBK_REPAIR_WORDS, area, AREA, STOCK + 1, bytes, 0, two, 2), ZBK_RANGE);
+    answers(__LINE__, zbk_edit(record, ZBK_RECORD_WORDS, repair, ZBK_REPAIR_WORDS, area, AREA, EDITED_FROM, bytes, EDITED, beyond, 1), ZBK_COUNT);
+    answers(__LINE__, zbk_edit(record, ZBK_RECORD_WORDS, repair, ZBK_REPAIR_WORDS, area, AREA, EDITED_FROM, bytes, EDITED, beyond, 2), ZBK_NODE);
+    answers(__LINE__, zbk_edit(record, ZBK_RECORD_WORDS, repair, ZBK_REPAIR_WORDS, area, AREA, EDITED_FROM, bytes, EDITED, repeated, 2), ZBK_REPEAT);
+    answers(__LINE__, zbk_edit(record, ZBK_RECORD_WORDS, repair, ZBK_REPAIR_WORDS, area, AREA, EDITED_FROM, bytes, EDITED, down, 2), ZBK_DOWN);
+    answers(__LINE__, zbk_edit(record, ZBK_RECORD_WORDS, repair, ZBK_REPAIR_WORDS, area, AREA, EDITED_FROM, bytes, EDITED, disagree, 2), ZBK_DISAGREE);
     /* a stripe that it does not reach, and no bytes at all */
-    answers(__LINE__, zbk_edit(record, ZBK_RECORD_WORDS, area, AREA, 0, bytes, 1, disagree, 2), ZBK_DISAGREE);
-    answers(__LINE__, zbk_edit(record, ZBK_RECORD_WORDS, area, AREA, STOCK, bytes, 0, disagree, 2), ZBK_DISAGREE);
-    answers(__LINE__, zbk_edit(record, ZBK_RECORD_WORDS, area, AREA, STOCK, bytes, 0, two, 2), 0);
+    answers(__LINE__, zbk_edit(record, ZBK_RECORD_WORDS, repair, ZBK_REPAIR_WORDS, area, AREA, 0, bytes, 1, disagree, 2), ZBK_DISAGREE);
+    answers(__LINE__, zbk_edit(record, ZBK_RECORD_WORDS, repair, ZBK_REPAIR_WORDS, area, AREA, STOCK, bytes, 0, disagree, 2), ZBK_DISAGREE);
+    answers(__LINE__, zbk_edit(record, ZBK_RECORD_WORDS, repair, ZBK_REPAIR_WORDS, area, AREA, STOCK, bytes, 0, two, 2), 0);
     record_is(__LINE__, record, due);
     bytes_are(__LINE__, "a refusal, or an edit of no bytes, changed the area", area, area_due, AREA + 16, 0, AREA + 16);
 
-    answers(__LINE__, zbk_edit(record, ZBK_RECORD_WORDS, area, AREA, EDITED_FROM, bytes, EDITED, two, 2), 0);
+    answers(__LINE__, zbk_edit(record, ZBK_RECORD_WORDS, repair, ZBK_REPAIR_WORDS, area, AREA, EDITED_FROM, bytes, EDITED, two, 2), 0);
     for (size_t board = 0; board < 9; board++)
         if (board != 4) from_pairs(edited_shares[board], area_due + board * BOARD);
     area_due[WRONG] ^= 0x99;
     record_is(__LINE__, record, due);
     bytes_are(__LINE__, "another area after an edit", area, area_due, AREA + 16, 0, AREA + 16);
-    answers(__LINE__, zbk_read(record, ZBK_RECORD_WORDS, area, AREA, two, 2, out, STOCK), 0);
+    answers(__LINE__, zbk_read(record, ZBK_RECORD_WORDS, repair, ZBK_REPAIR_WORDS, area, AREA, two, 2, out, STOCK), 0);
     bytes_are(__LINE__, "another output of a read after an edit", out, (const uint8_t *)edited, STOCK, BLANK, ROOM);
     memset(out, BLANK, ROOM);
 }
 
 static void store(void) {
-    uint64_t record[ZBK_RECORD_WORDS + 2];
+    uint64_t record[ZBK_RECORD_WORDS + 2], repair[ZBK_REPAIR_WORDS + 2];
     uint8_t area[AREA + 16], area_due[AREA + 16];
     const uint8_t *const file = (const uint8_t *)stock;
     static const uint8_t too_long[CAPACITY * 18 + 1] = {1};
@@ -400,24 +432,29 @@ static void store(void) {
     struct due due = {9, 2, 4, 3, CAPACITY, 0, 0, 0, {0xC45307801DFF002A, 0x09, 0, 0}};
     memset(area, BLANK, sizeof area);
     memset(area_due, BLANK, sizeof area_due);
-    made_up(record);
+    made_up(record, repair);
 
-    answers(__LINE__, zbk_set_up(record, ZBK_RECORD_WORDS - 1, 9, 2, 4, 3, odd, 32, CAPACITY), ZBK_SIZE);
-    answers(__LINE__, zbk_set_up(record, ZBK_RECORD_WORDS + 1, 9, 2, 4, 3, odd, 32, CAPACITY), ZBK_SIZE);
-    answers(__LINE__, zbk_set_up(record, ZBK_RECORD_WORDS, 9, 2, 4, 3, odd, 31, CAPACITY), ZBK_SIZE);
-    answers(__LINE__, zbk_set_up(record, ZBK_RECORD_WORDS, 9, 2, 4, 3, odd, 32, 0), ZBK_SIZE);
+    answers(__LINE__, zbk_set_up(record, ZBK_RECORD_WORDS - 1, repair, ZBK_REPAIR_WORDS, 9, 2, 4, 3, odd, 32, CAPACITY), ZBK_SIZE);
+    answers(__LINE__, zbk_set_up(record, ZBK_RECORD_WORDS + 1, repair, ZBK_REPAIR_WORDS, 9, 2, 4, 3, odd, 32, CAPACITY), ZBK_SIZE);
+    answers(__LINE__, zbk_set_up(record, ZBK_RECORD_WORDS, repair, ZBK_REPAIR_WORDS, 9, 2, 4, 3, odd, 31, CAPACITY), ZBK_SIZE);
+    answers(__LINE__, zbk_set_up(record, ZBK_RECORD_WORDS, repair, ZBK_REPAIR_WORDS, 9, 2, 4, 3, odd, 32, 0), ZBK_SIZE);
+    for (size_t words = 0; words < ZBK_REPAIR_WORDS + 3; words++)
+        if (words != ZBK_REPAIR_WORDS)
+            answers(__LINE__, zbk_set_up(record, ZBK_RECORD_WORDS, repair, words, 9, 2, 4, 3, odd, 32, CAPACITY), ZBK_SIZE);
     for (size_t i = 0; i < ZBK_RECORD_WORDS + 2; i++) check(__LINE__, record[i] == i + 88 - ZBK_RECORD_WORDS, "a refusal changed the record");
-    answers(__LINE__, zbk_set_up(record, ZBK_RECORD_WORDS, 9, 2, 4, 3, odd, 32, CAPACITY), 0);
+    for (size_t i = 0; i < ZBK_REPAIR_WORDS + 2; i++) check(__LINE__, repair[i] == i + 1098 - ZBK_REPAIR_WORDS, "a refusal changed the repair");
+    answers(__LINE__, zbk_set_up(record, ZBK_RECORD_WORDS, repair, ZBK_REPAIR_WORDS, 9, 2, 4, 3, odd, 32, CAPACITY), 0);
     record_is(__LINE__, record, &due);
+    repair_is(__LINE__, repair, &none_running);
 
-    refused(__LINE__, zbk_read(record, ZBK_RECORD_WORDS, area, AREA, two, 2, out, STOCK), ZBK_EMPTY);
-    answers(__LINE__, zbk_edit(record, ZBK_RECORD_WORDS, area, AREA, 1, file, 1, two, 2), ZBK_EMPTY);
-    answers(__LINE__, zbk_write(record, ZBK_RECORD_WORDS, area, AREA - 1, file, STOCK), ZBK_AREA);
-    answers(__LINE__, zbk_write(record, ZBK_RECORD_WORDS, area, AREA, too_long, sizeof too_long), ZBK_LONG);
+    refused(__LINE__, zbk_read(record, ZBK_RECORD_WORDS, repair, ZBK_REPAIR_WORDS, area, AREA, two, 2, out, STOCK), ZBK_EMPTY);
+    answers(__LINE__, zbk_edit(record, ZBK_RECORD_WORDS, repair, ZBK_REPAIR_WORDS, area, AREA, 1, file, 1, two, 2), ZBK_EMPTY);
+    answers(__LINE__, zbk_write(record, ZBK_RECORD_WORDS, repair, ZBK_REPAIR_WORDS, area, AREA - 1, file, STOCK), ZBK_AREA);
+    answers(__LINE__, zbk_write(record, ZBK_RECORD_WORDS, repair, ZBK_REPAIR_WORDS, area, AREA, too_long, sizeof too_long), ZBK_LONG);
     record_is(__LINE__, record, &due);
     bytes_are(__LINE__, "a refusal changed the area", area, area_due, sizeof area, 0, sizeof area);
 
-    answers(__LINE__, zbk_write(record, ZBK_RECORD_WORDS, area, AREA, file, STOCK), 0);
+    answers(__LINE__, zbk_write(record, ZBK_RECORD_WORDS, repair, ZBK_REPAIR_WORDS, area, AREA, file, STOCK), 0);
     for (size_t board = 0; board < 9; board++) from_pairs(stock_shares[board], area_due + board * BOARD);
     bytes_are(__LINE__, "another area after a write", area, area_due, sizeof area, 0, sizeof area);
     due.written = 1;
@@ -427,61 +464,238 @@ static void store(void) {
 
     /* boards 3 and 7 are lost, and come back with other bytes */
     const size_t fresh[2] = {3, 7}, helpers[8] = {8, 0, 5, 6, 2, 4, 8, 0}, stand_ins[2] = {1, 6};
-    answers(__LINE__, zbk_repair(record, ZBK_RECORD_WORDS, area, AREA, fresh, 2, helpers, 8, stand_ins, 2), ZBK_SERVING);
-    answers(__LINE__, zbk_lose(record, ZBK_RECORD_WORDS, 9), ZBK_NODE);
+    answers(__LINE__, zbk_repair(record, ZBK_RECORD_WORDS, repair, ZBK_REPAIR_WORDS, area, AREA, fresh, 2, helpers, 8, stand_ins, 2), ZBK_SERVING);
+    answers(__LINE__, zbk_lose(record, ZBK_RECORD_WORDS, repair, ZBK_REPAIR_WORDS, 9), ZBK_NODE);
     record_is(__LINE__, record, &due);
-    answers(__LINE__, zbk_lose(record, ZBK_RECORD_WORDS, 3), 0);
+    answers(__LINE__, zbk_lose(record, ZBK_RECORD_WORDS, repair, ZBK_REPAIR_WORDS, 3), 0);
     due.marks = 0x1F7;
     record_is(__LINE__, record, &due);
-    answers(__LINE__, zbk_lose(record, ZBK_RECORD_WORDS, 7), 0);
+    answers(__LINE__, zbk_lose(record, ZBK_RECORD_WORDS, repair, ZBK_REPAIR_WORDS, 7), 0);
     due.marks = 0x177;
     record_is(__LINE__, record, &due);
     for (size_t i = 0; i < 2; i++) {
         memset(area + fresh[i] * BOARD, SPOILT, BOARD);
         memset(area_due + fresh[i] * BOARD, SPOILT, BOARD);
     }
-    refused(__LINE__, zbk_read(record, ZBK_RECORD_WORDS, area, AREA, two, 2, out, STOCK), ZBK_DOWN);
-    answers(__LINE__, zbk_repair(record, ZBK_RECORD_WORDS, area, AREA, fresh, 2, helpers, 8, none, 0), ZBK_COUNT);
+    refused(__LINE__, zbk_read(record, ZBK_RECORD_WORDS, repair, ZBK_REPAIR_WORDS, area, AREA, two, 2, out, STOCK), ZBK_DOWN);
+    answers(__LINE__, zbk_repair(record, ZBK_RECORD_WORDS, repair, ZBK_REPAIR_WORDS, area, AREA, fresh, 2, helpers, 8, none, 0), ZBK_COUNT);
     record_is(__LINE__, record, &due);
     bytes_are(__LINE__, "a refusal changed the area", area, area_due, sizeof area, 0, sizeof area);
 
     /* 3 stripes x 2 boards x 10 bytes are moved */
-    answers(__LINE__, zbk_repair(record, ZBK_RECORD_WORDS, area, AREA, fresh, 2, helpers, 8, stand_ins, 2), 60 << 8);
+    answers(__LINE__, zbk_repair(record, ZBK_RECORD_WORDS, repair, ZBK_REPAIR_WORDS, area, AREA, fresh, 2, helpers, 8, stand_ins, 2), 60 << 8);
     for (size_t i = 0; i < 2; i++) from_pairs(stock_shares[fresh[i]], area_due + fresh[i] * BOARD);
     bytes_are(__LINE__, "another area after a repair", area, area_due, sizeof area, 0, sizeof area);
     due.marks = 0x1FF;
     record_is(__LINE__, record, &due);
 
-    answers(__LINE__, zbk_lose(record, ZBK_RECORD_WORDS, 4), 0);
+    answers(__LINE__, zbk_lose(record, ZBK_RECORD_WORDS, repair, ZBK_REPAIR_WORDS, 4), 0);
     due.marks = 0x1EF;
-    answers(__LINE__, zbk_read(record, ZBK_RECORD_WORDS, area, AREA, two, 2, out, STOCK + 6), 0);
+    answers(__LINE__, zbk_read(record, ZBK_RECORD_WORDS, repair, ZBK_REPAIR_WORDS, area, AREA, two, 2, out, STOCK + 6), 0);
     bytes_are(__LINE__, "another output of a read", out, file, STOCK, BLANK, ROOM);
     memset(out, BLANK, ROOM);
     const size_t repeated[2] = {7, 7};
-    refused(__LINE__, zbk_read(record, ZBK_RECORD_WORDS, area, AREA, two, 1, out, STOCK), ZBK_COUNT);
-    refused(__LINE__, zbk_read(record, ZBK_RECORD_WORDS, area, AREA, repeated, 2, out, STOCK), ZBK_REPEAT);
-    refused(__LINE__, zbk_read(record, ZBK_RECORD_WORDS, area, AREA, two, 2, out, STOCK - 1), ZBK_SHORT);
+    refused(__LINE__, zbk_read(record, ZBK_RECORD_WORDS, repair, ZBK_REPAIR_WORDS, area, AREA, two, 1, out, STOCK), ZBK_COUNT);
+    refused(__LINE__, zbk_read(record, ZBK_RECORD_WORDS, repair, ZBK_REPAIR_WORDS, area, AREA, repeated, 2, out, STOCK), ZBK_REPEAT);
+    refused(__LINE__, zbk_read(record, ZBK_RECORD_WORDS, repair, ZBK_REPAIR_WORDS, area, AREA, two, 2, out, STOCK - 1), ZBK_SHORT);
     record_is(__LINE__, record, &due);
     bytes_are(__LINE__, "a read changed the area", area, area_due, sizeof area, 0, sizeof area);
-    edits(record, area, area_due, &due);
+    edits(record, repair, area, area_due, &due);
+    repair_is(__LINE__, repair, &none_running);
+}
+
+/* What lies in the packet area of the boards 3 and 7 of stock, in the order carried: of the helpers 8, 0, 5, 6 and 2, 4, 8, 0, of the stand-ins 1 and 6,
+ * and what the boards send each other. Where each of the twelve packets begins, and where the last one ends. */
+static const char lying[] = "aee31f91417b020a881002280eed9f262df3b5921e181fd06043461b526e215f298873a1f7b8e47040529ce288970301de06b701daf97b9fc87050e0";
+static const size_t places[13] = {0, 6, 12, 18, 24, 30, 36, 42, 48, 51, 54, 57, 60};
+
+/* The store of stock with the boards 3 and 7 lost, and what must stand in its area. */
+static void two_lost(uint64_t *record, uint64_t *repair, uint8_t *area, uint8_t *area_due) {
+    memset(area, BLANK, AREA + 16);
+    memset(area_due, BLANK, AREA + 16);
+    made_up(record, repair);
+    answers(__LINE__, zbk_set_up(record, ZBK_RECORD_WORDS, repair, ZBK_REPAIR_WORDS, 9, 2, 4, 3, odd, 32, CAPACITY), 0);
+    answers(__LINE__, zbk_write(record, ZBK_RECORD_WORDS, repair, ZBK_REPAIR_WORDS, area, AREA, (const uint8_t *)stock, STOCK), 0);
+    for (size_t board = 0; board < 9; board++) from_pairs(stock_shares[board], area_due + board * BOARD);
+    for (size_t board = 3; board <= 7; board += 4) {
+        answers(__LINE__, zbk_lose(record, ZBK_RECORD_WORDS, repair, ZBK_REPAIR_WORDS, board), 0);
+        memset(area + board * BOARD, SPOILT, BOARD);
+        memset(area_due + board * BOARD, SPOILT, BOARD);
+    }
+}
+
+/* The packet area so far: what lies there of so many packets, and BLANK behind it. */
+static void packets_are(int line, const uint8_t *packets, size_t carried) {
+    uint8_t due[ROOM];
+    from_pairs(lying, due);
+    bytes_are(line, "another packet area", packets, due, places[carried], BLANK, ROOM);
+}
+
+/* The repair's lists, as a start takes them. */
+static const size_t fresh_boards[2] = {3, 7}, eight_helpers[8] = {8, 0, 5, 6, 2, 4, 8, 0}, two_stand_ins[2] = {1, 6};
+
+static uint64_t start(uint64_t *record, uint64_t *repair, const uint8_t *area) {
+    return zbk_start(record, ZBK_RECORD_WORDS, repair, ZBK_REPAIR_WORDS, area, AREA, fresh_boards, 2, eight_helpers, 8, two_stand_ins, 2);
+}
+
+/* What is refused of a start, and of a step with none running; records, area and packets stay. */
+static void starts(void) {
+    uint64_t record[ZBK_RECORD_WORDS + 2], repair[ZBK_REPAIR_WORDS + 2];
+    uint8_t area[AREA + 16], area_due[AREA + 16], packets[ROOM];
+    const size_t none[1] = {0}, beyond[2] = {9, 9}, twice[2] = {3, 3}, serving[1] = {8}, lost[2] = {7, 1}, others[2] = {1, 4};
+    struct due due = {9, 2, 4, 3, CAPACITY, 0, 0, 0, {0xC45307801DFF002A, 0x09, 0, 0}};
+    memset(packets, BLANK, ROOM);
+    memset(area, BLANK, sizeof area);
+    made_up(record, repair);
+    answers(__LINE__, zbk_set_up(record, ZBK_RECORD_WORDS, repair, ZBK_REPAIR_WORDS, 9, 2, 4, 3, odd, 32, CAPACITY), 0);
+    answers(__LINE__, zbk_start(record, ZBK_RECORD_WORDS, repair, ZBK_REPAIR_WORDS, area, AREA, beyond, 2, none, 0, none, 0), ZBK_EMPTY);
+    answers(__LINE__, zbk_step(record, ZBK_RECORD_WORDS, repair, ZBK_REPAIR_WORDS, area, AREA, packets, 7, 1), ZBK_EMPTY);
+    answers(__LINE__, zbk_step(record, ZBK_RECORD_WORDS, repair, ZBK_REPAIR_WORDS, area, AREA - 1, packets, 7, 1), ZBK_AREA);
+    record_is(__LINE__, record, &due);
+
+    two_lost(record, repair, area, area_due);
+    due.written = 1;
+    due.length = STOCK;
+    due.marks = 0x177;
+    answers(__LINE__, zbk_start(record, ZBK_RECORD_WORDS - 1, repair, ZBK_REPAIR_WORDS, area, AREA - 1, beyond, 2, none, 0, none, 0), ZBK_SIZE);
+    answers(__LINE__, zbk_start(record, ZBK_RECORD_WORDS, repair, ZBK_REPAIR_WORDS + 1, area, AREA - 1, beyond, 2, none, 0, none, 0), ZBK_SIZE);
+    answers(__LINE__, zbk_start(record, ZBK_RECORD_WORDS, repair, ZBK_REPAIR_WORDS, area, AREA - 1, beyond, 2, none, 0, none, 0), ZBK_AREA);
+    answers(__LINE__, zbk_start(record, ZBK_RECORD_WORDS, repair, ZBK_REPAIR_WORDS, area, AREA, beyond, 2, eight_helpers, 8, none, 0), ZBK_COUNT);
+    answers(__LINE__, zbk_start(record, ZBK_RECORD_WORDS, repair, ZBK_REPAIR_WORDS, area, AREA, beyond, 2, eight_helpers, 8, two_stand_ins, 2), ZBK_NODE);
+    answers(__LINE__, zbk_start(record, ZBK_RECORD_WORDS, repair, ZBK_REPAIR_WORDS, area, AREA, twice, 2, eight_helpers, 8, two_stand_ins, 2), ZBK_REPEAT);
+    answers(__LINE__, zbk_start(record, ZBK_RECORD_WORDS, repair, ZBK_REPAIR_WORDS, area, AREA, serving, 1, eight_helpers + 1, 4, others, 2), ZBK_SERVING);
+    answers(__LINE__, zbk_start(record, ZBK_RECORD_WORDS, repair, ZBK_REPAIR_WORDS, area, AREA, fresh_boards, 1, eight_helpers + 1, 4, lost, 2), ZBK_DOWN);
+    for (size_t length = 0; length < 70; length += 20) {
+        answers(__LINE__, zbk_step(record, ZBK_RECORD_WORDS, repair, ZBK_REPAIR_WORDS, area, AREA, packets, length, 0), ZBK_IDLE);
+        answers(__LINE__, zbk_step(record, ZBK_RECORD_WORDS, repair, ZBK_REPAIR_WORDS, area, AREA, packets, length, SIZE_MAX), ZBK_IDLE);
+    }
+    record_is(__LINE__, record, &due);
+    repair_is(__LINE__, repair, &none_running);
+    packets_are(__LINE__, packets, 0);
+    bytes_are(__LINE__, "a refusal changed the area", area, area_due, sizeof area, 0, sizeof area);
+}
+
+/* Each call while a repair is running: a read goes on, others are refused, and the loss of a board that is named ends it. */
+static void meanwhile(uint64_t *record, uint64_t *repair, uint8_t *area, uint8_t *packets) {
+    static const uint8_t too_long[CAPACITY * 18 + 1] = {1};
+    const uint8_t *const file = (const uint8_t *)stock;
+    const size_t two[2] = {8, 2}, one_fresh[2] = {8, 3}, beyond[1] = {9};
+    answers(__LINE__, zbk_read(record, ZBK_RECORD_WORDS, repair, ZBK_REPAIR_WORDS, area, AREA, two, 2, out, STOCK + 6), 0);
+    bytes_are(__LINE__, "another output of a read while a repair is running", out, file, STOCK, BLANK, ROOM);
+    memset(out, BLANK, ROOM);
+    refused(__LINE__, zbk_read(record, ZBK_RECORD_WORDS, repair, ZBK_REPAIR_WORDS, area, AREA, one_fresh, 2, out, STOCK), ZBK_DOWN);
+    answers(__LINE__, zbk_write(record, ZBK_RECORD_WORDS, repair, ZBK_REPAIR_WORDS, area, AREA, too_long, sizeof too_long), ZBK_LONG);
+    answers(__LINE__, zbk_write(record, ZBK_RECORD_WORDS, repair, ZBK_REPAIR_WORDS, area, AREA, file, STOCK), ZBK_BUSY);
+    answers(__LINE__, zbk_edit(record, ZBK_RECORD_WORDS, repair, ZBK_REPAIR_WORDS, area, AREA, 0, file, 1, two, 2), ZBK_BUSY);
+    answers(__LINE__, zbk_edit(record, ZBK_RECORD_WORDS, repair, ZBK_REPAIR_WORDS, area, AREA, STOCK, file, 1, beyond, 1), ZBK_BUSY);
+    answers(__LINE__, zbk_repair(record, ZBK_RECORD_WORDS, repair, ZBK_REPAIR_WORDS, area, AREA, beyond, 1, beyond, 1, beyond, 1), ZBK_BUSY);
+    answers(__LINE__, start(record, repair, area), ZBK_BUSY);
+    answers(__LINE__, zbk_lose(record, ZBK_RECORD_WORDS, repair, ZBK_REPAIR_WORDS, 9), ZBK_NODE);
+    answers(__LINE__, zbk_step(record, ZBK_RECORD_WORDS, repair, ZBK_REPAIR_WORDS, area, AREA, packets, 59, 1), ZBK_AREA);
+    answers(__LINE__, zbk_step(record, ZBK_RECORD_WORDS, repair, ZBK_REPAIR_WORDS, area, AREA, packets, 61, 1), ZBK_AREA);
+    answers(__LINE__, zbk_step(record, ZBK_RECORD_WORDS, repair, ZBK_REPAIR_WORDS, area, AREA + 1, packets, 60, 1), ZBK_AREA);
+    answers(__LINE__, zbk_step(record, ZBK_RECORD_WORDS, repair, ZBK_REPAIR_WORDS - 1, area, AREA, packets, 60, 1), ZBK_SIZE);
+
+    uint64_t other[ZBK_RECORD_WORDS + 2], words[ZBK_REPAIR_WORDS + 2];
+    for (size_t board = 0; board < 9; board++) {
+        memcpy(other, record, sizeof other);
+        memcpy(words, repair, sizeof words);
+        answers(__LINE__, zbk_lose(other, ZBK_RECORD_WORDS, words, ZBK_REPAIR_WORDS, board), 0);
+        repair_is(__LINE__, words, &none_running);
+        check(__LINE__, other[ZBK_WORD_MARKS] == (record[ZBK_WORD_MARKS] & ~((uint64_t)1 << board)), "the marks after a loss");
+    }
+    /* words of a repair that no call hands out; and, beside a record in which a helper is lost, any of a repair that is running */
+    static const size_t which[7] = {ZBK_REPAIR_RUNNING, ZBK_REPAIR_COUNT, ZBK_REPAIR_COUNT, ZBK_REPAIR_CARRIED, ZBK_REPAIR_FRESH, ZBK_REPAIR_HELPERS, ZBK_WORD_MARKS};
+    static const uint64_t numbers[7] = {2, 0, 33, 12, 0xFF03, 0x0008040206050808, 0x0077};
+    for (size_t i = 0; i < 7; i++) {
+        memcpy(other, record, sizeof other);
+        memcpy(words, repair, sizeof words);
+        *(i < 6 ? &words[which[i]] : &other[which[i]]) = numbers[i];
+        answers(__LINE__, zbk_step(other, ZBK_RECORD_WORDS, words, ZBK_REPAIR_WORDS, area, AREA, packets, 60, 1), ZBK_SIZE);
+        refused(__LINE__, zbk_read(other, ZBK_RECORD_WORDS, words, ZBK_REPAIR_WORDS, area, AREA, two, 2, out, STOCK), ZBK_SIZE);
+        answers(__LINE__, zbk_lose(other, ZBK_RECORD_WORDS, words, ZBK_REPAIR_WORDS, 0), ZBK_SIZE);
+    }
+}
+
+/* The boards 3 and 7 by steps of 0, 1, 3, 5, 2 packets and all that are left, with every other call in between. */
+static void steps(void) {
+    uint64_t record[ZBK_RECORD_WORDS + 2], repair[ZBK_REPAIR_WORDS + 2];
+    uint8_t area[AREA + 16], area_due[AREA + 16], packets[ROOM];
+    struct due due = {9, 2, 4, 3, CAPACITY, 1, STOCK, 0x177, {0xC45307801DFF002A, 0x09, 0, 0}};
+    struct repair_due running = {1, 2, 0, 0x0703, 0x0008040206050008, 0x0601};
+    check(__LINE__, ZBK_PACKETS_LEN(3, 2, 4, 3) == 60, "ZBK_PACKETS_LEN");
+    memset(packets, BLANK, ROOM);
+    two_lost(record, repair, area, area_due);
+    answers(__LINE__, start(record, repair, area), 0);
+
+    static const size_t allowances[6] = {0, 1, 3, 5, 2, SIZE_MAX}, carried[6] = {0, 1, 3, 5, 2, 1};
+    for (size_t i = 0; i < 6; i++) {
+        record_is(__LINE__, record, &due);
+        repair_is(__LINE__, repair, &running);
+        packets_are(__LINE__, packets, running.carried);
+        meanwhile(record, repair, area, packets);
+        record_is(__LINE__, record, &due);
+        repair_is(__LINE__, repair, &running);
+        packets_are(__LINE__, packets, running.carried);
+        bytes_are(__LINE__, "the area changed before the last packet", area, area_due, sizeof area, 0, sizeof area);
+        answers(__LINE__, zbk_step(record, ZBK_RECORD_WORDS, repair, ZBK_REPAIR_WORDS, area, AREA, packets, 60, allowances[i]), (uint64_t)carried[i] << 8);
+        running.carried += carried[i];
+    }
+    packets_are(__LINE__, packets, 12);
+    for (size_t i = 0; i < 2; i++) from_pairs(stock_shares[fresh_boards[i]], area_due + fresh_boards[i] * BOARD);
+    bytes_are(__LINE__, "another area after the last step", area, area_due, sizeof area, 0, sizeof area);
+    due.marks = 0x1FF;
+    record_is(__LINE__, record, &due);
+    repair_is(__LINE__, repair, &none_running);
+    answers(__LINE__, zbk_step(record, ZBK_RECORD_WORDS, repair, ZBK_REPAIR_WORDS, area, AREA, packets, 60, 1), ZBK_IDLE);
+    answers(__LINE__, start(record, repair, area), ZBK_SERVING);
+}
+
+/* Power fails where each number of packets was carried: the record and the area are as before the start, and 71 words 0 are enough beside them. */
+static void power_fails(void) {
+    uint64_t record[ZBK_RECORD_WORDS + 2], repair[ZBK_REPAIR_WORDS + 2];
+    uint8_t area[AREA + 16], area_due[AREA + 16], packets[ROOM];
+    const size_t two[2] = {5, 0};
+    for (size_t count = 0; count < 12; count++) {
+        struct due due = {9, 2, 4, 3, CAPACITY, 1, STOCK, 0x177, {0xC45307801DFF002A, 0x09, 0, 0}};
+        two_lost(record, repair, area, area_due);
+        memset(packets, BLANK, ROOM);
+        answers(__LINE__, start(record, repair, area), 0);
+        answers(__LINE__, zbk_step(record, ZBK_RECORD_WORDS, repair, ZBK_REPAIR_WORDS, area, AREA, packets, 60, count), (uint64_t)count << 8);
+        memset(repair, 0, ZBK_REPAIR_WORDS * sizeof *repair);
+        memset(packets, BLANK, ROOM);
+        record_is(__LINE__, record, &due);
+        bytes_are(__LINE__, "the area changed before the last packet", area, area_due, sizeof area, 0, sizeof area);
+        answers(__LINE__, zbk_read(record, ZBK_RECORD_WORDS, repair, ZBK_REPAIR_WORDS, area, AREA, two, 2, out, STOCK), 0);
+        bytes_are(__LINE__, "another output of a read after a power failure", out, (const uint8_t *)stock, STOCK, BLANK, ROOM);
+        memset(out, BLANK, ROOM);
+        answers(__LINE__, start(record, repair, area), 0);
+        answers(__LINE__, zbk_step(record, ZBK_RECORD_WORDS, repair, ZBK_REPAIR_WORDS, area, AREA, packets, 60, SIZE_MAX), 12 << 8);
+        for (size_t i = 0; i < 2; i++) from_pairs(stock_shares[fresh_boards[i]], area_due + fresh_boards[i] * BOARD);
+        bytes_are(__LINE__, "another area after a repair started anew", area, area_due, sizeof area, 0, sizeof area);
+        packets_are(__LINE__, packets, 12);
+        due.marks = 0x1FF;
+        record_is(__LINE__, record, &due);
+        repair_is(__LINE__, repair, &none_running);
+    }
 }
 
 /* M12 in a store with room for one stripe: boards 0 and 1 fresh, helpers 2, 3 and 4, and 14 bytes moved. */
 static void both_lost(const uint8_t *points) {
-    uint64_t record[ZBK_RECORD_WORDS + 2];
+    uint64_t record[ZBK_RECORD_WORDS + 2], repair[ZBK_REPAIR_WORDS + 2];
     uint8_t area[5 * 7 + 1], area_due[5 * 7 + 1];
     const size_t fresh[2] = {0, 1}, helpers[6] = {2, 3, 4, 4, 2, 3}, none[1] = {0};
     const struct due due = {5, 2, 3, 2, 1, 1, 12, 0x1F, {0x0403020100, 0, 0, 0}};
     memset(area, SPOILT, sizeof area);
     memset(area_due, SPOILT, sizeof area_due);
-    made_up(record);
-    answers(__LINE__, zbk_set_up(record, ZBK_RECORD_WORDS, 5, 2, 3, 2, points, 32, 1), 0);
-    answers(__LINE__, zbk_write(record, ZBK_RECORD_WORDS, area, 35, square, 12), 0);
+    made_up(record, repair);
+    answers(__LINE__, zbk_set_up(record, ZBK_RECORD_WORDS, repair, ZBK_REPAIR_WORDS, 5, 2, 3, 2, points, 32, 1), 0);
+    answers(__LINE__, zbk_write(record, ZBK_RECORD_WORDS, repair, ZBK_REPAIR_WORDS, area, 35, square, 12), 0);
     for (size_t i = 0; i < 2; i++) {
-        answers(__LINE__, zbk_lose(record, ZBK_RECORD_WORDS, fresh[i]), 0);
+        answers(__LINE__, zbk_lose(record, ZBK_RECORD_WORDS, repair, ZBK_REPAIR_WORDS, fresh[i]), 0);
         memset(area + fresh[i] * 7, SPOILT, 7);
     }
-    answers(__LINE__, zbk_repair(record, ZBK_RECORD_WORDS, area, 35, fresh, 2, helpers, 6, none, 0), 14 << 8);
+    answers(__LINE__, zbk_repair(record, ZBK_RECORD_WORDS, repair, ZBK_REPAIR_WORDS, area, 35, fresh, 2, helpers, 6, none, 0), 14 << 8);
     for (size_t board = 0; board < 5; board++) from_pairs(square_shares[board], area_due + board * 7);
     bytes_are(__LINE__, "another area", area, area_due, sizeof area, 0, sizeof area);
     record_is(__LINE__, record, &due);
@@ -489,14 +703,14 @@ static void both_lost(const uint8_t *points) {
 
 /* The limits, with a record in which all words differ where they can: n boards have points from F1 down by 7. */
 static void limits(void) {
-    uint64_t record[ZBK_RECORD_WORDS + 2];
+    uint64_t record[ZBK_RECORD_WORDS + 2], repair[ZBK_REPAIR_WORDS + 2];
     uint8_t points[ZBK_MAX_BOARDS];
     const struct due due = {32, 15, 22, 9, 4096, 0, 0, 0, {0xC0C7CED5DCE3EAF1, 0x888F969DA4ABB2B9, 0x50575E656C737A81, 0x181F262D343B4249}};
     for (size_t i = 0; i < ZBK_MAX_BOARDS; i++) points[i] = (uint8_t)(0xF1 - 7 * i);
-    made_up(record);
-    answers(__LINE__, zbk_set_up(record, ZBK_RECORD_WORDS, ZBK_MAX_BOARDS + 1, 15, 22, 9, points, ZBK_MAX_BOARDS, ZBK_MAX_STRIPES), ZBK_SIZE);
-    answers(__LINE__, zbk_set_up(record, ZBK_RECORD_WORDS, ZBK_MAX_BOARDS, 15, 22, 9, points, ZBK_MAX_BOARDS, ZBK_MAX_STRIPES + 1), ZBK_SIZE);
-    answers(__LINE__, zbk_set_up(record, ZBK_RECORD_WORDS, ZBK_MAX_BOARDS, 15, 22, 9, points, ZBK_MAX_BOARDS, ZBK_MAX_STRIPES), 0);
+    made_up(record, repair);
+    answers(__LINE__, zbk_set_up(record, ZBK_RECORD_WORDS, repair, ZBK_REPAIR_WORDS, ZBK_MAX_BOARDS + 1, 15, 22, 9, points, ZBK_MAX_BOARDS, ZBK_MAX_STRIPES), ZBK_SIZE);
+    answers(__LINE__, zbk_set_up(record, ZBK_RECORD_WORDS, repair, ZBK_REPAIR_WORDS, ZBK_MAX_BOARDS, 15, 22, 9, points, ZBK_MAX_BOARDS, ZBK_MAX_STRIPES + 1), ZBK_SIZE);
+    answers(__LINE__, zbk_set_up(record, ZBK_RECORD_WORDS, repair, ZBK_REPAIR_WORDS, ZBK_MAX_BOARDS, 15, 22, 9, points, ZBK_MAX_BOARDS, ZBK_MAX_STRIPES), 0);
     record_is(__LINE__, record, &due);
 }
 
@@ -545,6 +759,9 @@ int main(void) {
     texts(points);
     trial_files();
     store();
+    starts();
+    steps();
+    power_fails();
     both_lost(points);
     limits();
     printf("header: %u checks, %u failed\n", checks, failed);

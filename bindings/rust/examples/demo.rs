@@ -1,8 +1,9 @@
 //! The demo: a small stock file on eight shelf boards. Two boards are lost and rebuilt together, then two others one at a time, each with a board
 //! that stands in, and the file is read back from the four rebuilt boards only. A carton is loaded: one pack count is changed by an edit, without a
-//! rewrite, and read back from other boards than those that told the old one. Then the first file on a robot of the first series, whose boards have
-//! other points: two boards are lost and rebuilt, one of them is printed as text, and the file is read back. Prints what happens, board by board,
-//! and how many bytes the bus carried.
+//! rewrite, and read back from other boards than those that told the old one. Two more boards are rebuilt while the arm works, three packets at a time
+//! with reads in between; power fails in the middle, and the repair is started anew. Then the first file on a robot of the first series, whose boards
+//! have other points: two boards are lost and rebuilt, one of them is printed as text, and the file is read back. Prints what happens, board by
+//! board, and how many bytes the bus carried.
 
 use std::error::Error;
 use zebrankai::{board, Points, Record, Sizes};
@@ -13,6 +14,9 @@ const SIZES: Sizes = Sizes { n: 8, k: 4, d: 6, r: 2 };
 /// Stripes that each board has room for.
 const CAPACITY: usize = 16;
 
+/// Packets that the arm leaves room for on the bus, from one of its moves to the next.
+const ALLOWED: usize = 3;
+
 const STOCK: &str = "aspirin 100 mg: 42 boxes
 ibuprofen 400 mg: 17 boxes
 paracetamol 500 mg: 0 boxes
@@ -22,10 +26,11 @@ insulin pens: 8 boxes
 thermometer covers: 250 pieces
 ";
 
-/// The shelf: the store's record, the memory of all boards, and the boards that were rebuilt.
+/// The shelf: the store's record, the memory of all boards, that for the packets of a started repair, and the boards that were rebuilt.
 struct Shelf {
     record: Record,
     area: Vec<u8>,
+    packets: Vec<u8>,
     rebuilt: Vec<usize>,
 }
 
@@ -51,17 +56,40 @@ fn main() -> Result<(), Box<dyn Error>> {
     println!("\n10. The file is read from the other four boards: 0, 2, 5 and 7.\n");
     shelf.read(&[0, 2, 5, 7], edited.as_bytes())?;
 
-    println!("\n11. A robot of the first series keeps the first file. There board i has the point i + 1 and not i, so the boards");
+    println!("\n11. Boards 1 and 6 fail while the arm needs the bus. Their repair is started, and carries {ALLOWED} packets at a time; the");
+    println!("    file is read in between.\n");
+    shelf.fail(&[1, 6])?;
+    shelf.start(&[1, 6])?;
+    shelf.step(9, &[0, 2, 3, 4], edited.as_bytes())?;
+
+    println!("\n12. Power fails. The record and the boards are kept; the repair's own record and its packets are gone. The file is");
+    println!("    read from boards 2, 4, 5 and 7.\n");
+    shelf.power_fails();
+    shelf.print_boards();
+    println!();
+    shelf.read(&[2, 4, 5, 7], edited.as_bytes())?;
+
+    println!("\n13. The repair is started anew, and stepped to its end.\n");
+    shelf.start(&[1, 6])?;
+    shelf.step(shelf.packet_count(2), &[0, 2, 3, 4], edited.as_bytes())?;
+    shelf.rebuilt.extend([1, 6]);
+    println!();
+    shelf.print_boards();
+
+    println!("\n14. The file is read from boards 1, 6, 0 and 7.\n");
+    shelf.read(&[1, 6, 0, 7], edited.as_bytes())?;
+
+    println!("\n15. A robot of the first series keeps the first file. There board i has the point i + 1 and not i, so the boards");
     println!("    hold other bytes.\n");
     let mut shelf = Shelf::write(Points::first_series(SIZES.n), file)?;
     shelf.print_boards();
 
-    shelf.swap(12, &[3, 4])?;
+    shelf.swap(16, &[3, 4])?;
 
-    println!("\n14. Board 3 is printed as text, which says the points of all boards.\n");
+    println!("\n18. Board 3 is printed as text, which says the points of all boards.\n");
     shelf.print_text(3)?;
 
-    println!("\n15. The file is read from boards 3, 4, 6 and 1.\n");
+    println!("\n19. The file is read from boards 3, 4, 6 and 1.\n");
     shelf.read(&[3, 4, 6, 1], file)
 }
 
@@ -78,7 +106,7 @@ impl Shelf {
         let mut area = vec![0xEE; SIZES.area_len(CAPACITY)];
         let mut record = Record::set_up(SIZES, points, CAPACITY)?;
         record.write(&mut area, file)?;
-        Ok(Shelf { record, area, rebuilt: Vec::new() })
+        Ok(Shelf { record, area, packets: Vec::new(), rebuilt: Vec::new() })
     }
 
     /// Reads the file from these boards, prints it, and holds it to the file that was written, or edited.
@@ -143,13 +171,66 @@ impl Shelf {
         }
     }
 
-    /// Takes boards out, and rebuilds new ones in their places together. `step` is the number of the first of the two steps.
-    fn swap(&mut self, step: usize, boards: &[usize]) -> Result<(), Box<dyn Error>> {
+    /// Takes boards out, and puts new ones in their places, which hold nothing of use.
+    fn fail(&mut self, boards: &[usize]) -> Result<(), Box<dyn Error>> {
         for &board in boards {
             self.record.lose(board)?;
             let length = CAPACITY * SIZES.share_len();
             self.area[board * length..][..length].fill(0xEE);
         }
+        Ok(())
+    }
+
+    /// How many packets a repair of so many boards has.
+    fn packet_count(&self, boards: usize) -> usize {
+        boards * (SIZES.d + SIZES.r - 1)
+    }
+
+    /// Starts to rebuild r boards: the first d of the others help each.
+    fn start(&mut self, boards: &[usize]) -> Result<(), Box<dyn Error>> {
+        let helpers: Vec<usize> = (0..SIZES.n).filter(|board| !boards.contains(board)).take(SIZES.d).collect();
+        self.record.start(&self.area, boards, &helpers.repeat(boards.len()), &[])?;
+        self.packets = vec![0xEE; self.record.packets_len()];
+        Ok(())
+    }
+
+    /// Carries packets, as many at a time as are allowed, and reads the file from these boards behind each step, until so many are carried.
+    fn step(&mut self, count: usize, readers: &[usize], file: &[u8]) -> Result<(), Box<dyn Error>> {
+        let all = self.packet_count(SIZES.r);
+        let mut carried = 0;
+        while carried < count {
+            let now = self.record.step(&mut self.area, &mut self.packets, ALLOWED)?;
+            let mut read = vec![0; self.record.length()];
+            self.record.read(&self.area, readers, &mut read)?;
+            if read != file {
+                return Err("the file that was read between packets is another one".into());
+            }
+            println!(
+                "    packets {} to {} of {all} carried, {}; read from boards {}: all {} bytes are right",
+                carried + 1,
+                carried + now,
+                if self.record.is_repairing() {
+                    "the new boards are out of service"
+                } else {
+                    "and both are in service"
+                },
+                listed(readers, ", "),
+                read.len()
+            );
+            carried += now;
+        }
+        Ok(())
+    }
+
+    /// Power fails: what is kept is the record's words and the area.
+    fn power_fails(&mut self) {
+        self.record = Record::from_words(self.record.words());
+        self.packets.clear();
+    }
+
+    /// Takes boards out, and rebuilds new ones in their places together. `step` is the number of the first of the two steps.
+    fn swap(&mut self, step: usize, boards: &[usize]) -> Result<(), Box<dyn Error>> {
+        self.fail(boards)?;
         match boards {
             [one] => {
                 println!("\n{step}. Board {one} fails and is swapped for a new one, which holds nothing of use.\n")

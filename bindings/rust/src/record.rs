@@ -1,4 +1,4 @@
-//! The store: a record of twelve words, over an area that the caller lends to each call.
+//! The store: a record of twelve words with that of a started repair beside it, over an area that the caller lends to each call.
 
 use crate::refusal::result;
 use crate::{Points, Refusal, Sizes, MAX_BOARDS};
@@ -8,6 +8,8 @@ extern "C" {
     fn zbk_set_up(
         record: *mut u64,
         record_words: usize,
+        repair: *mut u64,
+        repair_words: usize,
         n: usize,
         k: usize,
         d: usize,
@@ -19,15 +21,19 @@ extern "C" {
     fn zbk_write(
         record: *mut u64,
         record_words: usize,
+        repair: *mut u64,
+        repair_words: usize,
         area: *mut u8,
         area_len: usize,
         file: *const u8,
         file_len: usize,
     ) -> u64;
-    fn zbk_lose(record: *mut u64, record_words: usize, board: usize) -> u64;
+    fn zbk_lose(record: *mut u64, record_words: usize, repair: *mut u64, repair_words: usize, board: usize) -> u64;
     fn zbk_repair(
         record: *mut u64,
         record_words: usize,
+        repair: *mut u64,
+        repair_words: usize,
         area: *mut u8,
         area_len: usize,
         fresh: *const usize,
@@ -40,6 +46,8 @@ extern "C" {
     fn zbk_read(
         record: *mut u64,
         record_words: usize,
+        repair: *mut u64,
+        repair_words: usize,
         area: *const u8,
         area_len: usize,
         boards: *const usize,
@@ -50,6 +58,8 @@ extern "C" {
     fn zbk_edit(
         record: *mut u64,
         record_words: usize,
+        repair: *mut u64,
+        repair_words: usize,
         area: *mut u8,
         area_len: usize,
         offset: usize,
@@ -58,17 +68,60 @@ extern "C" {
         boards: *const usize,
         boards_count: usize,
     ) -> u64;
+    fn zbk_start(
+        record: *mut u64,
+        record_words: usize,
+        repair: *mut u64,
+        repair_words: usize,
+        area: *const u8,
+        area_len: usize,
+        fresh: *const usize,
+        fresh_count: usize,
+        helpers: *const usize,
+        helpers_count: usize,
+        stand_ins: *const usize,
+        stand_ins_count: usize,
+    ) -> u64;
+    fn zbk_step(
+        record: *mut u64,
+        record_words: usize,
+        repair: *mut u64,
+        repair_words: usize,
+        area: *mut u8,
+        area_len: usize,
+        packets: *mut u8,
+        packets_len: usize,
+        allowance: usize,
+    ) -> u64;
 }
 
 /// The words of a record.
 pub const RECORD_WORDS: usize = 12;
 
+/// The words of the record of a started repair.
+pub const REPAIR_WORDS: usize = 71;
+
 /// The first of the four words that hold the points, of eight boards each, the lowest byte first.
 const POINTS: usize = 8;
 
-/// The record of a store: its sizes, its boards' points, its capacity, whether a file was written and how long it is, and which boards are in service. It
-/// belongs to one area of [`Sizes::area_len`] bytes, in which the boards stand one after another; give each call the area as the last call
-/// left it. A record can be kept as its [`words`](Record::words).
+/// The record of a store: its sizes, its boards' points, its capacity, whether a file was written and how long it is, and which boards are in service;
+/// and beside it that of a repair that was started. It belongs to one area of [`Sizes::area_len`] bytes, in which the boards stand one after another;
+/// give each call the area as the last call left it. A record can be kept as its [`words`](Record::words).
+///
+/// # Power
+///
+/// What a robot keeps through a power failure is the [`words`](Record::words) and the area; the [`repair_words`](Record::repair_words) and the packet
+/// area are what it may lose. [`Record::from_words`] goes on without a repair.
+///
+/// - Between two packets, and inside a [`step`](Record::step) that has not carried the last packet of all, the words are those before the
+///   [`start`](Record::start) but for the boards lost since, boards in service hold what they held, and any k of them give the file. The repair is
+///   started anew.
+/// - Inside the step that carries the last packet, and inside [`repair`](Record::repair), only bytes of fresh boards change in the area, and these are out
+///   of service by the words that were kept before the call: keep the new ones once the call has come back.
+/// - [`write`](Record::write) and [`edit`](Record::edit) change boards in service. Where power cuts one, some boards are changed and others not, and no
+///   call is promised anything of such an area: a read may give a file that nobody wrote. Keep a second record and area, and use the two in turn.
+///
+/// # Clones
 ///
 /// A clone goes with a copy of the area: the two are one store, and a record as it was before a call, used with the area as that call left it, is no
 /// store that any call handed on. What it then reads or rebuilds may be no file that was written. So a record is moved, and cloned only where that
@@ -86,28 +139,48 @@ const POINTS: usize = 8;
 #[derive(Clone, Debug, PartialEq, Eq, Hash)]
 pub struct Record {
     words: [u64; RECORD_WORDS],
+    repair: [u64; REPAIR_WORDS],
 }
 
 // Safety, for every call below: a slice is handed over as its pointer and its length, so it is valid for as many elements; the pointer of a
-// slice is never null; and the record, an area to change and an output are each lent to this call alone, so they overlap nothing else.
+// slice is never null; and both records, an area to change, a packet area and an output are each lent to this call alone, so they overlap nothing else.
 
 impl Record {
     /// A new store with no file and no board in service. The record keeps the points of its boards. `capacity` is the number of stripes that each
     /// board has room for, 1 to 4,096.
     pub fn set_up(sizes: Sizes, points: Points, capacity: usize) -> Result<Record, Refusal> {
-        let mut record = Record { words: [0; RECORD_WORDS] };
+        let mut record = Record::from_words([0; RECORD_WORDS]);
         let Sizes { n, k, d, r } = sizes;
         let points = points.bytes();
-        let words = &mut record.words;
+        let Record { words, repair } = &mut record;
         result(unsafe {
-            zbk_set_up(words.as_mut_ptr(), words.len(), n, k, d, r, points.as_ptr(), points.len(), capacity)
+            zbk_set_up(
+                words.as_mut_ptr(),
+                words.len(),
+                repair.as_mut_ptr(),
+                repair.len(),
+                n,
+                k,
+                d,
+                r,
+                points.as_ptr(),
+                points.len(),
+                capacity,
+            )
         })?;
         Ok(record)
     }
 
-    /// A record of words that were kept. Any words are taken; the calls refuse those that no call hands out, with [`Refusal::Size`].
+    /// A record of words that were kept, as after a power failure: no repair is running. Any words are taken; the calls refuse those that no call hands
+    /// out, with [`Refusal::Size`].
     pub fn from_words(words: [u64; RECORD_WORDS]) -> Record {
-        Record { words }
+        Record { words, repair: [0; REPAIR_WORDS] }
+    }
+
+    /// The same record with the words of a started repair that were kept beside its own. Any words are taken; the calls refuse those of a running repair
+    /// that no call hands out beside this record, with [`Refusal::Size`].
+    pub fn with_repair_words(self, repair: [u64; REPAIR_WORDS]) -> Record {
+        Record { repair, ..self }
     }
 
     /// A record of eight words that were kept before records held points: it goes on with the words of the standard points behind them.
@@ -118,13 +191,19 @@ impl Record {
         for (word, bytes) in all[POINTS..].iter_mut().zip(points.bytes().chunks(8)) {
             *word = u64::from_le_bytes(bytes.try_into().expect("a piece has eight bytes"));
         }
-        Record { words: all }
+        Record::from_words(all)
     }
 
     /// The words: n, k, d, r, capacity, written (0 or 1), length, marks (bit i for board i), and four words with the points of eight boards each,
     /// the lowest byte first.
     pub fn words(&self) -> [u64; RECORD_WORDS] {
         self.words
+    }
+
+    /// The words of the started repair: 1 where it is running, else 0; then, as far as one is running, its count of fresh boards, the packets carried, and
+    /// the boards as bytes, eight in a word, the lowest first: four words of fresh boards, 32 of helpers, 32 of stand-ins.
+    pub fn repair_words(&self) -> [u64; REPAIR_WORDS] {
+        self.repair
     }
 
     /// The sizes of the store.
@@ -162,19 +241,50 @@ impl Record {
         board < self.sizes().n.min(MAX_BOARDS) && self.words[7] >> board & 1 == 1
     }
 
+    /// Whether a repair is running: started, and not yet stepped to its end.
+    pub fn is_repairing(&self) -> bool {
+        self.repair[0] == 1
+    }
+
+    /// Bytes of the packet area of the repair that is running, t × (2d + r − 1) for each stripe; 0 where none is. A number that is too great for
+    /// `usize`, as only made-up words have it, is cut to the greatest.
+    pub fn packets_len(&self) -> usize {
+        if !self.is_repairing() {
+            return 0;
+        }
+        let sizes = self.sizes();
+        sizes.stripes(self.length()).saturating_mul(self.repair[1] as usize).saturating_mul(sizes.share_len())
+    }
+
+    /// What a power failure leaves of a record: the repair that was running is gone, the store is as it was. So it is with
+    /// [`Record::from_words`] of the words that were kept.
+    pub fn power_failed(&mut self) {
+        self.repair = [0; REPAIR_WORDS];
+    }
+
     /// Writes a file: every board gets its share and comes into service.
     pub fn write(&mut self, area: &mut [u8], file: &[u8]) -> Result<(), Refusal> {
-        let words = &mut self.words;
+        let Record { words, repair } = self;
         result(unsafe {
-            zbk_write(words.as_mut_ptr(), words.len(), area.as_mut_ptr(), area.len(), file.as_ptr(), file.len())
+            zbk_write(
+                words.as_mut_ptr(),
+                words.len(),
+                repair.as_mut_ptr(),
+                repair.len(),
+                area.as_mut_ptr(),
+                area.len(),
+                file.as_ptr(),
+                file.len(),
+            )
         })
         .map(drop)
     }
 
-    /// Takes a board out of service.
+    /// Takes a board out of service. Where a repair is running that names the board, fresh, helper or stand-in, that repair has ended, and its fresh
+    /// boards stay out of service; the loss of another board does not touch it.
     pub fn lose(&mut self, board: usize) -> Result<(), Refusal> {
-        let words = &mut self.words;
-        result(unsafe { zbk_lose(words.as_mut_ptr(), words.len(), board) }).map(drop)
+        let Record { words, repair } = self;
+        result(unsafe { zbk_lose(words.as_mut_ptr(), words.len(), repair.as_mut_ptr(), repair.len(), board) }).map(drop)
     }
 
     /// Rebuilds t fresh boards together, 1 to r of them, each out of service. `helpers` has t × d numbers: the d helpers of the first fresh board,
@@ -189,11 +299,13 @@ impl Record {
         helpers: &[usize],
         stand_ins: &[usize],
     ) -> Result<usize, Refusal> {
-        let words = &mut self.words;
+        let Record { words, repair } = self;
         result(unsafe {
             zbk_repair(
                 words.as_mut_ptr(),
                 words.len(),
+                repair.as_mut_ptr(),
+                repair.len(),
                 area.as_mut_ptr(),
                 area.len(),
                 fresh.as_ptr(),
@@ -208,12 +320,14 @@ impl Record {
 
     /// Reads the file from k boards into the first [`length`](Record::length) bytes of `out`; the rest of `out` stays.
     pub fn read(&self, area: &[u8], boards: &[usize], out: &mut [u8]) -> Result<(), Refusal> {
-        // the call is lent a copy, since a read hands on the record as it came
-        let mut words = self.words;
+        // the call is lent a copy, since a read hands on both records as they came
+        let Record { mut words, mut repair } = self.clone();
         result(unsafe {
             zbk_read(
                 words.as_mut_ptr(),
                 words.len(),
+                repair.as_mut_ptr(),
+                repair.len(),
                 area.as_ptr(),
                 area.len(),
                 boards.as_ptr(),
@@ -256,11 +370,13 @@ impl Record {
     /// # Ok::<(), Refusal>(())
     /// ```
     pub fn edit(&mut self, area: &mut [u8], offset: usize, bytes: &[u8], boards: &[usize]) -> Result<(), Refusal> {
-        let words = &mut self.words;
+        let Record { words, repair } = self;
         result(unsafe {
             zbk_edit(
                 words.as_mut_ptr(),
                 words.len(),
+                repair.as_mut_ptr(),
+                repair.len(),
                 area.as_mut_ptr(),
                 area.len(),
                 offset,
@@ -271,5 +387,91 @@ impl Record {
             )
         })
         .map(drop)
+    }
+
+    /// Starts a repair, to be carried a packet at a time while the bus is shared: takes the lists of [`repair`](Record::repair), refuses what that
+    /// refuses, and carries nothing. [`step`](Record::step) carries its packets, t × (d + r − 1) in all. Until the last one the fresh boards are out of
+    /// service and nothing else changes. Reads go on meanwhile, and losses; a write, an edit, a repair and a start are [`Refusal::Busy`].
+    ///
+    /// ```
+    /// use zebrankai::{Points, Record, Refusal, Sizes};
+    ///
+    /// let sizes = Sizes { n: 7, k: 3, d: 4, r: 2 };
+    /// let stock = b"aspirin 100 mg: 42 boxes\n";
+    /// let mut area = vec![0; sizes.area_len(8)];
+    /// let mut record = Record::set_up(sizes, Points::standard(7), 8)?;
+    /// record.write(&mut area, stock)?;
+    /// record.lose(1)?;
+    /// record.lose(4)?;
+    ///
+    /// record.start(&area, &[1, 4], &[0, 2, 3, 5, 6, 5, 3, 2], &[])?;
+    /// let mut packets = vec![0; record.packets_len()];
+    /// let mut file = vec![0; record.length()];
+    /// let mut carried = 0;
+    /// while record.is_repairing() {
+    ///     // three packets, then the arm has the bus
+    ///     carried += record.step(&mut area, &mut packets, 3)?;
+    ///     record.read(&area, &[0, 3, 6], &mut file)?;
+    ///     assert_eq!(file, stock);
+    /// }
+    /// assert_eq!(carried, 2 * (4 + 2 - 1));
+    ///
+    /// record.read(&area, &[1, 4, 6], &mut file)?;
+    /// assert_eq!(file, stock);
+    /// assert_eq!(record.step(&mut area, &mut packets, 3), Err(Refusal::Idle));
+    /// # Ok::<(), Refusal>(())
+    /// ```
+    pub fn start(
+        &mut self,
+        area: &[u8],
+        fresh: &[usize],
+        helpers: &[usize],
+        stand_ins: &[usize],
+    ) -> Result<(), Refusal> {
+        let Record { words, repair } = self;
+        result(unsafe {
+            zbk_start(
+                words.as_mut_ptr(),
+                words.len(),
+                repair.as_mut_ptr(),
+                repair.len(),
+                area.as_ptr(),
+                area.len(),
+                fresh.as_ptr(),
+                fresh.len(),
+                helpers.as_ptr(),
+                helpers.len(),
+                stand_ins.as_ptr(),
+                stand_ins.len(),
+            )
+        })
+        .map(drop)
+    }
+
+    /// Carries the next packets of the repair that is running, at most `allowance`, fewer only where fewer are left, and answers how many; 0 is taken,
+    /// and moves nothing. [`Refusal::Idle`] where none is running.
+    ///
+    /// `packets` is the packet area, of [`packets_len`](Record::packets_len) bytes, the same in each step of a repair; what it holds at first does not
+    /// matter. In it the packets lie one after another: those of helpers, two bytes for each stripe, then those of stand-ins, then the exchanges, one
+    /// byte for each stripe; in each of these by receiver, in the order of `fresh`, and then by its list of senders, which for exchanges is `fresh`
+    /// without the receiver. Each packet is written at its place when it is carried, and all other bytes there stay: a helper's and a stand-in's by what
+    /// the board holds then, an exchange by its sender's helper packets as they lie there. With the last packet each fresh board gets the share that the
+    /// packets lying there make, all come into service, and the repair has ended: with no bytes altered of boards in service and of packets carried, the
+    /// store is as [`repair`](Record::repair) would leave it in the place of this step.
+    pub fn step(&mut self, area: &mut [u8], packets: &mut [u8], allowance: usize) -> Result<usize, Refusal> {
+        let Record { words, repair } = self;
+        result(unsafe {
+            zbk_step(
+                words.as_mut_ptr(),
+                words.len(),
+                repair.as_mut_ptr(),
+                repair.len(),
+                area.as_mut_ptr(),
+                area.len(),
+                packets.as_mut_ptr(),
+                packets.len(),
+                allowance,
+            )
+        })
     }
 }

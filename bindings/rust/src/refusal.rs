@@ -3,8 +3,8 @@
 use std::error::Error;
 use std::fmt;
 
-/// Why a call was refused. Where several hold, the first is given: of the store in the order 1, 2, 3, 8, 15, 4, 5, 6, 14, 9, 7, 10, at board
-/// level in the order 12, 1, 3, 13, 4, 5, 6, 2, 7, 10. 11 is not used: no call answers it.
+/// Why a call was refused. Where several hold, the first is given: of the store in the order 1, 2, 3, 8, 16, 17, 15, 4, 5, 6, 14, 9, 7, 10, at
+/// board level in the order 12, 1, 3, 13, 4, 5, 6, 2, 7, 10. 11 is not used: no call answers it.
 ///
 /// Later calls bring further refusals, so a `match` on it needs an arm for the others:
 ///
@@ -15,6 +15,7 @@ use std::fmt;
 ///     use Refusal::*;
 ///     match refusal {
 ///         Down | Serving => "another board",
+///         Busy | Idle => "another time",
 ///         Size | Area | Long | Count | Node | Repeat | Short | Empty | Disagree | Text | Mixed | Range => "ask the installer",
 ///     }
 /// }
@@ -24,9 +25,9 @@ use std::fmt;
 #[repr(u8)]
 pub enum Refusal {
     /// The sizes are not legal, the capacity is out of range, the record is one that no call hands out, the points repeat, or one from n up is
-    /// not 00.
+    /// not 00; or a repair is running by words that no call hands out beside this record.
     Size = 1,
-    /// A lent area, share or packet slice has another length than the sizes give.
+    /// A lent area, share or packet slice, or the packet area of a repair that is running, has another length than the sizes give.
     Area = 2,
     /// The file is too long.
     Long = 3,
@@ -52,6 +53,10 @@ pub enum Refusal {
     Serving = 14,
     /// The edit goes beyond the end of the file.
     Range = 15,
+    /// A repair is running.
+    Busy = 16,
+    /// No repair is running.
+    Idle = 17,
 }
 
 impl Refusal {
@@ -71,6 +76,8 @@ impl Refusal {
         Refusal::Mixed,
         Refusal::Serving,
         Refusal::Range,
+        Refusal::Busy,
+        Refusal::Idle,
     ];
 
     /// The refusal with a number; none where no refusal has it.
@@ -100,6 +107,8 @@ impl Refusal {
             Refusal::Mixed => "MIXED",
             Refusal::Serving => "SERVING",
             Refusal::Range => "RANGE",
+            Refusal::Busy => "BUSY",
+            Refusal::Idle => "IDLE",
         }
     }
 
@@ -108,9 +117,13 @@ impl Refusal {
         match self {
             Refusal::Size => {
                 "The sizes are not legal, the capacity is not 1 to 4,096 stripes, the record is one that no call hands out, \
-                 the points repeat, or one from n up is not 00."
+                 the points repeat, or one from n up is not 00; or a repair is running by a repair record that no call hands \
+                 out beside this record."
             }
-            Refusal::Area => "The area, or a slice of shares or packets, has another length than the sizes give.",
+            Refusal::Area => {
+                "The area, the packet area of a repair that is running, or a slice of shares or packets, has another length \
+                 than the sizes give."
+            }
             Refusal::Long => "The file is longer than the store's capacity, or than 4,096 stripes at board level.",
             Refusal::Count => "A list has the wrong number of boards, or there are not 1 to r fresh boards, or the texts to gather are not k.",
             Refusal::Node => "A board number is n or more.",
@@ -118,13 +131,15 @@ impl Refusal {
                 "A board is named twice where each must be another one, or two texts to gather are of one board."
             }
             Refusal::Short => "The output is shorter than what is to be written.",
-            Refusal::Empty => "A repair, a read or an edit before any file was written.",
+            Refusal::Empty => "A repair, a read, an edit, a start or a step before any file was written.",
             Refusal::Down => "A board to read from, a helper or a stand-in is out of service.",
             Refusal::Disagree => "No file of this length has these shares.",
             Refusal::Text => "The text is none that zbk_share_text writes.",
             Refusal::Mixed => "The texts differ in sizes, points or length.",
             Refusal::Serving => "A fresh board is in service.",
             Refusal::Range => "The edit goes beyond the end of the file.",
+            Refusal::Busy => "A repair is running.",
+            Refusal::Idle => "No repair is running.",
         }
     }
 }

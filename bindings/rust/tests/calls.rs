@@ -1,6 +1,6 @@
 //! Every function of the bindings, accepted and refused, on figures of document 01, at present points and at those of the first series.
 
-use zebrankai::{board, Points, Record, Refusal, Sizes};
+use zebrankai::{board, Points, Record, Refusal, Sizes, REPAIR_WORDS};
 
 /// n = 5, k = 2, d = 3, r = 2: shares of 7 bytes, stripes of 12.
 const FIVE: Sizes = Sizes { n: 5, k: 2, d: 3, r: 2 };
@@ -126,17 +126,19 @@ fn points_that_repeat_or_stand_from_n_up_are_refused() {
 #[test]
 fn every_refusal_has_its_number_name_and_sentence() {
     let numbers: Vec<u8> = Refusal::ALL.iter().map(|refusal| refusal.number()).collect();
-    assert_eq!(numbers, (1..=10).chain(12..=15).collect::<Vec<u8>>());
+    assert_eq!(numbers, (1..=10).chain(12..=17).collect::<Vec<u8>>());
     for &refusal in Refusal::ALL {
         assert_eq!(Refusal::from_number(refusal.number()), Some(refusal));
         assert_eq!(refusal.name(), format!("{refusal:?}").to_uppercase());
         assert!(refusal.sentence().ends_with('.'));
     }
     // 11 is not used
-    assert_eq!([0, 11, 16].map(Refusal::from_number), [None, None, None]);
+    assert_eq!([0, 11, 18].map(Refusal::from_number), [None, None, None]);
     assert_eq!(Refusal::Node.to_string(), "NODE (5): A board number is n or more.");
     assert_eq!(Refusal::Serving.to_string(), "SERVING (14): A fresh board is in service.");
     assert_eq!(Refusal::Range.to_string(), "RANGE (15): The edit goes beyond the end of the file.");
+    assert_eq!(Refusal::Busy.to_string(), "BUSY (16): A repair is running.");
+    assert_eq!(Refusal::Idle.to_string(), "IDLE (17): No repair is running.");
 }
 
 #[test]
@@ -565,4 +567,244 @@ fn a_store_refuses_and_stays() {
         assert_eq!(record.lose(0), Err(Refusal::Size));
         assert_eq!(record.words(), words);
     }
+}
+
+/// M12's packets for boards 0 and 1, in the order carried: of helpers 2, 3, 4 for each, then what board 1 sends board 0 and board 0 board 1.
+const CARRIED: [u8; 14] = [0, 0, 0, 0, 0, 0, 0x04, 0x02, 0x05, 0x03, 0x10, 0x04, 0, 0];
+const FIRST_CARRIED: [u8; 14] = [5, 3, 0x10, 4, 0x11, 5, 0x0A, 0x0C, 0x20, 0x10, 0x22, 0x14, 2, 4];
+
+/// Where each of its eight packets begins, and where the last one ends.
+const PLACES: [usize; 9] = [0, 2, 4, 6, 8, 10, 12, 13, 14];
+
+/// The words of a repair of boards 0 and 1 with so many packets carried.
+fn running(carried: u64) -> [u64; REPAIR_WORDS] {
+    let mut words = [0; REPAIR_WORDS];
+    words[..4].copy_from_slice(&[1, 2, carried, 0x0100]);
+    words[7] = 0x04_03_02_04_03_02;
+    words
+}
+
+/// Boards 0 and 1 lost and EE on them, and their repair started.
+fn started(points: Points) -> (Record, Vec<u8>) {
+    let (mut record, mut area) = written(points);
+    for lost in [0, 1] {
+        record.lose(lost).unwrap();
+    }
+    area[..14].fill(0xEE);
+    record.start(&area, &[0, 1], &[2, 3, 4, 2, 3, 4], &[]).unwrap();
+    (record, area)
+}
+
+#[test]
+fn a_repair_is_carried_a_packet_at_a_time() {
+    for (points, shares, due) in [(present(), SHARES, CARRIED), (first(), FIRST_SHARES, FIRST_CARRIED)] {
+        for allowance in [1, 2, 3, 7, 8, 9, usize::MAX] {
+            let (mut record, mut area) = started(points);
+            let (words, before) = (record.words(), area.clone());
+            assert_eq!((record.is_repairing(), record.packets_len()), (true, 14));
+            let mut packets = vec![0xEE; 14];
+            let mut carried = 0;
+            while record.is_repairing() {
+                assert_eq!((record.words(), record.repair_words(), &area), (words, running(carried as u64), &before));
+                assert_eq!(packets[..PLACES[carried]], due[..PLACES[carried]]);
+                assert!(packets[PLACES[carried]..].iter().all(|&byte| byte == 0xEE));
+                // no packet allowed, and a read in between
+                assert_eq!(record.step(&mut area, &mut packets, 0), Ok(0));
+                let mut out = [0xEE; 12];
+                assert_eq!((record.read(&area, &[4, 2], &mut out), out), (Ok(()), FILE));
+                assert_eq!(record.read(&area, &[0, 2], &mut out), Err(Refusal::Down));
+                let now = allowance.min(8 - carried);
+                assert_eq!(record.step(&mut area, &mut packets, allowance), Ok(now));
+                carried += now;
+            }
+            assert_eq!((carried, &packets[..]), (8, &due[..]));
+            assert_eq!((record.words()[7], record.repair_words()), (0b11111, [0; REPAIR_WORDS]));
+            assert_eq!((area, record.packets_len()), (shares.concat(), 0));
+        }
+    }
+}
+
+#[test]
+fn a_board_is_carried_alone_with_a_stand_in() {
+    for (points, shares, due) in [
+        (present(), SHARES, [0, 0, 0x04, 0x02, 0x05, 0x03, 0x04]),
+        (first(), FIRST_SHARES, [0x02, 0x04, 0x0A, 0x0C, 0x20, 0x10, 0x14]),
+    ] {
+        let (mut record, mut area) = written(points);
+        record.lose(1).unwrap();
+        area[7..14].fill(0xEE);
+        record.start(&area, &[1], &[0, 2, 3], &[4]).unwrap();
+        let mut words = [0; REPAIR_WORDS];
+        (words[0], words[1], words[3], words[7], words[39]) = (1, 1, 1, 0x03_02_00, 4);
+        assert_eq!((record.repair_words(), record.packets_len()), (words, 7));
+        let mut packets = [0xEE; 7];
+        assert_eq!(record.step(&mut area, &mut packets, 3), Ok(3));
+        assert_eq!((&packets[..6], packets[6]), (&due[..6], 0xEE));
+        assert_eq!(record.step(&mut area, &mut packets, 3), Ok(1));
+        assert_eq!((packets, area, record.is_repairing()), (due, shares.concat(), false));
+    }
+}
+
+#[test]
+fn a_step_takes_packets_as_they_lie() {
+    // board 1's g is 08 more at the points of its three helpers, and so everywhere
+    let (mut record, mut area) = started(first());
+    let mut packets = vec![0xEE; 14];
+    assert_eq!(record.step(&mut area, &mut packets, 6), Ok(6));
+    for place in [6, 8, 10] {
+        packets[place] ^= 0x08;
+    }
+    // boards that have sent all they send are altered behind their packets
+    area[14..].fill(0x99);
+    assert_eq!(record.step(&mut area, &mut packets, 1), Ok(1));
+    assert_eq!(packets[12..], [0x02 ^ 0x08, 0xEE]);
+    packets[12] = 0x02;
+    assert_eq!(record.step(&mut area, &mut packets, 1), Ok(1));
+    // board 0 is as it was, by the byte that lies there; of board 1 the values of g are 08 more, and f where it has that of g
+    let due = [0x08 ^ 0x08, 0x0C, 0x10, 0x14, 0x04, 0x0A ^ 0x08, 0x20 ^ 0x08];
+    assert_eq!((&area[..7], &area[7..14]), (&FIRST_SHARES[0][..], &due[..]));
+}
+
+#[test]
+fn while_a_repair_runs_reads_and_losses_go_on() {
+    let (mut record, mut area) = started(present());
+    let mut packets = vec![0xEE; 14];
+    assert_eq!(record.step(&mut area, &mut packets, 3), Ok(3));
+    let before = (record.clone(), area.clone(), packets.clone());
+    // LONG and AREA come before BUSY, and BUSY before all else
+    assert_eq!(record.write(&mut area, &[1; 13]), Err(Refusal::Long));
+    assert_eq!(record.write(&mut area[1..], &FILE), Err(Refusal::Area));
+    assert_eq!(record.write(&mut area, &FILE), Err(Refusal::Busy));
+    assert_eq!(record.edit(&mut area, 11, &[2], &[4, 2]), Err(Refusal::Busy));
+    assert_eq!(record.edit(&mut area, 13, &[2], &[9]), Err(Refusal::Busy));
+    assert_eq!(record.repair(&mut area, &[0, 1], &[2, 3, 4, 2, 3, 4], &[]), Err(Refusal::Busy));
+    assert_eq!(record.repair(&mut area, &[], &[], &[]), Err(Refusal::Busy));
+    assert_eq!(record.start(&area, &[0, 1], &[2, 3, 4, 2, 3, 4], &[]), Err(Refusal::Busy));
+    assert_eq!(record.start(&area, &[9], &[], &[]), Err(Refusal::Busy));
+    assert_eq!(record.start(&area[1..], &[9], &[], &[]), Err(Refusal::Area));
+    assert_eq!(record.step(&mut area, &mut packets[1..], 1), Err(Refusal::Area));
+    assert_eq!(record.step(&mut area[1..], &mut packets, 1), Err(Refusal::Area));
+    assert_eq!(record.lose(5), Err(Refusal::Node));
+    assert_eq!((&record, &area, &packets), (&before.0, &before.1, &before.2));
+    // a board that is named ends it, in service or not
+    for lost in 0..5 {
+        let mut record = before.0.clone();
+        assert_eq!(record.lose(lost), Ok(()));
+        assert_eq!((record.is_repairing(), record.repair_words()), (false, [0; REPAIR_WORDS]));
+        assert_eq!(record.words()[7], 0b11100 & !(1 << lost));
+        assert_eq!(record.step(&mut area, &mut packets, 1), Err(Refusal::Idle));
+    }
+    assert_eq!((&area, &packets), (&before.1, &before.2));
+    // another one does not: of seven boards 0 and 1 are fresh, 2 to 5 are named
+    let sizes = Sizes { n: 7, k: 2, d: 3, r: 2 };
+    let mut area = vec![0xEE; sizes.area_len(1)];
+    let mut record = Record::set_up(sizes, Points::standard(7), 1).unwrap();
+    record.write(&mut area, &[7; 12]).unwrap();
+    let truth = area.clone();
+    for lost in [0, 1] {
+        record.lose(lost).unwrap();
+    }
+    area[..14].fill(0xEE);
+    record.start(&area, &[0, 1], &[2, 3, 4, 3, 4, 5], &[]).unwrap();
+    let mut packets = vec![0; record.packets_len()];
+    assert_eq!(record.step(&mut area, &mut packets, 5), Ok(5));
+    let words = record.repair_words();
+    assert_eq!((record.lose(6), record.repair_words()), (Ok(()), words));
+    assert_eq!((record.step(&mut area, &mut packets, 5), area), (Ok(3), truth));
+    assert_eq!(record.words()[7], 0b0111111);
+}
+
+#[test]
+fn power_takes_the_repair_and_nothing_else() {
+    for carried in 0..8 {
+        let (mut record, mut area) = started(first());
+        let before = (record.words(), area.clone());
+        let mut packets = vec![0; 14];
+        record.step(&mut area, &mut packets, carried).unwrap();
+        // what was kept is the words and the area
+        let mut kept = Record::from_words(record.words());
+        record.power_failed();
+        assert_eq!((&kept, kept.is_repairing()), (&record, false));
+        assert_eq!((kept.words(), &area), (before.0, &before.1));
+        let mut out = [0xEE; 12];
+        for boards in [[2, 3], [4, 2], [3, 4]] {
+            assert_eq!((kept.read(&area, &boards, &mut out), out), (Ok(()), FILE));
+        }
+        assert_eq!(kept.step(&mut area, &mut packets, 1), Err(Refusal::Idle));
+        // inside the last step fresh boards may have been written; they are out of service, and made anew
+        area[..10].fill(0x55);
+        kept.start(&area, &[0, 1], &[2, 3, 4, 2, 3, 4], &[]).unwrap();
+        assert_eq!(kept.step(&mut area, &mut packets, usize::MAX), Ok(8));
+        assert_eq!(area, FIRST_SHARES.concat());
+    }
+}
+
+#[test]
+fn a_running_repair_is_kept_as_words_too() {
+    let (mut record, mut area) = started(present());
+    let mut packets = vec![0; 14];
+    record.step(&mut area, &mut packets, 5).unwrap();
+    let mut kept = Record::from_words(record.words()).with_repair_words(record.repair_words());
+    assert_eq!((&kept, kept.packets_len()), (&record, 14));
+    assert_eq!(kept.step(&mut area, &mut packets, 8), Ok(3));
+    assert_eq!((area, kept.is_repairing()), (SHARES.concat(), false));
+}
+
+#[test]
+fn a_repair_that_no_call_hands_out_is_refused() {
+    let (record, mut area) = started(present());
+    let mut packets = vec![0xEE; 14];
+    let words = record.words();
+    // all carried; t is 0, 3, 33 or right once it is cut; neither 0 nor 1; boards that are none, named twice, in service
+    let made_up =
+        [(2, 8), (2, u64::MAX), (1, 0), (1, 3), (1, 33), (1, 258), (1, u64::MAX), (0, 2), (0, 257), (3, 0xFF00)];
+    let boards = [(3, 0x0505), (3, 0), (3, 0x0200), (7, 0xFF_03_02_04_03_02), (7, 0x04_03_01_04_03_02)];
+    for (place, number) in made_up.into_iter().chain(boards) {
+        let mut repair = running(0);
+        repair[place] = number;
+        let mut record = Record::from_words(words).with_repair_words(repair);
+        let before = record.clone();
+        let said = format!("word {place} is {number:x}");
+        assert_eq!(record.step(&mut area, &mut packets, 1), Err(Refusal::Size), "{said}");
+        assert_eq!(record.read(&area, &[4, 2], &mut [0; 12]), Err(Refusal::Size), "{said}");
+        assert_eq!(record.lose(0), Err(Refusal::Size), "{said}");
+        assert_eq!(record.write(&mut area, &FILE), Err(Refusal::Size), "{said}");
+        assert_eq!(record, before);
+    }
+    // beside words of the store in which a helper is lost, or a fresh board in service
+    for marks in [0b11000, 0b11101, 0] {
+        let mut words = words;
+        words[7] = marks;
+        let mut record = Record::from_words(words).with_repair_words(running(0));
+        assert_eq!(record.step(&mut area, &mut packets, 1), Err(Refusal::Size));
+        // an idle one is not looked at
+        record = record.with_repair_words(std::array::from_fn(|place| if place == 0 { 0 } else { u64::MAX }));
+        assert_eq!((record.step(&mut area, &mut packets, 1), record.packets_len()), (Err(Refusal::Idle), 0));
+        assert_eq!(record.repair_words()[1..], [u64::MAX; 70]);
+    }
+    assert_eq!(packets, vec![0xEE; 14]);
+    // numbers that no area has are cut
+    let mut huge = running(0);
+    huge[1] = u64::MAX;
+    assert_eq!(Record::from_words(words).with_repair_words(huge).packets_len(), usize::MAX);
+}
+
+#[test]
+fn a_step_before_a_write_and_of_an_empty_file() {
+    let mut area = vec![0xEE; FIVE.area_len(1)];
+    let mut record = Record::set_up(FIVE, present(), 1).unwrap();
+    let before = record.clone();
+    assert_eq!(record.step(&mut area, &mut [1, 2, 3], 1), Err(Refusal::Empty));
+    assert_eq!(record.start(&area, &[9], &[], &[]), Err(Refusal::Empty));
+    assert_eq!(record, before);
+    record.write(&mut area, &[]).unwrap();
+    assert_eq!(record.step(&mut area, &mut [1, 2, 3], 0), Err(Refusal::Idle));
+    record.lose(3).unwrap();
+    record.start(&area, &[3], &[0, 1, 2], &[4]).unwrap();
+    // four packets of no bytes
+    assert_eq!(record.packets_len(), 0);
+    for left in [true, true, true, false] {
+        assert_eq!((record.step(&mut area, &mut [], 1), record.is_repairing()), (Ok(1), left));
+    }
+    assert_eq!((record.words()[7], area), (0b11111, vec![0xEE; 35]));
 }

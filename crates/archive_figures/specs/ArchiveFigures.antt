@@ -1,22 +1,25 @@
--- Figures of the archive's store calls, with words, answers and outputs written out: single calls, and a list of them, each on what the last
--- one left, with what demand 3 of the archive says of it: that it is allowed, what is compared, and where it ends. And of the text reader: a text
--- that is read, and each refusal. proofs/ArchiveFigures.antt has `archive-figures`.
+-- Figures of the archive's store calls, with words, answers, areas and outputs written out: single calls, and a list of them with a power failure, each on
+-- what the last one left, with what demand 3 of the archive says of it: that it is allowed, what is compared, and where it ends. And of the text reader: a
+-- text that is read, and each refusal. proofs/ArchiveFigures.antt has `archive-figures`.
 -- Assumes nothing.
 use mathlib.Core.Path.{_≡_}
+use mathlib.Core.Bool.{false}
 use mathlib.Core.List.{List, [], _∷_, _++_, map}
-use mathlib.Core.Option.{some}
+use mathlib.Core.Option.{some, none}
 use Prim.Native.Nat.{ℕ}
 use lib.ListN.{take, set, replicate}
 use Rattle.sizes.specs.declared.Sizes.{Sizes}
-use Rattle.store_spec.specs.Ledger.{write, lose, repair, read, Step, openBook, bookReplies}
-use Rattle.store_spec.specs.Demand3.{calls}
+use Rattle.store_spec.specs.Running.{Running}
+use Rattle.store_spec.specs.Ledger.{Call, write, lose, repair, read, start, step, call, powerFails, Step, openBook, bookReplies}
+use Rattle.store_spec.specs.Demand3.{events}
 use Rattle.archive_spec.specs.Archive.{sizesOf}
 use Rattle.archive_spec.specs.Lent.{Lent, zbkSetUp, zbk}
 use Rattle.archive_spec.specs.Texts.{TextLent, zbkReadText}
-use Rattle.archive_spec.specs.Demand3.{lents, AllowedLents, Told, told, inWord, endWords, endArea, endBook}
+use Rattle.archive_spec.specs.Demand3.{lents, AllowedLents, Told, told, inWord, firstHeld, endHeld, endBook}
 
 -- n = 4, k = 1, d = 1, r = 2, points 05, 00, 80, 1D, C = 1: the file 01 02 03 is written on any bytes, boards 0 and 1 are lost and spoiled, one is read in vain, both
--- are rebuilt, and the file is read from board 1
+-- are rebuilt. They are lost and spoiled again; a repair of both is started, and the power fails before its last packet; it is started again and
+-- stepped to its end; and the file is read from board 1
 abbrev area : List ℕ
 area = 0x38 ∷ 0x01 ∷ 0x29 ∷ 0x01 ∷ 0x29 ∷ 0xEF ∷ 0x29 ∷ 0xEF ∷ 0x38 ∷ 0xEF ∷ 0x38 ∷ 0x01 ∷ []
 
@@ -32,25 +35,61 @@ four = sizesOf 4 1 1 2
 abbrev pub points : List ℕ
 points = 0x05 ∷ 0x00 ∷ 0x80 ∷ 0x1D ∷ replicate 28 0
 
--- any twelve words, over which the store is set up
+-- any twelve words and any 71, over which the store is set up
 abbrev pub any : List ℕ
 any = replicate 12 8
 
+abbrev pub beside : List ℕ
+beside = replicate 71 9
+
+-- after the power failure: no repair runs, whatever else the record has
+abbrev given : Running
+given = record { running = false; count = 7; carried = 0; fresh = replicate 32 0; helpers = replicate 256 0; standIns = replicate 256 5 }
+
+abbrev both : Call
+both = start (0 ∷ 1 ∷ []) (2 ∷ 3 ∷ []) []
+
+abbrev calls : List ℕ → Call → Step
+calls lent c = record { area = lent; event = call c }
+
+-- four packets: of two bytes by helper 2 to board 0 and by helper 3 to board 1, then of one byte that each fresh board hears of the other
+abbrev room : List ℕ
+room = replicate 6 0xEE
+
+abbrev packets1 : List ℕ
+packets1 = 0x38 ∷ 0x29 ∷ 0xEE ∷ 0xEE ∷ 0xEE ∷ 0xEE ∷ []
+
+abbrev packets3 : List ℕ
+packets3 = 0x38 ∷ 0x29 ∷ 0x01 ∷ 0xEF ∷ 0x01 ∷ 0xEE ∷ []
+
+abbrev packets4 : List ℕ
+packets4 = 0x38 ∷ 0x29 ∷ 0x01 ∷ 0xEF ∷ 0x01 ∷ 0x38 ∷ []
+
 abbrev pub steps : List Step
 steps =
-    record { area = blank; call = write (1 ∷ 2 ∷ 3 ∷ []) }
-    ∷ record { area = area; call = lose 0 }
-    ∷ record { area = area; call = lose 1 }
-    ∷ record { area = spoiled; call = read (1 ∷ []) (replicate 4 0x55) }
-    ∷ record { area = spoiled; call = repair (0 ∷ 1 ∷ []) (2 ∷ 3 ∷ []) [] }
-    ∷ record { area = area; call = read (1 ∷ []) (replicate 4 0x55) }
+    calls blank (write (1 ∷ 2 ∷ 3 ∷ []))
+    ∷ calls area (lose 0)
+    ∷ calls area (lose 1)
+    ∷ calls spoiled (read (1 ∷ []) (replicate 4 0x55))
+    ∷ calls spoiled (repair (0 ∷ 1 ∷ []) (2 ∷ 3 ∷ []) [])
+    ∷ calls area (lose 0)
+    ∷ calls area (lose 1)
+    ∷ calls spoiled both
+    ∷ calls spoiled (step 3 room)
+    ∷ calls spoiled (write [])
+    ∷ record { area = spoiled; event = powerFails given }
+    ∷ calls spoiled (step 9 room)
+    ∷ calls spoiled both
+    ∷ calls spoiled (step 1 room)
+    ∷ calls spoiled (step 9 packets1)
+    ∷ calls area (read (1 ∷ []) (replicate 4 0x55))
     ∷ []
 
 -- an answer word and an output
 abbrev says : ℕ → List ℕ → Told
 says w output = record { answer = w; output = output }
 
--- DOWN; 6 bytes moved, which is 6 × 256; the file, and a byte past its end
+-- DOWN; 6 bytes moved, which is 6 × 256; 3 packets, BUSY, IDLE; one packet, and the three that are left; the file, and a byte past its end
 abbrev answers : List Told
 answers =
     says 0 []
@@ -58,16 +97,45 @@ answers =
     ∷ says 0 []
     ∷ says 9 (replicate 4 0x55)
     ∷ says 1536 []
+    ∷ says 0 []
+    ∷ says 0 []
+    ∷ says 0 []
+    ∷ says 768 []
+    ∷ says 16 []
+    ∷ says 17 []
+    ∷ says 0 []
+    ∷ says 256 []
+    ∷ says 768 []
     ∷ says 0 (1 ∷ 2 ∷ 3 ∷ 0x55 ∷ [])
     ∷ []
 
--- answer, marks, area and output of a call; the other words are these after each
-abbrev after : ℕ → ℕ → List ℕ → List ℕ → Lent
-after w marks area output = record { answer = w; words = 4 ∷ 1 ∷ 1 ∷ 2 ∷ 1 ∷ 1 ∷ 3 ∷ marks ∷ 0x1D800005 ∷ 0 ∷ 0 ∷ 0 ∷ []; area = area; output = output }
+-- the repair's words: none runs, as a call leaves them and as they are given; and so many packets are carried
+abbrev pub idles : List ℕ
+idles = replicate 71 0
+
+abbrev gives : List ℕ
+gives = 0 ∷ 7 ∷ replicate 37 0 ++ replicate 32 0x0505050505050505
+
+abbrev runs : ℕ → List ℕ
+runs carried = 1 ∷ 2 ∷ carried ∷ 0x0100 ∷ 0 ∷ 0 ∷ 0 ∷ 0x0302 ∷ replicate 63 0
+
+-- answer, marks, the repair's words, area, output and packet area of a call; the other words are these after each
+abbrev pub words4 : ℕ → List ℕ
+words4 marks = 4 ∷ 1 ∷ 1 ∷ 2 ∷ 1 ∷ 1 ∷ 3 ∷ marks ∷ 0x1D800005 ∷ 0 ∷ 0 ∷ 0 ∷ []
+
+abbrev after : ℕ → ℕ → List ℕ → List ℕ → List ℕ → List ℕ → Lent
+after w marks ps area output packets = record { answer = w; words = words4 marks; repair = ps; area = area; output = output; packets = packets }
 
 -- the words of seven boards with the points 11 to 17, in hexadecimal
 abbrev seven : ℕ → ℕ → ℕ → List ℕ
 seven written len marks = 7 ∷ 2 ∷ 4 ∷ 3 ∷ 5 ∷ written ∷ len ∷ marks ∷ 0x17161514131211 ∷ 0 ∷ 0 ∷ 0 ∷ []
+
+-- a call that is lent no area; the words of a repair of board 1 by helpers 0, 2, 3 and 4 and stand-ins 5 and 6, of which four packets of six are carried
+abbrev lent : ℕ → List ℕ → List ℕ → Lent
+lent w ws ps = record { answer = w; words = ws; repair = ps; area = []; output = []; packets = [] }
+
+abbrev named : List ℕ
+named = 1 ∷ 1 ∷ 4 ∷ 0x01 ∷ 0 ∷ 0 ∷ 0 ∷ 0x04030200 ∷ replicate 31 0 ++ (0x0605 ∷ replicate 31 0)
 
 abbrev points7 : List ℕ
 points7 = 0x11 ∷ 0x12 ∷ 0x13 ∷ 0x14 ∷ 0x15 ∷ 0x16 ∷ 0x17 ∷ replicate 25 0
@@ -109,40 +177,79 @@ pub record ArchiveFigures : Type 0 where
       ∷ zbkReadText (take 80 text) (replicate 6 7) (replicate 32 9) (replicate 10 0xEE)
       ∷ zbkReadText text (replicate 6 7) (replicate 32 9) (replicate 8 0xEE)
       ∷ [] ≡ untold 1 5 32 10 ∷ untold 1 7 32 10 ∷ untold 1 6 31 10 ∷ untold 1 6 33 10 ∷ untold 12 6 32 10 ∷ untold 7 6 32 8 ∷ []
-  -- n = 7, k = 2, d = 4, r = 3, C = 5, over any twelve words
-  pub set-up : zbkSetUp any (sizesOf 7 2 4 3) points7 5 ≡ record { answer = 0; words = seven 0 0 0; area = []; output = [] }
-  -- k above d is no legal size; a point repeated, one other than 00 from n up, 31 and 33 points; eight words: each is SIZE, and the words stay
+  -- n = 7, k = 2, d = 4, r = 3, C = 5, over any twelve words and any 71
+  pub set-up : zbkSetUp any beside (sizesOf 7 2 4 3) points7 5 ≡ lent 0 (seven 0 0 0) idles
+  -- k above d is no legal size; a point repeated, one other than 00 from n up, 31 and 33 points: each is SIZE, and the words stay
   pub set-up-refused :
-      zbkSetUp any (sizesOf 7 4 2 3) points7 5
-      ∷ zbkSetUp any (sizesOf 7 2 4 3) (set points7 6 0x11) 5
-      ∷ zbkSetUp any (sizesOf 7 2 4 3) (set points7 7 0x18) 5
-      ∷ zbkSetUp any (sizesOf 7 2 4 3) (take 31 points7) 5
-      ∷ zbkSetUp any (sizesOf 7 2 4 3) (points7 ++ (0 ∷ [])) 5
-      ∷ [] ≡ replicate 5 (record { answer = 1; words = any; area = []; output = [] })
-  pub eight-words : zbkSetUp (replicate 8 8) (sizesOf 7 2 4 3) points7 5 ≡ record { answer = 1; words = replicate 8 8; area = []; output = [] }
-  -- boards 0, 3 and 4 are in service, and board 3 is lost; board 7 is none; a record of eight words, and one whose points repeat, are none
-  pub lost : zbk (seven 1 6 25) [] (lose 3) ≡ record { answer = 0; words = seven 1 6 17; area = []; output = [] }
-  pub not-lost : zbk (seven 1 6 25) [] (lose 7) ≡ record { answer = 5; words = seven 1 6 25; area = []; output = [] }
-  pub no-records : map (λ ws. zbk ws [] (lose 3) .answer) (take 8 (seven 1 6 25) ∷ set (seven 1 6 25) 8 0x11161514131211 ∷ set (seven 1 6 25) 11 1 ∷ []) ≡ replicate 3 1
+      zbkSetUp any beside (sizesOf 7 4 2 3) points7 5
+      ∷ zbkSetUp any beside (sizesOf 7 2 4 3) (set points7 6 0x11) 5
+      ∷ zbkSetUp any beside (sizesOf 7 2 4 3) (set points7 7 0x18) 5
+      ∷ zbkSetUp any beside (sizesOf 7 2 4 3) (take 31 points7) 5
+      ∷ zbkSetUp any beside (sizesOf 7 2 4 3) (points7 ++ (0 ∷ [])) 5
+      ∷ [] ≡ replicate 5 (lent 1 any beside)
+  -- eight words; 70 and 72 beside the twelve
+  pub other-counts :
+      zbkSetUp (replicate 8 8) beside (sizesOf 7 2 4 3) points7 5
+      ∷ zbkSetUp any (replicate 70 9) (sizesOf 7 2 4 3) points7 5
+      ∷ zbkSetUp any (replicate 72 9) (sizesOf 7 2 4 3) points7 5
+      ∷ [] ≡ lent 1 (replicate 8 8) beside ∷ lent 1 any (replicate 70 9) ∷ lent 1 any (replicate 72 9) ∷ []
+  -- boards 0, 3 and 4 are in service, and board 3 is lost; board 7 is none; a record of eight words, and those whose points repeat, are none
+  pub lost : zbk (seven 1 6 25) idles [] (lose 3) ≡ lent 0 (seven 1 6 17) idles
+  pub not-lost : zbk (seven 1 6 25) idles [] (lose 7) ≡ lent 5 (seven 1 6 25) idles
+  pub no-records : map (λ ws. zbk ws idles [] (lose 3) .answer) (take 8 (seven 1 6 25) ∷ set (seven 1 6 25) 8 0x11161514131211 ∷ set (seven 1 6 25) 11 1 ∷ []) ≡ replicate 3 1
+  -- all boards but board 1 are in service, and it is being rebuilt: helper 3, stand-in 6 and board 1 itself are lost, each of which ends the repair; board 7
+  -- is none, and it goes on
+  pub lost-named : map (λ i. zbk (seven 1 6 125) named [] (lose i)) (3 ∷ 6 ∷ 1 ∷ 7 ∷ [])
+      ≡ lent 0 (seven 1 6 117) idles ∷ lent 0 (seven 1 6 61) idles ∷ lent 0 (seven 1 6 125) idles ∷ lent 5 (seven 1 6 125) named ∷ []
+  -- 70 and 72 words beside the record, a first word of 2, helper 3 out of service, board 1 in service, all 6 packets carried: SIZE, and nothing changes
+  pub no-repairs : zbk (seven 1 6 125) (take 70 named) [] (lose 5)
+      ∷ zbk (seven 1 6 125) (named ++ (0 ∷ [])) [] (lose 5)
+      ∷ zbk (seven 1 6 125) (set named 0 2) [] (lose 5)
+      ∷ zbk (seven 1 6 117) named [] (lose 5)
+      ∷ zbk (seven 1 6 127) named [] (lose 5)
+      ∷ zbk (seven 1 6 125) (set named 2 6) [] (lose 5)
+      ∷ []
+      ≡ lent 1 (seven 1 6 125) (take 70 named)
+      ∷ lent 1 (seven 1 6 125) (named ++ (0 ∷ []))
+      ∷ lent 1 (seven 1 6 125) (set named 0 2)
+      ∷ lent 1 (seven 1 6 117) named
+      ∷ lent 1 (seven 1 6 127) named
+      ∷ lent 1 (seven 1 6 125) (set named 2 6)
+      ∷ []
   -- shares of 01 02 03 with a record that says two bytes: no file of two bytes, padding included, has the share of board 0. DISAGREE, and all stays
-  pub disagrees : zbk (4 ∷ 1 ∷ 1 ∷ 2 ∷ 1 ∷ 1 ∷ 2 ∷ 15 ∷ 0x1D800005 ∷ 0 ∷ 0 ∷ 0 ∷ []) area (read (0 ∷ []) (replicate 4 0x55))
-      ≡ record { answer = 10; words = 4 ∷ 1 ∷ 1 ∷ 2 ∷ 1 ∷ 1 ∷ 2 ∷ 15 ∷ 0x1D800005 ∷ 0 ∷ 0 ∷ 0 ∷ []; area = area; output = replicate 4 0x55 }
+  pub disagrees : zbk (4 ∷ 1 ∷ 1 ∷ 2 ∷ 1 ∷ 1 ∷ 2 ∷ 15 ∷ 0x1D800005 ∷ 0 ∷ 0 ∷ 0 ∷ []) gives area (read (0 ∷ []) (replicate 4 0x55))
+      ≡ record {
+        answer = 10;
+        words = 4 ∷ 1 ∷ 1 ∷ 2 ∷ 1 ∷ 1 ∷ 2 ∷ 15 ∷ 0x1D800005 ∷ 0 ∷ 0 ∷ 0 ∷ [];
+        repair = gives;
+        area = area;
+        output = replicate 4 0x55;
+        packets = [];
+      }
   -- what is compared: the calls' words and outputs, and the ledger's
-  pub calls-say : map told (lents (zbkSetUp any four points 1 .words) steps) ≡ answers
-  pub ledger-says : map inWord (bookReplies (openBook four points 1 12) (calls steps)) ≡ answers
+  pub calls-say : map told (lents (firstHeld any beside four points 1 blank steps) steps) ≡ answers
+  pub ledger-says : map inWord (bookReplies (openBook four points 1 12) (events steps)) ≡ answers
   -- bytes of lost boards altered between the calls are allowed
-  pub allowed : AllowedLents (zbkSetUp any four points 1 .words) blank (openBook four points 1 12) steps
+  pub allowed : AllowedLents (firstHeld any beside four points 1 blank steps) (openBook four points 1 12) steps
   -- where it ends: all four boards in service, with the file
-  pub last-words : endWords any four points 1 blank steps ≡ 4 ∷ 1 ∷ 1 ∷ 2 ∷ 1 ∷ 1 ∷ 3 ∷ 15 ∷ 0x1D800005 ∷ 0 ∷ 0 ∷ 0 ∷ []
-  pub last-area : endArea any four points 1 blank steps ≡ area
-  pub last-book : endBook any four points 1 blank steps
-      ≡ record { sizes = four; points = points; capacity = 1; areaLength = 12; file = some (1 ∷ 2 ∷ 3 ∷ []); service = 0 ∷ 1 ∷ 2 ∷ 3 ∷ [] }
-  -- boards 0 to 3, then 1 to 3, then 2 and 3, are in service
-  pub listed : lents (4 ∷ 1 ∷ 1 ∷ 2 ∷ 1 ∷ 0 ∷ 0 ∷ 0 ∷ 0x1D800005 ∷ 0 ∷ 0 ∷ 0 ∷ []) steps
-      ≡ after 0 15 area []
-      ∷ after 0 14 area []
-      ∷ after 0 12 area []
-      ∷ after 9 12 spoiled (replicate 4 0x55)
-      ∷ after 1536 15 area []
-      ∷ after 0 15 area (1 ∷ 2 ∷ 3 ∷ 0x55 ∷ [])
+  pub last-held : endHeld any beside four points 1 blank steps ≡ record { words = words4 15; repair = idles; area = area; packets = packets4 }
+  pub last-book : endBook any beside four points 1 blank steps
+      ≡ record { sizes = four; points = points; capacity = 1; areaLength = 12; file = some (1 ∷ 2 ∷ 3 ∷ []); service = 0 ∷ 1 ∷ 2 ∷ 3 ∷ []; repairing = none }
+  -- boards 0 to 3, then 1 to 3, then 2 and 3, are in service, so again after the repair, and all four after the last step
+  pub listed : lents (record { words = 4 ∷ 1 ∷ 1 ∷ 2 ∷ 1 ∷ 0 ∷ 0 ∷ 0 ∷ 0x1D800005 ∷ 0 ∷ 0 ∷ 0 ∷ []; repair = idles; area = blank; packets = [] }) steps
+      ≡ after 0 15 idles area [] []
+      ∷ after 0 14 idles area [] []
+      ∷ after 0 12 idles area [] []
+      ∷ after 9 12 idles spoiled (replicate 4 0x55) []
+      ∷ after 1536 15 idles area [] []
+      ∷ after 0 14 idles area [] []
+      ∷ after 0 12 idles area [] []
+      ∷ after 0 12 (runs 0) spoiled [] []
+      ∷ after 768 12 (runs 3) spoiled [] packets3
+      ∷ after 16 12 (runs 3) spoiled [] []
+      ∷ after 17 12 gives spoiled [] room
+      ∷ after 0 12 (runs 0) spoiled [] []
+      ∷ after 256 12 (runs 1) spoiled [] packets1
+      ∷ after 768 15 idles area [] packets4
+      ∷ after 0 15 idles area (1 ∷ 2 ∷ 3 ∷ 0x55 ∷ []) []
       ∷ []

@@ -1,30 +1,37 @@
 -- Demand 1 of the archive: that of the definitions, with answers and records in words.
 -- Assumes nothing.
-use Prim.Native.Nat.{ℕ, _+_, _*_, _≤_}
-use mathlib.Core.Path.{_≡_, refl, sym, ap, _∙_}
-use mathlib.Core.Bool.{Bool, true, false}
-use mathlib.Core.Logic.{_≢_, _↔_, _⊎_, ⊎-elim}
+use Prim.Native.Nat.{ℕ, _+_, _-_, _*_, _≤_, _<_, min}
+use mathlib.Core.Path.{_≡_, refl, sym, ap, subst, _∙_}
+use mathlib.Core.Bool.{Bool, true, false, not}
+use mathlib.Core.Logic.{_≢_, _↔_, _⊎_, inl, inr, ⊎-elim}
 use mathlib.Core.List.{List, [], _∷_}
 use native.Mathlib.Omega.{arith}
-use lib.Dec.{eqb}
-use lib.ListN.{length, replicate}
-use borrow.Author.Tests.{eq-eqb, ne-eqb}
+use native.Mathlib.Nat.{min-eq-left, min-eq-right}
+use lib.Dec.{leb, eqb}
+use lib.ListN.{length, drop, replicate}
+use borrow.Author.Tests.{eq-eqb, ne-eqb, leb-true, leb-false}
 use Rattle.lists.specs.Tests.{pick, alls}
 use Rattle.lists.specs.Lists.{All, Bytes, over}
+use Rattle.lists.proofs.Tests.{not-no, alls-hold}
 use Rattle.sizes.specs.declared.Sizes.{Sizes}
 use Rattle.sizes.specs.declared.Refusal.{Refusal}
-use Rattle.sizes.specs.declared.Refusal.the-variants.{Disagree}
-use Rattle.sizes.specs.declared.Answer.the-variants.{Done}
-use Rattle.sizes.specs.Refusals.{number, Said, said, Line, appliesIn, storeOrder}
+use Rattle.sizes.specs.declared.Refusal.the-variants.{Size, Disagree}
+use Rattle.sizes.specs.declared.Check.{Check}
+use Rattle.sizes.specs.declared.Check.the-variants.{Pass, Refuse}
+use Rattle.sizes.specs.declared.Answer.the-variants.{Done, Refused}
+use Rattle.sizes.specs.Refusals.{number, Said, said, Line, _when_, appliesIn, first, storeOrder}
 use Rattle.sizes.proofs.Laws.{number-low}
 use Rattle.mbcr.specs.Share.{share}
 use Rattle.board_spec.specs.Calls.{BoardOutcome}
 use Rattle.board_spec.specs.Demand1.{BoardEnds}
 use Rattle.board_spec.proofs.Demand1 as at-board
-use Rattle.store_spec.specs.Record.{Record, newRecord, held}
-use Rattle.store_spec.specs.Calls.{StoreOutcome, accepted, refused, recordLine, setUpCall, readLines, readCall}
-use Rattle.store_spec.specs.Ledger.{Call, write, lose, repair, read, edit, act, outputOf}
-use Rattle.store_spec.specs.Demand1.{StoreEnds}
+use Rattle.store_spec.specs.Record.{Record, newRecord, sound, held}
+use Rattle.store_spec.specs.Running.{Running, idle, freshOf, packetCount, soundBeside}
+use Rattle.store_spec.specs.Calls.{StoreOutcome, settle, accepted, refused, recordLine, readLines, readDone, readCall}
+use Rattle.store_spec.specs.Both.{Outcome, beside, bothLine, readLinesBoth, leftOf, stepLast, stepOn, stepDone, setUpBoth, readBoth}
+use Rattle.store_spec.specs.BothCalls.{storeLines, storeDone}
+use Rattle.store_spec.specs.Ledger.{Call, write, lose, repair, read, edit, start, step, act, outputOf, packetsOfCall}
+use Rattle.store_spec.proofs.BothCalls.{both-calls}
 use Rattle.store_spec.proofs.Demand1 as at-store
 use Rattle.store_spec.proofs.MarkLaws.{mark-laws}
 use Rattle.text_spec.specs.Texts.{ShareTold, textOf, readText}
@@ -36,10 +43,11 @@ use Rattle.prefix_spec.specs.Laws.{Longest}
 use Rattle.prefix_spec.proofs.Longest.{prefix-laws}
 use Rattle.answer_word.specs.Answers.{wordOf}
 use Rattle.record_words.specs.Words.{isRecord, recordFrom, wordsOf}
-use Rattle.record_words.proofs.Laws.{word-laws}
-use Rattle.archive_spec.specs.Lent.{Lent, noRecord, inWords, zbkSetUp, zbk}
+use Rattle.repair_words.specs.RepairWords.{isRepair, repairFrom, repairWordsOf}
+use Rattle.archive_spec.specs.Lent.{Lent, inWords, zbkSetUp, zbk}
 use Rattle.archive_spec.specs.Texts.{TextLent, noRoom, readInWords, zbkReadText}
-use Rattle.archive_spec.specs.Demand1.{LentEnds, WordEnds, TextEnds, tells, Unchanged, ArchiveCalls}
+use Rattle.archive_spec.specs.Demand1.{LentEnds, WordEnds, TextEnds, tells, Unchanged, Neither, ArchiveCalls}
+use Rattle.archive_spec.proofs.InWords.{both-yes, both-no, lent, not-lent, back-words, set-up-lent}
 
 -- a refusal's word is its number
 abbrev word-number : (x : Refusal) → number x + 256 * 0 ≡ number x
@@ -51,55 +59,102 @@ word-reported v = omega arith
 
 -- ---- the store
 
-module _ (ws area : List ℕ) (call : Call) where
-  -- a call by whether the words tell a record
-  abbrev by : Bool → Lent
-  by b = pick b (inWords (act (record { kept = recordFrom ws; area = area }) call)) (noRecord ws area (outputOf call))
+module _ (ws ps area : List ℕ) (call : Call) where
+  abbrev calling : Record → Running → Outcome
+  calling s p = act (record { kept = s; running = p; area = area; packets = [] }) call
 
-  none : isRecord ws ≡ false → zbk ws area call ≡ record { answer = 1; words = ws; area = area; output = outputOf call }
-  none e = ap by e
+  none : Neither ws ps → Unchanged (zbk ws ps area call) ws ps area (outputOf call) (packetsOfCall call)
+  none h = not-lent calling ws ps area (outputOf call) (packetsOfCall call) h
 
-  lent-ends : (lines : List Line) (output : List ℕ) (reported : ℕ) (done : StoreOutcome) → isRecord ws ≡ true → done .answer ≡ said (Done reported)
-      → StoreEnds lines (recordFrom ws) area output done (act (record { kept = recordFrom ws; area = area }) call)
-      → LentEnds lines ws area output reported done (zbk ws area call)
-  lent-ends lines output reported done e a ends = record {
-    one = ends .one;
-    refuses = λ x h.
-        ap by e ∙ ap inWords (ends .refuses x h)
-        ∙ ap (λ (w : ℕ). record { answer = w; words = wordsOf (recordFrom ws); area = area; output = output }) (word-number x)
-        ∙ ap (λ (l : List ℕ). record { answer = number x; words = l; area = area; output = output }) (word-laws .words-back ws e);
-    works = λ h.
-        ap by e ∙ ap inWords (ends .works h .0)
-        ∙ ap (λ (s : Said). record { answer = wordOf s; words = wordsOf (done .handed); area = done .area; output = done .output }) a
-        ∙ ap (λ (w : ℕ). record { answer = w; words = wordsOf (done .handed); area = done .area; output = done .output }) (word-reported reported);
-  }
-
-module _ (ws : List ℕ) (z : Sizes) (xs : List ℕ) (c : ℕ) where
-  made : StoreOutcome
-  made = setUpCall (newRecord z xs c) z xs c
-
-  -- a set up by whether there are twelve words, and by its word
-  abbrev set : Bool → StoreOutcome → Lent
-  set t o = pick t (record { answer = wordOf (o .answer); words = pick (eqb (wordOf (o .answer)) 0) (wordsOf (o .handed)) ws; area = []; output = [] }) (noRecord ws [] [])
-
-  set-up-none : length ws ≢ 12 → Unchanged (zbkSetUp ws z xs c) ws [] []
-  unfolding zbkSetUp
-  set-up-none h = ap (λ (t : Bool). set t (setUpCall (newRecord z xs c) z xs c)) (ne-eqb (length ws) 12 h)
-
-  set-up-ends : length ws ≡ 12 → LentEnds (recordLine (newRecord z xs c) ∷ []) ws [] [] 0 (accepted 0 (newRecord z xs c) [] []) (zbkSetUp ws z xs c)
-  unfolding zbkSetUp
-  set-up-ends h =
-      let ends = at-store.demand-1 .set-up-ends (newRecord z xs c) z xs c in
-      let long = ap (λ (t : Bool). set t (setUpCall (newRecord z xs c) z xs c)) (eq-eqb (length ws) 12 h) in
+  -- by the lines of the store's call, what it does, and the number that it then reports
+  lent-ends : (reported : ℕ) → isRecord ws ≡ true → isRepair ps ≡ true → storeDone (recordFrom ws) (repairFrom ps) area call .answer ≡ said (Done reported)
+      → LentEnds (storeLines (recordFrom ws) (repairFrom ps) area call) ws ps area (outputOf call) (packetsOfCall call) reported
+      (storeDone (recordFrom ws) (repairFrom ps) area call) (zbk ws ps area call)
+  lent-ends reported h k a =
+      let ends = both-calls .call-ends (record { kept = recordFrom ws; running = repairFrom ps; area = area; packets = [] }) call in
+      let done = storeDone (recordFrom ws) (repairFrom ps) area call in
+      let told = sym (lent calling ws ps area (outputOf call) (packetsOfCall call) h k) in
       record {
         one = ends .one;
-        refuses = λ x k.
-            long ∙ ap (set true) (ends .refuses x k)
-            ∙ ap (λ (w : ℕ). record { answer = w; words = pick (eqb w 0) (wordsOf (newRecord z xs c)) ws; area = []; output = [] }) (word-number x)
-            ∙ ap (λ (b : Bool). record { answer = number x; words = pick b (wordsOf (newRecord z xs c)) ws; area = []; output = [] })
-            (ne-eqb (number x) 0 (λ e. omega (arith, number-low x, e)));
-        works = λ k. long ∙ ap (set true) (ends .works k .0);
+        refuses = λ x f.
+            told ∙ ap inWords (ends .refuses x f)
+            ∙ ap (λ (w : ℕ). record {
+              answer = w;
+              words = wordsOf (recordFrom ws);
+              repair = repairWordsOf (repairFrom ps);
+              area = area;
+              output = outputOf call;
+              packets = packetsOfCall call;
+            }) (word-number x)
+            ∙ back-words ws ps h k (number x) area (outputOf call) (packetsOfCall call);
+        works = λ f.
+            told ∙ ap inWords (ends .works f .0)
+            ∙ ap (λ (w : ℕ). record {
+              answer = w;
+              words = wordsOf (done .handed);
+              repair = repairWordsOf (done .running);
+              area = done .area;
+              output = done .output;
+              packets = done .packets;
+            }) (ap wordOf a ∙ word-reported reported);
       }
+
+-- what a step reports
+step-reports : (s : Record) (p : Running) (area packets : List ℕ) (allowance : ℕ)
+    → stepDone s p area packets allowance .answer ≡ said (Done (min allowance (packetCount (s .sizes) (length (freshOf p)) - p .carried)))
+step-reports s p area packets allowance = go (leb (leftOf s p area packets) allowance) refl
+  where
+    left : ℕ
+    left = packetCount (s .sizes) (length (freshOf p)) - p .carried
+
+    few : allowance < left → allowance ≤ left
+    few h = omega (arith, h)
+
+    go : (t : Bool) → leb left allowance ≡ t → pick t (stepLast s p area packets) (stepOn s p area packets allowance) .answer ≡ said (Done (min allowance left))
+    go true e = ap (λ (m : ℕ). said (Done m)) (sym (min-eq-right (leb-true left allowance e)))
+    go false e = ap (λ (m : ℕ). said (Done m)) (sym (min-eq-left (few (leb-false left allowance e))))
+
+module _ (ws ps : List ℕ) (z : Sizes) (xs : List ℕ) (c : ℕ) where
+  abbrev made : Outcome
+  made = setUpBoth (newRecord z xs c) idle z xs c
+
+  -- a set-up by whether there are twelve words and 71, and by what the store's gives
+  abbrev set : Bool → Outcome → Lent
+  set t o = set-up-lent ws ps o t (eqb (wordOf (o .answer)) 0)
+
+  set-up-none : (length ws ≢ 12) ⊎ (length ps ≢ 71) → Unchanged (zbkSetUp ws ps z xs c) ws ps [] [] []
+  unfolding zbkSetUp
+  set-up-none h = ap (λ (t : Bool). set t made) (both-no (eqb (length ws) 12) (eqb (length ps) 71) (other h))
+    where
+      other : (length ws ≢ 12) ⊎ (length ps ≢ 71) → (eqb (length ws) 12 ≡ false) ⊎ (eqb (length ps) 71 ≡ false)
+      other (inl n) = inl (ne-eqb (length ws) 12 n)
+      other (inr n) = inr (ne-eqb (length ps) 71 n)
+
+  set-up-ends : length ws ≡ 12 → length ps ≡ 71
+      → LentEnds (recordLine (newRecord z xs c) ∷ []) ws ps [] [] [] 0 (beside idle (accepted 0 (newRecord z xs c) [] [])) (zbkSetUp ws ps z xs c)
+  unfolding zbkSetUp
+  set-up-ends h k =
+      let ends = both-calls .set-up-ends (newRecord z xs c) idle z xs c in
+      let long = ap (λ (t : Bool). set t made) (both-yes (eqb (length ws) 12) (eqb (length ps) 71) (eq-eqb (length ws) 12 h) (eq-eqb (length ps) 71 k)) in
+      record {
+        one = ends .one;
+        refuses = λ x f.
+            long ∙ ap (set true) (ends .refuses x f)
+            ∙ ap (λ (w : ℕ). kept-by w (eqb w 0)) (word-number x)
+            ∙ ap (kept-by (number x)) (ne-eqb (number x) 0 (λ e. omega (arith, number-low x, e)));
+        works = λ f. long ∙ ap (set true) (ends .works f .0);
+      }
+    where
+      kept-by : ℕ → Bool → Lent
+      kept-by w b =
+          record {
+            answer = w;
+            words = pick b (wordsOf (newRecord z xs c)) ws;
+            repair = pick b (repairWordsOf idle) ps;
+            area = [];
+            output = [];
+            packets = [];
+          }
 
 -- ---- the reader's exactness
 
@@ -117,43 +172,84 @@ said-is a x p q =
     let e : a .refusal ≡ x = omega (arith, p, q) in
     ap (λ (v : ℕ). record { refusal = a .refusal; reported = v }) p ∙ ap (λ (v : ℕ). record { refusal = v; reported = 0 }) e
 
-module _ (ws area boards output : List ℕ) (is : isRecord ws ≡ true) where
+-- a read with both records, where SIZE is by neither: that of the call alone
+module _ (s : Record) (p : Running) (area boards output : List ℕ)
+    (others : All (λ x. (x ≡ Disagree) ⊎ (appliesIn (readLinesBoth s p area boards output) x ≡ false)) storeOrder) where
+  no-size : bothLine s p .applies ≡ false
+  unfolding readLinesBoth
+  no-size = go (others .0)
+    where
+      go : (Size ≡ Disagree) ⊎ (appliesIn (readLinesBoth s p area boards output) Size ≡ false) → bothLine s p .applies ≡ false
+      go (inl e) = absurd (omega (arith, ap number e))
+      go (inr e) = e
+
+  lines-alone : readLinesBoth s p area boards output ≡ readLines s area boards output
+  unfolding readLinesBoth readLines
+  lines-alone =
+      let h = alls-hold (sound s ∷ soundBeside s p ∷ []) (not-no _ no-size) in
+      ap (λ (t : Bool). Size when t ∷ drop 1 (readLines s area boards output)) (no-size ∙ sym (ap not (h .0)))
+
+  read-alone : readBoth s p area boards output ≡ beside p (readCall s area boards output)
+  unfolding readBoth readCall
+  read-alone = ap (λ (l : List Line). by-lines (first storeOrder l)) lines-alone ∙ go (first storeOrder (readLines s area boards output))
+    where
+      by-lines : Check → Outcome
+      by-lines t =
+          settle t (λ x. record { answer = said (Refused x); handed = s; running = p; area = area; output = output; packets = [] })
+          (beside p (readDone s area boards output))
+
+      go : (t : Check) → by-lines t ≡ beside p (settle t (refused s area output) (readDone s area boards output))
+      go Pass = refl
+      go (Refuse x) = refl
+
+  others-alone : All (λ x. (x ≡ Disagree) ⊎ (appliesIn (readLines s area boards output) x ≡ false)) storeOrder
+  others-alone = subst (λ (l : List Line). All (λ x. (x ≡ Disagree) ⊎ (appliesIn l x ≡ false)) storeOrder) lines-alone others
+
+module _ (ws ps area boards output : List ℕ) (is-record : isRecord ws ≡ true) (is-repair : isRepair ps ≡ true) where
   abbrev kept : Record
   kept = recordFrom ws
+
+  abbrev running : Running
+  running = repairFrom ps
 
   abbrev outcome : StoreOutcome
   outcome = readCall kept area boards output
 
-  in-words : zbk ws area (read boards output) ≡ inWords outcome
-  unfolding act
-  in-words = ap (by ws area (read boards output)) is
+  module _ (others : All (λ x. (x ≡ Disagree) ⊎ (appliesIn (readLinesBoth kept running area boards output) x ≡ false)) storeOrder) where
+    in-words : zbk ws ps area (read boards output) ≡ inWords (beside running outcome)
+    unfolding act
+    in-words =
+        sym (lent (calling ws ps area (read boards output)) ws ps area output [] is-record is-repair)
+        ∙ ap inWords (read-alone kept running area boards output others)
 
-  -- what the call answers and writes is what the definition's does
-  there : (x : ℕ) (out : List ℕ) → zbk ws area (read boards output) ≡ record { answer = x; words = ws; area = area; output = out }
-      → outcome ≡ record { answer = record { refusal = x; reported = 0 }; handed = kept; area = area; output = out }
-  there x out e =
-      let reports = at-store.demand-1 .read-reports kept area boards output in
-      let given : inWords outcome ≡ record { answer = x; words = ws; area = area; output = out } = sym in-words ∙ e in
-      outcome-is outcome _ kept area out (said-is (outcome .answer) x (reports .0) (ap (λ (l : Lent). l .answer) given)) (mark-laws .reads kept area boards output) (reports .1)
-      (ap (λ (l : Lent). l .output) given)
+    -- what the call answers and writes is what the definition's does
+    there : (x : ℕ) (out : List ℕ)
+        → zbk ws ps area (read boards output) ≡ record { answer = x; words = ws; repair = ps; area = area; output = out; packets = [] }
+        → outcome ≡ record { answer = record { refusal = x; reported = 0 }; handed = kept; area = area; output = out }
+    there x out e =
+        let reports = at-store.demand-1 .read-reports kept area boards output in
+        let given : inWords (beside running outcome) ≡ record { answer = x; words = ws; repair = ps; area = area; output = out; packets = [] } = sym in-words ∙ e in
+        outcome-is outcome _ kept area out (said-is (outcome .answer) x (reports .0) (ap (λ (l : Lent). l .answer) given)) (mark-laws .reads kept area boards output)
+        (reports .1) (ap (λ (l : Lent). l .output) given)
 
-  back : (x : ℕ) (out : List ℕ) → outcome ≡ record { answer = record { refusal = x; reported = 0 }; handed = kept; area = area; output = out }
-      → zbk ws area (read boards output) ≡ record { answer = x; words = ws; area = area; output = out }
-  back x out e =
-      let zero : x + 256 * 0 ≡ x = omega arith in
-      in-words ∙ ap inWords e ∙ ap (λ (w : ℕ). record { answer = w; words = wordsOf kept; area = area; output = out }) zero
-      ∙ ap (λ (l : List ℕ). record { answer = x; words = l; area = area; output = out }) (word-laws .words-back ws is)
+    back : (x : ℕ) (out : List ℕ) → outcome ≡ record { answer = record { refusal = x; reported = 0 }; handed = kept; area = area; output = out }
+        → zbk ws ps area (read boards output) ≡ record { answer = x; words = ws; repair = ps; area = area; output = out; packets = [] }
+    back x out e =
+        let zero : x + 256 * 0 ≡ x = omega arith in
+        in-words ∙ ap (λ (o : StoreOutcome). inWords (beside running o)) e
+        ∙ ap (λ (w : ℕ). record { answer = w; words = wordsOf kept; repair = repairWordsOf running; area = area; output = out; packets = [] }) zero
+        ∙ back-words ws ps is-record is-repair x area out []
 
-  exact : Bytes area → All (λ x. (x ≡ Disagree) ⊎ (appliesIn (readLines kept area boards output) x ≡ false)) storeOrder
+  exact : Bytes area → All (λ x. (x ≡ Disagree) ⊎ (appliesIn (readLinesBoth kept running area boards output) x ≡ false)) storeOrder
       → ((file : List ℕ) → length file ≡ kept .length → Bytes file
-      → (zbk ws area (read boards output) ≡ record { answer = 0; words = ws; area = area; output = over file output })
+      → (zbk ws ps area (read boards output) ≡ record { answer = 0; words = ws; repair = ps; area = area; output = over file output; packets = [] })
       ↔ All (λ i. held kept area i ≡ share (kept .sizes) (kept .points) file i) boards)
-      × ((zbk ws area (read boards output) ≡ record { answer = 10; words = ws; area = area; output = output })
+      × ((zbk ws ps area (read boards output) ≡ record { answer = 10; words = ws; repair = ps; area = area; output = output; packets = [] })
       ↔ ((file : List ℕ) → length file ≡ kept .length → Bytes file → All (λ i. held kept area i ≡ share (kept .sizes) (kept .points) file i) boards → ⊥))
   exact bytes others =
-      let exactly = at-store.demand-1 .read-exact kept area boards output bytes others in (
-        λ file long bf. let p = exactly .0 file long bf in (λ e. p .0 (there 0 (over file output) e), λ h. back 0 (over file output) (p .1 h)),
-        (λ e. exactly .1 .0 (there 10 output e), λ h. back 10 output (exactly .1 .1 h)),
+      let exactly = at-store.demand-1 .read-exact kept area boards output bytes (others-alone kept running area boards output others) in (
+        λ file long bf. let p = exactly .0 file long bf in (λ e. p .0 (there others 0 (over file output) e), λ h. back others 0 (over file output) (p .1 h)),
+        (λ e. exactly .1 .0 (there others 10 output e), λ h. back others 10 output (exactly .1 .1 h)),
       )
 
 -- ---- the text reader
@@ -231,22 +327,25 @@ prefix-word text m =
     (λ e. laws .0 (omega (arith, e)), λ l. let e : longest text ≡ m = laws .1 l in omega (arith, e))
 
 pub archive-demand-1 : ArchiveCalls
-unfolding act
+unfolding storeLines storeDone
 archive-demand-1 = record {
   set-up-ends = set-up-ends;
-  write-ends = λ ws area file e. lent-ends ws area (write file) _ [] 0 _ e refl (at-store.demand-1 .write-ends (recordFrom ws) area file);
-  lose-ends = λ ws area board e. lent-ends ws area (lose board) _ [] 0 _ e refl (at-store.demand-1 .lose-ends (recordFrom ws) area board);
-  repair-ends = λ ws area fresh helpers standIns e.
-      lent-ends ws area (repair fresh helpers standIns) _ [] _ _ e refl (at-store.demand-1 .repair-ends (recordFrom ws) area fresh helpers standIns);
-  read-ends = λ ws area boards output e. lent-ends ws area (read boards output) _ output 0 _ e refl (at-store.demand-1 .read-ends (recordFrom ws) area boards output);
-  edit-ends = λ ws area offset bytes boards e.
-      lent-ends ws area (edit offset bytes boards) _ [] 0 _ e refl (at-store.demand-1 .edit-ends (recordFrom ws) area offset bytes boards);
+  write-ends = λ ws ps area file h k. lent-ends ws ps area (write file) 0 h k refl;
+  lose-ends = λ ws ps area board h k. lent-ends ws ps area (lose board) 0 h k refl;
+  repair-ends = λ ws ps area fresh helpers standIns h k. lent-ends ws ps area (repair fresh helpers standIns) _ h k refl;
+  read-ends = λ ws ps area boards output h k. lent-ends ws ps area (read boards output) 0 h k refl;
+  edit-ends = λ ws ps area offset bytes boards h k. lent-ends ws ps area (edit offset bytes boards) 0 h k refl;
+  start-ends = λ ws ps area fresh helpers standIns h k. lent-ends ws ps area (start fresh helpers standIns) 0 h k refl;
+  step-ends = λ ws ps area allowance packets h k.
+      lent-ends ws ps area (step allowance packets) _ h k (step-reports (recordFrom ws) (repairFrom ps) area packets allowance);
   set-up-none = set-up-none;
-  write-none = λ ws area file. none ws area (write file);
-  lose-none = λ ws area board. none ws area (lose board);
-  repair-none = λ ws area fresh helpers standIns. none ws area (repair fresh helpers standIns);
-  read-none = λ ws area boards output. none ws area (read boards output);
-  edit-none = λ ws area offset bytes boards. none ws area (edit offset bytes boards);
+  write-none = λ ws ps area file. none ws ps area (write file);
+  lose-none = λ ws ps area board. none ws ps area (lose board);
+  repair-none = λ ws ps area fresh helpers standIns. none ws ps area (repair fresh helpers standIns);
+  read-none = λ ws ps area boards output. none ws ps area (read boards output);
+  edit-none = λ ws ps area offset bytes boards. none ws ps area (edit offset bytes boards);
+  start-none = λ ws ps area fresh helpers standIns. none ws ps area (start fresh helpers standIns);
+  step-none = λ ws ps area allowance packets. none ws ps area (step allowance packets);
   read-exact = exact;
   text-ends = text-ends;
   text-none = text-none;

@@ -1,179 +1,352 @@
--- Demand 3 of the archive: a list of its calls is a list of the definitions' calls, with the record in words.
+-- Demand 3 of the archive: a list of its calls is a list of the definitions' calls, with both records in words.
 -- Assumes nothing.
-use Prim.Native.Nat.{ℕ, _+_, _*_, _%_, _≤_, _<_}
+use Prim.Native.Nat.{ℕ, _+_, _*_, _%_, _≤_}
 use mathlib.Core.Path.{_≡_, refl, sym, ap, ap₂, subst, _∙_}
 use mathlib.Core.Bool.{Bool, true, false}
-use mathlib.Core.List.{List, [], _∷_, map}
+use mathlib.Core.List.{List, [], _∷_, _++_, map}
 use mathlib.Core.Logic.{_↔_}
 use native.Mathlib.Omega.{arith}
 use native.Mathlib.Nat.{mod-lt}
 use lib.Dec.{eqb}
-use lib.ListN.{length}
+use lib.ListN.{length, replicate}
 use borrow.Author.Tests.{eqb-true, eq-eqb}
-use Rattle.lists.specs.Tests.{pick}
+use Rattle.lists.specs.Tests.{pick, alls}
 use Rattle.lists.specs.Lists.{All, Bytes, over}
+use Rattle.lists.proofs.Pieces.{map-append}
+use Rattle.lists.proofs.Tests.{alls-hold}
 use Rattle.sizes.specs.declared.Sizes.{Sizes}
 use Rattle.sizes.specs.declared.Check.{Check}
 use Rattle.sizes.specs.declared.Check.the-variants.{Pass, Refuse}
-use Rattle.sizes.specs.declared.Answer.the-variants.{Refused}
+use Rattle.sizes.specs.declared.Refusal.the-variants.{Busy}
+use Rattle.sizes.specs.declared.Answer.the-variants.{Done, Refused}
 use Rattle.sizes.specs.Sizing.{legal, maxStripes}
-use Rattle.sizes.specs.Refusals.{number, first, storeOrder}
-use Rattle.sizes.proofs.Laws.{number-low}
+use Rattle.sizes.specs.Refusals.{Said, first, storeOrder}
 use Rattle.sizes.proofs.Legal.{legal-facts}
+use Rattle.sizes.proofs.Orders.{clear-off}
 use Rattle.mbcr.specs.Share.{pointed}
+use Rattle.mbcr.proofs.PointLaws.{pointed-facts}
+use Rattle.board_spec.specs.Calls.{fileOf}
 use Rattle.store_spec.specs.Record.{Record, newRecord}
 use Rattle.store_spec.specs.Packets.{total, repairPackets}
-use Rattle.store_spec.specs.Calls.{StoreOutcome, accepted, settle, refused, recordLine, setUpCall, repairLines, repairDone, repairCall, readCall}
-use Rattle.store_spec.specs.Ledger.{Call, read, Book, State, Step, Altered, Allowed, outputOf, left, act, stepOutcome, replies, final, openBook, enter, bookFinal}
-use Rattle.board_spec.specs.Calls.{fileOf}
-use Rattle.store_spec.specs.Demand3.{Intact, Demand3, begun, calls}
-use Rattle.store_spec.proofs.Demand3.{demand-3, accepted-repair}
+use Rattle.store_spec.specs.Running.{Running, idle}
+use Rattle.store_spec.specs.Both.{Outcome, repairLinesBoth, setUpBoth, repairBoth, stepCall}
+use Rattle.store_spec.specs.BothCalls.{storeLines, storeDone}
+use Rattle.store_spec.specs.MarkLaws.{Arrays}
+use Rattle.store_spec.specs.Ledger.{Call, write, lose, repair, read, edit, start, step, Event, call, powerFails, Book, State, Step}
+use Rattle.store_spec.specs.Ledger.{Altered, FairEvent, Allowed, packetsAfter, act, lent, next, replies, final, outputOf, packetsOfCall, openBook, bookNext}
+use Rattle.store_spec.specs.Ledger.{told as toldBy}
+use Rattle.store_spec.specs.Demand3.{Intact, Demand3, WholeStep, begun, events}
+use Rattle.store_spec.specs.Premises.{files, IdleGiven, lentAgain, bare}
+use Rattle.store_spec.proofs.AloneLaws.{alone-laws}
+use Rattle.store_spec.proofs.BothCalls.{by, act-is, done-accepted}
 use Rattle.store_spec.proofs.Demand1.{demand-1}
+use Rattle.store_spec.proofs.Demand3.{demand-3, set-up-done, set-up-both, both-done, accepted-both}
+use Rattle.store_spec.proofs.Records.{sound-facts}
+use Rattle.store_spec.proofs.Follows.{act-any}
 use Rattle.store_spec.proofs.MarkLaws.{mark-laws}
-use Rattle.store_spec.proofs.Premises.{as-it-was, fair}
-use Rattle.store_spec.specs.Premises.{files}
+use Rattle.store_spec.proofs.Premises.{as-it-was, fair, again-bare}
 use Rattle.answer_word.specs.Answers.{wordOf}
 use Rattle.answer_word.proofs.Laws.{answer-laws}
-use Rattle.mbcr.proofs.PointLaws.{pointed-facts}
 use Rattle.record_words.specs.Words.{isRecord, recordFrom, wordsOf}
 use Rattle.record_words.specs.Laws.{Whole}
 use Rattle.record_words.proofs.Laws.{word-laws}
+use Rattle.repair_words.specs.RepairWords.{isRepair, repairFrom, repairWordsOf}
+use Rattle.repair_words.proofs.RepairWords.{repair-words}
 use Rattle.archive_spec.specs.Lent.{Lent, inWords, zbkSetUp, zbk}
-use Rattle.archive_spec.specs.Demand3.{lents, AllowedLents, lastWords, lastArea, Told, told, inWord, firstWords, endWords, endArea, endBook}
-use Rattle.archive_spec.specs.Demand3.{ArchiveRun, ArchiveDemand3, ArchiveRepaired, ArchiveRepairs, unalteredLents, ArchivePremises}
-use Rattle.archive_spec.proofs.InWords.{lent, lent-back, taken, set-up-lent}
+use Rattle.archive_spec.specs.Demand3.{Held, packetsLeft, heldNext, lentAt, lents, lastHeld, GivenWords, AllowedLents, Told, told, inWord, heldState, WholeInWords}
+use Rattle.archive_spec.specs.Demand3.{firstHeld, endHeld, endBook, ArchiveRun, ArchiveDemand3, ArchiveRepairs, unalteredLents, ArchivePremises}
+use Rattle.archive_spec.proofs.InWords.{both-yes, lent as lent-call, lent-back, taken, set-up-lent}
 
--- ---- a call on the words of a record of 32 marks and points is the definitions' call on the record
+-- ---- one call
 
-zbk-is : (s : Record) → Whole s → (area : List ℕ) (call : Call) → zbk (wordsOf s) area call ≡ inWords (act (record { kept = s; area = area }) call)
-zbk-is s full area call = lent-back (λ x. act (record { kept = x; area = area }) call) s area (outputOf call) full
+-- the low eight bits of an answer's word are its refusal
+done-word : (a : Said) → a .refusal ≡ 0 → wordOf a % 256 ≡ a .refusal
+done-word a e = ap (λ (r : ℕ). (r + 256 * a .reported) % 256) e ∙ answer-laws .refusal-is (Done (a .reported)) ∙ sym e
 
--- ---- lists of calls
+answer-word : (w : State) (c : Call) → wordOf (act w c .answer) % 256 ≡ act w c .answer .refusal
+answer-word w c =
+    subst (λ (o : Outcome). wordOf (o .answer) % 256 ≡ o .answer .refusal) (sym (act-is w c)) (go (first storeOrder (storeLines (w .kept) (w .running) (w .area) c)))
+  where
+    done : Outcome
+    done = storeDone (w .kept) (w .running) (w .area) c
 
--- the words tell the record of the definitions' state
-record Tells (ws area : List ℕ) (w : State) : Type 0 where
-  words-are : ws ≡ wordsOf (w .kept)
-  area-is : area ≡ w .area
-  full : Whole (w .kept)
+    go : (t : Check) → let o = by (w .kept) (w .running) (w .area) (outputOf c) (packetsOfCall c) done t in wordOf (o .answer) % 256 ≡ o .answer .refusal
+    go Pass = done-word (done .answer) (done-accepted (w .kept) (w .running) (w .area) c)
+    go (Refuse x) = answer-laws .refusal-is (Refused x)
 
-one : (ws area : List ℕ) (w : State) (t : Step) → Tells ws area w → zbk ws (t .area) (t .call) ≡ inWords (stepOutcome w t)
-one ws area w t h = ap (λ (l : List ℕ). zbk l (t .area) (t .call)) (h .words-are) ∙ zbk-is (w .kept) (h .full) (t .area) (t .call)
+-- the words held tell the records of the definitions' state
+record Tells (h : Held) (w : State) : Type 0 where
+  words-are : h .words ≡ wordsOf (w .kept)
+  repair-are : h .repair ≡ repairWordsOf (w .running)
+  area-is : h .area ≡ w .area
+  packets-are : h .packets ≡ w .packets
+  whole : Whole (w .kept)
+  arrays : Arrays (w .running)
 
-still-whole : (w : State) (call : Call) → Whole (w .kept) → Whole (act w call .handed)
-still-whole w call f =
-    let e = mark-laws .points-stay w call in
+-- a call on the words of records is the definitions' call on the records
+zbk-is : (s : Record) (p : Running) → Whole s → Arrays p → (area packets : List ℕ) (c : Call)
+    → zbk (wordsOf s) (repairWordsOf p) area c ≡ inWords (act (record { kept = s; running = p; area = area; packets = packets }) c)
+zbk-is s p f a area packets c =
+    lent-back (λ x q. act (record { kept = x; running = q; area = area; packets = [] }) c) s p area (outputOf c) (packetsOfCall c) f a
+    ∙ ap inWords (act-any s p area [] packets c)
+
+one : (h : Held) (w : State) → Tells h w → (t : Step) (c : Call) → zbk (h .words) (h .repair) (t .area) c ≡ inWords (act (lent w t) c)
+one h w k t c =
+    ap₂ (λ (x y : List ℕ). zbk x y (t .area) c) (k .words-are) (k .repair-are) ∙ zbk-is (w .kept) (w .running) (k .whole) (k .arrays) (t .area) (w .packets) c
+
+-- the packet area that is kept
+left-same : (before : List ℕ) (w : State) (c : Call) → packetsLeft before c (inWords (act w c)) ≡ packetsAfter before c (act w c)
+left-same before w (write file) = refl
+left-same before w (lose board) = refl
+left-same before w (repair fresh helpers standIns) = refl
+left-same before w (read boards output) = refl
+left-same before w (edit offset bytes boards) = refl
+left-same before w (start fresh helpers standIns) = refl
+left-same before w (step allowance packets) =
+    ap (λ (n : ℕ). pick (eqb n 0) (act w (step allowance packets) .packets) before) (answer-word w (step allowance packets))
+
+still-whole : (w : State) (c : Call) → Whole (w .kept) → Whole (act w c .handed)
+still-whole w c f =
+    let e = mark-laws .points-stay w c in
     record {
-      marks = mark-laws .full-marks w call (f .marks);
+      marks = mark-laws .full-marks w c (f .marks);
       points = ap length e ∙ f .points;
       points-bytes = subst Bytes (sym e) (f .points-bytes);
     }
 
-next : (ws area : List ℕ) (w : State) (t : Step) → Tells ws area w
-    → Tells (zbk ws (t .area) (t .call) .words) (zbk ws (t .area) (t .call) .area) (left (stepOutcome w t))
-next ws area w t h =
-    let e = one ws area w t h in
+following : (h : Held) (w : State) → Tells h w → (t : Step) (e : Event) → GivenWords e → Tells (heldNext h (t .area) e) (next (lent w t) e)
+following h w k t (call c) g =
+    let o = one h w k t c in
     record {
-      words-are = ap (λ (o : Lent). o .words) e;
-      area-is = ap (λ (o : Lent). o .area) e;
-      full = still-whole (record { kept = w .kept; area = t .area }) (t .call) (h .full);
+      words-are = ap (λ (x : Lent). x .words) o;
+      repair-are = ap (λ (x : Lent). x .repair) o;
+      area-is = ap (λ (x : Lent). x .area) o;
+      packets-are = ap₂ (λ (l : List ℕ) (x : Lent). packetsLeft l c x) (k .packets-are) o ∙ left-same (w .packets) (lent w t) c;
+      whole = still-whole (lent w t) c (k .whole);
+      arrays = mark-laws .arrays-stay (lent w t) c (k .arrays);
     }
+following h w k t (powerFails p) g = record { words-are = k .words-are; repair-are = refl; area-is = refl; packets-are = refl; whole = k .whole; arrays = g }
 
-back : (ws area : List ℕ) (w : State) → Tells ws area w → recordFrom ws ≡ w .kept
-back ws area w h = ap recordFrom (h .words-are) ∙ word-laws .record-back (w .kept) (h .full)
+-- ---- lists
 
-allowed : (ws area : List ℕ) (w : State) (b : Book) (steps : List Step) → Tells ws area w → AllowedLents ws area b steps → Allowed w b steps
-allowed ws area w b [] h a = tt
-allowed ws area w b (t ∷ ts) h a = (
-  subst (λ (l : List ℕ). Altered b (w .kept) l (t .area)) (h .area-is) (subst (λ (s : Record). Altered b s area (t .area)) (back ws area w h) (a .0)),
-  a .1,
-  allowed (zbk ws (t .area) (t .call) .words) (zbk ws (t .area) (t .call) .area) (left (stepOutcome w t)) (enter b (t .call) .book) ts (next ws area w t h) (a .2),
+back : (h : Held) (w : State) → Tells h w → recordFrom (h .words) ≡ w .kept
+back h w k = ap recordFrom (k .words-are) ∙ word-laws .record-back (w .kept) (k .whole)
+
+repair-back : (h : Held) (w : State) → Tells h w → repairFrom (h .repair) ≡ w .running
+repair-back h w k = ap repairFrom (k .repair-are) ∙ repair-words .repair-back (w .running) (k .arrays)
+
+state-is : (h : Held) (w : State) → Tells h w → heldState h ≡ w
+state-is h w k =
+    ap₂ {C = State} (λ (s : Record) (q : Running). record { kept = s; running = q; area = h .area; packets = h .packets }) (back h w k) (repair-back h w k)
+    ∙ ap₂ {C = State} (λ (x y : List ℕ). record { kept = w .kept; running = w .running; area = x; packets = y }) (k .area-is) (k .packets-are)
+
+allowed : (steps : List Step) (h : Held) (w : State) (b : Book) → Tells h w → AllowedLents h b steps → Allowed w b steps
+allowed [] h w b k a = tt
+allowed (t ∷ ts) h w b k a = (
+  subst (λ (l : List ℕ). Altered b (w .kept) l (t .area)) (k .area-is) (subst (λ (s : Record). Altered b s (h .area) (t .area)) (back h w k) (a .0)),
+  subst (λ (l : List ℕ). FairEvent b l (t .event)) (k .packets-are) (a .1),
+  allowed ts (heldNext h (t .area) (t .event)) (next (lent w t) (t .event)) (bookNext b (t .event)) (following h w k t (t .event) (a .2)) (a .3),
 )
 
-answers : (ws area : List ℕ) (w : State) (steps : List Step) → Tells ws area w → map told (lents ws steps) ≡ map inWord (replies w steps)
-answers ws area w [] h = refl
-answers ws area w (t ∷ ts) h =
-    ap₂ {C = List Told} (λ x l. x ∷ l) (ap told (one ws area w t h))
-    (answers (zbk ws (t .area) (t .call) .words) (zbk ws (t .area) (t .call) .area) (left (stepOutcome w t)) ts (next ws area w t h))
+told-same : (h : Held) (w : State) → Tells h w → (t : Step) (e : Event) → map told (lentAt h (t .area) e) ≡ map inWord (toldBy (lent w t) e)
+told-same h w k t (call c) = ap (λ (o : Lent). told o ∷ []) (one h w k t c)
+told-same h w k t (powerFails p) = refl
 
-ends : (ws area : List ℕ) (w : State) (steps : List Step) → Tells ws area w
-    → Tells (lastWords ws (lents ws steps)) (lastArea area (lents ws steps)) (final w steps)
-ends ws area w [] h = h
-ends ws area w (t ∷ ts) h = ends (zbk ws (t .area) (t .call) .words) (zbk ws (t .area) (t .call) .area) (left (stepOutcome w t)) ts (next ws area w t h)
+answers : (steps : List Step) (h : Held) (w : State) (b : Book) → Tells h w → AllowedLents h b steps → map told (lents h steps) ≡ map inWord (replies w steps)
+answers [] h w b k a = refl
+answers (t ∷ ts) h w b k a =
+    map-append told (lentAt h (t .area) (t .event)) (lents (heldNext h (t .area) (t .event)) ts)
+    ∙ ap₂ {C = List Told} (λ (x y : List Told). x ++ y) (told-same h w k t (t .event))
+    (answers ts (heldNext h (t .area) (t .event)) (next (lent w t) (t .event)) (bookNext b (t .event)) (following h w k t (t .event) (a .2)) (a .3))
+    ∙ sym (map-append inWord (toldBy (lent w t) (t .event)) (replies (next (lent w t) (t .event)) ts))
+
+ends : (steps : List Step) (h : Held) (w : State) (b : Book) → Tells h w → AllowedLents h b steps → Tells (lastHeld h steps) (final w steps)
+ends [] h w b k a = k
+ends (t ∷ ts) h w b k a = ends ts (heldNext h (t .area) (t .event)) (next (lent w t) (t .event)) (bookNext b (t .event)) (following h w k t (t .event) (a .2)) (a .3)
+
+-- from any words that tell both records, whatever is altered
+goes-as : (steps : List Step) (h : Held) (w : State) → Tells h w → All (λ t. GivenWords (t .event)) steps
+    → Tells (lastHeld h steps) (final w steps) × (map told (lents h steps) ≡ map inWord (replies w steps))
+goes-as [] h w k g = (k, refl)
+goes-as (t ∷ ts) h w k g =
+    let r = goes-as ts (heldNext h (t .area) (t .event)) (next (lent w t) (t .event)) (following h w k t (t .event) (g .0)) (g .1) in (
+      r .0,
+      map-append told (lentAt h (t .area) (t .event)) (lents (heldNext h (t .area) (t .event)) ts)
+          ∙ ap₂ {C = List Told} (λ (x y : List Told). x ++ y) (told-same h w k t (t .event)) (r .1)
+          ∙ sym (map-append inWord (toldBy (lent w t) (t .event)) (replies (next (lent w t) (t .event)) ts)),
+    )
+
+pub final-is : (h : Held) (steps : List Step) → isRecord (h .words) ≡ true → isRepair (h .repair) ≡ true → All (λ t. GivenWords (t .event)) steps
+    → (isRecord (lastHeld h steps .words) ≡ true) × (isRepair (lastHeld h steps .repair) ≡ true) × (heldState (lastHeld h steps) ≡ final (heldState h) steps)
+    × (map told (lents h steps) ≡ map inWord (replies (heldState h) steps))
+final-is h steps a b g =
+    let k : Tells h (heldState h) = record {
+      words-are = sym (word-laws .words-back (h .words) a);
+      repair-are = sym (repair-words .words-back (h .repair) b);
+      area-is = refl;
+      packets-are = refl;
+      whole = word-laws .is-whole (h .words) a;
+      arrays = repair-words .is-arrays (h .repair) b;
+    } in
+    let r = goes-as steps h (heldState h) k g in
+    let w = final (heldState h) steps in (
+      ap isRecord (r .0 .words-are) ∙ word-laws .are-words (w .kept) (r .0 .whole),
+      ap isRepair (r .0 .repair-are) ∙ repair-words .are-words (w .running) (r .0 .arrays),
+      state-is (lastHeld h steps) w (r .0),
+      r .1,
+    )
 
 -- ---- the start
 
-record Begins (ws : List ℕ) (z : Sizes) (xs : List ℕ) (c : ℕ) : Type 0 where
-  accepts : setUpCall (newRecord z xs c) z xs c .answer .refusal ≡ 0
-  words-are : zbkSetUp ws z xs c .words ≡ wordsOf (setUpCall (newRecord z xs c) z xs c .handed)
+module _ (ws ps : List ℕ) (z : Sizes) (xs : List ℕ) (c : ℕ) where
+  abbrev made : Outcome
+  made = setUpBoth (newRecord z xs c) idle z xs c
 
-begins : (ws : List ℕ) (z : Sizes) (xs : List ℕ) (c : ℕ) → zbkSetUp ws z xs c .answer ≡ 0 → Begins ws z xs c
-unfolding zbkSetUp
-begins ws z xs c e = let p = go (setUpCall (newRecord z xs c) z xs c) (eqb (length ws) 12) e in record { accepts = p .0; words-are = p .1 }
-  where
-    by : StoreOutcome → Bool → Lent
-    by o t = set-up-lent ws o t (eqb (wordOf (o .answer)) 0)
+  record Begins : Type 0 where
+    accepts : made .answer .refusal ≡ 0
+    twelve : length ws ≡ 12
+    seventy-one : length ps ≡ 71
+    words-are : zbkSetUp ws ps z xs c .words ≡ wordsOf (made .handed)
+    repair-are : zbkSetUp ws ps z xs c .repair ≡ repairWordsOf (made .running)
 
-    go : (o : StoreOutcome) (t : Bool) → by o t .answer ≡ 0 → (o .answer .refusal ≡ 0) × (by o t .words ≡ wordsOf (o .handed))
-    go o true e = (omega (arith, e), rw (eq-eqb (wordOf (o .answer)) 0 e) refl)
-    go o false e = absurd (omega (arith, e))
+  begins : zbkSetUp ws ps z xs c .answer ≡ 0 → Begins
+  unfolding zbkSetUp
+  begins e =
+      let p = go (setUpBoth (newRecord z xs c) idle z xs c) (alls (eqb (length ws) 12 ∷ eqb (length ps) 71 ∷ [])) refl e in
+      record { accepts = p .0; twelve = p .1; seventy-one = p .2; words-are = p .3; repair-are = p .4 }
+    where
+      given : Outcome → Bool → Lent
+      given o t = set-up-lent ws ps o t (eqb (wordOf (o .answer)) 0)
 
--- what a set-up over a new record hands on, accepted or not
-handed-new : (z : Sizes) (xs : List ℕ) (c : ℕ) → setUpCall (newRecord z xs c) z xs c .handed ≡ newRecord z xs c
-unfolding setUpCall
-handed-new z xs c = go (first storeOrder (recordLine (newRecord z xs c) ∷ []))
-  where
-    go : (t : Check) → settle t (refused (newRecord z xs c) [] []) (accepted 0 (newRecord z xs c) [] []) .handed ≡ newRecord z xs c
-    go Pass = refl
-    go (Refuse x) = refl
+      go : (o : Outcome) (t : Bool) → alls (eqb (length ws) 12 ∷ eqb (length ps) 71 ∷ []) ≡ t → given o t .answer ≡ 0
+          → (o .answer .refusal ≡ 0) × (length ws ≡ 12) × (length ps ≡ 71)
+          × (given o t .words ≡ wordsOf (o .handed)) × (given o t .repair ≡ repairWordsOf (o .running))
+      go o true q e =
+          let l = alls-hold (eqb (length ws) 12 ∷ eqb (length ps) 71 ∷ []) q in (
+            omega (arith, e),
+            eqb-true _ _ (l .0),
+            eqb-true _ _ (l .1 .0),
+            rw (eq-eqb (wordOf (o .answer)) 0 e) refl,
+            rw (eq-eqb (wordOf (o .answer)) 0 e) refl,
+          )
+      go o false q e = absurd (omega (arith, e))
 
-handed-whole : (z : Sizes) (xs : List ℕ) (c : ℕ) → setUpCall (newRecord z xs c) z xs c .answer .refusal ≡ 0 → Whole (setUpCall (newRecord z xs c) z xs c .handed)
-handed-whole z xs c e = let h = demand-1 .set-up-accepted (newRecord z xs c) z xs c .0 e in go (h .0) (h .1)
-  where
-    go : legal z ≡ true → pointed z xs ≡ true → Whole (setUpCall (newRecord z xs c) z xs c .handed)
-    go l h = let f = pointed-facts z xs (legal-facts z l .few) h in subst Whole (sym (handed-new z xs c)) (record { marks = refl; points = f .long; points-bytes = f .bytes })
+  -- the records that an accepted set-up hands on have all their entries
+  whole-made : made .answer .refusal ≡ 0 → Whole (made .handed)
+  whole-made ok =
+      let g = sound-facts (newRecord z xs c) (set-up-both (newRecord z xs c) idle z xs c ok) in
+      let f = pointed-facts z xs (legal-facts z (g .is-legal) .few) (g .is-pointed) in
+      subst Whole (sym (ap (λ (o : Outcome). o .handed) (set-up-done (newRecord z xs c) idle z xs c ok))) (record { marks = refl; points = f .long; points-bytes = f .bytes })
 
-module _ (ws : List ℕ) (z : Sizes) (xs : List ℕ) (c : ℕ) (area : List ℕ) (steps : List Step) (e : zbkSetUp ws z xs c .answer ≡ 0) where
+  arrays-made : made .answer .refusal ≡ 0 → Arrays (made .running)
+  arrays-made ok = subst Arrays (sym (ap (λ (o : Outcome). o .running) (set-up-done (newRecord z xs c) idle z xs c ok))) (mark-laws .arrays-idle)
+
+-- ---- a step to the end
+
+module _ (h : Held) (is : isRecord (h .words) ≡ true) (so : isRepair (h .repair) ≡ true) where
+  abbrev s : Record
+  s = recordFrom (h .words)
+
+  abbrev p : Running
+  p = repairFrom (h .repair)
+
+  -- 71 words 0 tell no repair
+  zeros-are : isRepair (replicate 71 0) ≡ true
+  zeros-are = subst (λ (l : List ℕ). isRepair l ≡ true) (repair-words .idle-words) (repair-words .are-words idle (mark-laws .arrays-idle))
+
+  zeros-tell : repairFrom (replicate 71 0) ≡ idle
+  zeros-tell = ap repairFrom (sym (repair-words .idle-words)) ∙ repair-words .repair-back idle (mark-laws .arrays-idle)
+
+  stepped : (now packets : List ℕ) (allowance : ℕ) → zbk (h .words) (h .repair) now (step allowance packets) ≡ inWords (stepCall s p now packets allowance)
+  unfolding act
+  stepped now packets allowance =
+      sym (lent-call (λ x q. act (record { kept = x; running = q; area = now; packets = [] }) (step allowance packets)) (h .words) (h .repair) now [] packets is so)
+
+  repaired : (now fresh helpers standIns : List ℕ) → zbk (h .words) (replicate 71 0) now (repair fresh helpers standIns) ≡ inWords (repairBoth s idle now fresh helpers standIns)
+  unfolding act
+  repaired now fresh helpers standIns =
+      sym (lent-call (λ x q. act (record { kept = x; running = q; area = now; packets = [] }) (repair fresh helpers standIns)) (h .words) (replicate 71 0) now [] [] is zeros-are)
+      ∙ ap (λ (q : Running). inWords (repairBoth s q now fresh helpers standIns)) zeros-tell
+
+  whole-in-words : (now packets : List ℕ) (allowance : ℕ) (fresh helpers standIns : List ℕ) (left : ℕ) → WholeStep s p now packets allowance fresh helpers standIns left
+      → WholeInWords h now packets allowance fresh helpers standIns left
+  whole-in-words now packets allowance fresh helpers standIns left w =
+      let a = stepped now packets allowance in
+      let b = repaired now fresh helpers standIns in
+      let zero : 0 + 256 * left ≡ 256 * left = omega arith in
+      record {
+        answers = ap (λ (o : Lent). o .answer) a ∙ ap wordOf (w .answers) ∙ zero;
+        would-be-taken = ap (λ (o : Lent). o .answer % 256) b ∙ done-word (repairBoth s idle now fresh helpers standIns .answer) (w .would-be-taken) ∙ w .would-be-taken;
+        same-words = ap (λ (o : Lent). o .words) a ∙ ap wordsOf (w .same-record) ∙ sym (ap (λ (o : Lent). o .words) b);
+        same-repair = ap (λ (o : Lent). o .repair) a ∙ ap repairWordsOf (w .same-running) ∙ sym (ap (λ (o : Lent). o .repair) b);
+        same-area = ap (λ (o : Lent). o .area) a ∙ w .same-area ∙ sym (ap (λ (o : Lent). o .area) b);
+        same-packets = ap (λ (o : Lent). o .packets) a ∙ w .same-packets;
+      }
+
+-- ---- a list after a set-up
+
+module _ (ws ps : List ℕ) (z : Sizes) (xs : List ℕ) (c : ℕ) (area : List ℕ) (steps : List Step) (e : zbkSetUp ws ps z xs c .answer ≡ 0) where
   -- the definitions' store at the start, and at the end
-  abbrev start : State
-  start = begun (newRecord z xs c) z xs c area
+  abbrev starts : State
+  starts = begun (newRecord z xs c) idle z xs c area
 
   abbrev last : State
-  last = final start steps
+  last = final starts steps
 
-  tells-start : Tells (firstWords ws z xs c area steps) area start
-  tells-start = record { words-are = begins ws z xs c e .words-are; area-is = refl; full = handed-whole z xs c (begins ws z xs c e .accepts) }
+  abbrev book : Book
+  book = openBook z xs c (length area)
 
-  tells-last : Tells (endWords ws z xs c area steps) (endArea ws z xs c area steps) last
-  tells-last = ends (firstWords ws z xs c area steps) area start steps tells-start
+  abbrev first-held : Held
+  first-held = firstHeld ws ps z xs c area steps
 
-  state-is : record { kept = recordFrom (endWords ws z xs c area steps); area = endArea ws z xs c area steps } ≡ last
-  state-is =
-      ap₂ {C = State} (λ (s : Record) (l : List ℕ). record { kept = s; area = l })
-      (back (endWords ws z xs c area steps) (endArea ws z xs c area steps) last tells-last) (tells-last .area-is)
+  abbrev end-held : Held
+  end-held = endHeld ws ps z xs c area steps
 
-  module _ (ok : AllowedLents (firstWords ws z xs c area steps) area (openBook z xs c (length area)) steps) where
-    of-definitions : Demand3 (newRecord z xs c) z xs c area steps
-    of-definitions =
-        demand-3 (newRecord z xs c) z xs c area steps (begins ws z xs c e .accepts)
-        (allowed (firstWords ws z xs c area steps) area start (openBook z xs c (length area)) steps tells-start ok)
+  begun-so : Begins ws ps z xs c
+  begun-so = begins ws ps z xs c e
 
-    intact : Intact (record { kept = recordFrom (endWords ws z xs c area steps); area = endArea ws z xs c area steps }) (endBook ws z xs c area steps)
-    intact = subst (λ (w : State). Intact w (endBook ws z xs c area steps)) (sym state-is) (of-definitions .after)
+  tells-start : Tells first-held starts
+  tells-start = record {
+    words-are = begun-so .words-are;
+    repair-are = begun-so .repair-are;
+    area-is = refl;
+    packets-are = refl;
+    whole = whole-made ws ps z xs c (begun-so .accepts);
+    arrays = arrays-made ws ps z xs c (begun-so .accepts);
+  }
 
-    are-words : isRecord (endWords ws z xs c area steps) ≡ true
-    are-words = ap isRecord (tells-last .words-are) ∙ word-laws .are-words (last .kept) (tells-last .full)
+  module _ (ok : AllowedLents first-held book steps) where
+    tells-last : Tells end-held last
+    tells-last = ends steps first-held starts book tells-start ok
 
-    runs : ArchiveRun ws z xs c area steps
+    of-definitions : Demand3 (newRecord z xs c) idle z xs c area steps
+    of-definitions = demand-3 (newRecord z xs c) idle z xs c area steps (begun-so .accepts) (allowed steps first-held starts book tells-start ok)
+
+    intact : Intact (heldState end-held) (endBook ws ps z xs c area steps)
+    intact = subst (λ (w : State). Intact w (endBook ws ps z xs c area steps)) (sym (state-is end-held last tells-last)) (of-definitions .after)
+
+    are-words : isRecord (end-held .words) ≡ true
+    are-words = ap isRecord (tells-last .words-are) ∙ word-laws .are-words (last .kept) (tells-last .whole)
+
+    are-repair : isRepair (end-held .repair) ≡ true
+    are-repair = ap isRepair (tells-last .repair-are) ∙ repair-words .are-words (last .running) (tells-last .arrays)
+
+    runs : ArchiveRun ws ps z xs c area steps
     unfolding act
     runs = record {
-      alike = answers (firstWords ws z xs c area steps) area start steps tells-start ∙ ap (map inWord) (of-definitions .alike);
+      alike = answers steps first-held starts book tells-start ok ∙ ap (map inWord) (of-definitions .alike);
       are-words = are-words;
+      are-repair = are-repair;
       after = intact;
       gives = λ now a boards output count diff up room.
-          sym (lent (λ s. readCall s now boards output) (endWords ws z xs c area steps) now output are-words)
+          sym (lent-call (λ x q. act (record { kept = x; running = q; area = now; packets = [] }) (read boards output)) (end-held .words) (end-held .repair) now output []
+          are-words are-repair)
           ∙ ap inWords (intact .gives now a boards output count diff up room)
-          ∙ ap (λ (l : List ℕ). record { answer = 0; words = l; area = now; output = over (fileOf (endBook ws z xs c area steps .file)) output })
-          (word-laws .words-back (endWords ws z xs c area steps) are-words);
+          ∙ ap₂ (λ (l m : List ℕ). record { answer = 0; words = l; repair = m; area = now; output = over (fileOf (endBook ws ps z xs c area steps .file)) output; packets = [] })
+          (word-laws .words-back (end-held .words) are-words) (repair-words .words-back (end-held .repair) are-repair);
+      finishes = λ r q now a packets long same allowance enough.
+          whole-in-words end-held are-words are-repair now packets allowance (r .fresh) (r .helpers) (r .standIns) (r .left)
+          (intact .finishes r q now a packets long same allowance enough);
     }
 
 pub archive-demand-3 : ArchiveDemand3
@@ -181,76 +354,103 @@ archive-demand-3 = runs
 
 -- ---- repairs
 
-small : (t : Check) (s : Record) (area : List ℕ) (done : StoreOutcome) (v : ℕ) → done .answer .refusal ≡ 0
-    → wordOf (settle t (refused s area []) done .answer) ≡ 256 * v → settle t (refused s area []) done .answer .refusal ≡ 0
-small Pass s area done v e h = e
-small (Refuse x) s area done v e h =
-    let q = answer-laws .refusal-is (Refused x) in
-    absurd (omega (arith, number-low x, q, mod-lt (number x + 256 * 0) {m = 256} (omega arith), h))
+-- a word that is a multiple of 256 is of an accepted call
+small : (w : State) (c : Call) (v : ℕ) → wordOf (act w c .answer) ≡ 256 * v → act w c .answer .refusal ≡ 0
+small w c v h = sym (answer-word w c) ∙ ap (λ (n : ℕ). n % 256) h ∙ none v
+  where
+    none : (v : ℕ) → (256 * v) % 256 ≡ 0
+    none v = omega (arith, mod-lt (256 * v) {m = 256} (omega arith))
 
 none-refused : (v : ℕ) → 0 + 256 * v ≡ 256 * v
 none-refused v = omega arith
 
+-- with none running
+none-busy : (s : Record) (p : Running) (area fresh helpers standIns : List ℕ) → repairBoth s p area fresh helpers standIns .answer .refusal ≡ 0 → p .running ≡ false
+unfolding repairBoth repairLinesBoth
+none-busy s p area fresh helpers standIns h =
+    clear-off (repairLinesBoth s p (length area) fresh helpers standIns) storeOrder
+    (both-done (first storeOrder (repairLinesBoth s p (length area) fresh helpers standIns)) s p area [] [] _ h) Busy refl
+
 pub archive-repairs : ArchiveRepairs
-unfolding act repairCall
-archive-repairs ws area fresh helpers standIns v h =
+unfolding act
+archive-repairs ws ps area fresh helpers standIns v h =
     let s = recordFrom ws in
-    let e = taken (λ s. repairCall s area fresh helpers standIns) ws area [] v h in
-    let is = lent (λ s. repairCall s area fresh helpers standIns) ws area [] e in
-    let ok = small (first storeOrder (repairLines s (length area) fresh helpers standIns)) s area (repairDone s area fresh helpers standIns) v refl
-    (ap (λ (o : Lent). o .answer) is ∙ h) in
-    let p = accepted-repair s area fresh helpers standIns ok in
+    let p = repairFrom ps in
+    let calling : Record → Running → Outcome = λ x q. act (record { kept = x; running = q; area = area; packets = [] }) (repair fresh helpers standIns) in
+    let e = taken calling ws ps area [] [] v h in
+    let is = lent-call calling ws ps area [] [] (e .0) (e .1) in
+    let ok = small (record { kept = s; running = p; area = area; packets = [] }) (repair fresh helpers standIns) v (ap (λ (o : Lent). o .answer) is ∙ h) in
+    let q = accepted-both s p area fresh helpers standIns ok in
+    let m = q .1 in
     record {
-      is-record = e;
-      repaired = p;
-      reports = rw e (ap wordOf (p .moved) ∙ none-refused (total (repairPackets s area fresh helpers standIns)));
-      has = λ i k. rw e (p .has i k);
+      is-record = e .0;
+      is-repair = e .1;
+      none-runs = none-busy s p area fresh helpers standIns ok;
+      repaired = m;
+      reports = sym (ap (λ (o : Lent). o .answer) is) ∙ ap (λ (o : Outcome). wordOf (o .answer)) (q .0) ∙ ap wordOf (m .moved)
+          ∙ none-refused (total (repairPackets s area fresh helpers standIns));
+      has = λ i k. ap (λ (l : List ℕ). Rattle.store_spec.specs.Record.held s l i) (sym (ap (λ (o : Lent). o .area) is) ∙ ap (λ (o : Outcome). o .area) (q .0)) ∙ m .has i k;
+      repair-stays = sym (ap (λ (o : Lent). o .repair) is) ∙ ap (λ (o : Outcome). repairWordsOf (o .running)) (q .0) ∙ repair-words .words-back ps (e .1);
     }
 
 -- ---- what the premises allow
 
-accepted-word : (z : Sizes) (xs : List ℕ) (c : ℕ) → setUpCall (newRecord z xs c) z xs c .answer .refusal ≡ 0 → wordOf (setUpCall (newRecord z xs c) z xs c .answer) ≡ 0
-unfolding setUpCall
-accepted-word z xs c = go (first storeOrder (recordLine (newRecord z xs c) ∷ []))
-  where
-    by : Check → StoreOutcome
-    by t = settle t (refused (newRecord z xs c) [] []) (accepted 0 (newRecord z xs c) [] [])
+-- a set-up beside any record of a repair is accepted where the set-up alone is
+both-accepted : (z : Sizes) (xs : List ℕ) (c : ℕ)
+    → (setUpBoth (newRecord z xs c) idle z xs c .answer .refusal ≡ 0) ↔ ((legal z ≡ true) × (pointed z xs ≡ true) × (1 ≤ c) × (c ≤ maxStripes))
+both-accepted z xs c =
+    let same = ap (λ (a : Said). a .refusal) (alone-laws .set-up-alone (newRecord z xs c) idle z xs c .answer-is) in
+    let k = demand-1 .set-up-accepted (newRecord z xs c) z xs c in
+    (λ h. k .0 (sym same ∙ h), λ h. same ∙ k .1 h)
 
-    go : (t : Check) → by t .answer .refusal ≡ 0 → wordOf (by t .answer) ≡ 0
-    go Pass e = refl
-    go (Refuse x) e = absurd (omega (arith, number-low x, e))
+accepted-word : (z : Sizes) (xs : List ℕ) (c : ℕ) → setUpBoth (newRecord z xs c) idle z xs c .answer .refusal ≡ 0 → wordOf (setUpBoth (newRecord z xs c) idle z xs c .answer) ≡ 0
+accepted-word z xs c ok = ap (λ (o : Outcome). wordOf (o .answer)) (set-up-done (newRecord z xs c) idle z xs c ok)
 
-set-up-accepted : (ws : List ℕ) (z : Sizes) (xs : List ℕ) (c : ℕ)
-    → (zbkSetUp ws z xs c .answer ≡ 0) ↔ ((length ws ≡ 12) × (legal z ≡ true) × (pointed z xs ≡ true) × (1 ≤ c) × (c ≤ maxStripes))
+set-up-accepted : (ws ps : List ℕ) (z : Sizes) (xs : List ℕ) (c : ℕ)
+    → (zbkSetUp ws ps z xs c .answer ≡ 0) ↔ ((length ws ≡ 12) × (length ps ≡ 71) × (legal z ≡ true) × (pointed z xs ≡ true) × (1 ≤ c) × (c ≤ maxStripes))
 unfolding zbkSetUp
-set-up-accepted ws z xs c = (there, back-again)
-  where
-    there : zbkSetUp ws z xs c .answer ≡ 0 → (length ws ≡ 12) × (legal z ≡ true) × (pointed z xs ≡ true) × (1 ≤ c) × (c ≤ maxStripes)
-    there e =
-        let h = demand-1 .set-up-accepted (newRecord z xs c) z xs c .0 (begins ws z xs c e .accepts) in
-        (twelve (setUpCall (newRecord z xs c) z xs c) (eqb (length ws) 12) refl e, h .0, h .1, h .2, h .3)
-      where
-        twelve : (o : StoreOutcome) (t : Bool) → eqb (length ws) 12 ≡ t → set-up-lent ws o t (eqb (wordOf (o .answer)) 0) .answer ≡ 0 → length ws ≡ 12
-        twelve o true q e = eqb-true (length ws) 12 q
-        twelve o false q e = absurd (omega (arith, e))
+set-up-accepted ws ps z xs c = (
+  (λ e.
+      let b = begins ws ps z xs c e in
+      let h = both-accepted z xs c .0 (b .accepts) in
+      (b .twelve, b .seventy-one, h .0, h .1, h .2, h .3)),
+  (λ h.
+      ap (λ (t : Bool). set-up-lent ws ps (setUpBoth (newRecord z xs c) idle z xs c) t (eqb (wordOf (setUpBoth (newRecord z xs c) idle z xs c .answer)) 0) .answer)
+      (both-yes (eqb (length ws) 12) (eqb (length ps) 71) (eq-eqb _ _ (h .0)) (eq-eqb _ _ (h .1)))
+      ∙ accepted-word z xs c (both-accepted z xs c .1 (h .2, h .3, h .4, h .5))),
+)
 
-    back-again : (length ws ≡ 12) × (legal z ≡ true) × (pointed z xs ≡ true) × (1 ≤ c) × (c ≤ maxStripes) → zbkSetUp ws z xs c .answer ≡ 0
-    back-again h = rw (eq-eqb (length ws) 12 (h .0)) (accepted-word z xs c (demand-1 .set-up-accepted (newRecord z xs c) z xs c .1 (h .1, h .2, h .3, h .4)))
+-- a record given is as it was, whatever packet area is lent
+given-again : (w : State) (b : Book) (e : Event) → GivenWords e → GivenWords (lentAgain w b e)
+given-again w b (call (write file)) g = tt
+given-again w b (call (lose board)) g = tt
+given-again w b (call (repair fresh helpers standIns)) g = tt
+given-again w b (call (read boards output)) g = tt
+given-again w b (call (edit offset bytes boards)) g = tt
+given-again w b (call (start fresh helpers standIns)) g = tt
+given-again w b (call (step allowance packets)) g = tt
+given-again w b (powerFails p) g = g
+
+all-allowed : (h : Held) (b : Book) (es : List Event) → All Bytes (files es) → IdleGiven es → All GivenWords es → AllowedLents h b (unalteredLents h b es)
+all-allowed h b [] f i g = tt
+all-allowed h b (e ∷ es) f i g =
+    let again : Event = lentAgain (heldState h) b e in
+    let k = fair (heldState h) b e es f i in (
+      as-it-was b (recordFrom (h .words)) (h .area),
+      k .0,
+      given-again (heldState h) b e (g .0),
+      all-allowed (heldNext h (h .area) again) (bookNext b again) es (k .1) (k .2) (g .1),
+    )
+
+same-events : (h : Held) (b : Book) (es : List Event) → map bare (events (unalteredLents h b es)) ≡ map bare es
+same-events h b [] = refl
+same-events h b (e ∷ es) =
+    let again : Event = lentAgain (heldState h) b e in
+    ap₂ {C = List Event} (λ x r. x ∷ r) (again-bare (heldState h) b e) (same-events (heldNext h (h .area) again) (bookNext b again) es)
 
 pub archive-premises : ArchivePremises
 archive-premises = record {
   set-up-accepted = set-up-accepted;
-  all-allowed = λ ws z xs c area cs h. allow (zbkSetUp ws z xs c .words) area (openBook z xs c (length area)) cs h;
-  same-calls = same;
+  all-allowed = λ ws ps z xs c area es f i g. all-allowed (firstHeld ws ps z xs c area []) (openBook z xs c (length area)) es f i g;
+  same-events = same-events;
 }
-  where
-    allow : (ws area : List ℕ) (b : Book) (cs : List Call) → All Bytes (files cs) → AllowedLents ws area b (unalteredLents ws area cs)
-    allow ws area b [] h = tt
-    allow ws area b (call ∷ cs) h =
-        let o = zbk ws area call in
-        let f = fair call cs h in
-        (as-it-was b (recordFrom ws) area, f .0, allow (o .words) (o .area) (enter b call .book) cs (f .1))
-
-    same : (ws area : List ℕ) (cs : List Call) → calls (unalteredLents ws area cs) ≡ cs
-    same ws area [] = refl
-    same ws area (call ∷ cs) = ap (λ (l : List Call). call ∷ l) (same (zbk ws area call .words) (zbk ws area call .area) cs)

@@ -1,13 +1,13 @@
 -- Points that are lent, and the array made of them: where there are not 32, both are SIZE, in every call that takes points.
 -- Assumes nothing.
-use Prim.Native.Nat.{ℕ, _*_, _<_, _≤_}
-use mathlib.Core.Path.{_≡_, refl, sym, ap, _∙_}
+use Prim.Native.Nat.{ℕ, _*_}
+use mathlib.Core.Path.{_≡_, refl, sym, _∙_}
 use mathlib.Core.Bool.{Bool, true, false, not}
 use mathlib.Core.List.{List, [], _∷_}
 use native.Mathlib.Omega.{arith}
 use lib.Dec.{eqb, leb}
 use lib.ListN.{length, drop, replicate}
-use borrow.Author.Tests.{eqb-true, eqb-false}
+use borrow.Author.Tests.{eqb-false}
 use Rattle.lists.specs.Tests.{pick, alls}
 use Rattle.lists.proofs.Tests.{true-false}
 use Rattle.sizes.specs.declared.Sizes.{Sizes}
@@ -21,7 +21,8 @@ use Rattle.mbcr.proofs.PointLaws.{pointed-facts}
 use Rattle.board_spec.specs.Calls.{BoardOutcome, shareLines, shareCall, fileLines, fileCall, helperLines, helperCall}
 use Rattle.board_spec.specs.Calls.{exchangeLines, exchangeCall, finishedLines, finishedCall, textLines, textCall}
 use Rattle.store_spec.specs.Record.{Record, newRecord, allOff, sound}
-use Rattle.store_spec.specs.Calls.{refused, setUpCall}
+use Rattle.store_spec.specs.Running.{Running}
+use Rattle.store_spec.specs.Both.{setUpBoth}
 use Rattle.point_array.specs.Steps.{arrayOf}
 
 -- sizes and points that SIZE refuses
@@ -119,13 +120,14 @@ unsound z ys c u = go (legal z) refl (pointed z ys) refl u
     go true p false q u = refl
     go false p b q u = refl
 
-set-up-sized : (s : Record) (z : Sizes) (ys : List ℕ) (c : ℕ) → Unfit z ys → setUpCall s z ys c ≡ refused s [] [] Size
-unfolding setUpCall
-set-up-sized s z ys c u = rw (unsound z ys c u) refl
+set-up-sized : (s : Record) (p : Running) (z : Sizes) (ys : List ℕ) (c : ℕ) → Unfit z ys
+    → setUpBoth s p z ys c ≡ record { answer = said (Refused Size); handed = s; running = p; area = []; output = []; packets = [] }
+unfolding setUpBoth
+set-up-sized s p z ys c u = rw (unsound z ys c u) refl
 
-pub set-up-given : (s : Record) (z : Sizes) (xs : List ℕ) (c : ℕ) → setUpCall s z (arrayOf xs) c ≡ setUpCall s z xs c
-set-up-given s z xs c = go (eqb (length xs) 32) refl
+pub set-up-given : (s : Record) (p : Running) (z : Sizes) (xs : List ℕ) (c : ℕ) → setUpBoth s p z (arrayOf xs) c ≡ setUpBoth s p z xs c
+set-up-given s p z xs c = go (eqb (length xs) 32) refl
   where
-    go : (t : Bool) → eqb (length xs) 32 ≡ t → setUpCall s z (pick t xs (replicate 32 0)) c ≡ setUpCall s z xs c
+    go : (t : Bool) → eqb (length xs) 32 ≡ t → setUpBoth s p z (pick t xs (replicate 32 0)) c ≡ setUpBoth s p z xs c
     go true e = refl
-    go false e = set-up-sized s z (replicate 32 0) c (all-00 z) ∙ sym (set-up-sized s z xs c (not-32 z xs (eqb-false (length xs) 32 e)))
+    go false e = set-up-sized s p z (replicate 32 0) c (all-00 z) ∙ sym (set-up-sized s p z xs c (not-32 z xs (eqb-false (length xs) 32 e)))

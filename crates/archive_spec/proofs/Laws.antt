@@ -1,18 +1,19 @@
 -- On a refusal no word and no byte changes.
 -- Assumes nothing.
 use Prim.Native.Nat.{ℕ, _+_, _*_}
-use mathlib.Core.Path.{_≡_, refl, ap, _∙_}
+use mathlib.Core.Path.{_≡_, refl, sym, ap, subst, _∙_}
 use mathlib.Core.Bool.{Bool, true, false}
+use mathlib.Core.Logic.{_⊎_, inl, inr}
 use mathlib.Core.List.{List, [], _∷_}
 use native.Mathlib.Omega.{arith}
 use lib.Dec.{eqb}
 use lib.ListN.{length}
 use borrow.Author.Tests.{eqb-true, ne-eqb}
-use Rattle.lists.specs.Tests.{pick, alls}
+use Rattle.lists.specs.Tests.{pick, alls, among}
 use Rattle.sizes.specs.declared.Sizes.{Sizes}
 use Rattle.sizes.specs.declared.Check.{Check}
 use Rattle.sizes.specs.declared.Check.the-variants.{Pass, Refuse}
-use Rattle.sizes.specs.Refusals.{number, first, boardOrder}
+use Rattle.sizes.specs.Refusals.{number, first, boardOrder, storeOrder}
 use Rattle.sizes.specs.Sizing.{stripes}
 use Rattle.sizes.proofs.Laws.{number-low}
 use Rattle.mbcr.specs.Share.{share}
@@ -21,9 +22,13 @@ use Rattle.mbcr.specs.Read.{readFile}
 use Rattle.board_spec.specs.Calls.{settled, fileOf, shareLines, shareCall, fileLines, fileCall, helperLines, helperCall}
 use Rattle.board_spec.specs.Calls.{exchangeLines, exchangeCall, finishedLines, finishedCall, textLines, textCall}
 use Rattle.board_spec.specs.Text.{shareText}
-use Rattle.store_spec.specs.Record.{newRecord}
-use Rattle.store_spec.specs.Calls.{StoreOutcome, setUpCall}
-use Rattle.store_spec.specs.Ledger.{Call, act, outputOf}
+use Rattle.store_spec.specs.Record.{Record, newRecord}
+use Rattle.store_spec.specs.Running.{Running, idle, namedIn}
+use Rattle.store_spec.specs.Both.{Outcome, setUpBoth}
+use Rattle.store_spec.specs.BothCalls.{storeLines, storeDone}
+use Rattle.store_spec.specs.Ledger.{Call, write, lose, repair, read, edit, start, State, act, outputOf, packetsOfCall}
+use Rattle.store_spec.proofs.BothCalls.{by, act-is}
+use Rattle.store_spec.proofs.Follows.{act-any}
 use Rattle.store_spec.proofs.MarkLaws.{mark-laws}
 use Rattle.text_spec.specs.Texts.{ShareTold, readText, textsOf}
 use Rattle.text_spec.specs.Calls.{blank, toldOf, readSettled, readTextLines, readTextCall, textsTold, gathered, gatherLines, gatherCall}
@@ -31,35 +36,105 @@ use Rattle.answer_word.specs.Answers.{wordOf}
 use Rattle.record_words.specs.Words.{isRecord, recordFrom, wordsOf}
 use Rattle.text_words.specs.Words.{headOf}
 use Rattle.record_words.proofs.Laws.{word-laws}
+use Rattle.repair_words.specs.RepairWords.{isRepair, repairFrom, repairWordsOf}
+use Rattle.repair_words.proofs.RepairWords.{repair-words}
 use Rattle.archive_spec.specs.Lent.{Lent, noRecord, inWords, zbkSetUp, zbk}
 use Rattle.archive_spec.specs.Texts.{noRoom, readInWords, zbkReadText}
 use Rattle.archive_spec.specs.Laws.{AsStore, Keeps, Leaves, KeepsText, ArchiveLaws}
+use Rattle.archive_spec.proofs.InWords.{lent, not-lent, back-words, set-up-lent}
 
-set-up-keeps : (ws : List ℕ) (z : Sizes) (xs : List ℕ) (c : ℕ) → Keeps (zbkSetUp ws z xs c) ws [] []
+set-up-keeps : (ws ps : List ℕ) (z : Sizes) (xs : List ℕ) (c : ℕ) → Keeps (zbkSetUp ws ps z xs c) ws ps [] [] []
 unfolding zbkSetUp
-set-up-keeps ws z xs c = go (eqb (length ws) 12) (wordOf (o .answer)) (eqb (wordOf (o .answer)) 0) refl
+set-up-keeps ws ps z xs c = go (alls (eqb (length ws) 12 ∷ eqb (length ps) 71 ∷ [])) (eqb (wordOf (o .answer)) 0) refl
   where
-    o : StoreOutcome
-    o = setUpCall (newRecord z xs c) z xs c
+    o : Outcome
+    o = setUpBoth (newRecord z xs c) idle z xs c
 
-    go : (t : Bool) (w : ℕ) (b : Bool) → eqb w 0 ≡ b
-        → Keeps (pick t (record { answer = w; words = pick b (wordsOf (o .handed)) ws; area = []; output = [] }) (noRecord ws [] [])) ws [] []
-    go true w true e h = absurd (h 0 (omega (arith, eqb-true w 0 e)))
-    go true w false e h = refl
-    go false w b e h = refl
+    go : (t b : Bool) → eqb (wordOf (o .answer)) 0 ≡ b → Keeps (set-up-lent ws ps o t b) ws ps [] [] []
+    go true true e h = absurd (h 0 (omega (arith, eqb-true (wordOf (o .answer)) 0 e)))
+    go true false e h = refl
+    go false b e h = refl
 
--- a call on a record's words: it is refused, and the words come back; or it is not
-keeps : (ws area : List ℕ) (call : Call) → Keeps (zbk ws area call) ws area (outputOf call)
-keeps ws area call = go (isRecord ws) refl
-  where
-    o : StoreOutcome
-    o = act (record { kept = recordFrom ws; area = area }) call
+-- the store's call on the records that the words tell
+module _ (ws ps area : List ℕ) where
+  abbrev state : State
+  state = record { kept = recordFrom ws; running = repairFrom ps; area = area; packets = [] }
 
-    go : (b : Bool) → isRecord ws ≡ b → Keeps (pick b (inWords o) (noRecord ws area (outputOf call))) ws area (outputOf call)
-    go true is h =
-        ap inWords (mark-laws .refused-keeps (record { kept = recordFrom ws; area = area }) call (λ e. h (o .answer .reported) (omega (arith, e))))
-        ∙ ap (λ (l : List ℕ). record { answer = wordOf (o .answer); words = l; area = area; output = outputOf call }) (word-laws .words-back ws is)
-    go false is h = refl
+  -- a call by whether the words tell both records
+  by-words : (P : Lent → Type 0) (call : Call)
+      → (isRecord ws ≡ true → isRepair ps ≡ true → P (inWords (act state call)))
+      → P (noRecord ws ps area (outputOf call) (packetsOfCall call))
+      → P (zbk ws ps area call)
+  by-words P call tell other = go (isRecord ws) refl (isRepair ps) refl
+    where
+      go : (a : Bool) → isRecord ws ≡ a → (b : Bool) → isRepair ps ≡ b
+          → P (pick (alls (a ∷ b ∷ [])) (inWords (act state call)) (noRecord ws ps area (outputOf call) (packetsOfCall call)))
+      go true h true k = tell h k
+      go true h false k = other
+      go false h b k = other
+
+  -- a call on both records' words: it is refused, and the words come back; or it is not
+  keeps : (call : Call) → Keeps (zbk ws ps area call) ws ps area (outputOf call) (packetsOfCall call)
+  keeps call =
+      by-words (λ o. Keeps o ws ps area (outputOf call) (packetsOfCall call)) call
+      (λ is-record is-repair h.
+      let o = act state call in
+      ap inWords (mark-laws .refused-keeps state call (λ e. h (o .answer .reported) (omega (arith, e))))
+      ∙ back-words ws ps is-record is-repair (wordOf (o .answer)) area (outputOf call) (packetsOfCall call))
+      (λ h. refl)
+
+  -- what a call hands on beside the record: what it does, or what came
+  beside-done : (call : Call) (P : Running → Type 0) → P (repairFrom ps) → P (storeDone (recordFrom ws) (repairFrom ps) area call .running) → P (act state call .running)
+  beside-done call P a b = go (first storeOrder (storeLines (recordFrom ws) (repairFrom ps) area call)) (act-is state call)
+    where
+      go : (t : Check)
+          → act state call ≡ by (recordFrom ws) (repairFrom ps) area (outputOf call) (packetsOfCall call) (storeDone (recordFrom ws) (repairFrom ps) area call) t
+          → P (act state call .running)
+      go Pass e = subst P (sym (ap (λ (o : Outcome). o .running) e)) b
+      go (Refuse x) e = subst P (sym (ap (λ (o : Outcome). o .running) e)) a
+
+  beside-stays : (call : Call) → storeDone (recordFrom ws) (repairFrom ps) area call .running ≡ repairFrom ps → zbk ws ps area call .repair ≡ ps
+  beside-stays call e =
+      by-words (λ o. o .repair ≡ ps) call
+      (λ is-record is-repair. ap repairWordsOf (beside-done call (λ p. p ≡ repairFrom ps) refl e) ∙ repair-words .words-back ps is-repair)
+      refl
+
+  -- losing
+  lost-either : (t : Bool) → (pick t idle (repairFrom ps) ≡ repairFrom ps) ⊎ (pick t idle (repairFrom ps) ≡ idle)
+  lost-either true = inr refl
+  lost-either false = inl refl
+
+  lose-beside : (board : ℕ) → (zbk ws ps area (lose board) .repair ≡ ps) ⊎ (zbk ws ps area (lose board) .repair ≡ repairWordsOf idle)
+  unfolding storeDone
+  lose-beside board =
+      by-words (λ o. (o .repair ≡ ps) ⊎ (o .repair ≡ repairWordsOf idle)) (lose board)
+      (λ is-record is-repair.
+      in-words is-repair (act state (lose board) .running)
+      (beside-done (lose board) (λ p. (p ≡ repairFrom ps) ⊎ (p ≡ idle)) (inl refl)
+      (lost-either (alls (repairFrom ps .running ∷ among (namedIn (recordFrom ws .sizes) (repairFrom ps)) board ∷ [])))))
+      (inl refl)
+    where
+      in-words : isRepair ps ≡ true → (p : Running) → (p ≡ repairFrom ps) ⊎ (p ≡ idle) → (repairWordsOf p ≡ ps) ⊎ (repairWordsOf p ≡ repairWordsOf idle)
+      in-words k p (inl e) = inl (ap repairWordsOf e ∙ repair-words .words-back ps k)
+      in-words k p (inr e) = inr (ap repairWordsOf e)
+
+  -- starting
+  start-leaves : (fresh helpers standIns : List ℕ)
+      → (zbk ws ps area (start fresh helpers standIns) .words ≡ ws) × (zbk ws ps area (start fresh helpers standIns) .area ≡ area)
+  unfolding storeDone
+  start-leaves fresh helpers standIns =
+      by-words (λ o. (o .words ≡ ws) × (o .area ≡ area)) (start fresh helpers standIns)
+      (λ is-record is-repair.
+      let e = started (first storeOrder (storeLines (recordFrom ws) (repairFrom ps) area (start fresh helpers standIns))) (act-is state (start fresh helpers standIns)) in
+      (ap wordsOf (e .0) ∙ word-laws .words-back ws is-record, e .1))
+      (refl, refl)
+    where
+      started : (t : Check)
+          → act state (start fresh helpers standIns)
+          ≡ by (recordFrom ws) (repairFrom ps) area [] [] (storeDone (recordFrom ws) (repairFrom ps) area (start fresh helpers standIns)) t
+          → (act state (start fresh helpers standIns) .handed ≡ recordFrom ws) × (act state (start fresh helpers standIns) .area ≡ area)
+      started Pass e = (ap (λ (o : Outcome). o .handed) e, ap (λ (o : Outcome). o .area) e)
+      started (Refuse x) e = (ap (λ (o : Outcome). o .handed) e, ap (λ (o : Outcome). o .area) e)
 
 -- ---- board level
 
@@ -117,25 +192,37 @@ read-text-keeps text head points out =
         })
         (ne-eqb (number x) 0 (λ e. omega (arith, number-low x, e)))
 
-as-store : (ws area : List ℕ) (call : Call) → isRecord ws ≡ true → AsStore (zbk ws area call) (act (record { kept = recordFrom ws; area = area }) call)
-as-store ws area call e =
+as-store : (ws ps area left : List ℕ) (call : Call) → isRecord ws ≡ true → isRepair ps ≡ true
+    → AsStore (zbk ws ps area call) (act (record { kept = recordFrom ws; running = repairFrom ps; area = area; packets = left }) call)
+as-store ws ps area left call h k =
+    let f : Record → Running → Outcome = λ s p. act (record { kept = s; running = p; area = area; packets = [] }) call in
+    let e : zbk ws ps area call ≡ inWords (act (record { kept = recordFrom ws; running = repairFrom ps; area = area; packets = left }) call) =
+    sym (lent f ws ps area (outputOf call) (packetsOfCall call) h k) ∙ ap inWords (act-any (recordFrom ws) (repairFrom ps) area [] left call) in
     record {
-      answer-is = ap (λ (b : Bool). by b .answer) e;
-      words-are = ap (λ (b : Bool). by b .words) e;
-      area-is = ap (λ (b : Bool). by b .area) e;
-      output-is = ap (λ (b : Bool). by b .output) e;
+      answer-is = ap (λ (o : Lent). o .answer) e;
+      words-are = ap (λ (o : Lent). o .words) e;
+      repair-are = ap (λ (o : Lent). o .repair) e;
+      area-is = ap (λ (o : Lent). o .area) e;
+      output-is = ap (λ (o : Lent). o .output) e;
+      packets-are = ap (λ (o : Lent). o .packets) e;
     }
-  where
-    by : Bool → Lent
-    by b = pick b (inWords (act (record { kept = recordFrom ws; area = area }) call)) (noRecord ws area (outputOf call))
 
-no-record : (ws area : List ℕ) (call : Call) → isRecord ws ≡ false → zbk ws area call ≡ record { answer = 1; words = ws; area = area; output = outputOf call }
-no-record ws area call e = ap (λ (b : Bool). pick b (inWords (act (record { kept = recordFrom ws; area = area }) call)) (noRecord ws area (outputOf call))) e
+no-record : (ws ps area : List ℕ) (call : Call) → (isRecord ws ≡ false) ⊎ (isRepair ps ≡ false)
+    → zbk ws ps area call ≡ record { answer = 1; words = ws; repair = ps; area = area; output = outputOf call; packets = packetsOfCall call }
+no-record ws ps area call h =
+    not-lent (λ s p. act (record { kept = s; running = p; area = area; packets = [] }) call) ws ps area (outputOf call) (packetsOfCall call) h
 
 pub archive-laws : ArchiveLaws
+unfolding storeDone
 archive-laws = record {
   as-store = as-store;
   no-record = no-record;
+  write-beside = λ ws ps area file. beside-stays ws ps area (write file) refl;
+  repair-beside = λ ws ps area fresh helpers standIns. beside-stays ws ps area (repair fresh helpers standIns) refl;
+  read-beside = λ ws ps area boards output. beside-stays ws ps area (read boards output) refl;
+  edit-beside = λ ws ps area offset bytes boards. beside-stays ws ps area (edit offset bytes boards) refl;
+  lose-beside = lose-beside;
+  start-leaves = start-leaves;
   share-leaves = share-leaves;
   file-leaves = file-leaves;
   helper-leaves = helper-leaves;

@@ -1,4 +1,5 @@
 pub mod Bounds
+pub mod StoreFits
 pub mod Words
 pub mod Given
 pub mod InWords

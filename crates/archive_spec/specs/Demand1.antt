@@ -1,12 +1,12 @@
--- Demand 1 of the archive, and the reader's exactness, for every words, area, list and text: what each of the fifteen calls answers, and every word and
--- byte that it was lent, are those of the definitions of document 01, over the record that the words tell; where they tell none it is SIZE, and
+-- Demand 1 of the archive, and the reader's exactness, for every words, area, list and text: what each of the seventeen calls answers, and every word and
+-- byte that it was lent, are those of the definitions of document 01, over the records that the words tell; where they do not tell both it is SIZE, and
 -- nothing changes. proofs/Demand1.antt has `archive-demand-1 : ArchiveCalls`.
 -- Assumes nothing.
 use mathlib.Core.Path.{_≡_}
 use mathlib.Core.Bool.{true, false}
 use mathlib.Core.Logic.{_≢_, _↔_, _⊎_}
 use mathlib.Core.List.{List, [], _∷_}
-use Prim.Native.Nat.{ℕ, _*_, _≤_}
+use Prim.Native.Nat.{ℕ, _-_, _*_, _≤_, min}
 use lib.ListN.{length}
 use Rattle.lists.specs.Lists.{All, Bytes, over}
 use Rattle.sizes.specs.declared.Sizes.{Sizes}
@@ -24,9 +24,11 @@ use Rattle.board_spec.specs.Calls.{BoardOutcome, fileOf, shareLines, shareCall,
 use Rattle.board_spec.specs.Calls.{exchangeLines, exchangeCall, finishedLines, finishedCall, textLines, textCall}
 use Rattle.store_spec.specs.Record.{newRecord, held}
 use Rattle.store_spec.specs.Packets.{total, repairPackets}
-use Rattle.store_spec.specs.Calls.{StoreOutcome, accepted, recordLine, writeLines, writeDone, loseLines, loseDone, repairLines, repairDone, readLines, readDone}
-use Rattle.store_spec.specs.Edit.{editLines, editDone}
-use Rattle.store_spec.specs.Ledger.{write, lose, repair, read, edit}
+use Rattle.store_spec.specs.Calls.{accepted, recordLine, writeDone, loseDone, repairDone, readDone}
+use Rattle.store_spec.specs.Edit.{editDone}
+use Rattle.store_spec.specs.Running.{idle, runningBy, freshOf, packetCount}
+use Rattle.store_spec.specs.Both.{Outcome, beside, lostBeside, writeLinesBoth, loseLinesBoth, repairLinesBoth, readLinesBoth, editLinesBoth, stepLines, stepDone}
+use Rattle.store_spec.specs.Ledger.{write, lose, repair, read, edit, start, step}
 use Rattle.text_spec.specs.Texts.{ShareTold, textOf, readText, textsOf}
 use Rattle.text_spec.specs.Laws.{Writable}
 use Rattle.text_spec.specs.Calls.{toldOf, readTextLines, textsTold, gathered, gatherLines, gatherCall}
@@ -34,19 +36,29 @@ use Rattle.prefix_spec.specs.Prefix.{longest}
 use Rattle.prefix_spec.specs.Laws.{Longest}
 use Rattle.answer_word.specs.Answers.{wordOf}
 use Rattle.record_words.specs.Words.{isRecord, recordFrom, wordsOf}
+use Rattle.repair_words.specs.RepairWords.{isRepair, repairFrom, repairWordsOf}
 use Rattle.archive_spec.specs.Archive.{sizesOf}
 use Rattle.archive_spec.specs.Lent.{Lent, zbkSetUp, zbk}
 use Rattle.archive_spec.specs.Texts.{TextLent, zbkReadText}
 
--- One call of the store: its lines; words, area and output as they came; what it reports and does where no line holds; and what it gave.
-pub record LentEnds (lines : List Line) (ws area output : List ℕ) (reported : ℕ) (done : StoreOutcome) (o : Lent) : Type 0 where
+-- One call of the store: its lines; both records' words, area, output and packet area as they came; what it reports and does where no line holds; and what
+-- it gave.
+pub record LentEnds (lines : List Line) (ws ps area output packets : List ℕ) (reported : ℕ) (done : Outcome) (o : Lent) : Type 0 where
   -- some line is the first that holds, or none holds
   pub one : ((x : Refusal) × First storeOrder lines x) ⊎ All (λ x. appliesIn lines x ≡ false) storeOrder
   -- the first that holds is answered, and every word and byte is as it came
-  pub refuses : (x : Refusal) → First storeOrder lines x → o ≡ record { answer = number x; words = ws; area = area; output = output }
+  pub refuses : (x : Refusal) → First storeOrder lines x
+      → o ≡ record { answer = number x; words = ws; repair = ps; area = area; output = output; packets = packets }
   -- else it does its work: the number reported stands above eight bits 0
   pub works : All (λ x. appliesIn lines x ≡ false) storeOrder
-      → o ≡ record { answer = 256 * reported; words = wordsOf (done .handed); area = done .area; output = done .output }
+      → o ≡ record {
+        answer = 256 * reported;
+        words = wordsOf (done .handed);
+        repair = repairWordsOf (done .running);
+        area = done .area;
+        output = done .output;
+        packets = done .packets;
+      }
 
 -- One call at board level, whose contract gives the word of its answer and its output.
 pub record WordEnds (lines : List Line) (output bytes : List ℕ) (o : BoardOutcome) : Type 0 where
@@ -71,39 +83,63 @@ pub record TextEnds (lines : List Line) (head points output : List ℕ) (t : Sha
   pub works : All (λ x. appliesIn lines x ≡ false) boardOrder → o ≡ tells t output
 
 -- SIZE, and nothing changed
-abbrev pub Unchanged : Lent → List ℕ → List ℕ → List ℕ → Type 0
-Unchanged o ws area output = o ≡ record { answer = 1; words = ws; area = area; output = output }
+abbrev pub Unchanged : Lent → List ℕ → List ℕ → List ℕ → List ℕ → List ℕ → Type 0
+Unchanged o ws ps area output packets = o ≡ record { answer = 1; words = ws; repair = ps; area = area; output = output; packets = packets }
+
+-- words that are no record's, or words beside them that are no repair's record
+abbrev pub Neither : List ℕ → List ℕ → Type 0
+Neither ws ps = (isRecord ws ≡ false) ⊎ (isRepair ps ≡ false)
 
 pub record ArchiveCalls : Type 0 where
-  -- ---- the store, on words that tell a record
-  pub set-up-ends : (ws : List ℕ) (z : Sizes) (xs : List ℕ) (c : ℕ) → length ws ≡ 12
-      → LentEnds (recordLine (newRecord z xs c) ∷ []) ws [] [] 0 (accepted 0 (newRecord z xs c) [] []) (zbkSetUp ws z xs c)
-  pub write-ends : (ws area file : List ℕ) → isRecord ws ≡ true
-      → LentEnds (writeLines (recordFrom ws) (length area) file) ws area [] 0 (writeDone (recordFrom ws) area file) (zbk ws area (write file))
-  pub lose-ends : (ws area : List ℕ) (board : ℕ) → isRecord ws ≡ true
-      → LentEnds (loseLines (recordFrom ws) board) ws area [] 0 (loseDone (recordFrom ws) area board) (zbk ws area (lose board))
-  pub repair-ends : (ws area fresh helpers standIns : List ℕ) → isRecord ws ≡ true
-      → LentEnds (repairLines (recordFrom ws) (length area) fresh helpers standIns) ws area [] (total (repairPackets (recordFrom ws) area fresh helpers standIns))
-      (repairDone (recordFrom ws) area fresh helpers standIns) (zbk ws area (repair fresh helpers standIns))
-  pub read-ends : (ws area boards output : List ℕ) → isRecord ws ≡ true
-      → LentEnds (readLines (recordFrom ws) area boards output) ws area output 0 (readDone (recordFrom ws) area boards output) (zbk ws area (read boards output))
-  pub edit-ends : (ws area : List ℕ) (offset : ℕ) (bytes boards : List ℕ) → isRecord ws ≡ true
-      → LentEnds (editLines (recordFrom ws) area offset bytes boards) ws area [] 0 (editDone (recordFrom ws) area offset bytes boards) (zbk ws area (edit offset bytes boards))
-  -- ---- and on words that tell none
-  pub set-up-none : (ws : List ℕ) (z : Sizes) (xs : List ℕ) (c : ℕ) → length ws ≢ 12 → Unchanged (zbkSetUp ws z xs c) ws [] []
-  pub write-none : (ws area file : List ℕ) → isRecord ws ≡ false → Unchanged (zbk ws area (write file)) ws area []
-  pub lose-none : (ws area : List ℕ) (board : ℕ) → isRecord ws ≡ false → Unchanged (zbk ws area (lose board)) ws area []
-  pub repair-none : (ws area fresh helpers standIns : List ℕ) → isRecord ws ≡ false → Unchanged (zbk ws area (repair fresh helpers standIns)) ws area []
-  pub read-none : (ws area boards output : List ℕ) → isRecord ws ≡ false → Unchanged (zbk ws area (read boards output)) ws area output
-  pub edit-none : (ws area : List ℕ) (offset : ℕ) (bytes boards : List ℕ) → isRecord ws ≡ false → Unchanged (zbk ws area (edit offset bytes boards)) ws area []
+  -- ---- the store, on words that tell both records
+  pub set-up-ends : (ws ps : List ℕ) (z : Sizes) (xs : List ℕ) (c : ℕ) → length ws ≡ 12 → length ps ≡ 71
+      → LentEnds (recordLine (newRecord z xs c) ∷ []) ws ps [] [] [] 0 (beside idle (accepted 0 (newRecord z xs c) [] [])) (zbkSetUp ws ps z xs c)
+  pub write-ends : (ws ps area file : List ℕ) → isRecord ws ≡ true → isRepair ps ≡ true
+      → LentEnds (writeLinesBoth (recordFrom ws) (repairFrom ps) (length area) file) ws ps area [] [] 0
+      (beside (repairFrom ps) (writeDone (recordFrom ws) area file)) (zbk ws ps area (write file))
+  pub lose-ends : (ws ps area : List ℕ) (board : ℕ) → isRecord ws ≡ true → isRepair ps ≡ true
+      → LentEnds (loseLinesBoth (recordFrom ws) (repairFrom ps) board) ws ps area [] [] 0
+      (beside (lostBeside (recordFrom ws) (repairFrom ps) board) (loseDone (recordFrom ws) area board)) (zbk ws ps area (lose board))
+  pub repair-ends : (ws ps area fresh helpers standIns : List ℕ) → isRecord ws ≡ true → isRepair ps ≡ true
+      → LentEnds (repairLinesBoth (recordFrom ws) (repairFrom ps) (length area) fresh helpers standIns) ws ps area [] []
+      (total (repairPackets (recordFrom ws) area fresh helpers standIns))
+      (beside (repairFrom ps) (repairDone (recordFrom ws) area fresh helpers standIns)) (zbk ws ps area (repair fresh helpers standIns))
+  pub read-ends : (ws ps area boards output : List ℕ) → isRecord ws ≡ true → isRepair ps ≡ true
+      → LentEnds (readLinesBoth (recordFrom ws) (repairFrom ps) area boards output) ws ps area output [] 0
+      (beside (repairFrom ps) (readDone (recordFrom ws) area boards output)) (zbk ws ps area (read boards output))
+  pub edit-ends : (ws ps area : List ℕ) (offset : ℕ) (bytes boards : List ℕ) → isRecord ws ≡ true → isRepair ps ≡ true
+      → LentEnds (editLinesBoth (recordFrom ws) (repairFrom ps) area offset bytes boards) ws ps area [] [] 0
+      (beside (repairFrom ps) (editDone (recordFrom ws) area offset bytes boards)) (zbk ws ps area (edit offset bytes boards))
+  -- request A.8: a start asks what a repair asks and carries nothing; a step reports the packets that it carried, and is lent the packet area
+  pub start-ends : (ws ps area fresh helpers standIns : List ℕ) → isRecord ws ≡ true → isRepair ps ≡ true
+      → LentEnds (repairLinesBoth (recordFrom ws) (repairFrom ps) (length area) fresh helpers standIns) ws ps area [] [] 0
+      (beside (runningBy fresh helpers standIns 0) (accepted 0 (recordFrom ws) area [])) (zbk ws ps area (start fresh helpers standIns))
+  pub step-ends : (ws ps area : List ℕ) (allowance : ℕ) (packets : List ℕ) → isRecord ws ≡ true → isRepair ps ≡ true
+      → LentEnds (stepLines (recordFrom ws) (repairFrom ps) (length area) (length packets)) ws ps area [] packets
+      (min allowance (packetCount (recordFrom ws .sizes) (length (freshOf (repairFrom ps))) - repairFrom ps .carried))
+      (stepDone (recordFrom ws) (repairFrom ps) area packets allowance) (zbk ws ps area (step allowance packets))
+  -- ---- and on words that do not tell both
+  pub set-up-none : (ws ps : List ℕ) (z : Sizes) (xs : List ℕ) (c : ℕ) → (length ws ≢ 12) ⊎ (length ps ≢ 71)
+      → Unchanged (zbkSetUp ws ps z xs c) ws ps [] [] []
+  pub write-none : (ws ps area file : List ℕ) → Neither ws ps → Unchanged (zbk ws ps area (write file)) ws ps area [] []
+  pub lose-none : (ws ps area : List ℕ) (board : ℕ) → Neither ws ps → Unchanged (zbk ws ps area (lose board)) ws ps area [] []
+  pub repair-none : (ws ps area fresh helpers standIns : List ℕ) → Neither ws ps
+      → Unchanged (zbk ws ps area (repair fresh helpers standIns)) ws ps area [] []
+  pub read-none : (ws ps area boards output : List ℕ) → Neither ws ps → Unchanged (zbk ws ps area (read boards output)) ws ps area output []
+  pub edit-none : (ws ps area : List ℕ) (offset : ℕ) (bytes boards : List ℕ) → Neither ws ps
+      → Unchanged (zbk ws ps area (edit offset bytes boards)) ws ps area [] []
+  pub start-none : (ws ps area fresh helpers standIns : List ℕ) → Neither ws ps
+      → Unchanged (zbk ws ps area (start fresh helpers standIns)) ws ps area [] []
+  pub step-none : (ws ps area : List ℕ) (allowance : ℕ) (packets : List ℕ) → Neither ws ps
+      → Unchanged (zbk ws ps area (step allowance packets)) ws ps area [] packets
   -- ---- a read over any bytes, where no line but DISAGREE holds: it gives f exactly when f has length L and the k boards hold its shares, and answers 10
   -- with every byte of the output as it came exactly when there is no such file
-  pub read-exact : (ws area boards output : List ℕ) → isRecord ws ≡ true → Bytes area
-      → All (λ x. (x ≡ Disagree) ⊎ (appliesIn (readLines (recordFrom ws) area boards output) x ≡ false)) storeOrder
+  pub read-exact : (ws ps area boards output : List ℕ) → isRecord ws ≡ true → isRepair ps ≡ true → Bytes area
+      → All (λ x. (x ≡ Disagree) ⊎ (appliesIn (readLinesBoth (recordFrom ws) (repairFrom ps) area boards output) x ≡ false)) storeOrder
       → ((file : List ℕ) → length file ≡ recordFrom ws .length → Bytes file
-      → (zbk ws area (read boards output) ≡ record { answer = 0; words = ws; area = area; output = over file output })
+      → (zbk ws ps area (read boards output) ≡ record { answer = 0; words = ws; repair = ps; area = area; output = over file output; packets = [] })
       ↔ All (λ i. held (recordFrom ws) area i ≡ share (recordFrom ws .sizes) (recordFrom ws .points) file i) boards)
-      × ((zbk ws area (read boards output) ≡ record { answer = 10; words = ws; area = area; output = output })
+      × ((zbk ws ps area (read boards output) ≡ record { answer = 10; words = ws; repair = ps; area = area; output = output; packets = [] })
       ↔ ((file : List ℕ) → length file ≡ recordFrom ws .length → Bytes file
       → All (λ i. held (recordFrom ws) area i ≡ share (recordFrom ws .sizes) (recordFrom ws .points) file i) boards → ⊥))
   -- ---- the text reader

@@ -2,38 +2,66 @@
 -- proofs/ListLaws.antt has `lent-laws : LentLaws`.
 -- Assumes nothing.
 use mathlib.Core.Path.{_≡_}
-use mathlib.Core.List.{List, [], _∷_, _++_}
-use Prim.Native.Nat.{ℕ, _+_, _*_}
-use lib.ListN.{length}
-use Rattle.lists.specs.Lists.{All, Bytes}
+use mathlib.Core.Bool.{true}
+use mathlib.Core.Logic.{_≢_, _↔_}
+use mathlib.Core.List.{List, [], _∷_, _++_, map}
+use Prim.Native.Nat.{ℕ, _+_, _*_, _%_}
+use lib.ListN.{length, getD}
+use Rattle.lists.specs.Lists.{All}
 use Rattle.sizes.specs.declared.Sizes.{Sizes}
-use Rattle.store_spec.specs.Ledger.{Reply, Book, Step, openBook, enter, bookFinal}
-use Rattle.store_spec.specs.Demand3.{calls}
-use Rattle.store_spec.specs.Premises.{files, AgreeInService}
-use Rattle.record_words.specs.Words.{recordFrom}
+use Rattle.store_spec.specs.Running.{Running}
+use Rattle.store_spec.specs.MarkLaws.{Arrays}
+use Rattle.store_spec.specs.Ledger.{Call, step, call, powerFails, Reply, Book, Step, FairEvent, replies, final, openBook, bookNext, bookFinal}
+use Rattle.store_spec.specs.Demand3.{events}
+use Rattle.store_spec.specs.Premises.{Asked}
+use Rattle.record_words.specs.Words.{isRecord, recordFrom}
+use Rattle.repair_words.specs.RepairWords.{isRepair, repairFrom, repairWordsOf}
 use Rattle.archive_spec.specs.Lent.{Lent, zbkSetUp, zbk}
-use Rattle.archive_spec.specs.Demand3.{lents, AllowedLents, lastWords, lastArea, told, inWord, endWords, endArea, endBook}
+use Rattle.archive_spec.specs.Demand3.{Held, heldNext, lentAt, lents, lastHeld, GivenWords, AllowedLents, told, inWord, heldState, firstHeld, ran, endHeld, endBook}
 
 pub record LentLaws : Type 0 where
-  -- no call, one call, two lists: the second on the words that the first left
-  pub lents-none : (ws : List ℕ) → lents ws [] ≡ []
-  pub lents-one : (ws : List ℕ) (t : Step) → lents ws (t ∷ []) ≡ zbk ws (t .area) (t .call) ∷ []
-  pub lents-parts : (ws : List ℕ) (ts us : List Step) → lents ws (ts ++ us) ≡ lents ws ts ++ lents (lastWords ws (lents ws ts)) us
-  -- they end where the last of them ended
-  pub words-none : (ws : List ℕ) → lastWords ws [] ≡ ws
-  pub words-last : (ws : List ℕ) (os : List Lent) (o : Lent) → lastWords ws (os ++ (o ∷ [])) ≡ o .words
-  pub area-none : (area : List ℕ) → lastArea area [] ≡ area
-  pub area-last : (area : List ℕ) (os : List Lent) (o : Lent) → lastArea area (os ++ (o ∷ [])) ≡ o .area
-  pub ends-are : (ws : List ℕ) (z : Sizes) (xs : List ℕ) (c : ℕ) (area : List ℕ) (steps : List Step)
-      → (endWords ws z xs c area steps ≡ lastWords (zbkSetUp ws z xs c .words) (lents (zbkSetUp ws z xs c .words) steps))
-      × (endArea ws z xs c area steps ≡ lastArea area (lents (zbkSetUp ws z xs c .words) steps))
-      × (endBook ws z xs c area steps ≡ bookFinal (openBook z xs c (length area)) (calls steps))
+  -- a call is on the words held and the area as it was altered; it leaves the words that it gave, and the area
+  pub gives : (h : Held) (area : List ℕ) (c : Call) → lentAt h area (call c) ≡ zbk (h .words) (h .repair) area c ∷ []
+  pub leaves : (h : Held) (area : List ℕ) (c : Call) → let o = zbk (h .words) (h .repair) area c in
+      (heldNext h area (call c) .words ≡ o .words) × (heldNext h area (call c) .repair ≡ o .repair) × (heldNext h area (call c) .area ≡ o .area)
+  -- the packet area is as the last accepted step left it
+  pub steps-leave : (h : Held) (area : List ℕ) (allowance : ℕ) (packets : List ℕ) → let o = zbk (h .words) (h .repair) area (step allowance packets) in
+      o .answer % 256 ≡ 0 → heldNext h area (call (step allowance packets)) .packets ≡ o .packets
+  pub refused-leave : (h : Held) (area : List ℕ) (c : Call) → zbk (h .words) (h .repair) area c .answer % 256 ≢ 0 → heldNext h area (call c) .packets ≡ h .packets
+  pub others-leave : (h : Held) (area : List ℕ) (c : Call) → ((allowance : ℕ) (packets : List ℕ) → c ≢ step allowance packets)
+      → heldNext h area (call c) .packets ≡ h .packets
+  -- a power failure leaves the store's words and the area, with the words of the record given and no packets
+  pub fails : (h : Held) (area : List ℕ) (p : Running)
+      → heldNext h area (powerFails p) ≡ record { words = h .words; repair = repairWordsOf p; area = area; packets = [] }
+  -- any 71 words of a repair's record whose first is 0 may be given
+  pub fails-any : (h : Held) (area ps : List ℕ) (b : Book) (old : List ℕ) → isRepair ps ≡ true → getD ps 0 0 ≡ 0
+      → (heldNext h area (powerFails (repairFrom ps)) .repair ≡ ps) × FairEvent b old (powerFails (repairFrom ps)) × Arrays (repairFrom ps)
+  pub fails-gives : (h : Held) (area : List ℕ) (p : Running) → lentAt h area (powerFails p) ≡ []
+  -- nothing, one event, two lists
+  pub lents-none : (h : Held) → lents h [] ≡ []
+  pub lents-one : (h : Held) (t : Step) → lents h (t ∷ []) ≡ lentAt h (t .area) (t .event)
+  pub lents-parts : (h : Held) (ts us : List Step) → lents h (ts ++ us) ≡ lents h ts ++ lents (lastHeld h ts) us
+  pub held-none : (h : Held) → lastHeld h [] ≡ h
+  pub held-one : (h : Held) (t : Step) → lastHeld h (t ∷ []) ≡ heldNext h (t .area) (t .event)
+  pub held-parts : (h : Held) (ts us : List Step) → lastHeld h (ts ++ us) ≡ lastHeld (lastHeld h ts) us
+  -- they begin with the words that the set-up gave, and end where the last of them ended
+  pub ends-are : (ws ps : List ℕ) (z : Sizes) (xs : List ℕ) (c : ℕ) (area : List ℕ) (steps : List Step)
+      → let o = zbkSetUp ws ps z xs c in let h : Held = record { words = o .words; repair = o .repair; area = area; packets = [] } in
+      (firstHeld ws ps z xs c area steps ≡ h) × (ran ws ps z xs c area steps ≡ lents h steps) × (endHeld ws ps z xs c area steps ≡ lastHeld h steps)
+      × (endBook ws ps z xs c area steps ≡ bookFinal (openBook z xs c (length area)) (events steps))
+  pub state-is : (h : Held) → heldState h ≡ record { kept = recordFrom (h .words); running = repairFrom (h .repair); area = h .area; packets = h .packets }
+  -- from any words that tell both records, and over any bytes, calls and power failures go as the definitions' list goes on the records that the words tell: the words at
+  -- the end tell the records where that ends, with the same areas, and every answer and output is its reply. So what is said of such lists (store_spec, Stepped.antt: Power,
+  -- Stepped) holds of the C calls
+  pub final-is : (h : Held) (steps : List Step) → isRecord (h .words) ≡ true → isRepair (h .repair) ≡ true
+      → All (λ t. GivenWords (t .event)) steps
+      → (isRecord (lastHeld h steps .words) ≡ true) × (isRepair (lastHeld h steps .repair) ≡ true) × (heldState (lastHeld h steps) ≡ final (heldState h) steps)
+      × (map told (lents h steps) ≡ map inWord (replies (heldState h) steps))
   -- compared are the whole word and all bytes of the output
   pub told-is : (o : Lent) → (told o .answer ≡ o .answer) × (told o .output ≡ o .output)
   pub in-word-is : (r : Reply) → (inWord r .answer ≡ r .answer .refusal + 256 * r .answer .reported) × (inWord r .output ≡ r .output)
-  -- nothing but this is asked of a call that stands before an allowed list, whatever was altered in boards out of service
-  pub none-allowed : (ws area : List ℕ) (b : Book) → AllowedLents ws area b []
-  pub more-allowed : (ws area : List ℕ) (b : Book) (t : Step) (ts : List Step) → length (t .area) ≡ length area → AgreeInService b (recordFrom ws) area (t .area)
-      → All Bytes (files (t .call ∷ []))
-      → AllowedLents (zbk ws (t .area) (t .call) .words) (zbk ws (t .area) (t .call) .area) (enter b (t .call) .book) ts
-      → AllowedLents ws area b (t ∷ ts)
+  -- nothing but what demand 3 asks is asked of an event that stands before an allowed list, and that words can tell the record given after a power failure
+  pub none-allowed : (h : Held) (b : Book) → AllowedLents h b []
+  pub more-allowed : (h : Held) (b : Book) (t : Step) (ts : List Step)
+      → AllowedLents h b (t ∷ ts)
+      ↔ (Asked (heldState h) b t × ((p : Running) → t .event ≡ powerFails p → Arrays p) × AllowedLents (heldNext h (t .area) (t .event)) (bookNext b (t .event)) ts)

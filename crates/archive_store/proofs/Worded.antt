@@ -1,167 +1,155 @@
--- From a store's call to the archive's: the record in words, and the number that is reported is small.
+-- From a store's call to the archive's: both records in words.
 -- Assumes nothing.
-use Prim.Native.Nat.{ℕ, _+_, _*_, _-_, _≤_, _<_}
+use Prim.Native.Nat.{ℕ}
 use mathlib.Core.Path.{_≡_, refl, sym, ap, ap₂, subst, _∙_}
 use mathlib.Core.Bool.{Bool, true, false, not}
+use mathlib.Core.Logic.{inl, inr}
 use mathlib.Core.List.{List, [], _∷_}
-use native.Mathlib.Nat.{mul-le-mul, mul-le-mul-right}
 use native.Mathlib.Omega.{arith}
 use lib.Dec.{eqb}
 use lib.ListN.{length}
 use borrow.Author.Tests.{eq-eqb, ne-eqb, not-true, not-false}
+use Rattle.lists.specs.Tests.{alls}
+use Rattle.lists.proofs.Tests.{alls-hold}
 use Rattle.sizes.specs.declared.Sizes.{Sizes}
 use Rattle.sizes.specs.declared.Check.{Check}
 use Rattle.sizes.specs.declared.Check.the-variants.{Pass, Refuse}
+use Rattle.sizes.specs.declared.Answer.the-variants.{Refused}
 use Rattle.sizes.specs.Refusals.{said, first, storeOrder}
 use Rattle.sizes.proofs.Laws.{number-low}
-use Rattle.sizes.proofs.Legal.{legal-facts, α-most, stripes-least}
-use Rattle.store_spec.specs.Record.{Record, newRecord, stripeCount}
-use Rattle.store_spec.specs.Calls.{StoreOutcome, accepted, refused, settle, recordLine, setUpCall}
-use Rattle.store_spec.specs.Calls.{writeLines, writeDone, writeCall, loseLines, loseDone, loseCall}
-use Rattle.store_spec.specs.Calls.{repairLines, repairDone, repairCall, readLines, readDone, readCall}
-use Rattle.store_spec.specs.Edit.{editLines, editDone, editCall}
-use Rattle.store_spec.proofs.Records.{sound-facts, repair-facts}
-use Rattle.store_spec.proofs.Real.{code-lengths}
-use Rattle.store_spec.proofs.Repair.{moved-is}
+use Rattle.store_spec.specs.Record.{Record, newRecord}
+use Rattle.store_spec.specs.Running.{idle}
+use Rattle.store_spec.specs.Running as beside-record
+use Rattle.store_spec.specs.Calls.{settle, accepted, recordLine}
+use Rattle.store_spec.specs.Both.{Outcome, beside, setUpBoth}
+use Rattle.store_spec.specs.Ledger.{Call, State, act}
+use Rattle.record.specs.declared.Running.{Running}
+use Rattle.record.specs.Records.{runningIn}
 use Rattle.store.specs.declared.Store.{Store}
 use Rattle.store.specs.declared.Handed.{Handed}
-use Rattle.store.specs.Handing.{recordIn, outcomeIn}
+use Rattle.store.specs.Handing.{recordIn, outcomeBoth}
+use Rattle.point_array.specs.Steps.{arrayOf}
 use Rattle.answer_word.specs.Answers.{wordOf}
 use Rattle.record_words.specs.Words.{isRecord, recordFrom, wordsOf}
 use Rattle.record_words.proofs.Bits.{words-facts}
-use Rattle.archive_spec.specs.Lent.{Lent, noRecord, inWords, lentBy, zbkSetUp}
-use Rattle.archive_spec.proofs.InWords.{by, lent, set-up-lent}
+use Rattle.repair_words.specs.RepairWords.{isRepair, repairFrom, repairWordsOf}
+use Rattle.repair_words.proofs.RepairWords.{repair-words}
+use Rattle.archive_spec.specs.Lent.{Lent, noRecord, inWords, areRecords, lentBy, zbkSetUp}
+use Rattle.archive_spec.proofs.Bounds.{Fits}
+use Rattle.archive_spec.proofs.StoreFits.{store-fits, set-up-fits}
+use Rattle.archive_spec.proofs.Given.{set-up-given}
+use Rattle.archive_spec.proofs.InWords.{both-yes, both-no, by, lent, set-up-lent}
 
--- ---- a call over the record that the words tell
+-- ---- a call over the records that the words tell
 
--- what `is_record` told of them
-pub is-record : (ws : List ℕ) (b : Bool) → b ≡ isRecord ws → not b ≡ false → isRecord ws ≡ true
-is-record ws b e h = sym e ∙ not-false b h
+module _ (ws ps : List ℕ) where
+  pub record Both : Type 0 where
+    pub is-record : isRecord ws ≡ true
+    pub is-repair : isRepair ps ≡ true
 
-module _ (call : Record → StoreOutcome) (ws area output : List ℕ) where
-  -- of words that are no record's
-  pub none-lent : (b : Bool) → b ≡ isRecord ws → not b ≡ true → noRecord ws area output ≡ lentBy call ws area output
-  none-lent b e h = ap (by call ws area output) (sym (not-true b h) ∙ e)
+  -- what `are_records` told of them
+  pub are-both : (b : Bool) → b ≡ areRecords ws ps → not b ≡ false → Both
+  are-both b e h = let k = alls-hold (isRecord ws ∷ isRepair ps ∷ []) (sym e ∙ not-false b h) in record { is-record = k .0; is-repair = k .1 .0 }
 
-  -- the store is taken from the words; record and answer that its call hands on are put into them
-  pub lent-on : (s : Store) (h : Handed) (after written next : List ℕ) (w : ℕ)
-      → isRecord ws ≡ true
+  -- what `hand_on` asks
+  pub handed-asks : (w : State) (c : Call) (h : Handed) (area output packets : List ℕ) → Both → outcomeBoth h area output packets ≡ act w c
+      → (length ws ≡ 12) × (length ps ≡ 71) × Fits (said (h .answer) .reported)
+  handed-asks w c h area output packets is e = (
+    words-facts ws (is .is-record) .twelve,
+    repair-words .is-repair-is ps .0 (is .is-repair) .0,
+    subst Fits (ap (λ (o : Outcome). o .answer .reported) (sym e)) (store-fits w c),
+  )
+
+module _ (call : Record → beside-record.Running → Outcome) (ws ps area output packets : List ℕ) where
+  -- of words that do not tell both records
+  pub none-lent : (b : Bool) → b ≡ areRecords ws ps → not b ≡ true → noRecord ws ps area output packets ≡ lentBy call ws ps area output packets
+  none-lent b e h = ap (by call ws ps area output packets) (sym (not-true b h) ∙ e)
+
+  -- the records are taken from the words; records and answer that the call hands on are put into them
+  pub lent-on : (s : Store) (p : Running) (h : Handed) (after written left next then : List ℕ) (w : ℕ)
+      → Both ws ps
       → recordIn s ≡ recordFrom ws
-      → outcomeIn h after written ≡ call (recordIn s)
-      → (w ≡ wordOf (said (h .answer))) × (next ≡ wordsOf (recordIn (h .store)))
-      → record { answer = w; words = next; area = after; output = written } ≡ lentBy call ws area output
-  lent-on s h after written next w is es e p =
-      ap₂ {C = Lent} (λ (a : ℕ) (l : List ℕ). record { answer = a; words = l; area = after; output = written }) (p .0) (p .1)
-      ∙ ap inWords (e ∙ ap call es)
-      ∙ lent call ws area output is
+      → runningIn p ≡ repairFrom ps
+      → outcomeBoth h after written left ≡ call (recordIn s) (runningIn p)
+      → (w ≡ wordOf (said (h .answer))) × (next ≡ wordsOf (recordIn (h .store))) × (then ≡ repairWordsOf (runningIn (h .running)))
+      → record { answer = w; words = next; repair = then; area = after; output = written; packets = left } ≡ lentBy call ws ps area output packets
+  lent-on s p h after written left next then w is es ep e k =
+      ap (λ (a : ℕ). record { answer = a; words = next; repair = then; area = after; output = written; packets = left }) (k .0)
+      ∙ ap₂ {C = Lent} (λ (x y : List ℕ). record { answer = wordOf (said (h .answer)); words = x; repair = y; area = after; output = written; packets = left }) (k .1) (k .2)
+      ∙ ap inWords (e ∙ ap₂ {C = Outcome} call es ep)
+      ∙ lent call ws ps area output packets (is .is-record) (is .is-repair)
 
 -- ---- set up
 
-module _ (old new : Record) (z : Sizes) (xs : List ℕ) (c : ℕ) where
-  abbrev by-check : Check → Record → StoreOutcome
-  by-check t s = settle t (refused s [] []) (accepted 0 (newRecord z xs c) [] [])
+module _ (s s′ : Record) (p p′ : beside-record.Running) (z : Sizes) (xs : List ℕ) (c : ℕ) where
+  abbrev by-check : Check → Record → beside-record.Running → Outcome
+  by-check t old q =
+      settle t (λ x. record { answer = said (Refused x); handed = old; running = q; area = []; output = []; packets = [] })
+      (beside idle (accepted 0 (newRecord z xs c) [] []))
 
-  -- what it answers does not hang on the record that it is handed
-  same-answer : setUpCall old z xs c .answer ≡ setUpCall new z xs c .answer
-  unfolding setUpCall
+  -- what it answers does not hang on the records that it is handed
+  same-answer : setUpBoth s p z xs c .answer ≡ setUpBoth s′ p′ z xs c .answer
+  unfolding setUpBoth
   same-answer = go (first storeOrder (recordLine (newRecord z xs c) ∷ []))
     where
-      go : (t : Check) → by-check t old .answer ≡ by-check t new .answer
+      go : (t : Check) → by-check t s p .answer ≡ by-check t s′ p′ .answer
       go Pass = refl
       go (Refuse x) = refl
 
   -- where it is accepted, nor does what it hands on
-  same-handed : wordOf (setUpCall old z xs c .answer) ≡ 0 → setUpCall old z xs c .handed ≡ setUpCall new z xs c .handed
-  unfolding setUpCall
-  same-handed h = go (first storeOrder (recordLine (newRecord z xs c) ∷ [])) h
+  same-made : wordOf (setUpBoth s p z xs c .answer) ≡ 0 → setUpBoth s p z xs c ≡ setUpBoth s′ p′ z xs c
+  unfolding setUpBoth
+  same-made h = go (first storeOrder (recordLine (newRecord z xs c) ∷ [])) h
     where
-      go : (t : Check) → wordOf (by-check t old .answer) ≡ 0 → by-check t old .handed ≡ by-check t new .handed
+      go : (t : Check) → wordOf (by-check t s p .answer) ≡ 0 → by-check t s p ≡ by-check t s′ p′
       go Pass h = refl
       go (Refuse x) h = absurd (omega (arith, number-low x, h))
 
-module _ (ws : List ℕ) (z : Sizes) (xs : List ℕ) (c : ℕ) where
-  pub no-set-up : (length ws ≡ 12 → ⊥) → noRecord ws [] [] ≡ zbkSetUp ws z xs c
+-- a set-up at the array of the points is the set-up at the points
+pub due : (s : Record) (p : beside-record.Running) (z : Sizes) (xs points : List ℕ) (c : ℕ) (o : Outcome) → o ≡ setUpBoth s p z xs c → xs ≡ arrayOf points → o ≡ setUpBoth s p z points c
+due s p z xs points c o e ex = e ∙ ap (λ (ys : List ℕ). setUpBoth s p z ys c) ex ∙ set-up-given s p z points c
+
+-- what `word_of` asks
+pub set-up-asks : (h : Handed) (s : Record) (p : beside-record.Running) (z : Sizes) (xs : List ℕ) (c : ℕ) → outcomeBoth h [] [] [] ≡ setUpBoth s p z xs c → Fits (said (h .answer) .reported)
+set-up-asks h s p z xs c e = subst Fits (ap (λ (o : Outcome). o .answer .reported) (sym e)) (set-up-fits s p z xs c)
+
+module _ (ws ps : List ℕ) (z : Sizes) (xs : List ℕ) (c : ℕ) where
+  abbrev made : Outcome
+  made = setUpBoth (newRecord z xs c) idle z xs c
+
+  abbrev long : Bool
+  long = alls (eqb (length ws) 12 ∷ eqb (length ps) 71 ∷ [])
+
+  -- by whether there are twelve words and 71, and by its word
+  as-set-up : (t accepts : Bool) → long ≡ t → eqb (wordOf (made .answer)) 0 ≡ accepts → set-up-lent ws ps made t accepts ≡ zbkSetUp ws ps z xs c
   unfolding zbkSetUp
-  no-set-up h = rw (ne-eqb (length ws) 12 h) refl
+  as-set-up t accepts e q = ap₂ {C = Lent} (set-up-lent ws ps (setUpBoth (newRecord z xs c) idle z xs c)) (sym e) (sym q)
 
-  abbrev new : StoreOutcome
-  new = setUpCall (newRecord z xs c) z xs c
+  pub not-twelve : (length ws ≡ 12 → ⊥) → noRecord ws ps [] [] [] ≡ zbkSetUp ws ps z xs c
+  not-twelve h = as-set-up false (eqb (wordOf (made .answer)) 0) (both-no (eqb (length ws) 12) (eqb (length ps) 71) (inl (ne-eqb (length ws) 12 h))) refl
 
-  module _ (s : Store) (h : Handed) (w : ℕ) (twelve : length ws ≡ 12) (e : outcomeIn h [] [] ≡ setUpCall (recordIn s) z xs c) (ew : w ≡ wordOf (said (h .answer))) where
-    word-is : w ≡ wordOf (new .answer)
-    word-is = ew ∙ ap (λ (o : StoreOutcome). wordOf (o .answer)) e ∙ ap wordOf (same-answer (recordIn s) (newRecord z xs c) z xs c)
+  pub not-71 : (length ps ≡ 71 → ⊥) → noRecord ws ps [] [] [] ≡ zbkSetUp ws ps z xs c
+  not-71 h = as-set-up false (eqb (wordOf (made .answer)) 0) (both-no (eqb (length ws) 12) (eqb (length ps) 71) (inr (ne-eqb (length ps) 71 h))) refl
 
-    -- what it leaves is the definition's, as its word is 0 or not
-    as-set-up : (accepts : Bool) → eqb (wordOf (new .answer)) 0 ≡ accepts → set-up-lent ws new true accepts ≡ zbkSetUp ws z xs c
-    unfolding zbkSetUp
-    as-set-up accepts q = ap₂ {C = Lent} (set-up-lent ws new) (sym (eq-eqb (length ws) 12 twelve)) (sym q)
+  module _ (s : Record) (p : beside-record.Running) (h : Handed) (w : ℕ) (twelve : length ws ≡ 12) (all : length ps ≡ 71) (e : outcomeBoth h [] [] [] ≡ setUpBoth s p z xs c)
+      (ew : w ≡ wordOf (said (h .answer))) where
+    both-long : long ≡ true
+    both-long = both-yes (eqb (length ws) 12) (eqb (length ps) 71) (eq-eqb (length ws) 12 twelve) (eq-eqb (length ps) 71 all)
 
-    pub did-set-up : (next : List ℕ) → w ≡ 0 → next ≡ wordsOf (recordIn (h .store)) → record { answer = w; words = next; area = []; output = [] } ≡ zbkSetUp ws z xs c
-    did-set-up next h0 en =
-        let z0 = sym (ap (λ (o : StoreOutcome). wordOf (o .answer)) e) ∙ sym ew ∙ h0 in
-        let made : recordIn (h .store) ≡ new .handed = ap (λ (o : StoreOutcome). o .handed) e ∙ same-handed (recordIn s) (newRecord z xs c) z xs c z0 in
-        ap₂ {C = Lent} (λ (a : ℕ) (l : List ℕ). record { answer = a; words = l; area = []; output = [] }) word-is (en ∙ ap wordsOf made)
-        ∙ as-set-up true (eq-eqb _ 0 (sym word-is ∙ h0))
+    word-is : w ≡ wordOf (made .answer)
+    word-is = ew ∙ ap (λ (o : Outcome). wordOf (o .answer)) e ∙ ap wordOf (same-answer s (newRecord z xs c) p idle z xs c)
 
-    pub not-set-up : (w ≡ 0 → ⊥) → record { answer = w; words = ws; area = []; output = [] } ≡ zbkSetUp ws z xs c
+    pub did-set-up : (next then : List ℕ) → w ≡ 0 → next ≡ wordsOf (recordIn (h .store)) → then ≡ repairWordsOf (runningIn (h .running))
+        → record { answer = w; words = next; repair = then; area = []; output = []; packets = [] } ≡ zbkSetUp ws ps z xs c
+    did-set-up next then h0 en et =
+        let z0 = sym (ap (λ (o : Outcome). wordOf (o .answer)) e) ∙ sym ew ∙ h0 in
+        let is : outcomeBoth h [] [] [] ≡ made = e ∙ same-made s (newRecord z xs c) p idle z xs c z0 in
+        ap (λ (a : ℕ). record { answer = a; words = next; repair = then; area = []; output = []; packets = [] }) word-is
+        ∙ ap₂ {C = Lent} (λ (x y : List ℕ). record { answer = wordOf (made .answer); words = x; repair = y; area = []; output = []; packets = [] })
+        (en ∙ ap (λ (o : Outcome). wordsOf (o .handed)) is) (et ∙ ap (λ (o : Outcome). repairWordsOf (o .running)) is)
+        ∙ as-set-up true true both-long (eq-eqb (wordOf (made .answer)) 0 (sym word-is ∙ h0))
+
+    pub not-set-up : (w ≡ 0 → ⊥) → record { answer = w; words = ws; repair = ps; area = []; output = []; packets = [] } ≡ zbkSetUp ws ps z xs c
     not-set-up h0 =
-        ap (λ (a : ℕ). record { answer = a; words = ws; area = []; output = [] }) word-is
-        ∙ as-set-up false (ne-eqb _ 0 (λ q. h0 (word-is ∙ q)))
-
--- ---- the number that is reported
-
-settled-few : (s : Record) (area output : List ℕ) (done : StoreOutcome) (t : Check) → (t ≡ Pass → done .answer .reported < 72057594037927936)
-    → settle t (refused s area output) done .answer .reported < 72057594037927936
-settled-few s area output done Pass h = h refl
-settled-few s area output done (Refuse x) h = omega arith
-
--- what a call's answer reports, by its definition
-pub as-told : (h : Handed) (area output : List ℕ) (o : StoreOutcome) → outcomeIn h area output ≡ o → o .answer .reported < 72057594037927936 → said (h .answer) .reported < 72057594037927936
-as-told h area output o e few = subst (λ (v : ℕ). v < 72057594037927936) (ap (λ (p : StoreOutcome). p .answer .reported) (sym e)) few
-
--- what `hand_on` asks
-pub handed-asks : (call : Record → StoreOutcome) (ws : List ℕ) → ((s : Record) → call s .answer .reported < 72057594037927936)
-    → (s : Record) (h : Handed) (after written : List ℕ) → isRecord ws ≡ true → outcomeIn h after written ≡ call s
-    → (length ws ≡ 12) × (said (h .answer) .reported < 72057594037927936)
-handed-asks call ws few s h after written is e = (words-facts ws is .twelve, as-told h after written (call s) e (few s))
-
-pub set-up-few : (s : Record) (z : Sizes) (xs : List ℕ) (c : ℕ) → setUpCall s z xs c .answer .reported < 72057594037927936
-unfolding setUpCall
-set-up-few s z xs c = settled-few s [] [] _ (first storeOrder (recordLine (newRecord z xs c) ∷ [])) (λ _. omega arith)
-
-pub write-few : (s : Record) (area file : List ℕ) → writeCall s area file .answer .reported < 72057594037927936
-unfolding writeCall
-write-few s area file = settled-few s area [] (writeDone s area file) (first storeOrder (writeLines s (length area) file)) (λ _. omega arith)
-
-pub lose-few : (s : Record) (area : List ℕ) (board : ℕ) → loseCall s area board .answer .reported < 72057594037927936
-unfolding loseCall
-lose-few s area board = settled-few s area [] (loseDone s area board) (first storeOrder (loseLines s board)) (λ _. omega arith)
-
-pub read-few : (s : Record) (area boards output : List ℕ) → readCall s area boards output .answer .reported < 72057594037927936
-unfolding readCall
-read-few s area boards output =
-    settled-few s area output (readDone s area boards output) (first storeOrder (readLines s area boards output)) (λ _. omega arith)
-
-pub edit-few : (s : Record) (area : List ℕ) (offset : ℕ) (bytes boards : List ℕ) → editCall s area offset bytes boards .answer .reported < 72057594037927936
-unfolding editCall
-edit-few s area offset bytes boards =
-    settled-few s area [] (editDone s area offset bytes boards) (first storeOrder (editLines s area offset bytes boards)) (λ _. omega arith)
-
-pub repair-few : (s : Record) (area fresh helpers standIns : List ℕ) → repairCall s area fresh helpers standIns .answer .reported < 72057594037927936
-unfolding repairCall
-repair-few s area fresh helpers standIns =
-    settled-few s area [] (repairDone s area fresh helpers standIns) (first storeOrder (repairLines s (length area) fresh helpers standIns))
-    (λ p.
-    let f = repair-facts s (length area) fresh helpers standIns p in
-    let g = sound-facts s (f .is-sound) in
-    let l = legal-facts (s .sizes) (g .is-legal) in
-    let e = moved-is s area fresh helpers standIns (length area) (code-lengths (s .points) (s .sizes) (g .is-legal)) f in
-    let t = length fresh in
-    let few : stripeCount s ≤ 4096 = few-stripes s (g .cap-high) (stripes-least (s .sizes) l (s .length) (s .capacity) (g .fits)) in
-    let a : stripeCount s * t ≤ 4096 * t = mul-le-mul-right t few in
-    let b : stripeCount s * t ≤ 131072 = omega (arith, a, f .few-fresh, l .enough, l .few) in
-    let c : stripeCount s * t * (2 * s .sizes .d + s .sizes .r - 1) ≤ 131072 * 62 = mul-le-mul b (α-most (s .sizes) l) in
-    omega (arith, e, c))
-  where
-    few-stripes : (s : Record) → s .capacity ≤ 4096 → stripeCount s ≤ s .capacity → stripeCount s ≤ 4096
-    few-stripes s h k = omega arith
+        ap (λ (a : ℕ). record { answer = a; words = ws; repair = ps; area = []; output = []; packets = [] }) word-is
+        ∙ as-set-up true false both-long (ne-eqb (wordOf (made .answer)) 0 (λ q. h0 (word-is ∙ q)))

@@ -5,11 +5,12 @@ ghost use Prim.Native.Nat.{_+_};
 ghost use lib.Dec.{ltb};
 ghost use Rattle.sizes.specs.Refusals.{_when_, first, storeOrder};
 ghost use Rattle.line_checks.specs.Steps.{asked};
-ghost use Rattle.store_checks.specs.Steps.{recordOf};
+ghost use Rattle.record.specs.Records.{recordOf, runningIn};
 ghost use Rattle.edit_check.specs.Steps.{askedLines};
+use record::Kept;
+use record::Running;
 use sizes::Check;
 use sizes::Refusal;
-use sizes::Sizes;
 
 // 15 RANGE: so many bytes at an offset go beyond a file's length. Their sum, which could wrap, is not worked out.
 fn check_range(len: usize, offset: usize, count: usize) -> Check
@@ -24,38 +25,30 @@ fn check_range(len: usize, offset: usize, count: usize) -> Check
     Check::Pass
 }
 
-// The first refusal of an edit of so many bytes at an offset, with these boards to read from, DISAGREE aside, on a record of these parts and an
-// area of so many bytes.
+// The first refusal of an edit of so many bytes at an offset, with these boards to read from, DISAGREE aside, to an area of so many bytes.
 pub fn check_edit(
-    sizes: Sizes,
-    points: &[u8],
-    capacity: usize,
-    written: bool,
-    len: usize,
-    marks: &[bool],
+    kept: Kept,
+    running: Running,
     lent: usize,
     offset: usize,
     count: usize,
     boards: &[usize],
 ) -> Check
-    ensures { λ r. ⌜ r ≡ first storeOrder (askedLines (recordOf sizes (now (points .entry)) capacity written len (now (marks .entry))) lent offset count (now (boards .entry))) ⌝ }
+    ensures { λ r. ⌜ r ≡ first storeOrder (askedLines (recordOf kept) (runningIn running) lent offset count (now (boards .entry))) ⌝ }
 {
-    if let Check::Refuse(area) = shared_checks::check_area(
-        sizes,
-        points,
-        capacity,
-        written,
-        len,
-        marks,
-        lent,
-    ) {
+    let sizes = kept.sizes;
+    let marks = kept.marks;
+    if let Check::Refuse(area) = shared_checks::check_area(kept, running, lent) {
         return Check::Refuse(area);
     }
-    if let Check::Refuse(empty) = store_checks::check_written(written) {
+    if let Check::Refuse(empty) = store_checks::check_written(kept.written) {
         return Check::Refuse(empty);
     }
-    if let Check::Refuse(beyond) = check_range(len, offset, count) {
+    if let Check::Refuse(busy) = store_checks::check_busy(running.running) {
+        return Check::Refuse(busy);
+    }
+    if let Check::Refuse(beyond) = check_range(kept.length, offset, count) {
         return Check::Refuse(beyond);
     }
-    shared_checks::check_boards(sizes, sizes.k, marks, boards)
+    shared_checks::check_boards(sizes, sizes.k, &marks, boards)
 }

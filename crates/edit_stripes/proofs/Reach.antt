@@ -6,7 +6,9 @@ use Prim.Native.Nat.{ℕ, zero, suc, _+_, _-_, _*_, _/_, _<_, _≤_}
 use native.Mathlib.Nat.{div-add-mod', div-lt-iff-lt-mul, mul-le-mul-right}
 use native.Mathlib.Numerals.{add-one}
 use native.Mathlib.Omega.{arith}
-use lib.ListN.{length}
+use lib.ListN.{length, take, drop}
+use lib.Seq.{take-at}
+use borrow.Rule.Slice.PartMut.{putMid}
 use Rattle.lists.proofs.Alls.{all-imp}
 use Rattle.sizes.specs.declared.Sizes.{Sizes}
 use Rattle.sizes.specs.Sizing.{α, B, stripes}
@@ -26,19 +28,27 @@ placed-fewer z starts area area₀ s stop h e p =
 
 module _ (z : Sizes) (xs boards starts : List ℕ) (part : ℕ) (on : List ℕ) (offset : ℕ) (bytes : List ℕ) where
   -- one stripe more
-  pub turn : (s stop : ℕ) (area u next : List ℕ) → s < stop → u ≡ changedStripe z xs boards starts area offset bytes s
-      → next ≡ added (α z) part (s * α z) (kept z xs u) on area
+  pub turn : (s stop : ℕ) (area next : List ℕ) → s < stop → next ≡ stripeEdited z xs boards starts part on offset bytes s area
       → stripesEdited z xs boards starts part on offset bytes (s + 1) (stop - (s + 1)) next ≡ stripesEdited z xs boards starts part on offset bytes s (stop - s) area
-  unfolding stripeEdited
-  turn s stop area u next h eu en =
-      let m : suc (stop - (s + 1)) ≡ stop - s = omega arith in
-      let e : next ≡ stripeEdited z xs boards starts part on offset bytes s area = en ∙ ap (λ (l : List ℕ). added (α z) part (s * α z) (kept z xs l) on area) eu in
+  turn s stop area next h e =
+      let m : suc (stop - (s + 1)) ≡ stop - s = omega (arith, h) in
       ap₂ {C = List ℕ} (λ (i : ℕ) (l : List ℕ). stripesEdited z xs boards starts part on offset bytes i (stop - (s + 1)) l) (add-one s) e
       ∙ ap (λ (n : ℕ). stripesEdited z xs boards starts part on offset bytes s n area) m
 
   -- and none
   pub end : (s stop : ℕ) (area : List ℕ) → stop ≤ s → stripesEdited z xs boards starts part on offset bytes s (stop - s) area ≡ area
   end s stop area h = let m : stop - s ≡ 0 = omega arith in ap (λ (n : ℕ). stripesEdited z xs boards starts part on offset bytes s n area) m
+
+-- what is cut off the working array is the stripe that was put there
+pub stripe-first : (b m : ℕ) (l a : List ℕ) → m ≡ b → length a ≡ b → take b (putMid 0 (m - 0) l a) ≡ a
+stripe-first b m l a e la = take-at a (drop (m - 0) l) b la
+
+-- one stripe
+pub one-edited : (z : Sizes) (xs boards starts : List ℕ) (part : ℕ) (on : List ℕ) (offset : ℕ) (bytes : List ℕ) (s : ℕ) (area u next : List ℕ)
+    → u ≡ changedStripe z xs boards starts area offset bytes s → next ≡ added (α z) part (s * α z) (kept z xs u) on area
+    → next ≡ stripeEdited z xs boards starts part on offset bytes s area
+unfolding stripeEdited
+one-edited z xs boards starts part on offset bytes s area u next eu en = en ∙ ap (λ (l : List ℕ). added (α z) part (s * α z) (kept z xs l) on area) eu
 
 -- the stripes that m bytes at an offset reach
 module _ (z : Sizes) (legal : Legal z) (offset m : ℕ) where
@@ -55,9 +65,6 @@ module _ (z : Sizes) (legal : Legal z) (offset m : ℕ) where
   first-low =
       let l : first < suc stop = div-lt-iff-lt-mul {x = offset} {y = suc stop} (B-pos z legal) .1 (omega (arith, stripes-enough z legal (offset + m), B-pos z legal)) in
       omega arith
-
-  pub first-few : (b c : ℕ) → b ≡ B z → c ≡ stop → offset / b ≤ c
-  first-few b c eb ec = rw (eb, ec) first-low
 
   pub stop-high : offset + m ≤ (first + (stop - first)) * B z
   stop-high = let e : first + (stop - first) ≡ stop = omega (arith, first-low) in rw e (stripes-enough z legal (offset + m))

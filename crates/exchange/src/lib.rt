@@ -56,7 +56,7 @@ fn byte_in(sizes: Sizes, ff: &[u8], stripes: usize, s: usize, packets: &[u8], vs
 }
 
 // The same, with space of its own.
-fn exchange_byte(sizes: Sizes, ff: &[u8], stripes: usize, s: usize, packets: &[u8]) -> u8
+pub fn exchange_byte(sizes: Sizes, ff: &[u8], stripes: usize, s: usize, packets: &[u8]) -> u8
     requires { ⌜ (sizes .d ≤ 32) × (length (now ff) ≤ 32) × (s < stripes) × (stripes ≤ 4096) × (length (now packets) ≡ sizes .d * (2 * stripes)) ⌝ }
     ensures { λ v. ⌜ v ≡ dotOf (now (ff .entry)) (received sizes stripes 0 s (now (packets .entry))) ⌝ }
 {

@@ -1,1 +1,2 @@
 pub mod LedgerFigures
+pub mod StepFigures

@@ -2,14 +2,15 @@
 -- of lost boards altered between them; the book after them. proofs/LedgerFigures.antt has `ledger-figures`.
 -- Assumes nothing.
 use mathlib.Core.Path.{_≡_}
-use mathlib.Core.List.{List, [], _∷_, _++_, map}
-use mathlib.Core.Option.{some}
+use mathlib.Core.List.{List, [], _∷_, _++_}
+use mathlib.Core.Option.{some, none}
 use Prim.Native.Nat.{ℕ}
 use lib.ListN.{replicate}
 use Rattle.mbcr.specs.Share.{standard}
 use Rattle.store_spec.specs.Record.{newRecord}
-use Rattle.store_spec.specs.Ledger.{Call, write, lose, repair, read, Reply, Book, State, Step, Allowed, openBook, replies, bookReplies, bookFinal}
-use Rattle.store_spec.specs.Demand3.{begun, calls}
+use Rattle.store_spec.specs.Running.{idle}
+use Rattle.store_spec.specs.Ledger.{Call, call, write, lose, repair, read, Reply, Book, State, Step, Allowed, openBook, replies, bookReplies, bookFinal}
+use Rattle.store_spec.specs.Demand3.{begun, events}
 use Rattle.store_spec.specs.FurtherFigures.{five, fiveFile, helpers}
 
 -- what is replied: the refusal's number or 0, the number reported, all bytes of the output
@@ -17,7 +18,7 @@ abbrev reply : ℕ → ℕ → List ℕ → Reply
 reply refusal value output = record { answer = record { refusal = refusal; reported = value }; output = output }
 
 abbrev step : List ℕ → Call → Step
-step lent call = record { area = lent; call = call }
+step lent c = record { area = lent; event = call c }
 
 -- five boards of one stripe, at five points that are not their numbers. Boards 0 and 1 are lost and spoiled, rebuilt; board 1 is lost again and
 -- spoiled, rebuilt alone with a stand-in, and lost and spoiled once more.
@@ -28,7 +29,7 @@ abbrev blank : List ℕ
 blank = replicate 35 0xEE
 
 abbrev pub start : State
-start = begun (newRecord five (standard five) 1) five points5 1 blank
+start = begun (newRecord five (standard five) 1) idle five points5 1 blank
 
 abbrev pub opened : Book
 opened = openBook five points5 1 35
@@ -95,8 +96,8 @@ pub record LedgerFigures : Type 0 where
   -- the list is allowed
   pub allowed : Allowed start opened steps
   -- what the ledger replies, and what the store does
-  pub book-replies : bookReplies opened (calls steps) ≡ told
+  pub book-replies : bookReplies opened (events steps) ≡ told
   pub store-replies : replies start steps ≡ told
   -- the book after them
-  pub book-after : bookFinal opened (calls steps)
-      ≡ record { sizes = five; points = points5; capacity = 1; areaLength = 35; file = some fiveFile; service = 0 ∷ 2 ∷ 3 ∷ 4 ∷ [] }
+  pub book-after : bookFinal opened (events steps)
+      ≡ record { sizes = five; points = points5; capacity = 1; areaLength = 35; file = some fiveFile; service = 0 ∷ 2 ∷ 3 ∷ 4 ∷ []; repairing = none }

@@ -1,2 +1,3 @@
 pub mod LedgerFigures
 pub mod RepairFigures
+pub mod StepFigures

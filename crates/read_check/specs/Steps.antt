@@ -10,11 +10,13 @@ use Rattle.sizes.specs.declared.Refusal.the-variants.{Count, Repeat}
 use Rattle.sizes.specs.Refusals.{Line, _when_}
 use Rattle.board_spec.specs.Calls.{nodeLine, shortLine}
 use Rattle.store_spec.specs.Record.{Record}
-use Rattle.store_spec.specs.Calls.{recordLine, lentLine, emptyLine, downLine}
+use Rattle.store_spec.specs.Calls.{lentLine, emptyLine, downLine}
+use Rattle.store_spec.specs.Running.{Running}
+use Rattle.store_spec.specs.Both.{bothLine}
 
-abbrev pub askedLines : Record → ℕ → List ℕ → List ℕ → List Line
-askedLines s m boards output =
-    recordLine s
+abbrev pub askedLines : Record → Running → ℕ → List ℕ → List ℕ → List Line
+askedLines s p m boards output =
+    bothLine s p
     ∷ lentLine s m
     ∷ emptyLine s
     ∷ Count when not (eqb (length boards) (s .sizes .k))

@@ -2,41 +2,26 @@
 //! which is behind them all, is asked by `store_decode`.
 ghost use mathlib.Core.Path.{_≡_};
 ghost use Rattle.sizes.specs.Refusals.{first, storeOrder};
-ghost use Rattle.store_checks.specs.Steps.{recordOf};
+ghost use Rattle.record.specs.Records.{recordOf, runningIn};
 ghost use Rattle.read_check.specs.Steps.{askedLines};
+use record::Kept;
+use record::Running;
 use sizes::Check;
-use sizes::Sizes;
 
-// The first refusal of a read from these boards, DISAGREE aside, on a record of these parts and an area of so many bytes.
-pub fn check_read(
-    sizes: Sizes,
-    points: &[u8],
-    capacity: usize,
-    written: bool,
-    len: usize,
-    marks: &[bool],
-    lent: usize,
-    boards: &[usize],
-    out: &[u8],
-) -> Check
-    ensures { λ r. ⌜ r ≡ first storeOrder (askedLines (recordOf sizes (now (points .entry)) capacity written len (now (marks .entry))) lent (now (boards .entry)) (now (out .entry))) ⌝ }
+// The first refusal of a read from these boards, DISAGREE aside, of an area of so many bytes.
+pub fn check_read(kept: Kept, running: Running, lent: usize, boards: &[usize], out: &[u8]) -> Check
+    ensures { λ r. ⌜ r ≡ first storeOrder (askedLines (recordOf kept) (runningIn running) lent (now (boards .entry)) (now (out .entry))) ⌝ }
 {
-    if let Check::Refuse(area) = shared_checks::check_area(
-        sizes,
-        points,
-        capacity,
-        written,
-        len,
-        marks,
-        lent,
-    ) {
+    let sizes = kept.sizes;
+    let marks = kept.marks;
+    if let Check::Refuse(area) = shared_checks::check_area(kept, running, lent) {
         return Check::Refuse(area);
     }
-    if let Check::Refuse(empty) = store_checks::check_written(written) {
+    if let Check::Refuse(empty) = store_checks::check_written(kept.written) {
         return Check::Refuse(empty);
     }
-    if let Check::Refuse(named) = shared_checks::check_boards(sizes, sizes.k, marks, boards) {
+    if let Check::Refuse(named) = shared_checks::check_boards(sizes, sizes.k, &marks, boards) {
         return Check::Refuse(named);
     }
-    line_checks::check_room(out, len)
+    line_checks::check_room(out, kept.length)
 }

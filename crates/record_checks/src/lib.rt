@@ -4,40 +4,29 @@ ghost use mathlib.Core.Path.{_≡_};
 ghost use mathlib.Core.List.{[], _∷_};
 ghost use Rattle.sizes.specs.Refusals.{first, storeOrder};
 ghost use Rattle.store_spec.specs.Record.{newRecord};
-ghost use Rattle.store_spec.specs.Calls.{recordLine, loseLines};
-ghost use Rattle.store_checks.specs.Steps.{recordOf};
+ghost use Rattle.store_spec.specs.Calls.{recordLine};
+ghost use Rattle.store_spec.specs.Both.{loseLinesBoth};
+ghost use Rattle.record.specs.Records.{recordOf, runningIn};
+use record::Kept;
+use record::Running;
 use sizes::Check;
 use sizes::Sizes;
 
 // The first refusal of setting up a store of these sizes, these points and this capacity.
-pub fn check_set_up(sizes: Sizes, points: &[u8], capacity: usize) -> Check
-    ensures { λ r. ⌜ r ≡ first storeOrder (recordLine (newRecord sizes (now (points .entry)) capacity) ∷ []) ⌝ }
+pub fn check_set_up(sizes: Sizes, points: [u8; 32], capacity: usize) -> Check
+    ensures { λ r. ⌜ r ≡ first storeOrder (recordLine (newRecord sizes points capacity) ∷ []) ⌝ }
 {
-    let marks = [false; 32];
-    store_checks::check_record(sizes, points, capacity, false, 0, &marks)
+    let kept = record::new_kept(sizes, points, capacity);
+    store_checks::check_record(kept)
 }
 
-// The first refusal of losing this board, on a record of these parts.
-pub fn check_lose(
-    sizes: Sizes,
-    points: &[u8],
-    capacity: usize,
-    written: bool,
-    len: usize,
-    marks: &[bool],
-    board: usize,
-) -> Check
-    ensures { λ r. ⌜ r ≡ first storeOrder (loseLines (recordOf sizes (now (points .entry)) capacity written len (now (marks .entry))) board) ⌝ }
+// The first refusal of losing this board.
+pub fn check_lose(kept: Kept, running: Running, board: usize) -> Check
+    ensures { λ r. ⌜ r ≡ first storeOrder (loseLinesBoth (recordOf kept) (runningIn running) board) ⌝ }
 {
-    if let Check::Refuse(size) = store_checks::check_record(
-        sizes,
-        points,
-        capacity,
-        written,
-        len,
-        marks,
-    ) {
+    if let Check::Refuse(size) = running::check_both(kept, running) {
         return Check::Refuse(size);
     }
+    let sizes = kept.sizes;
     line_checks::check_node(sizes, board)
 }

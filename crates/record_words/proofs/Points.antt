@@ -44,7 +44,7 @@ low b y h = omega arith
 rest : (b y : ℕ) → b < 256 → (b + 256 * y) / 256 ≡ y
 rest b y h = omega arith
 
-bytes-number : (l : List ℕ) → Bytes l → bytes (length l) (fromBytes l) ≡ l
+pub bytes-number : (l : List ℕ) → Bytes l → bytes (length l) (fromBytes l) ≡ l
 bytes-number [] h = refl
 bytes-number (b ∷ l) h =
     ap₂ {C = List ℕ} (λ x r. x ∷ r) (low b (fromBytes l) (h .0)) (ap (bytes (length l)) (rest b (fromBytes l) (h .0)) ∙ bytes-number l (h .1))

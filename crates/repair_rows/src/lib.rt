@@ -36,7 +36,7 @@ fn other_boards(fresh: &[usize], a: usize, out: &mut [usize])
 }
 
 // The partners of the a-th fresh board: its stand-ins, then the other fresh boards.
-fn partners(standins: &[usize], fresh: &[usize], a: usize, out: &mut [usize])
+pub fn partners(standins: &[usize], fresh: &[usize], a: usize, out: &mut [usize])
     requires { ⌜ (length (now fresh) ≤ 32) × (1 ≤ length (now fresh)) × (length (now standins) ≤ 32) × (length (now out) ≡ length (now standins) + (length (now fresh) - 1)) ⌝ }
     ensures { λ _. ⌜ now (out .exit) ≡ now (standins .entry) ++ othersAt (now (fresh .entry)) a ⌝ }
 {

@@ -19,8 +19,8 @@ use Rattle.store_spec.specs.Stripes.{firsts, seconds, exchangedByte, stoodIn, f
 use Rattle.repair_hear.specs.Steps.{Naming, firstsOf, secondsOf}
 use Rattle.repair_rows.specs.Steps.{past, othersAt, helpersAt}
 use Rattle.repair_rows.proofs.Others.{past-below}
+use Rattle.repair_rows.proofs.Without.{without-place}
 use Rattle.repair_stripe.specs.Steps.{polysOf, sentAt, stripeAt, allFirsts, allSeconds, rebuilt}
-use Rattle.repair_stripe.proofs.Partners.{without-place}
 use Rattle.repair_stripe.proofs.Rebuilt.{length-firsts, length-poly}
 
 -- the b-th run of c boards is the d helpers of the b-th fresh board, then its stand-ins

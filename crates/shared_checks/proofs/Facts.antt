@@ -3,13 +3,13 @@
 use Prim.Native.Nat.{ℕ, _*_, _≤_}
 use mathlib.Core.Path.{_≡_, refl}
 use mathlib.Core.Bool.{Bool, true, false}
-use mathlib.Core.List.{List}
+use mathlib.Core.List.{List, [], _∷_}
 use native.Mathlib.Nat.{mul-le-mul-right}
 use native.Mathlib.Omega.{arith}
 use lib.ListN.{length, getD}
 use borrow.Author.Tests.{eqb-true}
 use Rattle.lists.specs.Tests.{every, below, different}
-use Rattle.lists.proofs.Tests.{not-no}
+use Rattle.lists.proofs.Tests.{not-no, alls-hold}
 use Rattle.sizes.specs.declared.Sizes.{Sizes}
 use Rattle.sizes.specs.declared.Check.the-variants.{Pass}
 use Rattle.sizes.specs.declared.Refusal.the-variants.{Size, Area, Count, Node, Repeat, Down}
@@ -18,19 +18,27 @@ use Rattle.sizes.specs.Refusals.{first, storeOrder}
 use Rattle.sizes.proofs.Legal.{legal-facts, stripes-least}
 use Rattle.sizes.proofs.Orders.{clear-off}
 use Rattle.store_spec.specs.Record.{Record, sound, areaLen}
+use Rattle.store_spec.specs.Running.{Running, soundBeside}
+use Rattle.store_spec.specs.Both.{bothLine}
 use Rattle.store_spec.proofs.Records.{sound-facts}
 use Rattle.line_checks.specs.Steps.{Stated}
 use Rattle.checks.proofs.Facts.{Taken, taken}
 use Rattle.shared_checks.specs.Steps.{areaLines, boardLines}
 
-pub record Lent (s : Record) (m : ℕ) : Type 0 where
+pub record Lent (s : Record) (p : Running) (m : ℕ) : Type 0 where
   pub is-sound : sound s ≡ true
+  pub is-beside : soundBeside s p ≡ true
   pub area-is : m ≡ areaLen s
 
-pub area-facts : (s : Record) (m : ℕ) → first storeOrder (areaLines s m) ≡ Pass → Lent s m
-area-facts s m h =
-    let off = clear-off (areaLines s m) storeOrder h in
-    record { is-sound = not-no _ (off Size refl); area-is = eqb-true _ _ (not-no _ (off Area refl)) }
+-- SIZE, by both records
+pub both-facts : (s : Record) (p : Running) → bothLine s p .applies ≡ false → (sound s ≡ true) × (soundBeside s p ≡ true)
+both-facts s p h = let e = alls-hold (sound s ∷ soundBeside s p ∷ []) (not-no _ h) in (e .0, e .1 .0)
+
+pub area-facts : (s : Record) (p : Running) (m : ℕ) → first storeOrder (areaLines s p m) ≡ Pass → Lent s p m
+area-facts s p m h =
+    let off = clear-off (areaLines s p m) storeOrder h in
+    let e = both-facts s p (off Size refl) in
+    record { is-sound = e .0; is-beside = e .1; area-is = eqb-true _ _ (not-no _ (off Area refl)) }
 
 pub record Named (z : Sizes) (count : ℕ) (marks : List Bool) (boards : List ℕ) : Type 0 where
   pub enough : length boards ≡ count

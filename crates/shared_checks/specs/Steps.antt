@@ -11,10 +11,12 @@ use Rattle.sizes.specs.declared.Refusal.the-variants.{Count, Repeat, Down}
 use Rattle.sizes.specs.Refusals.{Line, _when_}
 use Rattle.board_spec.specs.Calls.{nodeLine}
 use Rattle.store_spec.specs.Record.{Record}
-use Rattle.store_spec.specs.Calls.{recordLine, lentLine}
+use Rattle.store_spec.specs.Calls.{lentLine}
+use Rattle.store_spec.specs.Running.{Running}
+use Rattle.store_spec.specs.Both.{bothLine}
 
-abbrev pub areaLines : Record → ℕ → List Line
-areaLines s m = recordLine s ∷ lentLine s m ∷ []
+abbrev pub areaLines : Record → Running → ℕ → List Line
+areaLines s p m = bothLine s p ∷ lentLine s m ∷ []
 
 abbrev pub boardLines : Sizes → ℕ → List Bool → List ℕ → List Line
 boardLines z count marks boards =

@@ -1,37 +1,25 @@
-//! The checks that several calls of the store begin with: its record and area, and the boards that it is to read from. Each takes its answers
+//! The checks that several calls of the store begin with: both records and the area, and the boards that it is to read from. Each takes its answers
 //! apart in document 01's order and answers the first refusal.
 ghost use mathlib.Core.Path.{_≡_};
 ghost use mathlib.Core.Bool.{true};
 ghost use lib.ListN.{length};
 ghost use Rattle.sizes.specs.Refusals.{first, storeOrder};
-ghost use Rattle.store_checks.specs.Steps.{recordOf};
+ghost use Rattle.record.specs.Records.{recordOf, runningIn};
 ghost use Rattle.shared_checks.specs.Steps.{areaLines, boardLines};
+use record::Kept;
+use record::Running;
 use sizes::Check;
 use sizes::Sizes;
 
-// 1 SIZE and 2 AREA, of a record of these parts and an area of so many bytes.
-pub fn check_area(
-    sizes: Sizes,
-    points: &[u8],
-    capacity: usize,
-    written: bool,
-    len: usize,
-    marks: &[bool],
-    lent: usize,
-) -> Check
-    ensures { λ r. ⌜ r ≡ first storeOrder (areaLines (recordOf sizes (now (points .entry)) capacity written len (now (marks .entry))) lent) ⌝ }
+// 1 SIZE and 2 AREA, of both records and an area of so many bytes.
+pub fn check_area(kept: Kept, running: Running, lent: usize) -> Check
+    ensures { λ r. ⌜ r ≡ first storeOrder (areaLines (recordOf kept) (runningIn running) lent) ⌝ }
 {
-    if let Check::Refuse(size) = store_checks::check_record(
-        sizes,
-        points,
-        capacity,
-        written,
-        len,
-        marks,
-    ) {
+    if let Check::Refuse(size) = running::check_both(kept, running) {
         return Check::Refuse(size);
     }
-    let part_len = capacity * sizes.share_len();
+    let sizes = kept.sizes;
+    let part_len = kept.capacity * sizes.share_len();
     checks::check_lent(lent, sizes.n * part_len)
 }
 

@@ -13,11 +13,31 @@ use Rattle.sizes.specs.declared.Refusal.the-variants.{Size, Disagree}
 use Rattle.sizes.proofs.Laws.{numbers-differ}
 use Rattle.sizes.proofs.Orders.{ahead, first-same}
 
--- `size (e and f and disagree end)`: e and f say that the tests of two lines are the same
+-- a line is put into a list, behind lines of other refusals: `past refl here`
+pub data Put (l : Line) : List Line → List Line → Type 0 where
+  here : {m : List Line} → Put l m (l ∷ m)
+  past : {y : Line} {m n : List Line} → eqb (number (y .refusal)) (number (l .refusal)) ≡ false → Put l m n → Put l (y ∷ m) (y ∷ n)
+
+pub put-at : {l : Line} {m n : List Line} → Put l m n → (x : Refusal) → appliesIn n x ≡ appliesIn (l ∷ m) x
+put-at here x = refl
+put-at {l} (past {y} {m} {n} d p) x = go (eqb (number (y .refusal)) (number x)) (eqb (number (l .refusal)) (number x)) refl refl (put-at p x)
+  where
+    go : (t u : Bool) → eqb (number (y .refusal)) (number x) ≡ t → eqb (number (l .refusal)) (number x) ≡ u
+        → appliesIn n x ≡ pick u (l .applies) (appliesIn m x)
+        → pick t (y .applies) (appliesIn n x) ≡ pick u (l .applies) (pick t (y .applies) (appliesIn m x))
+    go true true a b ih =
+        absurd (eqb-false (number (y .refusal)) (number (l .refusal)) d
+        (eqb-true (number (y .refusal)) (number x) a ∙ sym (eqb-true (number (l .refusal)) (number x) b)))
+    go true false a b ih = refl
+    go false u a b ih = ih
+
+-- `size (e and f and disagree end)`: e and f say that the tests of two lines are the same; `further e (past refl here) (..)` where the second
+-- list has its line further on
 infixr 20 _and_
 pub data Alike : List Line → List Line → Type 0 where
   end : Alike [] []
   _and_ : {y : Refusal} {t u : Bool} {l m : List Line} → t ≡ u → Alike l m → Alike ((y when t) ∷ l) ((y when u) ∷ m)
+  further : {y : Refusal} {t u : Bool} {l m n : List Line} → t ≡ u → Put (y when u) m n → Alike l m → Alike ((y when t) ∷ l) n
   size : {t : Bool} {l m : List Line} → Alike l m → Alike ((Size when t) ∷ l) m
   disagree : {t : Bool} {l m : List Line} → Alike l m → Alike ((Disagree when t) ∷ l) m
 
@@ -32,6 +52,11 @@ besides y t l x n = go (eqb (number y) (number x)) refl
 pub alike-at : {l m : List Line} → Alike l m → (x : Refusal) → x ≢ Size → x ≢ Disagree → appliesIn l x ≡ appliesIn m x
 alike-at end x s d = refl
 alike-at (_and_ {y} {t} {u} {l} {m} e r) x s d = go (eqb (number y) (number x)) (alike-at r x s d)
+  where
+    go : (b : Bool) → appliesIn l x ≡ appliesIn m x → pick b t (appliesIn l x) ≡ pick b u (appliesIn m x)
+    go true ih = e
+    go false ih = ih
+alike-at (further {y} {t} {u} {l} {m} {n} e p r) x s d = go (eqb (number y) (number x)) (alike-at r x s d) ∙ sym (put-at p x)
   where
     go : (b : Bool) → appliesIn l x ≡ appliesIn m x → pick b t (appliesIn l x) ≡ pick b u (appliesIn m x)
     go true ih = e

@@ -13,7 +13,7 @@ use Rattle.lists.specs.Tests.{pick, every}
 use Rattle.lists.proofs.Tests.{both}
 use Rattle.sizes.specs.declared.Sizes.{Sizes}
 use Rattle.sizes.specs.declared.Refusal.{Refusal}
-use Rattle.sizes.specs.declared.Refusal.the-variants.{Size, Area, Long, Count, Node, Repeat, Short, Empty, Down, Disagree, Text, Mixed, Serving, Range}
+use Rattle.sizes.specs.declared.Refusal.the-variants.{Size, Area, Long, Count, Node, Repeat, Short, Empty, Down, Disagree, Text, Mixed, Serving, Range, Busy, Idle}
 use Rattle.sizes.specs.declared.Answer.{Answer}
 use Rattle.sizes.specs.declared.Answer.the-variants.{Done, Refused}
 use Rattle.sizes.specs.Refusals.{number, Said, said, Line, appliesIn}
@@ -23,7 +23,7 @@ use Rattle.sizes.proofs.Lines.{first-clear, clear-first, first-refuse, 
 
 -- all refusals: what is asked of each is asked once, over this list
 abbrev pub all : List Refusal
-all = Size ∷ Area ∷ Long ∷ Count ∷ Node ∷ Repeat ∷ Short ∷ Empty ∷ Down ∷ Disagree ∷ Text ∷ Mixed ∷ Serving ∷ Range ∷ []
+all = Size ∷ Area ∷ Long ∷ Count ∷ Node ∷ Repeat ∷ Short ∷ Empty ∷ Down ∷ Disagree ∷ Text ∷ Mixed ∷ Serving ∷ Range ∷ Busy ∷ Idle ∷ []
 
 -- the refusal of this number
 named : List Refusal → ℕ → Refusal
@@ -46,6 +46,8 @@ named-number Text = refl
 named-number Mixed = refl
 named-number Serving = refl
 named-number Range = refl
+named-number Busy = refl
+named-number Idle = refl
 
 pub numbers-differ : (x y : Refusal) → number x ≡ number y → x ≡ y
 numbers-differ x y e = sym (named-number x) ∙ ap (named all) e ∙ named-number y

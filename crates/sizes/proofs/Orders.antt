@@ -8,12 +8,13 @@ use lib.Dec.{eqb}
 use borrow.Author.Tests.{eqb-true, eqb-false, eq-eqb}
 use Rattle.lists.specs.Lists.{All}
 use Rattle.lists.specs.Tests.{pick}
+use Rattle.lists.proofs.Alls.{all-imp}
 use Rattle.lists.proofs.Tests.{true-false}
 use Rattle.sizes.specs.Refusals.{Line, appliesIn, first, number}
 use Rattle.sizes.specs.declared.Check.the-variants.{Pass, Refuse}
 use Rattle.sizes.specs.declared.Refusal.{Refusal}
 use Rattle.sizes.proofs.Laws.{numbers-differ}
-use Rattle.sizes.proofs.Lines.{Clear, first-clear}
+use Rattle.sizes.proofs.Lines.{Clear, first-clear, clear-first}
 
 -- a fact, and those after it: `a also b also tt` is `(a, (b, tt))`
 infixr 20 _also_
@@ -47,6 +48,12 @@ none-off lines order h x s = all-at (λ y. appliesIn lines y ≡ false) order x 
 
 pub clear-off : (lines : List Line) (order : List Refusal) → first order lines ≡ Pass → (x : Refusal) → stands order x ≡ true → appliesIn lines x ≡ false
 clear-off lines order h = none-off lines order (first-clear lines order h)
+
+-- another passes with it where each line that is off in the one is off in the other
+pub pass-too : (l m : List Line) (order : List Refusal) → ((x : Refusal) → appliesIn l x ≡ false → appliesIn m x ≡ false)
+    → first order l ≡ Pass → first order m ≡ Pass
+pass-too l m order h p =
+    clear-first m order (all-imp (λ x. appliesIn l x ≡ false) (λ x. appliesIn m x ≡ false) h order (first-clear l order p))
 
 -- it passes where no test of its lines holds
 abbrev pub Off : List Line → Type 0

@@ -8,7 +8,7 @@ use Prim.Native.Nat.{ℕ, _+_, _*_, _≤_}
 use Rattle.lists.specs.Lists.{All}
 use Rattle.sizes.specs.declared.Sizes.{Sizes}
 use Rattle.sizes.specs.declared.Refusal.{Refusal}
-use Rattle.sizes.specs.declared.Refusal.the-variants.{Size, Area, Long, Count, Node, Repeat, Short, Empty, Down, Disagree, Text, Mixed, Serving, Range}
+use Rattle.sizes.specs.declared.Refusal.the-variants.{Size, Area, Long, Count, Node, Repeat, Short, Empty, Down, Disagree, Text, Mixed, Serving, Range, Busy, Idle}
 use Rattle.sizes.specs.declared.Check.the-variants.{Pass, Refuse}
 use Rattle.sizes.specs.declared.Answer.{Answer}
 use Rattle.sizes.specs.declared.Answer.the-variants.{Done, Refused}
@@ -38,8 +38,8 @@ pub record SizesAndRefusals : Type 0 where
   pub stripes-least : (z : Sizes) → legal z ≡ true → (L S : ℕ) → L ≤ S * B z → stripes z L ≤ S
   pub stripes-none : (z : Sizes) → legal z ≡ true → stripes z 0 ≡ 0
   pub numbers-are :
-      map number (Size ∷ Area ∷ Long ∷ Count ∷ Node ∷ Repeat ∷ Short ∷ Empty ∷ Down ∷ Disagree ∷ Text ∷ Mixed ∷ Serving ∷ Range ∷ [])
-      ≡ 1 ∷ 2 ∷ 3 ∷ 4 ∷ 5 ∷ 6 ∷ 7 ∷ 8 ∷ 9 ∷ 10 ∷ 12 ∷ 13 ∷ 14 ∷ 15 ∷ []
+      map number (Size ∷ Area ∷ Long ∷ Count ∷ Node ∷ Repeat ∷ Short ∷ Empty ∷ Down ∷ Disagree ∷ Text ∷ Mixed ∷ Serving ∷ Range ∷ Busy ∷ Idle ∷ [])
+      ≡ 1 ∷ 2 ∷ 3 ∷ 4 ∷ 5 ∷ 6 ∷ 7 ∷ 8 ∷ 9 ∷ 10 ∷ 12 ∷ 13 ∷ 14 ∷ 15 ∷ 16 ∷ 17 ∷ []
   -- accepted: no refusal, and the number reported; refused: its number, and nothing reported
   pub done-says : (v : ℕ) → said (Done v) ≡ record { refusal = 0; reported = v }
   pub refused-says : (x : Refusal) → said (Refused x) ≡ record { refusal = number x; reported = 0 }
@@ -53,7 +53,7 @@ pub record SizesAndRefusals : Type 0 where
   pub applies-at : (before after : List Line) (l : Line) → All (λ m. m .refusal ≢ l .refusal) before → appliesIn (before ++ (l ∷ after)) (l .refusal) ≡ l .applies
   pub applies-none : (lines : List Line) (x : Refusal) → All (λ m. m .refusal ≢ x) lines → appliesIn lines x ≡ false
   -- the two orders, by number
-  pub store-order : map number storeOrder ≡ 1 ∷ 2 ∷ 3 ∷ 8 ∷ 15 ∷ 4 ∷ 5 ∷ 6 ∷ 14 ∷ 9 ∷ 7 ∷ 10 ∷ []
+  pub store-order : map number storeOrder ≡ 1 ∷ 2 ∷ 3 ∷ 8 ∷ 16 ∷ 17 ∷ 15 ∷ 4 ∷ 5 ∷ 6 ∷ 14 ∷ 9 ∷ 7 ∷ 10 ∷ []
   pub board-order : map number boardOrder ≡ 12 ∷ 1 ∷ 3 ∷ 13 ∷ 4 ∷ 5 ∷ 6 ∷ 2 ∷ 7 ∷ 10 ∷ []
   -- "The first that applies is given." "A number is given only where its line holds; otherwise the call does its work."
   pub refuse-is : (order : List Refusal) (lines : List Line) (x : Refusal) → (first order lines ≡ Refuse x) ↔ First order lines x

@@ -6,7 +6,7 @@ use Prim.Native.Nat.{ℕ}
 use lib.Dec.{eqb}
 use Rattle.lists.specs.Tests.{pick}
 use Rattle.sizes.specs.declared.Refusal.{Refusal}
-use Rattle.sizes.specs.declared.Refusal.the-variants.{Size, Area, Long, Count, Node, Repeat, Short, Empty, Down, Disagree, Text, Mixed, Serving, Range}
+use Rattle.sizes.specs.declared.Refusal.the-variants.{Size, Area, Long, Count, Node, Repeat, Short, Empty, Down, Disagree, Text, Mixed, Serving, Range, Busy, Idle}
 use Rattle.sizes.specs.declared.Check.{Check}
 use Rattle.sizes.specs.declared.Check.the-variants.{Pass, Refuse}
 use Rattle.sizes.specs.declared.Answer.{Answer}
@@ -28,6 +28,8 @@ number Text = 12
 number Mixed = 13
 number Serving = 14
 number Range = 15
+number Busy = 16
+number Idle = 17
 
 -- what an answer says: the refusal's number, 0 where it is accepted; and the number reported, 0 where it is refused
 pub record Said : Type 0 where
@@ -58,9 +60,9 @@ first [] lines = Pass
 first (x ∷ order) lines = pick (appliesIn lines x) (Refuse x) (first order lines)
 
 -- "Store: 1, 2, 3, 8, 4, 5, 6, 9, 7, 10"; request A.3: "14 SERVING, .. after 6 and before 9"; request A.6: "15 RANGE, .. after 8; the read's own
--- checks follow"
+-- checks follow"; request A.8: "16 BUSY, .. after 8 and before 15; 17 IDLE, .. at the same place"
 abbrev pub storeOrder : List Refusal
-storeOrder = Size ∷ Area ∷ Long ∷ Empty ∷ Range ∷ Count ∷ Node ∷ Repeat ∷ Serving ∷ Down ∷ Short ∷ Disagree ∷ []
+storeOrder = Size ∷ Area ∷ Long ∷ Empty ∷ Busy ∷ Idle ∷ Range ∷ Count ∷ Node ∷ Repeat ∷ Serving ∷ Down ∷ Short ∷ Disagree ∷ []
 
 -- "Board level: 1, 3, 4, 5, 6, 2, 7, 10"; request A.1: "12 TEXT .. before all else; 13 MIXED .. after 12 and before 4"
 abbrev pub boardOrder : List Refusal

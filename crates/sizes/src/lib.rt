@@ -20,6 +20,8 @@ pub enum Refusal {
     Mixed,
     Serving,
     Range,
+    Busy,
+    Idle,
 }
 
 // What a check answers: nothing is wrong, or the refusal to give.
@@ -62,6 +64,8 @@ impl Refusal {
             Refusal::Mixed => 13,
             Refusal::Serving => 14,
             Refusal::Range => 15,
+            Refusal::Busy => 16,
+            Refusal::Idle => 17,
         }
     }
 }

@@ -1,42 +1,62 @@
 -- What demand 3 says, said of what the methods gave.
 -- Assumes nothing.
 use mathlib.Core.Path.{_≡_, refl, sym, ap, _∙_}
-use mathlib.Core.Bool.{true}
 use mathlib.Core.List.{List, [], _∷_, _++_}
 use Prim.Native.Nat.{ℕ}
-use Rattle.sizes.specs.Refusals.{said, Said}
+use Rattle.sizes.specs.Refusals.{Said}
 use Rattle.store_spec.specs.Record.{held}
-use Rattle.store_spec.specs.Calls.{StoreOutcome}
-use Rattle.store_spec.specs.Ledger.{repair, read, act}
+use Rattle.store_spec.specs.Calls.{repairCall}
+use Rattle.store_spec.specs.Both.{Outcome, beside, repairBoth}
+use Rattle.store_spec.specs.Ledger.{repair, call, powerFails, Step, act}
 use Rattle.store_spec.specs.Demand3.{Repaired}
-use Rattle.store_spec.proofs.Demand3.{accepted-repair}
-use Rattle.store.specs.declared.Store.{Store}
-use Rattle.store.specs.Handing.{recordIn}
-use Rattle.store.specs.Demand3.{Given, gave, Meets, ending}
+use Rattle.store_spec.specs.Follows.{Given, Moment, gave, anew, Follows, handedOn, areaAt, packetsAt, ending}
+use Rattle.store_spec.proofs.Demand3.{accepted-both}
+use Rattle.store_spec.proofs.Follows.{follows-laws}
+use Rattle.store.specs.Demand3.{Records, keptIn, besideIn, Meets}
 use Rattle.store.specs.Gives.{CodeGives}
 
-module _ (s : Store) (area fresh helpers standIns : List ℕ) (h : Given) (m : Meets s area (repair fresh helpers standIns) h) (ok : said (h .handed .answer) .refusal ≡ 0) where
-  is-repaired : Repaired (recordIn s) area fresh helpers standIns
+module _ (x : Records) (area fresh helpers standIns : List ℕ) (g : Given Records) (m : Meets x area (repair fresh helpers standIns) g) (ok : g .answer .refusal ≡ 0) where
+  is-repaired : (repairBoth (keptIn x) (besideIn x) area fresh helpers standIns ≡ beside (besideIn x) (repairCall (keptIn x) area fresh helpers standIns))
+      × Repaired (keptIn x) area fresh helpers standIns
   unfolding act
-  is-repaired = accepted-repair (recordIn s) area fresh helpers standIns (ap (λ (o : StoreOutcome). o .answer .refusal) (sym m) ∙ ok)
+  is-repaired = accepted-both (keptIn x) (besideIn x) area fresh helpers standIns (ap (λ (o : Outcome). o .answer .refusal) (sym m) ∙ ok)
 
-ending-last : (s : Store) (area : List ℕ) (hs : List Given) (h : Given) → ending s area (hs ++ (h ∷ [])) ≡ record { kept = recordIn (h .handed .store); area = h .area }
-ending-last s area [] h = refl
-ending-last s area (g ∷ hs) h = ending-last (g .handed .store) (g .area) hs h
+-- a run ends where the last of its events ended
+ends-last : (ts : List Step) (run : List (Moment Records)) (x : Records) (area packets : List ℕ) → Follows Records keptIn besideIn x ts run → (t : Step) (h : Moment Records)
+    → ending Records keptIn besideIn x area packets (ts ++ (t ∷ [])) (run ++ (h ∷ []))
+    ≡ ending Records keptIn besideIn (handedOn Records keptIn besideIn h) (areaAt Records keptIn besideIn (t .area) h)
+    (packetsAt Records keptIn besideIn (ending Records keptIn besideIn x area packets ts run .packets) (t .event) h) [] []
+ends-last [] [] x area packets r t h = refl
+ends-last [] (m ∷ ms) x area packets r t h = absurd r
+ends-last (u ∷ us) [] x area packets r t h = absurd r
+ends-last (u ∷ us) (m ∷ ms) x area packets r t h =
+    ends-last us ms (handedOn Records keptIn besideIn m) (areaAt Records keptIn besideIn (u .area) m) (packetsAt Records keptIn besideIn packets (u .event) m) (r .1) t h
 
 pub code-gives : CodeGives
 unfolding act
 code-gives = record {
   record-is = λ s. refl;
-  gave-is = λ h. refl;
-  ending-none = λ s area. refl;
-  ending-last = ending-last;
-  none-run = λ s. tt;
-  more-run = λ s t ts h hs m r. (m, r);
-  reads = λ s area b k lent a boards output count diff up room h m. m ∙ k .gives lent a boards output count diff up room;
-  moved = λ s area fresh helpers standIns h m ok.
-      let p = is-repaired s area fresh helpers standIns h m ok in
-      ap (λ (o : StoreOutcome). o .answer .reported) m ∙ ap (λ (a : Said). a .reported) (p .moved) ∙ p .moved-is;
-  has = λ s area fresh helpers standIns h m ok i e.
-      ap (λ (o : StoreOutcome). held (recordIn s) (o .area) i) m ∙ is-repaired s area fresh helpers standIns h m ok .has i e;
+  running-is = λ p. refl;
+  handed-is = λ h area output packets. refl;
+  gave-is = λ h area output packets. refl;
+  runs = follows-laws Records keptIn besideIn;
+  ending-none = λ x area. refl;
+  ending-last = λ x area ts run r now c g. ends-last ts run x area [] r (record { area = now; event = call c }) (gave g);
+  ending-fails = λ x area ts run r now p y. ends-last ts run x area [] r (record { area = now; event = powerFails p }) (anew y);
+  reads = λ x area packets b k lent a boards output count diff up room g m. m ∙ k .gives lent a boards output count diff up room;
+  finishes = λ x area packets b k r e lent a lying long same allowance most g m.
+      let w = k .finishes r e lent a lying long same allowance most in (
+        w .would-be-taken,
+        ap (λ (o : Outcome). o .answer) m ∙ w .answers,
+        ap (λ (o : Outcome). o .handed) m ∙ w .same-record,
+        ap (λ (o : Outcome). o .running) m ∙ w .same-running,
+        ap (λ (o : Outcome). o .area) m ∙ w .same-area,
+        ap (λ (o : Outcome). o .packets) m ∙ w .same-packets,
+      );
+  moved = λ x area fresh helpers standIns g m ok.
+      let p = is-repaired x area fresh helpers standIns g m ok in
+      ap (λ (o : Outcome). o .answer .reported) (m ∙ p .0) ∙ ap (λ (a : Said). a .reported) (p .1 .moved) ∙ p .1 .moved-is;
+  has = λ x area fresh helpers standIns g m ok i e.
+      let p = is-repaired x area fresh helpers standIns g m ok in
+      ap (λ (o : Outcome). held (keptIn x) (o .area) i) (m ∙ p .0) ∙ p .1 .has i e;
 }

@@ -3,6 +3,7 @@ pub mod Readable
 pub mod ReadCall
 pub mod RepairCall
 pub mod EditCall
+pub mod StepCall
 pub mod Demand3
 pub mod Gives
 pub mod Contracts

@@ -1,32 +1,19 @@
--- What the kernels of a read and of an edit ask, from what the checks before them told.
+-- What the kernels of a read and of an edit ask, of a record and k boards that can be read from.
 -- Assumes nothing.
 use Prim.Native.Nat.{ℕ}
-use mathlib.Core.Path.{_≡_}
-use mathlib.Core.Bool.{true}
 use mathlib.Core.List.{List}
-use lib.ListN.{length}
-use Rattle.lists.specs.Tests.{below, different}
-use Rattle.store_spec.specs.Record.{Record, sound, areaLen}
-use Rattle.shared_checks.proofs.Facts.{Ready, ready}
+use Rattle.store_spec.specs.Record.{Record}
+use Rattle.shared_checks.proofs.Facts.{ready}
 use Rattle.decode_stripe.specs.Steps.{Asked}
+use Rattle.store.specs.Steps.{Readable}
 
-pub record Readable (s : Record) (m : ℕ) (boards : List ℕ) : Type 0 where
-  pub is-ready : Ready s
-  pub is-asked : Asked (s .sizes) (s .points) boards
-  pub area-is : m ≡ areaLen s
-
-pub readable : (s : Record) (m : ℕ) (boards : List ℕ) → sound s ≡ true → m ≡ areaLen s
-    → length boards ≡ s .sizes .k → below (s .sizes .n) boards ≡ true → different boards ≡ true → Readable s m boards
-readable s m boards h a b k d =
-    let r = ready s h in
+pub read-asked : (s : Record) (m : ℕ) (boards : List ℕ) → Readable s m boards → Asked (s .sizes) (s .points) boards
+read-asked s m boards f =
+    let r = ready s (f .is-sound) in
     record {
-      is-ready = r;
-      is-asked = record {
-        sized = r .stated .is-legal;
-        distinct = r .points-taken .differ;
-        counted = b;
-        known = k;
-        unlike = d;
-      };
-      area-is = a;
+      sized = r .stated .is-legal;
+      distinct = r .points-taken .differ;
+      counted = f .count;
+      known = f .named-below;
+      unlike = f .all-different;
     }

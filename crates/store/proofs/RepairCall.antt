@@ -1,7 +1,7 @@
 -- A repair, at the record's points: what it hands on where its check refuses, and where it passes.
 -- Assumes nothing.
 use Prim.Native.Nat.{ℕ, _+_, _*_, _-_, _<_}
-use mathlib.Core.Path.{_≡_, sym, ap, ap₂, _∙_}
+use mathlib.Core.Path.{_≡_, refl, sym, ap, ap₂, _∙_}
 use mathlib.Core.Bool.{Bool}
 use mathlib.Core.List.{List, [], _++_}
 use native.Mathlib.Omega.{arith}
@@ -14,17 +14,21 @@ use Rattle.sizes.specs.declared.Check.{Check}
 use Rattle.sizes.specs.declared.Check.the-variants.{Pass, Refuse}
 use Rattle.sizes.specs.Sizing.{α}
 use Rattle.sizes.specs.Refusals.{first, storeOrder}
-use Rattle.sizes.proofs.Legal.{legal-facts, row-fits}
+use Rattle.sizes.proofs.Legal.{row-fits}
 use Rattle.store_spec.specs.Record.{Record, stripeCount, partLen, withMarks, turnOn}
-use Rattle.store_spec.specs.Packets.{standInsEach}
-use Rattle.store_spec.specs.Calls.{StoreOutcome, accepted, refused, repairLines, repairDone, repairCall}
+use Rattle.store_spec.specs.Packets.{standInsEach, repairPackets, total}
+use Rattle.store_spec.specs.Calls.{accepted, settle, listLines, repairLines, repairDone, repairCall, refused}
+use Rattle.store_spec.specs.Running.{Running, runningBy}
+use Rattle.store_spec.specs.Both.{Outcome, beside, repairLinesBoth, repairBoth, startCall}
 use Rattle.store_spec.proofs.Records.{repair-facts, sound-facts}
+use Rattle.store_spec.proofs.Beside.{alone-busy}
 use Rattle.store_spec.proofs.Real.{code-lengths}
 use Rattle.store_spec.proofs.Repair.{moved-is}
 use Rattle.puts.specs.Steps.{puts}
 use Rattle.repair_stripe.specs.Steps.{DifferentRuns, rebuilt}
-use Rattle.repair_check.proofs.Repairable.{Repairable}
+use Rattle.repair_check.proofs.Repairable.{Repairable, repairable}
 use Rattle.repair_seam.proofs.Repaired.{namedOf, runOf, repaired}
+use Rattle.store.specs.Handing.{turnedDown}
 use Rattle.store.proofs.Settled.{refused-by, done-by}
 
 -- no fresh board names a board twice, in the list of all that are named
@@ -44,17 +48,13 @@ runs-named s m fresh helpers standIns f = record { each = λ a h. ap different (
         ∙ ap₂ _+_ (length-piece d b helpers (omega (arith, f .helper-count, row-fits b (length fresh) d h)))
         (length-piece e b standIns (omega (arith, f .stand-in-count, row-fits b (length fresh) e h)))
 
+-- the work alone, of a repair that passes
 module _ (s : Record) (area fresh helpers standIns : List ℕ) where
-  abbrev pub checked : Check
-  checked = first storeOrder (repairLines s (length area) fresh helpers standIns)
+  abbrev alone : Check
+  alone = first storeOrder (repairLines s (length area) fresh helpers standIns)
 
-  pub repair-refuses : {r : Check} {x : Refusal} → r ≡ checked → r ≡ Refuse x → refused s area [] x ≡ repairCall s area fresh helpers standIns
-  unfolding repairCall
-  repair-refuses e h = refused-by (refused s area []) (repairDone s area fresh helpers standIns) e h
-
-  -- what a repair hands on with this answer, these marks and this area
-  abbrev pub mended : ℕ → List Bool → List ℕ → StoreOutcome
-  mended moved marks after = accepted moved (withMarks s marks) after []
+  pub repair-repairable : alone ≡ Pass → Repairable s (length area) fresh helpers standIns
+  repair-repairable h = repairable s (length area) fresh helpers standIns (repair-facts s (length area) fresh helpers standIns h)
 
   -- stripe t of the a-th fresh board
   abbrev pub stripe : ℕ → ℕ → List ℕ
@@ -64,18 +64,61 @@ module _ (s : Record) (area fresh helpers standIns : List ℕ) where
   abbrev pub restored : ℕ → List ℕ
   restored count = puts (λ a. getD fresh a 0 * partLen s) (λ a. join count (stripe a)) (length fresh) area
 
+  pub repair-rebuilds : (after : List ℕ) (count : ℕ) → alone ≡ Pass → count ≡ stripeCount s → after ≡ restored count
+      → after ≡ repairDone s area fresh helpers standIns .area
+  unfolding repairCall
+  repair-rebuilds after count h ec ea =
+      let taken : repairCall s area fresh helpers standIns .answer .refusal ≡ 0 =
+      ap (λ (c : Check). settle c (refused s area []) (repairDone s area fresh helpers standIns) .answer .refusal) h in
+      ea ∙ ap restored ec ∙ repaired s area fresh helpers standIns (repair-facts s (length area) fresh helpers standIns h) taken
+
   abbrev bytes : ℕ → ℕ
   bytes count = count * length fresh * (2 * s .sizes .d + s .sizes .r - 1)
 
-  pub repair-works : (after : List ℕ) (marks : List Bool) (count moved : ℕ) → checked ≡ Pass → count ≡ stripeCount s
-      → moved ≡ bytes count → marks ≡ turnOn fresh (s .marks) → after ≡ restored count → mended moved marks after ≡ repairCall s area fresh helpers standIns
-  unfolding repairCall
-  repair-works after marks count moved p ec eb em ea =
-      let f = repair-facts s (length area) fresh helpers standIns p in
+  pub repair-moves : (moved count : ℕ) → alone ≡ Pass → count ≡ stripeCount s → moved ≡ bytes count → moved ≡ total (repairPackets s area fresh helpers standIns)
+  repair-moves moved count h ec eb =
+      let f = repair-facts s (length area) fresh helpers standIns h in
       let legal = sound-facts s (f .is-sound) .is-legal in
+      eb ∙ ap bytes ec ∙ sym (moved-is s area fresh helpers standIns (length area) (code-lengths (s .points) (s .sizes) legal) f)
+
+module _ (s : Record) (p : Running) (area fresh helpers standIns : List ℕ) where
+  abbrev pub checked : Check
+  checked = first storeOrder (repairLinesBoth s p (length area) fresh helpers standIns)
+
+  pub repair-refuses : {r : Check} {x : Refusal} → r ≡ checked → r ≡ Refuse x → turnedDown s p area [] [] x ≡ repairBoth s p area fresh helpers standIns
+  unfolding repairBoth
+  repair-refuses e h = refused-by (turnedDown s p area [] []) (beside p (repairDone s area fresh helpers standIns)) e h
+
+  -- the call alone passes too
+  pub repair-alone : checked ≡ Pass → first storeOrder (repairLines s (length area) fresh helpers standIns) ≡ Pass
+  unfolding repairLinesBoth repairLines listLines
+  repair-alone h = alone-busy s p (p .running) (drop 1 (repairLines s (length area) fresh helpers standIns)) refl h .0
+
+  -- what the check told
+  pub repair-asks : checked ≡ Pass → Repairable s (length area) fresh helpers standIns
+  repair-asks h = repair-repairable s area fresh helpers standIns (repair-alone h)
+
+  -- what a repair hands on with this answer, these marks and this area
+  abbrev pub mended : ℕ → List Bool → List ℕ → Outcome
+  mended moved marks after = beside p (accepted moved (withMarks s marks) after [])
+
+  pub repair-works : (after : List ℕ) (marks : List Bool) (moved : ℕ) → checked ≡ Pass → moved ≡ total (repairPackets s area fresh helpers standIns)
+      → marks ≡ turnOn fresh (s .marks) → after ≡ repairDone s area fresh helpers standIns .area → mended moved marks after ≡ repairBoth s p area fresh helpers standIns
+  unfolding repairBoth
+  repair-works after marks moved h eb em ea =
       let done = repairDone s area fresh helpers standIns in
-      let d = done-by (refused s area []) done p in
-      let sent = moved-is s area fresh helpers standIns (length area) (code-lengths (s .points) (s .sizes) legal) f in
-      let whole : after ≡ done .area =
-      ea ∙ ap restored ec ∙ repaired s area fresh helpers standIns f (ap (λ (o : StoreOutcome). o .answer .refusal) (sym d)) in
-      ap₂ (mended moved) em whole ∙ ap (λ (n : ℕ). mended n (turnOn fresh (s .marks)) (done .area)) (eb ∙ ap bytes ec ∙ sym sent) ∙ d
+      ap₂ (mended moved) em ea ∙ ap (λ (n : ℕ). mended n (turnOn fresh (s .marks)) (done .area)) eb ∙ done-by (turnedDown s p area [] []) (beside p done) h
+
+  -- ---- start, by the same lines
+
+  -- what a start hands on with this record of a repair
+  abbrev begun : Running → Outcome
+  begun q = beside q (accepted 0 s area [])
+
+  pub start-refuses : {r : Check} {x : Refusal} → r ≡ checked → r ≡ Refuse x → turnedDown s p area [] [] x ≡ startCall s p area fresh helpers standIns
+  unfolding startCall
+  start-refuses e h = refused-by (turnedDown s p area [] []) (begun (runningBy fresh helpers standIns 0)) e h
+
+  pub start-works : (q : Running) → checked ≡ Pass → q ≡ runningBy fresh helpers standIns 0 → begun q ≡ startCall s p area fresh helpers standIns
+  unfolding startCall
+  start-works q h e = ap begun e ∙ done-by (turnedDown s p area [] []) (begun (runningBy fresh helpers standIns 0)) h

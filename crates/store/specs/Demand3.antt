@@ -1,51 +1,67 @@
--- Demand 3 of the code: what holds of any list of calls of the methods. A run is what the calls gave back, each by its method's contract.
+-- Demand 3 of the code: what holds of any list of events of the methods, by the crate store_spec's `Follows`. A run is what the calls gave back, each by its method's
+-- contract on the records that the last one handed on, and after a power failure the records that the calls after it are given.
 -- proofs/Demand3.antt has `code-demand-3 : CodeDemand3`.
 -- Assumes nothing.
 use mathlib.Core.Path.{_≡_}
-use mathlib.Core.List.{List, [], _∷_, map}
+use mathlib.Core.List.{List, []}
 use Prim.Native.Nat.{ℕ}
 use lib.ListN.{length}
 use Rattle.sizes.specs.declared.Sizes.{Sizes}
 use Rattle.sizes.specs.Refusals.{said}
-use Rattle.store_spec.specs.Calls.{StoreOutcome, setUpCall}
-use Rattle.store_spec.specs.Ledger.{Call, repair, Step, State, Reply, replyOf, act, Allowed, openBook, bookReplies, bookFinal}
-use Rattle.store_spec.specs.Demand3.{Intact, Repaired, begun, calls}
+use Rattle.store_spec.specs.Record.{Record}
+use Rattle.store_spec.specs.Running as spec
+use Rattle.store_spec.specs.Both.{setUpBoth}
+use Rattle.store_spec.specs.Ledger.{Call, repair, call, Step, State, Reply, Allowed, openBook, bookReplies, bookFinal}
+use Rattle.store_spec.specs.Demand3.{Intact, Repaired, begun, events}
+use Rattle.store_spec.specs.Follows as follow
+use Rattle.record.specs.declared.Running.{Running}
+use Rattle.record.specs.Records.{runningIn}
 use Rattle.store.specs.declared.Store.{Store}
 use Rattle.store.specs.declared.Handed.{Handed}
-use Rattle.store.specs.Handing.{recordIn, outcomeIn}
+use Rattle.store.specs.Handing.{recordIn, outcomeBoth}
 
--- what one call gave back: what it hands on, and area and output as it left them
-pub record Given : Type 0 where
-  pub handed : Handed
-  pub area : List ℕ
-  pub output : List ℕ
+-- both records, as a call takes them and hands them on
+pub record Records : Type 0 where
+  pub store : Store
+  pub running : Running
 
-abbrev pub gave : Given → StoreOutcome
-gave h = outcomeIn (h .handed) (h .area) (h .output)
+abbrev pub keptIn : Records → Record
+keptIn x = recordIn (x .store)
 
--- the contract of the call's method, for a call on this store with this area: it gave what the definition gives
-abbrev pub Meets : Store → List ℕ → Call → Given → Type 0
-Meets s area call h = gave h ≡ act (record { kept = recordIn s; area = area }) call
+abbrev pub besideIn : Records → spec.Running
+besideIn x = runningIn (x .running)
 
--- each call is on the store that the call before it handed on
-abbrev pub Run : Store → List Step → List Given → Type 0
-Run s [] [] = Unit
-Run s [] (h ∷ hs) = ⊥
-Run s (t ∷ ts) [] = ⊥
-Run s (t ∷ ts) (h ∷ hs) = Meets s (t .area) (t .call) h × Run (h .handed .store) ts hs
+abbrev pub handedOn : Handed → Records
+handedOn h = record { store = h .store; running = h .running }
+
+-- what one call gave back: what it hands on, and the lent bytes as it left them
+abbrev pub gaveBack : Handed → List ℕ → List ℕ → List ℕ → follow.Given Records
+gaveBack h area output packets = record { handed = handedOn h; answer = said (h .answer); area = area; output = output; packets = packets }
+
+-- the contract of the call's method, for a call on these records with this area: it gave what the definition gives
+abbrev pub Meets : Records → List ℕ → Call → follow.Given Records → Type 0
+Meets x area c g = follow.Meets Records keptIn besideIn x area (call c) (follow.gave g)
+
+-- each event is on the records that the one before it handed on
+abbrev pub Run : Records → List Step → List (follow.Moment Records) → Type 0
+Run x steps run = follow.Follows Records keptIn besideIn x steps run
+
+abbrev pub repliesIn : List (follow.Moment Records) → List Reply
+repliesIn run = follow.repliesIn Records keptIn besideIn run
 
 -- where it ends
-abbrev pub ending : Store → List ℕ → List Given → State
-ending s area [] = record { kept = recordIn s; area = area }
-ending s area (h ∷ hs) = ending (h .handed .store) (h .area) hs
+abbrev pub ending : Records → List ℕ → List Step → List (follow.Moment Records) → State
+ending x area steps run = follow.ending Records keptIn besideIn x area [] steps run
 
 -- the answers of a run are the ledger's; where it ends, boards in service hold their shares; and in each accepted repair of the method, in the
 -- run or not, fresh boards get the packets and hold the shares that demand 3 says
 abbrev pub CodeDemand3 : Type 0
 CodeDemand3 =
-    (old : Store) (z : Sizes) (xs : List ℕ) (c : ℕ) (new : Handed) → outcomeIn new [] [] ≡ setUpCall (recordIn old) z xs c → said (new .answer) .refusal ≡ 0
-    → (area : List ℕ) (steps : List Step) (run : List Given) → Allowed (begun (recordIn old) z xs c area) (openBook z xs c (length area)) steps → Run (new .store) steps run
-    → (map (λ h. replyOf (gave h)) run ≡ bookReplies (openBook z xs c (length area)) (calls steps))
-    × Intact (ending (new .store) area run) (bookFinal (openBook z xs c (length area)) (calls steps))
-    × ((s : Store) (any fresh helpers standIns : List ℕ) (h : Given) → Meets s any (repair fresh helpers standIns) h → said (h .handed .answer) .refusal ≡ 0
-    → Repaired (recordIn s) any fresh helpers standIns)
+    (old : Store) (p : Running) (z : Sizes) (xs : List ℕ) (c : ℕ) (new : Handed)
+    → outcomeBoth new [] [] [] ≡ setUpBoth (recordIn old) (runningIn p) z xs c → said (new .answer) .refusal ≡ 0
+    → (area : List ℕ) (steps : List Step) (run : List (follow.Moment Records))
+    → Allowed (begun (recordIn old) (runningIn p) z xs c area) (openBook z xs c (length area)) steps → Run (handedOn new) steps run
+    → (repliesIn run ≡ bookReplies (openBook z xs c (length area)) (events steps))
+    × Intact (ending (handedOn new) area steps run) (bookFinal (openBook z xs c (length area)) (events steps))
+    × ((x : Records) (any fresh helpers standIns : List ℕ) (g : follow.Given Records) → Meets x any (repair fresh helpers standIns) g → g .answer .refusal ≡ 0
+    → Repaired (keptIn x) any fresh helpers standIns)

@@ -1,3 +1,4 @@
 pub mod Handing
+pub mod Steps
 pub mod Demand3
 pub mod Gives

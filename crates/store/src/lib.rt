@@ -1,40 +1,53 @@
-//! Document 01, the store: its record, and the calls as methods by value. Each hands on a record beside its answer, and meets its definition in
-//! the crate `store_spec`, for all input: the answer, the record, and every lent byte.
+//! Document 01, the store: its record, and the calls as methods by value. Each takes the record of a started repair beside it (request A.8), hands on
+//! both records with its answer, and meets its definition in the crate `store_spec`, for all input: the answer, the records, and every lent byte.
 ghost use mathlib.Core.Path.{_≡_};
+ghost use mathlib.Core.Bool.{not};
 ghost use mathlib.Core.List.{List, []};
 ghost use Prim.Native.Nat.{ℕ, _+_, _*_, _-_, _≤_};
-ghost use Rattle.store_spec.specs.Calls.{refused, setUpCall, writeCall, loseCall, repairCall, readCall};
-ghost use Rattle.store_spec.specs.Edit.{editCall};
+ghost use lib.ListN.{length};
+ghost use Rattle.lists.specs.Tests.{given};
+ghost use Rattle.sizes.specs.declared.Check.the-variants.{Pass};
+ghost use Rattle.sizes.specs.declared.Refusal.the-variants.{Disagree};
+ghost use Rattle.sizes.specs.Refusals.{_when_, first, storeOrder};
+ghost use Rattle.line_checks.specs.Steps.{asked};
+ghost use Rattle.store_spec.specs.Packets.{repairPackets, total};
+ghost use Rattle.store_spec.specs.Calls.{repairLines, readLines, fileHeld, repairDone, readDone};
+ghost use Rattle.store_spec.specs.Edit.{editLines, editDone};
+ghost use Rattle.store_spec.specs.Both.{setUpBoth, writeBoth, loseBoth, repairBoth, readBoth, editBoth, startCall, stepCall};
 ghost use Rattle.store_checks.specs.Steps.{Bounded};
-ghost use Rattle.store.specs.Handing.{recordIn, outcomeIn};
+ghost use Rattle.decode_stripe.specs.Steps.{Asked};
+ghost use Rattle.decode_setup.specs.Steps.{Made};
+ghost use Rattle.record.specs.Records.{recordOf, runningIn};
+ghost use Rattle.store.specs.Handing.{recordIn, outcomeBoth, turnedDown};
+ghost use Rattle.store.specs.Steps.{Readable};
+use record::Kept;
+use record::Running;
 use sizes::Answer;
 use sizes::Check;
 use sizes::Refusal;
 use sizes::Sizes;
 
-// The sizes, a point for each board, the capacity in stripes, whether a file was accepted, its length, and a mark for each board: in service or not.
+// A store is its record: the sizes, a point for each board, the capacity in stripes, whether a file was accepted, its length, and a mark for each
+// board: in service or not.
 pub struct Store {
-    pub sizes: Sizes,
-    pub points: [u8; 32],
-    pub capacity: usize,
-    pub written: bool,
-    pub length: usize,
-    pub marks: [bool; 32],
+    pub record: Kept,
 }
 
-// What a call hands on: the record after it, and its answer.
+// What a call hands on: both records after it, and its answer.
 pub struct Handed {
     pub store: Store,
+    pub running: Running,
     pub answer: Answer,
 }
 
-// A refused call hands the record back as it came.
-fn refuse(kept: Store, x: Refusal) -> Handed
-    ensures { λ r. ⌜ ((area output : List ℕ) → outcomeIn r area output ≡ refused (recordIn kept) area output x) ⌝ }
+// A refused call hands both records back as they came.
+fn refuse(kept: Store, running: Running, x: Refusal) -> Handed
+    ensures { λ r. ⌜ ((area output packets : List ℕ) → outcomeBoth r area output packets ≡ turnedDown (recordIn kept) (runningIn running) area output packets x) ⌝ }
 {
     let answer = Answer::Refused(x);
     Handed {
         store: kept,
+        running: running,
         answer: answer,
     }
 }
@@ -47,84 +60,170 @@ fn bytes_moved(sizes: Sizes, t: usize, stripes: usize) -> usize
     stripes * t * (2 * sizes.d + sizes.r - 1)
 }
 
+// Rebuilds the fresh boards in the area, and answers the bytes that are moved.
+fn rebuild(
+    kept: Kept,
+    fresh: &[usize],
+    helpers: &[usize],
+    standins: &[usize],
+    area: &mut [u8],
+) -> usize
+    requires { ⌜ first storeOrder (repairLines (recordOf kept) (length (now area)) (now fresh) (now helpers) (now standins)) ≡ Pass ⌝ }
+    ensures { λ r. ⌜ r ≡ total (repairPackets (recordOf kept) (now (area .entry)) (now (fresh .entry)) (now (helpers .entry)) (now (standins .entry))) ⌝ }
+    ensures { λ _. ⌜ now (area .exit) ≡ repairDone (recordOf kept) (now (area .entry)) (now (fresh .entry)) (now (helpers .entry)) (now (standins .entry)) .area ⌝ }
+{
+    let sizes = kept.sizes;
+    let points = kept.points;
+    let mut inverses = [0u8; 256];
+    inverses::fill_inverses(&mut inverses);
+    let stripes = checks::stripe_count(sizes, kept.length);
+    repair_boards::repair_shares(
+        sizes,
+        kept.capacity,
+        &points,
+        &inverses,
+        stripes,
+        fresh,
+        helpers,
+        standins,
+        area,
+    );
+    bytes_moved(sizes, fresh.len(), stripes)
+}
+
+// The tables to read from k boards.
+fn fill_tables(kept: Kept, boards: &[usize], tables: &mut [u8])
+    requires { ⌜ Asked (kept .sizes) (kept .points) (now boards) × (length (now tables) ≡ 49152) ⌝ }
+    ensures { λ _. ⌜ Made (kept .sizes) (kept .points) (now (boards .entry)) (now (tables .exit)) ⌝ }
+{
+    let points = kept.points;
+    store_decode::fill_tables(kept.sizes, &points, boards, tables);
+}
+
+// 10 DISAGREE, of k boards with their tables.
+fn check_agrees(kept: Kept, boards: &[usize], area: &[u8], tables: &[u8]) -> Check
+    requires { ⌜ Readable (recordOf kept) (length (now area)) (now boards) × Made (kept .sizes) (kept .points) (now boards) (now tables) ⌝ }
+    ensures { λ r. ⌜ r ≡ asked (Disagree when not (given (fileHeld (recordOf kept) (now (area .entry)) (now (boards .entry))))) ⌝ }
+{
+    let sizes = kept.sizes;
+    let points = kept.points;
+    let count = checks::stripe_count(sizes, kept.length);
+    store_decode::check_agrees(
+        sizes,
+        kept.capacity,
+        &points,
+        kept.length,
+        count,
+        boards,
+        area,
+        tables,
+    )
+}
+
+// The file that k boards hold goes to the beginning of the output.
+fn read_file(kept: Kept, boards: &[usize], area: &[u8], tables: &[u8], out: &mut [u8])
+    requires { ⌜ (first storeOrder (readLines (recordOf kept) (now area) (now boards) (now out)) ≡ Pass) × Made (kept .sizes) (kept .points) (now boards) (now tables) ⌝ }
+    ensures { λ _. ⌜ now (out .exit) ≡ readDone (recordOf kept) (now (area .entry)) (now (boards .entry)) (now (out .entry)) .output ⌝ }
+{
+    let sizes = kept.sizes;
+    let points = kept.points;
+    let count = checks::stripe_count(sizes, kept.length);
+    store_decode::file(
+        sizes,
+        kept.capacity,
+        &points,
+        kept.length,
+        count,
+        boards,
+        area,
+        tables,
+        out,
+    );
+}
+
+// Puts bytes into the file in all boards in service; the file is read from k boards.
+fn edit_boards(
+    kept: Kept,
+    offset: usize,
+    bytes: &[u8],
+    boards: &[usize],
+    tables: &[u8],
+    area: &mut [u8],
+)
+    requires { ⌜ (first storeOrder (editLines (recordOf kept) (now area) offset (now bytes) (now boards)) ≡ Pass) × Made (kept .sizes) (kept .points) (now boards) (now tables) ⌝ }
+    ensures { λ _. ⌜ now (area .exit) ≡ editDone (recordOf kept) (now (area .entry)) offset (now (bytes .entry)) (now (boards .entry)) .area ⌝ }
+{
+    let sizes = kept.sizes;
+    let points = kept.points;
+    let marks = kept.marks;
+    store_edit::edit_shares(
+        sizes,
+        kept.capacity,
+        &points,
+        &marks,
+        offset,
+        bytes,
+        boards,
+        tables,
+        area,
+    );
+}
+
 impl Store {
-    // A store of these sizes, these points and this capacity, with no file. The record that it is handed is not examined.
-    pub fn set_up(self, sizes: Sizes, points: [u8; 32], capacity: usize) -> Handed
-        ensures { λ r. ⌜ outcomeIn r [] [] ≡ setUpCall (recordIn self) sizes points capacity ⌝ }
+    // A store of these sizes, these points and this capacity, with no file and no repair. The records that it is handed are not examined.
+    pub fn set_up(self, running: Running, sizes: Sizes, points: [u8; 32], capacity: usize) -> Handed
+        ensures { λ r. ⌜ outcomeBoth r [] [] [] ≡ setUpBoth (recordIn self) (runningIn running) sizes points capacity ⌝ }
     {
-        if let Check::Refuse(x) = record_checks::check_set_up(sizes, &points, capacity) {
-            return refuse(self, x);
+        if let Check::Refuse(x) = record_checks::check_set_up(sizes, points, capacity) {
+            return refuse(self, running, x);
         }
+        let next = record::new_kept(sizes, points, capacity);
+        let idle = record::idle();
         Handed {
-            store: Store {
-                sizes: sizes,
-                points: points,
-                capacity: capacity,
-                written: false,
-                length: 0,
-                marks: [false; 32],
-            },
+            store: Store { record: next },
+            running: idle,
             answer: Answer::Done(0),
         }
     }
 
     // Writes a file: each board gets its share, and all n come into service.
-    pub fn write(self, area: &mut [u8], file: &[u8]) -> Handed
-        ensures { λ r. ⌜ outcomeIn r (now (area .exit)) [] ≡ writeCall (recordIn self) (now (area .entry)) (now (file .entry)) ⌝ }
+    pub fn write(self, running: Running, area: &mut [u8], file: &[u8]) -> Handed
+        ensures { λ r. ⌜ outcomeBoth r (now (area .exit)) [] [] ≡ writeBoth (recordIn self) (runningIn running) (now (area .entry)) (now (file .entry)) ⌝ }
     {
-        let sizes = self.sizes;
-        let points = self.points;
-        let capacity = self.capacity;
-        let marks = self.marks;
-        if let Check::Refuse(x) = write_check::check_write(
-            sizes,
-            &points,
-            capacity,
-            self.written,
-            self.length,
-            &marks,
-            area.len(),
-            file,
-        ) {
-            return refuse(self, x);
+        let kept = self.record;
+        if let Check::Refuse(x) = write_check::check_write(kept, running, area.len(), file) {
+            return refuse(self, running, x);
         }
+        let sizes = kept.sizes;
+        let points = kept.points;
         let count = checks::stripe_count(sizes, file.len());
-        store_write::write_shares(sizes, capacity, &points, file, count, area);
+        store_write::write_shares(sizes, kept.capacity, &points, file, count, area);
+        let marks = store_checks::first_on(sizes.n);
+        let mut next = kept;
+        next.written = true;
+        next.length = file.len();
+        next.marks = marks;
         Handed {
-            store: Store {
-                sizes: sizes,
-                points: points,
-                capacity: capacity,
-                written: true,
-                length: file.len(),
-                marks: store_checks::first_on(sizes.n),
-            },
+            store: Store { record: next },
+            running: running,
             answer: Answer::Done(0),
         }
     }
 
-    // Takes a board out of service.
-    pub fn lose(self, board: usize) -> Handed
-        ensures { λ r. ⌜ ((area : List ℕ) → outcomeIn r area [] ≡ loseCall (recordIn self) area board) ⌝ }
+    // Takes a board out of service. A started repair that names it ends.
+    pub fn lose(self, running: Running, board: usize) -> Handed
+        ensures { λ r. ⌜ ((area : List ℕ) → outcomeBoth r area [] [] ≡ loseBoth (recordIn self) (runningIn running) area board) ⌝ }
     {
-        let sizes = self.sizes;
-        let points = self.points;
-        let marks = self.marks;
-        if let Check::Refuse(x) = record_checks::check_lose(
-            sizes,
-            &points,
-            self.capacity,
-            self.written,
-            self.length,
-            &marks,
-            board,
-        ) {
-            return refuse(self, x);
+        let kept = self.record;
+        if let Check::Refuse(x) = record_checks::check_lose(kept, running, board) {
+            return refuse(self, running, x);
         }
-        let mut next = self;
+        let beside = running_lists::lost_beside(kept, running, board);
+        let mut next = kept;
         next.marks[board] = false;
         Handed {
-            store: next,
+            store: Store { record: next },
+            running: beside,
             answer: Answer::Done(0),
         }
     }
@@ -133,169 +232,146 @@ impl Store {
     // service. Answers the bytes that are moved.
     pub fn repair(
         self,
+        running: Running,
         area: &mut [u8],
         fresh: &[usize],
         helpers: &[usize],
         standins: &[usize],
     ) -> Handed
-        ensures { λ r. ⌜ outcomeIn r (now (area .exit)) [] ≡ repairCall (recordIn self) (now (area .entry)) (now (fresh .entry)) (now (helpers .entry)) (now (standins .entry)) ⌝ }
+        ensures { λ r. ⌜ outcomeBoth r (now (area .exit)) [] [] ≡ repairBoth (recordIn self) (runningIn running) (now (area .entry)) (now (fresh .entry)) (now (helpers .entry)) (now (standins .entry)) ⌝ }
     {
-        let sizes = self.sizes;
-        let points = self.points;
-        let capacity = self.capacity;
-        let written = self.written;
-        let length = self.length;
-        let mut marks = self.marks;
+        let kept = self.record;
         if let Check::Refuse(x) = repair_check::check_repair(
-            sizes,
-            &points,
-            capacity,
-            written,
-            length,
-            &marks,
+            kept,
+            running,
             area.len(),
             fresh,
             helpers,
             standins,
         ) {
-            return refuse(self, x);
+            return refuse(self, running, x);
         }
-        let mut inverses = [0u8; 256];
-        inverses::fill_inverses(&mut inverses);
-        let stripes = checks::stripe_count(sizes, length);
-        let moved = bytes_moved(sizes, fresh.len(), stripes);
-        repair_boards::repair_shares(
-            sizes,
-            capacity,
-            &points,
-            &inverses,
-            stripes,
-            fresh,
-            helpers,
-            standins,
-            area,
-        );
+        let moved = rebuild(kept, fresh, helpers, standins, area);
+        let mut marks = kept.marks;
         store_checks::marks_on(fresh, &mut marks);
+        let mut next = kept;
+        next.marks = marks;
         Handed {
-            store: Store {
-                sizes: sizes,
-                points: points,
-                capacity: capacity,
-                written: written,
-                length: length,
-                marks: marks,
-            },
+            store: Store { record: next },
+            running: running,
             answer: Answer::Done(moved),
         }
     }
 
     // Reads the file from k boards: it goes to the beginning of the output, the rest of which stays.
-    pub fn read(self, area: &[u8], boards: &[usize], out: &mut [u8]) -> Handed
-        ensures { λ r. ⌜ outcomeIn r (now (area .entry)) (now (out .exit)) ≡ readCall (recordIn self) (now (area .entry)) (now (boards .entry)) (now (out .entry)) ⌝ }
+    pub fn read(self, running: Running, area: &[u8], boards: &[usize], out: &mut [u8]) -> Handed
+        ensures { λ r. ⌜ outcomeBoth r (now (area .entry)) (now (out .exit)) [] ≡ readBoth (recordIn self) (runningIn running) (now (area .entry)) (now (boards .entry)) (now (out .entry)) ⌝ }
     {
-        let sizes = self.sizes;
-        let points = self.points;
-        let capacity = self.capacity;
-        let length = self.length;
-        let marks = self.marks;
-        if let Check::Refuse(x) = read_check::check_read(
-            sizes,
-            &points,
-            capacity,
-            self.written,
-            length,
-            &marks,
-            area.len(),
-            boards,
-            out,
-        ) {
-            return refuse(self, x);
+        let kept = self.record;
+        if let Check::Refuse(x) = read_check::check_read(kept, running, area.len(), boards, out) {
+            return refuse(self, running, x);
         }
-        let count = checks::stripe_count(sizes, length);
         let mut tables = [0u8; 49152];
-        store_decode::fill_tables(sizes, &points, boards, &mut tables);
-        if let Check::Refuse(disagree) = store_decode::check_agrees(
-            sizes,
-            capacity,
-            &points,
-            length,
-            count,
-            boards,
-            area,
-            &tables,
-        ) {
-            return refuse(self, disagree);
+        fill_tables(kept, boards, &mut tables);
+        if let Check::Refuse(disagree) = check_agrees(kept, boards, area, &tables) {
+            return refuse(self, running, disagree);
         }
-        store_decode::file(
-            sizes,
-            capacity,
-            &points,
-            length,
-            count,
-            boards,
-            area,
-            &tables,
-            out,
-        );
+        read_file(kept, boards, area, &tables, out);
         Handed {
             store: self,
+            running: running,
             answer: Answer::Done(0),
         }
     }
 
     // Puts bytes into the file from an offset on, in all boards in service: each gets the exclusive or of its share with the share of old against
     // new bytes. The file is read from k boards.
-    pub fn edit(self, area: &mut [u8], offset: usize, bytes: &[u8], boards: &[usize]) -> Handed
-        ensures { λ r. ⌜ outcomeIn r (now (area .exit)) [] ≡ editCall (recordIn self) (now (area .entry)) offset (now (bytes .entry)) (now (boards .entry)) ⌝ }
+    pub fn edit(
+        self,
+        running: Running,
+        area: &mut [u8],
+        offset: usize,
+        bytes: &[u8],
+        boards: &[usize],
+    ) -> Handed
+        ensures { λ r. ⌜ outcomeBoth r (now (area .exit)) [] [] ≡ editBoth (recordIn self) (runningIn running) (now (area .entry)) offset (now (bytes .entry)) (now (boards .entry)) ⌝ }
     {
-        let sizes = self.sizes;
-        let points = self.points;
-        let capacity = self.capacity;
-        let length = self.length;
-        let marks = self.marks;
+        let kept = self.record;
         if let Check::Refuse(x) = edit_check::check_edit(
-            sizes,
-            &points,
-            capacity,
-            self.written,
-            length,
-            &marks,
+            kept,
+            running,
             area.len(),
             offset,
             bytes.len(),
             boards,
         ) {
-            return refuse(self, x);
+            return refuse(self, running, x);
         }
-        let count = checks::stripe_count(sizes, length);
         let mut tables = [0u8; 49152];
-        store_decode::fill_tables(sizes, &points, boards, &mut tables);
-        if let Check::Refuse(disagree) = store_decode::check_agrees(
-            sizes,
-            capacity,
-            &points,
-            length,
-            count,
-            boards,
-            area,
-            &tables,
-        ) {
-            return refuse(self, disagree);
+        fill_tables(kept, boards, &mut tables);
+        if let Check::Refuse(disagree) = check_agrees(kept, boards, area, &tables) {
+            return refuse(self, running, disagree);
         }
-        store_edit::edit_shares(
-            sizes,
-            capacity,
-            &points,
-            &marks,
-            offset,
-            bytes,
-            boards,
-            &tables,
-            area,
-        );
+        edit_boards(kept, offset, bytes, boards, &tables, area);
         Handed {
             store: self,
+            running: running,
             answer: Answer::Done(0),
+        }
+    }
+
+    // Starts a repair, by the lists of a repair, of which no packet is carried yet.
+    pub fn start(
+        self,
+        running: Running,
+        area: &[u8],
+        fresh: &[usize],
+        helpers: &[usize],
+        standins: &[usize],
+    ) -> Handed
+        ensures { λ r. ⌜ outcomeBoth r (now (area .entry)) [] [] ≡ startCall (recordIn self) (runningIn running) (now (area .entry)) (now (fresh .entry)) (now (helpers .entry)) (now (standins .entry)) ⌝ }
+    {
+        let kept = self.record;
+        if let Check::Refuse(x) = repair_check::check_repair(
+            kept,
+            running,
+            area.len(),
+            fresh,
+            helpers,
+            standins,
+        ) {
+            return refuse(self, running, x);
+        }
+        let next = running_lists::started(fresh, helpers, standins);
+        Handed {
+            store: self,
+            running: next,
+            answer: Answer::Done(0),
+        }
+    }
+
+    // Carries at most so many packets of a started repair, each to its place in the packet area. With the last the fresh boards get their shares and
+    // come into service. Answers the packets that it carried.
+    pub fn step(
+        self,
+        running: Running,
+        area: &mut [u8],
+        packets: &mut [u8],
+        allowance: usize,
+    ) -> Handed
+        ensures { λ r. ⌜ outcomeBoth r (now (area .exit)) [] (now (packets .exit)) ≡ stepCall (recordIn self) (runningIn running) (now (area .entry)) (now (packets .entry)) allowance ⌝ }
+    {
+        let kept = self.record;
+        if let Check::Refuse(x) = step_check::check_step(kept, running, area.len(), packets.len()) {
+            return refuse(self, running, x);
+        }
+        let stepped = store_step::step(kept, running, area, packets, allowance);
+        let next = stepped.record;
+        let after = stepped.running;
+        Handed {
+            store: Store { record: next },
+            running: after,
+            answer: Answer::Done(stepped.count),
         }
     }
 }

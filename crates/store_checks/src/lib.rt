@@ -1,4 +1,4 @@
-//! The checks of the store's lines, over the parts of its record, and the marks that its calls turn on. A check answers the refusal where its
+//! The checks of the store's lines, over its record, and the marks that its calls turn on. A check answers the refusal where its
 //! line holds.
 ghost use mathlib.Core.Path.{_≡_};
 ghost use mathlib.Core.Bool.{true, false, not};
@@ -8,14 +8,16 @@ ghost use lib.Dec.{ltb};
 ghost use lib.ListN.{length, getD, drop};
 ghost use Rattle.lists.specs.Lists.{tabulate};
 ghost use Rattle.lists.specs.Tests.{every, below};
-ghost use Rattle.sizes.specs.declared.Refusal.the-variants.{Long, Empty, Down};
+ghost use Rattle.sizes.specs.declared.Refusal.the-variants.{Long, Empty, Busy, Idle, Down};
 ghost use Rattle.sizes.specs.Sizing.{legal, B};
 ghost use Rattle.sizes.specs.Refusals.{_when_};
 ghost use Rattle.board_spec.specs.Calls.{nodeLine};
 ghost use Rattle.store_spec.specs.Record.{allOff, sound, turnOn};
 ghost use Rattle.store_spec.specs.Calls.{recordLine};
 ghost use Rattle.line_checks.specs.Steps.{asked};
-ghost use Rattle.store_checks.specs.Steps.{recordOf, Bounded};
+ghost use Rattle.record.specs.Records.{recordOf};
+ghost use Rattle.store_checks.specs.Steps.{Bounded};
+use record::Kept;
 use sizes::Check;
 use sizes::Refusal;
 use sizes::Sizes;
@@ -34,58 +36,48 @@ pub fn some_on(marks: &[bool], from: usize) -> bool
     false
 }
 
-// Whether a record of these parts, with legal sizes, is one that calls return.
-fn sound_in(
-    sizes: Sizes,
-    points: &[u8],
-    capacity: usize,
-    written: bool,
-    len: usize,
-    marks: &[bool],
-) -> bool
-    requires { ⌜ legal sizes ≡ true ⌝ }
-    ensures { λ r. ⌜ r ≡ sound (recordOf sizes (now (points .entry)) capacity written len (now (marks .entry))) ⌝ }
+// Whether a record with legal sizes is one that calls return.
+fn sound_in(kept: Kept) -> bool
+    requires { ⌜ legal (kept .sizes) ≡ true ⌝ }
+    ensures { λ r. ⌜ r ≡ sound (recordOf kept) ⌝ }
 {
-    if !line_checks::points_taken(sizes, points) {
+    let sizes = kept.sizes;
+    let points = kept.points;
+    let marks = kept.marks;
+    if !line_checks::points_taken(sizes, &points) {
         return false;
     }
-    if capacity < 1 {
+    if kept.capacity < 1 {
         return false;
     }
-    if Sizes::MAX_STRIPES < capacity {
+    if Sizes::MAX_STRIPES < kept.capacity {
         return false;
     }
-    if capacity * sizes.stripe_len() < len {
+    if kept.capacity * sizes.stripe_len() < kept.length {
         return false;
     }
-    if some_on(marks, sizes.n) {
+    if some_on(&marks, sizes.n) {
         return false;
     }
-    if written {
+    if kept.written {
         return true;
     }
-    if 0 < len {
+    if 0 < kept.length {
         return false;
     }
-    if some_on(marks, 0) {
+    if some_on(&marks, 0) {
         return false;
     }
     true
 }
 
-// 1 SIZE of a record of these parts.
-pub fn check_record(
-    sizes: Sizes,
-    points: &[u8],
-    capacity: usize,
-    written: bool,
-    len: usize,
-    marks: &[bool],
-) -> Check
-    ensures { λ r. ⌜ r ≡ asked (recordLine (recordOf sizes (now (points .entry)) capacity written len (now (marks .entry)))) ⌝ }
+// 1 SIZE of a record.
+pub fn check_record(kept: Kept) -> Check
+    ensures { λ r. ⌜ r ≡ asked (recordLine (recordOf kept)) ⌝ }
 {
+    let sizes = kept.sizes;
     if sizes.legal() {
-        if sound_in(sizes, points, capacity, written, len, marks) {
+        if sound_in(kept) {
             return Check::Pass;
         }
     }
@@ -120,6 +112,26 @@ pub fn check_written(written: bool) -> Check
 {
     if !written {
         return Check::Refuse(Refusal::Empty);
+    }
+    Check::Pass
+}
+
+// 16 BUSY.
+pub fn check_busy(running: bool) -> Check
+    ensures { λ r. ⌜ r ≡ asked (Busy when running) ⌝ }
+{
+    if running {
+        return Check::Refuse(Refusal::Busy);
+    }
+    Check::Pass
+}
+
+// 17 IDLE.
+pub fn check_idle(running: bool) -> Check
+    ensures { λ r. ⌜ r ≡ asked (Idle when not running) ⌝ }
+{
+    if !running {
+        return Check::Refuse(Refusal::Idle);
     }
     Check::Pass
 }

@@ -1,25 +1,28 @@
--- The ledger's lines are the store's, line by line, for each call; but SIZE and DISAGREE, which the ledger does not ask.
+-- The ledger's lines are the store's with both records, line by line, for each call; but SIZE and DISAGREE, which the ledger does not ask.
 -- Assumes nothing.
-use Prim.Native.Nat.{ℕ, _-_, _<_}
+use Prim.Native.Nat.{ℕ, _-_, _*_, _<_}
 use mathlib.Core.Path.{_≡_, refl, sym, _∙_, ap, ap₂}
 use mathlib.Core.Bool.{Bool, true, false, not}
 use mathlib.Core.List.{List, [], _∷_, _++_}
+use mathlib.Core.Option.{Option, some, none}
 use native.Mathlib.Omega.{arith}
 use lib.ListN.{length}
 use lib.Dec.{eqb, ltb}
 use Rattle.lists.specs.Lists.{All, tabulate, piece}
-use Rattle.lists.specs.Tests.{among, below, alls, pick, every, different, apart}
+use Rattle.lists.specs.Tests.{among, below, alls, pick, every, different, apart, given}
 use Rattle.lists.proofs.Alls.{all-imp}
 use Rattle.lists.proofs.Tests.{true-false}
 use Rattle.sizes.specs.Refusals.{appliesIn}
-use Rattle.sizes.specs.Sizing.{legal, maxBoards}
+use Rattle.sizes.specs.Sizing.{legal, maxBoards, α, stripes}
 use Rattle.sizes.specs.declared.Refusal.the-variants.{Size}
 use Rattle.sizes.proofs.Legal.{legal-facts}
-use Rattle.sizes.proofs.Alike.{Alike, _and_, end, size, disagree}
+use Rattle.sizes.proofs.Alike.{here, past, Alike, _and_, end, further, size, disagree}
 use Rattle.store_spec.specs.Calls.{writeLines, loseLines, listLines, repairLines, readLines}
 use Rattle.store_spec.specs.Edit.{editLines}
-use Rattle.store_spec.specs.Demand1.{storeLines}
-use Rattle.store_spec.specs.Ledger.{Call, write, lose, repair, read, edit, Book, bookRecord, bookLines}
+use Rattle.store_spec.specs.Running.{Running, freshOf, packetsLen, soundBeside}
+use Rattle.store_spec.specs.Both.{writeLinesBoth, loseLinesBoth, repairLinesBoth, readLinesBoth, editLinesBoth, stepLines}
+use Rattle.store_spec.specs.BothCalls.{storeLines}
+use Rattle.store_spec.specs.Ledger.{Call, write, lose, repair, read, edit, start, step, Book, Repairing, during, bookRecord, bookLength, bookLines, repairAsked}
 use Rattle.store_spec.specs.Packets.{hearNamed}
 use Rattle.store_spec.specs.Record.{Record, sound, areaLen, inService}
 use Rattle.store_spec.proofs.Marks.{mark-at}
@@ -97,56 +100,96 @@ module _ (s : Record) (service : List ℕ) (up : (i : ℕ) → inService s i ≡
   pub down-same : (helpers standIns : List ℕ) → every (inService s) (helpers ++ standIns) ≡ alls (every (among service) helpers ∷ every (among service) standIns ∷ [])
   down-same helpers standIns = every-same (inService s) (among service) (helpers ++ standIns) up ∙ every-append (among service) helpers standIns
 
+-- a record of a repair runs just where the book says so, and then tells the book's fresh boards
+abbrev pub Tallies : Option Repairing → Running → Type 0
+Tallies none p = p .running ≡ false
+Tallies (some r) p = (p .running ≡ true) × (freshOf p ≡ r .fresh)
+
+pub tallies-running : (o : Option Repairing) (p : Running) → Tallies o p → p .running ≡ given o
+tallies-running none p h = h
+tallies-running (some r) p h = h .0
+
 module _ (b : Book) (area : List ℕ) (ok : legal (b .sizes) ≡ true) (low : All (λ i. i < b .sizes .n) (b .service)) (as-long : length area ≡ b .areaLength) where
   pub serves : (i : ℕ) → inService (bookRecord b) i ≡ among (b .service) i
   serves i =
       mark-at (b .service) i
       (all-imp (λ x. x < b .sizes .n) (λ x. x < maxBoards) (λ x h. let k = legal-facts (b .sizes) ok .few in omega arith) (b .service) low)
 
-  area-same : not (eqb (length area) (areaLen (bookRecord b))) ≡ not (eqb (b .areaLength) (areaLen (bookRecord b)))
-  area-same = ap (λ (m : ℕ). not (eqb m (areaLen (bookRecord b)))) as-long
+  area-is : eqb (length area) (areaLen (bookRecord b)) ≡ eqb (b .areaLength) (areaLen (bookRecord b))
+  area-is = ap (λ (m : ℕ). eqb m (areaLen (bookRecord b))) as-long
 
-  pub alike : (call : Call) → Alike (storeLines (bookRecord b) area call) (bookLines b call)
-  unfolding storeLines writeLines loseLines listLines repairLines readLines editLines bookLines
-  alike (write file) = size (area-same and refl and end)
-  alike (lose board) = size (ap not (one-below (b .sizes .n) board) and end)
-  alike (repair fresh helpers standIns) =
-      size
-      (area-same
-      and refl
-      and refl
-      and ap not (three-below (b .sizes .n) fresh helpers standIns)
-      and ap not (repeat-same (b .sizes .d) (b .sizes .r - length fresh) fresh helpers standIns helpers standIns)
-      and ap not (serving-same (bookRecord b) (b .service) serves fresh)
-      and ap not (down-same (bookRecord b) (b .service) serves helpers standIns)
-      and end)
-  alike (read boards output) =
-      size
-      (area-same
-      and refl
-      and refl
-      and refl
-      and refl
-      and ap not (every-same (inService (bookRecord b)) (among (b .service)) boards serves)
-      and refl
-      and disagree end)
-  alike (edit offset bytes boards) =
-      size
-      (area-same
-      and refl
-      and refl
-      and refl
-      and refl
-      and refl
-      and ap not (every-same (inService (bookRecord b)) (among (b .service)) boards serves)
-      and disagree end)
+  module _ (p : Running) (tallies : Tallies (b .repairing) p) where
+    runs : p .running ≡ given (b .repairing)
+    runs = tallies-running (b .repairing) p tallies
+
+    packets-asked : (packets : List ℕ) → pick (p .running) (eqb (length packets) (packetsLen (bookRecord b) (length (freshOf p)))) true
+        ≡ during (b .repairing) true (λ r. eqb (length packets) (stripes (b .sizes) (bookLength b) * length (r .fresh) * α (b .sizes)))
+    packets-asked packets = go (b .repairing) tallies
+      where
+        go : (o : Option Repairing) → Tallies o p
+            → pick (p .running) (eqb (length packets) (packetsLen (bookRecord b) (length (freshOf p)))) true
+            ≡ during o true (λ r. eqb (length packets) (stripes (b .sizes) (bookLength b) * length (r .fresh) * α (b .sizes)))
+        go none h = ap (λ (t : Bool). pick t (eqb (length packets) (packetsLen (bookRecord b) (length (freshOf p)))) true) h
+        go (some r) h =
+            ap₂ {C = Bool} (λ (t : Bool) (l : List ℕ). pick t (eqb (length packets) (packetsLen (bookRecord b) (length l))) true) (h .0) (h .1)
+
+    -- a repair and a start
+    asked : (fresh helpers standIns : List ℕ) → Alike (repairLinesBoth (bookRecord b) p (length area) fresh helpers standIns) (repairAsked b fresh helpers standIns)
+    unfolding repairLinesBoth listLines repairLines repairAsked
+    asked fresh helpers standIns =
+        size
+        (further runs (past refl (past refl here))
+        (ap not area-is
+        and refl
+        and refl
+        and ap not (three-below (b .sizes .n) fresh helpers standIns)
+        and ap not (repeat-same (b .sizes .d) (b .sizes .r - length fresh) fresh helpers standIns helpers standIns)
+        and ap not (serving-same (bookRecord b) (b .service) serves fresh)
+        and ap not (down-same (bookRecord b) (b .service) serves helpers standIns)
+        and end))
+
+    pub alike : (call : Call) → Alike (storeLines (bookRecord b) p area call) (bookLines b call)
+    unfolding storeLines writeLinesBoth loseLinesBoth readLinesBoth editLinesBoth stepLines writeLines loseLines readLines editLines bookLines
+    alike (write file) = size (further runs (past refl (past refl here)) (ap not area-is and refl and end))
+    alike (lose board) = size (ap not (one-below (b .sizes .n) board) and end)
+    alike (repair fresh helpers standIns) = asked fresh helpers standIns
+    alike (read boards output) =
+        size
+        (ap not area-is
+        and refl
+        and refl
+        and refl
+        and refl
+        and ap not (every-same (inService (bookRecord b)) (among (b .service)) boards serves)
+        and refl
+        and disagree end)
+    alike (edit offset bytes boards) =
+        size
+        (further runs (past refl (past refl here))
+        (ap not area-is
+        and refl
+        and refl
+        and refl
+        and refl
+        and refl
+        and ap not (every-same (inService (bookRecord b)) (among (b .service)) boards serves)
+        and disagree end))
+    alike (start fresh helpers standIns) = asked fresh helpers standIns
+    alike (step allowance packets) =
+        size
+        (ap₂ {C = Bool} (λ (t u : Bool). not (alls (t ∷ u ∷ []))) area-is (packets-asked packets)
+        and refl
+        and ap not runs
+        and end)
 
 -- SIZE is off in both
-pub size-same : (b : Book) (area : List ℕ) → not (sound (bookRecord b)) ≡ false → (call : Call)
-    → appliesIn (storeLines (bookRecord b) area call) Size ≡ appliesIn (bookLines b call) Size
-unfolding storeLines writeLines loseLines listLines repairLines readLines editLines bookLines
-size-same b area h (write file) = h
-size-same b area h (lose board) = h
-size-same b area h (repair fresh helpers standIns) = h
-size-same b area h (read boards output) = h
-size-same b area h (edit offset bytes boards) = h
+pub size-same : (b : Book) (p : Running) (area : List ℕ) → not (alls (sound (bookRecord b) ∷ soundBeside (bookRecord b) p ∷ [])) ≡ false → (call : Call)
+    → appliesIn (storeLines (bookRecord b) p area call) Size ≡ appliesIn (bookLines b call) Size
+unfolding storeLines writeLinesBoth loseLinesBoth repairLinesBoth readLinesBoth editLinesBoth stepLines writeLines loseLines listLines repairLines readLines editLines bookLines repairAsked
+size-same b p area h (write file) = h
+size-same b p area h (lose board) = h
+size-same b p area h (repair fresh helpers standIns) = h
+size-same b p area h (read boards output) = h
+size-same b p area h (edit offset bytes boards) = h
+size-same b p area h (start fresh helpers standIns) = h
+size-same b p area h (step allowance packets) = h

@@ -23,7 +23,6 @@ use Rattle.sizes.specs.declared.Refusal.{Refusal}
 use Rattle.sizes.specs.declared.Sizes.{Sizes}
 use Rattle.sizes.proofs.Legal.{legal-facts}
 use Rattle.sizes.proofs.Lines.{one-or-none, refuse-first, clear-first, says-not, says-differ, says-less, says-no-file}
-use Rattle.sizes.proofs.Alike.{alike-at}
 use Rattle.mbcr.specs.Share.{pointed, share, stripe, kept}
 use Rattle.mbcr.proofs.Repair.{length-kept}
 use Rattle.store_spec.specs.Calls.{StoreOutcome, settle, accepted, refused, recordLine, setUpCall, writeLines, writeDone, writeCall, loseLines, loseDone, loseCall}
@@ -34,7 +33,6 @@ use Rattle.store_spec.specs.Edit.{editLines, editDone, editCall}
 use Rattle.store_spec.specs.Demand1.{StoreEnds, Stays, StoreCalls, writeClaims, loseClaims, listClaims, repairClaims, readClaims, editClaims}
 use Rattle.store_spec.specs.Packets.{freshShare, hearNamed, standInsEach}
 use Rattle.store_spec.specs.Record.{Record, newRecord, sound, inService, stripeCount, held, writtenRecord, usedLen, partLen}
-use Rattle.store_spec.proofs.Agree.{alike}
 use Rattle.store_spec.proofs.Area.{held-stripe, length-shares, byte-stays, shares-same}
 use Rattle.store_spec.proofs.Demand3.{set-up-sound, set-up-taken, passes}
 use Rattle.store_spec.proofs.Exact.{read-exact}
@@ -254,7 +252,7 @@ repeat-says d e fresh hs ss named =
     ↔ (alls (different fresh ∷ t ∷ apart fresh named ∷ []) ≡ false))
     (runs-different d e fresh hs ss) (says-not _)
 
-list-each : (s : Record) (fresh helpers standIns : List ℕ) → EachSays (listLines s fresh helpers standIns) (listClaims s fresh helpers standIns)
+pub list-each : (s : Record) (fresh helpers standIns : List ℕ) → EachSays (listLines s fresh helpers standIns) (listClaims s fresh helpers standIns)
 unfolding listLines
 list-each s fresh helpers standIns =
     (says-counts (length fresh) (s .sizes .r) (length helpers) (s .sizes .d) (length standIns) (standInsEach s fresh)
@@ -373,5 +371,4 @@ demand-1 = record {
   write-stays = write-stays;
   repair-stays = repair-stays;
   read-exact = read-exact;
-  lines-agree = λ b area call ok low as-long. alike-at (alike b area ok low as-long call);
 }

@@ -1,23 +1,31 @@
 -- What a call changes in the ledger's book.
 -- Assumes nothing.
-use Prim.Native.Nat.{ℕ}
-use mathlib.Core.Path.{_≡_, refl, sym, _∙_, ap}
-use mathlib.Core.Bool.{Bool, true, false}
-use mathlib.Core.List.{List, _++_}
-use mathlib.Core.Option.{some}
+use Prim.Native.Nat.{ℕ, _+_, _-_, _*_, _≤_, _<_}
+use mathlib.Core.Path.{_≡_, refl, _∙_, ap}
+use mathlib.Core.Bool.{Bool, true, false, not}
+use mathlib.Core.List.{List, [], _∷_, _++_}
+use mathlib.Core.Option.{Option, some, none}
 use native.Mathlib.Omega.{arith}
-use lib.Dec.{ltb, eqb}
-use Rattle.lists.specs.Tests.{pick, among}
-use Rattle.lists.specs.Lists.{tabulate, without, put}
+use lib.Dec.{ltb, eqb, leb}
+use lib.ListN.{length}
+use borrow.Author.Tests.{le-leb, lt-leb}
+use Rattle.lists.specs.Tests.{pick, among, alls, given}
+use Rattle.lists.proofs.Tests.{true-false, not-no}
+use Rattle.lists.specs.Lists.{put}
 use Rattle.lists.proofs.Boards.{among-append-left, among-append-none, among-without}
 use Rattle.sizes.specs.declared.Check.{Check}
 use Rattle.sizes.specs.declared.Check.the-variants.{Pass, Refuse}
-use Rattle.sizes.specs.declared.Answer.the-variants.{Refused}
-use Rattle.sizes.specs.Refusals.{said, first, storeOrder}
+use Rattle.sizes.specs.declared.Answer.the-variants.{Done, Refused}
+use Rattle.sizes.specs.declared.Refusal.the-variants.{Area, Empty, Idle}
+use Rattle.sizes.specs.Sizing.{α, stripes}
+use Rattle.sizes.specs.Refusals.{said, _when_, first, storeOrder}
+use Rattle.sizes.specs.declared.Refusal.the-variants.{Busy, Idle}
+use Rattle.sizes.proofs.Orders.{clear-off}
 use Rattle.sizes.proofs.Laws.{number-low}
 use Rattle.board_spec.specs.Calls.{fileOf}
 use Rattle.store_spec.specs.Calls.{settle}
-use Rattle.store_spec.specs.Ledger.{Call, write, lose, repair, read, edit, Book, Entry, outputOf, replied, bookLines, accept, enter}
+use Rattle.store_spec.specs.Ledger.{Call, write, lose, repair, read, edit, start, step, Book, Repairing, during, keptOn, ended, goesOn, repairAsked, Entry, outputOf, replied, bookLength}
+use Rattle.store_spec.specs.Ledger.{bookLines, accept, enter}
 use Rattle.store_spec.specs.LedgerLaws.{Accepted, LedgerLaws}
 use Rattle.store_spec.proofs.Marks.{among-first}
 
@@ -50,6 +58,16 @@ accepts b (lose board) = refl
 accepts b (repair fresh helpers standIns) = refl
 accepts b (read boards output) = refl
 accepts b (edit offset bytes boards) = refl
+accepts b (start fresh helpers standIns) = refl
+accepts b (step allowance packets) = go (b .repairing)
+  where
+    go : (o : Option Repairing) → during o (replied (said (Done 0)) [] b) (λ r. pick (leb (r .left) allowance) (ended b r) (goesOn b r allowance)) .reply .answer .refusal ≡ 0
+    go none = refl
+    go (some r) = by (leb (r .left) allowance)
+      where
+        by : (t : Bool) → pick t (ended b r) (goesOn b r allowance) .reply .answer .refusal ≡ 0
+        by true = refl
+        by false = refl
 
 done-stay : (b : Book) (call : Call)
     → (accept b call .book .sizes ≡ b .sizes) × (accept b call .book .points ≡ b .points)
@@ -60,6 +78,19 @@ done-stay b (lose board) = (refl, refl, refl, refl)
 done-stay b (repair fresh helpers standIns) = (refl, refl, refl, refl)
 done-stay b (read boards output) = (refl, refl, refl, refl)
 done-stay b (edit offset bytes boards) = (refl, refl, refl, refl)
+done-stay b (start fresh helpers standIns) = (refl, refl, refl, refl)
+done-stay b (step allowance packets) = go (b .repairing)
+  where
+    go : (o : Option Repairing)
+        → let e = during o (replied (said (Done 0)) [] b) (λ r. pick (leb (r .left) allowance) (ended b r) (goesOn b r allowance)) in
+        (e .book .sizes ≡ b .sizes) × (e .book .points ≡ b .points) × (e .book .capacity ≡ b .capacity) × (e .book .areaLength ≡ b .areaLength)
+    go none = (refl, refl, refl, refl)
+    go (some r) = by (leb (r .left) allowance)
+      where
+        by : (t : Bool) → let e = pick t (ended b r) (goesOn b r allowance) in
+            (e .book .sizes ≡ b .sizes) × (e .book .points ≡ b .points) × (e .book .capacity ≡ b .capacity) × (e .book .areaLength ≡ b .areaLength)
+        by true = (refl, refl, refl, refl)
+        by false = (refl, refl, refl, refl)
 
 is-done : (b : Book) (call : Call) → Accepted b call → enter b call ≡ accept b call
 unfolding enter
@@ -115,5 +146,102 @@ unfolding accept
 edits b offset bytes boards e =
     let d = is-done b (edit offset bytes boards) e in (ap (λ (y : Entry). y .book .file) d, ap (λ (y : Entry). y .book .service) d)
 
+loses-repair : (b : Book) (board : ℕ) → Accepted b (lose board) → enter b (lose board) .book .repairing ≡ during (b .repairing) none (λ r. keptOn r board)
+unfolding accept
+loses-repair b board e = ap (λ (y : Entry). y .book .repairing) (is-done b (lose board) e)
+
+-- an accepted start passed BUSY
+none-there : (o : Option Repairing) → given o ≡ false → o ≡ none
+none-there none e = refl
+none-there (some r) e = absurd (true-false refl e)
+
+taken : (b : Book) (call : Call) → Accepted b call → first storeOrder (bookLines b call) ≡ Pass
+unfolding enter
+taken b call e = go (first storeOrder (bookLines b call)) e
+  where
+    go : (t : Check) → settle t (λ x. replied (said (Refused x)) (outputOf call) b) (accept b call) .reply .answer .refusal ≡ 0 → t ≡ Pass
+    go Pass h = refl
+    go (Refuse x) h = absurd (omega (arith, number-low x))
+
+starts : (b : Book) (fresh helpers standIns : List ℕ) → Accepted b (start fresh helpers standIns)
+    → (b .repairing ≡ none)
+    × (enter b (start fresh helpers standIns) .book .repairing
+    ≡ some (record { fresh = fresh; helpers = helpers; standIns = standIns; left = length fresh * (b .sizes .d + b .sizes .r - 1) }))
+    × (enter b (start fresh helpers standIns) .book .file ≡ b .file) × (enter b (start fresh helpers standIns) .book .service ≡ b .service)
+unfolding accept bookLines repairAsked
+starts b fresh helpers standIns e =
+    let d = is-done b (start fresh helpers standIns) e in
+    let off = clear-off (bookLines b (start fresh helpers standIns)) storeOrder (taken b (start fresh helpers standIns) e) in (
+      none-there (b .repairing) (off Busy refl),
+      ap (λ (y : Entry). y .book .repairing) d,
+      ap (λ (y : Entry). y .book .file) d,
+      ap (λ (y : Entry). y .book .service) d,
+    )
+
+module _ (b : Book) (r : Repairing) (allowance : ℕ) (packets : List ℕ) (q : b .repairing ≡ some r) (e : Accepted b (step allowance packets)) where
+  stepped : (t : Bool) → leb (r .left) allowance ≡ t → enter b (step allowance packets) ≡ pick t (ended b r) (goesOn b r allowance)
+  unfolding accept
+  stepped t h =
+      is-done b (step allowance packets) e
+      ∙ ap (λ (o : Option Repairing). during o (replied (said (Done 0)) [] b) (λ r. pick (leb (r .left) allowance) (ended b r) (goesOn b r allowance))) q
+      ∙ ap (λ (x : Bool). pick x (ended b r) (goesOn b r allowance)) h
+
+  steps-on : allowance < r .left
+      → (enter b (step allowance packets) .reply .answer .reported ≡ allowance)
+      × (enter b (step allowance packets) .book .repairing ≡ some (record { fresh = r .fresh; helpers = r .helpers; standIns = r .standIns; left = r .left - allowance }))
+      × (enter b (step allowance packets) .book .file ≡ b .file) × (enter b (step allowance packets) .book .service ≡ b .service)
+  steps-on h =
+      let d = stepped false (lt-leb (r .left) allowance h) in
+      (ap (λ (y : Entry). y .reply .answer .reported) d, ap (λ (y : Entry). y .book .repairing) d, ap (λ (y : Entry). y .book .file) d, ap (λ (y : Entry). y .book .service) d)
+
+  steps-last : r .left ≤ allowance
+      → (enter b (step allowance packets) .reply .answer .reported ≡ r .left)
+      × (enter b (step allowance packets) .book .repairing ≡ none)
+      × (enter b (step allowance packets) .book .file ≡ b .file)
+      × ((i : ℕ) → among (enter b (step allowance packets) .book .service) i ≡ pick (among (r .fresh) i) true (among (b .service) i))
+  steps-last h =
+      let d = stepped true (le-leb (r .left) allowance h) in (
+        ap (λ (y : Entry). y .reply .answer .reported) d,
+        ap (λ (y : Entry). y .book .repairing) d,
+        ap (λ (y : Entry). y .book .file) d,
+        λ i. ap (λ (y : Entry). among (y .book .service) i) d ∙ among-either (r .fresh) (b .service) i,
+      )
+
+steps-none : (b : Book) (allowance : ℕ) (packets : List ℕ) → b .repairing ≡ none → Accepted b (step allowance packets) → ⊥
+unfolding bookLines
+steps-none b allowance packets q e =
+    let off = clear-off (bookLines b (step allowance packets)) storeOrder (taken b (step allowance packets) e) in
+    true-false (not-no _ (off Idle refl)) (ap given q)
+
+by-length : (b : Book) (allowance : ℕ) (packets packets′ : List ℕ) → length packets ≡ length packets′ → enter b (step allowance packets) ≡ enter b (step allowance packets′)
+unfolding enter bookLines accept
+by-length b allowance packets packets′ e =
+    ap (λ (m : ℕ). settle (first storeOrder
+    (Area when not (alls
+    (eqb (b .areaLength) (b .sizes .n * (b .capacity * α (b .sizes)))
+    ∷ during (b .repairing) true (λ r. eqb m (stripes (b .sizes) (bookLength b) * length (r .fresh) * α (b .sizes)))
+    ∷ []))
+    ∷ Empty when not (given (b .file))
+    ∷ Idle when not (given (b .repairing))
+    ∷ [])) (λ x. replied (said (Refused x)) [] b)
+    (during (b .repairing) (replied (said (Done 0)) [] b) (λ r. pick (leb (r .left) allowance) (ended b r) (goesOn b r allowance)))) e
+
 pub ledger-laws : LedgerLaws
-ledger-laws = record { refused = refused; stay = stay; writes = writes; loses = loses; repairs = repairs; edits = edits; reads = reads }
+ledger-laws = record {
+  refused = refused;
+  stay = stay;
+  writes = writes;
+  loses = loses;
+  repairs = repairs;
+  edits = edits;
+  starts = starts;
+  steps-on = steps-on;
+  steps-last = steps-last;
+  steps-none = steps-none;
+  by-length = by-length;
+  loses-repair = loses-repair;
+  reads = reads;
+  record-is = λ b. refl;
+  tells-none = λ z p. (λ h. h, λ h. h);
+  tells-some = λ z r p. (λ h. h, λ h. h);
+}

@@ -1,28 +1,38 @@
 -- What an accepted call changes in the store's record.
 -- Assumes nothing.
 use Prim.Native.Nat.{ℕ, _<_, _≤_}
-use mathlib.Core.Path.{_≡_, refl, sym, _∙_, ap}
+use mathlib.Core.Path.{_≡_, refl, sym, _∙_, ap, subst}
 use mathlib.Core.Bool.{Bool, true, false}
-use mathlib.Core.List.{List, [], _∷_}
+use mathlib.Core.List.{List, [], _∷_, _++_}
 use native.Mathlib.Omega.{arith}
-use lib.Dec.{ltb, eqb}
-use lib.ListN.{length, length-set, getD, set, List·getD-eq-default}
+use lib.Dec.{leb, ltb, eqb}
+use lib.ListN.{length, length-set, drop, getD, set, List·getD-eq-default}
 use lib.Seq.{getD-set-same, getD-set-other}
 use borrow.Author.Tests.{eqb-true, eqb-false, ltb-true, ltb-false}
-use Rattle.lists.specs.Tests.{pick, among}
+use Rattle.lists.specs.Tests.{pick, alls, among}
 use Rattle.lists.proofs.Pieces.{tabulate-at}
-use Rattle.sizes.specs.declared.Refusal.{Refusal}
 use Rattle.sizes.specs.declared.Check.{Check}
 use Rattle.sizes.specs.declared.Check.the-variants.{Pass, Refuse}
 use Rattle.sizes.specs.Sizing.{maxBoards}
 use Rattle.sizes.specs.Refusals.{first, storeOrder}
 use Rattle.sizes.proofs.Laws.{number-low}
 use Rattle.store_spec.specs.Record.{Record, inService, turnOn}
-use Rattle.store_spec.specs.Calls.{StoreOutcome, settle, refused, writeLines, writeDone, writeCall, loseLines, loseDone, loseCall, repairLines, repairDone, repairCall}
+use Rattle.store_spec.specs.Calls.{StoreOutcome, settle, refused, writeLines, writeDone, writeCall, loseLines, loseDone, loseCall, listLines, repairLines, repairDone, repairCall}
 use Rattle.store_spec.specs.Calls.{readLines, readDone, readCall}
 use Rattle.store_spec.specs.Edit.{editLines, editDone, editCall}
-use Rattle.store_spec.specs.Ledger.{Call, write, lose, repair, read, edit, State, act, outputOf}
-use Rattle.store_spec.specs.MarkLaws.{MarkLaws}
+use Rattle.store_spec.specs.Running.{Running, idle, runningBy, freshOf, namedIn}
+use Rattle.store_spec.specs.Both.{Outcome, repairLinesBoth, leftOf, stepLast, stepOn}
+use Rattle.store_spec.proofs.Beside.{alone-busy}
+use Rattle.store_spec.proofs.Records.{repair-facts, sound-facts}
+use Rattle.sizes.proofs.Legal.{legal-facts}
+use Rattle.lists.specs.Lists.{Bytes}
+use Rattle.lists.proofs.Alls.{all-imp, all-left, all-right, zeros-bytes}
+use Rattle.lists.proofs.Boards.{below-all}
+use Rattle.lists.proofs.Pieces.{length-fit, fit-bytes}
+use Rattle.store_spec.specs.BothCalls.{storeLines, storeDone}
+use Rattle.store_spec.proofs.BothCalls.{by, act-is, done-accepted}
+use Rattle.store_spec.specs.Ledger.{Call, write, lose, repair, read, edit, start, step, State, act, outputOf, packetsOfCall}
+use Rattle.store_spec.specs.MarkLaws.{Arrays, MarkLaws}
 
 -- a call that is accepted has done its work
 by-done : (t : Check) (s : Record) (area output : List ℕ) (done : StoreOutcome)
@@ -32,7 +42,7 @@ by-done (Refuse x) s area output done e = absurd (omega (arith, number-low x))
 
 -- ---- a mark is set
 
-off : (marks : List Bool) (b i : ℕ) → getD (set marks b false) i false ≡ pick (eqb b i) false (getD marks i false)
+pub off : (marks : List Bool) (b i : ℕ) → getD (set marks b false) i false ≡ pick (eqb b i) false (getD marks i false)
 off marks b i = go (eqb b i) refl
   where
     at-end : (t : Bool) → ltb b (length marks) ≡ t → getD (set marks b false) b false ≡ false
@@ -95,80 +105,146 @@ module _ (s : Record) (area : List ℕ) where
   unfolding editCall
   did-edit offset bytes boards = same (first storeOrder (editLines s area offset bytes boards)) [] (editDone s area offset bytes boards) refl
 
--- ---- whatever the call
-
-keeps : (t : Check) (s : Record) (area output : List ℕ) (done : StoreOutcome) → done .answer .refusal ≡ 0
-    → let o = settle t (refused s area output) done in
-    (o .answer .refusal ≡ 0 → ⊥) → o ≡ record { answer = o .answer; handed = s; area = area; output = output }
-keeps Pass s area output done e h = absurd (h e)
-keeps (Refuse x) s area output done e h = refl
-
-refused-keeps : (w : State) (call : Call) → (act w call .answer .refusal ≡ 0 → ⊥)
-    → act w call ≡ record { answer = act w call .answer; handed = w .kept; area = w .area; output = outputOf call }
-unfolding act writeCall loseCall repairCall readCall editCall
-refused-keeps w (write file) h =
-    keeps (first storeOrder (writeLines (w .kept) (length (w .area)) file)) (w .kept) (w .area) [] (writeDone (w .kept) (w .area) file) refl h
-refused-keeps w (lose board) h =
-    keeps (first storeOrder (loseLines (w .kept) board)) (w .kept) (w .area) [] (loseDone (w .kept) (w .area) board) refl h
-refused-keeps w (repair fresh helpers standIns) h =
-    keeps (first storeOrder (repairLines (w .kept) (length (w .area)) fresh helpers standIns)) (w .kept) (w .area) []
-    (repairDone (w .kept) (w .area) fresh helpers standIns) refl h
-refused-keeps w (read boards output) h =
-    keeps (first storeOrder (readLines (w .kept) (w .area) boards output)) (w .kept) (w .area) output
-    (readDone (w .kept) (w .area) boards output) refl h
-refused-keeps w (edit offset bytes boards) h =
-    keeps (first storeOrder (editLines (w .kept) (w .area) offset bytes boards)) (w .kept) (w .area) []
-    (editDone (w .kept) (w .area) offset bytes boards) refl h
+-- ---- whatever the call, with both records
 
 length-on : (boards : List ℕ) (marks : List Bool) → length (turnOn boards marks) ≡ length marks
 length-on [] marks = refl
 length-on (i ∷ boards) marks = length-on boards (set marks i true) ∙ length-set marks i true
 
-full : (t : Check) (s : Record) (area output : List ℕ) (done : StoreOutcome) → length (s .marks) ≡ maxBoards → length (done .handed .marks) ≡ maxBoards
-    → length (settle t (refused s area output) done .handed .marks) ≡ maxBoards
-full Pass s area output done e d = d
-full (Refuse x) s area output done e d = e
+module _ (s : Record) (p : Running) (area output packets : List ℕ) (done : Outcome) where
+  keeps : (t : Check) → done .answer .refusal ≡ 0 → let o = by s p area output packets done t in
+      (o .answer .refusal ≡ 0 → ⊥) → o ≡ record { answer = o .answer; handed = s; running = p; area = area; output = output; packets = packets }
+  keeps Pass e h = absurd (h e)
+  keeps (Refuse x) e h = refl
 
-full-marks : (w : State) (call : Call) → length (w .kept .marks) ≡ maxBoards → length (act w call .handed .marks) ≡ maxBoards
-unfolding act writeCall loseCall repairCall readCall editCall
-full-marks w (write file) e =
-    full (first storeOrder (writeLines (w .kept) (length (w .area)) file)) (w .kept) (w .area) [] (writeDone (w .kept) (w .area) file) e refl
-full-marks w (lose board) e =
-    full (first storeOrder (loseLines (w .kept) board)) (w .kept) (w .area) [] (loseDone (w .kept) (w .area) board) e
-    (length-set (w .kept .marks) board false ∙ e)
-full-marks w (repair fresh helpers standIns) e =
-    full (first storeOrder (repairLines (w .kept) (length (w .area)) fresh helpers standIns)) (w .kept) (w .area) []
-    (repairDone (w .kept) (w .area) fresh helpers standIns) e (length-on fresh (w .kept .marks) ∙ e)
-full-marks w (read boards output) e =
-    full (first storeOrder (readLines (w .kept) (w .area) boards output)) (w .kept) (w .area) output
-    (readDone (w .kept) (w .area) boards output) e e
-full-marks w (edit offset bytes boards) e =
-    full (first storeOrder (editLines (w .kept) (w .area) offset bytes boards)) (w .kept) (w .area) []
-    (editDone (w .kept) (w .area) offset bytes boards) e e
+  full : (t : Check) → length (s .marks) ≡ maxBoards → length (done .handed .marks) ≡ maxBoards → length (by s p area output packets done t .handed .marks) ≡ maxBoards
+  full Pass e d = d
+  full (Refuse x) e d = e
 
-points-by : (t : Check) (s : Record) (area output : List ℕ) (done : StoreOutcome) → done .handed .points ≡ s .points
-    → settle t (refused s area output) done .handed .points ≡ s .points
-points-by Pass s area output done d = d
-points-by (Refuse x) s area output done d = refl
+  points-by : (t : Check) → done .handed .points ≡ s .points → by s p area output packets done t .handed .points ≡ s .points
+  points-by Pass d = d
+  points-by (Refuse x) d = refl
 
-points-stay : (w : State) (call : Call) → act w call .handed .points ≡ w .kept .points
-unfolding act writeCall loseCall repairCall readCall editCall
-points-stay w (write file) =
-    points-by (first storeOrder (writeLines (w .kept) (length (w .area)) file)) (w .kept) (w .area) [] (writeDone (w .kept) (w .area) file) refl
-points-stay w (lose board) = points-by (first storeOrder (loseLines (w .kept) board)) (w .kept) (w .area) [] (loseDone (w .kept) (w .area) board) refl
-points-stay w (repair fresh helpers standIns) =
-    points-by (first storeOrder (repairLines (w .kept) (length (w .area)) fresh helpers standIns)) (w .kept) (w .area) []
-    (repairDone (w .kept) (w .area) fresh helpers standIns) refl
-points-stay w (read boards output) =
-    points-by (first storeOrder (readLines (w .kept) (w .area) boards output)) (w .kept) (w .area) output (readDone (w .kept) (w .area) boards output) refl
-points-stay w (edit offset bytes boards) =
-    points-by (first storeOrder (editLines (w .kept) (w .area) offset bytes boards)) (w .kept) (w .area) [] (editDone (w .kept) (w .area) offset bytes boards) refl
+done-full : (s : Record) (p : Running) (area : List ℕ) (c : Call) → length (s .marks) ≡ maxBoards → length (storeDone s p area c .handed .marks) ≡ maxBoards
+unfolding storeDone
+done-full s p area (write file) e = refl
+done-full s p area (lose board) e = length-set (s .marks) board false ∙ e
+done-full s p area (repair fresh helpers standIns) e = length-on fresh (s .marks) ∙ e
+done-full s p area (read boards output) e = e
+done-full s p area (edit offset bytes boards) e = e
+done-full s p area (start fresh helpers standIns) e = e
+done-full s p area (step allowance packets) e = go (leb (leftOf s p area packets) allowance)
+  where
+    go : (t : Bool) → length (pick t (stepLast s p area packets) (stepOn s p area packets allowance) .handed .marks) ≡ maxBoards
+    go true = length-on (freshOf p) (s .marks) ∙ e
+    go false = e
+
+done-points : (s : Record) (p : Running) (area : List ℕ) (c : Call) → storeDone s p area c .handed .points ≡ s .points
+unfolding storeDone
+done-points s p area (write file) = refl
+done-points s p area (lose board) = refl
+done-points s p area (repair fresh helpers standIns) = refl
+done-points s p area (read boards output) = refl
+done-points s p area (edit offset bytes boards) = refl
+done-points s p area (start fresh helpers standIns) = refl
+done-points s p area (step allowance packets) = go (leb (leftOf s p area packets) allowance)
+  where
+    go : (t : Bool) → pick t (stepLast s p area packets) (stepOn s p area packets allowance) .handed .points ≡ s .points
+    go true = refl
+    go false = refl
+
+refused-keeps : (w : State) (c : Call) → (act w c .answer .refusal ≡ 0 → ⊥)
+    → act w c ≡ record { answer = act w c .answer; handed = w .kept; running = w .running; area = w .area; output = outputOf c; packets = packetsOfCall c }
+refused-keeps w c =
+    subst
+    (λ (o : Outcome). (o .answer .refusal ≡ 0 → ⊥) → o ≡ record { answer = o .answer; handed = w .kept; running = w .running; area = w .area; output = outputOf c; packets = packetsOfCall c })
+    (sym (act-is w c))
+    (keeps (w .kept) (w .running) (w .area) (outputOf c) (packetsOfCall c) (storeDone (w .kept) (w .running) (w .area) c)
+    (first storeOrder (storeLines (w .kept) (w .running) (w .area) c)) (done-accepted (w .kept) (w .running) (w .area) c))
+
+full-marks : (w : State) (c : Call) → length (w .kept .marks) ≡ maxBoards → length (act w c .handed .marks) ≡ maxBoards
+full-marks w c e =
+    ap (λ (o : Outcome). length (o .handed .marks)) (act-is w c)
+    ∙ full (w .kept) (w .running) (w .area) (outputOf c) (packetsOfCall c) (storeDone (w .kept) (w .running) (w .area) c)
+    (first storeOrder (storeLines (w .kept) (w .running) (w .area) c)) e (done-full (w .kept) (w .running) (w .area) c e)
+
+points-stay : (w : State) (c : Call) → act w c .handed .points ≡ w .kept .points
+points-stay w c =
+    ap (λ (o : Outcome). o .handed .points) (act-is w c)
+    ∙ points-by (w .kept) (w .running) (w .area) (outputOf c) (packetsOfCall c) (storeDone (w .kept) (w .running) (w .area) c)
+    (first storeOrder (storeLines (w .kept) (w .running) (w .area) c)) (done-points (w .kept) (w .running) (w .area) c)
+
+-- the arrays of the record beside
+
+arrays-idle : Arrays idle
+arrays-idle = record {
+  fresh-long = refl;
+  fresh-bytes = zeros-bytes 32;
+  helpers-long = refl;
+  helpers-bytes = zeros-bytes 256;
+  stand-ins-long = refl;
+  stand-ins-bytes = zeros-bytes 256;
+}
+
+arrays-started : (s : Record) (p : Running) (m : ℕ) (fresh helpers standIns : List ℕ) → first storeOrder (repairLinesBoth s p m fresh helpers standIns) ≡ Pass
+    → Arrays (runningBy fresh helpers standIns 0)
+unfolding repairLinesBoth repairLines listLines
+arrays-started s p m fresh helpers standIns h =
+    let pass = alone-busy s p (p .running) (drop 1 (repairLines s m fresh helpers standIns)) refl h .0 in
+    let f = repair-facts s m fresh helpers standIns pass in
+    let few = legal-facts (s .sizes) (sound-facts s (f .is-sound) .is-legal) .few in
+    let all : Bytes (fresh ++ (helpers ++ standIns)) =
+    all-imp (λ x. x < s .sizes .n) (λ x. x < 256) (λ x l. omega (arith, l, few)) (fresh ++ (helpers ++ standIns)) (below-all (s .sizes .n) (fresh ++ (helpers ++ standIns)) (f .named-below)) in
+    let rest = all-right (λ x. x < 256) fresh (helpers ++ standIns) all in
+    record {
+      fresh-long = length-fit 32 fresh;
+      fresh-bytes = fit-bytes 32 fresh (all-left (λ x. x < 256) fresh (helpers ++ standIns) all);
+      helpers-long = length-fit 256 helpers;
+      helpers-bytes = fit-bytes 256 helpers (all-left (λ x. x < 256) helpers standIns rest);
+      stand-ins-long = length-fit 256 standIns;
+      stand-ins-bytes = fit-bytes 256 standIns (all-right (λ x. x < 256) helpers standIns rest);
+    }
+
+done-arrays : (s : Record) (p : Running) (area : List ℕ) (c : Call) → first storeOrder (storeLines s p area c) ≡ Pass → Arrays p → Arrays (storeDone s p area c .running)
+unfolding storeDone storeLines
+done-arrays s p area (write file) h a = a
+done-arrays s p area (lose board) h a = go (alls (p .running ∷ among (namedIn (s .sizes) p) board ∷ []))
+  where
+    go : (t : Bool) → Arrays (pick t idle p)
+    go true = arrays-idle
+    go false = a
+done-arrays s p area (repair fresh helpers standIns) h a = a
+done-arrays s p area (read boards output) h a = a
+done-arrays s p area (edit offset bytes boards) h a = a
+done-arrays s p area (start fresh helpers standIns) h a = arrays-started s p (length area) fresh helpers standIns h
+done-arrays s p area (step allowance packets) h a = go (leb (leftOf s p area packets) allowance)
+  where
+    go : (t : Bool) → Arrays (pick t (stepLast s p area packets) (stepOn s p area packets allowance) .running)
+    go true = arrays-idle
+    go false = record {
+      fresh-long = a .fresh-long;
+      fresh-bytes = a .fresh-bytes;
+      helpers-long = a .helpers-long;
+      helpers-bytes = a .helpers-bytes;
+      stand-ins-long = a .stand-ins-long;
+      stand-ins-bytes = a .stand-ins-bytes;
+    }
+
+arrays-stay : (w : State) (c : Call) → Arrays (w .running) → Arrays (act w c .running)
+arrays-stay w c a = subst (λ (o : Outcome). Arrays (o .running)) (sym (act-is w c)) (go (first storeOrder (storeLines (w .kept) (w .running) (w .area) c)) refl)
+  where
+    go : (t : Check) → first storeOrder (storeLines (w .kept) (w .running) (w .area) c) ≡ t
+        → Arrays (by (w .kept) (w .running) (w .area) (outputOf c) (packetsOfCall c) (storeDone (w .kept) (w .running) (w .area) c) t .running)
+    go Pass e = done-arrays (w .kept) (w .running) (w .area) c e a
+    go (Refuse x) e = a
 
 pub mark-laws : MarkLaws
 mark-laws = record {
   refused-keeps = refused-keeps;
   full-marks = full-marks;
   points-stay = points-stay;
+  arrays-stay = arrays-stay;
+  arrays-idle = arrays-idle;
   writes = λ s area file e.
       let d = ap (λ (o : StoreOutcome). o .handed) (did-write s area file e) in (
         λ i h. ap (λ (r : Record). inService r i) d ∙ tabulate-at maxBoards (λ x. ltb x (s .sizes .n)) false i h,

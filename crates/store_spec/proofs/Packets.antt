@@ -3,13 +3,12 @@ use Prim.Native.Nat.{ℕ, zero, suc, _+_, _-_, _*_, _≤_, _<_}
 use mathlib.Core.Path.{_≡_, refl, sym, _∙_, ap, ap₂, subst}
 use mathlib.Core.Bool.{Bool, true, false}
 use mathlib.Core.List.{List, [], _∷_, _++_, map, append-nil, append-assoc}
-use mathlib.Core.Logic.{_⊎_, inl, inr}
 use native.Mathlib.Omega.{arith}
 use native.Mathlib.Nat.{zero-mul, suc-mul, zero-add}
 use lib.Dec.{eqb}
 use lib.ListN.{length, take, drop, getD, length-append, length-drop, length-map}
 use lib.Seq.{length-take-le, drop-drop}
-use borrow.Author.Tests.{eqb-true, eqb-false, eq-eqb, ne-eqb}
+use borrow.Author.Tests.{eqb-true, eq-eqb, ne-eqb}
 use Rattle.lists.specs.Lists.{tabulate, concat, joined, piece, without, All}
 use Rattle.lists.specs.Tests.{pick, among, different, every}
 use Rattle.lists.proofs.Alls.{all-at, take-alls, drop-alls}
@@ -24,7 +23,7 @@ use Rattle.store_spec.specs.Packets.{Packet, Hearing, packetsOf, senders
 mail : (ℕ → ℕ → List ℕ) → ℕ → List ℕ → List Packet
 mail f m l = map (λ j. record { sender = j; receiver = m; bytes = f j m }) l
 
-to-append : (i : ℕ) (ps qs : List Packet) → sentTo i (ps ++ qs) ≡ sentTo i ps ++ sentTo i qs
+pub to-append : (i : ℕ) (ps qs : List Packet) → sentTo i (ps ++ qs) ≡ sentTo i ps ++ sentTo i qs
 to-append i [] qs = refl
 to-append i (p ∷ ps) qs = go (eqb (p .receiver) i) (to-append i ps qs)
   where
@@ -95,7 +94,7 @@ Holding f [] = Unit
 Holding f (p ∷ ps) = (p .bytes ≡ f (p .sender) (p .receiver)) × Holding f ps
 
 module _ (f : ℕ → ℕ → List ℕ) where
-  holding-append : (ps qs : List Packet) → Holding f ps → Holding f qs → Holding f (ps ++ qs)
+  pub holding-append : (ps qs : List Packet) → Holding f ps → Holding f qs → Holding f (ps ++ qs)
   holding-append [] qs a b = b
   holding-append (p ∷ ps) qs a b = (a .0, holding-append ps qs (a .1) b)
 
@@ -104,7 +103,7 @@ module _ (f : ℕ → ℕ → List ℕ) where
   holding-mail m [] = tt
   holding-mail m (x ∷ l) = (refl, holding-mail m l)
 
-  holding : (hs : List Hearing) → Holding f (packetsOf f hs)
+  pub holding : (hs : List Hearing) → Holding f (packetsOf f hs)
   unfolding mail
   holding [] = tt
   holding (h ∷ hs) = holding-append (mail f (h .receiver) (h .senders)) (packetsOf f hs) (holding-mail (h .receiver) (h .senders)) (holding hs)
@@ -131,7 +130,7 @@ Wide w [] = Unit
 Wide w (p ∷ ps) = (length (p .bytes) ≡ w) × Wide w ps
 
 module _ (w : ℕ) where
-  total-wide : (ps : List Packet) → Wide w ps → total ps ≡ length ps * w
+  pub total-wide : (ps : List Packet) → Wide w ps → total ps ≡ length ps * w
   total-wide [] a = sym (zero-mul w)
   total-wide (p ∷ ps) a =
       let e = a .0 in
@@ -146,7 +145,7 @@ module _ (w : ℕ) where
       go true b = (a .0, b)
       go false b = b
 
-  wide-holding : (f : ℕ → ℕ → List ℕ) → ((j i : ℕ) → length (f j i) ≡ w) → (ps : List Packet) → Holding f ps → Wide w ps
+  pub wide-holding : (f : ℕ → ℕ → List ℕ) → ((j i : ℕ) → length (f j i) ≡ w) → (ps : List Packet) → Holding f ps → Wide w ps
   wide-holding f l [] a = tt
   wide-holding f l (p ∷ ps) a = (ap length (a .0) ∙ l (p .sender) (p .receiver), wide-holding f l ps (a .1))
 
@@ -157,7 +156,7 @@ total-append (p ∷ ps) qs = rw (total-append ps qs) (omega arith)
 pub total-to-append : (i : ℕ) (ps qs : List Packet) → total (sentTo i (ps ++ qs)) ≡ total (sentTo i ps) + total (sentTo i qs)
 total-to-append i ps qs = ap total (to-append i ps qs) ∙ total-append (sentTo i ps) (sentTo i qs)
 
-packet-count : (f : ℕ → ℕ → List ℕ) (c : ℕ) (hs : List Hearing) → EachHears (λ i l. length l ≡ c) hs → length (packetsOf f hs) ≡ length hs * c
+pub packet-count : (f : ℕ → ℕ → List ℕ) (c : ℕ) (hs : List Hearing) → EachHears (λ i l. length l ≡ c) hs → length (packetsOf f hs) ≡ length hs * c
 packet-count f c [] a = sym (zero-mul c)
 packet-count f c (h ∷ hs) a =
     let e = a .0 in

@@ -1,8 +1,8 @@
 -- An accepted repair: how much each fresh board gets, what it then holds, and that true shares make true shares.
 use Prim.Native.Nat.{ℕ, suc, _+_, _-_, _*_, _≤_, _<_}
-use mathlib.Core.Path.{_≡_, refl, sym, _∙_, ap, ap₂, subst}
-use mathlib.Core.Bool.{Bool, true, false, not}
-use mathlib.Core.List.{List, [], _∷_, _++_, map}
+use mathlib.Core.Path.{_≡_, refl, sym, _∙_, ap, ap₂}
+use mathlib.Core.Bool.{true, not}
+use mathlib.Core.List.{List, _++_}
 use native.Mathlib.Omega.{arith}
 use lib.ListN.{length, getD, take, drop, length-map}
 use Rattle.lists.specs.Lists.{joined, without, All, Bytes}
@@ -16,8 +16,8 @@ use Rattle.mbcr.specs.Share.{share}
 use Rattle.store_spec.specs.Packets.{sendersOf, contents, total, hearHelpers, hearPartners, standInsEach, helperPackets, standInPackets, exchangePackets}
 use Rattle.store_spec.specs.Packets.{partnerPackets, repairPackets, freshShare, sentTo}
 use Rattle.store_spec.specs.Record.{Record, held, inService}
-use Rattle.store_spec.proofs.Packets.{EachHears, heard, contents-to, total-to, total-all, total-append, total-to-append, receivers-helpers, length-helpers, helpers-count}
-use Rattle.store_spec.proofs.Packets.{helpers-each, receivers-partners, partners-each, by-runs, run-different, run-length, senders-append, contents-append}
+use Rattle.store_spec.proofs.Packets.{EachHears, heard, contents-to, total-to, total-all, total-append, total-to-append, length-helpers, helpers-count}
+use Rattle.store_spec.proofs.Packets.{receivers-partners, partners-each, by-runs, run-different, run-length, senders-append, contents-append}
 use Rattle.store_spec.proofs.Records.{Repairs}
 use Rattle.store_spec.proofs.Seam.{Laws, Hears, Lengths}
 
@@ -71,7 +71,7 @@ module _ (s : Record) (area fresh helpers standIns : List ℕ) (m : ℕ) (laws :
   pub partner-count : (i : ℕ) → among fresh i ≡ true → suc (length (without i fresh)) ≡ length fresh
   partner-count i e = length-without i fresh (f .fresh-different) e
 
-  partners-counted : All (λ i. suc (length (without i fresh)) ≡ length fresh) fresh
+  pub partners-counted : All (λ i. suc (length (without i fresh)) ≡ length fresh) fresh
   partners-counted = all-imp (λ i. among fresh i ≡ true) (λ i. suc (length (without i fresh)) ≡ length fresh) partner-count fresh (all-is-among fresh)
 
   pub partners-are : (i : ℕ) → among fresh i ≡ true → partnersOf i ≡ without i fresh

@@ -2,7 +2,7 @@
 -- Assumes nothing.
 use Prim.Native.Nat.{ℕ, _+_, _*_, _<_}
 use mathlib.Core.Path.{_≡_, refl, sym, _∙_, ap, ap₂}
-use mathlib.Core.Bool.{Bool, true, not}
+use mathlib.Core.Bool.{Bool, true, false, not}
 use mathlib.Core.List.{List, [], _++_}
 use mathlib.Core.Option.{Option, some}
 use native.Mathlib.Omega.{arith}
@@ -16,21 +16,25 @@ use Rattle.lists.proofs.Put.{length-put}
 use Rattle.lists.proofs.Tests.{not-no}
 use Rattle.sizes.specs.Refusals.{first, storeOrder}
 use Rattle.sizes.specs.Sizing.{α, stripes}
+use Rattle.sizes.specs.declared.Check.the-variants.{Pass}
 use Rattle.sizes.specs.declared.Refusal.the-variants.{Count, Node, Repeat, Down}
 use Rattle.polynomial.specs.Polynomial.{plus}
 use Rattle.polynomial.proofs.Linear.{length-plus}
 use Rattle.mbcr.specs.Share.{share}
 use Rattle.board_spec.specs.Calls.{fileOf}
 use Rattle.store_spec.specs.Calls.{fileHeld}
-use Rattle.store_spec.specs.Demand1.{storeLines}
-use Rattle.store_spec.specs.Edit.{editLines, editedShare, editCall}
-use Rattle.store_spec.specs.Ledger.{edit, Book, bookRecord, bookLines, noted, act, enter, accept}
+use Rattle.store_spec.specs.Edit.{editLines, editedShare}
+use Rattle.store_spec.specs.Running.{Running}
+use Rattle.store_spec.specs.Both.{editLinesBoth, editBoth}
+use Rattle.store_spec.specs.BothCalls.{storeLines}
+use Rattle.store_spec.specs.Ledger.{edit, Book, bookRecord, Tells, bookLines, noted, packetsAfter, act, enter, accept}
 use Rattle.store_spec.specs.Record.{Record, sound, areaLen, held, usedLen, partLen, inService, serving, putShares}
 use Rattle.store_spec.proofs.Agree.{every-same}
 use Rattle.store_spec.proofs.Area.{length-shares, shares-same}
 use Rattle.store_spec.proofs.Records.{Sound, Edits, edit-facts, used-fits}
 use Rattle.store_spec.proofs.Seam.{AllLaws}
-use Rattle.store_spec.proofs.Step.{Inv, facts, lawful, same-check, up, Good, good-both, refusal-good}
+use Rattle.store_spec.proofs.Step.{Inv, Runs, runs-none, facts, lawful, up, at, same-check, none-runs, Good, good-both, refusal-good}
+use Rattle.store_spec.proofs.Beside.{alone-busy}
 use Rattle.store_spec.proofs.StepRead.{reading}
 use Rattle.store_spec.proofs.Sums.{plus-twice, length-plus-short, take-short, serving-low, serving-has}
 
@@ -43,14 +47,6 @@ put-bytes l at bytes hl hb =
 module _ (laws : AllLaws) (b : Book) (area : List ℕ) (v : Inv b area) where
   known : Sound (bookRecord b)
   known = facts laws b area v
-
-  edit-same : (offset : ℕ) (bytes boards : List ℕ)
-      → first storeOrder (editLines (bookRecord b) area offset bytes boards) ≡ first storeOrder (bookLines b (edit offset bytes boards))
-  unfolding storeLines editLines bookLines
-  edit-same offset bytes boards =
-      same-check laws b area v (edit offset bytes boards) (λ off.
-      ap (λ (o : Option (List ℕ)). not (given o))
-      (reading laws b area v boards (eqb-true _ _ (not-no _ (off Count refl))) (not-no _ (off Node refl)) (not-no _ (off Repeat refl)) (not-no _ (off Down refl))))
 
   module _ (offset : ℕ) (bytes boards : List ℕ) (ok : Bytes bytes) (f : Edits (bookRecord b) (length area) offset bytes boards) where
     abbrev old : List ℕ
@@ -69,7 +65,7 @@ module _ (laws : AllLaws) (b : Book) (area : List ℕ) (v : Inv b area) where
     long = length-put (fileOf (b .file)) offset bytes (f .in-range)
 
     -- the record stays
-    same : bookRecord next ≡ bookRecord b
+    pub same : bookRecord next ≡ bookRecord b
     same =
         ap₂ {C = Record} (λ (w : Bool) (L : ℕ). record { sizes = b .sizes; points = b .points; capacity = b .capacity; written = w; length = L; marks = bookRecord b .marks })
         (sym (f .is-written)) long
@@ -111,7 +107,7 @@ module _ (laws : AllLaws) (b : Book) (area : List ℕ) (v : Inv b area) where
         (serving-has (bookRecord b) i (all-among (λ x. x < b .sizes .n) (b .service) i (v .serving) e) (up laws b area v i ∙ e))
         ∙ given-new i e
 
-    edit-inv : Inv next after
+    pub edit-inv : Inv next after
     edit-inv = record {
       as-long = length-shares (bookRecord b) made (usedLen (bookRecord b)) made-long (used-fits (bookRecord b) known) (serving (bookRecord b)) area (f .area-is) low ∙ v .as-long;
       is-sound = ap sound same ∙ v .is-sound;
@@ -121,11 +117,35 @@ module _ (laws : AllLaws) (b : Book) (area : List ℕ) (v : Inv b area) where
       holds = λ i e. ap (λ (s : Record). held s after i) same ∙ after-holds i e;
     }
 
+module _ (laws : AllLaws) (b : Book) (area : List ℕ) (v : Inv b area) (packets : List ℕ) (g : Runs b (b .repairing) area packets) (p : Running) (tells : Tells (b .sizes) (b .repairing) p) where
+  edit-same : (offset : ℕ) (bytes boards : List ℕ)
+      → first storeOrder (editLinesBoth (bookRecord b) p area offset bytes boards) ≡ first storeOrder (bookLines b (edit offset bytes boards))
+  unfolding storeLines editLinesBoth editLines bookLines
+  edit-same offset bytes boards =
+      same-check laws b area v packets g p tells (edit offset bytes boards) (λ off.
+      ap (λ (o : Option (List ℕ)). not (given o))
+      (reading laws b area v boards (eqb-true _ _ (not-no _ (off Count refl))) (not-no _ (off Node refl)) (not-no _ (off Repeat refl)) (not-no _ (off Down refl))))
+
+  edit-alone : (offset : ℕ) (bytes boards : List ℕ) → first storeOrder (editLinesBoth (bookRecord b) p area offset bytes boards) ≡ Pass
+      → (first storeOrder (editLines (bookRecord b) area offset bytes boards) ≡ Pass) × (given (b .repairing) ≡ false)
+  unfolding editLinesBoth editLines
+  edit-alone offset bytes boards e =
+      let a = alone-busy (bookRecord b) p (p .running) (drop 1 (editLines (bookRecord b) area offset bytes boards)) refl e in
+      (a .0, none-runs laws b area v packets g p tells (a .1))
+
   pub edit-good : (offset : ℕ) (bytes boards : List ℕ) → Bytes bytes
-      → Good (act (record { kept = bookRecord b; area = area }) (edit offset bytes boards)) (enter b (edit offset bytes boards))
-  unfolding act enter accept editCall
+      → Good (packetsAfter packets (edit offset bytes boards)) (act (at laws b area v packets g p tells) (edit offset bytes boards)) (enter b (edit offset bytes boards))
+  unfolding act enter accept editBoth
   edit-good offset bytes boards ok =
-      good-both _ _ _ _ _ _ (edit-same offset bytes boards) (refusal-good laws b area v [])
-      (λ e. let f = edit-facts (bookRecord b) area offset bytes boards e .0 in
-      rw (is-held offset bytes boards ok f)
-      (record { alike = refl; same-record = sym (same offset bytes boards ok f); inv = edit-inv offset bytes boards ok f }))
+      good-both (packetsAfter packets (edit offset bytes boards)) _ _ _ _ _ _ (edit-same offset bytes boards)
+      (λ x. refusal-good laws b area v packets g p tells (packetsAfter packets (edit offset bytes boards)) [] [] x refl)
+      (λ e. let a = edit-alone offset bytes boards e in
+      let f = edit-facts (bookRecord b) area offset bytes boards (a .0) .0 in
+      rw (is-held laws b area v offset bytes boards ok f)
+      (record {
+        alike = refl;
+        same-record = sym (same laws b area v offset bytes boards ok f);
+        same-running = tells;
+        inv = edit-inv laws b area v offset bytes boards ok f;
+        runs = runs-none _ (b .repairing) _ _ (a .1);
+      }))

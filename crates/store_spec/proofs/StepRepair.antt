@@ -5,7 +5,7 @@ use mathlib.Core.Path.{_≡_, refl, sym, _∙_, ap}
 use mathlib.Core.Bool.{Bool, true, false}
 use mathlib.Core.List.{List, [], _++_}
 use native.Mathlib.Omega.{arith}
-use lib.ListN.{length}
+use lib.ListN.{length, drop}
 use Rattle.lists.specs.Lists.{All}
 use Rattle.lists.specs.Tests.{among, given}
 use Rattle.lists.proofs.Alls.{all-imp, all-left, append-all}
@@ -13,11 +13,14 @@ use Rattle.lists.proofs.Boards.{below-all, all-among, among-append-none}
 use Rattle.sizes.specs.Refusals.{first, storeOrder, said}
 use Rattle.sizes.specs.Sizing.{maxBoards}
 use Rattle.sizes.specs.declared.Answer.the-variants.{Done}
+use Rattle.sizes.specs.declared.Check.the-variants.{Pass}
 use Rattle.mbcr.specs.Share.{share}
 use Rattle.board_spec.specs.Calls.{fileOf}
-use Rattle.store_spec.specs.Calls.{listLines, repairLines, repairDone, repairCall}
-use Rattle.store_spec.specs.Demand1.{storeLines}
-use Rattle.store_spec.specs.Ledger.{Book, bookRecord, bookLines, noted, act, enter, accept, bookLength, repair}
+use Rattle.store_spec.specs.Calls.{listLines, repairLines, repairDone}
+use Rattle.store_spec.specs.Running.{Running}
+use Rattle.store_spec.specs.Both.{repairLinesBoth, repairBoth}
+use Rattle.store_spec.specs.BothCalls.{storeLines}
+use Rattle.store_spec.specs.Ledger.{Book, bookRecord, Tells, bookLines, repairAsked, noted, packetsAfter, act, enter, accept, bookLength, repair}
 use Rattle.store_spec.specs.Packets.{freshShare}
 use Rattle.store_spec.specs.Record.{usedLen, held, putShares}
 use Rattle.store_spec.proofs.Area.{length-shares, shares-same, shares-other}
@@ -25,7 +28,8 @@ use Rattle.store_spec.proofs.Marks.{off-from, marksOf, mark-at, marks-o
 use Rattle.store_spec.proofs.Records.{Sound, Repairs, used-fits, facts-sound, repair-facts}
 use Rattle.store_spec.proofs.Repair.{fresh-length, true-share, moved-is}
 use Rattle.store_spec.proofs.Seam.{AllLaws}
-use Rattle.store_spec.proofs.Step.{Inv, facts, same-check, up, lawful, few, Good, good-both, refusal-good}
+use Rattle.store_spec.proofs.Step.{Inv, Runs, runs-none, facts, up, lawful, few, at, same-check, none-runs, Good, good-both, refusal-good}
+use Rattle.store_spec.proofs.Beside.{alone-busy}
 
 -- ---- the call
 
@@ -33,12 +37,7 @@ module _ (laws : AllLaws) (b : Book) (area : List ℕ) (v : Inv b area) where
   known : Sound (bookRecord b)
   known = facts laws b area v
 
-  repair-same : (fresh helpers standIns : List ℕ)
-      → first storeOrder (repairLines (bookRecord b) (length area) fresh helpers standIns) ≡ first storeOrder (bookLines b (repair fresh helpers standIns))
-  unfolding storeLines repairLines listLines bookLines
-  repair-same fresh helpers standIns = same-check laws b area v (repair fresh helpers standIns) (λ _. refl)
-
-  repair-inv : (fresh helpers standIns : List ℕ) → Repairs (bookRecord b) (length area) fresh helpers standIns
+  pub repair-inv : (fresh helpers standIns : List ℕ) → Repairs (bookRecord b) (length area) fresh helpers standIns
       → Inv (noted b (b .file) (fresh ++ b .service)) (repairDone (bookRecord b) area fresh helpers standIns .area)
   repair-inv fresh helpers standIns f =
       record {
@@ -86,15 +85,34 @@ module _ (laws : AllLaws) (b : Book) (area : List ℕ) (v : Inv b area) where
           (all-among (λ x. x < b .sizes .n) (b .service) i (v .serving) o) q (used-fits (bookRecord b) known)
           ∙ v .holds i o
 
-  pub repair-good : (fresh helpers standIns : List ℕ) → Good (act (record { kept = bookRecord b; area = area }) (repair fresh helpers standIns)) (enter b (repair fresh helpers standIns))
-  unfolding act enter accept repairCall
+module _ (laws : AllLaws) (b : Book) (area : List ℕ) (v : Inv b area) (packets : List ℕ) (g : Runs b (b .repairing) area packets) (p : Running) (tells : Tells (b .sizes) (b .repairing) p) where
+  pub asked-same : (fresh helpers standIns : List ℕ)
+      → first storeOrder (repairLinesBoth (bookRecord b) p (length area) fresh helpers standIns) ≡ first storeOrder (repairAsked b fresh helpers standIns)
+  unfolding storeLines repairLinesBoth repairLines listLines bookLines repairAsked
+  asked-same fresh helpers standIns = same-check laws b area v packets g p tells (repair fresh helpers standIns) (λ _. refl)
+
+  -- a repair or start that is taken: none runs, and its lists pass
+  pub asked-alone : (fresh helpers standIns : List ℕ) → first storeOrder (repairLinesBoth (bookRecord b) p (length area) fresh helpers standIns) ≡ Pass
+      → (first storeOrder (repairLines (bookRecord b) (length area) fresh helpers standIns) ≡ Pass) × (given (b .repairing) ≡ false)
+  unfolding repairLinesBoth repairLines listLines
+  asked-alone fresh helpers standIns e =
+      let a = alone-busy (bookRecord b) p (p .running) (drop 1 (repairLines (bookRecord b) (length area) fresh helpers standIns)) refl e in
+      (a .0, none-runs laws b area v packets g p tells (a .1))
+
+  pub repair-good : (fresh helpers standIns : List ℕ)
+      → Good (packetsAfter packets (repair fresh helpers standIns)) (act (at laws b area v packets g p tells) (repair fresh helpers standIns)) (enter b (repair fresh helpers standIns))
+  unfolding act enter accept repairBoth bookLines
   repair-good fresh helpers standIns =
-      good-both _ _ _ _ _ _ (repair-same fresh helpers standIns) (refusal-good laws b area v [])
-      (λ e. let f = repair-facts (bookRecord b) (length area) fresh helpers standIns e in
+      good-both (packetsAfter packets (repair fresh helpers standIns)) _ _ _ _ _ _ (asked-same fresh helpers standIns)
+      (λ x. refusal-good laws b area v packets g p tells (packetsAfter packets (repair fresh helpers standIns)) [] [] x refl)
+      (λ e. let a = asked-alone fresh helpers standIns e in
+      let f = repair-facts (bookRecord b) (length area) fresh helpers standIns (a .0) in
       record {
         alike = ap (λ (m : ℕ). record { answer = said (Done m); output = [] })
             (moved-is (bookRecord b) area fresh helpers standIns (length area) (lawful laws b area v .lengths) f);
         same-record = ap (λ (m : List Bool). record { sizes = b .sizes; points = b .points; capacity = b .capacity; written = given (b .file); length = bookLength b; marks = m })
             (marks-on fresh (b .service));
-        inv = repair-inv fresh helpers standIns f;
+        same-running = tells;
+        inv = repair-inv laws b area v fresh helpers standIns f;
+        runs = runs-none _ (b .repairing) _ _ (a .1);
       })

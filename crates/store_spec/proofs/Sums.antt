@@ -66,7 +66,7 @@ concat-all P zero f h = tt
 concat-all P (suc n) f h =
     append-all P (f 0) (concat (tabulate n (λ i. f (suc i)))) (h 0 (omega arith)) (concat-all P n (λ i. f (suc i)) (λ i k. h (suc i) (omega arith)))
 
-among-append-right : (xs ys : List ℕ) (x : ℕ) → among ys x ≡ true → among (xs ++ ys) x ≡ true
+pub among-append-right : (xs ys : List ℕ) (x : ℕ) → among ys x ≡ true → among (xs ++ ys) x ≡ true
 among-append-right xs ys x e = go (among xs x) refl
   where
     go : (t : Bool) → among xs x ≡ t → among (xs ++ ys) x ≡ true

@@ -1,24 +1,36 @@
 -- The premises of a list of calls, as tests that can be computed.
 -- Assumes nothing.
 use Prim.Native.Nat.{ℕ}
-use mathlib.Core.Path.{_≡_}
-use mathlib.Core.Bool.{Bool, true, false}
+use mathlib.Core.Path.{_≡_, sym, _∙_, ap}
+use mathlib.Core.Bool.{Bool, true, false, not}
 use mathlib.Core.List.{List, [], _∷_}
+use mathlib.Core.Option.{Option}
 use lib.Dec.{eqb}
-use lib.ListN.{length}
-use borrow.Author.Tests.{eqb-true}
+use lib.ListN.{length, take}
+use borrow.Author.Tests.{eqb-true, not-true}
 use Rattle.lists.specs.Tests.{pick, every, below, same}
 use Rattle.lists.proofs.Tests.{both, every-all, same-eq}
 use Rattle.lists.proofs.Boards.{all-among, below-all}
 use Rattle.store_spec.specs.Record.{Record, part}
-use Rattle.store_spec.specs.Ledger.{Call, write, lose, repair, read, edit, Book, State, Step, Altered, Fair, Allowed, left, stepOutcome, enter}
+use Rattle.store_spec.specs.Lying.{placeOf}
+use Rattle.store_spec.specs.Ledger.{Call, write, lose, repair, read, edit, start, step, Event, call, powerFails, Book, Repairing, during, bookRecord, carriedBy, State, Step, Altered, Fair}
+use Rattle.store_spec.specs.Ledger.{FairEvent, Allowed, lent, next, bookNext}
 
-abbrev pub bytes : Call → Bool
-bytes (write file) = below 256 file
-bytes (lose board) = true
-bytes (repair fresh helpers standIns) = true
-bytes (read boards output) = true
-bytes (edit offset new boards) = below 256 new
+-- a file or an edit is of bytes, and a packet area of the right length has the packets carried as they were left
+abbrev pub fairly : Book → List ℕ → Call → Bool
+fairly b old (write file) = below 256 file
+fairly b old (lose board) = true
+fairly b old (repair fresh helpers standIns) = true
+fairly b old (read boards output) = true
+fairly b old (edit offset bytes boards) = below 256 bytes
+fairly b old (start fresh helpers standIns) = true
+fairly b old (step allowance packets) =
+    during (b .repairing) true (λ r.
+    same (take (placeOf (bookRecord b) (length (r .fresh)) (carriedBy b r)) packets) (take (placeOf (bookRecord b) (length (r .fresh)) (carriedBy b r)) old))
+
+abbrev pub fairlyEvent : Book → List ℕ → Event → Bool
+fairlyEvent b old (call c) = fairly b old c
+fairlyEvent b old (powerFails p) = not (p .running)
 
 abbrev pub agrees : Book → Record → List ℕ → List ℕ → Bool
 agrees b s old new = pick (eqb (length new) (length old)) (every (λ i. same (part s new i) (part s old i)) (b .service)) false
@@ -27,7 +39,7 @@ abbrev pub allows : State → Book → List Step → Bool
 allows w b [] = true
 allows w b (t ∷ ts) =
     pick (agrees b (w .kept) (w .area) (t .area))
-    (pick (bytes (t .call)) (allows (left (stepOutcome w t)) (enter b (t .call) .book) ts) false)
+    (pick (fairlyEvent b (w .packets) (t .event)) (allows (next (lent w t) (t .event)) (bookNext b (t .event)) ts) false)
     false
 
 pub agree : (b : Book) (s : Record) (old new : List ℕ) → agrees b s old new ≡ true → Altered b s old new
@@ -39,16 +51,24 @@ agree b s old new e =
           (all-among (λ x. same (part s new x) (part s old x) ≡ true) (b .service) i (every-all (λ x. same (part s new x) (part s old x)) (b .service) (h .1)) k);
     }
 
-pub fair : (call : Call) → bytes call ≡ true → Fair call
-fair (write file) e = below-all 256 file e
-fair (lose board) e = tt
-fair (repair fresh helpers standIns) e = tt
-fair (read boards output) e = tt
-fair (edit offset new boards) e = below-all 256 new e
+pub fair : (b : Book) (old : List ℕ) (c : Call) → fairly b old c ≡ true → Fair b old c
+fair b old (write file) e = below-all 256 file e
+fair b old (lose board) e = tt
+fair b old (repair fresh helpers standIns) e = tt
+fair b old (read boards output) e = tt
+fair b old (edit offset bytes boards) e = below-all 256 bytes e
+fair b old (start fresh helpers standIns) e = tt
+fair b old (step allowance packets) e = λ r q l.
+    same-eq _ _ (ap (λ (o : Option Repairing). during o true (λ r.
+    same (take (placeOf (bookRecord b) (length (r .fresh)) (carriedBy b r)) packets) (take (placeOf (bookRecord b) (length (r .fresh)) (carriedBy b r)) old))) (sym q) ∙ e)
+
+pub fair-event : (b : Book) (old : List ℕ) (e : Event) → fairlyEvent b old e ≡ true → FairEvent b old e
+fair-event b old (call c) h = fair b old c h
+fair-event b old (powerFails p) h = not-true (p .running) h
 
 pub allow : (w : State) (b : Book) (ts : List Step) → allows w b ts ≡ true → Allowed w b ts
 allow w b [] e = tt
 allow w b (t ∷ ts) e =
-    let h = both (agrees b (w .kept) (w .area) (t .area)) (pick (bytes (t .call)) (allows (left (stepOutcome w t)) (enter b (t .call) .book) ts) false) e in
-    let g = both (bytes (t .call)) (allows (left (stepOutcome w t)) (enter b (t .call) .book) ts) (h .1) in
-    (agree b (w .kept) (w .area) (t .area) (h .0), fair (t .call) (g .0), allow (left (stepOutcome w t)) (enter b (t .call) .book) ts (g .1))
+    let h = both (agrees b (w .kept) (w .area) (t .area)) (pick (fairlyEvent b (w .packets) (t .event)) (allows (next (lent w t) (t .event)) (bookNext b (t .event)) ts) false) e in
+    let g = both (fairlyEvent b (w .packets) (t .event)) (allows (next (lent w t) (t .event)) (bookNext b (t .event)) ts) (h .1) in
+    (agree b (w .kept) (w .area) (t .area) (h .0), fair-event b (w .packets) (t .event) (g .0), allow (next (lent w t) (t .event)) (bookNext b (t .event)) ts (g .1))

@@ -1,5 +1,5 @@
--- Demand 1 of the store: every call ends, on any record, area and lists, with its result or with the first refusal whose line holds, and a
--- refusal hands back the record as it came and changes no byte. And what an accepted call does to record, area and output, over any area.
+-- Demand 1 of the store's calls alone (BothCalls.antt has them with the record of a repair beside): every call ends, on any record, area and lists, with its result
+-- or with the first refusal whose line holds, and a refusal hands back the record as it came and changes no byte. And what an accepted call does to record, area and output, over any area.
 -- proofs/Demand1.antt has `demand-1 : StoreCalls`.
 -- Assumes nothing.
 use mathlib.Core.Path.{_≡_}
@@ -25,7 +25,6 @@ use Rattle.store_spec.specs.Record.{Record, inService, sound, newRecord,
 use Rattle.store_spec.specs.Calls.{StoreOutcome, accepted, refused, fileHeld, recordLine, writeLines, loseLines, listLines, repairLines, readLines, setUpCall, writeDone, writeCall}
 use Rattle.store_spec.specs.Calls.{loseDone, loseCall, repairDone, repairCall, readDone, readCall}
 use Rattle.store_spec.specs.Edit.{editLines, editDone, editCall}
-use Rattle.store_spec.specs.Ledger.{Call, write, lose, repair, read, edit, Book, bookRecord, bookLines}
 
 -- one call: its lines; record, area and output as they came; what it does where no line holds; and its outcome
 pub record StoreEnds (lines : List Line) (s : Record) (area output : List ℕ) (done o : StoreOutcome) : Type 0 where
@@ -40,14 +39,6 @@ pub record StoreEnds (lines : List Line) (s : Record) (area output : List ℕ) (
 pub record Stays (s : Record) (boards old new : List ℕ) : Type 0 where
   pub as-long : length new ≡ length old
   pub same-byte : (p : ℕ) → ((i : ℕ) → among boards i ≡ true → (p < i * partLen s) ⊎ (i * partLen s + usedLen s ≤ p)) → getD new p 0 ≡ getD old p 0
-
--- a call's lines by the store
-unfoldable pub storeLines : Record → List ℕ → Call → List Line
-storeLines s area (write file) = writeLines s (length area) file
-storeLines s area (lose board) = loseLines s board
-storeLines s area (repair fresh helpers standIns) = repairLines s (length area) fresh helpers standIns
-storeLines s area (read boards output) = readLines s area boards output
-storeLines s area (edit offset bytes boards) = editLines s area offset bytes boards
 
 -- what the lines of each call say
 module _ (s : Record) where
@@ -180,6 +171,3 @@ pub record StoreCalls : Type 0 where
       ↔ All (λ i. held s area i ≡ share (s .sizes) (s .points) file i) boards)
       × ((readCall s area boards output ≡ refused s area output Disagree)
       ↔ ((file : List ℕ) → length file ≡ s .length → Bytes file → All (λ i. held s area i ≡ share (s .sizes) (s .points) file i) boards → ⊥))
-  -- the ledger's lines are the store's: for each refusal but 1 and 10, by any book that tells legal sizes and names boards below n
-  pub lines-agree : (b : Book) (area : List ℕ) (call : Call) → legal (b .sizes) ≡ true → All (λ i. i < b .sizes .n) (b .service) → length area ≡ b .areaLength
-      → (x : Refusal) → x ≢ Size → x ≢ Disagree → appliesIn (storeLines (bookRecord b) area call) x ≡ appliesIn (bookLines b call) x

@@ -2,32 +2,35 @@
 -- Assumes nothing.
 use Prim.Native.Nat.{ℕ, _+_, _-_, _*_}
 use mathlib.Core.Path.{_≡_}
-use mathlib.Core.Bool.{Bool, true, not}
-use mathlib.Core.List.{List, [], _∷_, _++_, map}
+use mathlib.Core.Bool.{true, false, not}
+use mathlib.Core.List.{List, [], _∷_, _++_}
 use mathlib.Core.Option.{Option, some, none}
 use lib.Dec.{leb, ltb, eqb}
-use lib.ListN.{length}
-use Rattle.lists.specs.Tests.{every, alls, below, among, different, apart, given}
-use Rattle.lists.specs.Lists.{All, Bytes, tabulate, piece, without, put, over}
+use lib.ListN.{length, take}
+use Rattle.lists.specs.Tests.{pick, every, alls, below, among, different, apart, given}
+use Rattle.lists.specs.Lists.{Bytes, tabulate, piece, without, put, over}
 use Rattle.sizes.specs.declared.Sizes.{Sizes}
-use Rattle.sizes.specs.declared.Refusal.{Refusal}
-use Rattle.sizes.specs.declared.Refusal.the-variants.{Area, Long, Count, Node, Repeat, Short, Empty, Down, Serving, Range}
+use Rattle.sizes.specs.declared.Refusal.the-variants.{Area, Long, Count, Node, Repeat, Short, Empty, Down, Serving, Range, Busy, Idle}
 use Rattle.sizes.specs.declared.Answer.the-variants.{Done, Refused}
 use Rattle.sizes.specs.Sizing.{maxBoards, α, B, stripes}
 use Rattle.sizes.specs.Refusals.{Said, said, Line, _when_, first, storeOrder}
 use Rattle.board_spec.specs.Calls.{fileOf}
 use Rattle.store_spec.specs.Record.{Record, part}
-use Rattle.store_spec.specs.Calls.{StoreOutcome, settle, writeCall, loseCall, repairCall, readCall}
-use Rattle.store_spec.specs.Edit.{editCall}
+use Rattle.store_spec.specs.Calls.{settle}
+use Rattle.store_spec.specs.Running.{Running, idle, runningBy, packetCount, packetsLen}
+use Rattle.store_spec.specs.Lying.{placeOf}
+use Rattle.store_spec.specs.Both.{Outcome, writeBoth, loseBoth, repairBoth, readBoth, editBoth, startCall, stepCall}
 
 -- "writes, losses, repairs and reads", and from request A.6 on "every store call that a request adds": a call with its arguments other than
--- record and area
+-- record and area. A step's packet area is lent with it; the ledger looks at its length alone.
 pub data Call : Type 0 where
   write : (file : List ℕ) → Call
   lose : (board : ℕ) → Call
   repair : (fresh helpers standIns : List ℕ) → Call
   read : (boards output : List ℕ) → Call
   edit : (offset : ℕ) (bytes boards : List ℕ) → Call
+  start : (fresh helpers standIns : List ℕ) → Call
+  step : (allowance : ℕ) (packets : List ℕ) → Call
 
 -- what store and ledger have to agree in: "refused or not, the number, the bytes moved, and all bytes of a read's output after it"
 pub record Reply : Type 0 where
@@ -35,6 +38,13 @@ pub record Reply : Type 0 where
   pub output : List ℕ
 
 -- ---- the ledger
+
+-- request A.8, what the book keeps of a repair that runs: its lists, and how many packets are left
+pub record Repairing : Type 0 where
+  pub fresh : List ℕ
+  pub helpers : List ℕ
+  pub standIns : List ℕ
+  pub left : ℕ
 
 -- "It is fed the sizes", with them the points (request A.9), "C, the area's length .. It keeps the last file accepted and the boards in service"
 pub record Book : Type 0 where
@@ -44,28 +54,34 @@ pub record Book : Type 0 where
   pub areaLength : ℕ
   pub file : Option (List ℕ)
   pub service : List ℕ
+  pub repairing : Option Repairing
 
 -- "none of either at first"
 abbrev pub openBook : Sizes → List ℕ → ℕ → ℕ → Book
-openBook z xs c m = record { sizes = z; points = xs; capacity = c; areaLength = m; file = none; service = [] }
+openBook z xs c m = record { sizes = z; points = xs; capacity = c; areaLength = m; file = none; service = []; repairing = none }
 
 abbrev pub noted : Book → Option (List ℕ) → List ℕ → Book
-noted b file service = record { sizes = b .sizes; points = b .points; capacity = b .capacity; areaLength = b .areaLength; file = file; service = service }
+noted b file service = record { sizes = b .sizes; points = b .points; capacity = b .capacity; areaLength = b .areaLength; file = file; service = service; repairing = b .repairing }
+
+-- the same file, with this repair running or none
+abbrev pub going : Book → Option Repairing → List ℕ → Book
+going b repairing service = record { sizes = b .sizes; points = b .points; capacity = b .capacity; areaLength = b .areaLength; file = b .file; service = service; repairing = repairing }
+
+-- by the repair that runs, if one does
+abbrev pub during : {A : Type 0} → Option Repairing → A → (Repairing → A) → A
+during none a f = a
+during (some r) a f = f r
 
 -- "L and S are those of that file"
 abbrev pub bookLength : Book → ℕ
 bookLength b = length (fileOf (b .file))
 
--- the lines by this book; 1 and 10 "never hold in it"; "for losing only 1 and 5, whatever the area's length"
-unfoldable pub bookLines : Book → Call → List Line
-bookLines b (write file) =
-    Area when not (eqb (b .areaLength) (b .sizes .n * (b .capacity * α (b .sizes))))
-    ∷ Long when ltb (b .capacity * B (b .sizes)) (length file)
-    ∷ []
-bookLines b (lose board) = Node when not (ltb board (b .sizes .n)) ∷ []
-bookLines b (repair fresh helpers standIns) =
+-- what a repair is asked, and so is a start
+unfoldable pub repairAsked : Book → List ℕ → List ℕ → List ℕ → List Line
+repairAsked b fresh helpers standIns =
     Area when not (eqb (b .areaLength) (b .sizes .n * (b .capacity * α (b .sizes))))
     ∷ Empty when not (given (b .file))
+    ∷ Busy when given (b .repairing)
     ∷ Count when not (alls
     (leb 1 (length fresh)
     ∷ leb (length fresh) (b .sizes .r)
@@ -82,6 +98,16 @@ bookLines b (repair fresh helpers standIns) =
     ∷ Serving when not (apart (b .service) fresh)
     ∷ Down when not (alls (every (among (b .service)) helpers ∷ every (among (b .service)) standIns ∷ []))
     ∷ []
+
+-- the lines by this book; 1 and 10 "never hold in it"; "for losing only 1 and 5, whatever the area's length"
+unfoldable pub bookLines : Book → Call → List Line
+bookLines b (write file) =
+    Area when not (eqb (b .areaLength) (b .sizes .n * (b .capacity * α (b .sizes))))
+    ∷ Long when ltb (b .capacity * B (b .sizes)) (length file)
+    ∷ Busy when given (b .repairing)
+    ∷ []
+bookLines b (lose board) = Node when not (ltb board (b .sizes .n)) ∷ []
+bookLines b (repair fresh helpers standIns) = repairAsked b fresh helpers standIns
 bookLines b (read boards output) =
     Area when not (eqb (b .areaLength) (b .sizes .n * (b .capacity * α (b .sizes))))
     ∷ Empty when not (given (b .file))
@@ -94,11 +120,21 @@ bookLines b (read boards output) =
 bookLines b (edit offset bytes boards) =
     Area when not (eqb (b .areaLength) (b .sizes .n * (b .capacity * α (b .sizes))))
     ∷ Empty when not (given (b .file))
+    ∷ Busy when given (b .repairing)
     ∷ Range when ltb (bookLength b) (offset + length bytes)
     ∷ Count when not (eqb (length boards) (b .sizes .k))
     ∷ Node when not (below (b .sizes .n) boards)
     ∷ Repeat when not (different boards)
     ∷ Down when not (every (among (b .service)) boards)
+    ∷ []
+bookLines b (start fresh helpers standIns) = repairAsked b fresh helpers standIns
+bookLines b (step allowance packets) =
+    Area when not (alls
+    (eqb (b .areaLength) (b .sizes .n * (b .capacity * α (b .sizes)))
+    ∷ during (b .repairing) true (λ r. eqb (length packets) (stripes (b .sizes) (bookLength b) * length (r .fresh) * α (b .sizes)))
+    ∷ []))
+    ∷ Empty when not (given (b .file))
+    ∷ Idle when not (given (b .repairing))
     ∷ []
 
 -- what the ledger replies, and the book after it
@@ -116,51 +152,132 @@ outputOf (lose board) = []
 outputOf (repair fresh helpers standIns) = []
 outputOf (read boards output) = output
 outputOf (edit offset bytes boards) = []
+outputOf (start fresh helpers standIns) = []
+outputOf (step allowance packets) = []
+
+-- the packet area that a call was lent; none but a step's
+abbrev pub packetsOfCall : Call → List ℕ
+packetsOfCall (write file) = []
+packetsOfCall (lose board) = []
+packetsOfCall (repair fresh helpers standIns) = []
+packetsOfCall (read boards output) = []
+packetsOfCall (edit offset bytes boards) = []
+packetsOfCall (start fresh helpers standIns) = []
+packetsOfCall (step allowance packets) = packets
+
+-- "Losing a board named in the repair ends it"
+abbrev pub keptOn : Repairing → ℕ → Option Repairing
+keptOn r board = pick (among (r .fresh ++ (r .helpers ++ r .standIns)) board) none (some r)
+
+-- "the fresh boards .. enter service only with the last"
+abbrev pub ended : Book → Repairing → Entry
+ended b r = replied (said (Done (r .left))) [] (going b none (r .fresh ++ b .service))
+
+abbrev pub goesOn : Book → Repairing → ℕ → Entry
+goesOn b r m =
+    replied (said (Done m)) []
+    (going b (some (record { fresh = r .fresh; helpers = r .helpers; standIns = r .standIns; left = r .left - m })) (b .service))
 
 -- a call that is not refused
 unfoldable pub accept : Book → Call → Entry
 accept b (write file) = replied (said (Done 0)) [] (noted b (some file) (tabulate (b .sizes .n) (λ i. i)))
-accept b (lose board) = replied (said (Done 0)) [] (noted b (b .file) (without board (b .service)))
+accept b (lose board) = replied (said (Done 0)) [] (going b (during (b .repairing) none (λ r. keptOn r board)) (without board (b .service)))
 accept b (repair fresh helpers standIns) =
     replied (said (Done (stripes (b .sizes) (bookLength b) * length fresh * (2 * b .sizes .d + b .sizes .r - 1)))) []
     (noted b (b .file) (fresh ++ b .service))
 accept b (read boards output) = replied (said (Done 0)) (over (fileOf (b .file)) output) b
 -- "The file that reads must return is from then on the edited one."
 accept b (edit offset bytes boards) = replied (said (Done 0)) [] (noted b (some (put (fileOf (b .file)) offset bytes)) (b .service))
+-- "It is finished after exactly t(d + r − 1) packets"
+accept b (start fresh helpers standIns) =
+    replied (said (Done 0)) []
+    (going b (some (record { fresh = fresh; helpers = helpers; standIns = standIns; left = length fresh * (b .sizes .d + b .sizes .r - 1) })) (b .service))
+accept b (step allowance packets) = during (b .repairing) (replied (said (Done 0)) [] b) (λ r. pick (leb (r .left) allowance) (ended b r) (goesOn b r allowance))
 
 -- "A call is refused with the first number, in the store's order, whose line holds by this book, and then changes nothing"
 unfoldable pub enter : Book → Call → Entry
 enter b call = settle (first storeOrder (bookLines b call)) (λ x. replied (said (Refused x)) (outputOf call) b) (accept b call)
 
+-- the record that the book tells, and that of the repair beside it
+abbrev pub bookRecord : Book → Record
+bookRecord b =
+    record { sizes = b .sizes; points = b .points; capacity = b .capacity; written = given (b .file); length = bookLength b; marks = tabulate maxBoards (among (b .service)) }
+
+-- packets carried
+abbrev pub carriedBy : Book → Repairing → ℕ
+carriedBy b r = packetCount (b .sizes) (length (r .fresh)) - r .left
+
+abbrev pub bookRunning : Book → Running
+bookRunning b = during (b .repairing) idle (λ r. runningBy (r .fresh) (r .helpers) (r .standIns) (carriedBy b r))
+
+-- a record of a repair is one that the book tells: where none runs, any that is idle
+abbrev pub Tells : Sizes → Option Repairing → Running → Type 0
+Tells z none p = p .running ≡ false
+Tells z (some r) p = p ≡ runningBy (r .fresh) (r .helpers) (r .standIns) (packetCount z (length (r .fresh)) - r .left)
+
 -- ---- the store
 
--- the record that the last call handed on, and the area
+-- the two records that the last call handed on, the area, and the packet area as the last accepted step left it
 pub record State : Type 0 where
   pub kept : Record
+  pub running : Running
   pub area : List ℕ
+  pub packets : List ℕ
 
-unfoldable pub act : State → Call → StoreOutcome
-act w (write file) = writeCall (w .kept) (w .area) file
-act w (lose board) = loseCall (w .kept) (w .area) board
-act w (repair fresh helpers standIns) = repairCall (w .kept) (w .area) fresh helpers standIns
-act w (read boards output) = readCall (w .kept) (w .area) boards output
-act w (edit offset bytes boards) = editCall (w .kept) (w .area) offset bytes boards
+unfoldable pub act : State → Call → Outcome
+act w (write file) = writeBoth (w .kept) (w .running) (w .area) file
+act w (lose board) = loseBoth (w .kept) (w .running) (w .area) board
+act w (repair fresh helpers standIns) = repairBoth (w .kept) (w .running) (w .area) fresh helpers standIns
+act w (read boards output) = readBoth (w .kept) (w .running) (w .area) boards output
+act w (edit offset bytes boards) = editBoth (w .kept) (w .running) (w .area) offset bytes boards
+act w (start fresh helpers standIns) = startCall (w .kept) (w .running) (w .area) fresh helpers standIns
+act w (step allowance packets) = stepCall (w .kept) (w .running) (w .area) packets allowance
 
-abbrev pub replyOf : StoreOutcome → Reply
+abbrev pub replyOf : Outcome → Reply
 replyOf o = record { answer = o .answer; output = o .output }
 
-abbrev pub left : StoreOutcome → State
-left o = record { kept = o .handed; area = o .area }
+-- the packet area after a call with this outcome: what an accepted step left
+abbrev pub packetsAfter : List ℕ → Call → Outcome → List ℕ
+packetsAfter before (write file) o = before
+packetsAfter before (lose board) o = before
+packetsAfter before (repair fresh helpers standIns) o = before
+packetsAfter before (read boards output) o = before
+packetsAfter before (edit offset bytes boards) o = before
+packetsAfter before (start fresh helpers standIns) o = before
+packetsAfter before (step allowance packets) o = pick (eqb (o .answer .refusal) 0) (o .packets) before
 
 -- ---- lists of calls
 
--- a call, and the area as it was altered before it
+-- a call, or that the power fails: the calls after it are given this record of a repair
+pub data Event : Type 0 where
+  call : Call → Event
+  powerFails : (given : Running) → Event
+
+-- "the repair's own record and packets are gone"; "the calls after it are given an idle record beside the store's"
+abbrev pub next : State → Event → State
+next w (call c) = let o = act w c in record { kept = o .handed; running = o .running; area = o .area; packets = packetsAfter (w .packets) c o }
+next w (powerFails p) = record { kept = w .kept; running = p; area = w .area; packets = [] }
+
+-- a power failure has no reply
+abbrev pub told : State → Event → List Reply
+told w (call c) = replyOf (act w c) ∷ []
+told w (powerFails p) = []
+
+abbrev pub bookNext : Book → Event → Book
+bookNext b (call c) = enter b c .book
+bookNext b (powerFails p) = going b none (b .service)
+
+abbrev pub bookTold : Book → Event → List Reply
+bookTold b (call c) = enter b c .reply ∷ []
+bookTold b (powerFails p) = []
+
+-- what happens, and the area as it was altered before it
 pub record Step : Type 0 where
   pub area : List ℕ
-  pub call : Call
+  pub event : Event
 
-abbrev pub stepOutcome : State → Step → StoreOutcome
-stepOutcome w t = act (record { kept = w .kept; area = t .area }) (t .call)
+abbrev pub lent : State → Step → State
+lent w t = record { kept = w .kept; running = w .running; area = t .area; packets = w .packets }
 
 -- "altered since at most in bytes of boards out of service": of the same length, and the same in all bytes of boards that are in service by
 -- the book
@@ -168,38 +285,46 @@ pub record Altered (b : Book) (s : Record) (old new : List ℕ) : Type 0 where
   pub as-long : length new ≡ length old
   pub in-service : (i : ℕ) → among (b .service) i ≡ true → part s new i ≡ part s old i
 
--- a file to write is of bytes, and so are an edit's
-abbrev pub Fair : Call → Type 0
-Fair (write file) = Bytes file
-Fair (lose board) = Unit
-Fair (repair fresh helpers standIns) = Unit
-Fair (read boards output) = Unit
-Fair (edit offset bytes boards) = Bytes bytes
+-- "the packet area unaltered": one of the right length, lent while a repair runs, has the bytes of all packets carried as the last accepted step left them;
+-- its other bytes are free
+abbrev pub Unaltered : Book → List ℕ → List ℕ → Type 0
+Unaltered b old new =
+    (r : Repairing) → b .repairing ≡ some r → length new ≡ packetsLen (bookRecord b) (length (r .fresh))
+    → take (placeOf (bookRecord b) (length (r .fresh)) (carriedBy b r)) new ≡ take (placeOf (bookRecord b) (length (r .fresh)) (carriedBy b r)) old
+
+-- a file to write is of bytes, and so are an edit's; after a power failure the record given is an idle one, whatever else it has
+abbrev pub Fair : Book → List ℕ → Call → Type 0
+Fair b old (write file) = Bytes file
+Fair b old (lose board) = Unit
+Fair b old (repair fresh helpers standIns) = Unit
+Fair b old (read boards output) = Unit
+Fair b old (edit offset bytes boards) = Bytes bytes
+Fair b old (start fresh helpers standIns) = Unit
+Fair b old (step allowance packets) = Unaltered b old packets
+
+abbrev pub FairEvent : Book → List ℕ → Event → Type 0
+FairEvent b old (call c) = Fair b old c
+FairEvent b old (powerFails p) = p .running ≡ false
 
 abbrev pub Allowed : State → Book → List Step → Type 0
 Allowed w b [] = Unit
 Allowed w b (t ∷ ts) =
-    Altered b (w .kept) (w .area) (t .area) × Fair (t .call) × Allowed (left (stepOutcome w t)) (enter b (t .call) .book) ts
+    Altered b (w .kept) (w .area) (t .area) × FairEvent b (w .packets) (t .event) × Allowed (next (lent w t) (t .event)) (bookNext b (t .event)) ts
 
 -- the store's replies along the list, and where it ends
 abbrev pub replies : State → List Step → List Reply
 replies w [] = []
-replies w (t ∷ ts) = replyOf (stepOutcome w t) ∷ replies (left (stepOutcome w t)) ts
+replies w (t ∷ ts) = told (lent w t) (t .event) ++ replies (next (lent w t) (t .event)) ts
 
 abbrev pub final : State → List Step → State
 final w [] = w
-final w (t ∷ ts) = final (left (stepOutcome w t)) ts
+final w (t ∷ ts) = final (next (lent w t) (t .event)) ts
 
--- the ledger's, which sees the calls alone
-abbrev pub bookReplies : Book → List Call → List Reply
+-- the ledger's, which sees what happens alone
+abbrev pub bookReplies : Book → List Event → List Reply
 bookReplies b [] = []
-bookReplies b (call ∷ calls) = enter b call .reply ∷ bookReplies (enter b call .book) calls
+bookReplies b (e ∷ es) = bookTold b e ++ bookReplies (bookNext b e) es
 
-abbrev pub bookFinal : Book → List Call → Book
+abbrev pub bookFinal : Book → List Event → Book
 bookFinal b [] = b
-bookFinal b (call ∷ calls) = bookFinal (enter b call .book) calls
-
--- the record that the book tells
-abbrev pub bookRecord : Book → Record
-bookRecord b =
-    record { sizes = b .sizes; points = b .points; capacity = b .capacity; written = given (b .file); length = bookLength b; marks = tabulate maxBoards (among (b .service)) }
+bookFinal b (e ∷ es) = bookFinal (bookNext b e) es

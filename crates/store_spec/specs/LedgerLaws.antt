@@ -4,13 +4,17 @@
 use mathlib.Core.Path.{_≡_}
 use mathlib.Core.Bool.{true, false}
 use mathlib.Core.List.{List}
-use mathlib.Core.Option.{some}
-use Prim.Native.Nat.{ℕ}
+use mathlib.Core.Logic.{_↔_}
+use mathlib.Core.Option.{some, none}
+use Prim.Native.Nat.{ℕ, _+_, _-_, _*_, _≤_, _<_}
 use lib.Dec.{ltb, eqb}
-use Rattle.lists.specs.Tests.{pick, among}
-use Rattle.lists.specs.Lists.{put}
+use lib.ListN.{length}
+use Rattle.lists.specs.Tests.{pick, among, given}
+use Rattle.lists.specs.Lists.{tabulate, put, fit}
+use Rattle.sizes.specs.declared.Sizes.{Sizes}
 use Rattle.board_spec.specs.Calls.{fileOf}
-use Rattle.store_spec.specs.Ledger.{Call, write, lose, repair, read, edit, Book, outputOf, enter}
+use Rattle.store_spec.specs.Running.{Running}
+use Rattle.store_spec.specs.Ledger.{Call, write, lose, repair, read, edit, start, step, Book, Repairing, during, keptOn, outputOf, enter, bookRecord, Tells}
 
 abbrev pub Accepted : Book → Call → Type 0
 Accepted b call = enter b call .reply .answer .refusal ≡ 0
@@ -37,5 +41,45 @@ pub record LedgerLaws : Type 0 where
   pub edits : (b : Book) (offset : ℕ) (bytes boards : List ℕ) → Accepted b (edit offset bytes boards)
       → (enter b (edit offset bytes boards) .book .file ≡ some (put (fileOf (b .file)) offset bytes))
       × (enter b (edit offset bytes boards) .book .service ≡ b .service)
+  -- request A.8: a start notes its lists and "exactly t(d + r − 1) packets" to carry, where none ran; file and boards in service stay
+  pub starts : (b : Book) (fresh helpers standIns : List ℕ) → Accepted b (start fresh helpers standIns)
+      → (b .repairing ≡ none)
+      × (enter b (start fresh helpers standIns) .book .repairing
+      ≡ some (record { fresh = fresh; helpers = helpers; standIns = standIns; left = length fresh * (b .sizes .d + b .sizes .r - 1) }))
+      × (enter b (start fresh helpers standIns) .book .file ≡ b .file) × (enter b (start fresh helpers standIns) .book .service ≡ b .service)
+  -- a step is accepted only where a repair runs; one that leaves packets to carry reports its allowance and changes nothing but what is left
+  pub steps-on : (b : Book) (r : Repairing) (allowance : ℕ) (packets : List ℕ) → b .repairing ≡ some r → Accepted b (step allowance packets) → allowance < r .left
+      → (enter b (step allowance packets) .reply .answer .reported ≡ allowance)
+      × (enter b (step allowance packets) .book .repairing ≡ some (record { fresh = r .fresh; helpers = r .helpers; standIns = r .standIns; left = r .left - allowance }))
+      × (enter b (step allowance packets) .book .file ≡ b .file) × (enter b (step allowance packets) .book .service ≡ b .service)
+  -- one that allows all that is left reports these, and "the fresh boards .. enter service only with the last"
+  pub steps-last : (b : Book) (r : Repairing) (allowance : ℕ) (packets : List ℕ) → b .repairing ≡ some r → Accepted b (step allowance packets) → r .left ≤ allowance
+      → (enter b (step allowance packets) .reply .answer .reported ≡ r .left)
+      × (enter b (step allowance packets) .book .repairing ≡ none)
+      × (enter b (step allowance packets) .book .file ≡ b .file)
+      × ((i : ℕ) → among (enter b (step allowance packets) .book .service) i ≡ pick (among (r .fresh) i) true (among (b .service) i))
+  pub steps-none : (b : Book) (allowance : ℕ) (packets : List ℕ) → b .repairing ≡ none → Accepted b (step allowance packets) → ⊥
+  -- the book is fed the length of a packet area, and none of its bytes
+  pub by-length : (b : Book) (allowance : ℕ) (packets packets′ : List ℕ) → length packets ≡ length packets′ → enter b (step allowance packets) ≡ enter b (step allowance packets′)
+  -- "Losing a board named in the repair ends it", and no other loss does
+  pub loses-repair : (b : Book) (board : ℕ) → Accepted b (lose board) → enter b (lose board) .book .repairing ≡ during (b .repairing) none (λ r. keptOn r board)
   -- a read changes no book
   pub reads : (b : Book) (boards output : List ℕ) → enter b (read boards output) .book ≡ b
+  -- the record that the book tells
+  pub record-is : (b : Book)
+      → bookRecord b
+      ≡ record { sizes = b .sizes; points = b .points; capacity = b .capacity; written = given (b .file); length = length (fileOf (b .file)); marks = tabulate 32 (among (b .service)) }
+  -- request A.8: that of a repair beside it. Where none runs it is any that is idle; else it has just the repair's lists, with 0 behind them, and has carried all of
+  -- t(d + r − 1) packets but those left
+  pub tells-none : (z : Sizes) (p : Running) → Tells z none p ↔ (p .running ≡ false)
+  pub tells-some : (z : Sizes) (r : Repairing) (p : Running)
+      → Tells z (some r) p
+      ↔ (p
+      ≡ record {
+        running = true;
+        count = length (r .fresh);
+        carried = length (r .fresh) * (z .d + z .r - 1) - r .left;
+        fresh = fit 32 (r .fresh);
+        helpers = fit 256 (r .helpers);
+        standIns = fit 256 (r .standIns);
+      })

@@ -2,10 +2,17 @@ pub mod Record
 pub mod Packets
 pub mod Calls
 pub mod Edit
+pub mod Running
+pub mod Lying
+pub mod Both
 pub mod Ledger
 pub mod Demand1
+pub mod BothCalls
+pub mod AloneLaws
 pub mod Runs
 pub mod Demand3
+pub mod StepLaws
+pub mod Stepped
 pub mod Premises
 pub mod LedgerLaws
 pub mod EditLaws
@@ -13,3 +20,4 @@ pub mod ListLaws
 pub mod MarkLaws
 pub mod FurtherFigures
 pub mod Stripes
+pub mod Follows

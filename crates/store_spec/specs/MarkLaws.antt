@@ -8,11 +8,13 @@ use Prim.Native.Nat.{ℕ, _<_}
 use lib.Dec.{ltb, eqb}
 use lib.ListN.{length}
 use Rattle.lists.specs.Tests.{pick, among}
+use Rattle.lists.specs.Lists.{Bytes}
 use Rattle.sizes.specs.Sizing.{maxBoards}
 use Rattle.store_spec.specs.Record.{Record, inService}
 use Rattle.store_spec.specs.Calls.{writeCall, loseCall, repairCall, readCall}
 use Rattle.store_spec.specs.Edit.{editCall}
-use Rattle.store_spec.specs.Ledger.{Call, State, act, outputOf}
+use Rattle.store_spec.specs.Running.{Running, idle}
+use Rattle.store_spec.specs.Ledger.{Call, State, act, outputOf, packetsOfCall}
 
 -- one record has the other's sizes, points and capacity
 abbrev pub SameStore : Record → Record → Type 0
@@ -21,6 +23,15 @@ SameStore new old = (new .sizes ≡ old .sizes) × (new .points ≡ old .points)
 -- and it has its file
 abbrev pub SameFile : Record → Record → Type 0
 SameFile new old = (new .written ≡ old .written) × (new .length ≡ old .length)
+
+-- a record of a repair has arrays of 32, 256 and 256 bytes
+pub record Arrays (p : Running) : Type 0 where
+  pub fresh-long : length (p .fresh) ≡ 32
+  pub fresh-bytes : Bytes (p .fresh)
+  pub helpers-long : length (p .helpers) ≡ 256
+  pub helpers-bytes : Bytes (p .helpers)
+  pub stand-ins-long : length (p .standIns) ≡ 256
+  pub stand-ins-bytes : Bytes (p .standIns)
 
 pub record MarkLaws : Type 0 where
   -- "all n come into service", and none from n up
@@ -37,11 +48,14 @@ pub record MarkLaws : Type 0 where
       → repairCall s area fresh helpers standIns .answer .refusal ≡ 0
       → ((i : ℕ) → i < maxBoards → inService (repairCall s area fresh helpers standIns .handed) i ≡ pick (among fresh i) true (inService s i))
       × SameStore (repairCall s area fresh helpers standIns .handed) s × SameFile (repairCall s area fresh helpers standIns .handed) s
-  -- whatever the call: a refused one leaves record, area and output as they came, and one on 32 marks hands on 32
+  -- whatever the call, with both records: a refused one leaves both, area, output and packet area as they came, and one on 32 marks hands on 32
   pub refused-keeps : (w : State) (call : Call) → (act w call .answer .refusal ≡ 0 → ⊥)
-      → act w call ≡ record { answer = act w call .answer; handed = w .kept; area = w .area; output = outputOf call }
+      → act w call ≡ record { answer = act w call .answer; handed = w .kept; running = w .running; area = w .area; output = outputOf call; packets = packetsOfCall call }
   pub full-marks : (w : State) (call : Call) → length (w .kept .marks) ≡ maxBoards
       → length (act w call .handed .marks) ≡ maxBoards
+  -- request A.8: so it is with the arrays of the record beside
+  pub arrays-stay : (w : State) (call : Call) → Arrays (w .running) → Arrays (act w call .running)
+  pub arrays-idle : Arrays idle
   -- request A.9: the points are those of the set-up, whatever the call
   pub points-stay : (w : State) (call : Call) → act w call .handed .points ≡ w .kept .points
   -- a read hands on the record that it was given

@@ -1,7 +1,7 @@
 -- The load turn by turn: the lines so far, then the text of the calls that are left, are the whole text.
 -- Assumes nothing.
 use mathlib.Core.Path.{_≡_, refl, sym, ap, ap₂, _∙_}
-use mathlib.Core.Bool.{true}
+use mathlib.Core.Bool.{Bool, true}
 use mathlib.Core.Option.{Option, some, none}
 use mathlib.Core.List.{List, [], _∷_, _++_, append-nil, append-assoc}
 use Prim.Native.Nat.{ℕ, zero, suc, _+_, _*_, _-_, _≤_, _<_}
@@ -14,11 +14,12 @@ use Rattle.board_spec.specs.Text.{decimal}
 use Rattle.printer.specs.Printer.{refusedLine}
 use Rattle.text_lines.specs.Steps.{Wrote}
 use Rattle.store_spec.specs.Record.{Record, areaLen}
-use Rattle.store_spec.specs.Calls.{setUpCall}
-use Rattle.store_spec.specs.Ledger.{State, left}
+use Rattle.store_spec.specs.Running.{Running, idle}
+use Rattle.store_spec.specs.Both.{setUpBoth}
+use Rattle.store_spec.specs.Ledger.{State}
 use Rattle.store_spec.proofs.Records.{sound-facts}
-use Rattle.store_spec.proofs.Demand3.{set-up-sound}
-use Rattle.trial_spec.specs.Trial.{Load, newStore, taken, loaded, drawn, trialOver, trialOf, trialText}
+use Rattle.store_spec.proofs.Demand3.{set-up-both}
+use Rattle.trial_spec.specs.Trial.{Load, newStore, taken, loaded, drawn, left, trialOver, trialOf, trialText}
 use Rattle.trial_spec.proofs.Laws.{trial-laws}
 use Rattle.trial_input.specs.declared.Load as load
 use Rattle.trial_input.specs.declared.Loaded.{Loaded}
@@ -64,13 +65,15 @@ onward l text count m w state h s more v next em ev en =
       long = omega (arith, length-append (s .said) line, s .long, em);
     }
 
-pub finished : (l : Load) (text : List ℕ) (count m : ℕ) (w : State) (state : ℕ) → Sofar l text count m w state → Printing text (record { count = count; left = m })
-finished l text count m w state s = record {
+pub finished : (l : Load) (text : List ℕ) (count m : ℕ) (w : State) (state : ℕ) (good : Bool) → (good ≡ true → m ≡ 0) → Sofar l text count m w state
+    → Printing text (record { count = count; left = m; good = good })
+finished l text count m w state good h s = record {
   said = s .said;
   unsaid = textFrom l m w state;
   whole = s .whole;
   long = s .long;
   all = λ e. ap (λ (m : ℕ). textFrom l m w state) e;
+  made = h;
 }
 
 -- ---- a line
@@ -87,7 +90,7 @@ wrote-few l a l2 e w k = omega (arith, w .ends, ap length (w .written), put-long
 
 pub few-stripes : (l : Load) → taken l ≡ true → l .capacity ≤ 4096
 few-stripes l h =
-    sound-facts _ (set-up-sound (newStore l) (l .sizes) (standard (l .sizes)) (l .capacity) (trial-laws .taken-is l .0 h .2 (newStore l))) .cap-high
+    sound-facts _ (set-up-both (newStore l) idle (l .sizes) (standard (l .sizes)) (l .capacity) (trial-laws .taken-is l .0 h .2 (newStore l) idle)) .cap-high
 
 pub few-bytes : (l : Load) → taken l ≡ true → l .sizes .n * (l .capacity * α (l .sizes)) ≤ 32768
 few-bytes l h = trial-laws .taken-is l .0 h .3
@@ -96,13 +99,18 @@ pub few-calls : (l : Load) → taken l ≡ true → l .calls ≤ 4294967295
 few-calls l h = trial-laws .taken-is l .0 h .1
 
 -- from a store newly set up, over the beginning of an array of bytes 00
-pub text-of : (l : Load) (kept : Record) (m : ℕ) → kept ≡ setUpCall (newStore l) (l .sizes) (standard (l .sizes)) (l .capacity) .handed
+pub text-of : (l : Load) (kept : Record) (p : Running) (m : ℕ) → kept ≡ setUpBoth (newStore l) idle (l .sizes) (standard (l .sizes)) (l .capacity) .handed
+    → p ≡ setUpBoth (newStore l) idle (l .sizes) (standard (l .sizes)) (l .capacity) .running
     → m ≡ l .sizes .n * (l .capacity * α (l .sizes)) → m ≤ 32768
-    → textFrom l (l .calls) (record { kept = kept; area = take m (replicate 32768 0) }) (l .seed) ≡ trialOf (some l)
+    → textFrom l (l .calls) (record { kept = kept; running = p; area = take m (replicate 32768 0); packets = [] }) (l .seed) ≡ trialOf (some l)
 unfolding trialOver
-text-of l kept m ek em h =
-    ap₂ {C = List ℕ} (λ (k : Record) (area : List ℕ). textFrom l (l .calls) (record { kept = k; area = area }) (l .seed)) ek
-    (take-zeros m 32768 h ∙ ap (λ (m : ℕ). replicate m 0) em)
+text-of l kept p m ek ep em h =
+    let new = setUpBoth (newStore l) idle (l .sizes) (standard (l .sizes)) (l .capacity) in
+    ap₂ {C = List ℕ} (λ (k : Record) (q : Running). from k q (take m (replicate 32768 0))) ek ep
+    ∙ ap (from (new .handed) (new .running)) (take-zeros m 32768 h ∙ ap (λ (m : ℕ). replicate m 0) em)
+  where
+    from : Record → Running → List ℕ → List ℕ
+    from k q area = textFrom l (l .calls) (record { kept = k; running = q; area = area; packets = [] }) (l .seed)
 
 -- ---- by what is loaded
 
@@ -119,6 +127,6 @@ pub text-loaded : (input : List ℕ) (o : Option Load) → loaded input ≡ o �
 unfolding trialText
 text-loaded input o e = sym (ap trialOf e)
 
-pub refused-line : Printing (refusedLine 1) (record { count = 10; left = 0 })
+pub refused-line : (good : Bool) → Printing (refusedLine 1) (record { count = 10; left = 0; good = good })
 unfolding decimal
-refused-line = record { said = refusedLine 1; unsaid = []; whole = append-nil (refusedLine 1); long = refl; all = λ e. refl }
+refused-line good = record { said = refusedLine 1; unsaid = []; whole = append-nil (refusedLine 1); long = refl; all = λ e. refl; made = λ e. refl }

@@ -15,33 +15,37 @@ use Rattle.lists.specs.Lists.{tabulate}
 use Rattle.lists.proofs.Tests.{every-all}
 use Rattle.lists.proofs.Alls.{all-at}
 use Rattle.lists.proofs.Pieces.{length-tabulate, tabulate-at}
-use Rattle.store_spec.specs.Calls.{StoreOutcome, writeCall, loseCall, repairCall, readCall}
-use Rattle.store_spec.specs.Ledger.{Call, write, lose, repair, read, act, left}
+use Rattle.store_spec.specs.Both.{Outcome, writeBoth, loseBoth, repairBoth, readBoth}
+use Rattle.store_spec.specs.Ledger.{Call, write, lose, repair, read, act}
+use Rattle.trial_spec.specs.Trial.{left}
+use Rattle.record.specs.declared.Running.{Running}
+use Rattle.record.specs.Records.{runningIn}
 use Rattle.store.specs.declared.Store.{Store}
 use Rattle.store.specs.declared.Handed.{Handed}
-use Rattle.store.specs.Handing.{recordIn, outcomeIn}
+use Rattle.store.specs.Handing.{recordIn, outcomeBoth}
 use Rattle.trial_calls.specs.Acts.{stateIn, Acts}
 
 -- ---- calls
 
-module _ (s : Store) (area : List ℕ) {h : Handed} {after : List ℕ} where
-  by-outcome : (call : Call) (output : List ℕ) → outcomeIn h after output ≡ act (stateIn s area) call → Acts (stateIn s area) call h after
-  by-outcome call output e = record { answer = ap (λ (o : StoreOutcome). o .answer) e; after = ap left e }
+module _ (s : Store) (p : Running) (area : List ℕ) {h : Handed} {after : List ℕ} where
+  by-outcome : (call : Call) (output : List ℕ) → outcomeBoth h after output [] ≡ act (stateIn s p area) call → Acts (stateIn s p area) call h after
+  by-outcome call output e = record { answer = ap (λ (o : Outcome). o .answer) e; after = ap left e }
 
-  pub write-acts : (file : List ℕ) → outcomeIn h after [] ≡ writeCall (recordIn s) area file → Acts (stateIn s area) (write file) h after
+  pub write-acts : (file : List ℕ) → outcomeBoth h after [] [] ≡ writeBoth (recordIn s) (runningIn p) area file → Acts (stateIn s p area) (write file) h after
   unfolding act
   write-acts file e = by-outcome (write file) [] e
 
-  pub lose-acts : (board : ℕ) → outcomeIn h after [] ≡ loseCall (recordIn s) area board → Acts (stateIn s area) (lose board) h after
+  pub lose-acts : (board : ℕ) → outcomeBoth h after [] [] ≡ loseBoth (recordIn s) (runningIn p) area board → Acts (stateIn s p area) (lose board) h after
   unfolding act
   lose-acts board e = by-outcome (lose board) [] e
 
-  pub repair-acts : (fresh helpers standIns : List ℕ) → outcomeIn h after [] ≡ repairCall (recordIn s) area fresh helpers standIns
-      → Acts (stateIn s area) (repair fresh helpers standIns) h after
+  pub repair-acts : (fresh helpers standIns : List ℕ) → outcomeBoth h after [] [] ≡ repairBoth (recordIn s) (runningIn p) area fresh helpers standIns
+      → Acts (stateIn s p area) (repair fresh helpers standIns) h after
   unfolding act
   repair-acts fresh helpers standIns e = by-outcome (repair fresh helpers standIns) [] e
 
-  pub read-acts : (boards lent output : List ℕ) → outcomeIn h after output ≡ readCall (recordIn s) area boards lent → Acts (stateIn s area) (read boards lent) h after
+  pub read-acts : (boards lent output : List ℕ) → outcomeBoth h after output [] ≡ readBoth (recordIn s) (runningIn p) area boards lent
+      → Acts (stateIn s p area) (read boards lent) h after
   unfolding act
   read-acts boards lent output e = by-outcome (read boards lent) output e
 

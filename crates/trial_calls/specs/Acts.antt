@@ -9,20 +9,22 @@ use Rattle.lists.specs.Lists.{join}
 use Rattle.sizes.specs.declared.Sizes.{Sizes}
 use Rattle.sizes.specs.Sizing.{legal}
 use Rattle.sizes.specs.Refusals.{said}
-use Rattle.store_spec.specs.Ledger.{Call, repair, read, State, act, left}
-use Rattle.trial_spec.specs.Trial.{counted}
+use Rattle.store_spec.specs.Ledger.{Call, repair, read, State, act}
+use Rattle.trial_spec.specs.Trial.{counted, left}
+use Rattle.record.specs.declared.Running.{Running}
+use Rattle.record.specs.Records.{runningIn}
 use Rattle.store.specs.declared.Store.{Store}
 use Rattle.store.specs.declared.Handed.{Handed}
 use Rattle.store.specs.Handing.{recordIn}
 
--- the store's record and its area
-abbrev pub stateIn : Store → List ℕ → State
-stateIn s area = record { kept = recordIn s; area = area }
+-- both records, and the area; no packet area, as none of the calls drawn is a step
+abbrev pub stateIn : Store → Running → List ℕ → State
+stateIn s p area = record { kept = recordIn s; running = runningIn p; area = area; packets = [] }
 
--- this call on a state: the answer, the record and the area are the definition's
+-- this call on a state: the answer, the records and the area are the definition's
 pub record Acts (w : State) (call : Call) (h : Handed) (area : List ℕ) : Type 0 where
   pub answer : said (h .answer) ≡ act w call .answer
-  pub after : stateIn (h .store) area ≡ left (act w call)
+  pub after : stateIn (h .store) (h .running) area ≡ left (act w call)
 
 -- the repair and the read from a board on, for a load of these sizes and this length
 abbrev pub repairDrawn : Sizes → ℕ → Call

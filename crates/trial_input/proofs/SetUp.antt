@@ -24,7 +24,8 @@ use Rattle.mbcr.specs.Share.{standard}
 use Rattle.store_spec.specs.Record.{Record, sound, newRecord, areaLen}
 use Rattle.store_spec.specs.Calls.{recordLine, setUpCall}
 use Rattle.store_spec.proofs.Records.{Sound, sound-facts}
-use Rattle.store_spec.proofs.Demand3.{set-up-sound, set-up-taken}
+use Rattle.store_spec.specs.Running.{idle}
+use Rattle.store_spec.proofs.Demand3.{set-up-both, set-up-sound, set-up-taken}
 use Rattle.trial_spec.specs.Trial.{Load, newStore, taken}
 use Rattle.trial_spec.proofs.Laws.{trial-laws}
 use Rattle.line_places.specs.Steps.{most}
@@ -87,7 +88,7 @@ pub small : (l : Load) → taken l ≡ true → Small l
 small l h =
     let t = trial-laws .taken-is l .0 h in
     let z = l .sizes in
-    let s = sound-facts _ (set-up-sound (newStore l) z (standard z) (l .capacity) (t .2 (newStore l))) in
+    let s = sound-facts _ (set-up-both (newStore l) idle z (standard z) (l .capacity) (t .2 (newStore l) idle)) in
     let f = legal-facts z (s .is-legal) in
     record {
       n = omega (arith, f .few);

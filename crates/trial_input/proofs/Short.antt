@@ -18,7 +18,8 @@ use Rattle.number_lines.proofs.Laws.{line-laws}
 use Rattle.sizes.proofs.Legal.{legal-facts}
 use Rattle.mbcr.specs.Share.{standard}
 use Rattle.store_spec.proofs.Records.{sound-facts}
-use Rattle.store_spec.proofs.Demand3.{set-up-sound}
+use Rattle.store_spec.specs.Running.{idle}
+use Rattle.store_spec.proofs.Demand3.{set-up-both}
 use lib.Dec.{eqb}
 use borrow.Author.Tests.{eqb-true}
 use Rattle.trial_spec.specs.Trial.{Load, newStore, taken, loaded}
@@ -103,7 +104,7 @@ few : (l : Load) → taken l ≡ true → Few l
 few l h =
     let t = trial-laws .taken-is l .0 h in
     let z = l .sizes in
-    let s = sound-facts _ (set-up-sound (newStore l) z (standard z) (l .capacity) (t .2 (newStore l))) in
+    let s = sound-facts _ (set-up-both (newStore l) idle z (standard z) (l .capacity) (t .2 (newStore l) idle)) in
     let f = legal-facts z (s .is-legal) in
     record {
       n = omega (arith, f .few);

@@ -102,7 +102,7 @@ fn set_up(sizes: Sizes, capacity: usize) -> bool
     ensures { λ r. ⌜ r ≡ setUp sizes capacity ⌝ }
 {
     let points = checks::standard_points(sizes);
-    if let Check::Refuse(_) = record_checks::check_set_up(sizes, &points, capacity) {
+    if let Check::Refuse(_) = record_checks::check_set_up(sizes, points, capacity) {
         return false;
     }
     area_len(sizes, capacity) <= 32768

@@ -1,27 +1,24 @@
 -- The laws of specs/DrawLaws.antt: each part of the trial, for all numbers and lists.
 -- Assumes nothing.
-use mathlib.Core.Path.{_≡_, refl, sym, ap, ap₂, _∙_}
+use mathlib.Core.Path.{_≡_, refl, sym, ap, _∙_}
 use mathlib.Core.Bool.{Bool, true, false}
-use mathlib.Core.Logic.{_⊎_, inl, inr, ⊎-elim}
+use mathlib.Core.Logic.{_⊎_, inl}
 use mathlib.Core.Option.{Option, some, none}
 use mathlib.Core.List.{List, [], _∷_, _++_, append-assoc}
-use Prim.Native.Nat.{ℕ, zero, suc, _+_, _*_, _/_, _%_, _<_}
-use native.Mathlib.Nat.{suc-add, zero-add}
+use Prim.Native.Nat.{ℕ, zero, suc, _+_, _%_, _<_}
 use native.Mathlib.Omega.{arith}
 use lib.Dec.{eqb}
-use lib.ListN.{length, getD, replicate}
+use lib.ListN.{length, getD}
 use borrow.Author.Tests.{ne-eqb}
 use Rattle.lists.specs.Tests.{pick, alls}
-use Rattle.lists.specs.Lists.{tabulate, join, piece}
+use Rattle.lists.specs.Lists.{join}
 use Rattle.lists.proofs.Pieces.{length-tabulate, tabulate-at, length-join, piece-join, piece-at}
-use Rattle.number_lines.specs.Laws.{Number}
 use Rattle.sizes.specs.Refusals.{Said}
-use Rattle.board_spec.specs.Demand1.{value}
 use Rattle.board_spec.specs.Text.{decimal, textLine}
 use Rattle.printer.proofs.Forms.{line-taken, step}
-use Rattle.store_spec.specs.Ledger.{Call, write, lose, repair, read, Reply, State, act, replyOf, left}
+use Rattle.store_spec.specs.Ledger.{Call, write, lose, Reply, State, act}
 use Rattle.generator.specs.Generator.{after, emitted}
-use Rattle.trial_spec.specs.Trial.{Load, eightLines, taken, loaded, Drawn, counted, boardCall, drawn, drawnCalls, word, callLine, printed, storeReplies}
+use Rattle.trial_spec.specs.Trial.{Load, eightLines, taken, loaded, counted, drawn, drawnCalls, callLine, printed, left, storeReplies}
 use Rattle.trial_spec.specs.DrawLaws.{Eight, Numbers, asks, spelt, Asked, byte, CountsOn, SameForEach, Repairs, Reads, before, numbers, DrawLaws}
 
 -- ---- what is read

@@ -11,6 +11,8 @@ use Rattle.board_spec.specs.Text.{decimal}
 use Rattle.store_spec.specs.Record.{sound}
 use Rattle.store_spec.specs.Packets.{helperPackets, standInPackets, exchangePackets, partnerPackets, repairPackets, freshShare}
 use Rattle.store_spec.specs.Calls.{writeLines, loseLines, listLines, repairLines, readLines, setUpCall, writeCall, loseCall, repairCall, readCall}
+use Rattle.store_spec.specs.Running.{soundBeside}
+use Rattle.store_spec.specs.Both.{writeLinesBoth, loseLinesBoth, repairLinesBoth, readLinesBoth, setUpBoth, writeBoth, loseBoth, repairBoth, readBoth}
 use Rattle.store_spec.specs.Ledger.{act}
 use Rattle.generator.specs.Generator.{step}
 use Rattle.trial_spec.specs.Trial.{taken, loaded, drawn, callLine, trialOver, trialText}
@@ -20,7 +22,8 @@ pub figures : TrialFigures
 unfolding piece put add product reduce mul squares inverse legal B stripes pointed stripe grid F neighbours symbols kept share shares seconds received exchanged ownF
     ownG helperPair helperPacket standInPacket gFrom exchangePacket fFrom finishedStripe finishedShare through bColumn cRow aColumn decodedStripe decodedFile
     readFile sound helperPackets standInPackets exchangePackets partnerPackets repairPackets freshShare writeLines loseLines listLines repairLines readLines setUpCall writeCall loseCall
-    repairCall readCall act step taken loaded drawn callLine trialOver trialText decimal
+    repairCall readCall soundBeside writeLinesBoth loseLinesBoth repairLinesBoth readLinesBoth setUpBoth writeBoth loseBoth repairBoth readBoth
+    act step taken loaded drawn callLine trialOver trialText decimal
 figures = record {
   calls = refl;
   lists = refl;

@@ -1,25 +1,26 @@
 -- Request A.2, 'A load we can all repeat', the second program: what it reads, the calls that it draws, and what it prints.
 -- Assumes nothing.
-use mathlib.Core.Bool.{Bool, true, false}
+use mathlib.Core.Bool.{Bool}
 use mathlib.Core.Option.{Option, some, none}
 use mathlib.Core.List.{List, [], _∷_, _++_}
-use Prim.Native.Nat.{ℕ, zero, suc, _+_, _*_, _%_}
+use Prim.Native.Nat.{ℕ, zero, suc, _+_, _%_}
 use lib.Dec.{leb, eqb}
 use lib.ListN.{length, replicate}
 use Rattle.lists.specs.Tests.{pick, alls}
 use Rattle.lists.specs.Lists.{tabulate, join}
 use Rattle.number_lines.specs.Lines.{line}
 use Rattle.sizes.specs.declared.Sizes.{Sizes}
-use Rattle.sizes.specs.Sizing.{α}
 use Rattle.sizes.specs.Refusals.{Said}
 use Rattle.mbcr.specs.Share.{standard}
 use Rattle.board_spec.specs.Text.{decimal}
 use Rattle.printer.specs.Printer.{refusedLine, maxFile}
 use Rattle.store_spec.specs.Record.{Record, newRecord, areaLen}
 use Rattle.store_spec.specs.Calls.{setUpCall}
-use Rattle.store_spec.specs.Ledger.{Call, write, lose, repair, read, edit, Reply, State, act, replyOf, left}
+use Rattle.store_spec.specs.Running.{Running, idle}
+use Rattle.store_spec.specs.Both.{Outcome}
+use Rattle.store_spec.specs.Ledger.{Call, write, lose, repair, read, edit, start, step, Reply, State, act, replyOf}
 use Rattle.store_spec.specs.Demand3.{begun}
-use Rattle.generator.specs.Generator.{step, topByte, after, emitted}
+use Rattle.generator.specs.Generator.{step as stepped, topByte, after, emitted}
 
 -- ---- what it reads
 
@@ -85,8 +86,8 @@ boardCall l op first =
 -- "a byte modulo 4, counted from 0, picks write, lose, repair or read, and the next byte modulo n the first board"; "A write takes the next L bytes instead"
 unfoldable pub drawn : Load → ℕ → Drawn
 drawn l state =
-    let picked = step state in
-    let next = step picked in
+    let picked = stepped state in
+    let next = stepped picked in
     pick (eqb (topByte picked % 4) 0)
     (record { call = write (emitted (l .length) picked); state = after (l .length) picked })
     (record { call = boardCall l (topByte picked % 4) (topByte next % l .sizes .n); state = next })
@@ -98,13 +99,15 @@ drawnCalls l (suc m) state = let d = drawn l state in d .call ∷ drawnCalls l m
 
 -- ---- what it prints
 
--- "that word"; an edit (request A.6) is never drawn
+-- "that word"; an edit (request A.6), a start and a step (A.8) are never drawn
 abbrev pub word : Call → List ℕ
 word (write file) = 0x77 ∷ 0x72 ∷ 0x69 ∷ 0x74 ∷ 0x65 ∷ []
 word (lose board) = 0x6C ∷ 0x6F ∷ 0x73 ∷ 0x65 ∷ []
 word (repair fresh helpers standIns) = 0x72 ∷ 0x65 ∷ 0x70 ∷ 0x61 ∷ 0x69 ∷ 0x72 ∷ []
 word (read boards output) = 0x72 ∷ 0x65 ∷ 0x61 ∷ 0x64 ∷ []
 word (edit offset bytes boards) = 0x65 ∷ 0x64 ∷ 0x69 ∷ 0x74 ∷ []
+word (start fresh helpers standIns) = 0x73 ∷ 0x74 ∷ 0x61 ∷ 0x72 ∷ 0x74 ∷ []
+word (step allowance packets) = 0x73 ∷ 0x74 ∷ 0x65 ∷ 0x70 ∷ []
 
 -- "a line op= answer= moved=, separated by single spaces: that word, the refusal or 0, the bytes reported or 0"
 unfoldable pub callLine : Call → Said → List ℕ
@@ -120,21 +123,26 @@ printed [] replies = []
 printed (call ∷ calls) [] = []
 printed (call ∷ calls) (reply ∷ replies) = callLine call (reply .answer) ++ printed calls replies
 
+-- what a call leaves to the next: both records, and the area; no packet area, as none of the calls drawn is a step
+abbrev pub left : Outcome → State
+left o = record { kept = o .handed; running = o .running; area = o .area; packets = [] }
+
 -- the store's replies to calls one after another, with nothing altered between them
 abbrev pub storeReplies : State → List Call → List Reply
 storeReplies w [] = []
 storeReplies w (call ∷ calls) = let o = act w call in replyOf o ∷ storeReplies (left o) calls
 
--- the whole load, over an area with these first bytes and whatever record was handed to the set-up
-unfoldable pub trialOver : Record → List ℕ → Load → List ℕ
-trialOver old area l =
+-- the whole load, over an area with these first bytes and whatever records were handed to the set-up: that of a repair, which it hands on idle, is beside
+-- the store's in every call (request A.8)
+unfoldable pub trialOver : Record → Running → List ℕ → Load → List ℕ
+trialOver old p area l =
     let calls = drawnCalls l (l .calls) (l .seed) in
-    printed calls (storeReplies (begun old (l .sizes) (standard (l .sizes)) (l .capacity) area) calls)
+    printed calls (storeReplies (begun old p (l .sizes) (standard (l .sizes)) (l .capacity) area) calls)
 
 -- over an area of bytes 00
 abbrev pub trialOf : Option Load → List ℕ
 trialOf none = refusedLine 1
-trialOf (some l) = trialOver (newStore l) (replicate (areaLen (newStore l)) 0) l
+trialOf (some l) = trialOver (newStore l) idle (replicate (areaLen (newStore l)) 0) l
 
 -- "Any other input .. prints just refused=1."
 unfoldable pub trialText : List ℕ → List ℕ

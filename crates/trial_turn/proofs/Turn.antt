@@ -13,7 +13,8 @@ use Rattle.mbcr.specs.Share.{standard}
 use Rattle.text_lines.specs.Steps.{Wrote}
 use Rattle.store_spec.specs.Ledger.{Call, write, lose, State}
 use Rattle.store_spec.proofs.Records.{sound-facts}
-use Rattle.store_spec.proofs.Demand3.{set-up-sound}
+use Rattle.store_spec.specs.Running.{idle}
+use Rattle.store_spec.proofs.Demand3.{set-up-both}
 use Rattle.store.specs.declared.Handed.{Handed}
 use Rattle.generator.specs.Generator.{step, topByte, after, emitted}
 use Rattle.trial_spec.specs.Trial.{Load, newStore, taken, Drawn, boardCall, drawn, callLine}
@@ -26,7 +27,7 @@ use Rattle.trial_turn.specs.Turn.{pickedCall, pickedState}
 module _ (l : Load) where
   pub taken-legal : taken l ≡ true → legal (l .sizes) ≡ true
   taken-legal h =
-      sound-facts _ (set-up-sound (newStore l) (l .sizes) (standard (l .sizes)) (l .capacity) (trial-laws .taken-is l .0 h .2 (newStore l))) .is-legal
+      sound-facts _ (set-up-both (newStore l) idle (l .sizes) (standard (l .sizes)) (l .capacity) (trial-laws .taken-is l .0 h .2 (newStore l) idle)) .is-legal
 
   pub taken-length : taken l ≡ true → l .length ≤ 16384
   taken-length h = trial-laws .taken-is l .0 h .4

@@ -4,7 +4,7 @@ use mathlib.Core.List.{List}
 use Prim.Native.Nat.{ℕ, _%_}
 use lib.Dec.{eqb}
 use Rattle.lists.specs.Tests.{pick}
-use Rattle.store_spec.specs.Calls.{StoreOutcome}
+use Rattle.store_spec.specs.Both.{Outcome}
 use Rattle.store_spec.specs.Ledger.{Call, write, State, act}
 use Rattle.generator.specs.Generator.{step, topByte, after, emitted}
 use Rattle.trial_spec.specs.Trial.{Load, boardCall, drawn, callLine}
@@ -17,7 +17,7 @@ abbrev pub pickedState : Load → ℕ → ℕ → ℕ
 pickedState l op picked = pick (eqb op 0) (after (l .length) picked) (step picked)
 
 -- what the call drawn from a state of the generator does to a state of the store
-abbrev pub outcomeOf : Load → State → ℕ → StoreOutcome
+abbrev pub outcomeOf : Load → State → ℕ → Outcome
 outcomeOf l w state = act w (drawn l state .call)
 
 -- the line that is printed after it

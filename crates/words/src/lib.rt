@@ -1,17 +1,17 @@
-//! The archive's record in twelve words.
+//! The store's record in twelve words, and whether words tell it and that of a repair beside it.
 ghost use mathlib.Core.Path.{_≡_};
 ghost use mathlib.Core.Bool.{true};
-ghost use Prim.Native.Nat.{_≤_, _<_};
+ghost use mathlib.Core.List.{[], _∷_};
+ghost use Prim.Native.Nat.{_≤_};
 ghost use lib.ListN.{length, drop};
+ghost use Rattle.lists.specs.Tests.{alls};
 ghost use Rattle.lists.specs.Lists.{joined};
-ghost use Rattle.sizes.specs.Refusals.{said};
-ghost use Rattle.store.specs.Handing.{recordIn};
-ghost use Rattle.answer_word.specs.Answers.{wordOf};
-ghost use Rattle.record_words.specs.Words.{bits, fromBits, bytes, isRecord, recordFrom, wordsOf};
+ghost use Rattle.record.specs.Records.{recordOf};
+ghost use Rattle.record_words.specs.Words.{fromBits, bytes, isRecord, recordFrom, wordsOf};
+ghost use Rattle.repair_words.specs.RepairWords.{isRepair};
+use record::Kept;
 use row_sums::Row;
 use sizes::Sizes;
-use store::Handed;
-use store::Store;
 
 // The word that has the marks as its bits.
 fn marks_word(marks: &[bool]) -> u64
@@ -46,15 +46,15 @@ fn points_of(words: &[u64]) -> [u8; 32]
     points
 }
 
-// The store that a record's words tell.
-pub fn store_of(words: &[u64]) -> Store
+// The record that words tell.
+pub fn kept_of(words: &[u64]) -> Kept
     requires { ⌜ isRecord (now words) ≡ true ⌝ }
-    ensures { λ s. ⌜ recordIn s ≡ recordFrom (now (words .entry)) ⌝ }
+    ensures { λ s. ⌜ recordOf s ≡ recordFrom (now (words .entry)) ⌝ }
 {
     let mut marks = [false; 32];
     word_parts::fill_marks(words[7], &mut marks);
     let points = points_of(words);
-    Store {
+    Kept {
         sizes: Sizes {
             n: words[0] as usize,
             k: words[1] as usize,
@@ -69,30 +69,30 @@ pub fn store_of(words: &[u64]) -> Store
     }
 }
 
-// The words that tell a store's record.
-pub fn put_words(store: Store, words: &mut [u64])
+// The words that tell a record.
+pub fn put_kept(kept: Kept, words: &mut [u64])
     requires { ⌜ length (now words) ≡ 12 ⌝ }
-    ensures { λ _. ⌜ now (words .exit) ≡ wordsOf (recordIn store) ⌝ }
+    ensures { λ _. ⌜ now (words .exit) ≡ wordsOf (recordOf kept) ⌝ }
 {
-    let marks = store.marks;
-    let points = store.points;
+    let marks = kept.marks;
+    let points = kept.points;
     word_parts::put_points(&points, words);
-    words[0] = store.sizes.n as u64;
-    words[1] = store.sizes.k as u64;
-    words[2] = store.sizes.d as u64;
-    words[3] = store.sizes.r as u64;
-    words[4] = store.capacity as u64;
-    words[5] = store.written as u64;
-    words[6] = store.length as u64;
+    words[0] = kept.sizes.n as u64;
+    words[1] = kept.sizes.k as u64;
+    words[2] = kept.sizes.d as u64;
+    words[3] = kept.sizes.r as u64;
+    words[4] = kept.capacity as u64;
+    words[5] = kept.written as u64;
+    words[6] = kept.length as u64;
     words[7] = marks_word(&marks);
 }
 
-// The record that a call of the store hands on, in its words; and the word of its answer.
-pub fn hand_on(handed: Handed, words: &mut [u64]) -> u64
-    requires { ⌜ (length (now words) ≡ 12) × (said (handed .answer) .reported < 72057594037927936) ⌝ }
-    ensures { λ w. ⌜ (w ≡ wordOf (said (handed .answer))) × (now (words .exit) ≡ wordsOf (recordIn (handed .store))) ⌝ }
+// Whether words tell both records.
+pub fn are_records(words: &[u64], beside: &[u64]) -> bool
+    ensures { λ b. ⌜ b ≡ alls (isRecord (now (words .entry)) ∷ isRepair (now (beside .entry)) ∷ []) ⌝ }
 {
-    put_words(handed.store, words);
-    let answer = handed.answer;
-    answer_word::word_of(answer)
+    if !word_parts::is_record(words) {
+        return false;
+    }
+    repair_parts::is_repair(beside)
 }

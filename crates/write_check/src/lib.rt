@@ -1,34 +1,22 @@
-//! The check of a write: its lines in document 01's order. Each check's answer is taken apart, and a refusal returned early.
+//! The check of a write: its lines in document 01's order, and BUSY behind them (request A.8). Each check's answer is taken apart, and a refusal returned early.
 ghost use mathlib.Core.Path.{_≡_};
 ghost use Rattle.sizes.specs.Refusals.{first, storeOrder};
-ghost use Rattle.store_spec.specs.Calls.{writeLines};
-ghost use Rattle.store_checks.specs.Steps.{recordOf};
+ghost use Rattle.store_spec.specs.Both.{writeLinesBoth};
+ghost use Rattle.record.specs.Records.{recordOf, runningIn};
+use record::Kept;
+use record::Running;
 use sizes::Check;
-use sizes::Sizes;
 
-// The first refusal of a write of this file, on a record of these parts, to an area of so many bytes.
-pub fn check_write(
-    sizes: Sizes,
-    points: &[u8],
-    capacity: usize,
-    written: bool,
-    len: usize,
-    marks: &[bool],
-    lent: usize,
-    file: &[u8],
-) -> Check
-    ensures { λ r. ⌜ r ≡ first storeOrder (writeLines (recordOf sizes (now (points .entry)) capacity written len (now (marks .entry))) lent (now (file .entry))) ⌝ }
+// The first refusal of a write of this file, to an area of so many bytes.
+pub fn check_write(kept: Kept, running: Running, lent: usize, file: &[u8]) -> Check
+    ensures { λ r. ⌜ r ≡ first storeOrder (writeLinesBoth (recordOf kept) (runningIn running) lent (now (file .entry))) ⌝ }
 {
-    if let Check::Refuse(lent) = shared_checks::check_area(
-        sizes,
-        points,
-        capacity,
-        written,
-        len,
-        marks,
-        lent,
-    ) {
-        return Check::Refuse(lent);
+    if let Check::Refuse(area) = shared_checks::check_area(kept, running, lent) {
+        return Check::Refuse(area);
     }
-    store_checks::check_fits(sizes, capacity, file.len())
+    let sizes = kept.sizes;
+    if let Check::Refuse(long) = store_checks::check_fits(sizes, kept.capacity, file.len()) {
+        return Check::Refuse(long);
+    }
+    store_checks::check_busy(running.running)
 }

@@ -1,4 +1,4 @@
--- The contracts of the archive's sixteen calls are what the definitions say: `zbk` and `zbkSetUp` for the store, `zbkReadText`, `longest`, `emitted` and
+-- The contracts of the archive's eighteen calls are what the definitions say: `zbk` and `zbkSetUp` for the store, `zbkReadText`, `longest`, `emitted` and
 -- `after`, and board level's calls.
 -- A contract is taken as the checker hands it to a caller: `Asked` is its `requires`, `Learnt` its `ensures`. So a call that ensures less, or requires
 -- something, is refused here.
@@ -14,7 +14,7 @@ use borrow.Fn.Kinds.{Dens, endedOf}
 use Rattle.sizes.specs.declared.Answer.the-variants.{Done}
 use Rattle.sizes.specs.Refusals.{said}
 use Rattle.board_spec.specs.Calls.{BoardOutcome, shareCall, fileCall, helperCall, exchangeCall, finishedCall, textCall}
-use Rattle.store_spec.specs.Ledger.{write, lose, repair, read, edit}
+use Rattle.store_spec.specs.Ledger.{write, lose, repair, read, edit, start, step}
 use Rattle.text_spec.specs.Calls.{gatherCall}
 use Rattle.prefix_spec.specs.Prefix.{longest}
 use Rattle.generator.specs.Generator.{after, emitted}
@@ -34,6 +34,10 @@ use Rattle.zebrankai.proofs.zbk_read.Reads as reads
 use Rattle.zebrankai.proofs.zbk_read.Kinds as read-kinds
 use Rattle.zebrankai.proofs.zbk_edit.Reads as edits
 use Rattle.zebrankai.proofs.zbk_edit.Kinds as edit-kinds
+use Rattle.zebrankai.proofs.zbk_start.Reads as starts
+use Rattle.zebrankai.proofs.zbk_start.Kinds as start-kinds
+use Rattle.zebrankai.proofs.zbk_step.Reads as steps
+use Rattle.zebrankai.proofs.zbk_step.Kinds as step-kinds
 use Rattle.zebrankai.proofs.zbk_share.Reads as share-reads
 use Rattle.zebrankai.proofs.zbk_share.Kinds as share-kinds
 use Rattle.zebrankai.proofs.zbk_file.Reads as file-reads
@@ -57,43 +61,69 @@ use Rattle.zebrankai.proofs.zbk_trial_file.Kinds as trial-kinds
 
 -- ---- the store
 
-abbrev lent : ℕ → List ℕ → List ℕ → List ℕ → Lent
-lent w ws area output = record { answer = w; words = ws; area = area; output = output }
+abbrev lent : ℕ → List ℕ → List ℕ → List ℕ → List ℕ → List ℕ → Lent
+lent w ws ps area output packets = record { answer = w; words = ws; repair = ps; area = area; output = output; packets = packets }
 
-pub set-up-gives : (κs : Lfts 2) (a : Dens κs set-up-kinds.ps) (w : ℕ) (e : AtExit (endedOf 2 set-up-kinds.ps set-up-kinds.r) κs)
+pub set-up-gives : (κs : Lfts 3) (a : Dens κs set-up-kinds.ps) (w : ℕ) (e : AtExit (endedOf 3 set-up-kinds.ps set-up-kinds.r) κs)
     → set-ups.Asked κs a
     × (set-ups.Learnt κs a w e
-    → lent w (now (e .0)) [] [] ≡ zbkSetUp (now (a .0)) (sizesOf (a .1 .0) (a .1 .1 .0) (a .1 .1 .1 .0) (a .1 .1 .1 .1 .0)) (now (a .1 .1 .1 .1 .1 .0)) (a .1 .1 .1 .1 .1 .1 .0))
+    → let b = a .1 .1 in
+    lent w (now (e .0)) (now (e .1 .0)) [] [] []
+    ≡ zbkSetUp (now (a .0)) (now (a .1 .0)) (sizesOf (b .0) (b .1 .0) (b .1 .1 .0) (b .1 .1 .1 .0)) (now (b .1 .1 .1 .1 .0)) (b .1 .1 .1 .1 .1 .0))
 set-up-gives κs a w e = (tt, λ h. h)
 
-pub write-gives : (κs : Lfts 3) (a : Dens κs write-kinds.ps) (w : ℕ) (e : AtExit (endedOf 3 write-kinds.ps write-kinds.r) κs)
+pub write-gives : (κs : Lfts 4) (a : Dens κs write-kinds.ps) (w : ℕ) (e : AtExit (endedOf 4 write-kinds.ps write-kinds.r) κs)
     → writes.Asked κs a
-    × (writes.Learnt κs a w e → lent w (now (e .0)) (now (e .1 .0)) [] ≡ zbk (now (a .0)) (now (a .1 .0)) (write (now (a .1 .1 .0))))
+    × (writes.Learnt κs a w e
+    → lent w (now (e .0)) (now (e .1 .0)) (now (e .1 .1 .0)) [] [] ≡ zbk (now (a .0)) (now (a .1 .0)) (now (a .1 .1 .0)) (write (now (a .1 .1 .1 .0))))
 write-gives κs a w e = (tt, λ h. h)
 
 -- whatever the area, which it is not lent
-pub lose-gives : (κs : Lfts 1) (a : Dens κs lose-kinds.ps) (w : ℕ) (e : AtExit (endedOf 1 lose-kinds.ps lose-kinds.r) κs)
+pub lose-gives : (κs : Lfts 2) (a : Dens κs lose-kinds.ps) (w : ℕ) (e : AtExit (endedOf 2 lose-kinds.ps lose-kinds.r) κs)
     → loses.Asked κs a
-    × (loses.Learnt κs a w e → (area : List ℕ) → lent w (now (e .0)) area [] ≡ zbk (now (a .0)) area (lose (a .1 .0)))
+    × (loses.Learnt κs a w e
+    → (area : List ℕ) → lent w (now (e .0)) (now (e .1 .0)) area [] [] ≡ zbk (now (a .0)) (now (a .1 .0)) area (lose (a .1 .1 .0)))
 lose-gives κs a w e = (tt, λ h. h)
 
-pub repair-gives : (κs : Lfts 5) (a : Dens κs repair-kinds.ps) (w : ℕ) (e : AtExit (endedOf 5 repair-kinds.ps repair-kinds.r) κs)
+pub repair-gives : (κs : Lfts 6) (a : Dens κs repair-kinds.ps) (w : ℕ) (e : AtExit (endedOf 6 repair-kinds.ps repair-kinds.r) κs)
     → repairs.Asked κs a
     × (repairs.Learnt κs a w e
-    → lent w (now (e .0)) (now (e .1 .0)) [] ≡ zbk (now (a .0)) (now (a .1 .0)) (repair (now (a .1 .1 .0)) (now (a .1 .1 .1 .0)) (now (a .1 .1 .1 .1 .0))))
+    → let b = a .1 .1 in
+    lent w (now (e .0)) (now (e .1 .0)) (now (e .1 .1 .0)) [] []
+    ≡ zbk (now (a .0)) (now (a .1 .0)) (now (b .0)) (repair (now (b .1 .0)) (now (b .1 .1 .0)) (now (b .1 .1 .1 .0))))
 repair-gives κs a w e = (tt, λ h. h)
 
-pub read-gives : (κs : Lfts 4) (a : Dens κs read-kinds.ps) (w : ℕ) (e : AtExit (endedOf 4 read-kinds.ps read-kinds.r) κs)
+pub read-gives : (κs : Lfts 5) (a : Dens κs read-kinds.ps) (w : ℕ) (e : AtExit (endedOf 5 read-kinds.ps read-kinds.r) κs)
     → reads.Asked κs a
     × (reads.Learnt κs a w e
-    → lent w (now (e .0)) (now (a .1 .0)) (now (e .1 .1 .1 .0)) ≡ zbk (now (a .0)) (now (a .1 .0)) (read (now (a .1 .1 .0)) (now (a .1 .1 .1 .0))))
+    → let b = a .1 .1 in
+    lent w (now (e .0)) (now (e .1 .0)) (now (b .0)) (now (e .1 .1 .1 .1 .0)) []
+    ≡ zbk (now (a .0)) (now (a .1 .0)) (now (b .0)) (read (now (b .1 .0)) (now (b .1 .1 .0))))
 read-gives κs a w e = (tt, λ h. h)
 
-pub edit-gives : (κs : Lfts 4) (a : Dens κs edit-kinds.ps) (w : ℕ) (e : AtExit (endedOf 4 edit-kinds.ps edit-kinds.r) κs)
+pub edit-gives : (κs : Lfts 5) (a : Dens κs edit-kinds.ps) (w : ℕ) (e : AtExit (endedOf 5 edit-kinds.ps edit-kinds.r) κs)
     → edits.Asked κs a
     × (edits.Learnt κs a w e
-    → lent w (now (e .0)) (now (e .1 .0)) [] ≡ zbk (now (a .0)) (now (a .1 .0)) (edit (a .1 .1 .0) (now (a .1 .1 .1 .0)) (now (a .1 .1 .1 .1 .0))))
+    → let b = a .1 .1 in
+    lent w (now (e .0)) (now (e .1 .0)) (now (e .1 .1 .0)) [] []
+    ≡ zbk (now (a .0)) (now (a .1 .0)) (now (b .0)) (edit (b .1 .0) (now (b .1 .1 .0)) (now (b .1 .1 .1 .0))))
 edit-gives κs a w e = (tt, λ h. h)
+
+pub start-gives : (κs : Lfts 6) (a : Dens κs start-kinds.ps) (w : ℕ) (e : AtExit (endedOf 6 start-kinds.ps start-kinds.r) κs)
+    → starts.Asked κs a
+    × (starts.Learnt κs a w e
+    → let b = a .1 .1 in
+    lent w (now (e .0)) (now (e .1 .0)) (now (b .0)) [] []
+    ≡ zbk (now (a .0)) (now (a .1 .0)) (now (b .0)) (start (now (b .1 .0)) (now (b .1 .1 .0)) (now (b .1 .1 .1 .0))))
+start-gives κs a w e = (tt, λ h. h)
+
+pub step-gives : (κs : Lfts 4) (a : Dens κs step-kinds.ps) (w : ℕ) (e : AtExit (endedOf 4 step-kinds.ps step-kinds.r) κs)
+    → steps.Asked κs a
+    × (steps.Learnt κs a w e
+    → let b = a .1 .1 in
+    lent w (now (e .0)) (now (e .1 .0)) (now (e .1 .1 .0)) [] (now (e .1 .1 .1 .0))
+    ≡ zbk (now (a .0)) (now (a .1 .0)) (now (b .0)) (step (b .1 .1 .0) (now (b .1 .0))))
+step-gives κs a w e = (tt, λ h. h)
 
 -- ---- board level: the word of the answer, and all bytes of the output; the points stand behind the four sizes, and the arguments behind them are b
 

@@ -2,9 +2,11 @@
 //! Each meets its definition in the crates `board_spec`, `text_spec`, `prefix_spec`, `generator` and `store_spec`: the answer as one word, and every
 //! word and byte that it was lent.
 //! A slice is a pointer and a length. A record is a lent slice of twelve words: n, k, d, r, capacity, written, length, marks, and four words
-//! with the points of eight boards each. The head of a text is a lent slice of six words: n, k, d, r, board number, length. Points are a lent slice
-//! of 32 bytes. Another number of them than these is SIZE. An answer has the refusal's number in its low eight bits, 0 where there is none, and the
-//! number reported above them; the trial file, which refuses nothing, answers the generator's state.
+//! with the points of eight boards each. Beside it stands that of a started repair, a lent slice of 71 words: 1 where one runs, else 0; the number of
+//! its fresh boards; the packets carried; 4, 32 and 32 words with fresh boards, helpers and stand-ins, eight in each. The head of a text is a lent
+//! slice of six words: n, k, d, r, board number, length. Points are a lent slice of 32 bytes. Another number of them than these is SIZE. An answer
+//! has the refusal's number in its low eight bits, 0 where there is none, and the number reported above them; the trial file, which refuses nothing,
+//! answers the generator's state.
 ghost use mathlib.Core.Path.{_≡_};
 ghost use mathlib.Core.List.{List, []};
 ghost use Prim.Native.Nat.{ℕ};
@@ -15,7 +17,7 @@ ghost use Rattle.sizes.specs.Refusals.{said};
 ghost use Rattle.board_spec.specs.Calls.{shareCall, fileCall, helperCall, exchangeCall, finishedCall, textCall};
 ghost use Rattle.text_spec.specs.Calls.{gatherCall};
 ghost use Rattle.prefix_spec.specs.Prefix.{longest};
-ghost use Rattle.store_spec.specs.Ledger.{write, lose, repair, read, edit};
+ghost use Rattle.store_spec.specs.Ledger.{write, lose, repair, read, edit, start, step};
 ghost use Rattle.answer_word.specs.Answers.{wordOf};
 ghost use Rattle.archive_spec.specs.Archive.{sizesOf};
 ghost use Rattle.archive_spec.specs.Lent.{zbkSetUp, zbk};
@@ -198,10 +200,11 @@ pub extern "C" fn zbk_trial_file(seed: u32, out: &mut [u8]) -> u32
     generator::fill(seed, out)
 }
 
-// A new store of these sizes, these points and this capacity, in twelve words.
+// A new store of these sizes, these points and this capacity, in twelve words, with no repair, in 71.
 #[no_mangle]
 pub extern "C" fn zbk_set_up(
     ws: &mut [u64],
+    ps: &mut [u64],
     n: usize,
     k: usize,
     d: usize,
@@ -209,59 +212,96 @@ pub extern "C" fn zbk_set_up(
     points: &[u8],
     capacity: usize,
 ) -> u64
-    ensures { λ w. ⌜ record { answer = w; words = now (ws .exit); area = []; output = [] } ≡ zbkSetUp (now (ws .entry)) (sizesOf n k d r) (now (points .entry)) capacity ⌝ }
+    ensures { λ w. ⌜ record { answer = w; words = now (ws .exit); repair = now (ps .exit); area = []; output = []; packets = [] } ≡ zbkSetUp (now (ws .entry)) (now (ps .entry)) (sizesOf n k d r) (now (points .entry)) capacity ⌝ }
 {
-    archive_store::set_up(ws, n, k, d, r, points, capacity)
+    archive_store::set_up(ws, ps, n, k, d, r, points, capacity)
 }
 
 // Writes a file.
 #[no_mangle]
-pub extern "C" fn zbk_write(ws: &mut [u64], area: &mut [u8], file: &[u8]) -> u64
-    ensures { λ w. ⌜ record { answer = w; words = now (ws .exit); area = now (area .exit); output = [] } ≡ zbk (now (ws .entry)) (now (area .entry)) (write (now (file .entry))) ⌝ }
+pub extern "C" fn zbk_write(ws: &mut [u64], ps: &mut [u64], area: &mut [u8], file: &[u8]) -> u64
+    ensures { λ w. ⌜ record { answer = w; words = now (ws .exit); repair = now (ps .exit); area = now (area .exit); output = []; packets = [] } ≡ zbk (now (ws .entry)) (now (ps .entry)) (now (area .entry)) (write (now (file .entry))) ⌝ }
 {
-    archive_store::write(ws, area, file)
+    archive_store::write(ws, ps, area, file)
 }
 
-// Takes a board out of service.
+// Takes a board out of service. A started repair that names it ends.
 #[no_mangle]
-pub extern "C" fn zbk_lose(ws: &mut [u64], board: usize) -> u64
-    ensures { λ w. ⌜ ((area : List ℕ) → record { answer = w; words = now (ws .exit); area = area; output = [] } ≡ zbk (now (ws .entry)) area (lose board)) ⌝ }
+pub extern "C" fn zbk_lose(ws: &mut [u64], ps: &mut [u64], board: usize) -> u64
+    ensures { λ w. ⌜ ((area : List ℕ) → record { answer = w; words = now (ws .exit); repair = now (ps .exit); area = area; output = []; packets = [] } ≡ zbk (now (ws .entry)) (now (ps .entry)) area (lose board)) ⌝ }
 {
-    archive_store::lose(ws, board)
+    archive_store::lose(ws, ps, board)
 }
 
 // Rebuilds one to r fresh boards together, t of them, each from its own run of d helpers and its own run of r − t stand-ins.
 #[no_mangle]
 pub extern "C" fn zbk_repair(
     ws: &mut [u64],
+    ps: &mut [u64],
     area: &mut [u8],
     fresh: &[usize],
     helpers: &[usize],
     standins: &[usize],
 ) -> u64
-    ensures { λ w. ⌜ record { answer = w; words = now (ws .exit); area = now (area .exit); output = [] } ≡ zbk (now (ws .entry)) (now (area .entry)) (repair (now (fresh .entry)) (now (helpers .entry)) (now (standins .entry))) ⌝ }
+    ensures { λ w. ⌜ record { answer = w; words = now (ws .exit); repair = now (ps .exit); area = now (area .exit); output = []; packets = [] } ≡ zbk (now (ws .entry)) (now (ps .entry)) (now (area .entry)) (repair (now (fresh .entry)) (now (helpers .entry)) (now (standins .entry))) ⌝ }
 {
-    archive_store::repair(ws, area, fresh, helpers, standins)
+    archive_store::repair(ws, ps, area, fresh, helpers, standins)
 }
 
 // Reads the file from k boards.
 #[no_mangle]
-pub extern "C" fn zbk_read(ws: &mut [u64], area: &[u8], boards: &[usize], out: &mut [u8]) -> u64
-    ensures { λ w. ⌜ record { answer = w; words = now (ws .exit); area = now (area .entry); output = now (out .exit) } ≡ zbk (now (ws .entry)) (now (area .entry)) (read (now (boards .entry)) (now (out .entry))) ⌝ }
+pub extern "C" fn zbk_read(
+    ws: &mut [u64],
+    ps: &mut [u64],
+    area: &[u8],
+    boards: &[usize],
+    out: &mut [u8],
+) -> u64
+    ensures { λ w. ⌜ record { answer = w; words = now (ws .exit); repair = now (ps .exit); area = now (area .entry); output = now (out .exit); packets = [] } ≡ zbk (now (ws .entry)) (now (ps .entry)) (now (area .entry)) (read (now (boards .entry)) (now (out .entry))) ⌝ }
 {
-    archive_store::read(ws, area, boards, out)
+    archive_store::read(ws, ps, area, boards, out)
 }
 
 // Puts bytes into the file from an offset on, read from k boards, in all boards in service.
 #[no_mangle]
 pub extern "C" fn zbk_edit(
     ws: &mut [u64],
+    ps: &mut [u64],
     area: &mut [u8],
     offset: usize,
     bytes: &[u8],
     boards: &[usize],
 ) -> u64
-    ensures { λ w. ⌜ record { answer = w; words = now (ws .exit); area = now (area .exit); output = [] } ≡ zbk (now (ws .entry)) (now (area .entry)) (edit offset (now (bytes .entry)) (now (boards .entry))) ⌝ }
+    ensures { λ w. ⌜ record { answer = w; words = now (ws .exit); repair = now (ps .exit); area = now (area .exit); output = []; packets = [] } ≡ zbk (now (ws .entry)) (now (ps .entry)) (now (area .entry)) (edit offset (now (bytes .entry)) (now (boards .entry))) ⌝ }
 {
-    archive_store::edit(ws, area, offset, bytes, boards)
+    archive_store::edit(ws, ps, area, offset, bytes, boards)
+}
+
+// Starts a repair by these lists: nothing is carried yet.
+#[no_mangle]
+pub extern "C" fn zbk_start(
+    ws: &mut [u64],
+    ps: &mut [u64],
+    area: &[u8],
+    fresh: &[usize],
+    helpers: &[usize],
+    standins: &[usize],
+) -> u64
+    ensures { λ w. ⌜ record { answer = w; words = now (ws .exit); repair = now (ps .exit); area = now (area .entry); output = []; packets = [] } ≡ zbk (now (ws .entry)) (now (ps .entry)) (now (area .entry)) (start (now (fresh .entry)) (now (helpers .entry)) (now (standins .entry))) ⌝ }
+{
+    archive_store::start(ws, ps, area, fresh, helpers, standins)
+}
+
+// Carries at most so many packets of the repair that runs, each to its place in the packet area. Reports the packets that it carried.
+#[no_mangle]
+pub extern "C" fn zbk_step(
+    ws: &mut [u64],
+    ps: &mut [u64],
+    area: &mut [u8],
+    packets: &mut [u8],
+    allowance: usize,
+) -> u64
+    ensures { λ w. ⌜ record { answer = w; words = now (ws .exit); repair = now (ps .exit); area = now (area .exit); output = []; packets = now (packets .exit) } ≡ zbk (now (ws .entry)) (now (ps .entry)) (now (area .entry)) (step allowance (now (packets .entry))) ⌝ }
+{
+    archive_store::step(ws, ps, area, packets, allowance)
 }

@@ -1,6 +1,6 @@
 //! The three coders that are measured, behind the same calls.
 
-use zebrankai::{board, Points, Record, Sizes, RECORD_WORDS};
+use zebrankai::{board, Points, Record, Sizes, RECORD_WORDS, REPAIR_WORDS};
 
 /// A coder at work on one store. Each call is one that is accepted.
 pub trait Coder {
@@ -14,6 +14,8 @@ pub trait Coder {
     fn lose(&mut self, boards: &[usize]);
     /// The boards that were lost, with their helpers and stand-ins; the bytes moved. They are lost as before, however often it is called.
     fn repair(&mut self, named: &Named, area: &mut [u8]) -> usize;
+    /// The same repair started, and stepped to its end by so many packets at a time; how many were carried. None of a coder that has no steps.
+    fn stepped(&mut self, named: &Named, allowance: usize, area: &mut [u8], packets: &mut [u8]) -> Option<usize>;
     /// One board's share of a file.
     fn share(&mut self, node: usize, file: &[u8], out: &mut [u8]);
 }
@@ -41,7 +43,7 @@ pub fn all(sizes: Sizes, stripes: usize) -> [Box<dyn Coder>; 3] {
     let words = record.words();
     [
         Box::new(Archive { lost: record.clone(), record }),
-        Box::new(Plain { sizes: plain_sizes, points: points.into(), words, lost: words }),
+        Box::new(Plain { sizes: plain_sizes, points: points.into(), words, lost: words, repair: [0; REPAIR_WORDS] }),
         Box::new(Kernels { sizes: plain_sizes, points: points.into(), stripes }),
     ]
 }
@@ -78,6 +80,16 @@ impl Coder for Archive {
         record.repair(area, &named.fresh, &named.helpers, &named.stand_ins).expect("a repair is accepted")
     }
 
+    fn stepped(&mut self, named: &Named, allowance: usize, area: &mut [u8], packets: &mut [u8]) -> Option<usize> {
+        let mut record = self.lost.clone();
+        record.start(area, &named.fresh, &named.helpers, &named.stand_ins).expect("a start is accepted");
+        let mut carried = 0;
+        while record.is_repairing() {
+            carried += record.step(area, packets, allowance).expect("a step is accepted");
+        }
+        Some(carried)
+    }
+
     fn share(&mut self, node: usize, file: &[u8], out: &mut [u8]) {
         board::share(self.record.sizes(), self.record.points(), node, file, out).expect("a share is given");
     }
@@ -90,32 +102,46 @@ struct Plain {
     words: [u64; RECORD_WORDS],
     /// the record with boards lost
     lost: [u64; RECORD_WORDS],
+    /// that of a started repair
+    repair: [u64; REPAIR_WORDS],
 }
 
 impl Coder for Plain {
     fn write(&mut self, file: &[u8], area: &mut [u8]) {
-        plain::store::write(&mut self.words, area, file).expect("a write is accepted");
+        plain::store::write(&mut self.words, &self.repair, area, file).expect("a write is accepted");
     }
 
     fn read(&mut self, boards: &[usize], area: &[u8], out: &mut [u8]) {
-        plain::store::read(&self.words, area, boards, out).expect("a read is accepted");
+        plain::store::read(&self.words, &self.repair, area, boards, out).expect("a read is accepted");
     }
 
     fn edit(&mut self, edit: &Edit, boards: &[usize], area: &mut [u8]) {
-        plain::store::edit(&self.words, area, edit.offset, edit.bytes, boards).expect("an edit is accepted");
+        plain::store::edit(&self.words, &self.repair, area, edit.offset, edit.bytes, boards)
+            .expect("an edit is accepted");
     }
 
     fn lose(&mut self, boards: &[usize]) {
         self.lost = self.words;
         for &board in boards {
-            plain::store::lose(&mut self.lost, board).expect("a loss is accepted");
+            plain::store::lose(&mut self.lost, &mut self.repair, board).expect("a loss is accepted");
         }
     }
 
     fn repair(&mut self, named: &Named, area: &mut [u8]) -> usize {
         let mut words = self.lost;
-        plain::store::repair(&mut words, area, &named.fresh, &named.helpers, &named.stand_ins)
+        plain::store::repair(&mut words, &self.repair, area, &named.fresh, &named.helpers, &named.stand_ins)
             .expect("a repair is accepted")
+    }
+
+    fn stepped(&mut self, named: &Named, allowance: usize, area: &mut [u8], packets: &mut [u8]) -> Option<usize> {
+        let (mut words, repair) = (self.lost, &mut self.repair);
+        plain::steps::start(&words, repair, area, &named.fresh, &named.helpers, &named.stand_ins)
+            .expect("a start is accepted");
+        let mut carried = 0;
+        while repair[0] == 1 {
+            carried += plain::steps::step(&mut words, repair, area, packets, allowance).expect("a step is accepted");
+        }
+        Some(carried)
     }
 
     fn share(&mut self, node: usize, file: &[u8], out: &mut [u8]) {
@@ -151,6 +177,10 @@ impl Coder for Kernels {
     fn repair(&mut self, named: &Named, area: &mut [u8]) -> usize {
         let Named { fresh, helpers, stand_ins } = named;
         plain_kernels::repair(self.sizes, &self.points, self.stripes, fresh, helpers, stand_ins, area)
+    }
+
+    fn stepped(&mut self, _: &Named, _: usize, _: &mut [u8], _: &mut [u8]) -> Option<usize> {
+        None
     }
 
     fn share(&mut self, node: usize, file: &[u8], out: &mut [u8]) {

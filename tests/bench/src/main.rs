@@ -1,7 +1,8 @@
 //! The bench: encode (a write to all boards), read (of k boards), repair r (of r boards together), repair 1 (of one board, with r − 1 stand-ins), one
 //! share (the call of a single board), edit 4 (four bytes of the file, one pack count) and rewrite (the same without an edit, by a read and a write)
-//! through the archive, beside two coders in plain Rust; the bytes that repairs move, those of r boards against the cut-set bound; and what part of a
-//! whole write, and of a read and a write, an edit takes.
+//! through the archive, beside two coders in plain Rust; the bytes that repairs move, those of r boards against the cut-set bound; what part of a
+//! whole write, and of a read and a write, an edit takes; and how many times a whole repair's time the same repair takes a packet at a time, and in one
+//! step (request A.8), through the archive and by the plain coder.
 //!
 //!     bench [--quick]
 //!
@@ -24,7 +25,7 @@ use std::fs;
 use std::process::ExitCode;
 use std::thread;
 use std::time::Duration;
-use turns::{measure, Measured, Work, EDIT, EDITED, OPERATIONS, REWRITE, WRITE};
+use turns::{measure, Measured, Work, EDIT, EDITED, OPERATIONS, REPAIR, REWRITE, WRITE};
 use zebrankai::Sizes;
 
 const TWELVE: Sizes = Sizes { n: 12, k: 6, d: 8, r: 2 };
@@ -151,6 +152,25 @@ fn print(work: &Work, measured: &Measured) {
     }
     print_moved(work.sizes, work.file.len(), measured);
     print_edit(measured);
+    print_steps(work.sizes, measured);
+}
+
+/// The times of a stepped repair beside that of the whole one: of the archive, and of the plain coder.
+fn print_steps(sizes: Sizes, measured: &Measured) {
+    let Sizes { d, r, .. } = sizes;
+    let [archive, plain] = [0, 1].map(|coder| {
+        let whole = measured.best[coder][REPAIR].as_secs_f64();
+        measured.stepped[coder].map(|time| time.as_secs_f64() / whole)
+    });
+    let [one, all] = measured.stepped[0].map(|time| 1e6 * time.as_secs_f64());
+    println!(
+        "stepped   {} packets: one at a time {one:.1} us, {:.2} of the whole repair; in one step {all:.1} us, {:.2} (plain {:.2}, {:.2})",
+        r * (d + r - 1),
+        archive[0],
+        archive[1],
+        plain[0],
+        plain[1]
+    );
 }
 
 /// The time of the archive's edit beside those of a whole write, and of a read and a write.

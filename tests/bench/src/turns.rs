@@ -15,6 +15,12 @@ pub const REWRITE: usize = 6;
 /// How many bytes an edit has: those of one pack count.
 pub const EDITED: usize = 4;
 
+/// The place of the repair of r boards.
+pub const REPAIR: usize = 2;
+
+/// How many packets a step of that repair carries, where it is stepped: one, and all.
+pub const PACES: [usize; 2] = [1, usize::MAX];
+
 /// A short file is written, read and so on so often in one turn that the clock is no part of the time: at least for so many stripes.
 const STRIPES_A_TURN: usize = 64;
 
@@ -81,6 +87,28 @@ struct Left {
     moved_one: usize,
 }
 
+/// What a stepped repair leaves.
+#[derive(Clone, PartialEq)]
+struct Stepped {
+    area: Vec<u8>,
+    packets: Vec<u8>,
+    carried: Option<usize>,
+}
+
+impl Stepped {
+    fn new(work: &Work) -> Stepped {
+        let Sizes { r, .. } = work.sizes;
+        let packets = vec![0; work.stripes * r * work.sizes.share_len()];
+        Stepped { area: vec![0; work.sizes.area_len(work.stripes)], packets, carried: None }
+    }
+
+    /// Whether the fresh boards hold what was written, and r(d + r − 1) packets were carried.
+    fn is_right(&self, work: &Work, written: &[u8]) -> bool {
+        let Sizes { d, r, .. } = work.sizes;
+        self.area == written && self.carried == Some(r * (d + r - 1))
+    }
+}
+
 impl Left {
     fn new(work: &Work) -> Left {
         let area = vec![0; work.sizes.area_len(work.stripes)];
@@ -120,6 +148,8 @@ pub struct Measured {
     /// by the repair of r boards, and by that of one
     pub moved: usize,
     pub moved_one: usize,
+    /// of the coders that have steps, the archive and plain: the repair of r boards at each of PACES
+    pub stepped: [[Duration; PACES.len()]; 2],
     /// whether all coders left the same, and the right, bytes in every turn
     pub alike: bool,
 }
@@ -129,7 +159,9 @@ pub fn measure(work: &Work, time: Duration) -> Measured {
     let mut coders = coders::all(work.sizes, work.stripes);
     let mut left = [(); 3].map(|_| Left::new(work));
     let best = [[Duration::MAX; OPERATIONS.len()]; 3];
-    let mut measured = Measured { turns: 0, best, moved: 0, moved_one: 0, alike: true };
+    let mut stepped = [(); 2].map(|_| Stepped::new(work));
+    let mut measured =
+        Measured { turns: 0, best, moved: 0, moved_one: 0, stepped: [[Duration::MAX; PACES.len()]; 2], alike: true };
     let start = Instant::now();
     while measured.turns < FEWEST_TURNS || start.elapsed() < time {
         for ((coder, left), best) in coders.iter_mut().zip(&mut left).zip(&mut measured.best) {
@@ -139,6 +171,15 @@ pub fn measure(work: &Work, time: Duration) -> Measured {
             }
         }
         measured.alike &= left[0].is_right(work) && left[1..].iter().all(|other| *other == left[0]);
+        for (place, &allowance) in PACES.iter().enumerate() {
+            for (coder, best) in measured.stepped.iter_mut().enumerate() {
+                let written = &left[coder].written;
+                let time = step(coders[coder].as_mut(), work, allowance, written, &mut stepped[coder]);
+                best[place] = time.min(best[place]);
+                measured.alike &= stepped[coder].is_right(work, written);
+            }
+            measured.alike &= stepped[0] == stepped[1];
+        }
         measured.turns += 1;
     }
     measured.moved = left[0].moved;
@@ -164,6 +205,13 @@ fn turn(coder: &mut dyn Coder, work: &Work, left: &mut Left) -> Best {
     left.rewritten.copy_from_slice(&left.written);
     let rewrite = rewrite(coder, work, &mut left.rewritten);
     [write, read, repair, repair_one, share, edit, rewrite]
+}
+
+/// The repair of r boards by steps of so many packets. Area and packet area are filled before it, outside of the time.
+fn step(coder: &mut dyn Coder, work: &Work, allowance: usize, written: &[u8], left: &mut Stepped) -> Duration {
+    lose(coder, &work.all, work, written, &mut left.area);
+    left.packets.fill(0xEE);
+    timed(work, || left.carried = coder.stepped(&work.all, allowance, &mut left.area, &mut left.packets))
 }
 
 /// The four bytes that stand in the middle of the file, and others.

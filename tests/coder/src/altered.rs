@@ -151,6 +151,6 @@ impl Scene {
         for (&board, share) in boards.iter().zip(shares.chunks(shares.len() / boards.len())) {
             area[board * board_len..][..share.len()].copy_from_slice(share);
         }
-        (Call::Read { boards }, Lent { record, area, out })
+        (Call::Read { boards }, Lent::idle(record, area, out))
     }
 }

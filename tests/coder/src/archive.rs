@@ -46,10 +46,19 @@ pub struct Performed {
 /// Does a call through the archive, over a copy of what it is lent.
 pub fn perform(call: &Call, lent: &Lent) -> Performed {
     let mut record = Guarded::new(&lent.record, 0xA5A5_5A5A_C3C3_3C3C);
+    let mut repair = Guarded::new(&lent.repair, 0x3C3C_C3C3_5A5A_A5A5);
     let mut area = Guarded::new(&lent.area, 0xA5);
+    let mut packets = Guarded::new(&lent.packets, 0x5A);
     let mut out = Guarded::new(&lent.out, 0xC3);
-    let answer = call.ask(record.lent(), area.lent(), out.lent());
-    let kept_inside = record.intact() && area.intact() && out.intact();
-    let lent = Lent { record: record.content(), area: area.content(), out: out.content() };
+    let answer = call.ask(record.lent(), repair.lent(), area.lent(), packets.lent(), out.lent());
+    let records_intact = record.intact() && repair.intact();
+    let kept_inside = records_intact && area.intact() && packets.intact() && out.intact();
+    let lent = Lent {
+        record: record.content(),
+        repair: repair.content(),
+        area: area.content(),
+        packets: packets.content(),
+        out: out.content(),
+    };
     Performed { outcome: Outcome { answer, lent }, kept_inside }
 }

@@ -1,7 +1,8 @@
-//! The sixteen calls with their arguments: how each is passed to the archive, what of it may be spoilt, how it is shown. And the memory that they
+//! The eighteen calls with their arguments: how each is passed to the archive, what of it may be spoilt, how it is shown. And the memory that they
 //! are lent to change.
 
 use crate::code::{self, Sizes};
+use crate::running;
 use std::fmt;
 
 /// The refusals, by number: document 01's, and those of later requests.
@@ -21,8 +22,10 @@ pub mod refusal {
     pub const MIXED: u8 = 13;
     pub const SERVING: u8 = 14;
     pub const RANGE: u8 = 15;
+    pub const BUSY: u8 = 16;
+    pub const IDLE: u8 = 17;
     /// One more than the highest number.
-    pub const COUNTED: usize = 16;
+    pub const COUNTED: usize = 18;
     /// The number that is not used, and that no call answers.
     pub const UNUSED: u64 = 11;
 }
@@ -101,6 +104,14 @@ pub enum Call {
         bytes: Vec<u8>,
         boards: Vec<usize>,
     },
+    Start {
+        fresh: Vec<usize>,
+        helpers: Vec<usize>,
+        stand_ins: Vec<usize>,
+    },
+    Step {
+        allowance: usize,
+    },
     ReadText {
         text: Vec<u8>,
     },
@@ -116,7 +127,7 @@ pub enum Call {
 }
 
 /// The C names of the calls, in the order of `Call::place`, each with the refusals that it can give.
-pub const CALLS: [(&str, &[u8]); 16] = [
+pub const CALLS: [(&str, &[u8]); 18] = [
     ("zbk_share", &[1, 3, 5, 7]),
     ("zbk_file", &[1, 3, 4, 5, 6, 2, 7, 10]),
     ("zbk_helper_packet", &[1, 3, 5, 6, 2, 7]),
@@ -124,22 +135,27 @@ pub const CALLS: [(&str, &[u8]); 16] = [
     ("zbk_finished_share", &[1, 3, 4, 5, 6, 2, 7]),
     ("zbk_share_text", &[1, 3, 5, 2, 7]),
     ("zbk_set_up", &[1]),
-    ("zbk_write", &[1, 2, 3]),
+    ("zbk_write", &[1, 2, 3, 16]),
     ("zbk_lose", &[1, 5]),
-    ("zbk_repair", &[1, 2, 8, 4, 5, 6, 14, 9]),
+    ("zbk_repair", &[1, 2, 8, 16, 4, 5, 6, 14, 9]),
     ("zbk_read", &[1, 2, 8, 4, 5, 6, 9, 7, 10]),
-    ("zbk_edit", &[1, 2, 8, 15, 4, 5, 6, 9, 10]),
+    ("zbk_edit", &[1, 2, 8, 16, 15, 4, 5, 6, 9, 10]),
+    ("zbk_start", &[1, 2, 8, 16, 4, 5, 6, 14, 9]),
+    ("zbk_step", &[1, 2, 8, 17]),
     ("zbk_read_text", &[1, 12, 7]),
     ("zbk_gather", &[12, 13, 4, 6, 7, 10]),
     ("zbk_text_prefix", &[]),
     ("zbk_trial_file", &[]),
 ];
 
+/// The place in `CALLS` of the first call of the store.
+pub const SET_UP: usize = 6;
+
 /// The place in `CALLS` of the first of the three calls that are given texts.
-pub const READ_TEXT: usize = 12;
+pub const READ_TEXT: usize = 14;
 
 /// The place in `CALLS` of the call that draws a file from a seed.
-pub const TRIAL_FILE: usize = 15;
+pub const TRIAL_FILE: usize = 17;
 
 // The archive's names, as include/zebrankai.h declares them (`tests/names`).
 macro_rules! asked {
@@ -180,12 +196,14 @@ impl Call {
             Call::Exchange { .. } => 3,
             Call::Finished { .. } => 4,
             Call::Text { .. } => 5,
-            Call::SetUp { .. } => 6,
+            Call::SetUp { .. } => SET_UP,
             Call::Write { .. } => 7,
             Call::Lose { .. } => 8,
             Call::Repair { .. } => 9,
             Call::Read { .. } => 10,
             Call::Edit { .. } => 11,
+            Call::Start { .. } => 12,
+            Call::Step { .. } => 13,
             Call::ReadText { .. } => READ_TEXT,
             Call::Gather { .. } => READ_TEXT + 1,
             Call::Prefix { .. } => READ_TEXT + 2,
@@ -193,8 +211,20 @@ impl Call {
         }
     }
 
+    /// Whether it is a call of the store, which is lent both records.
+    pub fn of_store(&self) -> bool {
+        (SET_UP..READ_TEXT).contains(&self.place())
+    }
+
     /// Makes the call, over what it is lent; the archive's answer. The state that a trial file's call gives stands where others report a value.
-    pub fn ask(&self, record: &mut [u64], area: &mut [u8], out: &mut [u8]) -> u64 {
+    pub fn ask(
+        &self,
+        record: &mut [u64],
+        repair: &mut [u64],
+        area: &mut [u8],
+        packets: &mut [u8],
+        out: &mut [u8],
+    ) -> u64 {
         match self {
             Call::Share { sizes, points, node, file } => zbk_share(*sizes, points, *node, file, out),
             Call::File { sizes, points, length, boards, shares } => {
@@ -212,12 +242,14 @@ impl Call {
             Call::Text { sizes, points, length, node, share } => {
                 zbk_share_text(*sizes, points, *length, *node, share, out)
             }
-            Call::SetUp { sizes, points, capacity } => zbk_set_up(record, *sizes, points, *capacity),
-            Call::Write { file } => zbk_write(record, area, file),
-            Call::Lose { board } => zbk_lose(record, *board),
-            Call::Repair { fresh, helpers, stand_ins } => zbk_repair(record, area, fresh, helpers, stand_ins),
-            Call::Read { boards } => zbk_read(record, area, boards, out),
-            Call::Edit { offset, bytes, boards } => zbk_edit(record, area, *offset, bytes, boards),
+            Call::SetUp { sizes, points, capacity } => zbk_set_up(record, repair, *sizes, points, *capacity),
+            Call::Write { file } => zbk_write(record, repair, area, file),
+            Call::Lose { board } => zbk_lose(record, repair, *board),
+            Call::Repair { fresh, helpers, stand_ins } => zbk_repair(record, repair, area, fresh, helpers, stand_ins),
+            Call::Read { boards } => zbk_read(record, repair, area, boards, out),
+            Call::Edit { offset, bytes, boards } => zbk_edit(record, repair, area, *offset, bytes, boards),
+            Call::Start { fresh, helpers, stand_ins } => zbk_start(record, repair, area, fresh, helpers, stand_ins),
+            Call::Step { allowance } => zbk_step(record, repair, area, packets, *allowance),
             Call::ReadText { text } => zbk_read_text(text, record, area, out),
             Call::Gather { text } => zbk_gather(text, out),
             Call::Prefix { text } => zbk_text_prefix(text),
@@ -293,11 +325,14 @@ impl Call {
             }
             Call::Write { file } => Parts { slices: vec![file], ..none },
             Call::Lose { board } => Parts { numbers: vec![board], ..none },
-            Call::Repair { fresh, helpers, stand_ins } => Parts { lists: vec![fresh, helpers, stand_ins], ..none },
+            Call::Repair { fresh, helpers, stand_ins } | Call::Start { fresh, helpers, stand_ins } => {
+                Parts { lists: vec![fresh, helpers, stand_ins], ..none }
+            }
             Call::Read { boards } => Parts { lists: vec![boards], ..none },
             Call::Edit { offset, bytes, boards } => {
                 Parts { offset: Some(offset), lists: vec![boards], slices: vec![bytes], ..none }
             }
+            Call::Step { allowance } => Parts { allowance: Some(allowance), ..none },
             Call::ReadText { text } | Call::Gather { text } | Call::Prefix { text } => {
                 Parts { slices: vec![text], ..none }
             }
@@ -315,6 +350,7 @@ pub struct Parts<'a> {
     pub length: Option<&'a mut usize>,
     pub capacity: Option<&'a mut usize>,
     pub offset: Option<&'a mut usize>,
+    pub allowance: Option<&'a mut usize>,
     pub numbers: Vec<&'a mut usize>,
     pub lists: Vec<&'a mut Vec<usize>>,
     pub slices: Vec<&'a mut Vec<u8>>,
@@ -331,18 +367,27 @@ impl Parts<'_> {
     }
 }
 
-/// The memory that a call is lent to change. A call that does not take one of the three leaves it empty. A reading of a text is lent the words of the
-/// head as the record, and the points to write as the area.
+/// The memory that a call is lent to change. What a call does not take is empty. A reading of a text is lent the words of the head as the record, and
+/// the points to write as the area.
 #[derive(Clone, Debug, Default, PartialEq, Eq)]
 pub struct Lent {
     pub record: Vec<u64>,
+    /// the record of a started repair, beside the store's
+    pub repair: Vec<u64>,
     pub area: Vec<u8>,
+    /// the packet area of a step
+    pub packets: Vec<u8>,
     pub out: Vec<u8>,
 }
 
 impl Lent {
     pub fn output(out: Vec<u8>) -> Lent {
         Lent { out, ..Lent::default() }
+    }
+
+    /// What a call of the store is lent where no repair runs.
+    pub fn idle(record: Vec<u64>, area: Vec<u8>, out: Vec<u8>) -> Lent {
+        Lent { record, repair: vec![0; running::word::COUNT], area, packets: Vec::new(), out }
     }
 }
 
@@ -415,13 +460,14 @@ impl fmt::Display for Call {
             Call::SetUp { sizes, points, capacity } => write!(to, "({}, capacity={capacity}", given(sizes, points)),
             Call::Write { file } => write!(to, "(file[{}]", file.len()),
             Call::Lose { board } => write!(to, "(board={board}"),
-            Call::Repair { fresh, helpers, stand_ins } => {
+            Call::Repair { fresh, helpers, stand_ins } | Call::Start { fresh, helpers, stand_ins } => {
                 write!(to, "(fresh={fresh:?}, helpers={helpers:?}, stand_ins={stand_ins:?}")
             }
             Call::Read { boards } => write!(to, "(boards={boards:?}"),
             Call::Edit { offset, bytes, boards } => {
                 write!(to, "(offset={offset}, bytes[{}], boards={boards:?}", bytes.len())
             }
+            Call::Step { allowance } => write!(to, "(allowance={allowance}"),
             Call::ReadText { text } | Call::Gather { text } | Call::Prefix { text } => {
                 write!(to, "(text={:?}", shown(text))
             }

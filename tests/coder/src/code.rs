@@ -75,14 +75,24 @@ impl Sizes {
     }
 }
 
-/// The matrix that makes a board's share of a stripe: a row for each byte kept, a column for each byte of the stripe.
-pub fn generator(sizes: Sizes, points: &[u8], board: usize) -> Matrix {
+/// F's monomials at places (x, y): a row for each place, a column for each byte of the stripe.
+fn evaluated(sizes: Sizes, places: &[(u8, u8)]) -> Matrix {
     let monomials = sizes.monomials();
-    let places = sizes.places(points, board);
     Matrix::new(places.len(), monomials.len(), |t, m| {
         let ((x, y), (i, j)) = (places[t], monomials[m]);
         FIELD.product(FIELD.power(x, i), FIELD.power(y, j))
     })
+}
+
+/// The matrix that makes a board's share of a stripe: a row for each byte kept, a column for each byte of the stripe.
+pub fn generator(sizes: Sizes, points: &[u8], board: usize) -> Matrix {
+    evaluated(sizes, &sizes.places(points, board))
+}
+
+/// F's values at places (x, y), for each of them as many bytes as a file has stripes.
+pub fn values(sizes: Sizes, file: &[u8], places: &[(u8, u8)]) -> Vec<Vec<u8>> {
+    let values = evaluated(sizes, places).times(&stripes_of(sizes, file));
+    (0..places.len()).map(|place| values.row(place).to_vec()).collect()
 }
 
 /// A file's stripes, each a column, the last filled up with 00.

@@ -222,7 +222,7 @@ impl Editing<'_> {
     fn lent(&self, area: &[u8]) -> Lent {
         let Scene { sizes, ref points, .. } = *self.scene;
         let record = store::words(sizes, points, self.capacity, Some(self.scene.length()), &self.in_service);
-        Lent { record, area: area.to_vec(), out: Vec::new() }
+        Lent::idle(record, area.to_vec(), Vec::new())
     }
 
     /// One edit, by the file that the boards hold, and which of the kinds it is that only the alteration tells.

@@ -16,7 +16,7 @@ pub fn doubled(trial: &mut Trial, series: &Series) {
     // all are below 80: 02 times each is its double
     let shares = shares.concat();
     let doubles: Vec<u8> = shares.iter().map(|byte| 2 * byte).collect();
-    let all = Lent { record: record_of(points, 0b11111), area: shares, out: Vec::new() };
+    let all = Lent::idle(record_of(points, 0b11111), shares, Vec::new());
     let after = Lent { area: doubles, ..all.clone() };
     for (offset, bytes) in [(11, &[2][..]), (8, &[0, 0, 0, 2]), (0, &[0, 0, 0, 0, 0, 0, 0, 0, 0, 0, 0, 2])] {
         let expected = Outcome::accepted(0, after.clone());
@@ -47,7 +47,7 @@ pub fn refusals(trial: &mut Trial, series: &Series) {
     let points = &series.points;
     let mut area = series.shares.concat();
     area[15] ^= 1;
-    let lent = Lent { record: record_of(points, 0b11100), area, out: Vec::new() };
+    let lent = Lent::idle(record_of(points, 0b11100), area, Vec::new());
     let greatest = usize::MAX;
     let cases: [(usize, &[u8], &[usize], u8); 18] = [
         // "offset plus count beyond L", though the list is wrong in all its ways

@@ -1,7 +1,7 @@
 //! The figures of document 01, as literal values: all that are not marked M, through the archive and by the coder itself. Those marked M are
 //! proved; they are run here too, since they also try the coder. Then the same for robots of the first series, whose figures were worked out by
 //! hand, and which points are refused (request A.9 of document 02); and a board rebuilt alone, with a stand-in (request A.3);
-//! edits (request A.6); and first bytes of trial files (request A.2).
+//! edits (request A.6); repairs a packet at a time (request A.8); and first bytes of trial files (request A.2).
 
 use crate::call::refusal::{COUNT, DOWN, LONG, NODE, REPEAT, SERVING, SIZE};
 use crate::call::{Call, Lent, Outcome};
@@ -9,7 +9,9 @@ use crate::code::Sizes;
 use crate::field::FIELD;
 use crate::points::{filled_up, first_series, standard};
 use crate::trial::{Place, Trial};
-use crate::{board, edit_figures, load, prefix_figures, store, stream, stream_cases, text_figures, texts};
+use crate::{
+    board, edit_figures, load, prefix_figures, step_figures, store, stream, stream_cases, text_figures, texts,
+};
 
 pub fn run(trial: &mut Trial) {
     field(trial);
@@ -20,7 +22,14 @@ pub fn run(trial: &mut Trial) {
         alone(trial, &series);
         edit_figures::doubled(trial, &series);
         edit_figures::refusals(trial, &series);
+        step_figures::by_packets(trial, &series);
+        step_figures::meanwhile(trial, &series);
+        step_figures::none_running(trial, &series);
+        step_figures::made_up(trial, &series);
     }
+    step_figures::in_order(trial);
+    step_figures::altered(trial);
+    step_figures::goes_on(trial);
     refused_repairs(trial);
     text(trial);
     text_figures::run(trial);
@@ -36,9 +45,9 @@ pub fn run(trial: &mut Trial) {
 
 /// What the coder's own model says of any call.
 fn model(call: &Call, lent: &Lent) -> Outcome {
-    if call.place() < 6 {
+    if call.place() < crate::call::SET_UP {
         board::expect(call, lent)
-    } else if call.place() < crate::call::READ_TEXT {
+    } else if call.of_store() {
         store::expect(call, lent)
     } else if call.place() < crate::call::TRIAL_FILE {
         texts::expect(call, lent)
@@ -96,13 +105,15 @@ pub struct Series {
     pub points: Vec<u8>,
     pub shares: [[u8; 7]; 5],
     /// of helpers 2, 3, 4 for board 0
-    packets_0: [[u8; 2]; 3],
+    pub packets_0: [[u8; 2]; 3],
     /// of the same for board 1
-    packets_1: [[u8; 2]; 3],
+    pub packets_1: [[u8; 2]; 3],
     /// what board 0 sends board 1
-    exchanged: u8,
-    /// and what it sends as a helper
-    packet_0_1: [u8; 2],
+    pub exchanged: u8,
+    /// what board 1 sends board 0
+    pub exchanged_back: u8,
+    /// and what board 0 sends as a helper
+    pub packet_0_1: [u8; 2],
 }
 
 /// M7 to M12.
@@ -120,6 +131,7 @@ fn present() -> Series {
         packets_0: [[0x00, 0x00], [0x00, 0x00], [0x00, 0x00]],
         packets_1: [[0x04, 0x02], [0x05, 0x03], [0x10, 0x04]],
         exchanged: 0x00,
+        exchanged_back: 0x00,
         packet_0_1: [0x00, 0x00],
     }
 }
@@ -139,6 +151,7 @@ fn first() -> Series {
         packets_0: [[0x05, 0x03], [0x10, 0x04], [0x11, 0x05]],
         packets_1: [[0x0A, 0x0C], [0x20, 0x10], [0x22, 0x14]],
         exchanged: 0x04,
+        exchanged_back: 0x02,
         packet_0_1: [0x02, 0x04],
     }
 }
@@ -222,9 +235,9 @@ fn moved(trial: &mut Trial, series: &Series) {
     let Series { name, points, shares, .. } = series;
     let mut area = shares.concat();
     area[..14].fill(0xEE);
-    let lent = Lent { record: record_of(points, 0b11100), area, out: Vec::new() };
+    let lent = Lent::idle(record_of(points, 0b11100), area, Vec::new());
     let call = Call::Repair { fresh: vec![0, 1], helpers: vec![2, 3, 4, 2, 3, 4], stand_ins: vec![] };
-    let after = Lent { record: record_of(points, 0b11111), area: shares.concat(), out: Vec::new() };
+    let after = Lent::idle(record_of(points, 0b11111), shares.concat(), Vec::new());
     figure(trial, &format!("{name}: moved"), call, lent, Outcome::accepted(14, after));
 }
 
@@ -249,9 +262,9 @@ fn alone(trial: &mut Trial, series: &Series) {
     writes(trial, &format!("{name}: board 1 finished with a stand-in"), call, &shares[1]);
     let mut area = shares.concat();
     area[7..14].fill(0xEE);
-    let lent = Lent { record: record_of(points, 0b11101), area, out: Vec::new() };
+    let lent = Lent::idle(record_of(points, 0b11101), area, Vec::new());
     let call = Call::Repair { fresh: vec![1], helpers: vec![0, 2, 3], stand_ins: vec![4] };
-    let after = Lent { record: record_of(points, 0b11111), area: shares.concat(), out: Vec::new() };
+    let after = Lent::idle(record_of(points, 0b11111), shares.concat(), Vec::new());
     figure(trial, &format!("{name}: moved for one board"), call, lent, Outcome::accepted(7, after));
 }
 
@@ -261,7 +274,7 @@ type Refused<'a> = (&'a [usize], &'a [usize], &'a [usize], u8);
 /// Boards 0 and 1 out of service: what is refused of a repair's lists, each line before those that follow.
 fn refused_repairs(trial: &mut Trial) {
     let Series { points, shares, .. } = present();
-    let lent = Lent { record: record_of(&points, 0b11100), area: shares.concat(), out: Vec::new() };
+    let lent = Lent::idle(record_of(&points, 0b11100), shares.concat(), Vec::new());
     let cases: [Refused; 22] = [
         // "t outside 1 to r is COUNT"
         (&[], &[], &[], COUNT),
@@ -328,7 +341,7 @@ fn legal_sizes(trial: &mut Trial) {
     for (n, k, d, r) in [(33, 2, 3, 2), (5, 2, 4, 2), (5, 2, 3, 3), (5, 4, 3, 2), (5, 2, 3, 0)] {
         let sizes = Sizes { n, k, d, r };
         let points = standard(n.min(32));
-        let lent = Lent { record: vec![9; 12], ..Lent::default() };
+        let lent = Lent::idle(vec![9; 12], Vec::new(), Vec::new());
         refused(trial, "sizes not legal", Call::SetUp { sizes, points: points.clone(), capacity: 1 }, lent, SIZE);
         let call = Call::Share { sizes, points, node: 0, file: vec![0x2A] };
         refused(trial, "sizes not legal", call, Lent::output(vec![0xEE; 100]), SIZE);
@@ -339,9 +352,10 @@ fn legal_sizes(trial: &mut Trial) {
 fn refused_points(trial: &mut Trial) {
     for points in [[0, 1, 2, 3, 4], [4, 3, 2, 1, 0], [9, 0, 0xFF, 0x80, 1]] {
         let points = filled_up(points);
-        let (mut lent, mut after) = (Lent::default(), Lent::default());
-        lent.record = vec![u64::MAX; 12];
-        after.record = [&[5, 2, 3, 2, 1, 0, 0, 0][..], &words_of_five(&points)].concat();
+        let repair = vec![u64::MAX; 71];
+        let lent = Lent { record: vec![u64::MAX; 12], repair, ..Lent::default() };
+        let record = [&[5, 2, 3, 2, 1, 0, 0, 0][..], &words_of_five(&points)].concat();
+        let after = Lent::idle(record, Vec::new(), Vec::new());
         let call = Call::SetUp { sizes: FIVE, points, capacity: 1 };
         figure(trial, "points that are taken", call, lent, Outcome::accepted(0, after));
     }
@@ -364,7 +378,7 @@ fn refused_points(trial: &mut Trial) {
         points
     }));
     for points in wrong {
-        let lent = Lent { record: vec![9; 12], ..Lent::default() };
+        let lent = Lent::idle(vec![9; 12], Vec::new(), Vec::new());
         let call = Call::SetUp { sizes: FIVE, points: points.clone(), capacity: 1 };
         refused(trial, "points that are refused", call, lent, SIZE);
         // before all else: the file is too long, the board is none of the five, the output is too short
@@ -376,7 +390,7 @@ fn refused_points(trial: &mut Trial) {
 /// "A record kept as eight words from before is SIZE and goes on with the words of the standard points behind it."
 fn eight_words(trial: &mut Trial) {
     let shares = present().shares;
-    let eight = Lent { record: vec![5, 2, 3, 2, 1, 1, 12, 0b11111], area: shares.concat(), out: vec![0xEE; 12] };
+    let eight = Lent::idle(vec![5, 2, 3, 2, 1, 1, 12, 0b11111], shares.concat(), vec![0xEE; 12]);
     refused(trial, "a record of eight words", Call::Read { boards: vec![4, 1] }, eight.clone(), SIZE);
     let lent = Lent { record: [&eight.record[..], &[0x04_0302_0100, 0, 0, 0]].concat(), ..eight };
     let after = Lent { out: X2Y.to_vec(), ..lent.clone() };
@@ -386,7 +400,8 @@ fn eight_words(trial: &mut Trial) {
 /// Sets up a store, and gives what it is then.
 fn set_up(trial: &mut Trial, name: &str, sizes: Sizes, capacity: usize) -> Lent {
     let area = vec![0xEE; sizes.n * capacity * (2 * sizes.d + sizes.r - 1)];
-    let lent = Lent { record: vec![u64::MAX; 12], area, out: Vec::new() };
+    let repair = vec![u64::MAX; 71];
+    let lent = Lent { record: vec![u64::MAX; 12], repair, area, ..Lent::default() };
     let Sizes { n, k, d, r } = sizes;
     let numbers = [n as u64, k as u64, d as u64, r as u64, capacity as u64, 0, 0, 0];
     // the points 00 to 1F, those from n up left out
@@ -396,7 +411,7 @@ fn set_up(trial: &mut Trial, name: &str, sizes: Sizes, capacity: usize) -> Lent 
         boards if boards < 8 => all[q] & ((1 << (8 * boards)) - 1),
         _ => all[q],
     });
-    let after = Lent { record: [numbers.as_slice(), &points].concat(), ..lent.clone() };
+    let after = Lent::idle([numbers.as_slice(), &points].concat(), lent.area.clone(), Vec::new());
     figure(trial, name, Call::SetUp { sizes, points: standard(n), capacity }, lent, Outcome::accepted(0, after))
 }
 
@@ -414,7 +429,7 @@ fn store_lengths(trial: &mut Trial) {
     let lent = set_up(trial, "a store of two stripes", FIVE, 2);
     refused(trial, "C × B and one more", Call::Write { file: vec![0; 25] }, lent.clone(), LONG);
     let record = vec![5, 2, 3, 2, 2, 1, 24, 0b11111, 0x04_0302_0100, 0, 0, 0];
-    let after = Lent { record, area: vec![0; 70], out: Vec::new() };
+    let after = Lent::idle(record, vec![0; 70], Vec::new());
     let written = figure(trial, "C × B", Call::Write { file: vec![0; 24] }, lent, Outcome::accepted(0, after));
     let lent = Lent { out: vec![0xEE; 25], ..written };
     refused(trial, "a read of k − 1 boards", Call::Read { boards: vec![4] }, lent.clone(), COUNT);
@@ -422,7 +437,7 @@ fn store_lengths(trial: &mut Trial) {
     figure(trial, "a read of k boards", Call::Read { boards: vec![4, 0] }, lent, Outcome::accepted(0, after));
     set_up(trial, "the greatest capacity", SMALL, 4096);
     for capacity in [0, 4097] {
-        let lent = Lent { record: vec![9; 12], ..Lent::default() };
+        let lent = Lent::idle(vec![9; 12], Vec::new(), Vec::new());
         let call = Call::SetUp { sizes: FIVE, points: standard(5), capacity };
         refused(trial, "a capacity out of range", call, lent, SIZE);
     }

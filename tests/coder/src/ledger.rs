@@ -1,9 +1,11 @@
 //! The ledger of document 01: a plain book kept beside the store. It is fed the sizes, the points, the capacity, the area's length and each call's
-//! arguments other than record and area, and never an answer. It keeps the last file accepted and the boards in service.
+//! arguments other than record and area, and never an answer. It keeps the last file accepted and the boards in service; and of a repair that runs
+//! (request A.8 of document 02) its lists and how many packets are left. Of a step's packet area it is fed the length. A power failure is told to it.
 
-use crate::call::refusal::{AREA, COUNT, DOWN, EMPTY, LONG, NODE, RANGE, REPEAT, SERVING, SHORT};
+use crate::call::refusal::{AREA, BUSY, COUNT, DOWN, EMPTY, IDLE, LONG, NODE, RANGE, REPEAT, SERVING, SHORT};
 use crate::call::Call;
 use crate::code::Sizes;
+use crate::running::Lists;
 use std::collections::BTreeSet;
 
 pub struct Book {
@@ -13,33 +15,45 @@ pub struct Book {
     pub area_len: usize,
     pub file: Option<Vec<u8>>,
     pub in_service: BTreeSet<usize>,
+    pub repairing: Option<Repairing>,
 }
 
-/// What the book answers: the answer, all bytes of a read's output, and the boards whose shares the call makes anew.
+/// A repair that runs.
+#[derive(Clone)]
+pub struct Repairing {
+    pub lists: Lists,
+    pub left: usize,
+}
+
+/// What the book answers: the answer, all bytes of a read's output, the boards whose shares the call makes anew, and how many packets it carries.
 pub struct Reply {
     pub answer: u64,
     pub out: Vec<u8>,
     pub made: Vec<usize>,
+    pub carried: usize,
 }
 
 impl Book {
     pub fn new(sizes: Sizes, points: Vec<u8>, capacity: usize, area_len: usize) -> Book {
-        Book { sizes, points, capacity, area_len, file: None, in_service: BTreeSet::new() }
+        Book { sizes, points, capacity, area_len, file: None, in_service: BTreeSet::new(), repairing: None }
     }
 
-    /// The number of the first line that holds for a call, "1, 2, 3, 8, 15, 4, 5, 6, 14, 9, 7, 10"; 1 and 10 never hold in it.
-    fn refusal(&self, call: &Call, out: usize) -> Option<u8> {
+    /// The number of the first line that holds for a call, "1, 2, 3, 8, 16, 17, 15, 4, 5, 6, 14, 9, 7, 10"; 1 and 10 never hold in it. The output and
+    /// the packet area that it is lent have so many bytes.
+    fn refusal(&self, call: &Call, out: usize, packets: usize) -> Option<u8> {
         let Sizes { n, k, d, r } = self.sizes;
         let wrong_area = self.area_len != n * self.capacity * self.sizes.share_len();
+        let busy = self.repairing.is_some();
         let known = |boards: &[usize]| boards.iter().all(|board| (0..n).contains(board));
         let serving = |boards: &[usize]| boards.iter().all(|board| self.in_service.contains(board));
         let different = |boards: &[usize]| boards.iter().collect::<BTreeSet<_>>().len() == boards.len();
         let lines: Vec<(u8, bool)> = match call {
             Call::Write { file } => {
-                vec![(AREA, wrong_area), (LONG, file.len() > self.capacity * self.sizes.stripe_len())]
+                let long = file.len() > self.capacity * self.sizes.stripe_len();
+                vec![(AREA, wrong_area), (LONG, long), (BUSY, busy)]
             }
             Call::Lose { board } => vec![(NODE, !known(&[*board]))],
-            Call::Repair { fresh, helpers, stand_ins } => {
+            Call::Repair { fresh, helpers, stand_ins } | Call::Start { fresh, helpers, stand_ins } => {
                 let t = fresh.len();
                 // the lists of each fresh board; none where COUNT holds
                 let right = (1..=r).contains(&t) && (helpers.len(), stand_ins.len()) == (t * d, t * (r - t));
@@ -51,6 +65,7 @@ impl Book {
                 vec![
                     (AREA, wrong_area),
                     (EMPTY, self.file.is_none()),
+                    (BUSY, busy),
                     (COUNT, !right),
                     (NODE, !known(fresh) || !known(helpers) || !known(stand_ins)),
                     (REPEAT, !different(fresh) || !named_differ || !apart),
@@ -70,12 +85,19 @@ impl Book {
             Call::Edit { offset, bytes, boards } => vec![
                 (AREA, wrong_area),
                 (EMPTY, self.file.is_none()),
+                (BUSY, busy),
                 (RANGE, *offset > self.file_len() || bytes.len() > self.file_len() - offset),
                 (COUNT, boards.len() != k),
                 (NODE, !known(boards)),
                 (REPEAT, !different(boards)),
                 (DOWN, !serving(boards)),
             ],
+            Call::Step { .. } => {
+                // "with none running its length is not checked"
+                let due = self.repairing.as_ref().map(|repairing| self.moved(repairing.lists.fresh.len()));
+                let wrong = wrong_area || due.is_some_and(|due| packets != due);
+                vec![(AREA, wrong), (EMPTY, self.file.is_none()), (IDLE, !busy)]
+            }
             _ => unreachable!("a call that stands in no list of document 01"),
         };
         lines.into_iter().find(|(_, holds)| *holds).map(|(number, _)| number)
@@ -85,15 +107,42 @@ impl Book {
         self.file.as_ref().map_or(0, Vec::len)
     }
 
-    /// S × t × (2d + r − 1).
+    /// S × t × (2d + r − 1), the bytes of all packets of a repair.
     fn moved(&self, t: usize) -> usize {
         self.sizes.stripes(self.file_len()) * t * (2 * self.sizes.d + self.sizes.r - 1)
     }
 
-    /// Enters a call: what the store must answer and make.
-    pub fn enter(&mut self, call: &Call, out: &[u8]) -> Reply {
-        let mut reply = Reply { answer: 0, out: out.to_vec(), made: Vec::new() };
-        if let Some(number) = self.refusal(call, out.len()) {
+    /// "t(d + r − 1)".
+    pub fn total(&self, t: usize) -> usize {
+        t * (self.sizes.d + self.sizes.r - 1)
+    }
+
+    /// How many packets of the repair that runs were carried.
+    pub fn carried(&self) -> usize {
+        self.repairing.as_ref().map_or(0, |Repairing { lists, left }| self.total(lists.fresh.len()) - left)
+    }
+
+    /// "the repair's own record and packets are gone, the store's record and boards in service are as before".
+    pub fn power_fails(&mut self) {
+        self.repairing = None;
+    }
+
+    /// Carries so many packets of the repair that runs, or all that are left: how many, and which boards then have their shares.
+    fn carry(&mut self, allowance: usize) -> (usize, Vec<usize>) {
+        let repairing = self.repairing.as_mut().expect("IDLE does not hold");
+        if allowance < repairing.left {
+            repairing.left -= allowance;
+            return (allowance, Vec::new());
+        }
+        let Repairing { lists, left } = self.repairing.take().expect("IDLE does not hold");
+        self.in_service.extend(&lists.fresh);
+        (left, lists.fresh)
+    }
+
+    /// Enters a call, which is lent this output and a packet area of so many bytes: what the store must answer and make.
+    pub fn enter(&mut self, call: &Call, out: &[u8], packets: usize) -> Reply {
+        let mut reply = Reply { answer: 0, out: out.to_vec(), made: Vec::new(), carried: 0 };
+        if let Some(number) = self.refusal(call, out.len(), packets) {
             reply.answer = u64::from(number);
             return reply;
         }
@@ -105,6 +154,7 @@ impl Book {
             }
             Call::Lose { board } => {
                 self.in_service.remove(board);
+                self.repairing = self.repairing.take().filter(|repairing| !repairing.lists.name(*board));
             }
             Call::Repair { fresh, .. } => {
                 self.in_service.extend(fresh);
@@ -120,6 +170,15 @@ impl Book {
                 let file = self.file.as_mut().expect("EMPTY does not hold");
                 file.splice(*offset..offset + bytes.len(), bytes.iter().copied());
                 reply.made = self.in_service.iter().copied().collect();
+            }
+            Call::Start { fresh, helpers, stand_ins } => {
+                let (fresh, helpers, stand_ins) = (fresh.clone(), helpers.clone(), stand_ins.clone());
+                let left = self.total(fresh.len());
+                self.repairing = Some(Repairing { lists: Lists { fresh, helpers, stand_ins }, left });
+            }
+            Call::Step { allowance } => {
+                (reply.carried, reply.made) = self.carry(*allowance);
+                reply.answer = (reply.carried as u64) << 8;
             }
             _ => unreachable!("a call that stands in no list of document 01"),
         }

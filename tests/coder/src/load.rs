@@ -53,7 +53,7 @@ impl Load {
             return true;
         }
         let call = Call::SetUp { sizes, points: points::standard(sizes.n), capacity };
-        let lent = Lent { record: vec![0; store::word::COUNT], ..Lent::default() };
+        let lent = Lent::idle(vec![0; store::word::COUNT], Vec::new(), Vec::new());
         store::expect(&call, &lent).answer != 0 || self.area_len() > AREA
     }
 
@@ -91,7 +91,7 @@ impl Load {
         let out = vec![0; self.length];
         (0..self.calls).all(|_| {
             let (word, call) = self.draw(&mut stream);
-            let answer = book.enter(&call, &out).answer;
+            let answer = book.enter(&call, &out, 0).answer;
             to(&format!("op={word} answer={} moved={}\n", answer & 255, answer >> 8))
         })
     }

@@ -12,11 +12,12 @@
 //! many calls are made: single calls at board level, single calls of the store over made-up records and areas, long histories against a ledger,
 //! second files that k − 1 boards do not tell from the first (request A.13 of document 02), and shares with one byte altered where least shows it
 //! (request A.7); all of them at points 0 to n − 1, i + 1 and others (request A.9), with repairs of 1 to r boards with stand-ins (request A.3) and edits
-//! (request A.6), these also over areas with wrong bytes in boards that are read or not. Each case draws from its own seed, made of the run's seed and
-//! the case's number: `--only` repeats one case.
+//! (request A.6), these also over areas with wrong bytes in boards that are read or not; and with repairs a packet at a time (request A.8), stepped by
+//! every allowance, over packets and boards that are altered, up to power failures and losses, and beside made-up records. Each case draws from its own
+//! seed, made of the run's seed and the case's number: `--only` repeats one case.
 //! `--wrong` alters what the archive answers to one call, to show that this is reported. `--first` ends the run at the first case with a mismatch.
 //! `--trace` prints each call before it is made, `--verbose` how often each call gave each refusal, with which points, how often an altered byte was
-//! accepted and refused, how many boards repairs had, where edits stood, and what was met at real sizes. `--multiply` tries all products and quotients through the
+//! accepted and refused, how many boards repairs had, where edits stood, how repairs were stepped, and what was met at real sizes. `--multiply` tries all products and quotients through the
 //! archive and nothing else. `--products`, `--printer`, `--sizes`, `--trial` and `--load` make no call: the first writes all products and inverses of
 //! the coder's own field, the second reads standard input and writes what the share printer or the points printer must write for it, the third writes
 //! a line for each legal combination of sizes with at most N boards (request A.12), the fourth reads standard input and writes what the program
@@ -31,9 +32,9 @@
 //! several bytes or the padding are altered in any stripe, texts of such files are written, read and gathered, and whole histories are kept. Runs of
 //! at most 4,000 calls leave them out.
 //!
-//! The last line counts calls and mismatches. The exit code is 1 where there is a mismatch, or where in a run of 20,000 calls or more some
-//! refusal that a call can give was never met, a kind of points, DISAGREE for a kind of altered byte, a kind of repair or of edit, or a call at a kind of
-//! real sizes.
+//! The last line counts calls and mismatches. The exit code is 1 where there is a mismatch, or where in a run of 40,000 calls or more some
+//! refusal that a call can give was never met, a kind of points, DISAGREE for a kind of altered byte, a kind of repair, of edit or of step, or a call at
+//! a kind of real sizes.
 
 mod altered;
 mod archive;
@@ -63,9 +64,16 @@ mod real;
 mod real_cases;
 mod real_reads;
 mod repairs;
+mod running;
+mod running_draw;
 mod scene;
 mod size_list;
 mod spoil;
+mod step_cases;
+mod step_figures;
+mod step_meanwhile;
+mod steps;
+mod steps_met;
 mod store;
 mod store_cases;
 mod store_draw;
@@ -86,7 +94,10 @@ use std::sync::atomic::{AtomicU64, Ordering};
 use trial::{Place, Trial, Wrong, WrongKind};
 
 /// From how many calls on every refusal of every call must have been met.
-const ENOUGH: u64 = 20_000;
+const ENOUGH: u64 = 40_000;
+
+/// From how many calls on all products are tried.
+const WITH_PRODUCTS: u64 = 20_000;
 
 /// Up to how many calls a run leaves real sizes out, so that it is quick.
 const FEW: u64 = 4_000;
@@ -226,6 +237,7 @@ fn run_case(trial: &mut Trial, case: u64) {
         tight::run(trial, &mut random, sizes);
         altered::run(trial, &mut random, sizes);
         edit_cases::run(trial, &mut random, sizes);
+        step_cases::run(trial, &mut random, sizes);
         text_cases::run(trial, &mut random, sizes);
         prefix_cases::first(trial, &mut random, sizes);
         stream_cases::first(trial, &mut random);
@@ -235,7 +247,7 @@ fn run_case(trial: &mut Trial, case: u64) {
         return real_cases::run(trial, &mut random, turn);
     }
     let sizes = draw::sizes(&mut random);
-    match random.below(22) {
+    match random.below(23) {
         0..=1 => histories::run(trial, &mut random, sizes),
         2..=9 => store_cases::run(trial, &mut random, sizes),
         10..=11 => tight::run(trial, &mut random, sizes),
@@ -247,6 +259,7 @@ fn run_case(trial: &mut Trial, case: u64) {
         14 => prefix_cases::run(trial, &mut random, sizes),
         15 => stream_cases::run(trial, &mut random),
         16 => edit_cases::run(trial, &mut random, sizes),
+        17 => step_cases::run(trial, &mut random, sizes),
         _ => board_cases::run(trial, &mut random, sizes),
     }
 }
@@ -294,7 +307,7 @@ fn main() -> ExitCode {
 fn run_all(trial: &mut Trial, options: &Options) {
     let enough = |trial: &Trial| trial.calls >= options.calls || (options.first && trial.mismatches > 0);
     figures::run(trial);
-    if options.calls >= ENOUGH && !enough(trial) {
+    if options.calls >= WITH_PRODUCTS && !enough(trial) {
         products::run(trial);
     }
     let mut case = 0;

@@ -67,8 +67,8 @@ fn by_share(trial: &mut Trial, points: &[u8]) {
 fn by_write(trial: &mut Trial, points: &[u8]) {
     let area = [kept(points[0], points[1]), kept(points[1], points[0])].concat();
     let words = |written: Option<usize>, boards: &[usize]| store::words(TWO, points, STRIPES, written, boards);
-    let lent = Lent { record: words(None, &[]), area: vec![0xEE; area.len()], out: Vec::new() };
-    let after = Lent { record: words(Some(2 * STRIPES), &[0, 1]), area, out: Vec::new() };
+    let lent = Lent::idle(words(None, &[]), vec![0xEE; area.len()], Vec::new());
+    let after = Lent::idle(words(Some(2 * STRIPES), &[0, 1]), area, Vec::new());
     let call = Call::Write { file: each_byte(|b| b) };
     check(trial, "products by a write", call, lent, Outcome::accepted(0, after));
 }
@@ -86,7 +86,7 @@ fn by_file(trial: &mut Trial, points: &[u8]) {
 fn by_read(trial: &mut Trial, points: &[u8]) {
     let record = store::words(TWO, points, STRIPES, Some(2 * STRIPES), &[0]);
     let area = [each_byte(|b| b), vec![0xEE; 2 * STRIPES]].concat();
-    let lent = Lent { record, area, out: vec![0xEE; 2 * STRIPES] };
+    let lent = Lent::idle(record, area, vec![0xEE; 2 * STRIPES]);
     let after = Lent { out: each_byte(|b| quotient(b, points[1])), ..lent.clone() };
     check(trial, "quotients by a read", Call::Read { boards: vec![0] }, lent, Outcome::accepted(0, after));
 }

@@ -68,7 +68,13 @@ impl Measure {
             Call::SetUp { sizes, capacity, .. } => {
                 return Some(Measure { sizes: *sizes, room: *capacity, length: capacity * sizes.stripe_len() })
             }
-            Call::Write { .. } | Call::Lose { .. } | Call::Repair { .. } | Call::Read { .. } | Call::Edit { .. } => {
+            Call::Write { .. }
+            | Call::Lose { .. }
+            | Call::Repair { .. }
+            | Call::Read { .. }
+            | Call::Edit { .. }
+            | Call::Start { .. }
+            | Call::Step { .. } => {
                 let (sizes, _) = store::given(&lent.record)?;
                 let now = lent.record[word::LENGTH] as usize;
                 let length = if let Call::Write { file } = call { file.len() } else { now };
@@ -232,13 +238,18 @@ impl Met {
 const COUNTED: [u8; 2] = [ACCEPTED, DISAGREE];
 
 /// The places in `CALLS` of the calls over a file in a store.
-const OVER_A_STORE: std::ops::RangeInclusive<usize> = 7..=11;
+const OVER_A_STORE: std::ops::RangeInclusive<usize> = 7..=13;
 
 /// Whether a call is about too few bytes for any of CLASSES.
 fn small(call: &Call, lent: &Lent) -> bool {
     match call {
         Call::ReadText { text } | Call::Gather { text } | Call::Prefix { text } => text.len() < 400,
-        Call::Repair { .. } | Call::Read { .. } | Call::Write { .. } | Call::Edit { .. } => lent.area.len() < 500,
+        Call::Write { .. }
+        | Call::Repair { .. }
+        | Call::Read { .. }
+        | Call::Edit { .. }
+        | Call::Start { .. }
+        | Call::Step { .. } => lent.area.len() < 500,
         _ => false,
     }
 }

@@ -13,6 +13,7 @@ use crate::random::Random;
 use crate::real::{Measure, THIRTY_TWO, THIRTY_TWO_LEN, TWELVE, TWELVE_LEN};
 use crate::real_reads;
 use crate::scene::Scene;
+use crate::step_cases;
 use crate::store_cases;
 use crate::stream_cases;
 use crate::text_cases;
@@ -133,6 +134,16 @@ fn points_in_turn(random: &mut Random, turn: u64, n: usize) -> Vec<u8> {
     }
 }
 
+/// How many boards are rebuilt a packet at a time: r, one, or a number between.
+fn fresh_in_turn(random: &mut Random, turn: u64, r: usize) -> usize {
+    match turn % 4 {
+        0 | 2 => r,
+        3 if r > 3 => random.within(3, r - 1),
+        3 if r > 2 => 2,
+        _ => 1,
+    }
+}
+
 pub fn run(trial: &mut Trial, random: &mut Random, turn: u64) {
     let Plan { sizes, capacity, length, calls } = Plan::of(random, turn);
     let scene = Scene::new(sizes, points_in_turn(random, turn, sizes.n), random.bytes(length));
@@ -140,6 +151,8 @@ pub fn run(trial: &mut Trial, random: &mut Random, turn: u64) {
     board_cases::spoilt(trial, random, &scene, calls);
     real_reads::run(trial, random, &scene, capacity);
     edit_cases::over(trial, random, &scene, capacity);
+    let t = fresh_in_turn(random, turn, sizes.r);
+    step_cases::over(trial, random, &scene, capacity, t);
     store_cases::over(trial, random, &scene, capacity, calls);
     text_cases::named(trial, random, &scene);
     text_cases::over(trial, random, &scene);

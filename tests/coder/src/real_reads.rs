@@ -71,7 +71,7 @@ impl Reading<'_> {
         let in_service = if all { (0..sizes.n).collect() } else { self.boards.clone() };
         let record = store::words(sizes, &self.scene.points, self.capacity, Some(length), &in_service);
         let more = random.below(3);
-        let lent = Lent { record, area: area.to_vec(), out: random.bytes(length + more) };
+        let lent = Lent::idle(record, area.to_vec(), random.bytes(length + more));
         let call = Call::Read { boards: self.boards.clone() };
         trial.check(&call, &lent, &expected(&call, &lent, file))
     }

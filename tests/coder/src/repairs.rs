@@ -27,7 +27,7 @@ pub fn kinds(sizes: Sizes, fresh: &[usize], helpers: &[usize], stand_ins: &[usiz
 }
 
 /// How many of the boards that are lost can be rebuilt together: 1 to r of them, with d + r − t others in service. Empty where none can.
-fn numbers(sizes: Sizes, lost: usize) -> RangeInclusive<usize> {
+pub fn numbers(sizes: Sizes, lost: usize) -> RangeInclusive<usize> {
     let Sizes { n, d, r, .. } = sizes;
     let fewest = (d + r + lost).saturating_sub(n).max(1);
     fewest..=lost.min(r)
@@ -52,6 +52,14 @@ pub fn draw(random: &mut Random, sizes: Sizes, in_service: &[usize]) -> Call {
         random.within(fewest, most)
     };
     of(random, sizes, in_service, t)
+}
+
+/// A start of a repair that `draw` gives.
+pub fn start(random: &mut Random, sizes: Sizes, in_service: &[usize]) -> Call {
+    match draw(random, sizes, in_service) {
+        Call::Repair { fresh, helpers, stand_ins } => Call::Start { fresh, helpers, stand_ins },
+        other => other,
+    }
 }
 
 /// A repair of t boards, out of service as far as there are such.
@@ -88,10 +96,10 @@ struct Lists<'a> {
     stand_ins: &'a mut Vec<usize>,
 }
 
-/// Puts a fault into the lists of a repair that `draw` gave, sometimes two, of which the one that comes first in the order decides. Any other call
-/// stays as it is.
+/// Puts a fault into the lists of a repair or a start that `draw` gave, sometimes two, of which the one that comes first in the order decides. Any
+/// other call stays as it is.
 pub fn spoil(random: &mut Random, sizes: Sizes, in_service: &[usize], call: &mut Call) {
-    let Call::Repair { fresh, helpers, stand_ins } = call else { return };
+    let (Call::Repair { fresh, helpers, stand_ins } | Call::Start { fresh, helpers, stand_ins }) = call else { return };
     let mut lists = Lists { sizes, in_service, fresh, helpers, stand_ins };
     match random.below(18) {
         0..=2 => lists.sender_down(random),

@@ -28,6 +28,7 @@ fn spoil_arguments(random: &mut Random, sizes: Sizes, mut parts: Parts) {
         parts.length.is_some(),
         parts.capacity.is_some(),
         parts.offset.is_some(),
+        parts.allowance.is_some(),
         !parts.numbers.is_empty(),
         !parts.lists.is_empty(),
         !parts.slices.is_empty(),
@@ -46,18 +47,19 @@ fn spoil_arguments(random: &mut Random, sizes: Sizes, mut parts: Parts) {
         2 => spoil_length(random, sizes, parts.length.expect("it is there")),
         3 => *parts.capacity.expect("it is there") = random.pick(&[0, 1, 4096, 4097, 1 << 32, usize::MAX]),
         4 => spoil_offset(random, sizes, parts.offset.expect("it is there")),
-        5 => {
+        5 => *parts.allowance.expect("it is there") = random.pick(&[0, 1, 3, 255, 256, 1 << 32, 1 << 63, usize::MAX]),
+        6 => {
             let place = random.below(parts.numbers.len());
             let named = parts.named();
             let again = random.once_in(3);
             *parts.numbers[place] = if again { random.pick(&named) } else { draw::any_number(random, sizes.n) };
         }
-        6 if parts.lists.len() > 1 && random.once_in(3) => {
+        7 if parts.lists.len() > 1 && random.once_in(3) => {
             let two = random.choose((0..parts.lists.len()).collect(), 2);
             let from = parts.lists[two[0]].clone();
             share_a_board(random, &from, parts.lists[two[1]]);
         }
-        6 => {
+        7 => {
             let place = random.below(parts.lists.len());
             spoil_list(random, sizes.n, parts.lists[place]);
         }
@@ -185,6 +187,9 @@ fn spoil_store(random: &mut Random, sizes: Sizes, lent: &mut Lent) {
         let now = lent.area.len();
         let length = random.pick(&[0, now.saturating_sub(1), now + 1, now + sizes.share_len(), 2 * now]);
         lent.area.resize(length, 0x5A);
+    } else if random.once_in(6) {
+        let count = random.pick(&[0, 1, 12, 70, 72, 142]);
+        lent.repair.resize(count, 0);
     } else if random.once_in(5) {
         // eight words are a record as calls without points handed it out
         let count = random.pick(&[0, 1, 7, 8, 8, 9, 11, 13, 16]);

@@ -1,10 +1,11 @@
-//! The coder's own model of the six calls of the store, over any record and any area: what each answers and leaves, refusals in document
-//! 01's order with those of later requests in their places.
+//! The coder's own model of the eight calls of the store, over any records and any area: what each answers and leaves, refusals in document
+//! 01's order with those of later requests in their places. Start and step stand in `steps`.
 
-use crate::call::refusal::{AREA, COUNT, DISAGREE, DOWN, EMPTY, LONG, NODE, RANGE, REPEAT, SERVING, SHORT, SIZE};
+use crate::call::refusal::{AREA, BUSY, COUNT, DISAGREE, DOWN, EMPTY, LONG, NODE, RANGE, REPEAT, SERVING, SHORT, SIZE};
 use crate::call::{Call, Lent, Outcome};
 use crate::code::{self, Sizes, MAX_STRIPES};
-use crate::points;
+use crate::running::{self, Lists, Told};
+use crate::{points, steps};
 
 /// The places of a record's words.
 pub mod word {
@@ -18,13 +19,13 @@ pub mod word {
 }
 
 /// A record that calls return.
-struct Record {
-    sizes: Sizes,
-    points: Vec<u8>,
+pub struct Record {
+    pub sizes: Sizes,
+    pub points: Vec<u8>,
     capacity: usize,
-    written: bool,
+    pub written: bool,
     length: usize,
-    marks: Vec<bool>,
+    pub marks: Vec<bool>,
 }
 
 /// The words of a record; the points are 32.
@@ -35,20 +36,20 @@ pub fn words(sizes: Sizes, points: &[u8], capacity: usize, file_len: Option<usiz
     [&numbers[..], &file, &words_of(points)].concat()
 }
 
-/// Four words of the points of eight boards each, "the lowest byte first": the first board's counts once, the next one's 256 times, and so on.
-pub fn words_of(points: &[u8]) -> Vec<u64> {
-    points.chunks(8).map(|eight| eight.iter().rev().fold(0, |word, &point| word * 256 + u64::from(point))).collect()
+/// Words of eight bytes each, "the lowest byte first": the first counts once, the next one 256 times, and so on. Points are four of them.
+pub fn words_of(bytes: &[u8]) -> Vec<u64> {
+    bytes.chunks(8).map(|eight| eight.iter().rev().fold(0, |word, &byte| word * 256 + u64::from(byte))).collect()
 }
 
-/// The points that words tell, all 32.
-fn points_in(words: &[u64]) -> Vec<u8> {
+/// The bytes that words tell, eight of each.
+pub fn bytes_in(words: &[u64]) -> Vec<u8> {
     let eight = |&word: &u64| (0..8).map(move |place| (word / 256u64.pow(place) % 256) as u8);
     words.iter().flat_map(eight).collect()
 }
 
 /// The sizes and the points of words that are a record but for the points; none where they are no record anyhow.
 pub fn given(words: &[u64]) -> Option<(Sizes, Vec<u8>)> {
-    let told = points_in(words.get(word::POINTS..word::COUNT)?);
+    let told = bytes_in(words.get(word::POINTS..word::COUNT)?);
     let record = Record::read_but_points(words)?;
     Some((record.sizes, told))
 }
@@ -60,7 +61,7 @@ pub fn in_range(capacity: usize) -> bool {
 
 impl Record {
     /// None where the words are no record that a call returns: SIZE.
-    fn read(words: &[u64]) -> Option<Record> {
+    pub fn read(words: &[u64]) -> Option<Record> {
         Record::read_but_points(words).filter(|record| points::legal(record.sizes, &record.points))
     }
 
@@ -82,14 +83,19 @@ impl Record {
             || length > capacity * sizes.stripe_len()
             || marks[sizes.n..].contains(&true)
             || (!written && (length > 0 || marks.contains(&true)));
-        let points = points_in(&words[word::POINTS..]);
+        let points = bytes_in(&words[word::POINTS..]);
         (!no_record).then_some(Record { sizes, points, capacity, written, length, marks })
     }
 
+    /// "L and S are those of that file".
+    pub fn stripes(&self) -> usize {
+        self.sizes.stripes(self.length)
+    }
+
     /// Where the share of a board starts and ends in the area.
-    fn share(&self, board: usize) -> std::ops::Range<usize> {
+    pub fn share(&self, board: usize) -> std::ops::Range<usize> {
         let start = board * self.capacity * self.sizes.share_len();
-        start..start + self.sizes.stripes(self.length) * self.sizes.share_len()
+        start..start + self.stripes() * self.sizes.share_len()
     }
 
     fn area_len(&self) -> usize {
@@ -100,7 +106,7 @@ impl Record {
         boards.iter().any(|&board| !self.marks[board])
     }
 
-    fn words(&self) -> Vec<u64> {
+    pub fn words(&self) -> Vec<u64> {
         let in_service: Vec<usize> = (0..self.sizes.n).filter(|&board| self.marks[board]).collect();
         words(self.sizes, &self.points, self.capacity, self.written.then_some(self.length), &in_service)
     }
@@ -119,6 +125,8 @@ pub fn expect(call: &Call, lent: &Lent) -> Outcome {
         Call::Repair { fresh, helpers, stand_ins } => repair(fresh, helpers, stand_ins, lent),
         Call::Read { boards } => read(boards, lent),
         Call::Edit { offset, bytes, boards } => edit(*offset, bytes, boards, lent),
+        Call::Start { fresh, helpers, stand_ins } => steps::start(fresh, helpers, stand_ins, lent),
+        Call::Step { allowance } => steps::step(*allowance, lent),
         _ => unreachable!("a board-level call"),
     };
     result.unwrap_or_else(|number| Outcome::refused(number, lent))
@@ -126,26 +134,41 @@ pub fn expect(call: &Call, lent: &Lent) -> Outcome {
 
 fn set_up(sizes: Sizes, points: &[u8], capacity: usize, lent: &Lent) -> Result<Outcome, u8> {
     let legal = sizes.legal() && points::legal(sizes, points) && in_range(capacity);
-    if lent.record.len() != word::COUNT || !legal {
+    let counts = (lent.record.len(), lent.repair.len()) == (word::COUNT, running::word::COUNT);
+    if !counts || !legal {
         return Err(SIZE);
     }
     let record = words(sizes, points, capacity, None, &[]);
-    Ok(Outcome::accepted(0, Lent { record, ..lent.clone() }))
+    // "hands it on idle, unexamined"
+    Ok(Outcome::accepted(0, Lent { record, repair: running::none(), ..lent.clone() }))
 }
 
-/// The record and the area's length: 1, then 2.
-fn opened(lent: &Lent) -> Result<Record, u8> {
+/// Both records, the repair's where one runs: 1.
+pub fn records(lent: &Lent) -> Result<(Record, Option<Lists>), u8> {
     let record = Record::read(&lent.record).ok_or(SIZE)?;
+    match running::read(record.sizes, &lent.repair) {
+        Told::Idle => Ok((record, None)),
+        Told::Runs { lists, carried } if steps::can_run(&record, &lists, carried) => Ok((record, Some(lists))),
+        _ => Err(SIZE),
+    }
+}
+
+/// Both records and the area's length: 1, then 2.
+pub fn opened(lent: &Lent) -> Result<(Record, Option<Lists>), u8> {
+    let (record, running) = records(lent)?;
     if lent.area.len() != record.area_len() {
         return Err(AREA);
     }
-    Ok(record)
+    Ok((record, running))
 }
 
 fn write(file: &[u8], lent: &Lent) -> Result<Outcome, u8> {
-    let mut record = opened(lent)?;
+    let (mut record, running) = opened(lent)?;
     if file.len() > record.capacity * record.sizes.stripe_len() {
         return Err(LONG);
+    }
+    if running.is_some() {
+        return Err(BUSY);
     }
     record.written = true;
     record.length = file.len();
@@ -159,19 +182,22 @@ fn write(file: &[u8], lent: &Lent) -> Result<Outcome, u8> {
 }
 
 fn lose(board: usize, lent: &Lent) -> Result<Outcome, u8> {
-    let mut record = Record::read(&lent.record).ok_or(SIZE)?;
+    let (mut record, running) = records(lent)?;
     if board >= record.sizes.n {
         return Err(NODE);
     }
     record.marks[board] = false;
-    Ok(Outcome::accepted(0, Lent { record: record.words(), ..lent.clone() }))
+    // "Losing a board named in the repair ends it"
+    let ended = running.is_some_and(|lists| lists.name(board));
+    let repair = if ended { running::none() } else { lent.repair.clone() };
+    Ok(Outcome::accepted(0, Lent { record: record.words(), repair, ..lent.clone() }))
 }
 
 /// A fresh board, its helpers, its stand-ins.
-type Run<'a> = (usize, &'a [usize], &'a [usize]);
+pub type Run<'a> = (usize, &'a [usize], &'a [usize]);
 
 /// The boards that a repair names for each fresh board. None where some list is too long or too short.
-fn runs<'a>(sizes: Sizes, fresh: &[usize], helpers: &'a [usize], stand_ins: &'a [usize]) -> Option<Vec<Run<'a>>> {
+pub fn runs<'a>(sizes: Sizes, fresh: &[usize], helpers: &'a [usize], stand_ins: &'a [usize]) -> Option<Vec<Run<'a>>> {
     let missing = sizes.r.checked_sub(fresh.len())?;
     let (mut helpers, mut stand_ins, mut list) = (helpers, stand_ins, Vec::new());
     for &board in fresh {
@@ -183,11 +209,21 @@ fn runs<'a>(sizes: Sizes, fresh: &[usize], helpers: &'a [usize], stand_ins: &'a 
     (!list.is_empty() && helpers.is_empty() && stand_ins.is_empty()).then_some(list)
 }
 
-/// "Store: 1, 2, 3, 8, 4, 5, 6, 9, 7, 10", with 14 "after 6 and before 9".
-fn check_repair(record: &Record, fresh: &[usize], helpers: &[usize], stand_ins: &[usize]) -> Result<(), u8> {
+/// What a repair is asked, and so is a start: "16 BUSY, a write, edit, repair or start during a repair, after 8 and before 15".
+pub fn check_repair(fresh: &[usize], helpers: &[usize], stand_ins: &[usize], lent: &Lent) -> Result<Record, u8> {
+    let (record, running) = opened(lent)?;
     if !record.written {
         return Err(EMPTY);
     }
+    if running.is_some() {
+        return Err(BUSY);
+    }
+    check_lists(&record, fresh, helpers, stand_ins)?;
+    Ok(record)
+}
+
+/// What is asked of a repair's lists: "4, 5, 6, 9", with 14 "after 6 and before 9".
+pub fn check_lists(record: &Record, fresh: &[usize], helpers: &[usize], stand_ins: &[usize]) -> Result<(), u8> {
     let runs = runs(record.sizes, fresh, helpers, stand_ins).ok_or(COUNT)?;
     let senders = [helpers, stand_ins].concat();
     if fresh.iter().chain(&senders).any(|&board| board >= record.sizes.n) {
@@ -207,8 +243,7 @@ fn check_repair(record: &Record, fresh: &[usize], helpers: &[usize], stand_ins: 
 }
 
 fn repair(fresh: &[usize], helpers: &[usize], stand_ins: &[usize], lent: &Lent) -> Result<Outcome, u8> {
-    let mut record = opened(lent)?;
-    check_repair(&record, fresh, helpers, stand_ins)?;
+    let mut record = check_repair(fresh, helpers, stand_ins, lent)?;
     let (sizes, points) = (record.sizes, record.points.clone());
     let runs = runs(sizes, fresh, helpers, stand_ins).expect("COUNT does not hold");
     // all from the area before the call
@@ -262,7 +297,7 @@ fn file_held(record: &Record, boards: &[usize], lent: &Lent) -> Result<Vec<u8>, 
 }
 
 fn read(boards: &[usize], lent: &Lent) -> Result<Outcome, u8> {
-    let record = opened(lent)?;
+    let (record, _) = opened(lent)?;
     if !record.written {
         return Err(EMPTY);
     }
@@ -278,9 +313,12 @@ fn read(boards: &[usize], lent: &Lent) -> Result<Outcome, u8> {
 
 /// "15 RANGE, offset plus count beyond L, after 8; the read's own checks follow, without 7".
 fn edit(offset: usize, bytes: &[u8], boards: &[usize], lent: &Lent) -> Result<Outcome, u8> {
-    let record = opened(lent)?;
+    let (record, running) = opened(lent)?;
     if !record.written {
         return Err(EMPTY);
+    }
+    if running.is_some() {
+        return Err(BUSY);
     }
     // over the integers
     if offset as u128 + bytes.len() as u128 > record.length as u128 {

@@ -1,13 +1,15 @@
-//! Cases of single store calls: points, a record and an area are made up, true, damaged or arbitrary, and calls are made over them.
+//! Cases of single store calls: points, records and areas are made up, true, damaged or arbitrary, and calls are made over them.
 
-use crate::call::Lent;
+use crate::call::{Call, Lent};
 use crate::code::Sizes;
 use crate::draw;
 use crate::points;
 use crate::random::Random;
 use crate::repairs;
+use crate::running_draw;
 use crate::scene::Scene;
 use crate::spoil::spoil;
+use crate::steps;
 use crate::store;
 use crate::store_draw;
 use crate::trial::Trial;
@@ -37,10 +39,31 @@ pub fn over(trial: &mut Trial, random: &mut Random, scene: &Scene, capacity: usi
             repairs::spoil(random, sizes, &in_service, &mut call);
         }
         let out = store_draw::output(random, &call, length);
-        let mut lent = Lent { record, area: area.clone(), out };
+        let (repair, packets) = repair(random, scene, &in_service, &call);
+        let mut lent = Lent { record, repair, area: area.clone(), packets, out };
         spoil(random, sizes, &mut call, &mut lent);
         trial.check(&call, &lent, &store::expect(&call, &lent));
     }
+}
+
+/// The record of a repair beside that of the store, and a packet area for a step: mostly a repair that runs where the call is a step, and none where it
+/// is another one; sometimes a record that no call hands on.
+fn repair(random: &mut Random, scene: &Scene, in_service: &[usize], call: &Call) -> (Vec<u64>, Vec<u8>) {
+    let sizes = scene.sizes;
+    let stepped = matches!(call, Call::Step { .. });
+    let runs = if stepped { !random.once_in(6) } else { random.once_in(6) };
+    let lists = if runs { running_draw::lists(random, sizes, in_service) } else { None };
+    let Some(lists) = lists else {
+        let packets = if stepped { running_draw::packet_area(random, None) } else { Vec::new() };
+        return (running_draw::idle(random), packets);
+    };
+    let mut repair = running_draw::running(random, &lists);
+    if random.once_in(8) {
+        running_draw::spoil(random, sizes, in_service, &lists, &mut repair);
+    }
+    let due = steps::area_len(&steps::order(sizes, &lists, scene.stripes()));
+    let packets = if stepped { running_draw::packet_area(random, Some(due)) } else { Vec::new() };
+    (repair, packets)
 }
 
 /// An area with a file's shares, true, damaged or arbitrary; its other bytes are arbitrary.

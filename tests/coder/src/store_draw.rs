@@ -4,8 +4,10 @@ use crate::call::Call;
 use crate::code::Sizes;
 use crate::draw;
 use crate::edits;
+use crate::ledger::Repairing;
 use crate::random::Random;
 use crate::repairs;
+use crate::running_draw;
 use crate::scene::Scene;
 
 /// A single call of any kind over a scene's file; sometimes any boards are taken.
@@ -13,39 +15,68 @@ pub fn call(random: &mut Random, scene: &Scene, capacity: usize, in_service: &[u
     let sizes = scene.sizes;
     let all: Vec<usize> = (0..sizes.n).collect();
     let boards = if random.once_in(8) { &all } else { in_service };
-    match random.below(10) {
+    match random.below(13) {
         0 => Call::SetUp { sizes, points: scene.points.clone(), capacity },
         1 => lose(random, sizes),
         2 => write(random, sizes, capacity),
         3..=4 => repairs::draw(random, sizes, boards),
         5..=6 => edits::draw(random, sizes, scene.length(), boards),
+        7 => repairs::start(random, sizes, boards),
+        8..=9 => Call::Step { allowance: running_draw::allowance(random, sizes.d + sizes.r - 1) },
         _ => read(random, sizes, boards),
     }
 }
 
 /// The next call of a history: mostly losses, repairs and reads, so that boards are rebuilt from rebuilt boards; writes are few. A board that is lost
-/// is mostly rebuilt before the next one is lost, and boards are mostly lost only as far as those in service can still rebuild them. The file that is
-/// edited has so many bytes.
+/// is mostly rebuilt before the next one is lost, and boards are mostly lost only as far as those in service can still rebuild them. Half of the
+/// repairs are started, to be stepped. The file that is edited has so many bytes.
 pub fn next_call(random: &mut Random, sizes: Sizes, capacity: usize, length: usize, in_service: &[usize]) -> Call {
     let lost = sizes.n - in_service.len();
     let all: Vec<usize> = (0..sizes.n).collect();
-    match random.below(24) {
+    match random.below(25) {
         0 => write(random, sizes, capacity),
         1 => repairs::draw(random, sizes, &all),
         2 => read(random, sizes, &all),
         20 => edits::draw(random, sizes, length, &all),
-        21.. => edits::draw(random, sizes, length, in_service),
+        21..=23 => edits::draw(random, sizes, length, in_service),
+        24 => Call::Step { allowance: running_draw::allowance(random, 1) },
         3..=14 => {
             let can_lose = repairs::possible(sizes, lost + 1) || random.once_in(10);
             if can_lose && (lost == 0 || random.once_in(3)) {
                 lose(random, sizes)
             } else if repairs::possible(sizes, lost) {
-                repairs::draw(random, sizes, in_service)
+                if random.once_in(2) {
+                    repairs::start(random, sizes, in_service)
+                } else {
+                    repairs::draw(random, sizes, in_service)
+                }
             } else {
                 write(random, sizes, capacity)
             }
         }
         _ => read(random, sizes, in_service),
+    }
+}
+
+/// The next call of a history while a repair runs: mostly steps, reads and losses; some of those that are BUSY.
+pub fn call_meanwhile(
+    random: &mut Random,
+    sizes: Sizes,
+    capacity: usize,
+    length: usize,
+    in_service: &[usize],
+    repairing: &Repairing,
+) -> Call {
+    match random.below(20) {
+        0..=8 => Call::Step { allowance: running_draw::allowance(random, repairing.left) },
+        9..=11 => read(random, sizes, in_service),
+        12 => read(random, sizes, &(0..sizes.n).collect::<Vec<usize>>()),
+        13..=14 => Call::Lose { board: running_draw::to_lose(random, sizes, &repairing.lists) },
+        15 => write(random, sizes, capacity),
+        16 => repairs::draw(random, sizes, in_service),
+        17 => repairs::start(random, sizes, in_service),
+        18 => edits::draw(random, sizes, length, in_service),
+        _ => Call::Step { allowance: 1 },
     }
 }
 

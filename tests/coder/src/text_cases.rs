@@ -79,7 +79,8 @@ pub fn named(trial: &mut Trial, random: &mut Random, scene: &Scene) {
         let written = Call::Text { sizes, points: told.points, length, node, share: told.share };
         let lent = Lent::output(random.bytes(text.len()));
         trial.check(&written, &lent, &board::expect(&written, &lent));
-        let lent = Lent { record: vec![random.next(); HEAD], area: random.bytes(MAX_BOARDS), out };
+        let (record, area) = (vec![random.next(); HEAD], random.bytes(MAX_BOARDS));
+        let lent = Lent { record, area, out, ..Lent::default() };
         check(trial, "whole", Call::ReadText { text }, lent);
     }
     let next = |place: usize| boards[(place + 1) % boards.len()];
@@ -92,7 +93,7 @@ fn read(trial: &mut Trial, random: &mut Random, kind: &str, text: Vec<u8>) {
     let head = vec![random.next(); HEAD];
     let points = random.bytes(MAX_BOARDS);
     let written = texts::read(&text).map_or(10, |told| told.share.len());
-    let lent = Lent { record: head, area: points, out: draw::output(random, written) };
+    let lent = Lent { record: head, area: points, out: draw::output(random, written), ..Lent::default() };
     check(trial, kind, Call::ReadText { text }, lent);
 }
 
@@ -161,7 +162,8 @@ impl Scene {
             length = random.pick(&[0, 1, self.sizes.n.min(31), 31, 33, 64]);
         }
         let out = if random.once_in(2) { text.len() } else { 0 };
-        let lent = Lent { record: vec![random.next(); words], area: random.bytes(length), out: random.bytes(out) };
+        let (record, area) = (vec![random.next(); words], random.bytes(length));
+        let lent = Lent { record, area, out: random.bytes(out), ..Lent::default() };
         check(trial, "another head", Call::ReadText { text }, lent);
     }
 

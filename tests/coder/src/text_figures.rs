@@ -37,7 +37,7 @@ fn all_32() -> Vec<usize> {
 
 /// What a reading is lent: six words, room for 32 points, and an output.
 fn lent(out: usize) -> Lent {
-    Lent { record: vec![u64::MAX; 6], area: vec![0xEE; 32], out: vec![0xEE; out] }
+    Lent { record: vec![u64::MAX; 6], area: vec![0xEE; 32], out: vec![0xEE; out], ..Lent::default() }
 }
 
 fn read(text: &str) -> Call {
@@ -51,7 +51,7 @@ fn gather(texts: &[&str]) -> Call {
 /// A text that is read: its head, its points and its share, into an output that is longer by one byte.
 fn reads(trial: &mut Trial, text: &str, head: [u64; 6], points: &[usize], share: &[u8]) {
     let out = [share, &[0xEE]].concat();
-    let after = Lent { record: head.to_vec(), area: filled_up(points.to_vec()), out };
+    let after = Lent { record: head.to_vec(), area: filled_up(points.to_vec()), out, ..Lent::default() };
     figure(trial, "a text read", read(text), lent(share.len() + 1), Outcome::accepted(share.len(), after));
     if !share.is_empty() {
         refused(trial, "an output too short by one", read(text), lent(share.len() - 1), SHORT);
@@ -105,7 +105,7 @@ fn not_read(trial: &mut Trial) {
     }
     for text in [PRINTED, "x"] {
         for (words, bytes) in [(5, 32), (7, 32), (0, 32), (6, 31), (6, 33), (6, 0)] {
-            let lent = Lent { record: vec![9; words], area: vec![9; bytes], out: vec![] };
+            let lent = Lent { record: vec![9; words], area: vec![9; bytes], ..Lent::default() };
             refused(trial, "another head", read(text), lent, SIZE);
         }
     }

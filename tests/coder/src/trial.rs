@@ -2,9 +2,9 @@
 
 use crate::altered;
 use crate::archive::{self, Performed};
-use crate::call::{refusal, Call, Lent, Outcome, CALLS, READ_TEXT, TRIAL_FILE};
+use crate::call::{refusal, Call, Lent, Outcome, CALLS, READ_TEXT, SET_UP, TRIAL_FILE};
 use crate::code::Sizes;
-use crate::{edits, points, prefix_met, real, repairs, store, stream_cases, texts};
+use crate::{edits, points, prefix_met, real, repairs, running, steps_met, store, stream_cases, texts};
 use std::fmt;
 use std::time::{Duration, Instant};
 
@@ -37,9 +37,9 @@ pub enum WrongKind {
     Answer,
     /// the answer becomes a refusal with the number that is not used
     Eleven,
-    /// a byte of the area or of the output
+    /// a byte of the area, of the packet area or of the output
     Byte,
-    /// a word of the record
+    /// a word of a record
     Word,
 }
 
@@ -58,16 +58,26 @@ impl Wrong {
                 Some("the answer, which is 11 now,".to_string())
             }
             WrongKind::Byte => {
-                let (name, bytes) =
-                    if lent.area.is_empty() { ("output", &mut lent.out) } else { ("area", &mut lent.area) };
+                let (name, bytes) = if !lent.packets.is_empty() {
+                    ("packet area", &mut lent.packets)
+                } else if !lent.area.is_empty() {
+                    ("area", &mut lent.area)
+                } else {
+                    ("output", &mut lent.out)
+                };
                 let place = turn.checked_rem(bytes.len())?;
                 bytes[place] ^= 1 << (turn % 8);
                 Some(format!("byte {place} of the {name}"))
             }
             WrongKind::Word => {
-                let place = turn.checked_rem(lent.record.len())?;
-                lent.record[place] ^= 1 << (turn % 64);
-                Some(format!("word {place} of the record"))
+                let (name, words) = if turn % 2 == 0 || lent.repair.is_empty() {
+                    ("record", &mut lent.record)
+                } else {
+                    ("repair's record", &mut lent.repair)
+                };
+                let place = turn.checked_rem(words.len())?;
+                words[place] ^= 1 << (turn % 64);
+                Some(format!("word {place} of the {name}"))
             }
         }
     }
@@ -96,6 +106,8 @@ pub struct Trial {
     pub repairs: [u64; repairs::KINDS.len()],
     /// what was met of edits
     pub edits: edits::Met,
+    /// what was met of repairs a packet at a time
+    pub steps: steps_met::Met,
     /// what was met at real sizes
     pub real: real::Met,
     pub place: Place,
@@ -125,6 +137,7 @@ impl Trial {
             altered: Default::default(),
             repairs: Default::default(),
             edits: Default::default(),
+            steps: Default::default(),
             real: Default::default(),
             place: Place::Figure(String::new()),
             trace: false,
@@ -155,6 +168,7 @@ impl Trial {
                 self.count_points(call, lent, number);
                 self.count_repair(call, lent, number);
                 self.edits.count(call, lent, expected);
+                self.steps.count(call, lent, expected);
                 self.real.count(call, lent, number);
                 true
             }
@@ -252,7 +266,7 @@ impl Trial {
         }
         for (place, (name, _)) in CALLS[..TRIAL_FILE].iter().enumerate() {
             for (kind, what) in points::KINDS.iter().enumerate() {
-                // points that are refused make a text none, which is TEXT
+                // points that are refused make a text none, which is TEXT; set up is the last call that is given points as a slice
                 let can_be =
                     if place < READ_TEXT { kind != points::NOT_32 || place <= SET_UP } else { kind < points::REFUSED };
                 if can_be && self.points[place][kind] == 0 {
@@ -281,6 +295,7 @@ impl Trial {
             }
         }
         missing.extend(self.edits.never());
+        missing.extend(self.steps.never());
         missing.extend(self.real.never());
         missing
     }
@@ -314,12 +329,10 @@ impl Trial {
             println!("{kind:38} {met:>8}");
         }
         self.edits.print();
+        self.steps.print();
         self.real.print();
     }
 }
-
-/// The place in `CALLS` of the last call that is given points.
-const SET_UP: usize = 6;
 
 /// The sizes and the points that a call goes by; none where something else than the points makes it SIZE.
 pub fn points_asked(call: &Call, lent: &Lent) -> Option<(Sizes, Vec<u8>)> {
@@ -331,9 +344,15 @@ pub fn points_asked(call: &Call, lent: &Lent) -> Option<(Sizes, Vec<u8>)> {
         Call::TrialFile { .. } => return None,
         _ => {}
     }
-    let Some((sizes, points)) = call.given() else { return store::given(&lent.record) };
+    let counts = (lent.record.len(), lent.repair.len()) == (store::word::COUNT, running::word::COUNT);
+    let Some((sizes, points)) = call.given() else {
+        let (sizes, points) = store::given(&lent.record)?;
+        // a repair's record that could be SIZE by itself is left out
+        let sound = counts && (lent.repair[0] == 0 || store::records(lent).is_ok());
+        return sound.then_some((sizes, points));
+    };
     let legal = match call {
-        Call::SetUp { capacity, .. } => store::in_range(*capacity) && lent.record.len() == store::word::COUNT,
+        Call::SetUp { capacity, .. } => store::in_range(*capacity) && counts,
         _ => true,
     };
     (legal && sizes.legal()).then(|| (sizes, points.to_vec()))
@@ -344,8 +363,15 @@ struct Short<'a>(&'a Lent);
 
 impl fmt::Display for Short<'_> {
     fn fmt(&self, to: &mut fmt::Formatter) -> fmt::Result {
-        let Lent { record, area, out } = self.0;
-        write!(to, "record={record:?} area[{}] out[{}]", area.len(), out.len())
+        let Lent { record, repair, area, packets, out } = self.0;
+        write!(to, "record={record:?} area[{}] out[{}]", area.len(), out.len())?;
+        if repair.iter().any(|&word| word != 0) || repair.len() != running::word::COUNT {
+            write!(to, " repair={repair:x?}")?;
+        }
+        if !packets.is_empty() {
+            write!(to, " packets[{}]", packets.len())?;
+        }
+        Ok(())
     }
 }
 
@@ -359,15 +385,17 @@ fn difference(performed: &Performed, expected: &Outcome) -> Option<String> {
     if !performed.kept_inside {
         return Some("wrote outside of what it was lent".to_string());
     }
-    assert_eq!(got.lent.record.len(), expected.lent.record.len(), "the coder expects another count of words");
-    let word = |(i, (got, due)): (usize, (&u64, &u64))| format!("word {i} of the record is {got}, expected {due}");
-    let record = got.lent.record.iter().zip(&expected.lent.record);
-    record
-        .enumerate()
-        .find(|(_, (got, due))| got != due)
-        .map(word)
+    first_word("record", &got.lent.record, &expected.lent.record)
+        .or_else(|| first_word("repair's record", &got.lent.repair, &expected.lent.repair))
         .or_else(|| first_byte("area", &got.lent.area, &expected.lent.area))
+        .or_else(|| first_byte("packet area", &got.lent.packets, &expected.lent.packets))
         .or_else(|| first_byte("output", &got.lent.out, &expected.lent.out))
+}
+
+fn first_word(name: &str, got: &[u64], due: &[u64]) -> Option<String> {
+    assert_eq!(got.len(), due.len(), "the coder expects another count of words of the {name}");
+    let place = (0..got.len()).find(|&i| got[i] != due[i])?;
+    Some(format!("word {place} of the {name} is {}, expected {}", got[place], due[place]))
 }
 
 fn first_byte(name: &str, got: &[u8], due: &[u8]) -> Option<String> {

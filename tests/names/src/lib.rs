@@ -36,14 +36,31 @@ macro_rules! archive {
             prefix as zbk_text_prefix(text: &[u8],);
         });
         $crate::names!($each store {
-            set_up as zbk_set_up(record: &mut [u64], sizes: Sizes, points: &[u8], capacity: usize,);
-            write as zbk_write(record: &mut [u64], area: &mut [u8], file: &[u8],);
-            lose as zbk_lose(record: &mut [u64], board: usize,);
-            repair as zbk_repair(
-                record: &mut [u64], area: &mut [u8], fresh: &[usize], helpers: &[usize], stand_ins: &[usize],
+            set_up as zbk_set_up(
+                record: &mut [u64], repair: &mut [u64], sizes: Sizes, points: &[u8], capacity: usize,
             );
-            read as zbk_read(record: &mut [u64], area: &[u8], boards: &[usize], out: &mut [u8],);
-            edit as zbk_edit(record: &mut [u64], area: &mut [u8], offset: usize, bytes: &[u8], boards: &[usize],);
+            write as zbk_write(record: &mut [u64], repair: &mut [u64], area: &mut [u8], file: &[u8],);
+            lose as zbk_lose(record: &mut [u64], repair: &mut [u64], board: usize,);
+            repair as zbk_repair(
+                record: &mut [u64], repair: &mut [u64], area: &mut [u8],
+                fresh: &[usize], helpers: &[usize], stand_ins: &[usize],
+            );
+            read as zbk_read(
+                record: &mut [u64], repair: &mut [u64], area: &[u8], boards: &[usize], out: &mut [u8],
+            );
+            edit as zbk_edit(
+                record: &mut [u64], repair: &mut [u64], area: &mut [u8],
+                offset: usize, bytes: &[u8], boards: &[usize],
+            );
+        });
+        $crate::names!($each steps {
+            start as zbk_start(
+                record: &mut [u64], repair: &mut [u64], area: &[u8],
+                fresh: &[usize], helpers: &[usize], stand_ins: &[usize],
+            );
+            step as zbk_step(
+                record: &mut [u64], repair: &mut [u64], area: &mut [u8], packets: &mut [u8], allowance: usize,
+            );
         });
     };
 }

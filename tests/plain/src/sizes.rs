@@ -27,6 +27,8 @@ pub enum Refusal {
     Mixed = 13,
     Serving = 14,
     Range = 15,
+    Busy = 16,
+    Idle = 17,
 }
 
 pub const MAX_BOARDS: usize = 32;

@@ -1,6 +1,8 @@
-//! The six calls of the store, over a record of twelve words and an area. A repair reports the bytes moved, the others 0.
+//! The six calls of the store that do their work at once, over a record of twelve words, that of a started repair (`running`) and an area. A repair
+//! reports the bytes moved, the others 0. A repair a packet at a time stands in `steps`.
 
 use crate::board;
+use crate::running::{self, Running};
 use crate::sizes::{pointed, refuse_if, repeats, Points, Refusal, Sizes, MAX_BOARDS, MAX_STRIPES};
 use crate::stripe::{self, neighbours};
 
@@ -8,7 +10,7 @@ use crate::stripe::{self, neighbours};
 pub const WORDS: usize = 12;
 const WRITTEN: usize = 5;
 const LENGTH: usize = 6;
-const MARKS: usize = 7;
+pub const MARKS: usize = 7;
 const POINTS: usize = 8;
 
 /// In which of the words of points a board's point stands, and from which bit on.
@@ -33,17 +35,18 @@ fn put_points(words: &mut [u64], points: &Points) {
 
 /// A record that calls return.
 #[derive(Clone, Copy)]
-struct Record {
-    sizes: Sizes,
-    points: Points,
+pub struct Record {
+    pub sizes: Sizes,
+    pub points: Points,
     capacity: usize,
-    written: bool,
+    pub written: bool,
     length: usize,
     marks: u32,
 }
 
 impl Record {
-    fn from_words(words: &[u64]) -> Result<Record, Refusal> {
+    /// The record of these words, beside which the words of a repair are such as calls return.
+    pub fn from_words(words: &[u64], repair: &[u64]) -> Result<Record, Refusal> {
         let &[n, k, d, r, capacity, written, length, marks, ..] = words else {
             return Err(Refusal::Size);
         };
@@ -55,14 +58,26 @@ impl Record {
         let length = length as usize;
         refuse_if(length > capacity * sizes.stripe_len() || marks >> n != 0 || written > 1, Refusal::Size)?;
         refuse_if(written == 0 && (length > 0 || marks != 0), Refusal::Size)?;
-        Ok(Record { sizes, points, capacity, written: written == 1, length, marks: marks as u32 })
+        let record = Record { sizes, points, capacity, written: written == 1, length, marks: marks as u32 };
+        running::check(&record, repair)?;
+        Ok(record)
     }
 
     /// The record, and an area of the length that it gives.
-    fn with_area(words: &[u64], area: &[u8]) -> Result<Record, Refusal> {
-        let record = Record::from_words(words)?;
-        refuse_if(area.len() != record.sizes.n * record.board_len(), Refusal::Area)?;
+    pub fn with_area(words: &[u64], repair: &[u64], area: &[u8]) -> Result<Record, Refusal> {
+        let record = Record::from_words(words, repair)?;
+        refuse_if(area.len() != record.area_len(), Refusal::Area)?;
         Ok(record)
+    }
+
+    /// Bytes of the area.
+    pub fn area_len(&self) -> usize {
+        self.sizes.n * self.board_len()
+    }
+
+    /// Stripes of the file.
+    pub fn stripes(&self) -> usize {
+        self.sizes.stripes(self.length)
     }
 
     /// Bytes of the area for each board.
@@ -72,14 +87,14 @@ impl Record {
 
     /// Bytes of a share of the file.
     fn share_len(&self) -> usize {
-        self.sizes.stripes(self.length) * self.sizes.share_len()
+        self.stripes() * self.sizes.share_len()
     }
 
-    fn share<'a>(&self, area: &'a [u8], board: usize) -> &'a [u8] {
+    pub fn share<'a>(&self, area: &'a [u8], board: usize) -> &'a [u8] {
         &area[board * self.board_len()..][..self.share_len()]
     }
 
-    fn share_mut<'a>(&self, area: &'a mut [u8], board: usize) -> &'a mut [u8] {
+    pub fn share_mut<'a>(&self, area: &'a mut [u8], board: usize) -> &'a mut [u8] {
         &mut area[board * self.board_len()..][..self.share_len()]
     }
 
@@ -105,10 +120,18 @@ impl Record {
     }
 }
 
-/// Sets up a store with no file.
-pub fn set_up(words: &mut [u64], sizes: Sizes, points: &[u8], capacity: usize) -> Result<usize, Refusal> {
+/// Sets up a store with no file, and no repair beside it.
+pub fn set_up(
+    words: &mut [u64],
+    repair: &mut [u64],
+    sizes: Sizes,
+    points: &[u8],
+    capacity: usize,
+) -> Result<usize, Refusal> {
     let points = pointed(sizes, points)?;
+    refuse_if(repair.len() != running::WORDS, Refusal::Size)?;
     refuse_if(words.len() != WORDS || !(1..=MAX_STRIPES).contains(&capacity), Refusal::Size)?;
+    repair.fill(0);
     let Sizes { n, k, d, r } = sizes;
     words[..POINTS].copy_from_slice(&[n as u64, k as u64, d as u64, r as u64, capacity as u64, 0, 0, 0]);
     put_points(&mut words[POINTS..], &points);
@@ -116,10 +139,11 @@ pub fn set_up(words: &mut [u64], sizes: Sizes, points: &[u8], capacity: usize) -
 }
 
 /// Writes a file.
-pub fn write(words: &mut [u64], area: &mut [u8], file: &[u8]) -> Result<usize, Refusal> {
-    let mut record = Record::with_area(words, area)?;
+pub fn write(words: &mut [u64], repair: &[u64], area: &mut [u8], file: &[u8]) -> Result<usize, Refusal> {
+    let mut record = Record::with_area(words, repair, area)?;
     let sizes = record.sizes;
     refuse_if(file.len() > record.capacity * sizes.stripe_len(), Refusal::Long)?;
+    refuse_if(running::runs(repair), Refusal::Busy)?;
     record.length = file.len();
     let mut near = [[0; MAX_BOARDS]; MAX_BOARDS];
     for (node, near) in near.iter_mut().enumerate() {
@@ -138,45 +162,56 @@ pub fn write(words: &mut [u64], area: &mut [u8], file: &[u8]) -> Result<usize, R
     Ok(0)
 }
 
-/// Takes a board out of service.
-pub fn lose(words: &mut [u64], board: usize) -> Result<usize, Refusal> {
-    let record = Record::from_words(words)?;
+/// Takes a board out of service; a repair that names it has ended.
+pub fn lose(words: &mut [u64], repair: &mut [u64], board: usize) -> Result<usize, Refusal> {
+    let record = Record::from_words(words, repair)?;
     refuse_if(board >= record.sizes.n, Refusal::Node)?;
     words[MARKS] &= !(1 << board);
+    let running = Running::from_words(record.sizes, repair);
+    if running.is_some_and(|running| running.named().all().any(|named| named == board)) {
+        repair.fill(0);
+    }
     Ok(0)
 }
 
 /// What a repair names: t fresh boards, and for each of them in turn d helpers and r − t stand-ins.
 #[derive(Clone, Copy)]
-struct Named<'a> {
-    fresh: &'a [usize],
-    helpers: &'a [usize],
-    stand_ins: &'a [usize],
+pub struct Named<'a> {
+    pub fresh: &'a [usize],
+    pub helpers: &'a [usize],
+    pub stand_ins: &'a [usize],
 }
 
 impl<'a> Named<'a> {
-    fn all(self) -> impl Iterator<Item = usize> + 'a {
+    pub fn all(self) -> impl Iterator<Item = usize> + 'a {
         self.fresh.iter().chain(self.helpers).chain(self.stand_ins).copied()
     }
 
     /// The helpers of the a-th fresh board.
-    fn helpers_of(self, sizes: Sizes, a: usize) -> &'a [usize] {
+    pub fn helpers_of(self, sizes: Sizes, a: usize) -> &'a [usize] {
         &self.helpers[a * sizes.d..][..sizes.d]
     }
 
     /// Its stand-ins.
-    fn stand_ins_of(self, sizes: Sizes, a: usize) -> &'a [usize] {
+    pub fn stand_ins_of(self, sizes: Sizes, a: usize) -> &'a [usize] {
         let count = sizes.r - self.fresh.len();
         &self.stand_ins[a * count..][..count]
     }
 }
 
-fn check_repair(record: &Record, named: Named) -> Result<(), Refusal> {
-    let Record { sizes, written, .. } = *record;
+/// What a repair and a start are asked, behind AREA.
+pub fn check_repair(record: &Record, repair: &[u64], named: Named) -> Result<(), Refusal> {
+    refuse_if(!record.written, Refusal::Empty)?;
+    refuse_if(running::runs(repair), Refusal::Busy)?;
+    check_lists(record, named)
+}
+
+/// What is asked of the lists of a repair.
+pub fn check_lists(record: &Record, named: Named) -> Result<(), Refusal> {
+    let sizes = record.sizes;
     let Sizes { n, d, r, .. } = sizes;
     let Named { fresh, helpers, stand_ins } = named;
     let t = fresh.len();
-    refuse_if(!written, Refusal::Empty)?;
     refuse_if(t < 1 || t > r, Refusal::Count)?;
     refuse_if(helpers.len() != t * d, Refusal::Count)?;
     refuse_if(stand_ins.len() != t * (r - t), Refusal::Count)?;
@@ -191,18 +226,19 @@ fn check_repair(record: &Record, named: Named) -> Result<(), Refusal> {
 /// Rebuilds t fresh boards together, each from its own d helpers, its own r − t stand-ins and the other fresh boards.
 pub fn repair(
     words: &mut [u64],
+    repair: &[u64],
     area: &mut [u8],
     fresh: &[usize],
     helpers: &[usize],
     stand_ins: &[usize],
 ) -> Result<usize, Refusal> {
-    let record = Record::with_area(words, area)?;
+    let record = Record::with_area(words, repair, area)?;
     let named = Named { fresh, helpers, stand_ins };
-    check_repair(&record, named)?;
+    check_repair(&record, repair, named)?;
     let Record { sizes, ref points, .. } = record;
     let Sizes { d, r, .. } = sizes;
     let t = fresh.len();
-    let stripes = sizes.stripes(record.length);
+    let stripes = record.stripes();
     let mut packets = vec![0; t * d * 2 * stripes];
     for (a, &board) in fresh.iter().enumerate() {
         for (h, &helper) in named.helpers_of(sizes, a).iter().enumerate() {
@@ -238,8 +274,8 @@ pub fn repair(
 }
 
 /// Reads the file from k boards.
-pub fn read(words: &[u64], area: &[u8], boards: &[usize], out: &mut [u8]) -> Result<usize, Refusal> {
-    let record = Record::with_area(words, area)?;
+pub fn read(words: &[u64], repair: &[u64], area: &[u8], boards: &[usize], out: &mut [u8]) -> Result<usize, Refusal> {
+    let record = Record::with_area(words, repair, area)?;
     refuse_if(!record.written, Refusal::Empty)?;
     record.check_readers(boards)?;
     refuse_if(out.len() < record.length, Refusal::Short)?;
@@ -250,10 +286,18 @@ pub fn read(words: &[u64], area: &[u8], boards: &[usize], out: &mut [u8]) -> Res
 
 /// Puts bytes in the place of others of the file, from an offset on. The old bytes are those that k boards hold; each board in service gets the
 /// exclusive or of what it holds with what it would keep of old against new bytes, stripe by stripe as far as the edit reaches.
-pub fn edit(words: &[u64], area: &mut [u8], offset: usize, bytes: &[u8], boards: &[usize]) -> Result<usize, Refusal> {
-    let record = Record::with_area(words, area)?;
+pub fn edit(
+    words: &[u64],
+    repair: &[u64],
+    area: &mut [u8],
+    offset: usize,
+    bytes: &[u8],
+    boards: &[usize],
+) -> Result<usize, Refusal> {
+    let record = Record::with_area(words, repair, area)?;
     let beyond = bytes.len() > record.length || offset > record.length - bytes.len();
     refuse_if(!record.written, Refusal::Empty)?;
+    refuse_if(running::runs(repair), Refusal::Busy)?;
     refuse_if(beyond, Refusal::Range)?;
     record.check_readers(boards)?;
     let old = record.file(area, boards)?;

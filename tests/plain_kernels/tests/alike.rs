@@ -1,7 +1,7 @@
 //! The plain coder and the kernels' algorithm give the same bytes, over all sizes of few boards and some of many, at points 0 to n − 1, i + 1 and
 //! drawn ones, with true and damaged areas.
 
-use plain::{store, Points, Sizes};
+use plain::{running, steps, store, Points, Sizes};
 
 /// Numbers that differ from call to call.
 struct Numbers(u64);
@@ -81,11 +81,11 @@ fn one(sizes: Sizes, stripes: usize, length: usize, damaged: bool, numbers: &mut
     let Sizes { n, k, d, r } = sizes;
     let file = numbers.bytes(length);
     let points = points(n, numbers);
-    let mut words = [0; store::WORDS];
-    store::set_up(&mut words, sizes, &points, stripes).expect("sizes and points are legal");
+    let (mut words, mut repair) = ([0; store::WORDS], [0; running::WORDS]);
+    store::set_up(&mut words, &mut repair, sizes, &points, stripes).expect("sizes and points are legal");
     let mut area = vec![0xEE; n * stripes * sizes.share_len()];
     let mut other = area.clone();
-    store::write(&mut words, &mut area, &file).expect("a write is accepted");
+    store::write(&mut words, &repair, &mut area, &file).expect("a write is accepted");
     plain_kernels::write(sizes, &points, &file, &mut other);
     assert!(area == other, "a write at n={n} k={k} d={d} r={r}, points {points:?}, {length} bytes");
 
@@ -104,7 +104,7 @@ fn one(sizes: Sizes, stripes: usize, length: usize, damaged: bool, numbers: &mut
     let readers = numbers.choose(&boards, k);
     let mut out = vec![0xEE; length];
     let mut other_out = out.clone();
-    let given = store::read(&words, &area, &readers, &mut out).is_ok();
+    let given = store::read(&words, &repair, &area, &readers, &mut out).is_ok();
     assert_eq!(given, plain_kernels::read(sizes, &points, &readers, &other, &mut other_out));
     assert!(out == other_out, "a read at n={n} k={k} d={d} r={r}, {length} bytes, boards {readers:?}");
 
@@ -113,7 +113,7 @@ fn one(sizes: Sizes, stripes: usize, length: usize, damaged: bool, numbers: &mut
         let offset = numbers.below(length - count + 1);
         let bytes = numbers.bytes(count);
         let readers = numbers.choose(&boards, k);
-        let given = store::edit(&words, &mut area, offset, &bytes, &readers).is_ok();
+        let given = store::edit(&words, &repair, &mut area, offset, &bytes, &readers).is_ok();
         assert_eq!(given, plain_kernels::edit(sizes, &points, length, offset, &bytes, &readers, &mut other));
         assert!(
             area == other,
@@ -124,7 +124,7 @@ fn one(sizes: Sizes, stripes: usize, length: usize, damaged: bool, numbers: &mut
     for fresh_count in [r, 1, 1 + numbers.below(r)] {
         let fresh = numbers.choose(&boards, fresh_count);
         for &board in &fresh {
-            store::lose(&mut words, board).expect("a loss is accepted");
+            store::lose(&mut words, &mut repair, board).expect("a loss is accepted");
         }
         let left: Vec<usize> = boards.iter().copied().filter(|board| !fresh.contains(board)).collect();
         let (mut helpers, mut stand_ins) = (Vec::new(), Vec::new());
@@ -133,7 +133,23 @@ fn one(sizes: Sizes, stripes: usize, length: usize, damaged: bool, numbers: &mut
             helpers.extend(&heard[..d]);
             stand_ins.extend(&heard[d..]);
         }
-        let moved = store::repair(&mut words, &mut area, &fresh, &helpers, &stand_ins).expect("a repair is accepted");
+        // the same by steps of any length, over a copy
+        let (mut stepped, mut marks, pace) = (area.clone(), words, 1 + numbers.below(9));
+        steps::start(&marks, &mut repair, &stepped, &fresh, &helpers, &stand_ins).expect("a start is accepted");
+        let mut packets = numbers.bytes(stripes * fresh_count * (2 * d + r - 1));
+        let mut carried = 0;
+        while running::runs(&repair) {
+            let now = steps::step(&mut marks, &mut repair, &mut stepped, &mut packets, pace);
+            carried += now.expect("a step is accepted");
+        }
+        assert_eq!(carried, fresh_count * (d + r - 1));
+
+        let moved = store::repair(&mut words, &repair, &mut area, &fresh, &helpers, &stand_ins);
+        let moved = moved.expect("a repair is accepted");
+        assert!(
+            area == stepped && words == marks,
+            "steps at n={n} k={k} d={d} r={r}, {length} bytes, boards {fresh:?}"
+        );
         assert_eq!(moved, stripes * fresh_count * (2 * d + r - 1));
         assert_eq!(moved, plain_kernels::repair(sizes, &points, stripes, &fresh, &helpers, &stand_ins, &mut other));
         assert!(

@@ -1,7 +1,8 @@
 -- `read_check::check_read` meets its contract: each early return is the first line that holds.
 -- Assumes nothing.
-use mathlib.Core.Path.{_≡_}
+use mathlib.Core.Path.{_≡_, sym}
 use mathlib.Core.List.{List, [], _∷_}
+use lib.ListN.{length}
 use borrow.Author.Needs.{needs}
 use Rattle.sizes.specs.declared.Check.{Check}
 use Rattle.sizes.specs.declared.Check.the-variants.{Refuse}
@@ -9,7 +10,8 @@ use Rattle.sizes.specs.Refusals.{Line, first, storeOrder}
 use Rattle.board_spec.specs.Calls.{shortLine}
 use Rattle.store_spec.specs.Record.{Record}
 use Rattle.store_spec.specs.Calls.{emptyLine}
-use Rattle.store_checks.specs.Steps.{recordOf}
+use Rattle.store_spec.specs.Running.{Running}
+use Rattle.record.specs.Records.{recordOf, runningIn}
 use Rattle.shared_checks.specs.Steps.{areaLines, boardLines}
 use Rattle.checks.proofs.Chain.{thens, grouped, goes-on, refuses, ends}
 use Rattle.read_check.specs.Steps.{askedLines}
@@ -17,26 +19,33 @@ use Rattle.read_check.proofs.check_read.Statement.{statement}
 use Rattle.read_check.proofs.check_read.Tie as tie
 
 abbrev R : tie.Start → Record
-R g = recordOf (g .args .sizes) (g .args .points .now) (g .args .capacity) (g .args .written) (g .args .len) (g .args .marks .now)
+R g = recordOf (g .args .kept)
+
+abbrev P : tie.Start → Running
+P g = runningIn (g .args .running)
 
 -- the lines that each check asks, and those after it
 abbrev shorts : tie.Start → List (List Line)
-shorts g = (shortLine (g .args .out .now) (g .args .len) ∷ []) ∷ []
+shorts g = (shortLine (g .args .out .now) (R g .length) ∷ []) ∷ []
 
 abbrev boards : tie.Start → List (List Line)
-boards g = boardLines (g .args .sizes) (g .args .sizes .k) (g .args .marks .now) (g .args .boards .now) ∷ shorts g
+boards g = boardLines (R g .sizes) (R g .sizes .k) (R g .marks) (g .args .boards .now) ∷ shorts g
 
 abbrev empties : tie.Start → List (List Line)
 empties g = (emptyLine (R g) ∷ []) ∷ boards g
 
 abbrev areas : tie.Start → List (List Line)
-areas g = areaLines (R g) (g .args .lent) ∷ empties g
+areas g = areaLines (R g) (P g) (g .args .lent) ∷ empties g
 
 abbrev answer : tie.Start → Check
-answer g = first storeOrder (askedLines (R g) (g .args .lent) (g .args .boards .now) (g .args .out .now))
+answer g = first storeOrder (askedLines (R g) (P g) (g .args .lent) (g .args .boards .now) (g .args .out .now))
 
 whole : (g : tie.Start) → thens (areas g) ≡ answer g
 whole g = grouped (areas g)
+
+-- there are 32 marks
+marks-long : (g : tie.Start) → length (g .args .kept .marks) ≡ 32
+marks-long g = search needs
 
 -- 1 SIZE, 2 AREA
 abbrev st-area : tie.After-check-area → tie.Start
@@ -60,7 +69,7 @@ no-empty c = let k = c .before .before in refuses _ (on-empty k) (k .check-writt
 
 -- 4 COUNT, 5 NODE, 6 REPEAT, 9 DOWN
 abbrev at-empty : tie.After-check-boards → tie.After-check-written
-at-empty c = c .before .before .before
+at-empty c = c .before .before .before .before
 
 abbrev st-boards : tie.After-check-boards → tie.Start
 st-boards c = st-empty (at-empty c)
@@ -93,6 +102,7 @@ check-read-spec =
     (λ c. search needs)
     (λ c. no-empty (c .before))
     (λ c. search needs)
+    (λ c. sym (marks-long (st-empty (c .before .before .before))))
     (λ c κs. search needs)
     (λ c. search needs)
     (λ c. no-boards (c .before))

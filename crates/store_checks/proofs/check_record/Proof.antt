@@ -3,13 +3,13 @@
 use mathlib.Core.Path.{_≡_, refl, sym, _∙_}
 use borrow.Author.Needs.{needs}
 use Rattle.store_spec.specs.Record.{Record}
-use Rattle.store_checks.specs.Steps.{recordOf}
+use Rattle.record.specs.Records.{recordOf}
 use Rattle.store_checks.proofs.Sound.{not-legal}
 use Rattle.store_checks.proofs.check_record.Statement.{statement}
 use Rattle.store_checks.proofs.check_record.Tie as tie
 
 abbrev R : tie.After-legal → Record
-R c = let a = c .before .before .before .args in recordOf (a .sizes) (a .points .now) (a .capacity) (a .written) (a .len) (a .marks .now)
+R c = recordOf (c .before .before .args .kept)
 
 pub check-record-spec : {M : Type 1} → statement M
 check-record-spec =

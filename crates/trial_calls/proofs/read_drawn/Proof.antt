@@ -35,7 +35,7 @@ returns c =
     let r = c .before .before in
     let s = r .before .before .before .before in
     let a = s .args in
-    subst (λ (call : Call). Acts (stateIn (a .kept) (a .area .now)) call (r .read-into .result) (a .area .now))
+    subst (λ (call : Call). Acts (stateIn (a .kept) (a .running) (a .area .now)) call (r .read-into .result) (a .area .now))
     (drawn-is (a .sizes) (a .len) (a .first) (few s) (s .pre .1)) (r .read-into .ensures)
 
 pub read-drawn-spec : {M : Type 1} → statement M

@@ -4,7 +4,8 @@ use mathlib.Core.Path.{_≡_, ap, _∙_}
 use mathlib.Core.List.{List}
 use Prim.Native.Nat.{ℕ}
 use lib.ListN.{length}
-use Rattle.store_spec.specs.Calls.{readCall}
+use Rattle.store_spec.specs.Both.{readBoth}
+use Rattle.record.specs.Records.{runningIn}
 use Rattle.store.specs.Handing.{recordIn}
 use Rattle.trial_spec.specs.Trial.{counted}
 use Rattle.trial_calls.proofs.Made.{read-acts}
@@ -24,8 +25,8 @@ returns c =
     let r = c .before .before in
     let l = listed r in
     let a = st l .args in
-    read-acts (a .kept) (a .area .now) (counted (a .n) (a .first) (length (a .boards .now))) (a .out .now) _
-    (r .read .ensures ∙ ap (λ (boards : List ℕ). readCall (recordIn (a .kept)) (a .area .now) boards (a .out .now)) (l .count-on .ensures))
+    read-acts (a .kept) (a .running) (a .area .now) (counted (a .n) (a .first) (length (a .boards .now))) (a .out .now) _
+    (r .read .ensures ∙ ap (λ (boards : List ℕ). readBoth (recordIn (a .kept)) (runningIn (a .running)) (a .area .now) boards (a .out .now)) (l .count-on .ensures))
 
 pub read-into-spec : {M : Type 1} → statement M
 read-into-spec =

@@ -7,7 +7,8 @@ use native.Mathlib.Omega.{arith}
 use lib.ListN.{length}
 use Rattle.lists.specs.Lists.{join}
 use Rattle.sizes.proofs.Legal.{legal-facts}
-use Rattle.store_spec.specs.Calls.{StoreOutcome, repairCall}
+use Rattle.store_spec.specs.Both.{Outcome, repairBoth}
+use Rattle.record.specs.Records.{runningIn}
 use Rattle.store.specs.Handing.{recordIn}
 use Rattle.trial_spec.specs.Trial.{counted}
 use Rattle.trial_calls.proofs.Made.{repair-acts}
@@ -45,9 +46,9 @@ returns c =
     let s = st f in
     let a = s .args in
     let z = a .sizes in
-    repair-acts (a .kept) (a .area .now) (counted (z .n) (a .first) (z .r)) (join (z .r) (λ _. counted (z .n) (a .first + z .r) (z .d))) []
+    repair-acts (a .kept) (a .running) (a .area .now) (counted (z .n) (a .first) (z .r)) (join (z .r) (λ _. counted (z .n) (a .first + z .r) (z .d))) []
     (r .repair .ensures
-    ∙ ap₂ {C = StoreOutcome} (λ (fresh helpers : List ℕ). repairCall (recordIn (a .kept)) (a .area .now) fresh helpers [])
+    ∙ ap₂ {C = Outcome} (λ (fresh helpers : List ℕ). repairBoth (recordIn (a .kept)) (runningIn (a .running)) (a .area .now) fresh helpers [])
     (f .count-on .ensures ∙ ap (counted (z .n) (a .first)) (s .pre .fresh-long)) (h .repeat-on .ensures))
 
 pub repair-into-spec : {M : Type 1} → statement M

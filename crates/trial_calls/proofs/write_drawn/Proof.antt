@@ -19,7 +19,7 @@ returns c =
     let s = w .before .before .before .before in
     let a = s .args in
     let i = w .write-into in
-    subst (λ (m : ℕ). Acts (stateIn (a .kept) (a .area .now)) (write (emitted m (a .state))) (i .result .handed) (i .last .1 .1 .1 .0) × (i .result .state ≡ after m (a .state)))
+    subst (λ (m : ℕ). Acts (stateIn (a .kept) (a .running) (a .area .now)) (write (emitted m (a .state))) (i .result .handed) (i .last .1 .1 .1 .1 .0) × (i .result .state ≡ after m (a .state)))
     (sym (length-front (a .len) 16384 (s .pre))) (i .ensures)
 
 pub write-drawn-spec : {M : Type 1} → statement M

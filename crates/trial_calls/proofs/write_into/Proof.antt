@@ -5,7 +5,8 @@ use mathlib.Core.List.{List}
 use Prim.Native.Nat.{ℕ}
 use lib.ListN.{length}
 use Rattle.generator.specs.Generator.{emitted}
-use Rattle.store_spec.specs.Calls.{writeCall}
+use Rattle.store_spec.specs.Both.{writeBoth}
+use Rattle.record.specs.Records.{runningIn}
 use Rattle.store.specs.Handing.{recordIn}
 use Rattle.trial_calls.proofs.Made.{write-acts}
 use borrow.Author.Needs.{needs}
@@ -25,8 +26,8 @@ returns c =
     let f = drew w in
     let a = st f .args in
     let area = a .area .now in (
-      write-acts (a .kept) area (emitted (length (a .file .now)) (a .state))
-          (w .write .ensures ∙ ap (λ (file : List ℕ). writeCall (recordIn (a .kept)) area file) (f .fill .ensures .0)),
+      write-acts (a .kept) (a .running) area (emitted (length (a .file .now)) (a .state))
+          (w .write .ensures ∙ ap (λ (file : List ℕ). writeBoth (recordIn (a .kept)) (runningIn (a .running)) area file) (f .fill .ensures .0)),
       f .fill .ensures .1,
     )
 

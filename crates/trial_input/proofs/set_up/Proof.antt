@@ -15,12 +15,12 @@ use Rattle.trial_input.proofs.set_up.Tie as tie
 
 -- where the call began, and what the check gave
 abbrev st : tie.After-check-set-up → tie.Start
-st c = c .before .before .before
+st c = c .before .before
 
 check-is : (c : tie.After-check-set-up) → let a = st c .args in c .check-set-up .result ≡ setUpCheck (a .sizes) (a .capacity)
 check-is c =
     let a = st c .args in
-    c .check-set-up .ensures ∙ ap (λ (xs : List ℕ). first storeOrder (recordLine (newRecord (a .sizes) xs (a .capacity)) ∷ [])) (c .before .before .standard-points .ensures)
+    c .check-set-up .ensures ∙ ap (λ (xs : List ℕ). first storeOrder (recordLine (newRecord (a .sizes) xs (a .capacity)) ∷ [])) (c .before .standard-points .ensures)
 
 returns : tie.Need-returns
 returns c =
@@ -49,7 +49,6 @@ set-up-spec =
     tie.close
     (tie.spec
     (λ c κs. search needs)
-    (λ c. search needs)
     (λ c κs. search needs)
     (λ c. search needs)
     returns

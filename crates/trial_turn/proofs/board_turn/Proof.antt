@@ -25,7 +25,7 @@ returns : tie.Need-returns
 returns c =
     let m = c .before in
     let a = st (m .before) .args in
-    as-call (is-lose (loadIn (a .load)) (a .op) (a .first) (m .match .keys1)) (lose-acts (a .kept) (a .area .now) (a .first) (c .lose .ensures (a .area .now)))
+    as-call (is-lose (loadIn (a .load)) (a .op) (a .first) (m .match .keys1)) (lose-acts (a .kept) (a .running) (a .area .now) (a .first) (c .lose .ensures (a .area .now)))
 
 returns-2 : tie.Need-returns-2
 returns-2 c =

@@ -12,7 +12,7 @@ use Rattle.trial_turn.proofs.run_one.Tie as tie
 
 -- past the call, past the kind, where the turn began
 abbrev called : tie.After-put-call → tie.After-take-turn
-called c = c .before .before .before .before .before .before
+called c = c .before .before .before .before .before .before .before
 
 abbrev picked : tie.After-take-turn → tie.After-top-byte
 picked c = c .before .before

@@ -1,7 +1,7 @@
 -- `write_check::check_write` meets its contract: each early return is the first line that holds.
 -- Assumes nothing.
 use Prim.Native.Nat.{_*_}
-use mathlib.Core.Path.{_≡_, refl, sym, ap, _∙_}
+use mathlib.Core.Path.{_≡_, sym, _∙_}
 use mathlib.Core.List.{List, [], _∷_}
 use lib.Dec.{ltb}
 use lib.ListN.{length}
@@ -13,8 +13,10 @@ use Rattle.sizes.specs.Sizing.{B}
 use Rattle.sizes.specs.Refusals.{Line, _when_, first, storeOrder}
 use Rattle.store_spec.specs.Record.{Record}
 use Rattle.store_spec.specs.Calls.{writeLines}
+use Rattle.store_spec.specs.Running.{Running}
+use Rattle.store_spec.specs.Both.{busyLine, writeLinesBoth}
 use Rattle.store_spec.proofs.Records.{Sound, sound-facts}
-use Rattle.store_checks.specs.Steps.{recordOf}
+use Rattle.record.specs.Records.{recordOf, runningIn}
 use Rattle.shared_checks.specs.Steps.{areaLines}
 use Rattle.checks.proofs.Chain.{thens, grouped, goes-on, refuses, ends}
 use Rattle.shared_checks.proofs.Facts.{area-facts}
@@ -22,38 +24,57 @@ use Rattle.write_check.proofs.check_write.Statement.{statement}
 use Rattle.write_check.proofs.check_write.Tie as tie
 
 abbrev R : tie.Start → Record
-R g = recordOf (g .args .sizes) (g .args .points .now) (g .args .capacity) (g .args .written) (g .args .len) (g .args .marks .now)
+R g = recordOf (g .args .kept)
+
+abbrev P : tie.Start → Running
+P g = runningIn (g .args .running)
 
 -- the lines that each check asks, and those after it
+abbrev busies : tie.Start → List (List Line)
+busies g = (busyLine (P g) ∷ []) ∷ []
+
 abbrev longs : tie.Start → List (List Line)
-longs g = (Long when ltb (g .args .capacity * B (g .args .sizes)) (length (g .args .file .now)) ∷ []) ∷ []
+longs g = (Long when ltb (R g .capacity * B (R g .sizes)) (length (g .args .file .now)) ∷ []) ∷ busies g
 
 abbrev areas : tie.Start → List (List Line)
-areas g = areaLines (R g) (g .args .lent) ∷ longs g
+areas g = areaLines (R g) (P g) (g .args .lent) ∷ longs g
 
 abbrev answer : tie.Start → Check
-answer g = first storeOrder (writeLines (R g) (g .args .lent) (g .args .file .now))
+answer g = first storeOrder (writeLinesBoth (R g) (P g) (g .args .lent) (g .args .file .now))
 
 whole : (g : tie.Start) → thens (areas g) ≡ answer g
-unfolding writeLines
+unfolding writeLinesBoth writeLines
 whole g = grouped (areas g)
 
 -- 1 SIZE, 2 AREA
 abbrev st-area : tie.After-check-area → tie.Start
-st-area c = c .before .before .before .before
+st-area c = c .before .before
 
-no-area : (c : tie.After-lent) → Refuse (c .lent .given .0 .0) ≡ answer (st-area (c .before .before))
-no-area c = let k = c .before .before in refuses _ (whole (st-area k)) (k .check-area .ensures) (c .lent .given .1)
+no-area : (c : tie.After-area) → Refuse (c .area .given .0 .0) ≡ answer (st-area (c .before .before))
+no-area c = let k = c .before .before in refuses _ (whole (st-area k)) (k .check-area .ensures) (c .area .given .1)
 
 sound-on : (c : tie.After-enum-told) → Sound (R (st-area (c .before .before)))
-sound-on c = sound-facts _ (area-facts _ _ (sym (c .before .before .check-area .ensures) ∙ c .enum-told .given .1) .is-sound)
+sound-on c = sound-facts _ (area-facts _ _ _ (sym (c .before .before .check-area .ensures) ∙ c .enum-told .given .1) .is-sound)
 
 -- 3 LONG
 abbrev at-area : tie.After-check-fits → tie.After-check-area
-at-area c = c .before .before .before
+at-area c = c .before .before .before .before
 
-on-long : (c : tie.After-check-fits) → thens (longs (st-area (at-area c))) ≡ answer (st-area (at-area c))
-on-long c = goes-on (whole (st-area (at-area c))) (at-area c .check-area .ensures) (cc)
+abbrev st-long : tie.After-check-fits → tie.Start
+st-long c = st-area (at-area c)
+
+on-long : (c : tie.After-check-fits) → thens (longs (st-long c)) ≡ answer (st-long c)
+on-long c = goes-on (whole (st-long c)) (at-area c .check-area .ensures) (cc)
+
+no-long : (c : tie.After-long) → Refuse (c .long .given .0 .0) ≡ answer (st-long (c .before .before))
+no-long c = let k = c .before .before in refuses _ (on-long k) (k .check-fits .ensures) (c .long .given .1)
+
+-- 16 BUSY
+abbrev at-long : tie.After-check-busy → tie.After-check-fits
+at-long c = c .before .before .before
+
+on-busy : (c : tie.After-check-busy) → thens (busies (st-long (at-long c))) ≡ answer (st-long (at-long c))
+on-busy c = goes-on (on-long (at-long c)) (at-long c .check-fits .ensures) (cc)
 
 pub check-write-spec : {M : Type 1} → statement M
 check-write-spec =
@@ -63,5 +84,9 @@ check-write-spec =
     (λ c. search needs)
     (λ c. no-area (c .before))
     (λ c. search needs)
-    (λ c κs. record { is-legal = sound-on c .is-legal; few = sound-on c .cap-high })
-    (λ c. ends (on-long c) (c .check-fits .ensures)))
+    (λ c κs. let f = sound-on (c .before) in record { is-legal = f .is-legal; few = f .cap-high })
+    (λ c. search needs)
+    (λ c. no-long (c .before))
+    (λ c. search needs)
+    (λ c κs. search needs)
+    (λ c. ends (on-busy c) (c .check-busy .ensures)))

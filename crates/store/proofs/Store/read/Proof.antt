@@ -1,30 +1,36 @@
 -- `store::Store::read` meets its contract: it hands on what its checks refuse, and past them the file is written.
 -- Assumes nothing.
-use mathlib.Core.Path.{_≡_, refl, sym, ap, _∙_}
+use mathlib.Core.Path.{_≡_, sym, _∙_}
+use mathlib.Core.List.{[]}
 use lib.ListN.{length}
 use borrow.Author.Needs.{needs}
 use Rattle.sizes.specs.declared.Check.the-variants.{Pass}
+use Rattle.sizes.specs.Refusals.{first, storeOrder}
 use Rattle.store_spec.specs.Record.{Record}
-use Rattle.store_spec.specs.Calls.{refused, readCall}
-use Rattle.store_spec.proofs.Records.{read-facts}
-use Rattle.store.specs.Handing.{recordIn}
-use Rattle.store.proofs.Readable.{Readable}
-use Rattle.store.proofs.ReadCall.{checked, begins, read-refuses, read-disagrees, read-passes, read-asks, read-works}
+use Rattle.store_spec.specs.Calls.{readLines}
+use Rattle.store_spec.specs.Running.{Running}
+use Rattle.store_spec.specs.Both.{readBoth}
+use Rattle.record.specs.Records.{runningIn}
+use Rattle.store.specs.Handing.{recordIn, turnedDown}
+use Rattle.store.specs.Steps.{Readable}
+use Rattle.store.proofs.Readable.{read-asked}
+use Rattle.store.proofs.ReadCall.{checked, begins, read-refuses, read-disagrees, read-passes, read-asks, read-alone, read-works}
 use Rattle.store.proofs.Store.read.Statement.{statement}
 use Rattle.store.proofs.Store.read.Tie as tie
 
 -- the places
-abbrev at-points : tie.After-check-read → tie.After-points2
-at-points c = c .before .before .before
-
 abbrev st : tie.After-check-read → tie.Start
-st c = at-points c .before .before .before .before .before .before .before
+st c = c .before .before .before .before .before .before
 
 abbrev at-check : tie.After-enum-told → tie.After-check-read
 at-check c = c .before .before
 
-abbrev at-told : tie.After-points4 → tie.After-enum-told
-at-told c = c .before .before .before .before .before .before
+abbrev at-filled : tie.After-check-agrees → tie.After-fill-tables
+at-filled c = c .before .before .before
+
+-- from where DISAGREE was asked to where the first check had passed
+abbrev told : tie.After-check-agrees → tie.After-enum-told
+told c = at-filled c .before .before
 
 abbrev at-agrees : tie.After-enum-told2 → tie.After-check-agrees
 at-agrees c = c .before .before
@@ -32,100 +38,77 @@ at-agrees c = c .before .before
 abbrev R : tie.After-check-read → Record
 R c = recordIn (st c .args .self)
 
+abbrev P : tie.After-check-read → Running
+P c = runningIn (st c .args .running)
+
 -- what the first check told
-begun : (c : tie.After-enum-told) → let k = at-check c in begins (R k) (st k .args .area .now) (st k .args .boards .now) (st k .args .out .now) ≡ Pass
+begun : (c : tie.After-enum-told) → let k = at-check c in begins (R k) (P k) (st k .args .area .now) (st k .args .boards .now) (st k .args .out .now) ≡ Pass
 begun c = sym (at-check c .check-read .ensures) ∙ c .enum-told .given .1
 
 asks : (c : tie.After-enum-told) → let k = at-check c in Readable (R k) (length (st k .args .area .now)) (st k .args .boards .now)
-asks c = let k = at-check c in read-asks (R k) (st k .args .area .now) (st k .args .boards .now) (st k .args .out .now) (begun c)
+asks c = let k = at-check c in read-asks (R k) (P k) (st k .args .area .now) (st k .args .boards .now) (st k .args .out .now) (begun c)
 
 -- and both
 passed : (c : tie.After-enum-told2)
-    → let k = at-check (at-told (at-agrees c .before .before)) in checked (R k) (st k .args .area .now) (st k .args .boards .now) (st k .args .out .now) ≡ Pass
+    → let k = at-check (told (at-agrees c)) in checked (R k) (P k) (st k .args .area .now) (st k .args .boards .now) (st k .args .out .now) ≡ Pass
 passed c =
-    let t = at-told (at-agrees c .before .before) in
+    let t = told (at-agrees c) in
     let k = at-check t in
     let a = st k .args in
-    read-passes (R k) (a .area .now) (a .boards .now) (a .out .now) (k .check-read .ensures) (t .enum-told .given .1) (at-agrees c .check-agrees .ensures) (c .enum-told2 .given .1)
-
--- there are 32 points
-points-long : tie.Need-slice-aggregate-check-read
-points-long c = search needs
-
--- DISAGREE
-agrees-asks : tie.Need-check-agrees-requires
-agrees-asks c κs =
-    let t = at-told (c .before) in
-    let f = asks t in
-    let r = f .is-ready in
-    let e = c .before .before .before .before .before .before .stripe-count .ensures .0 in
-    (f .is-asked, e, r .cap-high, rw e (r .few-stripes), f .area-is, c .before .before .before .fill-tables .ensures)
-
--- the work
-file-asks : tie.Need-file-requires
-file-asks c κs =
-    let q = c .before .before .before in
-    let n = at-agrees q .before in
-    let t = at-told (n .before) in
-    let k = at-check t in
-    let a = st k .args in
-    let f = asks t in
-    let r = f .is-ready in
-    let e = n .before .before .before .before .before .before .stripe-count .ensures .0 in
-    let room = read-facts (R k) (a .area .now) (a .boards .now) (a .out .now) (passed q) .0 .room in
-    (f .is-asked, e, r .cap-high, rw e (r .few-stripes), f .area-is, n .before .before .before .fill-tables .ensures, room)
+    read-passes (R k) (P k) (a .area .now) (a .boards .now) (a .out .now) (k .check-read .ensures) (t .enum-told .given .1) (at-agrees c .check-agrees .ensures) (c .enum-told2 .given .1)
 
 read-done : tie.Need-returns-3
 read-done c =
     let w = c .before .before in
-    let q = w .before .before .before .before in
-    let k = at-check (at-told (at-agrees q .before .before)) in
-    read-works (R k) (st k .args .area .now) (st k .args .boards .now) (st k .args .out .now) _ (passed q) (w .file .ensures)
+    let q = w .before .before .before in
+    let k = at-check (told (at-agrees q)) in
+    read-works (R k) (P k) (st k .args .area .now) (st k .args .boards .now) (st k .args .out .now) _ (passed q) (w .read-file .ensures)
+
+-- the call alone passes too
+alone : (c : tie.After-enum-told2)
+    → let k = at-check (told (at-agrees c)) in first storeOrder (readLines (R k) (st k .args .area .now) (st k .args .boards .now) (st k .args .out .now)) ≡ Pass
+alone c =
+    let k = at-check (told (at-agrees c)) in
+    read-alone (R k) (P k) (st k .args .area .now) (st k .args .boards .now) (st k .args .out .now) (passed c)
 
 read-refused : (c : tie.After-x)
     → let k = c .before .before in let a = st k .args in
-    refused (R k) (a .area .now) (a .out .now) (c .x .given .0 .0) ≡ readCall (R k) (a .area .now) (a .boards .now) (a .out .now)
+    turnedDown (R k) (P k) (a .area .now) (a .out .now) [] (c .x .given .0 .0) ≡ readBoth (R k) (P k) (a .area .now) (a .boards .now) (a .out .now)
 read-refused c =
     let k = c .before .before in
     let a = st k .args in
-    read-refuses (R k) (a .area .now) (a .boards .now) (a .out .now) (k .check-read .ensures) (c .x .given .1)
+    read-refuses (R k) (P k) (a .area .now) (a .boards .now) (a .out .now) (k .check-read .ensures) (c .x .given .1)
 
 read-disagreed : (c : tie.After-disagree)
-    → let k = at-check (at-told (c .before .before .before .before)) in let a = st k .args in
-    refused (R k) (a .area .now) (a .out .now) (c .disagree .given .0 .0) ≡ readCall (R k) (a .area .now) (a .boards .now) (a .out .now)
+    → let k = at-check (told (c .before .before)) in let a = st k .args in
+    turnedDown (R k) (P k) (a .area .now) (a .out .now) [] (c .disagree .given .0 .0) ≡ readBoth (R k) (P k) (a .area .now) (a .boards .now) (a .out .now)
 read-disagreed c =
     let n = c .before .before in
-    let t = at-told (n .before .before) in
+    let t = told n in
     let k = at-check t in
     let a = st k .args in
-    read-disagrees (R k) (a .area .now) (a .boards .now) (a .out .now) (k .check-read .ensures) (t .enum-told .given .1) (n .check-agrees .ensures) (c .disagree .given .1)
+    read-disagrees (R k) (P k) (a .area .now) (a .boards .now) (a .out .now) (k .check-read .ensures) (t .enum-told .given .1) (n .check-agrees .ensures) (c .disagree .given .1)
 
 pub read-spec : {M : Type 1} → statement M
 read-spec =
     tie.close
     (tie.spec
-    points-long
-    (λ c. search needs)
     (λ c κs. search needs)
     (λ c. search needs)
     (λ c κs. search needs)
     (λ c. search needs)
-    (λ c. c .refuse .ensures _ _ ∙ read-refused (c .before .before))
+    (λ c. c .refuse .ensures _ _ [] ∙ read-refused (c .before .before))
     (λ c. search needs)
-    (λ c κs. asks c .is-ready .stated)
-    (λ c. points-long (at-points (at-check (c .before .before))))
     (λ c. search needs)
-    (λ c κs. let f = asks (c .before .before .before) in (f .is-asked, f .is-ready .points-taken .long, search needs))
-    (λ c. points-long (at-points (at-check (at-told c))))
+    (λ c κs. (read-asked _ _ _ (asks (c .before)), search needs))
     (λ c. search needs)
-    agrees-asks
+    (λ c κs. let w = c .before .before in (asks (w .before .before), w .fill-tables .ensures))
     (λ c. search needs)
     (λ c κs. search needs)
     (λ c. search needs)
-    (λ c. c .refuse2 .ensures _ _ ∙ read-disagreed (c .before .before))
+    (λ c. c .refuse2 .ensures _ _ [] ∙ read-disagreed (c .before .before))
     (λ c. search needs)
-    (λ c. points-long (at-points (at-check (at-told (at-agrees (c .before) .before .before)))))
     (λ c. search needs)
-    file-asks
+    (λ c κs. let q = c .before .before in (alone q, at-filled (at-agrees q) .fill-tables .ensures))
     (λ c. search needs)
     read-done)

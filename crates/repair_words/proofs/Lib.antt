@@ -1,0 +1,2 @@
+pub mod RepairWords
+pub mod Figures

@@ -1,0 +1,3 @@
+pub mod RepairWords
+pub mod Laws
+pub mod Figures

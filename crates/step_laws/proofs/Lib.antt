@@ -1,0 +1,5 @@
+pub mod Runs
+pub mod Now
+pub mod Shares
+pub mod Facts
+pub mod Held

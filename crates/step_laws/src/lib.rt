@@ -1,0 +1,2 @@
+// A started repair by places: definitions and laws only.
+// Assumes nothing.
