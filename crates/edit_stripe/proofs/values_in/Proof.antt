@@ -26,15 +26,18 @@ abbrev μ-loop : tie.MeasureT-loop
 abbrev made : tie.After-slice-known2 Inv-loop μ-loop → tie.After-sums Inv-loop μ-loop
 made c = c .before .before
 
+abbrev turn-at-sums-arg2 : tie.After-sums-arg2 Inv-loop μ-loop → tie.In-loop Inv-loop μ-loop
+turn-at-sums-arg2 c = c .before .before
+
 abbrev turn : tie.After-sums Inv-loop μ-loop → tie.In-loop Inv-loop μ-loop
-turn c = c .before .before .before
+turn c = turn-at-sums-arg2 (c .before)
 
 abbrev st : tie.At-loop Inv-loop μ-loop → tie.Start Inv-loop μ-loop
 st c = c .before .before .before .before
 
 sums-requires : tie.Need-sums-requires Inv-loop μ-loop
 sums-requires c κs =
-    let t = c .before .before in
+    let t = turn-at-sums-arg2 c in
     let l = t .before .loop in
     let s = st (t .before) in
     let h = t .loop-test .taken in
