@@ -58,7 +58,7 @@ loop-again c =
           ∙ ap₂ {C = List ℕ} (λ (n : ℕ) (cs : List ℕ). rowSums n cs (a .powers .now)) (row-long (l .t) (l .out) (l .inv .2 ∙ s .pre .3) (omega (arith, h, s .pre .1)))
           (part-piece 32 (l .t) (a .rows .now))) (l .inv .0),
       omega (arith, h),
-      search needs,
+      c .before .out .given .1 ∙ l .inv .2,
     )
 
 returns : tie.Need-returns Inv-loop μ-loop
@@ -84,8 +84,8 @@ values-in-spec =
     (λ c. search needs)
     (λ c. search needs)
     sums-requires
-    (λ c. search needs)
-    (λ c. search needs)
+    (λ c. let t = turn (made c) in omega (arith, t .before .loop .inv, t .loop-test .taken, st (t .before) .pre))
+    (λ c. omega (arith, turn (made c) .loop-test .taken))
     loop-again
     (λ c. search needs)
     returns)
