@@ -29,10 +29,10 @@ abbrev μ-loop : tie.MeasureT-loop
 loop-holds : tie.Need-loop-holds Inv-loop μ-loop
 loop-holds c = (none _ 0, refl, omega arith, omega arith, refl)
 
--- where a turn began, and where the call began
 abbrev step-at-slice-known2 : tie.After-slice-known2 Inv-loop μ-loop → tie.After-step Inv-loop μ-loop
 step-at-slice-known2 c = c .before .before
 
+-- where a turn began, and where the call began
 abbrev turn : tie.After-slice-known2 Inv-loop μ-loop → tie.At-loop Inv-loop μ-loop
 turn c = step-at-slice-known2 c .before .before .before
 

@@ -22,10 +22,10 @@ abbrev μ-loop : tie.MeasureT-loop
 abbrev st : tie.At-loop Inv-loop μ-loop → tie.Start Inv-loop μ-loop
 st c = c .before .before .before
 
--- the loop's place, behind both digits
 abbrev loop-at-nibble : tie.After-nibble Inv-loop μ-loop → tie.At-loop Inv-loop μ-loop
 loop-at-nibble c = c .before .before .before .before
 
+-- the loop's place, behind both digits
 abbrev at : tie.After-nibble2 Inv-loop μ-loop → tie.At-loop Inv-loop μ-loop
 at c = loop-at-nibble (c .before)
 
