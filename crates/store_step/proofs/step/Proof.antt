@@ -113,6 +113,6 @@ step-spec =
     (λ c. let l = lists (at-b3 c) in omega (arith, l .stand-ins-fit, l .stand-ins-long))
     (λ c. let k = at-c3 c in let l = lists k in taken _ (I k) (omega (arith, l .stand-ins-fit, l .stand-ins-long)))
     (λ c κs. let l = lists (at-c3 (c .before .before)) in (l .is-going, l .is-listing))
-    (λ c. search needs)
-    (λ c. search needs)
+    (λ c. c .before .before .before .area .given)
+    (λ c. c .before .packets .given)
     (λ c. search needs))
