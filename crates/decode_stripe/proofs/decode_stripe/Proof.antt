@@ -58,8 +58,11 @@ coefficients-at-stripe-of-arg4 c = gs-at-vg (vg-at-stripe-of-arg4 c) .before .be
 abbrev st-stripe-of-arg4 : tie.After-stripe-of-arg4 → tie.Start
 st-stripe-of-arg4 c = st-coefficients (coefficients-at-stripe-of-arg4 c)
 
+abbrev columns-at-slice-known17 : tie.After-slice-known17 → tie.After-columns
+columns-at-slice-known17 c = c .before .before .before
+
 abbrev stripe-of-at-end : tie.After-slice-known17 → tie.After-stripe-of
-stripe-of-at-end c = c .before .before .before .before .before .before
+stripe-of-at-end c = columns-at-slice-known17 c .before .before .before
 
 abbrev coefficients-at-end : tie.After-slice-known17 → tie.After-coefficients
 coefficients-at-end c = coefficients-at-stripe-of-arg4 (stripe-of-at-end c .before)
@@ -165,7 +168,7 @@ same-length-6 : tie.Need-same-length-6
 same-length-6 c = search needs
 
 same-length-7 : tie.Need-same-length-7
-same-length-7 c = c .before .before .before .columns .given
+same-length-7 c = columns-at-slice-known17 c .columns .given
 
 same-length-8 : tie.Need-same-length-8
 same-length-8 c = c .before .u .given

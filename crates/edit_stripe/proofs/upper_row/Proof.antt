@@ -1,6 +1,6 @@
 -- `edit_stripe::upper_row` meets its contract.
 -- Assumes nothing.
-use mathlib.Core.Path.{_≡_}
+use mathlib.Core.Path.{_≡_, _∙_}
 use Prim.Native.Nat.{ℕ, _+_, _-_, _*_, _≤_}
 use native.Mathlib.Nat.{sub-zero}
 use native.Mathlib.Omega.{arith}
@@ -64,13 +64,13 @@ upper-row-spec =
     (λ c. search needs)
     (λ c. search needs)
     (λ c. search needs)
-    (λ c κs. search needs)
+    (λ c κs. omega arith)
     (λ c. search needs)
     (λ c. search needs)
     (λ c. let s = st-at-copy (copy-at-padded c) in omega (arith, ends s, s .pre .2))
-    (λ c. search needs)
-    (λ c. search needs)
-    (λ c. search needs)
-    (λ c κs. search needs)
-    (λ c. search needs)
+    (λ c. omega (arith, st-at-copy (copy-at-padded (c .before)) .pre))
+    (λ c. omega (arith, st-at-copy (copy-at-padded (c .before)) .pre))
+    (λ c. omega arith)
+    (λ c κs. omega arith)
+    (λ c. c .before .out2 .given .1 ∙ padded c .before .before .before .before .out .given .1)
     returns)

@@ -20,11 +20,14 @@ abbrev μ-loop : tie.MeasureT-loop
 μ-loop sizes ff stripes packets out₀ s₀ out s = stripes - s
 
 -- the places
+abbrev st-from-loop : tie.At-loop Inv-loop μ-loop → tie.Start Inv-loop μ-loop
+st-from-loop c = c .before .before .before .before
+
 abbrev st-at-exchange-byte : tie.After-exchange-byte Inv-loop μ-loop → tie.Start Inv-loop μ-loop
-st-at-exchange-byte c = c .before .before .before .before .before .before
+st-at-exchange-byte c = st-from-loop (c .before .before)
 
 abbrev st-at-loop : tie.After-loop Inv-loop μ-loop → tie.Start Inv-loop μ-loop
-st-at-loop c = c .before .before .before .before .before
+st-at-loop c = st-from-loop (c .before)
 
 loop-again : tie.Need-loop-again Inv-loop μ-loop
 loop-again c =
