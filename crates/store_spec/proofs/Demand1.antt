@@ -92,6 +92,12 @@ careful-ends : (s : Record) (area boards output : List ℕ)
 unfolding carefulCall
 careful-ends s area boards output = ends _ s area output _ refl
 
+move-ends : (s : Record) (area : List ℕ) (board point : ℕ) (helpers partners : List ℕ)
+    → StoreEnds (moveLines s (length area) board point helpers partners) s area [] (moveDone s area board point helpers partners)
+    (moveCall s area board point helpers partners)
+unfolding moveCall
+move-ends s area board point helpers partners = ends _ s area [] _ refl
+
 -- ---- records
 
 set-up-accepted : (old : Record) (z : Sizes) (xs : List ℕ) (c : ℕ)
@@ -403,6 +409,7 @@ demand-1 = record {
   read-lines = read-lines;
   edit-lines = edit-lines;
   careful-lines = careful-lines;
+  move-lines = move-lines;
   set-up-ends = set-up-ends;
   write-ends = write-ends;
   lose-ends = lose-ends;
@@ -410,6 +417,7 @@ demand-1 = record {
   read-ends = read-ends;
   edit-ends = edit-ends;
   careful-ends = careful-ends;
+  move-ends = move-ends;
   set-up-accepted = set-up-accepted;
   sound-is = λ s. (sound-there s, sound-back s);
   held-place = held-place;

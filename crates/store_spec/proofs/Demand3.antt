@@ -49,6 +49,7 @@ use Rattle.store_spec.proofs.StepRead.{read-good, read-gives}
 use Rattle.store_spec.proofs.StepRepair.{repair-good}
 use Rattle.store_spec.proofs.StepEdit.{edit-good}
 use Rattle.store_spec.proofs.StepCareful.{careful-good}
+use Rattle.store_spec.proofs.StepMove.{move-good}
 use Rattle.store_spec.proofs.StepCarry.{inv-going, altered-runs, start-good, step-good, all-is, ls, lent-lies}
 
 -- a call that answers no refusal has passed its lines
@@ -136,6 +137,7 @@ module _ (laws : AllLaws) where
   one-call b area packets v g p tells (start fresh helpers standIns) ok = start-good laws b area v packets g p tells fresh helpers standIns
   one-call b area packets v g p tells (step allowance lent) ok = step-good laws b area v packets g p tells allowance lent ok
   one-call b area packets v g p tells (careful boards output) ok = careful-good laws b area v packets g p tells boards output
+  one-call b area packets v g p tells (move board point helpers partners) ok = move-good laws b area v packets g p tells board point helpers partners ok
 
   -- one event of a state that is the book's
   pub one : (w : State) (b : Book) (h : Between w b) (e : Event) → FairEvent b (w .packets) e → (told w e ≡ bookTold b e) × Between (next w e) (bookNext b e)

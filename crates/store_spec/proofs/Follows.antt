@@ -27,6 +27,7 @@ act-any s p area l m (edit offset bytes boards) = refl
 act-any s p area l m (start fresh helpers standIns) = refl
 act-any s p area l m (step allowance packets) = refl
 act-any s p area l m (careful boards output) = refl
+act-any s p area l m (move board point helpers partners) = refl
 
 module _ (X : Type 0) (kept : X → Record) (beside : X → Running) where
   -- x tells the records of the definitions' state

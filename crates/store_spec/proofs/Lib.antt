@@ -20,6 +20,8 @@ pub mod Those
 pub mod Held
 pub mod Careful
 pub mod StepCareful
+pub mod Move
+pub mod StepMove
 pub mod StepCarry
 pub mod Whole
 pub mod Demand3

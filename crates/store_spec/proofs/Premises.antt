@@ -78,6 +78,7 @@ fair w b (call (edit offset bytes boards)) es h i = (h .0, h .1, i)
 fair w b (call (start fresh helpers standIns)) es h i = (tt, h, i)
 fair w b (call (step allowance packets)) es h i = (by-turns b (w .packets) packets, h, i)
 fair w b (call (careful boards output)) es h i = (tt, h, i)
+fair w b (call (move board point helpers partners)) es h i = (h .0 .0, h .1, i)
 fair w b (powerFails p) es h i = (i .0, h, i .1)
 
 pub fair-bytes : (b : Book) (old : List ℕ) (c : Call) → Fair b old c → All Bytes (filesOf c)
@@ -89,6 +90,7 @@ fair-bytes b old (edit offset bytes boards) h = (h, tt)
 fair-bytes b old (start fresh helpers standIns) h = tt
 fair-bytes b old (step allowance packets) h = tt
 fair-bytes b old (careful boards output) h = tt
+fair-bytes b old (move board point helpers partners) h = ((h, tt), tt)
 
 all-allowed : (w : State) (b : Book) (es : List Event) → All Bytes (files es) → IdleGiven es → Allowed w b (unaltered w b es)
 all-allowed w b [] h i = tt

@@ -28,6 +28,7 @@ fairly b old (step allowance packets) =
     during (b .repairing) true (λ r.
     same (take (placeOf (bookRecord b) (length (r .fresh)) (carriedBy b r)) packets) (take (placeOf (bookRecord b) (length (r .fresh)) (carriedBy b r)) old))
 fairly b old (careful boards output) = true
+fairly b old (move board point helpers partners) = ltb point 256
 
 abbrev pub fairlyEvent : Book → List ℕ → Event → Bool
 fairlyEvent b old (call c) = fairly b old c
@@ -63,6 +64,7 @@ fair b old (step allowance packets) e = λ r q l.
     same-eq _ _ (ap (λ (o : Option Repairing). during o true (λ r.
     same (take (placeOf (bookRecord b) (length (r .fresh)) (carriedBy b r)) packets) (take (placeOf (bookRecord b) (length (r .fresh)) (carriedBy b r)) old))) (sym q) ∙ e)
 fair b old (careful boards output) e = tt
+fair b old (move board point helpers partners) e = ltb-true point 256 e
 
 pub fair-event : (b : Book) (old : List ℕ) (e : Event) → fairlyEvent b old e ≡ true → FairEvent b old e
 fair-event b old (call c) h = fair b old c h

@@ -62,6 +62,7 @@ again l (edit offset bytes boards) = edit offset bytes boards
 again l (start fresh helpers standIns) = start fresh helpers standIns
 again l (step allowance packets) = step allowance l
 again l (careful boards output) = careful boards output
+again l (move board point helpers partners) = move board point helpers partners
 
 module _ (s : Record) (p : Running) (a b output packets lent : List ℕ) (done other : Outcome) where
   alike-by : (t : Check) → Alike done other → Alike (by s p a output packets done t) (by s p b output lent other t)
@@ -112,6 +113,11 @@ module _ (s : Record) (p : Running) (a b : List ℕ) (long : length a ≡ length
   alike-at (careful boards output) f =
       alike-kept s p a b output [] [] _ _ (first storeOrder (storeLines s p a (careful boards output)))
       (first storeOrder (storeLines s p b (careful boards output))) (refl, refl) (refl, refl)
+  alike-at (move board point helpers partners) f =
+      subst
+      (λ (m : ℕ). Alike (left a (move board point helpers partners))
+      (by s p b [] [] (storeDone s p b (move board point helpers partners)) (first storeOrder (moveLinesBoth s p m board point helpers partners)))) long
+      (alike-by s p a b [] [] [] _ _ (first storeOrder (moveLinesBoth s p (length a) board point helpers partners)) (refl, refl))
 
 same-handed : (w v : State) → w .kept ≡ v .kept → w .running ≡ v .running → length (w .area) ≡ length (v .area) → (l : List ℕ) (c : Call)
     → ((allowance : ℕ) (packets : List ℕ) → c ≡ step allowance packets → length l ≡ length packets)
@@ -136,6 +142,7 @@ same-entry b l (edit offset bytes boards) f = refl
 same-entry b l (start fresh helpers standIns) f = refl
 same-entry b l (step allowance packets) f = ledger-laws .by-length b allowance l packets (f allowance packets refl)
 same-entry b l (careful boards output) f = refl
+same-entry b l (move board point helpers partners) f = refl
 
 -- ---- the packet area of the second run
 
@@ -249,6 +256,7 @@ fair b old l (edit offset bytes boards) h k = h .0
 fair b old l (start fresh helpers standIns) h k = tt
 fair b old l (step allowance packets) h k = k
 fair b old l (careful boards output) h k = tt
+fair b old l (move board point helpers partners) h k = h .0 .0
 
 -- a worn state, and the second run's beside it
 record Beside (w i : State) (b : Book) : Type 0 where
@@ -278,7 +286,7 @@ one-worn w i b (call c) m ok h =
     )
 
 stays : (b : Book) (e : Event) → bookNext b e .areaLength ≡ b .areaLength
-stays b (call c) = ledger-laws .stay b c .3
+stays b (call c) = ledger-laws .stay b c .2
 stays b (powerFails p) = refl
 
 run : (steps : List Step) (w i : State) (b : Book) → Beside w i b → AnyBytes (b .areaLength) steps → Worn (final w steps) (bookFinal b (events steps))

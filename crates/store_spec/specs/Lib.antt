@@ -3,6 +3,7 @@ pub mod Packets
 pub mod Calls
 pub mod Edit
 pub mod Careful
+pub mod Move
 pub mod Running
 pub mod Lying
 pub mod Both

@@ -15,7 +15,7 @@ use Rattle.sizes.specs.declared.Sizes.{Sizes}
 use Rattle.sizes.specs.Sizing.{α, stripes}
 use Rattle.store_spec.specs.Record.{Record}
 use Rattle.store_spec.specs.Running.{Running, packetsLen}
-use Rattle.store_spec.specs.Ledger.{Call, write, lose, repair, read, edit, start, step, careful, Event, call, powerFails, Book, Repairing, during, bookLength, bookRecord}
+use Rattle.store_spec.specs.Ledger.{Call, write, lose, repair, read, edit, start, step, careful, move, Event, call, powerFails, Book, Repairing, during, bookLength, bookRecord}
 use Rattle.store_spec.specs.Ledger.{carriedBy, State, Step, Altered, Unaltered, Fair, Allowed, lent, next, bookNext, openBook}
 use Rattle.store_spec.specs.Demand3.{begun, events}
 
@@ -23,7 +23,7 @@ use Rattle.store_spec.specs.Demand3.{begun, events}
 abbrev pub noneCarried : Book → Bool
 noneCarried b = during (b .repairing) true (λ r. eqb (carriedBy b r) 0)
 
--- what is to be of bytes in a list: the files that it writes, and the bytes that it edits
+-- what is to be of bytes in a list: the files that it writes, the bytes that it edits, and the new points that it names, each as a list of one byte
 abbrev pub filesOf : Call → List (List ℕ)
 filesOf (write file) = file ∷ []
 filesOf (lose board) = []
@@ -33,6 +33,7 @@ filesOf (edit offset bytes boards) = bytes ∷ []
 filesOf (start fresh helpers standIns) = []
 filesOf (step allowance packets) = []
 filesOf (careful boards output) = []
+filesOf (move board point helpers partners) = (point ∷ []) ∷ []
 
 abbrev pub files : List Event → List (List ℕ)
 files [] = []
@@ -55,6 +56,7 @@ lentAgain w b (call (edit offset bytes boards)) = call (edit offset bytes boards
 lentAgain w b (call (start fresh helpers standIns)) = call (start fresh helpers standIns)
 lentAgain w b (call (step allowance packets)) = call (step allowance (pick (noneCarried b) packets (w .packets)))
 lentAgain w b (call (careful boards output)) = call (careful boards output)
+lentAgain w b (call (move board point helpers partners)) = call (move board point helpers partners)
 lentAgain w b (powerFails p) = powerFails p
 
 -- the steps of these events with nothing altered between them: each is given the area that the last one left
@@ -93,7 +95,7 @@ bare (call (careful boards output)) = call (careful boards output)
 bare (powerFails p) = powerFails p
 
 pub record Premises : Type 0 where
-  -- every list whose files are of bytes is allowed, with nothing altered, after a set-up of any sizes and points over any area
+  -- every list whose files and new points are of bytes is allowed, with nothing altered, after a set-up of any sizes and points over any area
   pub all-allowed : (old : Record) (p : Running) (z : Sizes) (xs : List ℕ) (c : ℕ) (area : List ℕ) (es : List Event) → All Bytes (files es) → IdleGiven es
       → Allowed (begun old p z xs c area) (openBook z xs c (length area)) (unaltered (begun old p z xs c area) (openBook z xs c (length area)) es)
   -- and what is fair is of bytes

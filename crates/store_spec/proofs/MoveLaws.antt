@@ -1,0 +1,526 @@
+-- What an accepted move does over any record and any area, and the turn of all boards.
+-- Assumes nothing.
+use Prim.Native.Nat.{ℕ, zero, suc, _+_, _-_, _*_, _≤_, _<_}
+use mathlib.Core.Path.{_≡_, refl, sym, _∙_, ap, ap₂, subst}
+use mathlib.Core.Bool.{Bool, true, false, not}
+use mathlib.Core.List.{List, [], _∷_, _++_, map, append-nil, append-assoc}
+use mathlib.Core.Logic.{_≢_, _↔_, _⊎_, inl, inr}
+use native.Mathlib.Nat.{zero-mul}
+use native.Mathlib.Omega.{arith}
+use lib.Dec.{eqb}
+use lib.ListN.{length, take, drop, set, getD}
+use lib.Seq.{take-all}
+use borrow.Author.Tests.{eq-eqb, ne-eqb, eqb-true, eqb-false, lt-ltb, le-leb}
+use Rattle.lists.specs.Tests.{pick, alls, among, apart, below, different, every}
+use Rattle.lists.specs.Lists.{All, Bytes, tabulate, without, joined, concat}
+use Rattle.lists.proofs.Alls.{all-imp, all-left, all-right}
+use Rattle.lists.proofs.Boards.{joined-all, all-among, below-all, among-head, among-without}
+use Rattle.lists.proofs.Pieces.{map-append, tabulate-ext}
+use Rattle.lists.proofs.Tests.{true-false, alls-hold, hold-alls, not-no}
+use Rattle.sizes.specs.Refusals.{first, storeOrder, appliesIn}
+use Rattle.sizes.specs.declared.Refusal.the-variants.{Size, Area, Count, Node, Repeat, Empty, Down}
+use Rattle.sizes.proofs.Legal.{legal-facts}
+use Rattle.sizes.proofs.Orders.{_also_, clear-off, off-pass}
+use Rattle.sizes.specs.Sizing.{legal, α}
+use Rattle.sizes.specs.declared.Check.the-variants.{Pass}
+use Rattle.sizes.specs.declared.Sizes.{Sizes}
+use Rattle.mbcr.specs.Afresh.{shareAfresh}
+use Rattle.mbcr.specs.AfreshLaws.{pairsAt}
+use Rattle.mbcr.specs.PointLaws.{firstSeries}
+use Rattle.mbcr.specs.Rebuild.{seconds, helperPacket, standInPacket, exchangePacket, finishedShare}
+use Rattle.mbcr.specs.Share.{point, standard, share}
+use Rattle.mbcr.specs.TurnLaws.{turned}
+use Rattle.mbcr.proofs.TurnLaws.{turn-laws}
+use Rattle.store_spec.specs.Calls.{StoreOutcome, listLines, writeLines, writeDone, writeCall}
+use Rattle.store_spec.specs.Demand1.{Stays}
+use Rattle.store_spec.specs.Running.{Running, soundBeside}
+use Rattle.store_spec.specs.Both.{Outcome, beside, moveLinesBoth, moveBoth}
+use Rattle.store_spec.specs.Ledger.{Event, call, powerFails, Book, openBook, enter, bookNext, bookFinal}
+use Rattle.store_spec.specs.LedgerLaws.{newPoint, setPoints}
+use Rattle.store_spec.specs.Move.{allBoards, movedRecord, afresh, afreshArea, movePackets, movedShare, moveLines, moveDone, moveCall}
+use Rattle.store_spec.specs.MoveLaws.{Moved, movesIn, MoveLaws}
+use Rattle.store_spec.specs.Packets.{Packet, sentTo, sendersOf, contents, helperPackets, standInPackets, exchangePackets, partnerPackets, repairPackets}
+use Rattle.store_spec.specs.Record.{Record, inService, sound, stripeCount, usedLen, partLen, areaLen, held, writtenRecord}
+use Rattle.store_spec.proofs.Area.{shares-same, byte-stays}
+use Rattle.store_spec.proofs.Beside.{alone-busy}
+use Rattle.store_spec.proofs.Demand3.{passes, both-done}
+use Rattle.store_spec.proofs.Held.{held-long, held-bytes}
+use Rattle.store_spec.proofs.LedgerLaws.{ledger-laws}
+use Rattle.store_spec.proofs.Marks.{among-first, first-below}
+use Rattle.store_spec.proofs.Move.{g, named-other, new-point, others-low, afresh-long, afresh-area-is, other-held, laws-of, lost, repairs, lengths, made-is}
+use Rattle.store_spec.proofs.Move.{whole-helpers, whole-partners, total-is, made-long, result, board-low, result-long, board-has, other-has, move-true}
+use Rattle.store_spec.proofs.Packets.{heard-run}
+use Rattle.store_spec.proofs.Real.{code-lengths}
+use Rattle.store_spec.proofs.Records.{Moves, move-facts, moves-pass, moveCounts, repeatTests, sound-facts, used-fits, used-least, write-facts}
+use Rattle.store_spec.proofs.Repair.{heardBy, stoodBy, fresh-by}
+use Rattle.store_spec.proofs.Step.{settle-pass}
+
+-- ---- packets to one board
+
+abbrev mail : (ℕ → List ℕ) → ℕ → List ℕ → List Packet
+mail f m l = map (λ j. record { sender = j; receiver = m; bytes = f j }) l
+
+mail-to : (f e : ℕ → List ℕ) (m : ℕ) (l k : List ℕ) → sentTo m (mail f m l ++ mail e m k) ≡ mail f m l ++ mail e m k
+mail-to f e m [] [] = refl
+mail-to f e m [] (x ∷ k) = rw (eq-eqb m m refl) (ap (λ (t : List Packet). record { sender = x; receiver = m; bytes = e x } ∷ t) (mail-to f e m [] k))
+mail-to f e m (x ∷ l) k = rw (eq-eqb m m refl) (ap (λ (t : List Packet). record { sender = x; receiver = m; bytes = f x } ∷ t) (mail-to f e m l k))
+
+mail-senders : (f : ℕ → List ℕ) (m : ℕ) (l : List ℕ) → sendersOf (mail f m l) ≡ l
+mail-senders f m [] = refl
+mail-senders f m (x ∷ l) = ap (λ (t : List ℕ). x ∷ t) (mail-senders f m l)
+
+mail-contents : (f : ℕ → List ℕ) (m : ℕ) (l : List ℕ) → contents (mail f m l) ≡ joined f l
+mail-contents f m [] = refl
+mail-contents f m (x ∷ l) = ap (λ (t : List ℕ). f x ++ t) (mail-contents f m l)
+
+concat-append : (xs ls : List (List ℕ)) → concat (xs ++ ls) ≡ concat xs ++ concat ls
+concat-append [] ls = refl
+concat-append (x ∷ xs) ls = ap (λ (t : List ℕ). x ++ t) (concat-append xs ls) ∙ sym (append-assoc x (concat xs) (concat ls))
+
+-- ---- a move
+
+module _ (s : Record) (area : List ℕ) (board new : ℕ) (helpers partners : List ℕ) (f : Moves s (length area) board new helpers partners) (byte : new < 256) where
+  abbrev zs : List ℕ
+  zs = set (s .points) board new
+
+  abbrev S : ℕ
+  S = stripeCount s
+
+  abbrev A : List ℕ
+  A = afreshArea s area board new
+
+  -- what helpers and partners send, of what they hold afresh
+  abbrev sent : ℕ → List ℕ
+  sent j = helperPacket (s .sizes) zs S j board (held s A j)
+
+  abbrev stood : ℕ → List ℕ
+  stood j = standInPacket (s .sizes) zs S j board (held s A j)
+
+  no-partner : without board (board ∷ []) ≡ []
+  no-partner = rw (eq-eqb board board refl) refl
+
+  packets-plain : movePackets s area board new helpers partners ≡ mail sent board helpers ++ mail stood board partners
+  unfolding movePackets repairPackets partnerPackets helperPackets standInPackets exchangePackets
+  packets-plain =
+      rw (whole-helpers s area board new helpers partners f byte, whole-partners s area board new helpers partners f byte, no-partner)
+      (ap₂ {C = List Packet} (λ a b. a ++ b) (append-nil (mail sent board helpers))
+      (append-nil (mail stood board partners ++ []) ∙ append-nil (mail stood board partners)))
+
+  of-helpers : All (λ j. (j < s .sizes .n) × (j ≢ board)) helpers
+  of-helpers = all-left _ helpers partners (named-other s area board new helpers partners f byte)
+
+  of-partners : All (λ j. (j < s .sizes .n) × (j ≢ board)) partners
+  of-partners = all-right _ helpers partners (named-other s area board new helpers partners f byte)
+
+  sent-is : joined sent helpers ≡ joined (λ j. helperPacket (s .sizes) zs S j board (afresh s area board new j)) helpers
+  sent-is =
+      joined-all _ _ helpers (all-imp (λ j. (j < s .sizes .n) × (j ≢ board)) _
+      (λ j p. ap (helperPacket (s .sizes) zs S j board) (other-held s area board new helpers partners f byte j (p .0) (p .1))) helpers of-helpers)
+
+  stood-is : joined stood partners ≡ joined (λ j. standInPacket (s .sizes) zs S j board (afresh s area board new j)) partners
+  stood-is =
+      joined-all _ _ partners (all-imp (λ j. (j < s .sizes .n) × (j ≢ board)) _
+      (λ j p. ap (standInPacket (s .sizes) zs S j board) (other-held s area board new helpers partners f byte j (p .0) (p .1))) partners of-partners)
+
+  senders-are : sendersOf (movePackets s area board new helpers partners) ≡ helpers ++ partners
+  senders-are =
+      ap sendersOf packets-plain ∙ map-append (λ p. p .sender) (mail sent board helpers) (mail stood board partners)
+      ∙ ap₂ {C = List ℕ} (λ a b. a ++ b) (mail-senders sent board helpers) (mail-senders stood board partners)
+
+  contents-are : contents (movePackets s area board new helpers partners)
+      ≡ joined (λ j. helperPacket (s .sizes) zs S j board (afresh s area board new j)) helpers
+      ++ joined (λ j. standInPacket (s .sizes) zs S j board (afresh s area board new j)) partners
+  contents-are =
+      ap contents packets-plain
+      ∙ ap concat (map-append (λ p. p .bytes) (mail sent board helpers) (mail stood board partners))
+      ∙ concat-append (map (λ p. p .bytes) (mail sent board helpers)) (map (λ p. p .bytes) (mail stood board partners))
+      ∙ ap₂ {C = List ℕ} (λ a b. a ++ b) (mail-contents sent board helpers ∙ sent-is) (mail-contents stood board partners ∙ stood-is)
+
+  abbrev out : Record
+  out = lost s area board new helpers partners f byte
+
+  -- who is heard
+  heard-helpers : heardBy out A (board ∷ []) helpers partners (length A) (lengths s area board new helpers partners f byte) (repairs s area board new helpers partners f byte) board ≡ helpers
+  unfolding heardBy helperPackets
+  heard-helpers =
+      heard-run (λ j i. helperPacket (s .sizes) zs S j i (held s A j)) (s .sizes .d) (board ∷ []) helpers refl 0 (omega arith)
+      ∙ ap (λ (m : ℕ). take (s .sizes .d) (drop m helpers)) (zero-mul (s .sizes .d)) ∙ whole-helpers s area board new helpers partners f byte
+
+  heard-partners : stoodBy out A (board ∷ []) helpers partners (length A) (lengths s area board new helpers partners f byte) (repairs s area board new helpers partners f byte) board ≡ partners
+  unfolding stoodBy standInPackets
+  heard-partners =
+      heard-run (λ j i. standInPacket (s .sizes) zs S j i (held s A j)) (s .sizes .r - 1) (board ∷ []) partners refl 0 (omega arith)
+      ∙ ap (λ (m : ℕ). take (s .sizes .r - 1) (drop m partners)) (zero-mul (s .sizes .r - 1)) ∙ whole-partners s area board new helpers partners f byte
+
+  -- the finished share of packets from these, and of what other fresh boards exchange
+  abbrev finished : (ℕ → List ℕ) → List ℕ → List ℕ → List ℕ → List ℕ
+  finished exchange hs ps ws =
+      finishedShare (s .sizes) zs S board hs (joined sent hs) (ps ++ ws) (joined stood ps ++ joined exchange ws)
+
+  finished-plain : (exchange : ℕ → List ℕ) → finished exchange helpers partners [] ≡ finishedShare (s .sizes) zs S board helpers (joined sent helpers) partners (joined stood partners)
+  finished-plain exchange =
+      ap₂ (λ (a b : List ℕ). finishedShare (s .sizes) zs S board helpers (joined sent helpers) a b) (append-nil partners) (append-nil (joined stood partners))
+
+  made-plain : movedShare s area board new helpers partners board
+      ≡ finishedShare (s .sizes) zs S board helpers (joined sent helpers) partners (joined stood partners)
+  made-plain =
+      let l = lengths s area board new helpers partners f byte in
+      let r = repairs s area board new helpers partners f byte in
+      let hb = heardBy out A (board ∷ []) helpers partners (length A) l r in
+      let sb = stoodBy out A (board ∷ []) helpers partners (length A) l r in
+      let ex : ℕ → List ℕ = λ m. exchangePacket (s .sizes) zs S (hb m) (joined (λ j. helperPacket (s .sizes) zs S j m (held s A j)) (hb m)) board in
+      let e1 : hb board ≡ helpers = heard-helpers in
+      let e2 : sb board ≡ partners = heard-partners in
+      made-is s area board new helpers partners f byte board
+      ∙ fresh-by out A (board ∷ []) helpers partners (length A) l r board (among-head board [])
+      ∙ ap₂ (λ (h p : List ℕ). finished ex h p (without board (board ∷ []))) e1 e2
+      ∙ ap (λ (w : List ℕ). finished ex helpers partners w) no-partner
+      ∙ finished-plain ex
+
+  has : held s (result s area board new helpers partners f byte) board
+      ≡ finishedShare (s .sizes) zs S board
+      helpers (joined (λ j. helperPacket (s .sizes) zs S j board (afresh s area board new j)) helpers)
+      partners (joined (λ j. standInPacket (s .sizes) zs S j board (afresh s area board new j)) partners)
+  has =
+      board-has s area board new helpers partners f byte ∙ made-plain
+      ∙ ap₂ (λ (a b : List ℕ). finishedShare (s .sizes) zs S board helpers a partners b) sent-is stood-is
+
+  -- ---- the packets by old values
+
+  module _ (ba : Bytes area) where
+    long-j : (j : ℕ) → j < s .sizes .n → length (held s area j) ≡ S * α (s .sizes)
+    long-j j h = held-long s area (g s area board new helpers partners f byte) (f .area-is) j h
+
+    bytes-j : (j : ℕ) → Bytes (held s area j)
+    bytes-j j = held-bytes s area (g s area board new helpers partners f byte) (f .area-is) ba j
+
+    packet-at : (j : ℕ) → j < s .sizes .n → j ≢ board
+        → helperPacket (s .sizes) zs S j board (afresh s area board new j) ≡ pairsAt (s .sizes) (s .points) S j new (held s area j)
+    unfolding afresh
+    packet-at j h e =
+        laws-of s area board new helpers partners f byte j h e .packet-at S board (held s area j) (long-j j h) (bytes-j j)
+        ∙ ap (λ (x : ℕ). pairsAt (s .sizes) (s .points) S j x (held s area j)) (new-point s area board new helpers partners f byte)
+
+    stand-in-at : (j : ℕ) → j < s .sizes .n → j ≢ board
+        → standInPacket (s .sizes) zs S j board (afresh s area board new j) ≡ seconds S (pairsAt (s .sizes) (s .points) S j new (held s area j))
+    unfolding afresh
+    stand-in-at j h e =
+        laws-of s area board new helpers partners f byte j h e .stand-in-at S board (held s area j) (long-j j h) (bytes-j j)
+        ∙ ap (λ (x : ℕ). seconds S (pairsAt (s .sizes) (s .points) S j x (held s area j))) (new-point s area board new helpers partners f byte)
+
+    packets-at : (joined (λ j. helperPacket (s .sizes) zs S j board (afresh s area board new j)) helpers
+        ≡ joined (λ j. pairsAt (s .sizes) (s .points) S j new (held s area j)) helpers)
+        × (joined (λ j. standInPacket (s .sizes) zs S j board (afresh s area board new j)) partners
+        ≡ joined (λ j. seconds S (pairsAt (s .sizes) (s .points) S j new (held s area j))) partners)
+    packets-at = (
+      joined-all _ _ helpers (all-imp (λ j. (j < s .sizes .n) × (j ≢ board)) _ (λ j p. packet-at j (p .0) (p .1)) helpers of-helpers),
+      joined-all _ _ partners (all-imp (λ j. (j < s .sizes .n) × (j ≢ board)) _ (λ j p. stand-in-at j (p .0) (p .1)) partners of-partners),
+    )
+
+  -- ---- other bytes
+
+  among-all-boards : (i : ℕ) → among (without board (allBoards s)) i ≡ true → among (allBoards s) i ≡ true
+  among-all-boards i e = go (eqb board i) (sym (among-without board (allBoards s) i) ∙ e)
+    where
+      go : (t : Bool) → pick t false (among (allBoards s) i) ≡ true → among (allBoards s) i ≡ true
+      go true k = absurd (true-false k refl)
+      go false k = k
+
+  board-among : (i : ℕ) → among (board ∷ []) i ≡ true → among (allBoards s) i ≡ true
+  board-among i e =
+      among-first (s .sizes .n) i
+      ∙ lt-ltb i (s .sizes .n) (all-among (λ x. x < s .sizes .n) (board ∷ []) i (board-low s area board new helpers partners f byte) e)
+
+  other-byte : (p : ℕ) → ((i : ℕ) → among (allBoards s) i ≡ true → (p < i * partLen s) ⊎ (i * partLen s + usedLen s ≤ p)) → getD A p 0 ≡ getD area p 0
+  unfolding afreshArea
+  other-byte p out =
+      byte-stays s (afresh s area board new) (usedLen s) (afresh-long s area board new helpers partners f byte) (used-fits s (g s area board new helpers partners f byte))
+      (without board (allBoards s)) area (f .area-is) (others-low s area board new helpers partners f byte) p (λ i e. out i (among-all-boards i e))
+
+  stays : Stays s (allBoards s) area (result s area board new helpers partners f byte)
+  stays = record {
+    as-long = result-long s area board new helpers partners f byte;
+    same-byte = λ p out.
+        byte-stays s (movedShare s area board new helpers partners) (usedLen s) (made-long s area board new helpers partners f byte)
+        (used-fits s (g s area board new helpers partners f byte)) (board ∷ []) A (afresh-area-is s area board new helpers partners f byte)
+        (board-low s area board new helpers partners f byte) p (λ i e. out i (board-among i e))
+        ∙ other-byte p out;
+  }
+
+  other-afresh : (i : ℕ) → i < s .sizes .n → i ≢ board
+      → held s (result s area board new helpers partners f byte) i ≡ shareAfresh (s .sizes) (s .points) zs S i (held s area i)
+  unfolding afresh
+  other-afresh i h e = other-has s area board new helpers partners f byte i h e
+
+-- ---- an accepted move
+
+module _ (s : Record) (area : List ℕ) (board new : ℕ) (helpers partners : List ℕ) (byte : new < 256) (ok : moveCall s area board new helpers partners .answer .refusal ≡ 0) where
+  pass : first storeOrder (moveLines s (length area) board new helpers partners) ≡ Pass
+  unfolding moveCall
+  pass = passes (first storeOrder (moveLines s (length area) board new helpers partners)) s area [] (moveDone s area board new helpers partners) ok
+
+  facts : Moves s (length area) board new helpers partners
+  facts = move-facts s (length area) board new helpers partners pass
+
+  is-done : moveCall s area board new helpers partners ≡ moveDone s area board new helpers partners
+  unfolding moveCall
+  is-done = settle-pass _ _ _ pass
+
+  after : (P : List ℕ → Type 0) → P (result s area board new helpers partners facts byte) → P (moveCall s area board new helpers partners .area)
+  after P p = subst P (sym (ap (λ (o : StoreOutcome). o .area) is-done)) p
+
+  at : (i : ℕ) → held s (moveCall s area board new helpers partners .area) i ≡ held s (result s area board new helpers partners facts byte) i
+  at i = ap (λ (o : StoreOutcome). held s (o .area) i) is-done
+
+  moved : Moved s area board new helpers partners (set (s .points) board new)
+  moved = record {
+    points-are = refl;
+    record-is = ap (λ (o : StoreOutcome). o .handed) is-done;
+    moved = ap (λ (o : StoreOutcome). o .answer) is-done;
+    moved-is = total-is s area board new helpers partners facts byte;
+    all-sent = ap (sentTo board) (packets-plain s area board new helpers partners facts byte)
+        ∙ mail-to _ _ board helpers partners ∙ sym (packets-plain s area board new helpers partners facts byte);
+    senders-are = senders-are s area board new helpers partners facts byte;
+    contents-are = contents-are s area board new helpers partners facts byte;
+    has = at board ∙ has s area board new helpers partners facts byte;
+    others-have = λ i h e. at i ∙ other-afresh s area board new helpers partners facts byte i h e;
+    packets-at = packets-at s area board new helpers partners facts byte;
+    stays = after (λ a. Stays s (allBoards s) area a) (stays s area board new helpers partners facts byte);
+  }
+
+  module _ (file : List ℕ) (l : length file ≡ s .length) (bf : Bytes file) (truth : (i : ℕ) → i < s .sizes .n → held s area i ≡ share (s .sizes) (s .points) file i) where
+    moved-true : (i : ℕ) → i < s .sizes .n → held s (moveCall s area board new helpers partners .area) i ≡ share (s .sizes) (set (s .points) board new) file i
+    moved-true i h =
+        after (λ a. held s a i ≡ share (s .sizes) (set (s .points) board new) file i)
+        (move-true s area board new helpers partners facts byte file (sym l) bf truth i h)
+
+    -- a fresh write of the file
+    module _ (any : List ℕ) (w : writeCall (movedRecord s board new) any file .answer .refusal ≡ 0) where
+      write-pass : first storeOrder (writeLines (movedRecord s board new) (length any) file) ≡ Pass
+      unfolding writeCall
+      write-pass = passes (first storeOrder (writeLines (movedRecord s board new) (length any) file)) (movedRecord s board new) any [] (writeDone (movedRecord s board new) any file) w
+
+      write-is : writeCall (movedRecord s board new) any file ≡ writeDone (movedRecord s board new) any file
+      unfolding writeCall
+      write-is = settle-pass _ _ _ write-pass
+
+      as-written : (i : ℕ) → i < s .sizes .n
+          → held s (moveCall s area board new helpers partners .area) i
+          ≡ held (writtenRecord (movedRecord s board new) (length file)) (writeCall (movedRecord s board new) any file .area) i
+      as-written i h =
+          let new-record = writtenRecord (movedRecord s board new) (length file) in
+          let k = write-facts (movedRecord s board new) (length any) file write-pass in
+          let sd = sound-facts (movedRecord s board new) (k .is-sound) in
+          moved-true i h
+          ∙ sym (ap (λ (o : StoreOutcome). held new-record (o .area) i) write-is
+          ∙ shares-same new-record (share (s .sizes) (set (s .points) board new) file) (usedLen new-record)
+          (code-lengths (set (s .points) board new) (s .sizes) (sd .is-legal) .share-length file)
+          (used-least (s .sizes) (length file) (s .capacity) (sd .is-legal) (k .file-fits))
+          (tabulate (s .sizes .n) (λ i. i)) any (k .area-is) (first-below (s .sizes .n) (s .sizes .n) (omega arith)) i
+          (among-first (s .sizes .n) i ∙ lt-ltb i (s .sizes .n) h))
+
+-- ---- the turn
+
+set-append : (xs : List ℕ) (ps qs : List (ℕ × ℕ)) → setPoints xs (ps ++ qs) ≡ setPoints (setPoints xs ps) qs
+set-append xs [] qs = refl
+set-append xs (p ∷ ps) qs = set-append (set xs (p .0) (p .1)) ps qs
+
+points-are : (es : List Event) (b : Book) → bookFinal b es .points ≡ setPoints (b .points) (movesIn b es)
+points-are [] b = refl
+points-are (call c ∷ es) b =
+    points-are es (enter b c .book)
+    ∙ ap (λ (xs : List ℕ). setPoints xs (movesIn (enter b c .book) es)) (ledger-laws .points-are b c)
+    ∙ sym (set-append (b .points) (newPoint c (enter b c .reply .answer)) (movesIn (enter b c .book) es))
+points-are (powerFails p ∷ es) b = points-are es (bookNext b (powerFails p))
+
+turning : (z : Sizes) → legal z ≡ true → (m i : ℕ) → i + m ≤ z .n → setPoints (turned z i) (tabulate m (λ t. (i + t, i + t))) ≡ turned z (i + m)
+turning z ok zero i h = ap (turned z) e
+  where
+    e : i ≡ i + 0
+    e = omega arith
+turning z ok (suc m) i h =
+    let e : i + 0 ≡ i = omega arith in
+    let k : suc i + m ≡ i + suc m = omega arith in
+    ap₂ (λ (j : ℕ) (ps : List (ℕ × ℕ)). setPoints (set (turned z i) j j) ps) e
+    (tabulate-ext m (λ t. (i + suc t, i + suc t)) (λ t. (suc i + t, suc i + t)) (λ t l. same (i + suc t) (suc i + t) (omega arith)))
+    ∙ ap (λ (xs : List ℕ). setPoints xs (tabulate m (λ t. (suc i + t, suc i + t)))) (turn-laws .turn-step z i ok (omega arith))
+    ∙ turning z ok m (suc i) (omega arith) ∙ ap (turned z) k
+  where
+    same : (a b : ℕ) → a ≡ b → _≡_ {A = ℕ × ℕ} (a, a) (b, b)
+    same a b q = ap (λ (x : ℕ). (x, x)) q
+
+turn : (z : Sizes) (c m : ℕ) (es : List Event) → legal z ≡ true
+    → movesIn (openBook z (firstSeries z) c m) es ≡ tabulate (z .n) (λ i. (i, i))
+    → bookFinal (openBook z (firstSeries z) c m) es .points ≡ standard z
+turn z c m es ok e =
+    points-are es (openBook z (firstSeries z) c m)
+    ∙ ap₂ setPoints (sym (turn-laws .turn-first z)) e
+    ∙ ap (λ (ps : List (ℕ × ℕ)). setPoints (turned z 0) ps) (tabulate-ext (z .n) (λ i. (i, i)) (λ t. (0 + t, 0 + t)) (λ t l. ap (λ (x : ℕ). (x, x)) (zero-left t)))
+    ∙ turning z ok (z .n) 0 (omega arith) ∙ ap (turned z) (sym (zero-left (z .n))) ∙ turn-laws .turn-last z
+  where
+    zero-left : (t : ℕ) → t ≡ 0 + t
+    zero-left t = omega arith
+
+module _ (s : Record) (area : List ℕ) (i : ℕ) (helpers partners : List ℕ) (ok : sound s ≡ true) (pts : s .points ≡ turned (s .sizes) i)
+    (area-is : length area ≡ areaLen s) (w : s .written ≡ true) (ch : length helpers ≡ s .sizes .d) (cp : length partners ≡ s .sizes .r - 1)
+    (low : below (s .sizes .n) (i ∷ (helpers ++ partners)) ≡ true) (once : different (i ∷ (helpers ++ partners)) ≡ true) (up : every (inService s) (allBoards s) ≡ true) where
+  is-legal : legal (s .sizes) ≡ true
+  is-legal = sound-facts s ok .is-legal
+
+  is-board : i < s .sizes .n
+  is-board = below-all (s .sizes .n) (i ∷ (helpers ++ partners)) low .0
+
+  turn-pass : first storeOrder (moveLines s (length area) i i helpers partners) ≡ Pass
+  turn-pass = moves-pass s (length area) i i helpers partners (record {
+    is-sound = ok;
+    area-is = area-is;
+    is-written = w;
+    helper-count = ch;
+    partner-count = cp;
+    named-below = low;
+    named-different = once;
+    point-free = ap (λ (xs : List ℕ). among (take (s .sizes .n) xs) i) pts ∙ turn-laws .turn-free (s .sizes) i is-legal is-board;
+    all-up = up;
+  })
+
+  turn-done : moveCall s area i i helpers partners ≡ moveDone s area i i helpers partners
+  unfolding moveCall
+  turn-done = settle-pass _ _ _ turn-pass
+
+  turn-taken : (moveCall s area i i helpers partners .answer .refusal ≡ 0) × (moveCall s area i i helpers partners .handed .points ≡ turned (s .sizes) (suc i))
+  turn-taken = (
+    ap (λ (o : StoreOutcome). o .answer .refusal) turn-done,
+    ap (λ (o : StoreOutcome). o .handed .points) turn-done ∙ ap (λ (xs : List ℕ). set xs i i) pts ∙ turn-laws .turn-step (s .sizes) i is-legal is-board,
+  )
+
+-- ---- beside the record of a repair
+
+module _ (s : Record) (p : Running) (area : List ℕ) (board new : ℕ) (helpers partners : List ℕ) where
+  both-there : moveBoth s p area board new helpers partners .answer .refusal ≡ 0
+      → (first storeOrder (moveLines s (length area) board new helpers partners) ≡ Pass) × (p .running ≡ false)
+      × (moveBoth s p area board new helpers partners ≡ beside p (moveDone s area board new helpers partners))
+  unfolding moveBoth moveLinesBoth moveLines
+  both-there h =
+      let q = both-done (first storeOrder (moveLinesBoth s p (length area) board new helpers partners)) s p area [] [] (beside p (moveDone s area board new helpers partners)) h in
+      let a = alone-busy s p (p .running) (drop 1 (moveLines s (length area) board new helpers partners)) refl q in
+      (a .0, a .1, settle-pass _ _ _ q)
+
+  is-moved : first storeOrder (moveLines s (length area) board new helpers partners) ≡ Pass → moveCall s area board new helpers partners ≡ moveDone s area board new helpers partners
+  unfolding moveCall
+  is-moved e = settle-pass _ _ _ e
+
+  both-back : moveCall s area board new helpers partners .answer .refusal ≡ 0 → p .running ≡ false → moveBoth s p area board new helpers partners .answer .refusal ≡ 0
+  unfolding moveBoth moveLinesBoth moveLines moveCall soundBeside
+  both-back h r =
+      let q = passes (first storeOrder (moveLines s (length area) board new helpers partners)) s area [] (moveDone s area board new helpers partners) h in
+      let off = clear-off (moveLines s (length area) board new helpers partners) storeOrder q in
+      let b : first storeOrder (moveLinesBoth s p (length area) board new helpers partners) ≡ Pass =
+      off-pass (moveLinesBoth s p (length area) board new helpers partners) storeOrder
+      (ap not (hold-alls (sound s ∷ soundBeside s p ∷ []) (not-no _ (off Size refl), (rw r refl, tt)))
+      also r
+      also off Area refl
+      also off Empty refl
+      also off Count refl
+      also off Node refl
+      also off Repeat refl
+      also off Down refl
+      also tt) in
+      ap (λ (o : Outcome). o .answer .refusal) (settle-pass _ _ _ b)
+
+  taken-beside : (moveBoth s p area board new helpers partners .answer .refusal ≡ 0)
+      ↔ ((moveCall s area board new helpers partners .answer .refusal ≡ 0) × (p .running ≡ false))
+  taken-beside = (
+    (λ h. let k = both-there h in (ap (λ (o : StoreOutcome). o .answer .refusal) (is-moved (k .0)), k .1)),
+    (λ k. both-back (k .0) (k .1)),
+  )
+
+  same-beside : moveBoth s p area board new helpers partners .answer .refusal ≡ 0
+      → moveBoth s p area board new helpers partners ≡ beside p (moveCall s area board new helpers partners)
+  same-beside h = let k = both-there h in k .2 ∙ ap (beside p) (sym (is-moved (k .0)))
+
+-- ---- as in a repair of one board
+
+module _ (s : Record) (m board point : ℕ) (helpers partners : List ℕ) (ok : legal (s .sizes) ≡ true) where
+  one : (x : ℕ) → x ≡ 1 * x
+  one x = omega arith
+
+  count-same : appliesIn (moveLines s m board point helpers partners) Count ≡ appliesIn (listLines s (board ∷ []) helpers partners) Count
+  unfolding moveLines listLines
+  count-same =
+      rw (le-leb 1 (s .sizes .r) (legal-facts (s .sizes) ok .some-fresh))
+      (ap₂ (λ (x y : ℕ). not (alls (eqb (length helpers) x ∷ eqb (length partners) y ∷ []))) (one (s .sizes .d)) (one (s .sizes .r - 1)))
+
+  node-alike : appliesIn (moveLines s m board point helpers partners) Node ≡ appliesIn (listLines s (board ∷ []) helpers partners) Node
+  unfolding moveLines listLines
+  node-alike = refl
+
+  -- none of the others is the board
+  apart-one : (l : List ℕ) → apart (board ∷ []) l ≡ not (among l board)
+  apart-one [] = refl
+  apart-one (x ∷ l) = go (eqb x board) (eqb board x) (eqb-sym x board) (apart-one l)
+    where
+      go : (t u : Bool) → t ≡ u → apart (board ∷ []) l ≡ not (among l board)
+          → pick (not (pick u true false)) (apart (board ∷ []) l) false ≡ not (pick t true (among l board))
+      go true true e ih = refl
+      go false false e ih = ih
+      go true false e ih = absurd (true-false refl e)
+      go false true e ih = absurd (true-false refl (sym e))
+
+      eqb-sym : (a b : ℕ) → eqb a b ≡ eqb b a
+      eqb-sym a b = by (eqb a b) refl
+        where
+          by : (t : Bool) → eqb a b ≡ t → eqb a b ≡ eqb b a
+          by true e = e ∙ sym (eq-eqb b a (sym (eqb-true a b e)))
+          by false e = e ∙ sym (ne-eqb b a (λ q. eqb-false a b e (sym q)))
+
+  tests : (a b : Bool) → alls (true ∷ pick a true false ∷ not b ∷ []) ≡ pick b false a
+  tests true true = refl
+  tests true false = refl
+  tests false true = refl
+  tests false false = refl
+
+  repeat-as : length helpers ≡ s .sizes .d → length partners ≡ s .sizes .r - 1
+      → alls (repeatTests s (board ∷ []) helpers partners) ≡ different (board ∷ (helpers ++ partners))
+  repeat-as h p =
+      rw (take-all (s .sizes .d) helpers (omega (arith, h)), take-all (s .sizes .r - 1) partners (omega (arith, p)), apart-one (helpers ++ partners))
+      (tests (different (helpers ++ partners)) (among (helpers ++ partners) board))
+
+  repeat-says : (a b : Bool) → (not (alls (a ∷ not b ∷ [])) ≡ true) ↔ ((not a ≡ true) ⊎ (b ≡ true))
+  repeat-says true true = (λ e. inr refl, λ e. refl)
+  repeat-says true false = (λ e. absurd (true-false e refl), no)
+    where
+      no : (not true ≡ true) ⊎ (false ≡ true) → not (alls (true ∷ not false ∷ [])) ≡ true
+      no (inl e) = absurd (true-false e refl)
+      no (inr e) = absurd (true-false e refl)
+  repeat-says false b = (λ e. inl refl, λ e. refl)
+
+  repeat-alike : appliesIn (moveLines s m board point helpers partners) Count ≡ false
+      → (appliesIn (moveLines s m board point helpers partners) Repeat ≡ true)
+      ↔ ((appliesIn (listLines s (board ∷ []) helpers partners) Repeat ≡ true) ⊎ (among (take (s .sizes .n) (s .points)) point ≡ true))
+  unfolding moveLines listLines
+  repeat-alike e =
+      let c = alls-hold (moveCounts s helpers partners) (not-no _ e) in
+      subst
+      (λ (t : Bool).
+      (not (alls (different (board ∷ (helpers ++ partners)) ∷ not (among (take (s .sizes .n) (s .points)) point) ∷ [])) ≡ true)
+      ↔ ((not t ≡ true) ⊎ (among (take (s .sizes .n) (s .points)) point ≡ true)))
+      (sym (repeat-as (eqb-true _ _ (c .0)) (eqb-true _ _ (c .1 .0))))
+      (repeat-says (different (board ∷ (helpers ++ partners))) (among (take (s .sizes .n) (s .points)) point))
+
+pub move-laws : MoveLaws
+move-laws = record {
+  taken-beside = λ s p area board point helpers partners. taken-beside s p area board point helpers partners;
+  same-beside = λ s p area board point helpers partners h. same-beside s p area board point helpers partners h;
+  as-in-a-repair = λ s m board point helpers partners ok. (
+    count-same s m board point helpers partners ok,
+    node-alike s m board point helpers partners ok,
+    repeat-alike s m board point helpers partners ok,
+  );
+  moved = λ s area board point helpers partners byte ok. moved s area board point helpers partners byte ok;
+  move-true = λ s area board point helpers partners file byte ok l bf truth. moved-true s area board point helpers partners byte ok file l bf truth;
+  as-written = λ s area board point helpers partners file any byte ok l bf truth w. as-written s area board point helpers partners byte ok file l bf truth any w;
+  turn-taken = λ s area i helpers partners ok pts area-is w ch cp low once up. turn-taken s area i helpers partners ok pts area-is w ch cp low once up;
+  turn-ends = turn-laws .turn-last;
+  points-are = points-are;
+  turn = turn;
+}
