@@ -201,12 +201,22 @@ module _ (b : Book) (area : List ℕ) (ok : legal (b .sizes) ≡ true) (low : Al
         and ap not (every-same (inService (bookRecord b)) (among (b .service)) boards serves)
         and refl
         and disagree end)
+    alike (move board point helpers partners) =
+        size
+        (further runs (past refl (past refl here))
+        (ap not area-is
+        and refl
+        and refl
+        and ap not (node-same (b .sizes .n) board helpers partners)
+        and refl
+        and ap not (every-same (inService (bookRecord b)) (among (b .service)) (tabulate (b .sizes .n) (λ i. i)) serves)
+        and end))
 
 -- SIZE is off in both
 pub size-same : (b : Book) (p : Running) (area : List ℕ) → not (alls (sound (bookRecord b) ∷ soundBeside (bookRecord b) p ∷ [])) ≡ false → (call : Call)
     → appliesIn (storeLines (bookRecord b) p area call) Size ≡ appliesIn (bookLines b call) Size
-unfolding storeLines writeLinesBoth loseLinesBoth repairLinesBoth readLinesBoth editLinesBoth carefulLinesBoth stepLines writeLines loseLines listLines
-    repairLines readLines editLines carefulLines bookLines repairAsked
+unfolding storeLines writeLinesBoth loseLinesBoth repairLinesBoth readLinesBoth editLinesBoth carefulLinesBoth moveLinesBoth stepLines writeLines loseLines
+    listLines repairLines readLines editLines carefulLines moveLines bookLines repairAsked
 size-same b p area h (write file) = h
 size-same b p area h (lose board) = h
 size-same b p area h (repair fresh helpers standIns) = h

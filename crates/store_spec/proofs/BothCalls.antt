@@ -26,8 +26,8 @@ use Rattle.store_spec.specs.Calls.{settle, accepted, recordLine, writeLi
 use Rattle.store_spec.specs.Edit.{editLines}
 use Rattle.store_spec.specs.Careful.{carefulLines}
 use Rattle.store_spec.specs.Move.{moveLines}
-use Rattle.store_spec.specs.Both.{Outcome, beside, writeLinesBoth, loseLinesBoth, repairLinesBoth, readLinesBoth, editLinesBoth, carefulLinesBoth, moveLinesBoth, stepLines, leftOf, stepLast, stepOn, setUpBoth}
-use Rattle.store_spec.specs.Both.{writeBoth, loseBoth, repairBoth, readBoth, editBoth, carefulBoth, moveBoth, startCall, stepCall}
+use Rattle.store_spec.specs.Both.{Outcome, beside, writeLinesBoth, loseLinesBoth, repairLinesBoth, readLinesBoth, editLinesBoth, carefulLinesBoth, moveLinesBoth, stepLines}
+use Rattle.store_spec.specs.Both.{leftOf, stepLast, stepOn, setUpBoth, writeBoth, loseBoth, repairBoth, readBoth, editBoth, carefulBoth, moveBoth, startCall, stepCall}
 use Rattle.store_spec.specs.BothCalls.{BothEnds, storeLines, storeDone, storeClaims, BothCalls}
 use Rattle.store_spec.specs.Ledger.{Call, write, lose, repair, read, edit, start, step, careful, move, Book, Repairing, during, carriedBy, bookRunning, State, act, outputOf, packetsOfCall}
 use Rattle.store_spec.proofs.Agree.{Tallies, alike}

@@ -32,7 +32,7 @@ use Rattle.store_spec.specs.Both.{Outcome, beside, repairLinesBoth, repa
 use Rattle.store_spec.specs.Demand3.{Repaired, events, WholeStep, Intact, begun, Demand3Claim, Demand3At, Demand3Standard, Demand3FirstSeries}
 use Rattle.store_spec.specs.Ledger.{State, Book, Repairing, Step, Event, call, powerFails, replies, bookReplies, final, bookFinal, Call, Fair, FairEvent, act, bookRecord, Tells, carriedBy}
 use Rattle.store_spec.specs.Ledger.{Reply, replyOf, packetsAfter, told, bookTold, next, bookNext, lent, enter, Altered, Unaltered, Allowed, bookLength, openBook, write, lose, repair, read, edit}
-use Rattle.store_spec.specs.Ledger.{start, step, careful}
+use Rattle.store_spec.specs.Ledger.{start, step, careful, move}
 use Rattle.store_spec.specs.Packets.{helperPackets, standInPackets, exchangePackets, hearHelpers, hearPartners, standInsEach, partnerPackets, freshShare, repairPackets}
 use Rattle.store_spec.specs.Record.{Record, allOff, held, usedLen, sound, newRecord}
 use Rattle.store_spec.proofs.Area.{shares-same}

@@ -8,7 +8,7 @@ use Rattle.store_spec.specs.Record.{Record}
 use Rattle.store_spec.specs.Running.{Running}
 use Rattle.store_spec.specs.Both.{Outcome}
 use Rattle.store_spec.specs.Ledger.{Call, write, lose, repair, read, edit, start, step, careful, Event, call, powerFails, State, Step, Reply}
-use Rattle.store_spec.specs.Ledger.{replyOf, packetsAfter, act, lent, next, replies, final, openBook, bookFinal}
+use Rattle.store_spec.specs.Ledger.{replyOf, packetsAfter, act, lent, next, replies, final, openBook, bookFinal, move}
 use Rattle.store_spec.specs.Demand3.{Intact, begun, events}
 use Rattle.store_spec.specs.Follows.{Moment, gave, anew, outcomeOf, Meets, handedOn, Follows, repliesIn, ending, FollowsDemand3, FollowsWorn, FollowsLaws}
 use Rattle.store_spec.specs.CarefulLaws.{Worn}

@@ -21,8 +21,9 @@ use Rattle.store_spec.specs.LaterFigures.{LaterFigures}
 pub later-figures : LaterFigures
 unfolding piece put add product reduce mul squares inverse legal B stripes pointed stripe grid F neighbours symbols kept share shares seconds received exchanged ownF
     ownG helperPair helperPacket standInPacket gFrom exchangePacket fFrom finishedStripe finishedShare through bColumn cRow aColumn decodedStripe decodedFile
-    readFile sound helperPackets standInPackets exchangePackets partnerPackets repairPackets freshShare writeLines loseLines listLines repairLines readLines setUpCall writeCall loseCall
-    repairCall readCall keptAfresh shareAfresh afresh afreshArea movePackets movedShare moveLines moveCall act carefulFile carefulLines carefulCall soundBeside writeLinesBoth loseLinesBoth carefulLinesBoth writeBoth loseBoth carefulBoth
+    readFile sound helperPackets standInPackets exchangePackets partnerPackets repairPackets freshShare writeLines loseLines listLines repairLines readLines
+    setUpCall writeCall loseCall repairCall readCall keptAfresh shareAfresh afresh afreshArea movePackets movedShare moveLines moveCall act carefulFile carefulLines carefulCall
+    soundBeside writeLinesBoth loseLinesBoth carefulLinesBoth writeBoth loseBoth carefulBoth
 later-figures = record {
   careful-none = refl;
   careful-odd = refl;

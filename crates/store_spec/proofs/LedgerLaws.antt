@@ -18,16 +18,29 @@ use Rattle.sizes.specs.declared.Check.the-variants.{Pass, Refuse}
 use Rattle.sizes.specs.declared.Answer.the-variants.{Done, Refused}
 use Rattle.sizes.specs.declared.Refusal.the-variants.{Area, Empty, Idle}
 use Rattle.sizes.specs.Sizing.{α, stripes}
-use Rattle.sizes.specs.Refusals.{said, _when_, first, storeOrder}
+use Rattle.sizes.specs.Refusals.{said, _when_, first, storeOrder, number}
 use Rattle.sizes.specs.declared.Refusal.the-variants.{Busy, Idle}
+use Rattle.sizes.specs.declared.Refusal.{Refusal}
 use Rattle.sizes.proofs.Orders.{clear-off}
 use Rattle.sizes.proofs.Laws.{number-low}
 use Rattle.board_spec.specs.Calls.{fileOf}
 use Rattle.store_spec.specs.Calls.{settle}
-use Rattle.store_spec.specs.Ledger.{Call, write, lose, repair, read, edit, start, step, careful, Book, Repairing, during, keptOn, ended, goesOn, repairAsked, Entry, outputOf, replied}
-use Rattle.store_spec.specs.Ledger.{bookLength, bookLines, accept, enter}
-use Rattle.store_spec.specs.LedgerLaws.{Accepted, LedgerLaws}
+use Rattle.store_spec.specs.Ledger.{Call, write, lose, repair, read, edit, start, step, careful, move, Book, Repairing, during, keptOn, ended, goesOn, repairAsked, Entry, outputOf, replied}
+use Rattle.store_spec.specs.Ledger.{bookLength, bookLines, accept, enter, pointedBook}
+use Rattle.store_spec.specs.LedgerLaws.{Accepted, newPoint, setPoints, LedgerLaws}
 use Rattle.store_spec.proofs.Marks.{among-first}
+
+-- a refused call moves no board
+pub no-point : (call : Call) (x : Refusal) → newPoint call (said (Refused x)) ≡ []
+no-point (write file) x = refl
+no-point (lose board) x = refl
+no-point (repair fresh helpers standIns) x = refl
+no-point (read boards output) x = refl
+no-point (edit offset bytes boards) x = refl
+no-point (start fresh helpers standIns) x = refl
+no-point (step allowance packets) x = refl
+no-point (careful boards output) x = refl
+no-point (move board point helpers partners) x = rw (ne-eqb (number x) 0 (λ e. omega (arith, number-low x))) refl
 
 -- a call is accepted, and then the entry is the accepted one, or it is refused
 module _ (b : Book) (output : List ℕ) (done : Entry) where
@@ -216,11 +229,14 @@ starts b fresh helpers standIns e =
     )
 
 moves : (b : Book) (board point : ℕ) (helpers partners : List ℕ) → Accepted b (move board point helpers partners)
-    → (b .repairing ≡ none) × (enter b (move board point helpers partners) .book ≡ pointedBook b (set (b .points) board point))
+    → (b .repairing ≡ none)
+    × (enter b (move board point helpers partners) .reply .answer .reported ≡ stripes (b .sizes) (bookLength b) * (2 * b .sizes .d + b .sizes .r - 1))
+    × (enter b (move board point helpers partners) .book ≡ pointedBook b (set (b .points) board point))
 unfolding accept bookLines
 moves b board point helpers partners e =
     let off = clear-off (bookLines b (move board point helpers partners)) storeOrder (taken b (move board point helpers partners) e) in
-    (none-there (b .repairing) (off Busy refl), ap (λ (y : Entry). y .book) (is-done b (move board point helpers partners) e))
+    let d = is-done b (move board point helpers partners) e in
+    (none-there (b .repairing) (off Busy refl), ap (λ (y : Entry). y .reply .answer .reported) d, ap (λ (y : Entry). y .book) d)
 
 module _ (b : Book) (r : Repairing) (allowance : ℕ) (packets : List ℕ) (q : b .repairing ≡ some r) (e : Accepted b (step allowance packets)) where
   stepped : (t : Bool) → leb (r .left) allowance ≡ t → enter b (step allowance packets) ≡ pick t (ended b r) (goesOn b r allowance)
@@ -274,6 +290,8 @@ pub ledger-laws : LedgerLaws
 ledger-laws = record {
   refused = refused;
   stay = stay;
+  points-are = points-are;
+  moves = moves;
   writes = writes;
   loses = loses;
   repairs = repairs;

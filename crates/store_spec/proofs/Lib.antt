@@ -32,6 +32,7 @@ pub mod ListLaws
 pub mod MarkLaws
 pub mod Exact
 pub mod CarefulLaws
+pub mod MoveLaws
 pub mod Demand1
 pub mod BothCalls
 pub mod AloneLaws

@@ -176,11 +176,41 @@ full-marks w c e =
     ∙ full (w .kept) (w .running) (w .area) (outputOf c) (packetsOfCall c) (storeDone (w .kept) (w .running) (w .area) c)
     (first storeOrder (storeLines (w .kept) (w .running) (w .area) c)) e (done-full (w .kept) (w .running) (w .area) c e)
 
-points-stay : (w : State) (c : Call) → act w c .handed .points ≡ w .kept .points
-points-stay w c =
-    ap (λ (o : Outcome). o .handed .points) (act-is w c)
-    ∙ points-by (w .kept) (w .running) (w .area) (outputOf c) (packetsOfCall c) (storeDone (w .kept) (w .running) (w .area) c)
-    (first storeOrder (storeLines (w .kept) (w .running) (w .area) c)) (done-points (w .kept) (w .running) (w .area) c)
+points-are : (w : State) (c : Call) → act w c .handed .points ≡ setPoints (w .kept .points) (newPoint c (act w c .answer))
+points-are w c =
+    subst (λ (o : Outcome). o .handed .points ≡ setPoints (w .kept .points) (newPoint c (o .answer))) (sym (act-is w c))
+    (points-by (w .kept) (w .running) (w .area) (outputOf c) (packetsOfCall c) (storeDone (w .kept) (w .running) (w .area) c) c
+    (first storeOrder (storeLines (w .kept) (w .running) (w .area) c))
+    (done-points (w .kept) (w .running) (w .area) c))
+
+-- points that are moved
+length-points : (xs : List ℕ) (ps : List (ℕ × ℕ)) → length (setPoints xs ps) ≡ length xs
+length-points xs [] = refl
+length-points xs (p ∷ ps) = length-points (set xs (p .0) (p .1)) ps ∙ length-set xs (p .0) (p .1)
+
+points-bytes : (xs : List ℕ) (ps : List (ℕ × ℕ)) → Bytes xs → All (λ p. p .1 < 256) ps → Bytes (setPoints xs ps)
+points-bytes xs [] b h = b
+points-bytes xs (p ∷ ps) b h = points-bytes (set xs (p .0) (p .1)) ps (set-bytes xs (p .0) (p .1) b (h .0)) (h .1)
+  where
+    set-bytes : (xs : List ℕ) (i x : ℕ) → Bytes xs → x < 256 → Bytes (set xs i x)
+    set-bytes [] i x b h = tt
+    set-bytes (y ∷ xs) zero x b h = (h, b .1)
+    set-bytes (y ∷ xs) (suc i) x b h = (b .0, set-bytes xs i x (b .1) h)
+
+fair-point : (c : Call) (a : Said) → All Bytes (filesOf c) → All {A = ℕ × ℕ} (λ p. p .1 < 256) (newPoint c a)
+fair-point (write file) a f = tt
+fair-point (lose board) a f = tt
+fair-point (repair fresh helpers standIns) a f = tt
+fair-point (read boards output) a f = tt
+fair-point (edit offset bytes boards) a f = tt
+fair-point (start fresh helpers standIns) a f = tt
+fair-point (step allowance packets) a f = tt
+fair-point (careful boards output) a f = tt
+fair-point (move board point helpers partners) a f = go (eqb (a .refusal) 0)
+  where
+    go : (t : Bool) → All {A = ℕ × ℕ} (λ p. p .1 < 256) (pick t ((board, point) ∷ []) [])
+    go true = (f .0 .0, tt)
+    go false = tt
 
 -- the arrays of the record beside
 

@@ -10,7 +10,7 @@ use native.Mathlib.Omega.{arith}
 use lib.Dec.{eqb}
 use lib.ListN.{length, take, drop, set, getD}
 use lib.Seq.{take-all}
-use borrow.Author.Tests.{eq-eqb, ne-eqb, eqb-true, eqb-false, lt-ltb, le-leb}
+use borrow.Author.Tests.{eq-eqb, ne-eqb, eqb-true, eqb-false, lt-ltb, le-leb, le-ltb}
 use Rattle.lists.specs.Tests.{pick, alls, among, apart, below, different, every}
 use Rattle.lists.specs.Lists.{All, Bytes, tabulate, without, joined, concat}
 use Rattle.lists.proofs.Alls.{all-imp, all-left, all-right}
@@ -21,7 +21,7 @@ use Rattle.sizes.specs.Refusals.{first, storeOrder, appliesIn}
 use Rattle.sizes.specs.declared.Refusal.the-variants.{Size, Area, Count, Node, Repeat, Empty, Down}
 use Rattle.sizes.proofs.Legal.{legal-facts}
 use Rattle.sizes.proofs.Orders.{_also_, clear-off, off-pass}
-use Rattle.sizes.specs.Sizing.{legal, α}
+use Rattle.sizes.specs.Sizing.{legal, α, B}
 use Rattle.sizes.specs.declared.Check.the-variants.{Pass}
 use Rattle.sizes.specs.declared.Sizes.{Sizes}
 use Rattle.mbcr.specs.Afresh.{shareAfresh}
@@ -31,6 +31,7 @@ use Rattle.mbcr.specs.Rebuild.{seconds, helperPacket, standInPacket, exchangePa
 use Rattle.mbcr.specs.Share.{point, standard, share}
 use Rattle.mbcr.specs.TurnLaws.{turned}
 use Rattle.mbcr.proofs.TurnLaws.{turn-laws}
+use Rattle.mbcr.proofs.PointLaws.{point-laws}
 use Rattle.store_spec.specs.Calls.{StoreOutcome, listLines, writeLines, writeDone, writeCall}
 use Rattle.store_spec.specs.Demand1.{Stays}
 use Rattle.store_spec.specs.Running.{Running, soundBeside}
@@ -40,18 +41,18 @@ use Rattle.store_spec.specs.LedgerLaws.{newPoint, setPoints}
 use Rattle.store_spec.specs.Move.{allBoards, movedRecord, afresh, afreshArea, movePackets, movedShare, moveLines, moveDone, moveCall}
 use Rattle.store_spec.specs.MoveLaws.{Moved, movesIn, MoveLaws}
 use Rattle.store_spec.specs.Packets.{Packet, sentTo, sendersOf, contents, helperPackets, standInPackets, exchangePackets, partnerPackets, repairPackets}
-use Rattle.store_spec.specs.Record.{Record, inService, sound, stripeCount, usedLen, partLen, areaLen, held, writtenRecord}
+use Rattle.store_spec.specs.Record.{Record, inService, sound, stripeCount, usedLen, partLen, areaLen, held, writtenRecord, newRecord}
 use Rattle.store_spec.proofs.Area.{shares-same, byte-stays}
 use Rattle.store_spec.proofs.Beside.{alone-busy}
-use Rattle.store_spec.proofs.Demand3.{passes, both-done}
+use Rattle.store_spec.proofs.Demand3.{passes, both-done, new-sound}
 use Rattle.store_spec.proofs.Held.{held-long, held-bytes}
 use Rattle.store_spec.proofs.LedgerLaws.{ledger-laws}
 use Rattle.store_spec.proofs.Marks.{among-first, first-below}
 use Rattle.store_spec.proofs.Move.{g, named-other, new-point, others-low, afresh-long, afresh-area-is, other-held, laws-of, lost, repairs, lengths, made-is}
-use Rattle.store_spec.proofs.Move.{whole-helpers, whole-partners, total-is, made-long, result, board-low, result-long, board-has, other-has, move-true}
+use Rattle.store_spec.proofs.Move.{whole-helpers, whole-partners, total-is, made-long, result, board-low, result-long, board-has, other-has, move-true, new-pointed}
 use Rattle.store_spec.proofs.Packets.{heard-run}
 use Rattle.store_spec.proofs.Real.{code-lengths}
-use Rattle.store_spec.proofs.Records.{Moves, move-facts, moves-pass, moveCounts, repeatTests, sound-facts, used-fits, used-least, write-facts}
+use Rattle.store_spec.proofs.Records.{Moves, move-facts, moves-pass, moveCounts, repeatTests, sound-facts, used-fits, used-least, write-facts, Sound, facts-sound}
 use Rattle.store_spec.proofs.Repair.{heardBy, stoodBy, fresh-by}
 use Rattle.store_spec.proofs.Step.{settle-pass}
 
@@ -60,22 +61,10 @@ use Rattle.store_spec.proofs.Step.{settle-pass}
 abbrev mail : (ℕ → List ℕ) → ℕ → List ℕ → List Packet
 mail f m l = map (λ j. record { sender = j; receiver = m; bytes = f j }) l
 
-mail-to : (f e : ℕ → List ℕ) (m : ℕ) (l k : List ℕ) → sentTo m (mail f m l ++ mail e m k) ≡ mail f m l ++ mail e m k
-mail-to f e m [] [] = refl
-mail-to f e m [] (x ∷ k) = rw (eq-eqb m m refl) (ap (λ (t : List Packet). record { sender = x; receiver = m; bytes = e x } ∷ t) (mail-to f e m [] k))
-mail-to f e m (x ∷ l) k = rw (eq-eqb m m refl) (ap (λ (t : List Packet). record { sender = x; receiver = m; bytes = f x } ∷ t) (mail-to f e m l k))
-
-mail-senders : (f : ℕ → List ℕ) (m : ℕ) (l : List ℕ) → sendersOf (mail f m l) ≡ l
-mail-senders f m [] = refl
-mail-senders f m (x ∷ l) = ap (λ (t : List ℕ). x ∷ t) (mail-senders f m l)
-
-mail-contents : (f : ℕ → List ℕ) (m : ℕ) (l : List ℕ) → contents (mail f m l) ≡ joined f l
-mail-contents f m [] = refl
-mail-contents f m (x ∷ l) = ap (λ (t : List ℕ). f x ++ t) (mail-contents f m l)
-
-concat-append : (xs ls : List (List ℕ)) → concat (xs ++ ls) ≡ concat xs ++ concat ls
-concat-append [] ls = refl
-concat-append (x ∷ xs) ls = ap (λ (t : List ℕ). x ++ t) (concat-append xs ls) ∙ sym (append-assoc x (concat xs) (concat ls))
+mail-all : (f e : ℕ → List ℕ) (m : ℕ) (l : List ℕ) → All (λ j. f j ≡ e j) l → mail f m l ≡ mail e m l
+mail-all f e m [] h = refl
+mail-all f e m (x ∷ l) h =
+    ap₂ {C = List Packet} (λ (b : List ℕ) (t : List Packet). record { sender = x; receiver = m; bytes = b } ∷ t) (h .0) (mail-all f e m l (h .1))
 
 -- ---- a move
 
@@ -112,29 +101,32 @@ module _ (s : Record) (area : List ℕ) (board new : ℕ) (helpers partners : Li
   of-partners : All (λ j. (j < s .sizes .n) × (j ≢ board)) partners
   of-partners = all-right _ helpers partners (named-other s area board new helpers partners f byte)
 
-  sent-is : joined sent helpers ≡ joined (λ j. helperPacket (s .sizes) zs S j board (afresh s area board new j)) helpers
-  sent-is =
-      joined-all _ _ helpers (all-imp (λ j. (j < s .sizes .n) × (j ≢ board)) _
-      (λ j p. ap (helperPacket (s .sizes) zs S j board) (other-held s area board new helpers partners f byte j (p .0) (p .1))) helpers of-helpers)
+  -- what they hold afresh is what they worked out
+  abbrev sends : ℕ → List ℕ
+  sends j = helperPacket (s .sizes) zs S j board (afresh s area board new j)
 
-  stood-is : joined stood partners ≡ joined (λ j. standInPacket (s .sizes) zs S j board (afresh s area board new j)) partners
-  stood-is =
-      joined-all _ _ partners (all-imp (λ j. (j < s .sizes .n) × (j ≢ board)) _
-      (λ j p. ap (standInPacket (s .sizes) zs S j board) (other-held s area board new helpers partners f byte j (p .0) (p .1))) partners of-partners)
+  abbrev stands : ℕ → List ℕ
+  stands j = standInPacket (s .sizes) zs S j board (afresh s area board new j)
 
-  senders-are : sendersOf (movePackets s area board new helpers partners) ≡ helpers ++ partners
-  senders-are =
-      ap sendersOf packets-plain ∙ map-append (λ p. p .sender) (mail sent board helpers) (mail stood board partners)
-      ∙ ap₂ {C = List ℕ} (λ a b. a ++ b) (mail-senders sent board helpers) (mail-senders stood board partners)
+  each-sent : All (λ j. sent j ≡ sends j) helpers
+  each-sent =
+      all-imp (λ j. (j < s .sizes .n) × (j ≢ board)) (λ j. sent j ≡ sends j)
+      (λ j p. ap (helperPacket (s .sizes) zs S j board) (other-held s area board new helpers partners f byte j (p .0) (p .1))) helpers of-helpers
 
-  contents-are : contents (movePackets s area board new helpers partners)
-      ≡ joined (λ j. helperPacket (s .sizes) zs S j board (afresh s area board new j)) helpers
-      ++ joined (λ j. standInPacket (s .sizes) zs S j board (afresh s area board new j)) partners
-  contents-are =
-      ap contents packets-plain
-      ∙ ap concat (map-append (λ p. p .bytes) (mail sent board helpers) (mail stood board partners))
-      ∙ concat-append (map (λ p. p .bytes) (mail sent board helpers)) (map (λ p. p .bytes) (mail stood board partners))
-      ∙ ap₂ {C = List ℕ} (λ a b. a ++ b) (mail-contents sent board helpers ∙ sent-is) (mail-contents stood board partners ∙ stood-is)
+  each-stood : All (λ j. stood j ≡ stands j) partners
+  each-stood =
+      all-imp (λ j. (j < s .sizes .n) × (j ≢ board)) (λ j. stood j ≡ stands j)
+      (λ j p. ap (standInPacket (s .sizes) zs S j board) (other-held s area board new helpers partners f byte j (p .0) (p .1))) partners of-partners
+
+  sent-is : joined sent helpers ≡ joined sends helpers
+  sent-is = joined-all sent sends helpers each-sent
+
+  stood-is : joined stood partners ≡ joined stands partners
+  stood-is = joined-all stood stands partners each-stood
+
+  packets-are : movePackets s area board new helpers partners ≡ mail sends board helpers ++ mail stands board partners
+  packets-are =
+      packets-plain ∙ ap₂ {C = List Packet} (λ a b. a ++ b) (mail-all sent sends board helpers each-sent) (mail-all stood stands board partners each-stood)
 
   abbrev out : Record
   out = lost s area board new helpers partners f byte
@@ -247,14 +239,30 @@ module _ (s : Record) (area : List ℕ) (board new : ℕ) (helpers partners : Li
         ∙ other-byte p out;
   }
 
-  other-afresh : (i : ℕ) → i < s .sizes .n → i ≢ board
-      → held s (result s area board new helpers partners f byte) i ≡ shareAfresh (s .sizes) (s .points) zs S i (held s area i)
-  unfolding afresh
-  other-afresh i h e = other-has s area board new helpers partners f byte i h e
+-- ---- a write
+
+-- a file that fits is written over whatever area, and each board then holds its share
+module _ (t : Record) (any file : List ℕ) (ok : sound t ≡ true) (long : length any ≡ areaLen t) (fits : length file ≤ t .capacity * B (t .sizes)) where
+  write-pass : first storeOrder (writeLines t (length any) file) ≡ Pass
+  unfolding writeLines
+  write-pass = off-pass (writeLines t (length any) file) storeOrder (ap not ok also ap not (eq-eqb _ _ long) also le-ltb _ _ fits also tt)
+
+  write-is : writeCall t any file ≡ writeDone t any file
+  unfolding writeCall
+  write-is = settle-pass _ _ _ write-pass
+
+  write-has : (i : ℕ) → i < t .sizes .n → held (writtenRecord t (length file)) (writeCall t any file .area) i ≡ share (t .sizes) (t .points) file i
+  write-has i h =
+      let w = writtenRecord t (length file) in
+      let legal = sound-facts t ok .is-legal in
+      ap (λ (o : StoreOutcome). held w (o .area) i) write-is
+      ∙ shares-same w (share (t .sizes) (t .points) file) (usedLen w) (code-lengths (t .points) (t .sizes) legal .share-length file)
+      (used-least (t .sizes) (length file) (t .capacity) legal fits)
+      (tabulate (t .sizes .n) (λ i. i)) any long (first-below (t .sizes .n) (t .sizes .n) (omega arith)) i (among-first (t .sizes .n) i ∙ lt-ltb i (t .sizes .n) h)
 
 -- ---- an accepted move
 
-module _ (s : Record) (area : List ℕ) (board new : ℕ) (helpers partners : List ℕ) (byte : new < 256) (ok : moveCall s area board new helpers partners .answer .refusal ≡ 0) where
+module _ (s : Record) (area : List ℕ) (board new : ℕ) (helpers partners : List ℕ) (ok : moveCall s area board new helpers partners .answer .refusal ≡ 0) where
   pass : first storeOrder (moveLines s (length area) board new helpers partners) ≡ Pass
   unfolding moveCall
   pass = passes (first storeOrder (moveLines s (length area) board new helpers partners)) s area [] (moveDone s area board new helpers partners) ok
@@ -266,58 +274,69 @@ module _ (s : Record) (area : List ℕ) (board new : ℕ) (helpers partners : Li
   unfolding moveCall
   is-done = settle-pass _ _ _ pass
 
-  after : (P : List ℕ → Type 0) → P (result s area board new helpers partners facts byte) → P (moveCall s area board new helpers partners .area)
-  after P p = subst P (sym (ap (λ (o : StoreOutcome). o .area) is-done)) p
+module _ (s : Record) (area : List ℕ) (board new : ℕ) (helpers partners : List ℕ) (byte : new < 256) (ok : moveCall s area board new helpers partners .answer .refusal ≡ 0) where
+  known : Moves s (length area) board new helpers partners
+  known = facts s area board new helpers partners ok
 
-  at : (i : ℕ) → held s (moveCall s area board new helpers partners .area) i ≡ held s (result s area board new helpers partners facts byte) i
-  at i = ap (λ (o : StoreOutcome). held s (o .area) i) is-done
+  done : moveCall s area board new helpers partners ≡ moveDone s area board new helpers partners
+  done = is-done s area board new helpers partners ok
+
+  after : (P : List ℕ → Type 0) → P (result s area board new helpers partners known byte) → P (moveCall s area board new helpers partners .area)
+  after P p = subst P (sym (ap (λ (o : StoreOutcome). o .area) done)) p
+
+  at : (i : ℕ) → held s (moveCall s area board new helpers partners .area) i ≡ held s (result s area board new helpers partners known byte) i
+  at i = ap (λ (o : StoreOutcome). held s (o .area) i) done
+
+  afresh-is : (i : ℕ) → afresh s area board new i ≡ shareAfresh (s .sizes) (s .points) (set (s .points) board new) (stripeCount s) i (held s area i)
+  unfolding afresh
+  afresh-is i = refl
 
   moved : Moved s area board new helpers partners (set (s .points) board new)
   moved = record {
     points-are = refl;
-    record-is = ap (λ (o : StoreOutcome). o .handed) is-done;
-    moved = ap (λ (o : StoreOutcome). o .answer) is-done;
-    moved-is = total-is s area board new helpers partners facts byte;
-    all-sent = ap (sentTo board) (packets-plain s area board new helpers partners facts byte)
-        ∙ mail-to _ _ board helpers partners ∙ sym (packets-plain s area board new helpers partners facts byte);
-    senders-are = senders-are s area board new helpers partners facts byte;
-    contents-are = contents-are s area board new helpers partners facts byte;
-    has = at board ∙ has s area board new helpers partners facts byte;
-    others-have = λ i h e. at i ∙ other-afresh s area board new helpers partners facts byte i h e;
-    packets-at = packets-at s area board new helpers partners facts byte;
-    stays = after (λ a. Stays s (allBoards s) area a) (stays s area board new helpers partners facts byte);
+    record-is = ap (λ (o : StoreOutcome). o .handed) done;
+    moved = ap (λ (o : StoreOutcome). o .answer) done;
+    moved-is = total-is s area board new helpers partners known byte;
+    packets-are = packets-are s area board new helpers partners known byte;
+    has = at board ∙ has s area board new helpers partners known byte;
+    afresh-is = afresh-is;
+    others-have = λ i h e. at i ∙ other-has s area board new helpers partners known byte i h e;
+    packets-at = packets-at s area board new helpers partners known byte;
+    stays = after (λ a. Stays s (allBoards s) area a) (stays s area board new helpers partners known byte);
   }
 
   module _ (file : List ℕ) (l : length file ≡ s .length) (bf : Bytes file) (truth : (i : ℕ) → i < s .sizes .n → held s area i ≡ share (s .sizes) (s .points) file i) where
     moved-true : (i : ℕ) → i < s .sizes .n → held s (moveCall s area board new helpers partners .area) i ≡ share (s .sizes) (set (s .points) board new) file i
     moved-true i h =
         after (λ a. held s a i ≡ share (s .sizes) (set (s .points) board new) file i)
-        (move-true s area board new helpers partners facts byte file (sym l) bf truth i h)
+        (move-true s area board new helpers partners known byte file (sym l) bf truth i h)
 
-    -- a fresh write of the file
-    module _ (any : List ℕ) (w : writeCall (movedRecord s board new) any file .answer .refusal ≡ 0) where
-      write-pass : first storeOrder (writeLines (movedRecord s board new) (length any) file) ≡ Pass
-      unfolding writeCall
-      write-pass = passes (first storeOrder (writeLines (movedRecord s board new) (length any) file)) (movedRecord s board new) any [] (writeDone (movedRecord s board new) any file) w
+    -- the record that is handed on
+    moved-sound : sound (movedRecord s board new) ≡ true
+    moved-sound =
+        let g = sound-facts s (known .is-sound) in
+        facts-sound (movedRecord s board new) (record {
+          is-legal = g .is-legal;
+          is-pointed = new-pointed s area board new helpers partners known byte;
+          cap-low = g .cap-low;
+          cap-high = g .cap-high;
+          fits = g .fits;
+          beyond = g .beyond;
+          blank = g .blank;
+        })
 
-      write-is : writeCall (movedRecord s board new) any file ≡ writeDone (movedRecord s board new) any file
-      unfolding writeCall
-      write-is = settle-pass _ _ _ write-pass
+    fits : length file ≤ s .capacity * B (s .sizes)
+    fits = omega (arith, l, sound-facts s (known .is-sound) .fits)
 
-      as-written : (i : ℕ) → i < s .sizes .n
-          → held s (moveCall s area board new helpers partners .area) i
-          ≡ held (writtenRecord (movedRecord s board new) (length file)) (writeCall (movedRecord s board new) any file .area) i
-      as-written i h =
-          let new-record = writtenRecord (movedRecord s board new) (length file) in
-          let k = write-facts (movedRecord s board new) (length any) file write-pass in
-          let sd = sound-facts (movedRecord s board new) (k .is-sound) in
-          moved-true i h
-          ∙ sym (ap (λ (o : StoreOutcome). held new-record (o .area) i) write-is
-          ∙ shares-same new-record (share (s .sizes) (set (s .points) board new) file) (usedLen new-record)
-          (code-lengths (set (s .points) board new) (s .sizes) (sd .is-legal) .share-length file)
-          (used-least (s .sizes) (length file) (s .capacity) (sd .is-legal) (k .file-fits))
-          (tabulate (s .sizes .n) (λ i. i)) any (k .area-is) (first-below (s .sizes .n) (s .sizes .n) (omega arith)) i
-          (among-first (s .sizes .n) i ∙ lt-ltb i (s .sizes .n) h))
+    as-written : (any : List ℕ) → length any ≡ areaLen s
+        → (writeCall (movedRecord s board new) any file .answer .refusal ≡ 0)
+        × ((i : ℕ) → i < s .sizes .n
+        → held s (moveCall s area board new helpers partners .area) i
+        ≡ held (writtenRecord (movedRecord s board new) (length file)) (writeCall (movedRecord s board new) any file .area) i)
+    as-written any long = (
+      ap (λ (o : StoreOutcome). o .answer .refusal) (write-is (movedRecord s board new) any file moved-sound long fits),
+      λ i h. moved-true i h ∙ sym (write-has (movedRecord s board new) any file moved-sound long fits i h),
+    )
 
 -- ---- the turn
 
@@ -392,6 +411,43 @@ module _ (s : Record) (area : List ℕ) (i : ℕ) (helpers partners : List ℕ) 
     ap (λ (o : StoreOutcome). o .answer .refusal) turn-done,
     ap (λ (o : StoreOutcome). o .handed .points) turn-done ∙ ap (λ (xs : List ℕ). set xs i i) pts ∙ turn-laws .turn-step (s .sizes) i is-legal is-board,
   )
+
+-- ---- the last move of the turn
+
+module _ (s : Record) (area : List ℕ) (i : ℕ) (helpers partners : List ℕ) (pts : s .points ≡ turned (s .sizes) i) (last : suc i ≡ s .sizes .n)
+    (ok : moveCall s area i i helpers partners .answer .refusal ≡ 0) where
+  sure : Sound s
+  sure = sound-facts s (facts s area i i helpers partners ok .is-sound)
+
+  low-byte : i < 256
+  low-byte = omega (arith, last, legal-facts (s .sizes) (sure .is-legal) .few)
+
+  -- the points after it
+  at-last : set (s .points) i i ≡ standard (s .sizes)
+  at-last =
+      ap (λ (xs : List ℕ). set xs i i) pts ∙ turn-laws .turn-step (s .sizes) i (sure .is-legal) (omega (arith, last))
+      ∙ ap (turned (s .sizes)) last ∙ turn-laws .turn-last (s .sizes)
+
+  abbrev fresh : Record
+  fresh = newRecord (s .sizes) (standard (s .sizes)) (s .capacity)
+
+  fresh-sound : sound fresh ≡ true
+  fresh-sound =
+      new-sound (s .sizes) (standard (s .sizes)) (s .capacity) (sure .is-legal) (point-laws .standard-pointed (s .sizes) (sure .is-legal)) (sure .cap-low) (sure .cap-high)
+
+  turn-written : (file any : List ℕ) → length file ≡ s .length → Bytes file
+      → ((j : ℕ) → j < s .sizes .n → held s area j ≡ share (s .sizes) (s .points) file j)
+      → length any ≡ areaLen s
+      → (writeCall fresh any file .answer .refusal ≡ 0)
+      × ((j : ℕ) → j < s .sizes .n
+      → held s (moveCall s area i i helpers partners .area) j ≡ held (writtenRecord fresh (length file)) (writeCall fresh any file .area) j)
+  turn-written file any l bf truth long =
+      let fits : length file ≤ s .capacity * B (s .sizes) = omega (arith, l, sure .fits) in (
+        ap (λ (o : StoreOutcome). o .answer .refusal) (write-is fresh any file fresh-sound long fits),
+        λ j h. moved-true s area i i helpers partners low-byte ok file l bf truth j h
+            ∙ ap (λ (xs : List ℕ). share (s .sizes) xs file j) at-last
+            ∙ sym (write-has fresh any file fresh-sound long fits j h),
+      )
 
 -- ---- beside the record of a repair
 
@@ -518,9 +574,10 @@ move-laws = record {
   );
   moved = λ s area board point helpers partners byte ok. moved s area board point helpers partners byte ok;
   move-true = λ s area board point helpers partners file byte ok l bf truth. moved-true s area board point helpers partners byte ok file l bf truth;
-  as-written = λ s area board point helpers partners file any byte ok l bf truth w. as-written s area board point helpers partners byte ok file l bf truth any w;
+  as-written = λ s area board point helpers partners file any byte ok l bf truth long. as-written s area board point helpers partners byte ok file l bf truth any long;
   turn-taken = λ s area i helpers partners ok pts area-is w ch cp low once up. turn-taken s area i helpers partners ok pts area-is w ch cp low once up;
   turn-ends = turn-laws .turn-last;
+  turn-written = λ s area i helpers partners file any pts last ok l bf truth long. turn-written s area i helpers partners pts last ok file any l bf truth long;
   points-are = points-are;
   turn = turn;
 }

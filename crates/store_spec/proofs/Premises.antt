@@ -18,7 +18,7 @@ use Rattle.sizes.specs.Sizing.{α, stripes}
 use Rattle.store_spec.specs.Record.{Record, part, partLen, stripeCount}
 use Rattle.store_spec.specs.Running.{Running, packetsLen}
 use Rattle.store_spec.specs.Lying.{placeOf}
-use Rattle.store_spec.specs.Ledger.{Call, write, lose, repair, read, edit, start, step, careful, Event, call, powerFails, Book, Repairing, during, bookLength, bookRecord}
+use Rattle.store_spec.specs.Ledger.{Call, write, lose, repair, read, edit, start, step, careful, move, Event, call, powerFails, Book, Repairing, during, bookLength, bookRecord}
 use Rattle.store_spec.specs.Ledger.{carriedBy, State, Step, Altered, Unaltered, Fair, FairEvent, Allowed, lent, next, bookNext, openBook}
 use Rattle.store_spec.specs.Demand3.{begun, events}
 use Rattle.store_spec.specs.Stepped.{IsCall}
@@ -107,6 +107,7 @@ again-bare w b (call (edit offset bytes boards)) = refl
 again-bare w b (call (start fresh helpers standIns)) = refl
 again-bare w b (call (step allowance packets)) = refl
 again-bare w b (call (careful boards output)) = refl
+again-bare w b (call (move board point helpers partners)) = refl
 again-bare w b (powerFails p) = refl
 
 same-events : (w : State) (b : Book) (es : List Event) → map bare (events (unaltered w b es)) ≡ map bare es
@@ -164,6 +165,7 @@ fair-is w b area (call (edit offset bytes boards)) a = a .edits-bytes offset byt
 fair-is w b area (call (start fresh helpers standIns)) a = tt
 fair-is w b area (call (step allowance packets)) a = a .packets-lent allowance packets refl
 fair-is w b area (call (careful boards output)) a = tt
+fair-is w b area (call (move board point helpers partners)) a = a .moves-byte board point helpers partners refl
 fair-is w b area (powerFails p) a = a .idle-given p refl
 
 pub asked-is : (w : State) (b : Book) (t : Step) → Altered b (w .kept) (w .area) (t .area) → FairEvent b (w .packets) (t .event) → Asked w b t
@@ -172,6 +174,7 @@ asked-is w b t a f = record {
   agrees = altered-is b (w .kept) (w .area) (t .area) .0 a .1;
   writes-bytes = λ file e. subst (FairEvent b (w .packets)) e f;
   edits-bytes = λ offset bytes boards e. subst (FairEvent b (w .packets)) e f;
+  moves-byte = λ board point helpers partners e. subst (FairEvent b (w .packets)) e f;
   packets-lent = λ allowance packets e. subst (FairEvent b (w .packets)) e f;
   idle-given = λ given e. subst (FairEvent b (w .packets)) e f;
 }
@@ -210,16 +213,17 @@ unaltered-is b r old new e l m = (
     same r′ e′ = Option·some-injective r r′ (sym e ∙ e′)
 
 files-other : (e : Event) (es : List Event) → ((file : List ℕ) → e ≢ call (write file)) → ((offset : ℕ) (bytes boards : List ℕ) → e ≢ call (edit offset bytes boards))
-    → files (e ∷ es) ≡ files es
-files-other (call (write file)) es a b = absurd (a file refl)
-files-other (call (lose board)) es a b = refl
-files-other (call (repair fresh helpers standIns)) es a b = refl
-files-other (call (read boards output)) es a b = refl
-files-other (call (edit offset bytes boards)) es a b = absurd (b offset bytes boards refl)
-files-other (call (start fresh helpers standIns)) es a b = refl
-files-other (call (step allowance packets)) es a b = refl
-files-other (call (careful boards output)) es a b = refl
-files-other (powerFails p) es a b = refl
+    → ((board point : ℕ) (helpers partners : List ℕ) → e ≢ call (move board point helpers partners)) → files (e ∷ es) ≡ files es
+files-other (call (write file)) es a b c = absurd (a file refl)
+files-other (call (lose board)) es a b c = refl
+files-other (call (repair fresh helpers standIns)) es a b c = refl
+files-other (call (read boards output)) es a b c = refl
+files-other (call (edit offset bytes boards)) es a b c = absurd (b offset bytes boards refl)
+files-other (call (start fresh helpers standIns)) es a b c = refl
+files-other (call (step allowance packets)) es a b c = refl
+files-other (call (careful boards output)) es a b c = refl
+files-other (call (move board point helpers partners)) es a b c = absurd (c board point helpers partners refl)
+files-other (powerFails p) es a b c = refl
 
 idle-there : (e : Event) (es : List Event) → IdleGiven (e ∷ es) → ((p : Running) → e ≡ powerFails p → p .running ≡ false) × IdleGiven es
 idle-there (call c) es h = ((λ p q. absurd (subst IsCall q tt)), h)
@@ -242,6 +246,7 @@ again-other w b (call (edit offset bytes boards)) h = refl
 again-other w b (call (start fresh helpers standIns)) h = refl
 again-other w b (call (step allowance packets)) h = absurd (h allowance packets refl)
 again-other w b (call (careful boards output)) h = refl
+again-other w b (call (move board point helpers partners)) h = refl
 again-other w b (powerFails p) h = refl
 
 pub premises : Premises
@@ -256,6 +261,7 @@ premises = record {
   files-none = refl;
   files-write = λ file es. refl;
   files-edit = λ offset bytes boards es. refl;
+  files-move = λ board point helpers partners es. refl;
   files-other = files-other;
   idle-none = tt;
   idle-more = λ e es. (idle-there e es, (λ h. idle-back e es (h .0) (h .1)));

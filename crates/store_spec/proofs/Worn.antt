@@ -27,10 +27,10 @@ use Rattle.store_spec.specs.Calls.{accepted}
 use Rattle.store_spec.specs.Careful.{odd, oddReport, carefulFile, carefulLines}
 use Rattle.store_spec.specs.Running.{Running, packetsLen}
 use Rattle.store_spec.specs.Lying.{placeOf}
-use Rattle.store_spec.specs.Both.{Outcome, beside, writeLinesBoth, repairLinesBoth, stepLines, stepLast, stepOn, leftOf, carefulLinesBoth, carefulBoth}
+use Rattle.store_spec.specs.Both.{Outcome, beside, writeLinesBoth, repairLinesBoth, stepLines, stepLast, stepOn, leftOf, carefulLinesBoth, carefulBoth, moveLinesBoth}
 use Rattle.store_spec.specs.BothCalls.{storeLines, storeDone}
 use Rattle.store_spec.specs.Demand3.{begun, events}
-use Rattle.store_spec.specs.Ledger.{Call, write, lose, repair, read, edit, start, step, careful, Event, call, powerFails, Book, Repairing, during, State, Step, Tells, Fair, Unaltered}
+use Rattle.store_spec.specs.Ledger.{Call, write, lose, repair, read, edit, start, step, careful, move, Event, call, powerFails, Book, Repairing, during, State, Step, Tells, Fair, Unaltered}
 use Rattle.store_spec.specs.Ledger.{act, lent, next, bookNext, enter, outputOf, packetsOfCall, openBook, bookLength, bookRecord, carriedBy, final, bookFinal}
 use Rattle.store_spec.specs.Premises.{filesOf}
 use Rattle.store_spec.specs.CarefulLaws.{OddTold, OfBytes, AnyBytes, AskedWorn, WornPremises, Worn, WornClaim}
@@ -308,6 +308,7 @@ of-bytes m area (call (edit offset bytes boards)) a = (a .edits-bytes offset byt
 of-bytes m area (call (start fresh helpers standIns)) a = tt
 of-bytes m area (call (step allowance packets)) a = tt
 of-bytes m area (call (careful boards output)) a = tt
+of-bytes m area (call (move board point helpers partners)) a = ((a .moves-byte board point helpers partners refl, tt), tt)
 of-bytes m area (powerFails p) a = a .idle-given p refl
 
 asked : (m : ℕ) (t : Step) → length (t .area) ≡ m → OfBytes (t .event) → AskedWorn m t
@@ -315,6 +316,7 @@ asked m t l h = record {
   as-long = l;
   writes-bytes = λ file e. subst OfBytes e h .0;
   edits-bytes = λ offset bytes boards e. subst OfBytes e h .0;
+  moves-byte = λ board point helpers partners e. subst OfBytes e h .0 .0;
   idle-given = λ given e. subst OfBytes e h;
 }
 

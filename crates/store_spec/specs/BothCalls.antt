@@ -24,7 +24,8 @@ use Rattle.store_spec.specs.Calls.{accepted, recordLine, listLines, writ
 use Rattle.store_spec.specs.Edit.{editDone}
 use Rattle.store_spec.specs.Careful.{carefulDone}
 use Rattle.store_spec.specs.Move.{moveDone}
-use Rattle.store_spec.specs.Both.{Outcome, beside, lostBeside, writeLinesBoth, loseLinesBoth, repairLinesBoth, readLinesBoth, editLinesBoth, carefulLinesBoth, moveLinesBoth, stepLines, stepDone, setUpBoth}
+use Rattle.store_spec.specs.Both.{Outcome, beside, lostBeside, writeLinesBoth, loseLinesBoth, repairLinesBoth, readLinesBoth, editLinesBoth, carefulLinesBoth, moveLinesBoth, stepLines}
+use Rattle.store_spec.specs.Both.{stepDone, setUpBoth}
 use Rattle.store_spec.specs.Demand1.{writeClaims, loseClaims, repairClaims, readClaims, editClaims, carefulClaims, moveClaims}
 use Rattle.store_spec.specs.Ledger.{Call, write, lose, repair, read, edit, start, step, careful, move, Book, Repairing, bookRecord, bookRunning, bookLines, State, act, outputOf, packetsOfCall}
 

@@ -7,7 +7,7 @@ use mathlib.Core.Path.{_≡_}
 use mathlib.Core.Bool.{true, false}
 use mathlib.Core.Logic.{_≢_, _↔_, _⊎_}
 use mathlib.Core.List.{List, [], _∷_}
-use Prim.Native.Nat.{ℕ, suc, _+_, _≤_}
+use Prim.Native.Nat.{ℕ, suc, _+_, _≤_, _<_}
 use lib.ListN.{length}
 use Rattle.lists.specs.Tests.{among, different, every}
 use Rattle.lists.specs.Lists.{All, Bytes, over}
@@ -22,7 +22,7 @@ use Rattle.store_spec.specs.Calls.{accepted, refused}
 use Rattle.store_spec.specs.Running.{Running, soundBeside}
 use Rattle.store_spec.specs.Both.{beside, setUpBoth, carefulBoth}
 use Rattle.store_spec.specs.Careful.{agreeing, carefulLines, carefulCall}
-use Rattle.store_spec.specs.Ledger.{write, edit, Book, State, Step, Event, call, powerFails, Tells, openBook, bookLength, bookRecord, final, bookFinal}
+use Rattle.store_spec.specs.Ledger.{write, edit, move, Book, State, Step, Event, call, powerFails, Tells, openBook, bookLength, bookRecord, final, bookFinal}
 use Rattle.store_spec.specs.Demand3.{begun, events}
 use Rattle.store_spec.specs.Premises.{filesOf}
 
@@ -83,6 +83,7 @@ pub record AskedWorn (m : ℕ) (t : Step) : Type 0 where
   pub as-long : length (t .area) ≡ m
   pub writes-bytes : (file : List ℕ) → t .event ≡ call (write file) → Bytes file
   pub edits-bytes : (offset : ℕ) (bytes boards : List ℕ) → t .event ≡ call (edit offset bytes boards) → Bytes bytes
+  pub moves-byte : (board point : ℕ) (helpers partners : List ℕ) → t .event ≡ call (move board point helpers partners) → point < 256
   pub idle-given : (given : Running) → t .event ≡ powerFails given → given .running ≡ false
 
 pub record WornPremises : Type 0 where

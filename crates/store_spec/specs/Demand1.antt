@@ -159,7 +159,7 @@ pub record StoreCalls : Type 0 where
       → accepted v s area output ≡ record { answer = record { refusal = 0; reported = v }; handed = s; area = area; output = output }
   pub refused-is : (s : Record) (area output : List ℕ) (x : Refusal)
       → refused s area output x ≡ record { answer = record { refusal = number x; reported = 0 }; handed = s; area = area; output = output }
-  -- all but a repair and a careful read report 0; losing and reading leave the area, whatever they answer
+  -- all but a repair, a careful read and a move report 0; losing and reading leave the area, whatever they answer
   pub set-up-reports : (old : Record) (z : Sizes) (xs : List ℕ) (c : ℕ) → setUpCall old z xs c .answer .reported ≡ 0
   pub write-reports : (s : Record) (area file : List ℕ) → writeCall s area file .answer .reported ≡ 0
   pub lose-reports : (s : Record) (area : List ℕ) (board : ℕ) → (loseCall s area board .answer .reported ≡ 0) × (loseCall s area board .area ≡ area)
@@ -171,6 +171,8 @@ pub record StoreCalls : Type 0 where
       → ((carefulCall s area boards output .answer .reported ≡ 0)
       ⊎ ((i : ℕ) × (carefulCall s area boards output .answer .reported ≡ suc i) × (among boards i ≡ true)))
       × (carefulCall s area boards output .area ≡ area)
+  -- a move reports what MoveLaws says where it is accepted, and has no output
+  pub move-output : (s : Record) (area : List ℕ) (board point : ℕ) (helpers partners : List ℕ) → moveCall s area board point helpers partners .output ≡ []
   -- when a set-up is accepted
   pub set-up-accepted : (old : Record) (z : Sizes) (xs : List ℕ) (c : ℕ)
       → (setUpCall old z xs c .answer .refusal ≡ 0) ↔ ((legal z ≡ true) × (pointed z xs ≡ true) × (1 ≤ c) × (c ≤ maxStripes))

@@ -13,10 +13,11 @@ use Rattle.lists.specs.Tests.{pick, among, given}
 use Rattle.lists.specs.Lists.{tabulate, put, fit}
 use Rattle.sizes.specs.declared.Sizes.{Sizes}
 use Rattle.sizes.specs.Refusals.{Said}
+use Rattle.sizes.specs.Sizing.{stripes}
 use Rattle.board_spec.specs.Calls.{fileOf}
 use Rattle.store_spec.specs.Running.{Running}
 use Rattle.store_spec.specs.Ledger.{Call, write, lose, repair, read, edit, start, step, careful, move}
-use Rattle.store_spec.specs.Ledger.{Book, Repairing, during, keptOn, outputOf, pointedBook, enter, bookRecord, Tells}
+use Rattle.store_spec.specs.Ledger.{Book, Repairing, during, keptOn, outputOf, bookLength, enter, bookRecord, Tells}
 
 abbrev pub Accepted : Book → Call → Type 0
 Accepted b call = enter b call .reply .answer .refusal ≡ 0
@@ -45,9 +46,20 @@ pub record LedgerLaws : Type 0 where
   pub stay : (b : Book) (call : Call)
       → (enter b call .book .sizes ≡ b .sizes) × (enter b call .book .capacity ≡ b .capacity) × (enter b call .book .areaLength ≡ b .areaLength)
   pub points-are : (b : Book) (call : Call) → enter b call .book .points ≡ setPoints (b .points) (newPoint call (enter b call .reply .answer))
-  -- "moves one board to a new byte", where no repair runs: its point and nothing else
+  -- "moves one board to a new byte", where no repair runs: its point and nothing else; "the bytes reported are those of a repair of one board"
   pub moves : (b : Book) (board point : ℕ) (helpers partners : List ℕ) → Accepted b (move board point helpers partners)
-      → (b .repairing ≡ none) × (enter b (move board point helpers partners) .book ≡ pointedBook b (set (b .points) board point))
+      → (b .repairing ≡ none)
+      × (enter b (move board point helpers partners) .reply .answer .reported ≡ stripes (b .sizes) (bookLength b) * (2 * b .sizes .d + b .sizes .r - 1))
+      × (enter b (move board point helpers partners) .book
+      ≡ record {
+        sizes = b .sizes;
+        points = set (b .points) board point;
+        capacity = b .capacity;
+        areaLength = b .areaLength;
+        file = b .file;
+        service = b .service;
+        repairing = b .repairing;
+      })
   -- "all n come into service"
   pub writes : (b : Book) (file : List ℕ) → Accepted b (write file)
       → (enter b (write file) .book .file ≡ some file) × ((i : ℕ) → among (enter b (write file) .book .service) i ≡ ltb i (b .sizes .n))

@@ -20,6 +20,7 @@ pub mod LedgerLaws
 pub mod EditLaws
 pub mod ListLaws
 pub mod CarefulLaws
+pub mod MoveLaws
 pub mod MarkLaws
 pub mod FurtherFigures
 pub mod LaterFigures

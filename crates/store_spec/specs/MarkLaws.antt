@@ -6,7 +6,7 @@ use mathlib.Core.Bool.{true, false}
 use mathlib.Core.List.{List}
 use Prim.Native.Nat.{ℕ, _<_}
 use lib.Dec.{ltb, eqb}
-use lib.ListN.{length}
+use lib.ListN.{length, set}
 use Rattle.lists.specs.Tests.{pick, among}
 use Rattle.lists.specs.Lists.{All, Bytes}
 use Rattle.sizes.specs.Sizing.{maxBoards}
@@ -14,7 +14,7 @@ use Rattle.store_spec.specs.Record.{Record, inService}
 use Rattle.store_spec.specs.Calls.{writeCall, loseCall, repairCall, readCall}
 use Rattle.store_spec.specs.Edit.{editCall}
 use Rattle.store_spec.specs.Careful.{carefulCall}
-use Rattle.store_spec.specs.Move.{movedRecord, moveCall}
+use Rattle.store_spec.specs.Move.{moveCall}
 use Rattle.store_spec.specs.Running.{Running, idle}
 use Rattle.store_spec.specs.Ledger.{Call, State, act, outputOf, packetsOfCall}
 use Rattle.store_spec.specs.LedgerLaws.{newPoint, setPoints}
@@ -66,7 +66,8 @@ pub record MarkLaws : Type 0 where
   pub byte-points : (w : State) (call : Call) → All Bytes (filesOf call) → Bytes (w .kept .points) → Bytes (act w call .handed .points)
   -- an accepted move changes one point, and nothing else
   pub moves : (s : Record) (area : List ℕ) (board point : ℕ) (helpers partners : List ℕ) → moveCall s area board point helpers partners .answer .refusal ≡ 0
-      → moveCall s area board point helpers partners .handed ≡ movedRecord s board point
+      → moveCall s area board point helpers partners .handed
+      ≡ record { sizes = s .sizes; points = set (s .points) board point; capacity = s .capacity; written = s .written; length = s .length; marks = s .marks }
   -- a read hands on the record that it was given, a careful one too: the odd board stays in service
   pub reads : (s : Record) (area boards output : List ℕ) → readCall s area boards output .handed ≡ s
   pub careful-reads : (s : Record) (area boards output : List ℕ) → carefulCall s area boards output .handed ≡ s

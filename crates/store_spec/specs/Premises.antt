@@ -72,13 +72,14 @@ AgreeInService b s old new =
     → i * (s .capacity * α (s .sizes)) ≤ p → p < i * (s .capacity * α (s .sizes)) + s .capacity * α (s .sizes)
     → getD new p 0 ≡ getD old p 0
 
--- what is asked of one entry of a list: of the area, of a file to write and of an edit's bytes, of a step's packet area, of the record given after a power
--- failure
+-- what is asked of one entry of a list: of the area, of a file to write, of an edit's bytes and of a new point, of a step's packet area, of the record given
+-- after a power failure
 pub record Asked (w : State) (b : Book) (t : Step) : Type 0 where
   pub as-long : length (t .area) ≡ length (w .area)
   pub agrees : AgreeInService b (w .kept) (w .area) (t .area)
   pub writes-bytes : (file : List ℕ) → t .event ≡ call (write file) → Bytes file
   pub edits-bytes : (offset : ℕ) (bytes boards : List ℕ) → t .event ≡ call (edit offset bytes boards) → Bytes bytes
+  pub moves-byte : (board point : ℕ) (helpers partners : List ℕ) → t .event ≡ call (move board point helpers partners) → point < 256
   pub packets-lent : (allowance : ℕ) (packets : List ℕ) → t .event ≡ call (step allowance packets) → Unaltered b (w .packets) packets
   pub idle-given : (given : Running) → t .event ≡ powerFails given → given .running ≡ false
 
@@ -92,6 +93,7 @@ bare (call (edit offset bytes boards)) = call (edit offset bytes boards)
 bare (call (start fresh helpers standIns)) = call (start fresh helpers standIns)
 bare (call (step allowance packets)) = call (step allowance [])
 bare (call (careful boards output)) = call (careful boards output)
+bare (call (move board point helpers partners)) = call (move board point helpers partners)
 bare (powerFails p) = powerFails p
 
 pub record Premises : Type 0 where
@@ -116,8 +118,9 @@ pub record Premises : Type 0 where
   pub files-none : files [] ≡ []
   pub files-write : (file : List ℕ) (es : List Event) → files (call (write file) ∷ es) ≡ file ∷ files es
   pub files-edit : (offset : ℕ) (bytes boards : List ℕ) (es : List Event) → files (call (edit offset bytes boards) ∷ es) ≡ bytes ∷ files es
+  pub files-move : (board point : ℕ) (helpers partners : List ℕ) (es : List Event) → files (call (move board point helpers partners) ∷ es) ≡ (point ∷ []) ∷ files es
   pub files-other : (e : Event) (es : List Event) → ((file : List ℕ) → e ≢ call (write file)) → ((offset : ℕ) (bytes boards : List ℕ) → e ≢ call (edit offset bytes boards))
-      → files (e ∷ es) ≡ files es
+      → ((board point : ℕ) (helpers partners : List ℕ) → e ≢ call (move board point helpers partners)) → files (e ∷ es) ≡ files es
   pub idle-none : IdleGiven []
   pub idle-more : (e : Event) (es : List Event) → IdleGiven (e ∷ es) ↔ (((p : Running) → e ≡ powerFails p → p .running ≡ false) × IdleGiven es)
   pub again-free : (w : State) (b : Book) (allowance : ℕ) (packets : List ℕ) → noneCarried b ≡ true
