@@ -35,7 +35,6 @@ use Rattle.store_spec.specs.BothCalls.{storeLines, storeDone}
 use Rattle.store_spec.proofs.BothCalls.{by, act-is, done-accepted}
 use Rattle.store_spec.specs.Ledger.{Call, write, lose, repair, read, edit, start, step, careful, move, State, act, outputOf, packetsOfCall}
 use Rattle.store_spec.specs.LedgerLaws.{newPoint, setPoints}
-use Rattle.store_spec.specs.Premises.{filesOf}
 use Rattle.store_spec.proofs.LedgerLaws.{no-point}
 use Rattle.store_spec.proofs.Marks.{off}
 use Rattle.store_spec.specs.MarkLaws.{Arrays, MarkLaws}
@@ -197,7 +196,7 @@ points-bytes xs (p ∷ ps) b h = points-bytes (set xs (p .0) (p .1)) ps (set-byt
     set-bytes (y ∷ xs) zero x b h = (h, b .1)
     set-bytes (y ∷ xs) (suc i) x b h = (b .0, set-bytes xs i x (b .1) h)
 
-fair-point : (c : Call) (a : Said) → All Bytes (filesOf c) → All {A = ℕ × ℕ} (λ p. p .1 < 256) (newPoint c a)
+fair-point : (c : Call) (a : Said) → ((board point : ℕ) (helpers partners : List ℕ) → c ≡ move board point helpers partners → point < 256) → All {A = ℕ × ℕ} (λ p. p .1 < 256) (newPoint c a)
 fair-point (write file) a f = tt
 fair-point (lose board) a f = tt
 fair-point (repair fresh helpers standIns) a f = tt
@@ -209,7 +208,7 @@ fair-point (careful boards output) a f = tt
 fair-point (move board point helpers partners) a f = go (eqb (a .refusal) 0)
   where
     go : (t : Bool) → All {A = ℕ × ℕ} (λ p. p .1 < 256) (pick t ((board, point) ∷ []) [])
-    go true = (f .0 .0, tt)
+    go true = (f board point helpers partners refl, tt)
     go false = tt
 
 -- the arrays of the record beside

@@ -32,8 +32,18 @@ use Rattle.store_spec.proofs.Area.{length-shares, shares-same, shares-o
 use Rattle.store_spec.proofs.Marks.{off, off-from, on-below, among-first, first-below}
 use Rattle.store_spec.proofs.Real.{code-laws, code-lengths}
 use Rattle.store_spec.proofs.Records.{Moves, Repairs, Sound, sound-facts, facts-sound, sound-points, used-fits}
-use Rattle.store_spec.proofs.Repair.{fresh-length, moved-is, true-share}
+use Rattle.store_spec.proofs.Repair.{total-is as of-repair, fresh-length, true-share}
 use Rattle.store_spec.proofs.Seam.{Lengths}
+
+-- the bytes that are sent, whatever the new point is
+pub total-is : (s : Record) (area : List ℕ) (board new : ℕ) (helpers partners : List ℕ) → Moves s (length area) board new helpers partners
+    → total (movePackets s area board new helpers partners) ≡ stripeCount s * (2 * s .sizes .d + s .sizes .r - 1)
+unfolding movePackets
+total-is s area board new helpers partners f =
+    let legal = sound-facts s (f .is-sound) .is-legal in
+    of-repair (movedRecord s board new) (afreshArea s area board new) (board ∷ []) helpers partners (code-lengths (set (s .points) board new) (s .sizes) legal)
+    (omega arith) (legal-facts (s .sizes) legal .some-fresh) (omega (arith, f .helper-count)) (omega (arith, f .partner-count)) refl
+    ∙ ap (λ (m : ℕ). m * (2 * s .sizes .d + s .sizes .r - 1)) (mul-one (stripeCount s))
 
 module _ (s : Record) (area : List ℕ) (board new : ℕ) (helpers partners : List ℕ) (f : Moves s (length area) board new helpers partners) (byte : new < 256) where
   -- ---- points and boards
@@ -172,15 +182,6 @@ module _ (s : Record) (area : List ℕ) (board new : ℕ) (helpers partners : Li
   pub made-is : (i : ℕ) → movedShare s area board new helpers partners i ≡ freshShare lost (afreshArea s area board new) (board ∷ []) helpers partners i
   unfolding movedShare freshShare partnerPackets helperPackets standInPackets exchangePackets
   made-is i = refl
-
-  pub packets-are : movePackets s area board new helpers partners ≡ repairPackets lost (afreshArea s area board new) (board ∷ []) helpers partners
-  unfolding movePackets repairPackets partnerPackets helperPackets standInPackets exchangePackets
-  packets-are = refl
-
-  pub total-is : total (movePackets s area board new helpers partners) ≡ stripeCount s * (2 * s .sizes .d + s .sizes .r - 1)
-  total-is =
-      ap total packets-are ∙ moved-is lost (afreshArea s area board new) (board ∷ []) helpers partners (length (afreshArea s area board new)) lengths repairs
-      ∙ ap (λ (m : ℕ). m * (2 * s .sizes .d + s .sizes .r - 1)) (mul-one (stripeCount s))
 
   pub made-long : (i : ℕ) → length (movedShare s area board new helpers partners i) ≡ usedLen s
   made-long i = ap length (made-is i) ∙ fresh-length lost (afreshArea s area board new) (board ∷ []) helpers partners (length (afreshArea s area board new)) lengths repairs i

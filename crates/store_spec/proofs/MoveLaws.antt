@@ -296,7 +296,7 @@ module _ (s : Record) (area : List ℕ) (board new : ℕ) (helpers partners : Li
     points-are = refl;
     record-is = ap (λ (o : StoreOutcome). o .handed) done;
     moved = ap (λ (o : StoreOutcome). o .answer) done;
-    moved-is = total-is s area board new helpers partners known byte;
+    moved-is = total-is s area board new helpers partners known;
     packets-are = packets-are s area board new helpers partners known byte;
     has = at board ∙ has s area board new helpers partners known byte;
     afresh-is = afresh-is;

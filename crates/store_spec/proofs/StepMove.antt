@@ -71,7 +71,7 @@ module _ (laws : AllLaws) (b : Book) (area : List ℕ) (v : Inv b area) (packets
       (λ e. let a = move-alone e in
       let f = move-facts (bookRecord b) (length area) board point helpers partners (a .0) in
       record {
-        alike = ap (λ (m : ℕ). record { answer = said (Done m); output = [] }) (total-is (bookRecord b) area board point helpers partners f ok);
+        alike = ap (λ (m : ℕ). record { answer = said (Done m); output = [] }) (total-is (bookRecord b) area board point helpers partners f);
         same-record = refl;
         same-running = tells;
         inv = move-inv laws b area v board point helpers partners ok f;
