@@ -35,6 +35,7 @@ later-figures = record {
   move-any = refl;
   move-packets = refl;
   move-wide = refl;
+  wide-packets = refl;
   move-turn = refl;
   move-refusals = refl;
 }

@@ -95,6 +95,8 @@ pub record LaterFigures : Type 0 where
   pub move-wide : moveCall (at wide (firstSeries wide) 4 (replicate 4 true)) wide-any 1 0x80 (3 ∷ 0 ∷ []) []
       ≡ gives 0 4 (at wide (set (firstSeries wide) 1 0x80) 4 (replicate 4 true))
       (0x10 ∷ 0xE8 ∷ 0x30 ∷ 0x05 ∷ 0xA7 ∷ 0x3A ∷ 0x96 ∷ 0xEB ∷ 0x07 ∷ 0x80 ∷ 0x09 ∷ 0xF0 ∷ 0xA0 ∷ 0xB1 ∷ 0x61 ∷ 0xD3 ∷ []) []
+  -- board 0 kept values at the old point of board 1, and what it sends is f and g of them at the new one
+  pub wide-packets : contents (movePackets (at wide (firstSeries wide) 4 (replicate 4 true)) wide-any 1 0x80 (3 ∷ 0 ∷ []) []) ≡ 0x61 ∷ 0x96 ∷ 0xE8 ∷ 0x05 ∷ []
   -- four moves in turn, then what a fresh write gives at the points 0 to 3
   pub move-turn : let s = at four (firstSeries four) 3 (replicate 4 true) in
       let a = moveCall s first-area 0 0 (1 ∷ []) (2 ∷ []) in
