@@ -142,10 +142,11 @@ move-apart : (s : Record) (m board point : ℕ) (helpers partners : List ℕ) �
 move-apart s m board point helpers partners byte h =
     let area : List ℕ = replicate m 0 in
     let f : Moves s (length area) board point helpers partners =
-    subst (λ (x : ℕ). Moves s x board point helpers partners) (sym (length-replicate m 0)) (move-facts s m board point helpers partners h) in
-    (others-apart s board (sound-facts s (f .is-sound)),
-    all-runs (lost s area board point helpers partners f byte) (length (afreshArea s area board point)) (board ∷ []) helpers partners
-    (repairs s area board point helpers partners f byte))
+    subst (λ (x : ℕ). Moves s x board point helpers partners) (sym (length-replicate m 0)) (move-facts s m board point helpers partners h) in (
+      others-apart s board (sound-facts s (f .is-sound)),
+      all-runs (lost s area board point helpers partners f byte) (length (afreshArea s area board point)) (board ∷ []) helpers partners
+          (repairs s area board point helpers partners f byte),
+    )
 
 -- ---- the interpolations of the definitions
 
