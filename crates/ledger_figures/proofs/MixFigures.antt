@@ -18,7 +18,8 @@ use Rattle.store_spec.specs.Move.{afresh, afreshArea, movePackets, movedShare, 
 use Rattle.mbcr.specs.Afresh.{keptAfresh, shareAfresh}
 use Rattle.store_spec.specs.Running.{soundBeside}
 use Rattle.store_spec.specs.Lying.{helpersLying, exchangesMade, partnersLying, shareLying, packetsNow}
-use Rattle.store_spec.specs.Both.{writeLinesBoth, loseLinesBoth, repairLinesBoth, readLinesBoth, editLinesBoth, carefulLinesBoth, moveLinesBoth, stepLines, setUpBoth, writeBoth, loseBoth, repairBoth, readBoth, editBoth, carefulBoth, moveBoth, startCall, stepCall}
+use Rattle.store_spec.specs.Both.{writeLinesBoth, loseLinesBoth, repairLinesBoth, readLinesBoth, editLinesBoth, carefulLinesBoth, moveLinesBoth, stepLines}
+use Rattle.store_spec.specs.Both.{setUpBoth, writeBoth, loseBoth, repairBoth, readBoth, editBoth, carefulBoth, moveBoth, startCall, stepCall}
 use Rattle.store_spec.specs.Ledger.{repairAsked, bookLines, accept, enter, act, replies, bookReplies}
 use Rattle.ledger_figures.specs.MixFigures.{newly, opened, happened, told, MixFigures}
 

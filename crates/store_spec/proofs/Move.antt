@@ -26,7 +26,7 @@ use Rattle.mbcr.proofs.AfreshLaws.{length-afresh, afresh-laws}
 use Rattle.mbcr.proofs.PointLaws.{pointed-differ, pointed-facts}
 use Rattle.mbcr.proofs.TurnLaws.{turn-laws, decSame}
 use Rattle.store_spec.specs.Move.{allBoards, movedRecord, afresh, afreshArea, movePackets, movedShare}
-use Rattle.store_spec.specs.Packets.{total, helperPackets, standInPackets, exchangePackets, partnerPackets, repairPackets, freshShare}
+use Rattle.store_spec.specs.Packets.{total, helperPackets, standInPackets, exchangePackets, partnerPackets, freshShare}
 use Rattle.store_spec.specs.Record.{Record, sound, withMarks, stripeCount, usedLen, partLen, areaLen, held, inService, putShares}
 use Rattle.store_spec.proofs.Area.{length-shares, shares-same, shares-other}
 use Rattle.store_spec.proofs.Marks.{off, off-from, on-below, among-first, first-below}

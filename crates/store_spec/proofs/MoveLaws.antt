@@ -3,7 +3,7 @@
 use Prim.Native.Nat.{ℕ, zero, suc, _+_, _-_, _*_, _≤_, _<_}
 use mathlib.Core.Path.{_≡_, refl, sym, _∙_, ap, ap₂, subst}
 use mathlib.Core.Bool.{Bool, true, false, not}
-use mathlib.Core.List.{List, [], _∷_, _++_, map, append-nil, append-assoc}
+use mathlib.Core.List.{List, [], _∷_, _++_, map, append-nil}
 use mathlib.Core.Logic.{_≢_, _↔_, _⊎_, inl, inr}
 use native.Mathlib.Nat.{zero-mul}
 use native.Mathlib.Omega.{arith}
@@ -12,10 +12,10 @@ use lib.ListN.{length, take, drop, set, getD}
 use lib.Seq.{take-all}
 use borrow.Author.Tests.{eq-eqb, ne-eqb, eqb-true, eqb-false, lt-ltb, le-leb, le-ltb}
 use Rattle.lists.specs.Tests.{pick, alls, among, apart, below, different, every}
-use Rattle.lists.specs.Lists.{All, Bytes, tabulate, without, joined, concat}
+use Rattle.lists.specs.Lists.{All, Bytes, tabulate, without, joined}
 use Rattle.lists.proofs.Alls.{all-imp, all-left, all-right}
 use Rattle.lists.proofs.Boards.{joined-all, all-among, below-all, among-head, among-without}
-use Rattle.lists.proofs.Pieces.{map-append, tabulate-ext}
+use Rattle.lists.proofs.Pieces.{tabulate-ext}
 use Rattle.lists.proofs.Tests.{true-false, alls-hold, hold-alls, not-no}
 use Rattle.sizes.specs.Refusals.{first, storeOrder, appliesIn}
 use Rattle.sizes.specs.declared.Refusal.the-variants.{Size, Area, Count, Node, Repeat, Empty, Down}
@@ -40,7 +40,7 @@ use Rattle.store_spec.specs.Ledger.{Event, call, powerFails, Book, openB
 use Rattle.store_spec.specs.LedgerLaws.{newPoint, setPoints}
 use Rattle.store_spec.specs.Move.{allBoards, movedRecord, afresh, afreshArea, movePackets, movedShare, moveLines, moveDone, moveCall}
 use Rattle.store_spec.specs.MoveLaws.{Moved, movesIn, MoveLaws}
-use Rattle.store_spec.specs.Packets.{Packet, sentTo, sendersOf, contents, helperPackets, standInPackets, exchangePackets, partnerPackets, repairPackets}
+use Rattle.store_spec.specs.Packets.{Packet, helperPackets, standInPackets, exchangePackets, partnerPackets, repairPackets}
 use Rattle.store_spec.specs.Record.{Record, inService, sound, stripeCount, usedLen, partLen, areaLen, held, writtenRecord, newRecord}
 use Rattle.store_spec.proofs.Area.{shares-same, byte-stays}
 use Rattle.store_spec.proofs.Beside.{alone-busy}
@@ -52,7 +52,7 @@ use Rattle.store_spec.proofs.Move.{g, named-other, new-point, others-lo
 use Rattle.store_spec.proofs.Move.{whole-helpers, whole-partners, total-is, made-long, result, board-low, result-long, board-has, other-has, move-true, new-pointed}
 use Rattle.store_spec.proofs.Packets.{heard-run}
 use Rattle.store_spec.proofs.Real.{code-lengths}
-use Rattle.store_spec.proofs.Records.{Moves, move-facts, moves-pass, moveCounts, repeatTests, sound-facts, used-fits, used-least, write-facts, Sound, facts-sound}
+use Rattle.store_spec.proofs.Records.{Moves, move-facts, moves-pass, moveCounts, repeatTests, sound-facts, used-fits, used-least, Sound, facts-sound}
 use Rattle.store_spec.proofs.Repair.{heardBy, stoodBy, fresh-by}
 use Rattle.store_spec.proofs.Step.{settle-pass}
 

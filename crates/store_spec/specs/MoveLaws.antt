@@ -21,7 +21,7 @@ use Rattle.mbcr.specs.Rebuild.{seconds, helperPacket, standInPacket, finishedSh
 use Rattle.mbcr.specs.Afresh.{shareAfresh}
 use Rattle.mbcr.specs.AfreshLaws.{pairsAt}
 use Rattle.store_spec.specs.Record.{Record, inService, sound, stripeCount, areaLen, held, writtenRecord, newRecord}
-use Rattle.store_spec.specs.Packets.{Packet, total}
+use Rattle.store_spec.specs.Packets.{total}
 use Rattle.store_spec.specs.Calls.{listLines, writeCall}
 use Rattle.store_spec.specs.Move.{allBoards, movedRecord, afresh, movePackets, moveLines, moveCall}
 use Rattle.store_spec.specs.Running.{Running}
