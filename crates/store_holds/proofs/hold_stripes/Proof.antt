@@ -2,46 +2,45 @@
 -- Assumes nothing.
 use mathlib.Core.Path.{_≡_, refl, ap, _∙_}
 use mathlib.Core.Bool.{true}
-use mathlib.Core.List.{List}
+use mathlib.Core.List.{List, _++_}
 use Prim.Native.Nat.{ℕ, _+_, _*_, _-_, _<_, _≤_}
 use native.Mathlib.Nat.{one-mul}
 use native.Mathlib.Omega.{arith}
-use lib.ListN.{length}
+use lib.ListN.{length, drop}
 use borrow.Author.Needs.{needs}
 use Rattle.sizes.specs.Sizing.{legal, α, B}
 use Rattle.sizes.proofs.Legal.{Legal, legal-facts, row-fits}
-use Rattle.lists.specs.Lists.{Bytes}
-use Rattle.lists.proofs.Alls.{all-of}
 use Rattle.mbcr.proofs.Decode.{length-decoded}
 use Rattle.decode_laws.proofs.Held.{placed-before}
 use Rattle.stripes_cut.specs.Steps.{stripeAt}
+use Rattle.encode_values.specs.Steps.{rowValues}
 use Rattle.store_holds.specs.Steps.{holdsStripes}
 use Rattle.store_holds.proofs.Stripes.{turn, one-stripe}
 use Rattle.store_holds.proofs.hold_stripes.Statement.{statement}
 use Rattle.store_holds.proofs.hold_stripes.Tie as tie
 
 abbrev Inv-loop : tie.InvT-loop
-Inv-loop sizes points boards starts tables stripes p first q second area u₀ rows₀ w one₀ other₀ s₀ u rows one other s =
+Inv-loop sizes points boards starts tables powers stripes p first q second area u₀ rows₀ w one₀ other₀ s₀ u rows one other s =
     (one ≡ holdsStripes sizes points boards starts area s first p) × (other ≡ holdsStripes sizes points boards starts area s second q)
-    × (s ≤ stripes) × (length u ≡ B sizes) × (length rows ≡ sizes .d * 32)
+    × (s ≤ stripes) × (length u ≡ B sizes) × (length rows ≡ 992)
 
 abbrev μ-loop : tie.MeasureT-loop
-μ-loop sizes points boards starts tables stripes p first q second area u₀ rows₀ w one₀ other₀ s₀ u rows one other s = stripes - s
+μ-loop sizes points boards starts tables powers stripes p first q second area u₀ rows₀ w one₀ other₀ s₀ u rows one other s = stripes - s
 
 -- places in the code
-abbrev st : tie.At-loop Inv-loop μ-loop → tie.Start Inv-loop μ-loop
-st c = c .before .before .before .before .before .before .before .before .before .before
-
 abbrev st-first : tie.After-struct-known Inv-loop μ-loop → tie.Start Inv-loop μ-loop
-st-first c = c .before .before .before .before .before .before .before .before
+st-first c = c .before .before .before .before .before .before .before .before .before
+
+abbrev st : tie.At-loop Inv-loop μ-loop → tie.Start Inv-loop μ-loop
+st c = st-first (c .before .before)
 
 abbrev turn-at-stripes : tie.After-stripes Inv-loop μ-loop → tie.In-loop Inv-loop μ-loop
 turn-at-stripes c = c .before .before
 
-abbrev stripes-at-rows : tie.After-grid-rows Inv-loop μ-loop → tie.After-stripes Inv-loop μ-loop
+abbrev stripes-at-rows : tie.After-row-values Inv-loop μ-loop → tie.After-stripes Inv-loop μ-loop
 stripes-at-rows c = c .before .before .before .before .before
 
-abbrev rows-at-holds : tie.After-still-holds Inv-loop μ-loop → tie.After-grid-rows Inv-loop μ-loop
+abbrev rows-at-holds : tie.After-still-holds Inv-loop μ-loop → tie.After-row-values Inv-loop μ-loop
 rows-at-holds c = c .before .before .before .before
 
 facts : (g : tie.Start Inv-loop μ-loop) → Legal (g .args .sizes)
@@ -65,7 +64,7 @@ module _ (c : tie.In-loop Inv-loop μ-loop) where
   second-end = omega (arith, row, g .pre .9)
 
 -- the stripe that is decoded, and the rows of its coefficients
-module _ (c : tie.After-grid-rows Inv-loop μ-loop) where
+module _ (c : tie.After-row-values Inv-loop μ-loop) where
   abbrev k : tie.After-stripes Inv-loop μ-loop
   k = stripes-at-rows c
 
@@ -84,17 +83,18 @@ module _ (c : tie.After-grid-rows Inv-loop μ-loop) where
   long : length u ≡ B (g t .args .sizes)
   long = ap length stripe-is ∙ length-decoded (g t .args .sizes) (g t .args .points .now) (facts (g t)) (g t .args .boards .now) (g t .pre .0 .counted) _
 
-  bytes : Bytes u
-  bytes = all-of (λ b. b < 256) 0 u (λ i h. omega (arith, c .before .before .before .slice-known3 .given i))
-
-  rows-long : length (c .grid-rows .last .1 .1 .0) ≡ g t .args .sizes .d * 32
-  rows-long = c .grid-rows .kept .1 .1 .0 ∙ t .before .loop .inv .4
+  rows-long : length (c .row-values .last .1 .1 .1 .0) ≡ 992
+  rows-long = c .row-values .kept .1 .1 .1 .0 ∙ t .before .loop .inv .4
 
   -- what is asked of each of the two
   asks : (i at : ℕ) → i < g t .args .sizes .n → at + α (g t .args .sizes) ≤ length (g t .args .area .now)
       → (legal (g t .args .sizes) ≡ true) × (i < g t .args .sizes .n) × (length (g t .args .points .now) ≡ 32)
-      × (length (c .grid-rows .last .1 .1 .0) ≡ g t .args .sizes .d * 32) × (at + α (g t .args .sizes) ≤ length (g t .args .area .now))
-  asks i at hi ha = (g t .pre .0 .sized, hi, g t .pre .5, rows-long, ha)
+      × (length (g t .args .powers .now) ≡ 16384) × (length (c .row-values .last .1 .1 .1 .0) ≡ 992) × (at + α (g t .args .sizes) ≤ length (g t .args .area .now))
+  asks i at hi ha = (g t .pre .0 .sized, hi, g t .pre .5, g t .pre .11, rows-long, ha)
+
+  -- the rows are those of the stripe's values
+  rows-are : c .row-values .last .1 .1 .1 .0 ≡ rowValues (g t .args .sizes) (g t .args .points .now) u ++ drop (g t .args .sizes .d * 32) (t .before .loop .rows)
+  rows-are = c .row-values .ensures (g t .args .points .now) (g t .pre .5) (g t .pre .12)
 
 stripes-requires : tie.Need-stripes-requires Inv-loop μ-loop
 stripes-requires c κs =
@@ -111,11 +111,11 @@ stripes-requires c κs =
       omega (arith, l .inv .3, one-mul (B (a .sizes))),
     )
 
-grid-rows-requires : tie.Need-grid-rows-requires Inv-loop μ-loop
-grid-rows-requires c κs =
+row-values-requires : tie.Need-row-values-requires Inv-loop μ-loop
+row-values-requires c κs =
     let k = c .before .before .before .before in
     let t = turn-at-stripes k in
-    (g t .pre .0 .sized, k .stripes .kept .1 .1 .1 .1 .1 .1 .1 .1 .0 ∙ t .before .loop .inv .3, t .before .loop .inv .4)
+    (g t .pre .0 .sized, g t .pre .11, k .stripes .kept .1 .1 .1 .1 .1 .1 .1 .1 .0 ∙ t .before .loop .inv .3, t .before .loop .inv .4)
 
 loop-again : tie.Need-loop-again Inv-loop μ-loop
 loop-again c =
@@ -125,9 +125,9 @@ loop-again c =
     let l = q .before .loop in
     let a = g q .args in (
       turn (a .sizes) (a .points .now) (a .boards .now) (a .starts .now) (a .area .now) (a .first) (a .p) (l .s) (l .one) _ (u m) (l .inv .0) (stripe-is m)
-          (n .still-holds .ensures (u m) (long m) (bytes m) (m .grid-rows .ensures)),
+          (n .still-holds .ensures (u m) _ (long m) (g q .pre .12) (rows-are m)),
       turn (a .sizes) (a .points .now) (a .boards .now) (a .starts .now) (a .area .now) (a .second) (a .q) (l .s) (l .other) _ (u m) (l .inv .1) (stripe-is m)
-          (c .still-holds2 .ensures (u m) (long m) (bytes m) (m .grid-rows .ensures)),
+          (c .still-holds2 .ensures (u m) _ (long m) (g q .pre .12) (rows-are m)),
       omega (arith, q .loop-test .taken),
       long m,
       rows-long m,
@@ -151,10 +151,10 @@ hold-stripes-spec =
     (λ c. omega (arith, facts (st-first c)))
     (λ c. omega (arith, facts (st-first (c .before))))
     (λ c. omega (arith, facts (st-first (c .before))))
-    (λ c. let p = st-first (c .before) .pre in (refl, refl, omega arith, p .11, p .12))
+    (λ c. let p = st-first (c .before) .pre in (refl, refl, omega arith, p .13, p .14))
     (λ c. omega (arith, first-end c, g c .pre .10))
     stripes-requires
-    grid-rows-requires
+    row-values-requires
     (λ c. let q = t (c .before .before) in omega (arith, first-end q, g q .pre .10))
     (λ c κs. let m = c .before .before .before in let q = t m in asks m (g q .args .p) _ (g q .pre .6) (first-end q))
     (λ c. let q = t (rows-at-holds c) in omega (arith, second-end q, g q .pre .10))

@@ -1,6 +1,6 @@
 -- `store_holds::hold_two` meets its contract: the parts of boards are their shares, compared stripe by stripe.
 -- Assumes nothing.
-use mathlib.Core.Path.{_≡_, sym, ap, _∙_}
+use mathlib.Core.Path.{_≡_, refl, sym, ap, _∙_}
 use mathlib.Core.List.{List}
 use Prim.Native.Nat.{ℕ, _+_, _*_, _-_, _<_, _≤_}
 use native.Mathlib.Omega.{arith}
@@ -16,6 +16,7 @@ use Rattle.mbcr.specs.Demand2.{Named}
 use Rattle.store_spec.specs.Record.{Record, partLen}
 use Rattle.store_spec.proofs.Records.{Sound, sound-facts}
 use Rattle.record.specs.Records.{recordOf}
+use Rattle.powers.proofs.Turns.{powers-tabled}
 use Rattle.decode_stripe.proofs.Made.{part-long}
 use Rattle.store_decode.proofs.Parts.{below-32, lent-are, lent-long, lent-placed}
 use Rattle.store_holds.proofs.Stripes.{stripes-few, asked-is, part-short, area-short, starts-low, stripes-low}
@@ -35,8 +36,17 @@ part-at-places c = c .before .before .before
 abbrev st-places : tie.After-places → tie.Start
 st-places c = st (part-at-places c)
 
+abbrev places-at-fill : tie.After-fill-powers → tie.After-places
+places-at-fill c = c .before .before .before .before
+
+abbrev fill-at-starts : tie.After-starts3 → tie.After-fill-powers
+fill-at-starts c = c .before .before .before
+
+abbrev fill-at-call : tie.After-rows → tie.After-fill-powers
+fill-at-call c = fill-at-starts (c .before .before .before .before)
+
 abbrev places-at-call : tie.After-rows → tie.After-places
-places-at-call c = c .before .before .before .before .before .before
+places-at-call c = places-at-fill (fill-at-call c)
 
 -- ---- what is given
 
@@ -110,6 +120,11 @@ places-requires c κs =
       part-long _ _ (omega (arith, f)) ∙ sym (q .pre .2 .counted),
     )
 
+fill-powers-requires : tie.Need-fill-powers-requires
+fill-powers-requires c κs =
+    let f = facts (st-places (c .before .before .before)) in
+    (points-long (st-places (c .before .before .before)), omega (arith, f .enough, f .few), omega (arith, f .enough, f .few))
+
 hold-stripes-requires : tie.Need-hold-stripes-requires
 hold-stripes-requires c κs =
     let k = places-at-call c in
@@ -131,8 +146,10 @@ hold-stripes-requires c κs =
       p .4,
       in-part n (a .q) (p .4),
       all-short n,
+      fill-at-call c .fill-powers .kept .1 .1 .0,
+      powers-tabled (r .points) _ _ (r .sizes .d + r .sizes .r) (points-long q) (fill-at-call c .fill-powers .ensures),
       part-long _ _ (omega (arith, long (len-at-part n), B-most _ (facts q))) ∙ long (len-at-part n),
-      part-long _ _ (omega (arith, facts q)),
+      refl {a = 992},
     )
 
 returns : tie.Need-returns
@@ -168,13 +185,15 @@ hold-two-spec =
     places-requires
     (λ c. search needs)
     (λ c. search needs)
-    (λ c. search needs)
-    (λ c. let k = c .before .before .before in simp length-append (omega (arith, facts (st-places k), starts-long k)))
-    (λ c. search needs)
-    (λ c. search needs)
-    (λ c. let n = part-at-places (c .before .before .before .before) in omega (arith, long (len-at-part n), B-most _ (facts (st n))))
+    fill-powers-requires
+    (λ c. sym (points-long (st-places (places-at-fill (c .before .before)))))
     (λ c. search needs)
     (λ c. search needs)
-    (λ c. omega (arith, facts (st-places (c .before .before .before .before .before))))
+    (λ c. let k = places-at-fill (fill-at-starts c) in simp length-append (omega (arith, facts (st-places k), starts-long k)))
+    (λ c. search needs)
+    (λ c. search needs)
+    (λ c. search needs)
+    (λ c. let n = part-at-places (places-at-fill (fill-at-starts (c .before .before))) in omega (arith, long (len-at-part n), B-most _ (facts (st n))))
+    (λ c. search needs)
     hold-stripes-requires
     returns)
