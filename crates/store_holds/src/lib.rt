@@ -20,14 +20,16 @@ ghost use Rattle.decode_setup.specs.Steps.{Made};
 ghost use Rattle.row_sums.specs.Steps.{Tabled};
 ghost use Rattle.powers.specs.Steps.{powerRows};
 ghost use Rattle.encode_values.specs.Steps.{rowValues};
-ghost use Rattle.store_holds.specs.Steps.{holdsStripes};
+ghost use Rattle.store_holds.specs.Steps.{turned, holdsStripe, holdsStripes};
 use record::Kept;
 use sizes::Sizes;
 
-// Whether each of two boards holds its share.
+// Whether each of two boards holds its share, and the stripe that was looked at last: where neither holds, it is one in which the second failed. That
+// is a hint for the next try, and nothing rests on it.
 pub struct Held {
     pub first: bool,
     pub second: bool,
+    pub at: usize,
 }
 
 // Whether board i, of which it is asked only so far as it held all before, holds what it keeps of the stripe whose rows of values these are, at a
@@ -55,8 +57,53 @@ fn still_holds(
     byte_tests::same_bytes(&area[at..end], &own[0..w])
 }
 
-// Whether boards p and q hold what they keep of each of so many stripes that the k boards decode to; the k boards' parts start at starts, those of p
-// and q at first and second. u is for one stripe's coefficients, rows for the values of their rows.
+// Whether boards p and q, of which each is asked only so far as it held all before, hold what they keep of stripe s that the k boards decode to; the k
+// boards' parts start at starts, those of p and q at first and second. u is for the stripe's coefficients, rows for the values of their rows.
+fn hold_stripe(
+    held: Held,
+    sizes: Sizes,
+    points: &[u8],
+    boards: &[usize],
+    starts: &[usize],
+    tables: &[u8],
+    powers: &[u8],
+    s: usize,
+    p: usize,
+    first: usize,
+    q: usize,
+    second: usize,
+    area: &[u8],
+    u: &mut [u8],
+    rows: &mut [u8],
+) -> Held
+    requires { ⌜ Asked sizes (now points) (now boards) × (length (now starts) ≡ sizes .k) × Placed sizes (now starts) (now area) (s + 1) × (s < 4096) × Made sizes (now points) (now boards) (now tables) × (length (now points) ≡ 32) × (p < sizes .n) × (first + s * α sizes + α sizes ≤ length (now area)) × (q < sizes .n) × (second + s * α sizes + α sizes ≤ length (now area)) × (length (now area) ≤ 8126464) × (length (now powers) ≡ 16384) × Tabled (powerRows (now points) (sizes .d + sizes .r)) (now powers) × (length (now u) ≡ B sizes) × (length (now rows) ≡ 992) ⌝ }
+    ensures { λ r. ⌜ r .first ≡ pick (held .first) (holdsStripe sizes (now (points .entry)) (now (boards .entry)) (now (starts .entry)) (now (area .entry)) first p s) false ⌝ }
+    ensures { λ r. ⌜ r .second ≡ pick (held .second) (holdsStripe sizes (now (points .entry)) (now (boards .entry)) (now (starts .entry)) (now (area .entry)) second q s) false ⌝ }
+{
+    let at = s * (2 * sizes.d + sizes.r - 1);
+    decode_stripes::stripes(sizes, points, boards, starts, area, s, 1, tables, u);
+    encode_values::row_values(sizes, powers, u, rows);
+    let one = still_holds(held.first, sizes, points, powers, p, first + at, rows, area);
+    let other = still_holds(held.second, sizes, points, powers, q, second + at, rows, area);
+    Held {
+        first: one,
+        second: other,
+        at: s,
+    }
+}
+
+// The stripe that is looked at after t others, from one on and around.
+fn stripe_after(from: usize, t: usize, stripes: usize) -> usize
+    requires { ⌜ (t < stripes) × (stripes ≤ 4096) ⌝ }
+    ensures { λ r. ⌜ r ≡ turned from stripes t ⌝ }
+{
+    if from >= stripes {
+        return t;
+    }
+    if t < stripes - from { from + t } else { t - (stripes - from) }
+}
+
+// Whether boards p and q hold what they keep of each of so many stripes, looked at from one of them on until neither can hold its share.
 fn hold_stripes(
     sizes: Sizes,
     points: &[u8],
@@ -65,6 +112,7 @@ fn hold_stripes(
     tables: &[u8],
     powers: &[u8],
     stripes: usize,
+    from: usize,
     p: usize,
     first: usize,
     q: usize,
@@ -77,28 +125,33 @@ fn hold_stripes(
     ensures { λ r. ⌜ r .first ≡ holdsStripes sizes (now (points .entry)) (now (boards .entry)) (now (starts .entry)) (now (area .entry)) stripes first p ⌝ }
     ensures { λ r. ⌜ r .second ≡ holdsStripes sizes (now (points .entry)) (now (boards .entry)) (now (starts .entry)) (now (area .entry)) stripes second q ⌝ }
 {
-    let w = 2 * sizes.d + sizes.r - 1;
-    let mut one = true;
-    let mut other = true;
-    let mut s: usize = 0;
-    while s < stripes {
-        let at = s * w;
-        decode_stripes::stripes(sizes, points, boards, starts, area, s, 1, tables, u);
-        encode_values::row_values(sizes, powers, u, rows);
-        one = still_holds(one, sizes, points, powers, p, first + at, rows, area);
-        other = still_holds(other, sizes, points, powers, q, second + at, rows, area);
-        s += 1;
+    let mut held = Held {
+        first: true,
+        second: true,
+        at: from,
+    };
+    let mut t: usize = 0;
+    while t < stripes {
+        let s = stripe_after(from, t, stripes);
+        held = hold_stripe(
+            held, sizes, points, boards, starts, tables, powers, s, p, first, q, second, area, u,
+            rows,
+        );
+        if !held.first {
+            if !held.second {
+                return held;
+            }
+        }
+        t += 1;
     }
-    Held {
-        first: one,
-        second: other,
-    }
+    held
 }
 
-// Whether boards p and q hold their shares of the file that these k boards hold, where they hold one.
+// Whether boards p and q hold their shares of the file that these k boards hold, where they hold one; the stripes are looked at from one of them on.
 pub fn hold_two(
     kept: Kept,
     stripes: usize,
+    from: usize,
     boards: &[usize],
     p: usize,
     q: usize,
@@ -131,6 +184,7 @@ pub fn hold_two(
         tables,
         &powers,
         stripes,
+        from,
         p,
         first,
         q,
