@@ -84,7 +84,16 @@ fn hold_stripe(
     decode_stripes::stripes(sizes, points, boards, starts, area, s, 1, tables, u);
     encode_values::row_values(sizes, powers, u, rows);
     let one = still_holds(held.first, sizes, points, powers, p, first + at, rows, area);
-    let other = still_holds(held.second, sizes, points, powers, q, second + at, rows, area);
+    let other = still_holds(
+        held.second,
+        sizes,
+        points,
+        powers,
+        q,
+        second + at,
+        rows,
+        area,
+    );
     Held {
         first: one,
         second: other,
@@ -100,7 +109,11 @@ fn stripe_after(from: usize, t: usize, stripes: usize) -> usize
     if from >= stripes {
         return t;
     }
-    if t < stripes - from { from + t } else { t - (stripes - from) }
+    if t < stripes - from {
+        from + t
+    } else {
+        t - (stripes - from)
+    }
 }
 
 // Whether boards p and q hold what they keep of each of so many stripes, looked at from one of them on until neither can hold its share.
@@ -134,7 +147,20 @@ fn hold_stripes(
     while t < stripes {
         let s = stripe_after(from, t, stripes);
         held = hold_stripe(
-            held, sizes, points, boards, starts, tables, powers, s, p, first, q, second, area, u,
+            held,
+            sizes,
+            points,
+            boards,
+            starts,
+            tables,
+            powers,
+            s,
+            p,
+            first,
+            q,
+            second,
+            area,
+            u,
             rows,
         );
         if !held.first {

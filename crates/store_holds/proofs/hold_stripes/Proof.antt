@@ -115,9 +115,13 @@ loop-again : tie.Need-loop-again Inv-loop μ-loop
 loop-again c =
     let h = hold-at (c .before) in
     let b = after-at (h .before) in
-    let l = k b .before .loop in
-    (first-is h, second-is h, omega (arith, k b .loop-test .taken), h .hold-stripe .kept .1 .1 .1 .1 .1 .1 .1 .1 .1 .1 .1 .1 .1 .0 ∙ l .inv .3,
-      h .hold-stripe .kept .1 .1 .1 .1 .1 .1 .1 .1 .1 .1 .1 .1 .1 .1 .0 ∙ l .inv .4)
+    let l = k b .before .loop in (
+      first-is h,
+      second-is h,
+      omega (arith, k b .loop-test .taken),
+      h .hold-stripe .kept .1 .1 .1 .1 .1 .1 .1 .1 .1 .1 .1 .1 .1 .0 ∙ l .inv .3,
+      h .hold-stripe .kept .1 .1 .1 .1 .1 .1 .1 .1 .1 .1 .1 .1 .1 .1 .0 ∙ l .inv .4,
+    )
 
 returns-2 : tie.Need-returns-2 Inv-loop μ-loop
 returns-2 c =
