@@ -51,14 +51,14 @@ turn-at-stripe-by-arg5 c = turn-at-stripe-by-arg4 (c .before)
 abbrev st-stripe-by-arg5 : tie.After-stripe-by-arg5 Inv-loop μ-loop → tie.Start Inv-loop μ-loop
 st-stripe-by-arg5 c = st-turn (turn-at-stripe-by-arg5 c)
 
-abbrev got-at-g : tie.After-g Inv-loop μ-loop → tie.After-got Inv-loop μ-loop
-got-at-g c = c .before .before
-
 abbrev f-at-slice-known10 : tie.After-slice-known10 Inv-loop μ-loop → tie.After-f Inv-loop μ-loop
 f-at-slice-known10 c = c .before .before .before
 
 abbrev g-at-turn-end : tie.After-slice-known10 Inv-loop μ-loop → tie.After-g Inv-loop μ-loop
 g-at-turn-end c = f-at-slice-known10 c .before .before
+
+abbrev got-at-g : tie.After-g Inv-loop μ-loop → tie.After-got Inv-loop μ-loop
+got-at-g c = c .before .before
 
 abbrev firsts-at-turn-end : tie.After-slice-known10 Inv-loop μ-loop → tie.After-firsts Inv-loop μ-loop
 firsts-at-turn-end c = got-at-g (g-at-turn-end c) .before .before

@@ -23,32 +23,26 @@ st-lent-packets c = c .before .before .before .before
 abbrev lent-packets-at-lent-exchanges : tie.After-shared-slice-known6 → tie.After-shared-slice-known4
 lent-packets-at-lent-exchanges c = c .before .before
 
-abbrev share-work-at-slice-known6 : tie.After-slice-known6 → tie.After-share-work
-share-work-at-slice-known6 c = c .before .before
-
-abbrev whole-vectors-at-board-rows-arg2 : tie.After-board-rows-arg2 → tie.After-whole-vectors
-whole-vectors-at-board-rows-arg2 c = c .before .before
-
-abbrev all-at-rows : tie.After-rows → tie.After-all
-all-at-rows c = c .before .before
-
 abbrev shared-slice-known6-at-slice-known3 : tie.After-slice-known3 → tie.After-shared-slice-known6
 shared-slice-known6-at-slice-known3 c = c .before .before .before
-
-abbrev shared-slice-known6-at-whole-vectors : tie.After-whole-vectors → tie.After-shared-slice-known6
-shared-slice-known6-at-whole-vectors c = shared-slice-known6-at-slice-known3 (c .before)
 
 abbrev st-slice-known3 : tie.After-slice-known3 → tie.Start
 st-slice-known3 c = st-lent-packets (lent-packets-at-lent-exchanges (shared-slice-known6-at-slice-known3 c))
 
+abbrev whole-vectors-at-board-rows-arg2 : tie.After-board-rows-arg2 → tie.After-whole-vectors
+whole-vectors-at-board-rows-arg2 c = c .before .before
+
 abbrev st-board-rows-arg2 : tie.After-board-rows-arg2 → tie.Start
-st-board-rows-arg2 c = st-lent-packets (lent-packets-at-lent-exchanges (shared-slice-known6-at-whole-vectors (whole-vectors-at-board-rows-arg2 c)))
+st-board-rows-arg2 c = st-slice-known3 (whole-vectors-at-board-rows-arg2 c .before)
 
 abbrev whole-vectors-at-board-rows : tie.After-board-rows → tie.After-whole-vectors
 whole-vectors-at-board-rows c = whole-vectors-at-board-rows-arg2 (c .before)
 
 abbrev rows-at-share-work-arg2 : tie.After-share-work-arg2 → tie.After-rows
 rows-at-share-work-arg2 c = c .before .before .before
+
+abbrev all-at-rows : tie.After-rows → tie.After-all
+all-at-rows c = c .before .before
 
 abbrev board-rows-at-share-work-arg2 : tie.After-share-work-arg2 → tie.After-board-rows
 board-rows-at-share-work-arg2 c = all-at-rows (rows-at-share-work-arg2 c) .before
@@ -57,7 +51,10 @@ abbrev whole-vectors-at-share-work-arg2 : tie.After-share-work-arg2 → tie.Afte
 whole-vectors-at-share-work-arg2 c = whole-vectors-at-board-rows (board-rows-at-share-work-arg2 c)
 
 abbrev st-share-work-arg2 : tie.After-share-work-arg2 → tie.Start
-st-share-work-arg2 c = st-lent-packets (lent-packets-at-lent-exchanges (shared-slice-known6-at-whole-vectors (whole-vectors-at-share-work-arg2 c)))
+st-share-work-arg2 c = st-slice-known3 (whole-vectors-at-share-work-arg2 c .before)
+
+abbrev share-work-at-slice-known6 : tie.After-slice-known6 → tie.After-share-work
+share-work-at-slice-known6 c = c .before .before
 
 abbrev share-work-arg2-at-slice-known6 : tie.After-slice-known6 → tie.After-share-work-arg2
 share-work-arg2-at-slice-known6 c = share-work-at-slice-known6 c .before
@@ -69,7 +66,7 @@ abbrev whole-vectors-at-end : tie.After-slice-known6 → tie.After-whole-vectors
 whole-vectors-at-end c = whole-vectors-at-board-rows (board-rows-at-end c)
 
 abbrev lent-exchanges-at-end : tie.After-slice-known6 → tie.After-shared-slice-known6
-lent-exchanges-at-end c = shared-slice-known6-at-whole-vectors (whole-vectors-at-end c)
+lent-exchanges-at-end c = shared-slice-known6-at-slice-known3 (whole-vectors-at-end c .before)
 
 abbrev lent-packets-at-end : tie.After-slice-known6 → tie.After-shared-slice-known4
 lent-packets-at-end c = lent-packets-at-lent-exchanges (lent-exchanges-at-end c)
