@@ -25,7 +25,8 @@ use Rattle.store_spec.specs.Running.{Running, idle, runningBy, freshOf, 
 use Rattle.store_spec.specs.Calls.{settle, accepted, recordLine, writeLines, loseLines, listLines, repairLines, readLines}
 use Rattle.store_spec.specs.Edit.{editLines}
 use Rattle.store_spec.specs.Careful.{carefulLines}
-use Rattle.store_spec.specs.Both.{Outcome, beside, writeLinesBoth, loseLinesBoth, repairLinesBoth, readLinesBoth, editLinesBoth, carefulLinesBoth, stepLines, leftOf, stepLast, stepOn, setUpBoth}
+use Rattle.store_spec.specs.Both.{Outcome, beside, writeLinesBoth, loseLinesBoth, repairLinesBoth}
+use Rattle.store_spec.specs.Both.{readLinesBoth, editLinesBoth, carefulLinesBoth, stepLines, leftOf, stepLast, stepOn, setUpBoth}
 use Rattle.store_spec.specs.Both.{writeBoth, loseBoth, repairBoth, readBoth, editBoth, carefulBoth, startCall, stepCall}
 use Rattle.store_spec.specs.BothCalls.{BothEnds, storeLines, storeDone, storeClaims, BothCalls}
 use Rattle.store_spec.specs.Ledger.{Call, write, lose, repair, read, edit, start, step, careful, Book, Repairing, during, carriedBy, bookRunning, State, act, outputOf, packetsOfCall}
@@ -104,7 +105,8 @@ says-lengths m a mp l r = (there, back)
     there : not (alls (eqb m a ∷ pick r (eqb mp l) true ∷ [])) ≡ true → (m ≢ a) ⊎ ((r ≡ true) × (mp ≢ l))
     there e = go (eqb m a) refl r refl (eqb mp l) refl e
       where
-        go : (t : Bool) → eqb m a ≡ t → (q : Bool) → r ≡ q → (u : Bool) → eqb mp l ≡ u → not (alls (t ∷ pick q u true ∷ [])) ≡ true → (m ≢ a) ⊎ ((r ≡ true) × (mp ≢ l))
+        go : (t : Bool) → eqb m a ≡ t → (q : Bool) → r ≡ q → (u : Bool) → eqb mp l ≡ u → not (alls (t ∷ pick q u true ∷ [])) ≡ true
+            → (m ≢ a) ⊎ ((r ≡ true) × (mp ≢ l))
         go false x q y u z h = inl (eqb-false m a x)
         go true x true y false z h = inr (y, eqb-false mp l z)
         go true x true y true z h = absurd (true-false h refl)

@@ -24,11 +24,14 @@ use Rattle.store_holds.proofs.hold_two.Statement.{statement}
 use Rattle.store_holds.proofs.hold_two.Tie as tie
 
 -- places in the code
-abbrev st : tie.After-share-len → tie.Start
-st c = c .before .before .before .before .before .before .before .before
+abbrev st-first : tie.After-stripe-len → tie.Start
+st-first c = c .before .before .before .before .before .before
 
 abbrev len-at-part : tie.After-share-len → tie.After-stripe-len
 len-at-part c = c .before .before
+
+abbrev st : tie.After-share-len → tie.Start
+st c = st-first (len-at-part c)
 
 abbrev part-at-places : tie.After-places → tie.After-share-len
 part-at-places c = c .before .before .before
@@ -63,8 +66,8 @@ few : (g : tie.Start) → g .args .stripes ≤ g .args .kept .capacity
 few g = omega (arith, g .pre .1, stripes-few (R g) (good g))
 
 -- the length of a stripe, and of a board's part
-long : (c : tie.After-stripe-len) → c .stripe-len .result ≡ B (c .before .before .before .before .before .before .args .kept .sizes)
-long c = let g = c .before .before .before .before .before .before in c .stripe-len .ensures ∙ ap (λ b. pick b (B (g .args .kept .sizes)) 0) (good g .is-legal)
+long : (c : tie.After-stripe-len) → c .stripe-len .result ≡ B (st-first c .args .kept .sizes)
+long c = let g = st-first c in c .stripe-len .ensures ∙ ap (λ b. pick b (B (g .args .kept .sizes)) 0) (good g .is-legal)
 
 row : (c : tie.After-share-len) → c .share-len .result ≡ α (st c .args .kept .sizes)
 row c = c .share-len .ensures ∙ ap (λ b. pick b (α (st c .args .kept .sizes)) 0) (good (st c) .is-legal)
@@ -122,8 +125,9 @@ places-requires c κs =
 
 fill-powers-requires : tie.Need-fill-powers-requires
 fill-powers-requires c κs =
-    let f = facts (st-places (c .before .before .before)) in
-    (points-long (st-places (c .before .before .before)), omega (arith, f .enough, f .few), omega (arith, f .enough, f .few))
+    let q = st-places (c .before .before .before) in
+    let f = facts q in
+    (points-long q, omega (arith, f .enough, f .few), omega (arith, f .enough, f .few))
 
 hold-stripes-requires : tie.Need-hold-stripes-requires
 hold-stripes-requires c κs =
@@ -161,7 +165,7 @@ returns c =
     let a = q .args in
     let r = a .kept in
     let p = q .pre in
-    let bytes : Bytes (a .area .now) = all-of (λ b. b < 256) 0 (a .area .now) (λ i h. omega (arith, n .before .before .before .before .before .before .shared-slice-known2 .given i)) in
+    let bytes : Bytes (a .area .now) = all-of (λ b. b < 256) 0 (a .area .now) (λ i h. omega (arith, len-at-part n .before .before .before .before .shared-slice-known2 .given i)) in
     let named : Named (r .sizes) (r .sizes .k) (a .boards .now) = (p .2 .counted, p .2 .known, p .2 .unlike) in
     let are = lent-are (r .sizes) (r .capacity) (r .length) (a .stripes) (part n) (a .boards .now) (a .area .now) zeros (starts k)
     (p .2 .known) (p .2 .counted) (p .5) (p .1) (few q) (part-is n) (k .places .ensures) in (
@@ -174,7 +178,7 @@ hold-two-spec =
     tie.close
     (tie.spec
     (λ c κs. search needs)
-    (λ c. omega (arith, facts (c .before .before .before .before .before .before .before)))
+    (λ c. omega (arith, facts (st-first (c .before))))
     (λ c κs. search needs)
     (λ c. omega (arith, short (c .before)))
     (λ c. let k = c .before in omega (arith, low k (st k .args .p) (st k .pre .3), all-short k))
