@@ -23,8 +23,9 @@
  * What the caller owes: a pointer is followed by the number of its elements, and points to that many, aligned as their type asks; it is not
  * NULL, also where that number is 0; and what a call may change (record, repair, area, packets, out; head and points of zbk_read_text) does not
  * overlap anything else that the call is lent, and no other thread uses it meanwhile. Both records must be writable in every call that takes them, a
- * read and a refusal included: such a call may write words again as they are. A call takes less than 64 kB of stack, as measured; where
- * the C library's functions are bound late, the dynamic linker takes 3 kB more in the first call. size_t has 64 bits.
+ * read and a refusal included: such a call may write words again as they are. A call takes less than 64 kB of stack, but zbk_read_careful
+ * less than 84 kB, as measured; where the C library's functions are bound late, the dynamic linker takes 3 kB more in the first call. size_t has
+ * 64 bits.
  *
  * Lists of shares and packets are one buffer each, the pieces one after another in the order of their list of boards.
  */

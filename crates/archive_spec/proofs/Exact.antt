@@ -103,7 +103,8 @@ module _ (ws ps area : List ℕ) (call : Call) (is-record : isRecord ws ≡ true
       there : zbk ws ps area call ≡ gives w out → outcome ≡ given x v out
       there e =
           let given : inWords (beside (repairFrom ps) outcome) ≡ gives w out = sym in-words ∙ e in
-          outcome-is outcome (record { refusal = x; reported = v }) (recordFrom ws) area out (said-is (outcome .answer) x v low small (ap (λ (l : Lent). l .answer) given ∙ is)) same-record same-area
+          outcome-is outcome (record { refusal = x; reported = v }) (recordFrom ws) area out
+          (said-is (outcome .answer) x v low small (ap (λ (l : Lent). l .answer) given ∙ is)) same-record same-area
           (ap (λ (l : Lent). l .output) given)
 
       back : outcome ≡ given x v out → zbk ws ps area call ≡ gives w out

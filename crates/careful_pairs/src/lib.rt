@@ -6,10 +6,12 @@ ghost use Prim.Native.Nat.{_+_, _-_, _<_, _≤_};
 ghost use lib.ListN.{length};
 ghost use Rattle.careful_pairs.specs.Steps.{leavingPair, foundOf, oddOf};
 
-// Whether a try found the file, and the odd board: 0 for none, else its number plus 1.
+// Whether a try found the file, and the odd board: 0 for none, else its number plus 1; and a stripe to look at first in the next try, on which nothing
+// rests.
 pub struct Tried {
     pub found: bool,
     pub odd: usize,
+    pub at: usize,
 }
 
 // The place in a list of what stands at place t where places p and p + 1 are left out.
@@ -41,8 +43,8 @@ pub fn pair_before(end: usize) -> usize
     if end < 2 { 0 } else { end - 2 }
 }
 
-// What is told where boards x and y are left out, by whether each holds its share.
-pub fn told(first: bool, second: bool, x: usize, y: usize) -> Tried
+// What is told where boards x and y are left out, by whether each holds its share; at is the stripe that was looked at last.
+pub fn told(first: bool, second: bool, x: usize, y: usize, at: usize) -> Tried
     requires { ⌜ (x < 32) × (y < 32) ⌝ }
     ensures { λ r. ⌜ (r .found ≡ foundOf first second) × (r .odd ≡ oddOf first second x y) ⌝ }
 {
@@ -50,16 +52,19 @@ pub fn told(first: bool, second: bool, x: usize, y: usize) -> Tried
         return Tried {
             found: second,
             odd: x + 1,
+            at: at,
         };
     }
     if !second {
         return Tried {
             found: true,
             odd: y + 1,
+            at: at,
         };
     }
     Tried {
         found: true,
         odd: 0,
+        at: at,
     }
 }

@@ -41,6 +41,11 @@ use Rattle.line_checks.proofs.Answers.{passed, refused}
 use borrow.Author.Tests.{not-true}
 use Rattle.careful_tries.specs.Steps.{Found}
 
+-- by what a test says
+pub either : {A : Type 0} (b : Bool) → (b ≡ true → A) → (b ≡ false → A) → A
+either true f g = f refl
+either false f g = g refl
+
 -- a file that qualifies is the one that was given
 qualified : (b : Bool) (f : List ℕ) → given (pick b (some f) none) ≡ b
 qualified true f = refl

@@ -19,13 +19,14 @@ use careful_pairs::Tried;
 use record::Kept;
 use sizes::Check;
 
-// One try, without the boards at places p and p + 1: whether the others hold a file, and one of the two, at least, its share of it. The others go to
-// chosen, and the tables of a read from them to tables.
+// One try, without the boards at places p and p + 1: whether the others hold a file, and one of the two, at least, its share of it. Stripes are looked at
+// from one on. The others go to chosen, and the tables of a read from them to tables.
 fn try_pair(
     kept: Kept,
     stripes: usize,
     boards: &[usize],
     p: usize,
+    from: usize,
     area: &[u8],
     chosen: &mut [usize],
     tables: &mut [u8],
@@ -42,6 +43,11 @@ fn try_pair(
     let y = boards[p + 1];
     careful_pairs::leave_pair(boards, p, chosen);
     store_decode::fill_tables(sizes, &points, chosen, tables);
+    let held = store_holds::hold_two(kept, stripes, from, chosen, x, y, area, tables);
+    let told = careful_pairs::told(held.first, held.second, x, y, held.at);
+    if !told.found {
+        return told;
+    }
     if let Check::Refuse(disagree) = store_decode::check_agrees(
         sizes,
         kept.capacity,
@@ -55,13 +61,14 @@ fn try_pair(
         return Tried {
             found: false,
             odd: 0,
+            at: from,
         };
     }
-    let held = store_holds::hold_two(kept, stripes, chosen, x, y, area, tables);
-    careful_pairs::told(held.first, held.second, x, y)
+    told
 }
 
-// The tries, one after another, until one finds the file.
+// The tries, one after another, until one finds the file. What a try found wrong in a stripe the next one looks at first: one board that is wrong
+// there makes each try with it fail there.
 fn tries(
     kept: Kept,
     stripes: usize,
@@ -75,17 +82,20 @@ fn tries(
     ensures { λ r. ⌜ (r .found ≡ true → Found (recordOf kept) (now (boards .entry)) (now (area .entry)) (now (chosen .exit)) (now (tables .exit)) (r .odd)) ⌝ }
 {
     let mut end = boards.len();
+    let mut from: usize = 0;
     while end > 0 {
         let p = careful_pairs::pair_before(end);
-        let tried = try_pair(kept, stripes, boards, p, area, chosen, tables);
+        let tried = try_pair(kept, stripes, boards, p, from, area, chosen, tables);
         if tried.found {
             return tried;
         }
+        from = tried.at;
         end = p;
     }
     Tried {
         found: false,
         odd: 0,
+        at: from,
     }
 }
 

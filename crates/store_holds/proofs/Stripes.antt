@@ -6,7 +6,6 @@ use mathlib.Core.List.{List, append-nil, map}
 use mathlib.Core.Option.{Option, some, none}
 use Prim.Native.Nat.{ℕ, zero, suc, _+_, _*_, _-_, _<_, _≤_}
 use native.Mathlib.Nat.{add-zero, mul-le-mul-right}
-use native.Mathlib.Numerals.{add-one}
 use native.Mathlib.Omega.{arith}
 use lib.ListN.{length, take, drop, length-append}
 use lib.Seq.{drop-drop, take-all}
@@ -51,12 +50,11 @@ alls-more (suc n) q = ap (λ (t : Bool). pick (q 0) t false) (alls-more n (λ i.
     go true = refl
     go false = refl
 
-module _ (z : Sizes) (xs boards starts area : List ℕ) (place i : ℕ) where
-  pub turn : (s : ℕ) (before r : Bool) (u : List ℕ) → before ≡ holdsStripes z xs boards starts area s place i → u ≡ stripeAt z xs boards starts area s
-      → r ≡ pick before (same (take (α z) (drop (place + s * α z) area)) (kept z xs u i)) false → r ≡ holdsStripes z xs boards starts area (s + 1) place i
-  turn s before r u eb eu er =
-      er ∙ ap₂ {C = Bool} (λ (b : Bool) (v : List ℕ). pick b (same (take (α z) (drop (place + s * α z) area)) (kept z xs v i)) false) eb eu
-      ∙ sym (alls-more s (holdsStripe z xs boards starts area place i)) ∙ ap (λ (m : ℕ). holdsStripes z xs boards starts area m place i) (sym (add-one s))
+-- what is compared with a stripe that is decoded
+pub decoded-holds : (z : Sizes) (xs boards starts area u : List ℕ) (place i s : ℕ) (before r : Bool) → u ≡ stripeAt z xs boards starts area s
+    → r ≡ pick before (same (take (α z) (drop (place + s * α z) area)) (kept z xs u i)) false → r ≡ pick before (holdsStripe z xs boards starts area place i s) false
+decoded-holds z xs boards starts area u place i s before r eu er =
+    er ∙ ap (λ (v : List ℕ). pick before (same (take (α z) (drop (place + s * α z) area)) (kept z xs v i)) false) eu
 
 -- one stripe, in an array of its length
 pub one-stripe : (b s m : ℕ) (f : ℕ → List ℕ) (u : List ℕ) → length (f s) ≡ b → m ≡ b → u ≡ take m (join 1 (λ i. f (s + i))) → u ≡ f s

@@ -164,7 +164,8 @@ refused-keeps : (w : State) (c : Call) → (act w c .answer .refusal ≡ 0 → �
     → act w c ≡ record { answer = act w c .answer; handed = w .kept; running = w .running; area = w .area; output = outputOf c; packets = packetsOfCall c }
 refused-keeps w c =
     subst
-    (λ (o : Outcome). (o .answer .refusal ≡ 0 → ⊥) → o ≡ record { answer = o .answer; handed = w .kept; running = w .running; area = w .area; output = outputOf c; packets = packetsOfCall c })
+    (λ (o : Outcome). (o .answer .refusal ≡ 0 → ⊥)
+    → o ≡ record { answer = o .answer; handed = w .kept; running = w .running; area = w .area; output = outputOf c; packets = packetsOfCall c })
     (sym (act-is w c))
     (keeps (w .kept) (w .running) (w .area) (outputOf c) (packetsOfCall c) (storeDone (w .kept) (w .running) (w .area) c)
     (first storeOrder (storeLines (w .kept) (w .running) (w .area) c)) (done-accepted (w .kept) (w .running) (w .area) c))

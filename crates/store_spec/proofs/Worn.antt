@@ -104,7 +104,8 @@ module _ (s : Record) (p : Running) (a b : List ℕ) (long : length a ≡ length
       (alike-by s p a b [] [] [] _ _ (first storeOrder (repairLinesBoth s p (length a) fresh helpers standIns)) (refl, refl))
   alike-at (step allowance packets) f =
       subst (λ (m : ℕ). Alike (left a (step allowance packets)) (by s p b [] l (storeDone s p b (step allowance l)) (first storeOrder (stepLines s p m (length l))))) long
-      (subst (λ (m : ℕ). Alike (left a (step allowance packets)) (by s p b [] l (storeDone s p b (step allowance l)) (first storeOrder (stepLines s p (length a) m)))) (sym (f allowance packets refl))
+      (subst (λ (m : ℕ). Alike (left a (step allowance packets)) (by s p b [] l (storeDone s p b (step allowance l)) (first storeOrder (stepLines s p (length a) m))))
+      (sym (f allowance packets refl))
       (alike-by s p a b [] packets l _ _ (first storeOrder (stepLines s p (length a) (length packets))) (go (leb (leftOf s p a packets) allowance))))
     where
       go : (t : Bool) → Alike (pick t (stepLast s p a packets) (stepOn s p a packets allowance)) (pick t (stepLast s p b l) (stepOn s p b l allowance))

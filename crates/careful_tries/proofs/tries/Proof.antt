@@ -18,11 +18,11 @@ use Rattle.careful_tries.proofs.tries.Statement.{statement}
 use Rattle.careful_tries.proofs.tries.Tie as tie
 
 abbrev Inv-loop : tie.InvT-loop
-Inv-loop kept stripes boards area chosen₀ tables₀ end₀ chosen tables end =
+Inv-loop kept stripes boards area chosen₀ tables₀ end₀ from₀ chosen tables end from =
     Rest (recordOf kept) area boards end × (end ≤ length boards) × (length chosen ≡ kept .sizes .k) × (length tables ≡ 49152)
 
 abbrev μ-loop : tie.MeasureT-loop
-μ-loop kept stripes boards area chosen₀ tables₀ end₀ chosen tables end = end
+μ-loop kept stripes boards area chosen₀ tables₀ end₀ from₀ chosen tables end from = end
 
 -- places in the code
 abbrev st : tie.At-loop Inv-loop μ-loop → tie.Start Inv-loop μ-loop
@@ -103,8 +103,8 @@ loop-again c =
     ap (λ (i : ℕ). given (attempt (R q) (a .area .now) (a .boards .now) i)) (sym (p-is m)) ∙ sym (m .try-pair .ensures .0) ∙ c .if1 .left in (
       subst (Rest (R q) (a .area .now) (a .boards .now)) (sym (p-is m)) (step-none (R q) (a .area .now) (a .boards .now) (l .end) (some-left m) (l .inv .0) no),
       omega (arith, p-is m, l .inv .1),
-      m .try-pair .kept .1 .1 .1 .1 .1 .0 ∙ l .inv .2,
-      m .try-pair .kept .1 .1 .1 .1 .1 .1 .0 ∙ l .inv .3,
+      m .try-pair .kept .1 .1 .1 .1 .1 .1 .0 ∙ l .inv .2,
+      m .try-pair .kept .1 .1 .1 .1 .1 .1 .1 .0 ∙ l .inv .3,
     )
 
 returns-2 : tie.Need-returns-2 Inv-loop μ-loop

@@ -1,11 +1,14 @@
 -- `careful_tries::try_pair` meets its contract: the k boards' agreement, and what of the two left out holds its share.
 -- Assumes nothing.
 use mathlib.Core.Path.{_≡_, refl, sym, ap, _∙_, subst}
+use mathlib.Core.Bool.{Bool, true, false}
 use mathlib.Core.List.{List}
+use mathlib.Core.Option.{Option}
 use Prim.Native.Nat.{ℕ, _+_, _<_, _≤_}
 use native.Mathlib.Omega.{arith}
 use lib.ListN.{length, getD}
 use borrow.Author.Needs.{needs}
+use borrow.Author.Tests.{not-true}
 use Rattle.lists.specs.Lists.{Bytes}
 use Rattle.lists.specs.Tests.{given}
 use Rattle.lists.proofs.Alls.{all-of, all-at}
@@ -16,13 +19,14 @@ use Rattle.mbcr.specs.Demand2.{Named}
 use Rattle.board_spec.specs.Calls.{fileOf}
 use Rattle.store_spec.specs.Record.{Record}
 use Rattle.store_spec.specs.Calls.{fileHeld}
-use Rattle.store_spec.specs.Careful.{holdsShare}
+use Rattle.store_spec.specs.Careful.{holdsShare, odd, qualifying, oddReport}
 use Rattle.store_spec.proofs.Records.{Sound, sound-facts, sound-points}
 use Rattle.record.specs.Records.{recordOf}
 use Rattle.decode_stripe.specs.Steps.{Asked}
+use Rattle.decode_setup.specs.Steps.{Made}
 use Rattle.careful_pairs.specs.Steps.{leavingPair}
 use Rattle.store_holds.proofs.Stripes.{stripes-few}
-use Rattle.careful_tries.proofs.Found.{pair-named, none-held, pair-told, refused-none, passed-some}
+use Rattle.careful_tries.proofs.Found.{either, pair-named, none-held, pair-told, refused-none, passed-some}
 use Rattle.careful_tries.proofs.try_pair.Statement.{statement}
 use Rattle.careful_tries.proofs.try_pair.Tie as tie
 
@@ -36,11 +40,14 @@ st c = st-arg (c .before)
 abbrev left-at-fill : tie.After-fill-tables → tie.After-leave-pair
 left-at-fill c = c .before .before .before .before .before .before
 
-abbrev filled-at-agrees : tie.After-check-agrees → tie.After-fill-tables
-filled-at-agrees c = c .before .before .before .before .before .before
+abbrev filled-at-hold : tie.After-hold-two → tie.After-fill-tables
+filled-at-hold c = c .before .before .before .before .before
 
-abbrev agrees-at-hold : tie.After-hold-two → tie.After-check-agrees
-agrees-at-hold c = c .before .before .before .before .before
+abbrev told-at-else : tie.Else1 → tie.After-told
+told-at-else c = c .before .before
+
+abbrev else-at-agrees : tie.After-check-agrees → tie.Else1
+else-at-agrees c = c .before .before .before .before
 
 -- ---- what is given
 
@@ -104,47 +111,86 @@ fill-tables-requires c κs =
     let k = c .before .before .before .before .before in
     (asked k, points-long (g k), g k .pre .4)
 
-check-agrees-requires : tie.Need-check-agrees-requires
-check-agrees-requires c κs =
-    let n = c .before .before .before .before .before in
-    let k = left-at-fill n in
-    let q = g k in
-    (asked k, q .pre .1, good q .cap-high, few q, q .pre .0 .area-is, n .fill-tables .ensures)
-
 hold-two-requires : tie.Need-hold-two-requires
 hold-two-requires c κs =
-    let n = filled-at-agrees (c .before .before .before .before) in
+    let n = c .before .before .before .before in
     let k = left-at-fill n in
     let q = g k in
     (q .pre .0 .is-sound, q .pre .1, asked k, low q (q .args .p) (omega (arith, q .pre .2)), low q (q .args .p + 1) (omega (arith, q .pre .2)), q .pre .0 .area-is, n .fill-tables .ensures)
 
--- the k boards hold no file
+-- what the two tell
+module _ (c : tie.After-told) where
+  abbrev h : tie.After-hold-two
+  h = c .before
+
+  abbrev n : tie.After-fill-tables
+  n = filled-at-hold h
+
+  abbrev k : tie.After-leave-pair
+  k = left-at-fill n
+
+  abbrev q : tie.Start
+  q = g k
+
+  abbrev there : Bool
+  there = given (fileHeld (R q) (q .args .area .now) (chosen k))
+
+  abbrev file : Option (List ℕ)
+  file = fileHeld (R q) (q .args .area .now) (leavingPair (q .args .p) (q .args .boards .now))
+
+  abbrev attempted : Bool
+  attempted = given (qualifying (R q) (q .args .area .now) (q .args .boards .now) file)
+
+  -- where the k boards hold a file
+  where-held : there ≡ true → (c .told .result .found ≡ attempted)
+      × (c .told .result .found ≡ true → c .told .result .odd ≡ oddReport (odd (R q) (q .args .area .now) (fileOf file) (q .args .boards .now)))
+  where-held holds =
+      let t = pair-told (R q) (q .args .area .now) (good q) (q .pre .0 .area-is) (bytes k) (q .args .boards .now) (q .pre .0 .named) (q .args .p) (q .pre .2) (sym (same-file k) ∙ holds)
+      (h .hold-two .result .first) (h .hold-two .result .second)
+      (h .hold-two .ensures .0 holds ∙ same-holds k (getD (q .args .boards .now) (q .args .p) 0)) (h .hold-two .ensures .1 holds ∙ same-holds k (getD (q .args .boards .now) (q .args .p + 1) 0)) in
+      (c .told .ensures .0 ∙ t .0, (λ e. c .told .ensures .1 ∙ t .1 (sym (c .told .ensures .0) ∙ e)))
+
+  -- where they hold none
+  not-held : there ≡ false → false ≡ attempted
+  not-held fails = none-held (R q) (q .args .area .now) (q .args .boards .now) (q .args .p) (sym (same-file k) ∙ fails)
+
+  -- what is handed on with it
+  handed : (chosen k ≡ leavingPair (q .args .p) (q .args .boards .now)) × Made (q .args .kept .sizes) (q .args .kept .points) (chosen k) (n .fill-tables .last .1 .1 .1 .0)
+  handed = (chosen-are k, n .fill-tables .ensures)
+
+  -- both are as long as they were
+  chosen-stay : length (chosen k) ≡ length (q .args .chosen .now)
+  chosen-stay = k .leave-pair .kept .1 .1 .0
+
+  tables-stay : length (n .fill-tables .last .1 .1 .1 .0) ≡ length (q .args .tables .now)
+  tables-stay = n .fill-tables .kept .1 .1 .1 .0
+
+check-agrees-requires : tie.Need-check-agrees-requires
+check-agrees-requires c κs =
+    let t = told-at-else (c .before .before .before) in
+    (asked (k t), q t .pre .1, good (q t) .cap-high, few (q t), q t .pre .0 .area-is, n t .fill-tables .ensures)
+
+-- neither of the two holds a share
 returns : tie.Need-returns
 returns c =
-    let m = c .before .before .before in
-    let n = filled-at-agrees m in
-    let k = left-at-fill n in
-    let q = g k in
-    let no = refused-none (given (fileHeld (R q) (q .args .area .now) (chosen k))) (sym (m .check-agrees .ensures) ∙ c .before .disagree .given .1) in (
-      none-held (R q) (q .args .area .now) (q .args .boards .now) (q .args .p) (sym (same-file k) ∙ no),
-      ((λ t. absurd (true-false t refl)), (chosen-are k, n .fill-tables .ensures)),
-    )
+    let t = c .before .before in
+    let no = not-true (t .told .result .found) (c .if1 .taken) in
+    (either (there t) (λ e. where-held t e .0) (λ e. no ∙ not-held t e), ((λ e. absurd (true-false e no)), handed t))
 
--- they hold one
+-- the k boards hold no file
 returns-2 : tie.Need-returns-2
 returns-2 c =
-    let h = c .before in
-    let m = agrees-at-hold h in
-    let n = filled-at-agrees m in
-    let k = left-at-fill n in
-    let q = g k in
-    let yes = passed-some (given (fileHeld (R q) (q .args .area .now) (chosen k))) (sym (m .check-agrees .ensures) ∙ h .before .before .before .enum-told .given .1) in
-    let t = pair-told (R q) (q .args .area .now) (good q) (q .pre .0 .area-is) (bytes k) (q .args .boards .now) (q .pre .0 .named) (q .args .p) (q .pre .2) (sym (same-file k) ∙ yes)
-    (h .hold-two .result .first) (h .hold-two .result .second)
-    (h .hold-two .ensures .0 yes ∙ same-holds k (getD (q .args .boards .now) (q .args .p) 0)) (h .hold-two .ensures .1 yes ∙ same-holds k (getD (q .args .boards .now) (q .args .p + 1) 0)) in (
-      c .told .ensures .0 ∙ t .0,
-      ((λ e. c .told .ensures .1 ∙ t .1 (sym (c .told .ensures .0) ∙ e)), (chosen-are k, n .fill-tables .ensures)),
-    )
+    let m = c .before .before .before in
+    let t = told-at-else (else-at-agrees m) in
+    (not-held t (refused-none (there t) (sym (m .check-agrees .ensures) ∙ c .before .disagree .given .1)), ((λ e. absurd (true-false e refl)), handed t))
+
+-- they hold one
+returns-3 : tie.Need-returns-3
+returns-3 c =
+    let m = c .before .before in
+    let t = told-at-else (else-at-agrees m) in
+    let w = where-held t (passed-some (there t) (sym (m .check-agrees .ensures) ∙ c .enum-told .given .1)) in
+    (w .0, (w .1, handed t))
 
 pub try-pair-spec : {M : Type 1} → statement M
 try-pair-spec =
@@ -158,18 +204,21 @@ try-pair-spec =
     leave-pair-requires
     (λ c. search needs)
     fill-tables-requires
-    (λ c. search needs)
-    check-agrees-requires
-    (λ c. search needs)
-    (λ c. search needs)
-    (λ c. search needs)
-    returns
-    (λ c. search needs)
     hold-two-requires
     (λ c κs.
-    let q = st (left-at-fill (filled-at-agrees (agrees-at-hold c))) in
+    let q = st (left-at-fill (filled-at-hold c)) in
     let f = facts q .few in
     (omega (arith, f, low q (q .args .p) (omega (arith, q .pre .2))), omega (arith, f, low q (q .args .p + 1) (omega (arith, q .pre .2)))))
     (λ c. search needs)
     (λ c. search needs)
-    returns-2)
+    returns
+    (λ c. sym (points-long (q (told-at-else (c .before)))))
+    check-agrees-requires
+    (λ c. search needs)
+    (λ c. chosen-stay (told-at-else (else-at-agrees (c .before .before .before))))
+    (λ c. tables-stay (told-at-else (else-at-agrees (c .before .before .before))))
+    returns-2
+    (λ c. search needs)
+    (λ c. chosen-stay (told-at-else (else-at-agrees (c .before .before))))
+    (λ c. tables-stay (told-at-else (else-at-agrees (c .before .before))))
+    returns-3)

@@ -32,11 +32,17 @@ lent-bytes-at-struct-known c = c .before .before .before .before .before .before
 abbrev st-struct-known : tie.After-struct-known → tie.Start
 st-struct-known c = st-lent-bytes (lent-bytes-at-struct-known c)
 
+abbrev struct-known-at-whole-vectors2 : tie.After-whole-vectors2 → tie.After-struct-known
+struct-known-at-whole-vectors2 c = c .before .before
+
 abbrev st-whole-vectors2 : tie.After-whole-vectors2 → tie.Start
-st-whole-vectors2 c = st-struct-known (c .before .before)
+st-whole-vectors2 c = st-struct-known (struct-known-at-whole-vectors2 c)
+
+abbrev whole-vectors2-at-rows-of-arg2 : tie.After-rows-of-arg2 → tie.After-whole-vectors2
+whole-vectors2-at-rows-of-arg2 c = c .before .before
 
 abbrev whole-vectors2-at-rows-of : tie.After-rows-of → tie.After-whole-vectors2
-whole-vectors2-at-rows-of c = c .before .before .before
+whole-vectors2-at-rows-of c = whole-vectors2-at-rows-of-arg2 (c .before)
 
 abbrev fs-at-slice-known8 : tie.After-slice-known8 → tie.After-fs
 fs-at-slice-known8 c = c .before .before .before
@@ -144,7 +150,7 @@ whole-vectors-requires-2 c κs = omega (arith, facts (st-struct-known (c .before
 
 rows-of-requires : tie.Need-rows-of-requires
 rows-of-requires c κs =
-    let g = st-whole-vectors2 (c .before .before) in
+    let g = st-whole-vectors2 (whole-vectors2-at-rows-of-arg2 c) in
     let f = facts g in (
       omega (arith, f),
       omega (arith, f),
@@ -274,7 +280,7 @@ returns c =
     let z = a .sizes in
     let xs = a .points .now in
     let lb = g .pre .2 in
-    let b = bytes (lent-bytes-at-struct-known (e .before .before)) in
+    let b = bytes (lent-bytes-at-struct-known (struct-known-at-whole-vectors2 e)) in
     let w = e .before .whole-vectors in
     let w2 = e .whole-vectors2 in
     let rows = o .rows-of .ensures in

@@ -48,8 +48,11 @@ after-factors-in-from-after-slice-known6 c = c .before .before .before .before .
 abbrev start-from-after-slice-known6 : tie.After-slice-known6 Inv-loop μ-loop → tie.Start Inv-loop μ-loop
 start-from-after-slice-known6 c = start-from-after-factors-in-arg3 (after-factors-in-from-after-slice-known6 c .before)
 
+abbrev factors-in-arg2-at-factors-in : tie.After-factors-in Inv-loop μ-loop → tie.After-factors-in-arg2 Inv-loop μ-loop
+factors-in-arg2-at-factors-in c = c .before .before
+
 abbrev at-loop-from-after-slice-known6 : tie.After-slice-known6 Inv-loop μ-loop → tie.At-loop Inv-loop μ-loop
-at-loop-from-after-slice-known6 c = in-loop-from-after-factors-in-arg3 (after-factors-in-from-after-slice-known6 c .before) .before
+at-loop-from-after-slice-known6 c = turn-at-factors-in-arg2 (factors-in-arg2-at-factors-in (after-factors-in-from-after-slice-known6 c)) .before
 
 abbrev start-from-after-loop : tie.After-loop Inv-loop μ-loop → tie.Start Inv-loop μ-loop
 start-from-after-loop c = start-from-after-struct-known (c .before .before)
@@ -137,12 +140,12 @@ add-t : tie.Need-add-t Inv-loop μ-loop
 add-t c = omega (
   arith,
   at-loop-from-after-slice-known6 c .loop .inv,
-  in-loop-from-after-factors-in-arg3 (after-factors-in-from-after-slice-known6 c .before) .loop-test .taken,
+  turn-at-factors-in-arg2 (factors-in-arg2-at-factors-in (after-factors-in-from-after-slice-known6 c)) .loop-test .taken,
   start-from-after-slice-known6 c .pre,
 )
 
 loop-less : tie.Need-loop-less Inv-loop μ-loop
-loop-less c = omega (arith, in-loop-from-after-factors-in-arg3 (after-factors-in-from-after-slice-known6 c .before) .loop-test .taken)
+loop-less c = omega (arith, turn-at-factors-in-arg2 (factors-in-arg2-at-factors-in (after-factors-in-from-after-slice-known6 c)) .loop-test .taken)
 
 loop-again : tie.Need-loop-again Inv-loop μ-loop
 loop-again c =
@@ -151,7 +154,7 @@ loop-again c =
     let l = (at-loop-from-after-slice-known6 c) .loop in (
       join-loop (λ t. factorsOf (a .sizes) (a .points .now) (a .c) (getD (a .boards .now) t 0)) ((a .sizes .n - a .c) * 32) (l .t) (a .out .now) (l .out) _
           (λ t h. length-factors (a .sizes) (a .points .now) (a .c) (getD (a .boards .now) t 0)) (after-factors-in-from-after-slice-known6 c .factors-in .ensures) (l .inv .0),
-      omega (arith, in-loop-from-after-factors-in-arg3 (after-factors-in-from-after-slice-known6 c .before) .loop-test .taken),
+      omega (arith, turn-at-factors-in-arg2 (factors-in-arg2-at-factors-in (after-factors-in-from-after-slice-known6 c)) .loop-test .taken),
       omega arith,
       omega arith,
       omega arith,

@@ -34,11 +34,14 @@ ends c =
     let p = c .pre in
     (run-end (a .i) (a .k) (a .k) (p .0) (omega (arith, p .1)) (omega (arith, p .1)), run-end (a .i) (a .k) (a .m) (p .0) (omega (arith, p .1)) (omega (arith, p .1)))
 
+abbrev slice-known2-at-padded : tie.After-padded → tie.After-slice-known2
+slice-known2-at-padded c = c .before .before .before
+
 returns : tie.Need-returns
 unfolding piece
 returns c =
     let p = padded c in
-    let k = copy-at-padded (p .before .before .before) in
+    let k = copy-at-padded (slice-known2-at-padded p) in
     let s = st-at-copy k in
     let a = s .args in
     let e = ends s in
@@ -72,5 +75,5 @@ upper-row-spec =
     (λ c. omega (arith, st-at-copy (copy-at-padded (c .before)) .pre))
     (λ c. omega arith)
     (λ c κs. omega arith)
-    (λ c. c .before .out2 .given .1 ∙ padded c .before .before .before .before .out .given .1)
+    (λ c. c .before .out2 .given .1 ∙ slice-known2-at-padded (padded c) .before .out .given .1)
     returns)

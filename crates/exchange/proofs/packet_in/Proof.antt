@@ -26,8 +26,11 @@ ff-at-exchange-bytes-arg2 c = c .before .before .before
 abbrev st-at-exchange-bytes-arg2 : tie.After-exchange-bytes-arg2 → tie.Start
 st-at-exchange-bytes-arg2 c = st-at-factors-arg (ff-at-exchange-bytes-arg2 c .before .before)
 
+abbrev exchange-bytes-at-slice-known4 : tie.After-slice-known4 → tie.After-exchange-bytes
+exchange-bytes-at-slice-known4 c = c .before .before
+
 abbrev factors-at-slice-known4 : tie.After-slice-known4 → tie.After-factors
-factors-at-slice-known4 c = ff-at-exchange-bytes-arg2 (c .before .before .before) .before
+factors-at-slice-known4 c = ff-at-exchange-bytes-arg2 (exchange-bytes-at-slice-known4 c .before) .before
 
 abbrev st-at-slice-known4 : tie.After-slice-known4 → tie.Start
 st-at-slice-known4 c = st-at-factors-arg (factors-at-slice-known4 c .before)
@@ -56,7 +59,7 @@ returns c =
     let a = st-at-slice-known4 c .args in
     let p = st-at-slice-known4 c .pre in
     let b = all-of (λ x. x < 256) 0 (a .packets .now) (λ i l. omega (arith, shared-slice-known4-at-slice-known4 c .shared-slice-known4 .given i)) in
-    c .before .before .exchange-bytes .ensures
+    exchange-bytes-at-slice-known4 c .exchange-bytes .ensures
     ∙ ap (λ (l : List ℕ). l ++ drop (a .stripes) (a .out .now))
     (packet-is (a .sizes) (a .points .now) (p .2) (a .stripes) (a .m) (length (a .ff .now)) (a .helpers .now) (a .packets .now) _ (p .5) (p .6) (p .7) (p .11) b
     (factors-at-slice-known4 c .factors .ensures))

@@ -45,10 +45,13 @@ add-at-2 c =
     let a = st-at-turn c .args in
     omega (arith, row-fits (c .before .loop .t) (a .sizes .d) (2 * a .stripes) (omega arith))
 
+abbrev head-at-shared-slice-known : tie.After-shared-slice-known Inv-loop μ-loop → tie.At-loop Inv-loop μ-loop
+head-at-shared-slice-known c = c .before .before
+
 shared-slice-read-out : tie.Need-shared-slice-read-out Inv-loop μ-loop
 shared-slice-read-out c =
     let a = st-at-turn (c .before) .args in
-    omega (arith, row-fits (c .before .before .loop .t) (a .sizes .d) (2 * a .stripes) (omega arith))
+    omega (arith, row-fits (head-at-shared-slice-known c .loop .t) (a .sizes .d) (2 * a .stripes) (omega arith))
 
 slice-write-out : tie.Need-slice-write-out Inv-loop μ-loop
 slice-write-out c = search needs
@@ -61,7 +64,7 @@ loop-less c = search needs
 
 loop-again : tie.Need-loop-again Inv-loop μ-loop
 loop-again c =
-    let l = c .before .before .loop in
+    let l = head-at-shared-slice-known c .loop in
     let a = st-at-turn (c .before) .args in (
       fill-loop _ (a .out .now) (l .out) (l .t) _ (omega arith) refl (l .inv .0),
       omega arith,

@@ -32,9 +32,12 @@ loop-holds c = (none _ 0, refl, omega arith, omega arith, refl)
 abbrev step-at-slice-known2 : tie.After-slice-known2 Inv-loop μ-loop → tie.After-step Inv-loop μ-loop
 step-at-slice-known2 c = c .before .before
 
+abbrev head-at-step-arg : tie.After-step-arg Inv-loop μ-loop → tie.At-loop Inv-loop μ-loop
+head-at-step-arg c = c .before .before
+
 -- where a turn began, and where the call began
 abbrev turn : tie.After-slice-known2 Inv-loop μ-loop → tie.At-loop Inv-loop μ-loop
-turn c = step-at-slice-known2 c .before .before .before
+turn c = head-at-step-arg (step-at-slice-known2 c .before)
 
 abbrev st : tie.At-loop Inv-loop μ-loop → tie.Start Inv-loop μ-loop
 st c = c .before .before
@@ -45,7 +48,7 @@ legal-here c =
     subst LegalPlace (sym (c .loop .inv .1)) (legal-after (s .args .most) (s .pre .0) (c .loop .i) (s .args .place) (s .pre .1))
 
 step-requires : tie.Need-step-requires Inv-loop μ-loop
-step-requires c κs = let k = c .before .before in (legal-here k, omega arith, omega (arith, k .loop .inv .4))
+step-requires c κs = let k = head-at-step-arg c in (legal-here k, omega arith, omega (arith, k .loop .inv .4))
 
 -- there is room for the lines after a turn
 room-more : (c : tie.After-slice-known2 Inv-loop μ-loop)

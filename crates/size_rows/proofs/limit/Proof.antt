@@ -26,8 +26,11 @@ abbrev μ-loop : tie.MeasureT-loop
 abbrev turn : tie.After-feed Inv-loop μ-loop → tie.At-loop Inv-loop μ-loop
 turn c = c .before .before .before .before
 
+abbrev st-at-start : tie.After-start Inv-loop μ-loop → tie.Start Inv-loop μ-loop
+st-at-start c = c .before .before
+
 abbrev st : tie.At-loop Inv-loop μ-loop → tie.Start Inv-loop μ-loop
-st c = c .before .before .before
+st c = st-at-start (c .before)
 
 -- what the bytes that are left give, with the byte that was read
 fed-on : (c : tie.After-feed Inv-loop μ-loop)
@@ -71,7 +74,7 @@ limit-spec =
     Inv-loop
     μ-loop
     (λ c κs. search needs)
-    (λ c. (omega arith, ap (λ r. reads 0 [] 33 r (c .before .before .args .input .now) go) (c .start .ensures) ∙ limit-reads _))
+    (λ c. (omega arith, ap (λ r. reads 0 [] 33 r (st-at-start c .args .input .now) go) (c .start .ensures) ∙ limit-reads _))
     (λ c. search needs)
     (λ c. omega arith)
     (λ c κs. search needs)

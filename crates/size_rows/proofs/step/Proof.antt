@@ -13,9 +13,12 @@ use borrow.Author.Needs.{needs}
 use Rattle.size_rows.proofs.step.Statement.{statement}
 use Rattle.size_rows.proofs.step.Tie as tie
 
+abbrev put-row-at-slice-known2 : tie.After-slice-known2 → tie.After-put-row
+put-row-at-slice-known2 c = c .before .before
+
 -- where the line is about to be written, and where the call began
 abbrev lent : tie.After-slice-known2 → tie.After-put-row-arg
-lent c = c .before .before .before
+lent c = put-row-at-slice-known2 c .before
 
 abbrev place-at-put-row-arg : tie.After-put-row-arg → tie.After-place
 place-at-put-row-arg c = c .before .before
@@ -27,7 +30,7 @@ is-legal : (c : tie.After-put-row-arg) → LegalPlace (st c .args .place)
 is-legal c = st c .pre .0
 
 abbrev put-row-at-next : tie.After-next → tie.After-put-row
-put-row-at-next c = c .before .before .before
+put-row-at-next c = put-row-at-slice-known2 (c .before)
 
 returns : tie.Need-returns
 returns c =

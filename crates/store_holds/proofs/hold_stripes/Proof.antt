@@ -1,145 +1,135 @@
--- `store_holds::hold_stripes` meets its contract.
+-- `store_holds::hold_stripes` meets its contract. The loop's invariant: each of the two holds, or holds not, the stripes that were looked at.
 -- Assumes nothing.
-use mathlib.Core.Path.{_≡_, refl, ap, _∙_}
-use mathlib.Core.Bool.{true}
-use mathlib.Core.List.{List}
+use mathlib.Core.Path.{_≡_, refl, _∙_}
 use Prim.Native.Nat.{ℕ, _+_, _*_, _-_, _<_, _≤_}
-use native.Mathlib.Nat.{one-mul}
 use native.Mathlib.Omega.{arith}
 use lib.ListN.{length}
 use borrow.Author.Needs.{needs}
-use Rattle.sizes.specs.Sizing.{legal, α, B}
-use Rattle.sizes.proofs.Legal.{Legal, legal-facts, row-fits}
-use Rattle.lists.specs.Lists.{Bytes}
-use Rattle.lists.proofs.Alls.{all-of}
-use Rattle.mbcr.proofs.Decode.{length-decoded}
+use borrow.Author.Tests.{not-true}
+use Rattle.sizes.specs.Sizing.{α, B}
+use Rattle.sizes.proofs.Legal.{row-fits}
 use Rattle.decode_laws.proofs.Held.{placed-before}
-use Rattle.stripes_cut.specs.Steps.{stripeAt}
-use Rattle.store_holds.specs.Steps.{holdsStripes}
-use Rattle.store_holds.proofs.Stripes.{turn, one-stripe}
+use Rattle.store_holds.specs.Steps.{turned}
+use Rattle.store_holds.proofs.Turned.{turned-low, upTo, turn, all-looked, failed-there}
 use Rattle.store_holds.proofs.hold_stripes.Statement.{statement}
 use Rattle.store_holds.proofs.hold_stripes.Tie as tie
 
 abbrev Inv-loop : tie.InvT-loop
-Inv-loop sizes points boards starts tables stripes p first q second area u₀ rows₀ w one₀ other₀ s₀ u rows one other s =
-    (one ≡ holdsStripes sizes points boards starts area s first p) × (other ≡ holdsStripes sizes points boards starts area s second q)
-    × (s ≤ stripes) × (length u ≡ B sizes) × (length rows ≡ sizes .d * 32)
+Inv-loop sizes points boards starts tables powers stripes from p first q second area u₀ rows₀ held₀ t₀ u rows held t =
+    (held .first ≡ upTo sizes points boards starts area first p from stripes t) × (held .second ≡ upTo sizes points boards starts area second q from stripes t)
+    × (t ≤ stripes) × (length u ≡ B sizes) × (length rows ≡ 992)
 
 abbrev μ-loop : tie.MeasureT-loop
-μ-loop sizes points boards starts tables stripes p first q second area u₀ rows₀ w one₀ other₀ s₀ u rows one other s = stripes - s
+μ-loop sizes points boards starts tables powers stripes from p first q second area u₀ rows₀ held₀ t₀ u rows held t = stripes - t
 
 -- places in the code
 abbrev st : tie.At-loop Inv-loop μ-loop → tie.Start Inv-loop μ-loop
-st c = c .before .before .before .before .before .before .before .before .before .before
+st c = c .before .before .before .before .before .before .before .before .before
 
-abbrev st-first : tie.After-struct-known Inv-loop μ-loop → tie.Start Inv-loop μ-loop
-st-first c = c .before .before .before .before .before .before .before .before
+abbrev after-at : tie.After-hold-stripe-arg2 Inv-loop μ-loop → tie.After-stripe-after Inv-loop μ-loop
+after-at c = c .before .before
 
-abbrev turn-at-stripes : tie.After-stripes Inv-loop μ-loop → tie.In-loop Inv-loop μ-loop
-turn-at-stripes c = c .before .before
+abbrev hold-at : tie.After-struct-known Inv-loop μ-loop → tie.After-hold-stripe Inv-loop μ-loop
+hold-at c = c .before .before .before .before .before
 
-abbrev stripes-at-rows : tie.After-grid-rows Inv-loop μ-loop → tie.After-stripes Inv-loop μ-loop
-stripes-at-rows c = c .before .before .before .before .before
+-- the stripe that is looked at
+module _ (c : tie.After-stripe-after Inv-loop μ-loop) where
+  abbrev k : tie.In-loop Inv-loop μ-loop
+  k = c .before
 
-abbrev rows-at-holds : tie.After-still-holds Inv-loop μ-loop → tie.After-grid-rows Inv-loop μ-loop
-rows-at-holds c = c .before .before .before .before
-
-facts : (g : tie.Start Inv-loop μ-loop) → Legal (g .args .sizes)
-facts g = legal-facts _ (g .pre .0 .sized)
-
--- the part of stripe s of each of the two boards lies in the area
-module _ (c : tie.In-loop Inv-loop μ-loop) where
   abbrev g : tie.Start Inv-loop μ-loop
-  g = st (c .before)
+  g = st (k .before)
+
+  abbrev t : ℕ
+  t = k .before .loop .t
 
   abbrev s : ℕ
-  s = c .before .loop .s
+  s = c .stripe-after .result
+
+  s-is : s ≡ turned (g .args .from) (g .args .stripes) t
+  s-is = c .stripe-after .ensures
+
+  low : s < g .args .stripes
+  low = omega (arith, s-is, turned-low (g .args .from) (g .args .stripes) t (k .loop-test .taken))
 
   row : s * α (g .args .sizes) + α (g .args .sizes) ≤ g .args .stripes * α (g .args .sizes)
-  row = row-fits s (g .args .stripes) (α (g .args .sizes)) (c .loop-test .taken)
+  row = row-fits s (g .args .stripes) (α (g .args .sizes)) low
 
-  first-end : g .args .first + s * α (g .args .sizes) + α (g .args .sizes) ≤ length (g .args .area .now)
-  first-end = omega (arith, row, g .pre .7)
+-- the two, with that stripe
+module _ (h : tie.After-hold-stripe Inv-loop μ-loop) where
+  abbrev c : tie.After-stripe-after Inv-loop μ-loop
+  c = after-at (h .before)
 
-  second-end : g .args .second + s * α (g .args .sizes) + α (g .args .sizes) ≤ length (g .args .area .now)
-  second-end = omega (arith, row, g .pre .9)
+  abbrev q : tie.Start Inv-loop μ-loop
+  q = g c
 
--- the stripe that is decoded, and the rows of its coefficients
-module _ (c : tie.After-grid-rows Inv-loop μ-loop) where
-  abbrev k : tie.After-stripes Inv-loop μ-loop
-  k = stripes-at-rows c
+  first-is : h .hold-stripe .result .first
+      ≡ upTo (q .args .sizes) (q .args .points .now) (q .args .boards .now) (q .args .starts .now) (q .args .area .now) (q .args .first) (q .args .p) (q .args .from) (q .args .stripes) (t c + 1)
+  first-is =
+      turn (q .args .sizes) (q .args .points .now) (q .args .boards .now) (q .args .starts .now) (q .args .area .now) (q .args .first) (q .args .p) (q .args .from) (q .args .stripes)
+      (t c) (s c) _ _ (k c .before .loop .inv .0) (s-is c) (h .hold-stripe .ensures .0)
 
-  abbrev t : tie.In-loop Inv-loop μ-loop
-  t = turn-at-stripes k
+  second-is : h .hold-stripe .result .second
+      ≡ upTo (q .args .sizes) (q .args .points .now) (q .args .boards .now) (q .args .starts .now) (q .args .area .now) (q .args .second) (q .args .q) (q .args .from) (q .args .stripes) (t c + 1)
+  second-is =
+      turn (q .args .sizes) (q .args .points .now) (q .args .boards .now) (q .args .starts .now) (q .args .area .now) (q .args .second) (q .args .q) (q .args .from) (q .args .stripes)
+      (t c) (s c) _ _ (k c .before .loop .inv .1) (s-is c) (h .hold-stripe .ensures .1)
 
-  abbrev u : List ℕ
-  u = k .stripes .last .1 .1 .1 .1 .1 .1 .1 .1 .0
-
-  stripe-is : u ≡ stripeAt (g t .args .sizes) (g t .args .points .now) (g t .args .boards .now) (g t .args .starts .now) (g t .args .area .now) (s t)
-  stripe-is =
-      let a = g t .args in
-      one-stripe (B (a .sizes)) (s t) _ (stripeAt (a .sizes) (a .points .now) (a .boards .now) (a .starts .now) (a .area .now)) u
-      (length-decoded (a .sizes) (a .points .now) (facts (g t)) (a .boards .now) (g t .pre .0 .counted) _) (t .before .loop .inv .3) (k .stripes .ensures)
-
-  long : length u ≡ B (g t .args .sizes)
-  long = ap length stripe-is ∙ length-decoded (g t .args .sizes) (g t .args .points .now) (facts (g t)) (g t .args .boards .now) (g t .pre .0 .counted) _
-
-  bytes : Bytes u
-  bytes = all-of (λ b. b < 256) 0 u (λ i h. omega (arith, c .before .before .before .slice-known3 .given i))
-
-  rows-long : length (c .grid-rows .last .1 .1 .0) ≡ g t .args .sizes .d * 32
-  rows-long = c .grid-rows .kept .1 .1 .0 ∙ t .before .loop .inv .4
-
-  -- what is asked of each of the two
-  asks : (i at : ℕ) → i < g t .args .sizes .n → at + α (g t .args .sizes) ≤ length (g t .args .area .now)
-      → (legal (g t .args .sizes) ≡ true) × (i < g t .args .sizes .n) × (length (g t .args .points .now) ≡ 32)
-      × (length (c .grid-rows .last .1 .1 .0) ≡ g t .args .sizes .d * 32) × (at + α (g t .args .sizes) ≤ length (g t .args .area .now))
-  asks i at hi ha = (g t .pre .0 .sized, hi, g t .pre .5, rows-long, ha)
-
-stripes-requires : tie.Need-stripes-requires Inv-loop μ-loop
-stripes-requires c κs =
-    let t = c .before in
-    let q = g t in
+hold-stripe-requires : tie.Need-hold-stripe-requires Inv-loop μ-loop
+hold-stripe-requires c κs =
+    let b = after-at c in
+    let q = g b in
     let a = q .args in
-    let l = t .before .loop in (
+    let l = k b .before .loop in (
       q .pre .0,
       q .pre .1,
-      placed-before (a .sizes) (a .starts .now) (a .area .now) (l .s + 1) (a .stripes) (omega (arith, t .loop-test .taken)) (q .pre .2),
-      omega (arith, t .loop-test .taken, q .pre .3),
+      placed-before (a .sizes) (a .starts .now) (a .area .now) (s b + 1) (a .stripes) (omega (arith, low b)) (q .pre .2),
+      omega (arith, low b, q .pre .3),
       q .pre .4,
-      omega (arith, l .inv .3, one-mul (B (a .sizes))),
-      omega (arith, l .inv .3, one-mul (B (a .sizes))),
+      q .pre .5,
+      q .pre .6,
+      omega (arith, row b, q .pre .7),
+      q .pre .8,
+      omega (arith, row b, q .pre .9),
+      q .pre .10,
+      q .pre .11,
+      q .pre .12,
+      l .inv .3,
+      l .inv .4,
     )
 
-grid-rows-requires : tie.Need-grid-rows-requires Inv-loop μ-loop
-grid-rows-requires c κs =
-    let k = c .before .before .before .before in
-    let t = turn-at-stripes k in
-    (g t .pre .0 .sized, k .stripes .kept .1 .1 .1 .1 .1 .1 .1 .1 .0 ∙ t .before .loop .inv .3, t .before .loop .inv .4)
+-- neither can hold its share
+returns : tie.Need-returns Inv-loop μ-loop
+returns c =
+    let h = hold-at (c .before .before .before) in
+    let b = after-at (h .before) in
+    let a = g b .args in
+    let few : t b + 1 ≤ a .stripes = omega (arith, k b .loop-test .taken) in (
+      failed-there (a .sizes) (a .points .now) (a .boards .now) (a .starts .now) (a .area .now) (a .first) (a .p) (a .from) (a .stripes) (t b + 1) _ few (first-is h)
+          (not-true _ (c .before .before .if1 .taken)),
+      failed-there (a .sizes) (a .points .now) (a .boards .now) (a .starts .now) (a .area .now) (a .second) (a .q) (a .from) (a .stripes) (t b + 1) _ few (second-is h)
+          (not-true _ (c .if2 .taken)),
+    )
 
 loop-again : tie.Need-loop-again Inv-loop μ-loop
 loop-again c =
-    let n = c .before .before in
-    let m = rows-at-holds n in
-    let q = t m in
-    let l = q .before .loop in
-    let a = g q .args in (
-      turn (a .sizes) (a .points .now) (a .boards .now) (a .starts .now) (a .area .now) (a .first) (a .p) (l .s) (l .one) _ (u m) (l .inv .0) (stripe-is m)
-          (n .still-holds .ensures (u m) (long m) (bytes m) (m .grid-rows .ensures)),
-      turn (a .sizes) (a .points .now) (a .boards .now) (a .starts .now) (a .area .now) (a .second) (a .q) (l .s) (l .other) _ (u m) (l .inv .1) (stripe-is m)
-          (c .still-holds2 .ensures (u m) (long m) (bytes m) (m .grid-rows .ensures)),
-      omega (arith, q .loop-test .taken),
-      long m,
-      rows-long m,
+    let h = hold-at (c .before) in
+    let b = after-at (h .before) in
+    let l = k b .before .loop in (
+      first-is h,
+      second-is h,
+      omega (arith, k b .loop-test .taken),
+      h .hold-stripe .kept .1 .1 .1 .1 .1 .1 .1 .1 .1 .1 .1 .1 .1 .0 ∙ l .inv .3,
+      h .hold-stripe .kept .1 .1 .1 .1 .1 .1 .1 .1 .1 .1 .1 .1 .1 .1 .0 ∙ l .inv .4,
     )
 
-returns : tie.Need-returns Inv-loop μ-loop
-returns c =
+returns-2 : tie.Need-returns-2 Inv-loop μ-loop
+returns-2 c =
     let l = c .before .loop in
     let a = st (c .before) .args in
-    let e : l .s ≡ a .stripes = omega (arith, c .loop-test .left, l .inv .2) in (
-      l .inv .0 ∙ ap (λ (m : ℕ). holdsStripes (a .sizes) (a .points .now) (a .boards .now) (a .starts .now) (a .area .now) m (a .first) (a .p)) e,
-      l .inv .1 ∙ ap (λ (m : ℕ). holdsStripes (a .sizes) (a .points .now) (a .boards .now) (a .starts .now) (a .area .now) m (a .second) (a .q)) e,
+    let e : l .t ≡ a .stripes = omega (arith, c .loop-test .left, l .inv .2) in (
+      all-looked (a .sizes) (a .points .now) (a .boards .now) (a .starts .now) (a .area .now) (a .first) (a .p) (a .from) (a .stripes) (l .t) _ e (l .inv .0),
+      all-looked (a .sizes) (a .points .now) (a .boards .now) (a .starts .now) (a .area .now) (a .second) (a .q) (a .from) (a .stripes) (l .t) _ e (l .inv .1),
     )
 
 pub hold-stripes-spec : {M : Type 1} → statement M
@@ -148,20 +138,15 @@ hold-stripes-spec =
     (tie.spec
     Inv-loop
     μ-loop
-    (λ c. omega (arith, facts (st-first c)))
-    (λ c. omega (arith, facts (st-first (c .before))))
-    (λ c. omega (arith, facts (st-first (c .before))))
-    (λ c. let p = st-first (c .before) .pre in (refl, refl, omega arith, p .11, p .12))
-    (λ c. omega (arith, first-end c, g c .pre .10))
-    stripes-requires
-    grid-rows-requires
-    (λ c. let q = t (c .before .before) in omega (arith, first-end q, g q .pre .10))
-    (λ c κs. let m = c .before .before .before in let q = t m in asks m (g q .args .p) _ (g q .pre .6) (first-end q))
-    (λ c. let q = t (rows-at-holds c) in omega (arith, second-end q, g q .pre .10))
-    (λ c κs. let m = rows-at-holds (c .before) in let q = t m in asks m (g q .args .q) _ (g q .pre .8) (second-end q))
-    (λ c. let q = t (rows-at-holds (c .before .before)) in omega (arith, q .loop-test .taken, g q .pre .3))
-    (λ c. let q = t (rows-at-holds (c .before .before)) in omega (arith, q .loop-test .taken))
+    (λ c. let p = c .before .before .before .before .before .before .before .before .pre in (refl, refl, omega arith, p .13, p .14))
+    (λ c κs. (c .loop-test .taken, st (c .before) .pre .3))
+    hold-stripe-requires
+    (λ c. search needs)
+    (λ c. search needs)
+    returns
+    (λ c. let b = after-at (hold-at (c .before) .before) in omega (arith, k b .loop-test .taken, g b .pre .3))
+    (λ c. let b = after-at (hold-at (c .before) .before) in omega (arith, k b .loop-test .taken))
     loop-again
     (λ c. search needs)
     (λ c. search needs)
-    returns)
+    returns-2)

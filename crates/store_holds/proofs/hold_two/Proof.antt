@@ -1,6 +1,6 @@
 -- `store_holds::hold_two` meets its contract: the parts of boards are their shares, compared stripe by stripe.
 -- Assumes nothing.
-use mathlib.Core.Path.{_≡_, sym, ap, _∙_}
+use mathlib.Core.Path.{_≡_, refl, sym, ap, _∙_}
 use mathlib.Core.List.{List}
 use Prim.Native.Nat.{ℕ, _+_, _*_, _-_, _<_, _≤_}
 use native.Mathlib.Omega.{arith}
@@ -16,6 +16,7 @@ use Rattle.mbcr.specs.Demand2.{Named}
 use Rattle.store_spec.specs.Record.{Record, partLen}
 use Rattle.store_spec.proofs.Records.{Sound, sound-facts}
 use Rattle.record.specs.Records.{recordOf}
+use Rattle.powers.proofs.Turns.{powers-tabled}
 use Rattle.decode_stripe.proofs.Made.{part-long}
 use Rattle.store_decode.proofs.Parts.{below-32, lent-are, lent-long, lent-placed}
 use Rattle.store_holds.proofs.Stripes.{stripes-few, asked-is, part-short, area-short, starts-low, stripes-low}
@@ -23,11 +24,14 @@ use Rattle.store_holds.proofs.hold_two.Statement.{statement}
 use Rattle.store_holds.proofs.hold_two.Tie as tie
 
 -- places in the code
-abbrev st : tie.After-share-len → tie.Start
-st c = c .before .before .before .before .before .before .before .before
+abbrev st-first : tie.After-stripe-len → tie.Start
+st-first c = c .before .before .before .before .before .before
 
 abbrev len-at-part : tie.After-share-len → tie.After-stripe-len
 len-at-part c = c .before .before
+
+abbrev st : tie.After-share-len → tie.Start
+st c = st-first (len-at-part c)
 
 abbrev part-at-places : tie.After-places → tie.After-share-len
 part-at-places c = c .before .before .before
@@ -35,8 +39,17 @@ part-at-places c = c .before .before .before
 abbrev st-places : tie.After-places → tie.Start
 st-places c = st (part-at-places c)
 
+abbrev places-at-fill : tie.After-fill-powers → tie.After-places
+places-at-fill c = c .before .before .before .before
+
+abbrev fill-at-starts : tie.After-starts3 → tie.After-fill-powers
+fill-at-starts c = c .before .before .before
+
+abbrev fill-at-call : tie.After-rows → tie.After-fill-powers
+fill-at-call c = fill-at-starts (c .before .before .before .before)
+
 abbrev places-at-call : tie.After-rows → tie.After-places
-places-at-call c = c .before .before .before .before .before .before
+places-at-call c = places-at-fill (fill-at-call c)
 
 -- ---- what is given
 
@@ -53,8 +66,8 @@ few : (g : tie.Start) → g .args .stripes ≤ g .args .kept .capacity
 few g = omega (arith, g .pre .1, stripes-few (R g) (good g))
 
 -- the length of a stripe, and of a board's part
-long : (c : tie.After-stripe-len) → c .stripe-len .result ≡ B (c .before .before .before .before .before .before .args .kept .sizes)
-long c = let g = c .before .before .before .before .before .before in c .stripe-len .ensures ∙ ap (λ b. pick b (B (g .args .kept .sizes)) 0) (good g .is-legal)
+long : (c : tie.After-stripe-len) → c .stripe-len .result ≡ B (st-first c .args .kept .sizes)
+long c = let g = st-first c in c .stripe-len .ensures ∙ ap (λ b. pick b (B (g .args .kept .sizes)) 0) (good g .is-legal)
 
 row : (c : tie.After-share-len) → c .share-len .result ≡ α (st c .args .kept .sizes)
 row c = c .share-len .ensures ∙ ap (λ b. pick b (α (st c .args .kept .sizes)) 0) (good (st c) .is-legal)
@@ -110,6 +123,12 @@ places-requires c κs =
       part-long _ _ (omega (arith, f)) ∙ sym (q .pre .2 .counted),
     )
 
+fill-powers-requires : tie.Need-fill-powers-requires
+fill-powers-requires c κs =
+    let q = st-places (c .before .before .before) in
+    let f = facts q in
+    (points-long q, omega (arith, f .enough, f .few), omega (arith, f .enough, f .few))
+
 hold-stripes-requires : tie.Need-hold-stripes-requires
 hold-stripes-requires c κs =
     let k = places-at-call c in
@@ -131,8 +150,10 @@ hold-stripes-requires c κs =
       p .4,
       in-part n (a .q) (p .4),
       all-short n,
+      fill-at-call c .fill-powers .kept .1 .1 .0,
+      powers-tabled (r .points) _ _ (r .sizes .d + r .sizes .r) (points-long q) (fill-at-call c .fill-powers .ensures),
       part-long _ _ (omega (arith, long (len-at-part n), B-most _ (facts q))) ∙ long (len-at-part n),
-      part-long _ _ (omega (arith, facts q)),
+      refl {a = 992},
     )
 
 returns : tie.Need-returns
@@ -144,7 +165,7 @@ returns c =
     let a = q .args in
     let r = a .kept in
     let p = q .pre in
-    let bytes : Bytes (a .area .now) = all-of (λ b. b < 256) 0 (a .area .now) (λ i h. omega (arith, n .before .before .before .before .before .before .shared-slice-known2 .given i)) in
+    let bytes : Bytes (a .area .now) = all-of (λ b. b < 256) 0 (a .area .now) (λ i h. omega (arith, len-at-part n .before .before .before .before .shared-slice-known2 .given i)) in
     let named : Named (r .sizes) (r .sizes .k) (a .boards .now) = (p .2 .counted, p .2 .known, p .2 .unlike) in
     let are = lent-are (r .sizes) (r .capacity) (r .length) (a .stripes) (part n) (a .boards .now) (a .area .now) zeros (starts k)
     (p .2 .known) (p .2 .counted) (p .5) (p .1) (few q) (part-is n) (k .places .ensures) in (
@@ -157,7 +178,7 @@ hold-two-spec =
     tie.close
     (tie.spec
     (λ c κs. search needs)
-    (λ c. omega (arith, facts (c .before .before .before .before .before .before .before)))
+    (λ c. omega (arith, facts (st-first (c .before))))
     (λ c κs. search needs)
     (λ c. omega (arith, short (c .before)))
     (λ c. let k = c .before in omega (arith, low k (st k .args .p) (st k .pre .3), all-short k))
@@ -168,13 +189,15 @@ hold-two-spec =
     places-requires
     (λ c. search needs)
     (λ c. search needs)
-    (λ c. search needs)
-    (λ c. let k = c .before .before .before in simp length-append (omega (arith, facts (st-places k), starts-long k)))
-    (λ c. search needs)
-    (λ c. search needs)
-    (λ c. let n = part-at-places (c .before .before .before .before) in omega (arith, long (len-at-part n), B-most _ (facts (st n))))
+    fill-powers-requires
+    (λ c. sym (points-long (st-places (places-at-fill (c .before .before)))))
     (λ c. search needs)
     (λ c. search needs)
-    (λ c. omega (arith, facts (st-places (c .before .before .before .before .before))))
+    (λ c. let k = places-at-fill (fill-at-starts c) in simp length-append (omega (arith, facts (st-places k), starts-long k)))
+    (λ c. search needs)
+    (λ c. search needs)
+    (λ c. search needs)
+    (λ c. let n = part-at-places (places-at-fill (fill-at-starts (c .before .before))) in omega (arith, long (len-at-part n), B-most _ (facts (st n))))
+    (λ c. search needs)
     hold-stripes-requires
     returns)
