@@ -91,9 +91,12 @@ fn check_named(
     ensures { λ r. ⌜ r ≡ first storeOrder (namedLines sizes (now (points .entry)) (now (marks .entry)) board point (now (helpers .entry)) (now (partners .entry))) ⌝ }
 {
     let want = sizes.r - 1;
-    if let Check::Refuse(count) =
-        checks::check_counts(helpers.len(), sizes.d, partners.len(), want)
-    {
+    if let Check::Refuse(count) = checks::check_counts(
+        helpers.len(),
+        sizes.d,
+        partners.len(),
+        want,
+    ) {
         return Check::Refuse(count);
     }
     if let Check::Refuse(node) = check_known(sizes, board, helpers, partners) {

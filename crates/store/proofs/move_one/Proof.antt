@@ -39,9 +39,10 @@ moved c =
     let w = at-share (c .before) in
     let n = at-count w in
     let g = st n in
-    let a = g .args in
-    (move-moves (R g) (a .area .now) (a .board) (a .point) (a .helpers .now) (a .partners .now) _ _ (g .pre) (n .stripe-count .ensures .0) (c .bytes-moved .ensures),
-    w .move-share .ensures)
+    let a = g .args in (
+      move-moves (R g) (a .area .now) (a .board) (a .point) (a .helpers .now) (a .partners .now) _ _ (g .pre) (n .stripe-count .ensures .0) (c .bytes-moved .ensures),
+      w .move-share .ensures,
+    )
 
 pub move-one-spec : {M : Type 1} → statement M
 move-one-spec =
