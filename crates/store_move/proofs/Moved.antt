@@ -1,9 +1,9 @@
 -- A move past its check: what the repair of the one board asks, at the new points and over the others' shares afresh, and what it leaves in the area.
 -- Assumes nothing.
 use Prim.Native.Nat.{ℕ, _*_, _<_}
-use mathlib.Core.Path.{_≡_, refl, sym, ap, _∙_}
+use mathlib.Core.Path.{_≡_, sym, ap, ap₂, _∙_}
 use mathlib.Core.Bool.{false, not}
-use mathlib.Core.List.{List, [], _∷_}
+use mathlib.Core.List.{List, [], _∷_, _++_}
 use lib.ListN.{length, getD, drop, set}
 use borrow.Author.Tests.{le-leb, eq-eqb}
 use Rattle.lists.specs.Lists.{join, piece, put}
@@ -41,19 +41,22 @@ repairs-pass s m fresh helpers standIns f =
     also ap not (f .all-up)
     also tt)
 
+-- the record at the new points, the board out of service
+abbrev pub lost : Record → ℕ → ℕ → Record
+lost s board new = withMarks (movedRecord s board new) (set (s .marks) board false)
+
 module _ (s : Record) (area : List ℕ) (board new : ℕ) (helpers partners : List ℕ) (f : Moves s (length area) board new helpers partners) (byte : new < 256) where
-  -- the record at the new points, the board out of service
-  abbrev pub away : Record
-  away = withMarks (movedRecord s board new) (set (s .marks) board false)
+  abbrev away : Record
+  away = lost s board new
 
   abbrev others : List ℕ
   others = afreshArea s area board new
 
   -- the area has all boards' parts, and the board is one of them
   pub board-known : board < s .sizes .n
-  board-known = below-all (s .sizes .n) _ (f .named-below) .0
+  board-known = below-all (s .sizes .n) (board ∷ (helpers ++ partners)) (f .named-below) .0
 
-  pub asks : Repairable away (length (afreshArea s area board new)) (board ∷ []) helpers partners
+  pub asks : Repairable (lost s board new) (length (afreshArea s area board new)) (board ∷ []) helpers partners
   asks = repairable away (length others) (board ∷ []) helpers partners (repairs s area board new helpers partners f byte)
 
   done : repairCall away others (board ∷ []) helpers partners .answer .refusal ≡ 0
@@ -62,19 +65,19 @@ module _ (s : Record) (area : List ℕ) (board new : ℕ) (helpers partners : Li
       ap (λ (c : Check). settle c (refused away others []) (repairDone away others (board ∷ []) helpers partners) .answer .refusal)
       (repairs-pass away (length others) (board ∷ []) helpers partners (repairs s area board new helpers partners f byte))
 
-  -- stripe t of the board
-  abbrev pub stripe : ℕ → ℕ → List ℕ
-  stripe a t =
-      rebuilt (s .sizes) (set (s .points) board new) (λ j. piece (α (s .sizes)) t (drop (j * partLen s) (afreshArea s area board new))) (board ∷ [])
-      (runOf away (board ∷ [])) (namedOf away (board ∷ []) helpers partners) a
+  -- stripe t of the board, from what all hold in an area
+  abbrev pub stripe : List ℕ → ℕ → ℕ → List ℕ
+  stripe held a t =
+      rebuilt (s .sizes) (set (s .points) board new) (λ j. piece (α (s .sizes)) t (drop (j * partLen s) held)) (board ∷ [])
+      (runOf (lost s board new) (board ∷ [])) (namedOf (lost s board new) (board ∷ []) helpers partners) a
 
-  -- the area with so many stripes of it
-  abbrev pub restored : ℕ → List ℕ
-  restored count = puts (λ a. getD (board ∷ []) a 0 * partLen s) (λ a. join count (stripe a)) 1 (afreshArea s area board new)
+  -- that area with so many stripes of it
+  abbrev pub restored : List ℕ → ℕ → List ℕ
+  restored held count = puts (λ a. getD (board ∷ []) a 0 * partLen s) (λ a. join count (stripe held a)) 1 held
 
-  pub moved-put : (after : List ℕ) (count : ℕ) → count ≡ stripeCount s → after ≡ restored count
+  pub moved-put : (before after : List ℕ) (count : ℕ) → count ≡ stripeCount s → before ≡ afreshArea s area board new → after ≡ restored before count
       → after ≡ putShares s (movedShare s area board new helpers partners) (board ∷ []) (afreshArea s area board new)
-  moved-put after count ec e =
-      e ∙ ap restored ec
+  moved-put before after count ec eb e =
+      e ∙ ap₂ restored eb ec
       ∙ repaired away others (board ∷ []) helpers partners (repairs s area board new helpers partners f byte) done
       ∙ ap (λ (l : List ℕ). put (afreshArea s area board new) (board * partLen s) l) (sym (made-is s area board new helpers partners f byte board))
