@@ -30,6 +30,36 @@ pub length-afresh : (z : Sizes) (xs ys : List ℕ) → Legal z → (S i : ℕ) (
 unfolding shareAfresh keptAfresh
 length-afresh z xs ys ok S i held = length-join S (α z) _ (λ s l. length-symbols z ys ok i _ _)
 
+-- values at the new points, whatever these are
+module _ (z : Sizes) (xs ys : List ℕ) (i : ℕ) (ok : Legal z) where
+  open Sizes z using (n, k, d, r)
+
+  pub length-kept-afresh : (w : List ℕ) → length (keptAfresh z xs ys i w) ≡ α z
+  unfolding keptAfresh
+  length-kept-afresh w = length-symbols z ys ok i (eval (ownF z xs i w)) (eval (ownG z xs i w))
+
+  pub value-f : (w : List ℕ) (t : ℕ) → t < d + r → getD (keptAfresh z xs ys i w) t 0 ≡ eval (ownF z xs i w) (point ys ((i + t) % n))
+  unfolding keptAfresh
+  value-f w t ht = symbols-f-at z ys ok i t (eval (ownF z xs i w)) (eval (ownG z xs i w)) ht
+
+  pub value-g : (w : List ℕ) (t : ℕ) → suc t < d → getD (keptAfresh z xs ys i w) (d + r + t) 0 ≡ eval (ownG z xs i w) (point ys ((i + suc t) % n))
+  unfolding keptAfresh
+  value-g w t ht = symbols-g-at z ys ok i t (eval (ownF z xs i w)) (eval (ownG z xs i w)) ht
+
+  pub stays-f : (w : List ℕ) → length w ≡ α z → Bytes w → DifferentPoints z xs → i < n
+      → (t : ℕ) → t < d + r → point ys ((i + t) % n) ≡ point xs ((i + t) % n) → getD (keptAfresh z xs ys i w) t 0 ≡ getD w t 0
+  unfolding keptAfresh
+  stays-f w l b pts h t ht e =
+      symbols-f-at z ys ok i t (eval (ownF z xs i w)) (eval (ownG z xs i w)) ht ∙ ap (eval (ownF z xs i w)) e
+      ∙ sym (symbols-f-at z xs ok i t (eval (ownF z xs i w)) (eval (ownG z xs i w)) ht) ∙ ap (λ (v : List ℕ). getD v t 0) (symbols-of z xs ok i w l b pts h)
+
+  pub stays-g : (w : List ℕ) → length w ≡ α z → Bytes w → DifferentPoints z xs → i < n
+      → (t : ℕ) → suc t < d → point ys ((i + suc t) % n) ≡ point xs ((i + suc t) % n) → getD (keptAfresh z xs ys i w) (d + r + t) 0 ≡ getD w (d + r + t) 0
+  unfolding keptAfresh
+  stays-g w l b pts h t ht e =
+      symbols-g-at z ys ok i t (eval (ownF z xs i w)) (eval (ownG z xs i w)) ht ∙ ap (eval (ownG z xs i w)) e
+      ∙ sym (symbols-g-at z xs ok i t (eval (ownF z xs i w)) (eval (ownG z xs i w)) ht) ∙ ap (λ (v : List ℕ). getD v (d + r + t) 0) (symbols-of z xs ok i w l b pts h)
+
 module _ (z : Sizes) (xs ys : List ℕ) (i : ℕ) (ok : Legal z) (pts : DifferentPoints z xs) (new : DifferentPoints z ys) (h : i < z .n) (own : point ys i ≡ point xs i) where
   open Sizes z using (n, k, d, r)
 
@@ -39,22 +69,10 @@ module _ (z : Sizes) (xs ys : List ℕ) (i : ℕ) (ok : Legal z) (pts : Differen
   abbrev g : List ℕ → List ℕ
   g w = ownG z xs i w
 
-  pub length-kept-afresh : (w : List ℕ) → length (keptAfresh z xs ys i w) ≡ α z
-  unfolding keptAfresh
-  length-kept-afresh w = length-symbols z ys ok i (eval (f w)) (eval (g w))
-
   kept-afresh-bytes : (w : List ℕ) → Bytes w → Bytes (keptAfresh z xs ys i w)
   unfolding keptAfresh
   kept-afresh-bytes w b =
       symbols-bytes z ys ok i (eval (f w)) (eval (g w)) (λ y. eval-byte (f w) y (own-f-bytes z xs ok i w b)) (λ x. eval-byte (g w) x (own-g-bytes z xs ok i w b))
-
-  pub value-f : (w : List ℕ) (t : ℕ) → t < d + r → getD (keptAfresh z xs ys i w) t 0 ≡ eval (f w) (point ys ((i + t) % n))
-  unfolding keptAfresh
-  value-f w t ht = symbols-f-at z ys ok i t (eval (f w)) (eval (g w)) ht
-
-  pub value-g : (w : List ℕ) (t : ℕ) → suc t < d → getD (keptAfresh z xs ys i w) (d + r + t) 0 ≡ eval (g w) (point ys ((i + suc t) % n))
-  unfolding keptAfresh
-  value-g w t ht = symbols-g-at z ys ok i t (eval (f w)) (eval (g w)) ht
 
   afresh-bytes : (S : ℕ) (held : List ℕ) → Bytes held → Bytes (shareAfresh z xs ys S i held)
   unfolding shareAfresh
@@ -123,23 +141,11 @@ module _ (z : Sizes) (xs ys : List ℕ) (i : ℕ) (ok : Legal z) (pts : Differen
     unfolding helperPair
     pair-at j = ap₂ {C = List ℕ} (λ p q. eval p (point ys j) ∷ eval q (point ys j) ∷ []) same-f same-g
 
-    pub stays-f : (t : ℕ) → t < d + r → point ys ((i + t) % n) ≡ point xs ((i + t) % n) → getD (keptAfresh z xs ys i w) t 0 ≡ getD w t 0
-    unfolding keptAfresh
-    stays-f t ht e =
-        symbols-f-at z ys ok i t (eval (f w)) (eval (g w)) ht ∙ ap (eval (f w)) e
-        ∙ sym (symbols-f-at z xs ok i t (eval (f w)) (eval (g w)) ht) ∙ ap (λ (v : List ℕ). getD v t 0) (symbols-of z xs ok i w l b pts h)
-
-    pub stays-g : (t : ℕ) → suc t < d → point ys ((i + suc t) % n) ≡ point xs ((i + suc t) % n) → getD (keptAfresh z xs ys i w) (d + r + t) 0 ≡ getD w (d + r + t) 0
-    unfolding keptAfresh
-    stays-g t ht e =
-        symbols-g-at z ys ok i t (eval (f w)) (eval (g w)) ht ∙ ap (eval (g w)) e
-        ∙ sym (symbols-g-at z xs ok i t (eval (f w)) (eval (g w)) ht) ∙ ap (λ (v : List ℕ). getD v (d + r + t) 0) (symbols-of z xs ok i w l b pts h)
-
   -- ---- S stripes
 
   afresh-piece : (S : ℕ) (held : List ℕ) (s : ℕ) → s < S → piece (α z) s (shareAfresh z xs ys S i held) ≡ keptAfresh z xs ys i (piece (α z) s held)
   unfolding shareAfresh
-  afresh-piece S held s hs = piece-join S (α z) (λ s. keptAfresh z xs ys i (piece (α z) s held)) (λ s l. length-kept-afresh (piece (α z) s held)) s hs
+  afresh-piece S held s hs = piece-join S (α z) (λ s. keptAfresh z xs ys i (piece (α z) s held)) (λ s l. length-kept-afresh z xs ys i ok (piece (α z) s held)) s hs
 
   held-piece : (S : ℕ) (held : List ℕ) → length held ≡ S * α z → (s : ℕ) → s < S → length (piece (α z) s held) ≡ α z
   held-piece S held l s hs = length-piece (α z) s held (omega (arith, l, part-end s (α z) S hs))
@@ -186,21 +192,21 @@ afresh-laws z xs ys i legal pts new h own =
       stand-in-at = stand-in-at z xs ys i ok pts new h own;
       afresh-stays = λ S held l b s t hs. (
         (λ ht e. byte-of z xs ys i ok pts new h own S held s t hs (omega (arith, α-parts z ok))
-            ∙ stays-f z xs ys i ok pts new h own (piece (α z) s held) (held-piece z xs ys i ok pts new h own S held l s hs) (piece-bytes (α z) s held b) t ht e
+            ∙ stays-f z xs ys i ok (piece (α z) s held) (held-piece z xs ys i ok pts new h own S held l s hs) (piece-bytes (α z) s held b) pts h t ht e
             ∙ piece-at (α z) s held t 0 (omega (arith, α-parts z ok))),
         (λ lt ht e.
             let q : suc (t - 1) ≡ t = omega arith in
             byte-of z xs ys i ok pts new h own S held s (z .d + z .r + (t - 1)) hs (omega (arith, α-parts z ok))
-            ∙ stays-g z xs ys i ok pts new h own (piece (α z) s held) (held-piece z xs ys i ok pts new h own S held l s hs) (piece-bytes (α z) s held b) (t - 1) (omega arith)
+            ∙ stays-g z xs ys i ok (piece (α z) s held) (held-piece z xs ys i ok pts new h own S held l s hs) (piece-bytes (α z) s held b) pts h (t - 1) (omega arith)
             (ap (λ (m : ℕ). point ys ((i + m) % z .n)) q ∙ e ∙ ap (λ (m : ℕ). point xs ((i + m) % z .n)) (sym q))
             ∙ piece-at (α z) s held (z .d + z .r + (t - 1)) 0 (omega (arith, α-parts z ok))),
       );
       afresh-value = λ S held s t hs. (
-        (λ ht. byte-of z xs ys i ok pts new h own S held s t hs (omega (arith, α-parts z ok)) ∙ value-f z xs ys i ok pts new h own (piece (α z) s held) t ht),
+        (λ ht. byte-of z xs ys i ok pts new h own S held s t hs (omega (arith, α-parts z ok)) ∙ value-f z xs ys i ok (piece (α z) s held) t ht),
         (λ lt ht.
             let q : suc (t - 1) ≡ t = omega arith in
             byte-of z xs ys i ok pts new h own S held s (z .d + z .r + (t - 1)) hs (omega (arith, α-parts z ok))
-            ∙ value-g z xs ys i ok pts new h own (piece (α z) s held) (t - 1) (omega arith)
+            ∙ value-g z xs ys i ok (piece (α z) s held) (t - 1) (omega arith)
             ∙ ap (λ (m : ℕ). eval (ownG z xs i (piece (α z) s held)) (point ys ((i + m) % z .n))) q),
       );
     }

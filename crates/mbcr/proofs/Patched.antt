@@ -86,15 +86,12 @@ module _ (z : Sizes) (ok : Legal z) (t a b : ℕ) (w : List ℕ) (l : length w �
 
 -- ---- the stripe
 
-module _ (z : Sizes) (xs : List ℕ) (m y i t : ℕ) (w : List ℕ) (ok : Legal z) (pts : DifferentPoints z xs) (new : DifferentPoints z (set xs m y)) (hm : m < length xs)
+module _ (z : Sizes) (xs : List ℕ) (m y i t : ℕ) (w : List ℕ) (ok : Legal z) (pts : DifferentPoints z xs) (hm : m < length xs)
     (hi : i < z .n) (other : i ≢ m) (ht : t < z .n) (at : (i + t) % z .n ≡ m) (l : length w ≡ α z) (bw : Bytes w) where
   open Sizes z using (n, k, d, r)
 
   abbrev ys : List ℕ
   ys = set xs m y
-
-  own : point ys i ≡ point xs i
-  own = turn-laws .other-point xs m y i other
 
   -- m is not the board itself
   some : 1 ≤ t
@@ -129,11 +126,11 @@ module _ (z : Sizes) (xs : List ℕ) (m y i t : ℕ) (w : List ℕ) (ok : Legal 
     where
       go : Dec (q ≡ t) → getD (keptAfresh z xs ys i w) q 0 ≡ getD (patched z t a b w) q 0
       go (yes e) =
-          value-f z xs ys i ok pts new hi own w q h ∙ ap (eval (ownF z xs i w)) (moved q e)
+          value-f z xs ys i ok w q h ∙ ap (eval (ownF z xs i w)) (moved q e)
           ∙ sym (past-second z ok t a b w l some q (λ x. omega arith) ∙ ap (λ (x : ℕ). getD (first z ok t a b w l some) x 0) e
           ∙ first-same z ok t a b w l some (subst (λ (x : ℕ). x < d + r) e h))
       go (no e) =
-          stays-f z xs ys i ok pts new hi own w l bw q h (same q (omega (arith, ok .enough)) e)
+          stays-f z xs ys i ok w l bw pts hi q h (same q (omega (arith, ok .enough)) e)
           ∙ sym (past-second z ok t a b w l some q (λ x. omega arith) ∙ first-other z ok t a b w l some q e)
   byte q hq (no h) = subst (λ (x : ℕ). getD (keptAfresh z xs ys i w) x 0 ≡ getD (patched z t a b w) x 0) back (go (decSame (suc p) t))
     where
@@ -149,18 +146,18 @@ module _ (z : Sizes) (xs : List ℕ) (m y i t : ℕ) (w : List ℕ) (ok : Legal 
       go : Dec (suc (q - (d + r)) ≡ t) → getD (keptAfresh z xs ys i w) (d + r + (q - (d + r))) 0 ≡ getD (patched z t a b w) (d + r + (q - (d + r))) 0
       go (yes e) =
           let u : q - (d + r) ≡ t - 1 = omega arith in
-          value-g z xs ys i ok pts new hi own w (q - (d + r)) short ∙ ap (eval (ownG z xs i w)) (moved (suc (q - (d + r))) e)
+          value-g z xs ys i ok w (q - (d + r)) short ∙ ap (eval (ownG z xs i w)) (moved (suc (q - (d + r))) e)
           ∙ sym (ap (λ (x : ℕ). getD (patched z t a b w) (d + r + x) 0) u ∙ at-second z ok t a b w l some (omega (arith, short)))
       go (no e) =
-          stays-g z xs ys i ok pts new hi own w l bw (q - (d + r)) short (same (suc (q - (d + r))) (omega (arith, short, ok .enough)) e)
+          stays-g z xs ys i ok w l bw pts hi (q - (d + r)) short (same (suc (q - (d + r))) (omega (arith, short, ok .enough)) e)
           ∙ sym (past-second z ok t a b w l some (d + r + (q - (d + r))) (λ x. e (omega (arith, some)))
           ∙ first-past z ok t a b w l some (d + r + (q - (d + r))) (omega arith))
 
   whole : keptAfresh z xs ys i w ≡ patched z t a b w
   whole =
       ext-getD 0 (keptAfresh z xs ys i w) (patched z t a b w)
-      (length-kept-afresh z xs ys i ok pts new hi own w ∙ sym (length-patched z ok t a b w l some))
-      (λ q h. byte q (omega (arith, length-kept-afresh z xs ys i ok pts new hi own w)) (decLt q (d + r)))
+      (length-kept-afresh z xs ys i ok w ∙ sym (length-patched z ok t a b w l some))
+      (λ q h. byte q (omega (arith, length-kept-afresh z xs ys i ok w)) (decLt q (d + r)))
 
 pub kept-patched : PatchedClaim
-kept-patched z xs m y i t w ok pts new hm hi other ht at l b = whole z xs m y i t w (legal-facts z ok) pts new hm hi other ht at l b
+kept-patched z xs m y i t w ok pts hm hi other ht at l b = whole z xs m y i t w (legal-facts z ok) pts hm hi other ht at l b

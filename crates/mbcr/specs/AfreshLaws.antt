@@ -55,7 +55,7 @@ pub record AfreshLaws (z : Sizes) (xs ys : List ℕ) (i : ℕ) : Type 0 where
 -- interpolated but f and g at y, which is what the board sends as a helper.
 abbrev pub PatchedClaim : Type 0
 PatchedClaim =
-    (z : Sizes) (xs : List ℕ) (m y i t : ℕ) (w : List ℕ) → legal z ≡ true → DifferentPoints z xs → DifferentPoints z (set xs m y) → m < length xs
+    (z : Sizes) (xs : List ℕ) (m y i t : ℕ) (w : List ℕ) → legal z ≡ true → DifferentPoints z xs → m < length xs
     → i < z .n → i ≢ m → t < z .n → (i + t) % z .n ≡ m
     → length w ≡ α z → Bytes w
     → keptAfresh z xs (set xs m y) i w ≡ patched z t (eval (ownF z xs i w) y) (eval (ownG z xs i w) y) w

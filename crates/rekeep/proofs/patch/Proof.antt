@@ -1,0 +1,74 @@
+-- `rekeep::patch` meets its contract: one byte or two of the stripe are set.
+-- Assumes nothing.
+use mathlib.Core.Path.{_≡_}
+use Prim.Native.Nat.{_+_, _-_, _<_}
+use native.Mathlib.Omega.{arith}
+use lib.ListN.{length, length-set}
+use borrow.Author.Needs.{needs}
+use Rattle.sizes.proofs.Legal.{Legal, legal-facts}
+use Rattle.rekeep.proofs.Stripes.{patch-both, patch-one}
+use Rattle.rekeep.proofs.patch.Statement.{statement}
+use Rattle.rekeep.proofs.patch.Tie as tie
+
+-- places in the code
+abbrev st-sizes : tie.After-struct-known → tie.Start
+st-sizes c = c .before .before .before .before
+
+abbrev st : tie.After-helper-pair → tie.Start
+st c = st-sizes (c .before .before)
+
+facts : (c : tie.Start) → Legal (c .args .sizes)
+facts c = legal-facts _ (c .pre .0)
+
+helper-pair-requires : tie.Need-helper-pair-requires
+helper-pair-requires c κs =
+    let g = st-sizes (c .before) in
+    let p = g .pre in
+    let f = facts g in (
+      omega (arith, f .some-read, f .read-helpers),
+      omega (arith, f .some-fresh),
+      omega (arith, p .5, f .some-read, f .read-helpers),
+      p .3,
+      p .4,
+      omega (arith, f .enough, f .few),
+      omega (arith, f .enough, f .few),
+    )
+
+slice-write-stripe : tie.Need-slice-write-stripe
+slice-write-stripe c = let g = st c in omega (arith, g .pre .2, g .pre .5, facts g .some-read, facts g .read-helpers)
+
+slice-write-stripe-2 : tie.Need-slice-write-stripe-2
+slice-write-stripe-2 c =
+    let g = st (c .before) in
+    rw length-set (omega (arith, g .pre .1, g .pre .5, c .if1 .left))
+
+returns : tie.Need-returns
+returns c =
+    let g = st (c .before) in
+    let a = g .args in
+    patch-one (a .sizes) (a .t) _ _ (a .ff .now) (a .gf .now) (a .stripe .now) (g .pre .1) (c .before .helper-pair .ensures) (c .if1 .taken) (g .pre .2)
+
+returns-2 : tie.Need-returns-2
+returns-2 c =
+    let g = st (c .before) in
+    let a = g .args in
+    let z = a .sizes in
+    let some = g .pre .1 in
+    let e : z .d + z .r + a .t - 1 ≡ z .d + z .r + (a .t - 1) = omega (arith, some) in
+    let low : a .t < z .d = omega (arith, c .if1 .left) in
+    patch-both z (a .t) _ _ (a .ff .now) (a .gf .now) (a .stripe .now) some (c .before .helper-pair .ensures) _ low e
+
+pub patch-spec : {M : Type 1} → statement M
+patch-spec =
+    tie.close
+    (tie.spec
+    (λ c. omega (arith, facts (st-sizes c)))
+    helper-pair-requires
+    slice-write-stripe
+    (λ c. search needs)
+    returns
+    (λ c. let g = st (c .before) in omega (arith, g .pre .2, facts g .enough, facts g .few))
+    (λ c. let g = st (c .before) in omega (arith, g .pre .1))
+    slice-write-stripe-2
+    (λ c. search needs)
+    returns-2)
