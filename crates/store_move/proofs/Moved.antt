@@ -52,7 +52,7 @@ module _ (s : Record) (area : List ℕ) (board new : ℕ) (helpers partners : Li
   abbrev others : List ℕ
   others = afreshArea s area board new
 
-  -- the area has all boards' parts, and the board is one of them
+  -- the board is one of the n
   pub board-known : board < s .sizes .n
   board-known = below-all (s .sizes .n) (board ∷ (helpers ++ partners)) (f .named-below) .0
 
