@@ -32,8 +32,9 @@ use Rattle.store_spec.proofs.Records.{Sound, sound-points, used-fits}
 use Rattle.decode_laws.specs.Steps.{offset}
 use Rattle.decode_laws.proofs.Values.{offset-below, offset-there}
 use Rattle.puts.proofs.Puts.{puts-turn}
-use Rattle.rekeep.specs.Steps.{sharePatched, boardPatched, rekept}
-use Rattle.rekeep.proofs.Shares.{share-afresh}
+use Rattle.rekeep_stripes.specs.Steps.{sharePatched}
+use Rattle.rekeep.specs.Steps.{boardPatched, rekept}
+use Rattle.rekeep_stripes.proofs.Shares.{share-afresh}
 
 -- the area is at most 32 parts
 pub area-few : (n part i : ℕ) → n ≤ 32 → part ≤ 253952 → i < n → (i * part + part ≤ n * part) × (n * part ≤ 8126464)

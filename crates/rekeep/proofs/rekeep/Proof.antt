@@ -13,7 +13,7 @@ use Rattle.store_spec.specs.Record.{Record, partLen}
 use Rattle.store_spec.proofs.Records.{Sound, sound-facts, sound-points, used-fits}
 use Rattle.record.specs.Records.{recordOf}
 use Rattle.rekeep.specs.Steps.{rekept}
-use Rattle.rekeep.proofs.Stripes.{part-most}
+use Rattle.rekeep_stripes.proofs.Stripes.{part-most}
 use Rattle.rekeep.proofs.Boards.{stripes-most, rekept-all}
 use Rattle.rekeep.proofs.rekeep.Statement.{statement}
 use Rattle.rekeep.proofs.rekeep.Tie as tie

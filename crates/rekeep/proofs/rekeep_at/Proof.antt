@@ -9,8 +9,8 @@ use borrow.Author.Tests.{eq-eqb, ne-eqb}
 use Rattle.sizes.specs.Sizing.{α}
 use Rattle.sizes.proofs.Legal.{Legal, legal-facts, α-most}
 use Rattle.puts.proofs.Puts.{part-long}
-use Rattle.rekeep.proofs.Stripes.{part-most}
-use Rattle.rekeep.proofs.Shares.{length-share}
+use Rattle.rekeep_stripes.proofs.Stripes.{part-most}
+use Rattle.rekeep_stripes.proofs.Shares.{length-share}
 use Rattle.rekeep.proofs.Boards.{area-few, board-stays, board-put, offset-some}
 use Rattle.rekeep.proofs.rekeep_at.Statement.{statement}
 use Rattle.rekeep.proofs.rekeep_at.Tie as tie
@@ -47,8 +47,8 @@ returns c =
 lent-long : (g : tie.Start) → let a = g .args in a .i * a .part + a .stripes * α (a .sizes) ≤ length (a .area .now)
 lent-long g = omega (arith, ends g, g .pre .6, g .pre .9)
 
-rekeep-board-requires : tie.Need-rekeep-board-requires
-rekeep-board-requires c κs =
+rekeep-stripes-requires : tie.Need-rekeep-stripes-requires
+rekeep-stripes-requires c κs =
     let o = offset-at-sizes (c .before) in
     let g = st o in
     let a = g .args in
@@ -62,7 +62,7 @@ returns-2 c =
     let g = st o in
     let a = g .args in
     let z = a .sizes in
-    let e = m .rekeep-board .ensures in
+    let e = m .rekeep-stripes .ensures in
     let long = part-long (a .i * a .part) (a .stripes * α z) (a .area .now) (lent-long g) in
     board-put z (a .points .now) (a .part) (a .stripes) (a .board) (a .y) (a .i) (o .offset .result) (a .area .now) _ (ne-eqb _ _ (o .before .if1 .left)) (o .offset .ensures)
     (ap length e ∙ length-share z (facts g) (a .points .now) (o .offset .result) (a .y) (a .stripes) (a .i) _ (some o) long) e
@@ -72,7 +72,7 @@ rekeep-at-spec =
     tie.close
     (tie.spec
     returns
-    (λ c κs. let g = st-lent (c .before) in (facts g .few, g .pre .8, g .pre .7))
+    (λ c κs. let f = facts (st-lent (c .before)) in search needs)
     (λ c. omega (arith, ends (st c)))
     (λ c. omega (arith, facts (st (c .before))))
     (λ c. omega (arith, facts (st (offset-at-sizes c))))
@@ -82,6 +82,6 @@ rekeep-at-spec =
     (λ c. search needs)
     (λ c. search needs)
     (λ c. let g = st (offset-at-sizes c) in omega (arith, lent-long g))
-    rekeep-board-requires
+    rekeep-stripes-requires
     (λ c. search needs)
     returns-2)

@@ -1,4 +1,4 @@
--- `rekeep::patch_stripes` meets its contract. The loop's invariant: the stripes so far are done, and those left are as they were.
+-- `rekeep_stripes::patch_stripes` meets its contract. The loop's invariant: the stripes so far are done, and those left are as they were.
 -- Assumes nothing.
 use mathlib.Core.Path.{_≡_, refl}
 use mathlib.Core.List.{List, _++_}
@@ -12,10 +12,10 @@ use Rattle.sizes.specs.Sizing.{α}
 use Rattle.sizes.proofs.Legal.{Legal, legal-facts, α-most}
 use Rattle.puts.proofs.Puts.{part-long}
 use Rattle.row_dots.proofs.Rows.{join-end}
-use Rattle.rekeep.specs.Steps.{patchBy}
-use Rattle.rekeep.proofs.Stripes.{part-most, length-patch, stripes-first, stripes-turn}
-use Rattle.rekeep.proofs.patch_stripes.Statement.{statement}
-use Rattle.rekeep.proofs.patch_stripes.Tie as tie
+use Rattle.rekeep_stripes.specs.Steps.{patchBy}
+use Rattle.rekeep_stripes.proofs.Stripes.{part-most, length-patch, stripes-first, stripes-turn}
+use Rattle.rekeep_stripes.proofs.patch_stripes.Statement.{statement}
+use Rattle.rekeep_stripes.proofs.patch_stripes.Tie as tie
 
 abbrev Inv-loop : tie.InvT-loop
 Inv-loop sizes t ff gf stripes held₀ a s₀ held s =

@@ -1,4 +1,4 @@
--- `rekeep::patch` meets its contract: one byte or two of the stripe are set.
+-- `rekeep_stripes::patch` meets its contract: one byte or two of the stripe are set.
 -- Assumes nothing.
 use mathlib.Core.Path.{_≡_}
 use Prim.Native.Nat.{_+_, _-_, _<_}
@@ -6,9 +6,9 @@ use native.Mathlib.Omega.{arith}
 use lib.ListN.{length, length-set}
 use borrow.Author.Needs.{needs}
 use Rattle.sizes.proofs.Legal.{Legal, legal-facts}
-use Rattle.rekeep.proofs.Stripes.{patch-both, patch-one}
-use Rattle.rekeep.proofs.patch.Statement.{statement}
-use Rattle.rekeep.proofs.patch.Tie as tie
+use Rattle.rekeep_stripes.proofs.Stripes.{patch-both, patch-one}
+use Rattle.rekeep_stripes.proofs.patch.Statement.{statement}
+use Rattle.rekeep_stripes.proofs.patch.Tie as tie
 
 -- places in the code
 abbrev st-sizes : tie.After-struct-known → tie.Start

@@ -22,8 +22,8 @@ use Rattle.mbcr.specs.AfreshLaws.{patched}
 use Rattle.mbcr.proofs.Patched.{kept-patched, length-patched}
 use Rattle.factors.specs.Steps.{factorsFor}
 use Rattle.helper.proofs.Packets.{pair-for}
-use Rattle.rekeep.specs.Steps.{patchBy, sharePatched}
-use Rattle.rekeep.proofs.Stripes.{none-set}
+use Rattle.rekeep_stripes.specs.Steps.{patchBy, sharePatched}
+use Rattle.rekeep_stripes.proofs.Stripes.{none-set}
 
 -- a stripe of those held
 held-long : (z : Sizes) (S s : ℕ) (held : List ℕ) → length held ≡ S * α z → s < S → length (piece (α z) s held) ≡ α z

@@ -19,7 +19,7 @@ use Rattle.mbcr.specs.AfreshLaws.{patched}
 use Rattle.mbcr.proofs.Patched.{length-patched}
 use Rattle.row_dots.proofs.Rows.{join-loop}
 use Rattle.helper.specs.Steps.{pairBy}
-use Rattle.rekeep.specs.Steps.{patchBy}
+use Rattle.rekeep_stripes.specs.Steps.{patchBy}
 
 module _ (z : Sizes) (t a b : ℕ) (w : List ℕ) (some : 1 ≤ t) where
   open Sizes z using (d, r)

@@ -1,12 +1,12 @@
--- `rekeep::rekeep_board` meets its contract: nothing is done, or space for the factors is lent.
+-- `rekeep_stripes::rekeep_stripes` meets its contract: nothing is done, or space for the factors is lent.
 -- Assumes nothing.
 use native.Mathlib.Omega.{arith}
 use lib.ListN.{length}
 use borrow.Author.Needs.{needs}
 use Rattle.sizes.proofs.Legal.{Legal, legal-facts}
-use Rattle.rekeep.proofs.Shares.{share-stays}
-use Rattle.rekeep.proofs.rekeep_board.Statement.{statement}
-use Rattle.rekeep.proofs.rekeep_board.Tie as tie
+use Rattle.rekeep_stripes.proofs.Shares.{share-stays}
+use Rattle.rekeep_stripes.proofs.rekeep_stripes.Statement.{statement}
+use Rattle.rekeep_stripes.proofs.rekeep_stripes.Tie as tie
 
 -- places in the code
 abbrev st-sizes : tie.After-struct-known → tie.Start
@@ -24,13 +24,13 @@ returns c =
     let a = g .args in
     share-stays (a .sizes) (a .points .now) (a .t) (a .y) (a .stripes) (a .i) (a .held .now) (g .pre .6) (c .if1 .taken) (g .pre .7)
 
-board-in-requires : tie.Need-board-in-requires
-board-in-requires c κs =
+stripes-in-requires : tie.Need-stripes-in-requires
+stripes-in-requires c κs =
     let p = st-sizes (kept-at c .before) .pre in
     (p .0, p .1, p .2, p .3, p .4, p .5, p .6, omega (arith, kept-at c .if1 .left), p .7, search needs, search needs, search needs, search needs)
 
-pub rekeep-board-spec : {M : Type 1} → statement M
-rekeep-board-spec =
+pub rekeep-stripes-spec : {M : Type 1} → statement M
+rekeep-stripes-spec =
     tie.close
     (tie.spec
     (λ c. omega (arith, facts (st-sizes c)))
@@ -43,6 +43,6 @@ rekeep-board-spec =
     (λ c. search needs)
     (λ c. search needs)
     (λ c. search needs)
-    board-in-requires
+    stripes-in-requires
     (λ c. search needs)
     (λ c. search needs))

@@ -1,4 +1,4 @@
--- `rekeep::board_in` meets its contract: the callees' contracts, put together.
+-- `rekeep_stripes::stripes_in` meets its contract: the callees' contracts, put together.
 -- Assumes nothing.
 use Prim.Native.Nat.{_<_}
 use native.Mathlib.Omega.{arith}
@@ -7,9 +7,9 @@ use borrow.Author.Needs.{needs}
 use Rattle.lists.specs.Lists.{Bytes}
 use Rattle.lists.proofs.Alls.{all-of}
 use Rattle.sizes.proofs.Legal.{Legal, legal-facts}
-use Rattle.rekeep.proofs.Shares.{share-made}
-use Rattle.rekeep.proofs.board_in.Statement.{statement}
-use Rattle.rekeep.proofs.board_in.Tie as tie
+use Rattle.rekeep_stripes.proofs.Shares.{share-made}
+use Rattle.rekeep_stripes.proofs.stripes_in.Statement.{statement}
+use Rattle.rekeep_stripes.proofs.stripes_in.Tie as tie
 
 -- places in the code
 abbrev lent : tie.After-struct-known → tie.After-slice-known
@@ -50,8 +50,8 @@ returns c =
     share-made (a .sizes) (a .points .now) (facts g) (p .2) (a .i) (p .5) (a .t) (a .y) (a .stripes) (length (a .ff .now)) (length (a .gf .now)) _ _ (a .held .now) _
     (p .9) (p .11) (first (second k .before) .byte-factors-from .ensures) (second k .byte-factors-from2 .ensures) (p .8) bytes (m .patch-stripes .ensures)
 
-pub board-in-spec : {M : Type 1} → statement M
-board-in-spec =
+pub stripes-in-spec : {M : Type 1} → statement M
+stripes-in-spec =
     tie.close
     (tie.spec
     (λ c. omega (arith, facts (st-sizes c)))
