@@ -1,6 +1,6 @@
 -- Products of differences: one more factor, the points but one, and the factors of Lagrange made of them.
 -- Assumes nothing.
-use mathlib.Core.Path.{_≡_, refl, sym, ap, ap₂, _∙_}
+use mathlib.Core.Path.{_≡_, sym, ap, ap₂, _∙_}
 use mathlib.Core.List.{List, [], _∷_, _++_}
 use Prim.Native.Nat.{ℕ, suc, _+_, _-_, _%_, _<_, _≤_}
 use native.Mathlib.Nat.{sub-zero}
@@ -9,7 +9,7 @@ use native.Mathlib.Omega.{arith}
 use lib.ListN.{length, getD, take, drop, length-drop, drop-of-length-le}
 use lib.Seq.{drop-cons, take-all}
 use Rattle.lists.specs.Lists.{tabulate, fit}
-use Rattle.lists.proofs.Pieces.{length-tabulate, tabulate-at}
+use Rattle.lists.proofs.Pieces.{tabulate-at}
 use Rattle.gf256.specs.Field.{add, mul, inverse}
 use Rattle.gf256.proofs.Field.{mul-assoc, one-mul, mul-one}
 use Rattle.mbcr.specs.Share.{points}
@@ -22,6 +22,9 @@ use Rattle.factors.specs.Steps.{factorsFor}
 
 pub product-first : (xs : List ℕ) (y : ℕ) → mul 1 (differences xs y) ≡ differences xs y
 product-first xs y = one-mul (differences xs y) (differences-byte xs y)
+
+pub product-byte : (xs : List ℕ) (y r : ℕ) → r ≡ differences xs y → r < 256
+product-byte xs y r e = rw e (differences-byte xs y)
 
 pub product-turn : (xs : List ℕ) (y u total f new : ℕ) → u < length xs → f ≡ total → new ≡ mul f (add y (getD xs u 0))
     → mul total (differences (drop u xs) y) ≡ differences xs y → mul new (differences (drop (u + 1) xs) y) ≡ differences xs y

@@ -41,7 +41,8 @@ fn factor(xs: &[u8], t: usize, inverses: &[u8], y: u8) -> u8
     requires { ⌜ (now inverses ≡ tabulate 256 inverse) × (t < length (now xs)) × (length (now xs) ≤ 32) ⌝ }
     ensures { λ r. ⌜ r ≡ weight (now (xs .entry)) t y ⌝ }
 {
-    let own = product_but(xs, t, xs[t]);
+    let x = xs[t];
+    let own = product_but(xs, t, x);
     let here = product_but(xs, t, y);
     gf256_mul::times(gf256_mul::multiples_of(inverses[own as usize]), here)
 }

@@ -22,7 +22,6 @@ use Rattle.lists.proofs.Put.{part-end}
 use Rattle.sizes.specs.declared.Sizes.{Sizes}
 use Rattle.sizes.specs.Sizing.{α}
 use Rattle.sizes.proofs.Legal.{Legal, legal-facts, stripes-least}
-use Rattle.mbcr.specs.Afresh.{shareAfresh}
 use Rattle.mbcr.proofs.AfreshLaws.{length-afresh}
 use Rattle.mbcr.proofs.PointLaws.{pointed-facts}
 use Rattle.store_spec.specs.Record.{Record, stripeCount, partLen, usedLen, areaLen, held, putShares}

@@ -80,12 +80,13 @@ pub fn rekeep_stripes(
     requires { ⌜ (legal sizes ≡ true) × (length (now points) ≡ 32) × DifferentPoints sizes (now points) × (now inverses ≡ tabulate 256 inverse) × (stripes ≤ 4096) × (i < sizes .n) × (1 ≤ t) × (length (now held) ≡ stripes * α sizes) ⌝ }
     ensures { λ _. ⌜ now (held .exit) ≡ sharePatched sizes (now (points .entry)) t y stripes i (now (held .entry)) ⌝ }
 {
-    let w = sizes.d + sizes.r;
+    let d = sizes.d;
+    let w = d + sizes.r;
     if t >= w {
         return;
     }
     let fl = row_values::whole_vectors(w);
-    let gl = row_values::whole_vectors(sizes.d);
+    let gl = row_values::whole_vectors(d);
     let mut ff = [0u8; 32];
     let mut gf = [0u8; 32];
     stripes_in(

@@ -2,12 +2,11 @@
 -- Assumes nothing.
 use mathlib.Core.Path.{_≡_, ap, _∙_}
 use Prim.Native.Nat.{_<_}
-use lib.ListN.{length, getD}
+use lib.ListN.{length}
 use Rattle.lists.proofs.Pieces.{length-tabulate}
 use Rattle.gf256.specs.Field.{inverse}
 use Rattle.lagrange.specs.Steps.{others}
-use Rattle.lagrange.proofs.Lagrange.{differences-byte}
-use Rattle.byte_factors.proofs.Products.{factor-is}
+use Rattle.byte_factors.proofs.Products.{product-byte, factor-is}
 use borrow.Author.Needs.{needs}
 use native.Mathlib.Omega.{arith}
 use Rattle.byte_factors.proofs.factor.Statement.{statement}
@@ -27,7 +26,7 @@ st c = own c .before .before .before .before
 byte : (c : tie.After-shared-slice-known4) → own c .product-but .result < 256
 byte c =
     let a = st c .args in
-    rw (own c .product-but .ensures) (differences-byte (others (a .xs .now) (a .t)) (getD (a .xs .now) (a .t) 0))
+    product-byte (others (a .xs .now) (a .t)) _ _ (own c .product-but .ensures)
 
 shared-slice-read-multiples-of : tie.Need-shared-slice-read-multiples-of
 shared-slice-read-multiples-of c =

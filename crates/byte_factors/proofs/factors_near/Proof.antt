@@ -1,10 +1,7 @@
 -- `byte_factors::factors_near` meets its contract: the callees' contracts, put together.
 -- Assumes nothing.
-use mathlib.Core.Path.{_≡_, sym, ap, subst, _∙_}
-use mathlib.Core.Bool.{true}
-use Prim.Native.Nat.{ℕ}
+use mathlib.Core.Path.{sym, ap, _∙_}
 use lib.ListN.{length}
-use Rattle.lists.specs.Tests.{below}
 use Rattle.lists.proofs.Pieces.{length-tabulate}
 use Rattle.factors.proofs.Values.{boards-below}
 use Rattle.byte_factors.proofs.Products.{near-made}

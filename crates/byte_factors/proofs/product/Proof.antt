@@ -1,6 +1,6 @@
 -- `byte_factors::product` meets its contract. The loop's invariant: what is done, times the product over the points left, is the product over all.
 -- Assumes nothing.
-use mathlib.Core.Path.{_≡_, ap, _∙_}
+use mathlib.Core.Path.{_≡_}
 use Prim.Native.Nat.{_≤_, _<_, _-_}
 use lib.ListN.{length, drop}
 use Rattle.gf256.specs.Field.{add, mul}
