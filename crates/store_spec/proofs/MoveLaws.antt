@@ -34,9 +34,10 @@ use Rattle.mbcr.proofs.TurnLaws.{turn-laws}
 use Rattle.mbcr.proofs.PointLaws.{point-laws}
 use Rattle.store_spec.specs.Calls.{StoreOutcome, listLines, writeLines, writeDone, writeCall}
 use Rattle.store_spec.specs.Demand1.{Stays}
+use Rattle.store_spec.specs.Demand3.{begun, events}
 use Rattle.store_spec.specs.Running.{Running, soundBeside}
-use Rattle.store_spec.specs.Both.{Outcome, beside, moveLinesBoth, moveBoth}
-use Rattle.store_spec.specs.Ledger.{Event, call, powerFails, Book, openBook, enter, bookNext, bookFinal}
+use Rattle.store_spec.specs.Both.{Outcome, beside, setUpBoth, moveLinesBoth, moveBoth}
+use Rattle.store_spec.specs.Ledger.{Event, call, powerFails, Book, openBook, enter, bookNext, bookFinal, Step, Allowed, final}
 use Rattle.store_spec.specs.LedgerLaws.{newPoint, setPoints}
 use Rattle.store_spec.specs.Move.{allBoards, movedRecord, afresh, afreshArea, movePackets, movedShare, moveLines, moveDone, moveCall}
 use Rattle.store_spec.specs.MoveLaws.{Moved, movesIn, MoveLaws}
@@ -44,7 +45,7 @@ use Rattle.store_spec.specs.Packets.{Packet, helperPackets, standInPacke
 use Rattle.store_spec.specs.Record.{Record, inService, sound, stripeCount, usedLen, partLen, areaLen, held, writtenRecord, newRecord}
 use Rattle.store_spec.proofs.Area.{shares-same, byte-stays}
 use Rattle.store_spec.proofs.Beside.{alone-busy}
-use Rattle.store_spec.proofs.Demand3.{passes, both-done, new-sound}
+use Rattle.store_spec.proofs.Demand3.{passes, both-done, new-sound, demand-3, set-up-both}
 use Rattle.store_spec.proofs.Held.{held-long, held-bytes}
 use Rattle.store_spec.proofs.LedgerLaws.{ledger-laws}
 use Rattle.store_spec.proofs.Marks.{among-first, first-below}
@@ -380,6 +381,14 @@ turn z c m es ok e =
     zero-left : (t : ℕ) → t ≡ 0 + t
     zero-left t = omega arith
 
+turn-record : (old : Record) (p : Running) (z : Sizes) (c : ℕ) (area : List ℕ) (steps : List Step) → setUpBoth old p z (firstSeries z) c .answer .refusal ≡ 0
+    → Allowed (begun old p z (firstSeries z) c area) (openBook z (firstSeries z) c (length area)) steps
+    → movesIn (openBook z (firstSeries z) c (length area)) (events steps) ≡ tabulate (z .n) (λ i. (i, i))
+    → final (begun old p z (firstSeries z) c area) steps .kept .points ≡ standard z
+turn-record old p z c area steps taken ok e =
+    let legal = sound-facts (newRecord z (firstSeries z) c) (set-up-both old p z (firstSeries z) c taken) .is-legal in
+    ap (λ (s : Record). s .points) (demand-3 old p z (firstSeries z) c area steps taken ok .after .same-record) ∙ turn z c (length area) (events steps) legal e
+
 module _ (s : Record) (area : List ℕ) (i : ℕ) (helpers partners : List ℕ) (ok : sound s ≡ true) (pts : s .points ≡ turned (s .sizes) i)
     (area-is : length area ≡ areaLen s) (w : s .written ≡ true) (ch : length helpers ≡ s .sizes .d) (cp : length partners ≡ s .sizes .r - 1)
     (low : below (s .sizes .n) (i ∷ (helpers ++ partners)) ≡ true) (once : different (i ∷ (helpers ++ partners)) ≡ true) (up : every (inService s) (allBoards s) ≡ true) where
@@ -580,4 +589,5 @@ move-laws = record {
   turn-written = λ s area i helpers partners file any pts last ok l bf truth long. turn-written s area i helpers partners pts last ok file any l bf truth long;
   points-are = points-are;
   turn = turn;
+  turn-record = turn-record;
 }

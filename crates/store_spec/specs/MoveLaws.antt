@@ -25,9 +25,10 @@ use Rattle.store_spec.specs.Packets.{total}
 use Rattle.store_spec.specs.Calls.{listLines, writeCall}
 use Rattle.store_spec.specs.Move.{allBoards, movedRecord, afresh, movePackets, moveLines, moveCall}
 use Rattle.store_spec.specs.Running.{Running}
-use Rattle.store_spec.specs.Both.{beside, moveBoth}
+use Rattle.store_spec.specs.Both.{beside, setUpBoth, moveBoth}
 use Rattle.store_spec.specs.Demand1.{Stays}
-use Rattle.store_spec.specs.Ledger.{Event, call, powerFails, Book, openBook, enter, bookNext, bookFinal}
+use Rattle.store_spec.specs.Demand3.{begun, events}
+use Rattle.store_spec.specs.Ledger.{Event, call, powerFails, Book, openBook, enter, bookNext, bookFinal, Step, Allowed, final}
 use Rattle.store_spec.specs.LedgerLaws.{newPoint, setPoints}
 
 -- An accepted move, over any record and any area. `ys` are the points after it.
@@ -128,3 +129,8 @@ pub record MoveLaws : Type 0 where
   pub turn : (z : Sizes) (c m : ℕ) (es : List Event) → legal z ≡ true
       → movesIn (openBook z (firstSeries z) c m) es ≡ tabulate (z .n) (λ i. (i, i))
       → bookFinal (openBook z (firstSeries z) c m) es .points ≡ standard z
+  -- so it is with the record of the store, after any list that demand 3 allows
+  pub turn-record : (old : Record) (p : Running) (z : Sizes) (c : ℕ) (area : List ℕ) (steps : List Step) → setUpBoth old p z (firstSeries z) c .answer .refusal ≡ 0
+      → Allowed (begun old p z (firstSeries z) c area) (openBook z (firstSeries z) c (length area)) steps
+      → movesIn (openBook z (firstSeries z) c (length area)) (events steps) ≡ tabulate (z .n) (λ i. (i, i))
+      → final (begun old p z (firstSeries z) c area) steps .kept .points ≡ standard z
