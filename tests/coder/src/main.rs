@@ -58,6 +58,7 @@ mod histories;
 mod ledger;
 mod load;
 mod matrix;
+mod moves;
 mod points;
 mod prefix;
 mod prefix_cases;
