@@ -90,6 +90,11 @@ pub fn generator(sizes: Sizes, points: &[u8], board: usize) -> Matrix {
     evaluated(sizes, &sizes.places(points, board))
 }
 
+/// The same for all boards.
+pub fn generators(sizes: Sizes, points: &[u8]) -> Vec<Matrix> {
+    (0..sizes.n).map(|board| generator(sizes, points, board)).collect()
+}
+
 /// F's values at places (x, y), for each of them as many bytes as a file has stripes.
 pub fn values(sizes: Sizes, file: &[u8], places: &[(u8, u8)]) -> Vec<Vec<u8>> {
     let values = evaluated(sizes, places).times(&stripes_of(sizes, file));

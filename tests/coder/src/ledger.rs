@@ -126,7 +126,7 @@ impl Book {
         lines.into_iter().find(|(_, holds)| *holds).map(|(number, _)| number)
     }
 
-    fn file_len(&self) -> usize {
+    pub fn file_len(&self) -> usize {
         self.file.as_ref().map_or(0, Vec::len)
     }
 

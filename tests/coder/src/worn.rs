@@ -77,7 +77,7 @@ impl Worn {
         let area = random.bytes(sizes.n * capacity * sizes.share_len());
         let record = store::words(sizes, points, capacity, None, &[]);
         let lent = Lent { repair: running_draw::idle(random), ..Lent::idle(record, area, Vec::new()) };
-        let generators = (0..sizes.n).map(|board| code::generator(sizes, points, board)).collect();
+        let generators = code::generators(sizes, points);
         let book = Book::new(sizes, points.clone(), capacity, lent.area.len());
         let mut worn = Worn { book, lent, generators, packets: Vec::new() };
         worn.write(trial, &scene.file).then_some(worn)
@@ -155,7 +155,7 @@ impl Worn {
         alike.then_some(expected)
     }
 
-    /// What an accepted start or step leaves of the packet area.
+    /// What an accepted start or step leaves of the packet area, and what makes the shares behind a move.
     fn follow(&mut self, call: &Call, packets: Vec<u8>) {
         match (call, &self.book.repairing) {
             (Call::Start { .. }, Some(repairing)) => {
@@ -164,6 +164,7 @@ impl Worn {
                 self.packets = vec![0; steps::area_len(&order)];
             }
             (Call::Step { .. }, _) => self.packets = packets,
+            (Call::Move { .. }, _) => self.generators = code::generators(self.book.sizes, &self.book.points),
             _ => {}
         }
     }
@@ -357,17 +358,16 @@ impl Worn {
 
     /// One call, mostly a right one; false where the archive answered otherwise.
     fn next(&mut self, trial: &mut Trial, random: &mut Random) -> bool {
-        let Book { sizes, capacity, .. } = self.book;
-        let (length, in_service) = (self.file_len(), self.in_service());
+        let sizes = self.book.sizes;
         let mut call = match &self.book.repairing {
-            Some(repairing) => store_draw::call_meanwhile(random, sizes, capacity, length, &in_service, repairing),
-            None => store_draw::next_call(random, sizes, capacity, length, &in_service),
+            Some(repairing) => store_draw::call_meanwhile(random, &self.book, repairing),
+            None => store_draw::next_call(random, &self.book),
         };
         if random.once_in(6) {
             // the records and the area are those that the last call left
             spoil(random, sizes, &mut call, &mut Lent::default());
         }
-        self.lent.out = store_draw::output(random, &call, length);
+        self.lent.out = store_draw::output(random, &call, self.file_len());
         if let Call::Step { .. } = call {
             self.lend_packets(random);
         }
