@@ -38,7 +38,6 @@ const BETWEEN: [Between; 7] =
 struct Carried {
     sizes: Sizes,
     capacity: usize,
-    points: Vec<u8>,
     file: Vec<u8>,
     lent: Lent,
 }
@@ -58,7 +57,7 @@ pub fn over(trial: &mut Trial, random: &mut Random, sizes: Sizes, capacity: usiz
     let points = points::first_series(sizes.n);
     let Some(mut lent) = written(trial, random, sizes, &points, capacity, &file) else { return };
     lent.repair = running_draw::idle(random);
-    let mut carried = Carried { sizes, capacity, points, file, lent };
+    let mut carried = Carried { sizes, capacity, file, lent };
     carried.in_turn(trial, random);
 }
 
@@ -104,11 +103,10 @@ impl Carried {
             }
             let call = move_draw::to(random, self.sizes, board, board as u8);
             self.lent = performed(trial, &call, &self.lent)?;
-            self.points[board] = board as u8;
             if let Some(kind) = told {
                 self.tell(trial, kind);
             }
-            // one way through: its own byte is its own now
+            // the byte is its own now
             let again = move_draw::to(random, self.sizes, board, board as u8);
             self.refused(trial, &again, REPEAT)?;
         }
@@ -149,54 +147,75 @@ impl Carried {
         Some(())
     }
 
-    /// What is done before the move of a board; which kind that move then is.
+    /// What is done before the move of a board; which kind that move then is. Nothing at all where the archive answered otherwise.
     fn between(&mut self, trial: &mut Trial, random: &mut Random, what: Between, next: usize) -> Option<Option<usize>> {
-        let n = self.sizes.n;
-        let lost = random.below(n);
-        match what {
-            Between::Nothing => return Some(None),
+        let Sizes { n, k, .. } = self.sizes;
+        let all: Vec<usize> = (0..n).collect();
+        let told = match what {
+            Between::Nothing => None,
             Between::Read => {
-                self.read(trial, random, &(0..n).collect::<Vec<usize>>())?;
-                return Some(None);
+                self.read(trial, random, &all)?;
+                None
             }
+            Between::Careful if n < k + 2 => None,
             Between::Careful => {
-                if n < self.sizes.k + 2 {
-                    return Some(None);
-                }
-                let boards = random.choose((0..n).collect(), self.sizes.k + 2);
+                let boards = random.choose(all, k + 2);
                 self.gives_the_file(trial, random, Call::Careful { boards })?;
-                return Some(Some(met::CAREFUL));
+                Some(met::CAREFUL)
             }
             Between::Edit => {
                 self.edit(trial, random)?;
-                return Some(Some(met::EDITED));
+                Some(met::EDITED)
             }
             Between::Loss => {
-                self.lose(trial, random, lost)?;
-                self.move_refused(trial, random, next, DOWN)?;
-                let lists = self.lists(random, lost);
-                let call = Call::Repair { fresh: lists.fresh, helpers: lists.helpers, stand_ins: lists.stand_ins };
-                self.lent = performed(trial, &call, &self.lent)?;
-                self.read(trial, random, &(0..n).collect::<Vec<usize>>())?;
-                return Some(Some(met::REBUILT));
+                self.rebuild(trial, random, next)?;
+                self.read(trial, random, &all)?;
+                Some(met::REBUILT)
             }
-            Between::Steps | Between::Failure => {}
-        }
+            Between::Steps => {
+                self.rebuild_by_steps(trial, random, next, false)?;
+                Some(met::STEPPED)
+            }
+            Between::Failure => {
+                self.rebuild_by_steps(trial, random, next, true)?;
+                Some(met::FAILED)
+            }
+        };
+        Some(told)
+    }
+
+    /// Loses a board and rebuilds it; the next move is DOWN in between.
+    fn rebuild(&mut self, trial: &mut Trial, random: &mut Random, next: usize) -> Option<()> {
+        let lost = random.below(self.sizes.n);
         self.lose(trial, random, lost)?;
-        let fails = matches!(what, Between::Failure);
-        if fails {
+        self.move_refused(trial, random, next, DOWN)?;
+        let Lists { fresh, helpers, stand_ins } = self.lists(random, lost);
+        self.lent = performed(trial, &Call::Repair { fresh, helpers, stand_ins }, &self.lent)?;
+        Some(())
+    }
+
+    /// Loses a board and rebuilds it by steps; the next move is BUSY in between. Power may fail behind some packets: the next move is DOWN then, and the
+    /// repair is started anew.
+    fn rebuild_by_steps(
+        &mut self,
+        trial: &mut Trial,
+        random: &mut Random,
+        next: usize,
+        power_fails: bool,
+    ) -> Option<()> {
+        let total = self.sizes.d + self.sizes.r - 1;
+        let lost = random.below(self.sizes.n);
+        self.lose(trial, random, lost)?;
+        if power_fails {
             let packets = self.start(trial, random, lost)?;
-            let some = random.below(self.sizes.d + self.sizes.r - 1);
-            self.step(trial, packets, some)?;
+            self.step(trial, packets, random.below(total))?;
             self.lent.repair = running_draw::idle(random);
             self.move_refused(trial, random, next, DOWN)?;
         }
         let packets = self.start(trial, random, lost)?;
-        let some = random.below(self.sizes.d + self.sizes.r - 1);
-        let packets = self.step(trial, packets, some)?;
+        let packets = self.step(trial, packets, random.below(total))?;
         self.move_refused(trial, random, next, BUSY)?;
-        self.step(trial, packets, usize::MAX)?;
-        Some(Some(if fails { met::FAILED } else { met::STEPPED }))
+        self.step(trial, packets, usize::MAX).map(drop)
     }
 
     /// A board is lost, and holds any bytes.

@@ -95,13 +95,16 @@ pub fn by_a_line(trial: &mut Trial) {
     figure(trial, "a move of no bytes", call(1, 5, &[0], &[]), lent, Outcome::accepted(0, after));
 }
 
-/// Five boards at 01 to 05: what is refused, with all boards in service and with some of them out of it.
+/// Board, point, helpers, partners, and what it is refused with.
+type Refused<'a> = (usize, u8, &'a [usize], &'a [usize], u8);
+
+/// Five boards: what is refused, with all boards in service and with some of them out of it.
 pub fn refusals(trial: &mut Trial, series: &Series) {
     let points = &series.points;
     let all = Lent::idle(record_of(points, 0b11111), series.shares.concat(), Vec::new());
     let (own, other, last) = (points[0], points[3], points[4]);
     let greatest = usize::MAX;
-    let cases: [(usize, u8, &[usize], &[usize], u8); 24] = [
+    let cases: [Refused; 24] = [
         (9, own, &[1, 2], &[4], COUNT),
         (9, own, &[1, 2, 3, 3], &[4], COUNT),
         (9, own, &[1, 2, 3], &[], COUNT),

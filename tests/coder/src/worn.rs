@@ -10,6 +10,7 @@ use crate::code::{self, Sizes};
 use crate::draw;
 use crate::ledger::Book;
 use crate::matrix::Matrix;
+use crate::move_draw;
 use crate::points;
 use crate::random::Random;
 use crate::repairs;
@@ -47,8 +48,8 @@ pub fn run(trial: &mut Trial, random: &mut Random, sizes: Sizes) {
     whole(trial, random, &scene, capacity, calls);
 }
 
-/// A file written, a board worn and named, an edit, the board lost and rebuilt; another one worn while a repair runs, which power ends; a board rebuilt by the
-/// worn one; and then so many calls as they are drawn.
+/// A file written, a board worn and named, an edit, the board lost and rebuilt; another one worn, a third one moved, and the worn one moved; one worn while a
+/// repair runs, which power ends; a board rebuilt by the worn one; and then so many calls as they are drawn.
 pub fn whole(trial: &mut Trial, random: &mut Random, scene: &Scene, capacity: usize, calls: usize) {
     let Sizes { n, k, .. } = scene.sizes;
     let heavy = scene.sizes.stripe_len().pow(2) * (k + 2) * scene.sizes.share_len() > HEAVY;
@@ -58,6 +59,7 @@ pub fn whole(trial: &mut Trial, random: &mut Random, scene: &Scene, capacity: us
     let Some(mut worn) = Worn::new(trial, random, scene, capacity) else { return };
     if n >= k + 2 {
         let alike = worn.through_an_edit(trial, random)
+            && worn.through_a_move(trial, random)
             && !heavy
             && worn.through_a_failure(trial, random)
             && worn.spread(trial, random)
@@ -222,6 +224,36 @@ impl Worn {
             self.tell(trial, met::REBUILT, before && answered.as_ref().is_some_and(|outcome| outcome.answer == 0));
             answered.is_some()
         }
+    }
+
+    /// A board is worn; another one is moved by boards that are not, where there are enough of them, and the worn one is named, at the new points. Then it is
+    /// moved itself, by which it holds its share again, since no byte of it is read.
+    fn through_a_move(&mut self, trial: &mut Trial, random: &mut Random) -> bool {
+        let Sizes { n, d, r, .. } = self.book.sizes;
+        let board = random.below(n);
+        self.wear(random, board, true);
+        if d + r < n {
+            let right = random.choose(self.others(&[board]), d + r);
+            let (moved, senders) = right.split_first().expect("d + r boards");
+            let point = move_draw::free(random, self.book.sizes, &self.book.points, *moved);
+            let (helpers, partners) = senders.split_at(d);
+            let call = Call::Move { board: *moved, point, helpers: helpers.to_vec(), partners: partners.to_vec() };
+            self.lent.out.clear();
+            if self.check(trial, &call).is_none() {
+                return false;
+            }
+            let Some(outcome) = self.careful(trial, random, &[board, *moved]) else { return false };
+            self.tell(trial, met::OTHER_MOVED, outcome.answer == (board as u64 + 1) << 8);
+        }
+        let worn = self.wrong(&[board]) == [board];
+        let call = move_draw::of(random, self.book.sizes, &self.book.points, board);
+        self.lent.out.clear();
+        if self.check(trial, &call).is_none() {
+            return false;
+        }
+        let Some(outcome) = self.careful(trial, random, &[board]) else { return false };
+        self.tell(trial, met::ITSELF_MOVED, worn && outcome.answer == 0);
+        true
     }
 
     /// A board lost, and rebuilt by any others.
