@@ -59,8 +59,8 @@ pub fn whole(trial: &mut Trial, random: &mut Random, scene: &Scene, capacity: us
     let Some(mut worn) = Worn::new(trial, random, scene, capacity) else { return };
     if n >= k + 2 {
         let alike = worn.through_an_edit(trial, random)
-            && worn.through_a_move(trial, random)
             && !heavy
+            && worn.through_a_move(trial, random)
             && worn.through_a_failure(trial, random)
             && worn.spread(trial, random)
             && worn.write(trial, &scene.file);
