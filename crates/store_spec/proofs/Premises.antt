@@ -258,6 +258,7 @@ bare-other (call (edit offset bytes boards)) h = refl
 bare-other (call (start fresh helpers standIns)) h = refl
 bare-other (call (step allowance packets)) h = absurd (h allowance packets refl)
 bare-other (call (careful boards output)) h = refl
+bare-other (call (move board point helpers partners)) h = refl
 bare-other (powerFails p) h = refl
 
 pub premises : Premises

@@ -330,6 +330,7 @@ its-bytes (call (edit offset bytes boards)) es h i = ((h .0, tt), h .1, i)
 its-bytes (call (start fresh helpers standIns)) es h i = (tt, h, i)
 its-bytes (call (step allowance packets)) es h i = (tt, h, i)
 its-bytes (call (careful boards output)) es h i = (tt, h, i)
+its-bytes (call (move board point helpers partners)) es h i = ((h .0, tt), h .1, i)
 its-bytes (powerFails p) es h i = (i .0, h, i .1)
 
 all-asked : (m : ℕ) (ts : List Step) → All (λ t. length (t .area) ≡ m) ts → All Bytes (files (events ts)) → IdleGiven (events ts) → AnyBytes m ts
