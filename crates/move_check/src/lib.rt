@@ -38,7 +38,14 @@ fn check_named(
     if let Check::Refuse(node) = move_tests::check_known(sizes, board, helpers, partners) {
         return Check::Refuse(node);
     }
-    if let Check::Refuse(repeat) = move_tests::check_new(sizes.n, points, board, point, helpers, partners) {
+    if let Check::Refuse(repeat) = move_tests::check_new(
+        sizes.n,
+        points,
+        board,
+        point,
+        helpers,
+        partners,
+    ) {
         return Check::Refuse(repeat);
     }
     move_tests::check_up(sizes.n, marks)
