@@ -5,19 +5,20 @@ use mathlib.Core.Path.{_≡_, refl, sym, _∙_, ap, ap₂, subst}
 use mathlib.Core.Bool.{Bool, true, false, not}
 use mathlib.Core.List.{List, [], _∷_, _++_, map, append-nil}
 use mathlib.Core.Logic.{_≢_, _↔_, _⊎_, inl, inr}
+use mathlib.Core.Option.{some, none}
 use native.Mathlib.Nat.{zero-mul}
 use native.Mathlib.Omega.{arith}
-use lib.Dec.{eqb}
+use lib.Dec.{eqb, ltb}
 use lib.ListN.{length, take, drop, set, getD}
 use lib.Seq.{take-all}
 use borrow.Author.Tests.{eq-eqb, ne-eqb, eqb-true, eqb-false, lt-ltb, le-leb, le-ltb}
 use Rattle.lists.specs.Tests.{pick, alls, among, apart, below, different, every}
 use Rattle.lists.specs.Lists.{All, Bytes, tabulate, without, joined}
 use Rattle.lists.proofs.Alls.{all-imp, all-left, all-right}
-use Rattle.lists.proofs.Boards.{joined-all, all-among, below-all, among-head, among-without}
+use Rattle.lists.proofs.Boards.{joined-all, all-among, below-all, all-below, among-head, among-without}
 use Rattle.lists.proofs.Pieces.{tabulate-ext}
-use Rattle.lists.proofs.Tests.{true-false, alls-hold, hold-alls, not-no}
-use Rattle.sizes.specs.Refusals.{first, storeOrder, appliesIn}
+use Rattle.lists.proofs.Tests.{true-false, alls-hold, hold-alls, not-no, all-every}
+use Rattle.sizes.specs.Refusals.{Said, first, storeOrder, appliesIn}
 use Rattle.sizes.specs.declared.Refusal.the-variants.{Size, Area, Count, Node, Repeat, Empty, Down}
 use Rattle.sizes.proofs.Legal.{legal-facts}
 use Rattle.sizes.proofs.Orders.{_also_, clear-off, off-pass}
@@ -37,8 +38,9 @@ use Rattle.store_spec.specs.Demand1.{Stays}
 use Rattle.store_spec.specs.Demand3.{begun, events}
 use Rattle.store_spec.specs.Running.{Running, soundBeside}
 use Rattle.store_spec.specs.Both.{Outcome, beside, setUpBoth, moveLinesBoth, moveBoth}
-use Rattle.store_spec.specs.Ledger.{Event, call, powerFails, Book, openBook, enter, bookNext, bookFinal, Step, Allowed, final}
-use Rattle.store_spec.specs.LedgerLaws.{newPoint, setPoints}
+use Rattle.store_spec.specs.Ledger.{Call, write, lose, repair, read, edit, start, step, careful, move, Event, call, powerFails, Book, Entry, openBook, bookLines}
+use Rattle.store_spec.specs.Ledger.{accept, enter, bookNext, bookFinal, Step, Allowed, final}
+use Rattle.store_spec.specs.LedgerLaws.{Accepted, newPoint, setPoints}
 use Rattle.store_spec.specs.Move.{allBoards, movedRecord, afresh, afreshArea, movePackets, movedShare, moveLines, moveDone, moveCall}
 use Rattle.store_spec.specs.MoveLaws.{Moved, movesIn, MoveLaws}
 use Rattle.store_spec.specs.Packets.{Packet, helperPackets, standInPackets, exchangePackets, partnerPackets, repairPackets}
@@ -503,6 +505,115 @@ module _ (s : Record) (p : Running) (area : List ℕ) (board new : ℕ) (helpers
       → moveBoth s p area board new helpers partners ≡ beside p (moveCall s area board new helpers partners)
   same-beside h = let k = both-there h in k .2 ∙ ap (beside p) (sym (is-moved (k .0)))
 
+-- ---- the moves of a list
+
+moves-one : (b : Book) (board point : ℕ) (helpers partners : List ℕ) (es : List Event) → Accepted b (move board point helpers partners)
+    → movesIn b (call (move board point helpers partners) ∷ es) ≡ (board, point) ∷ movesIn (enter b (move board point helpers partners) .book) es
+moves-one b board point helpers partners es ok = rw (eq-eqb (enter b (move board point helpers partners) .reply .answer .refusal) 0 ok) refl
+
+no-move : (b : Book) (c : Call) (es : List Event) → newPoint c (enter b c .reply .answer) ≡ [] → movesIn b (call c ∷ es) ≡ movesIn (enter b c .book) es
+no-move b c es e = ap (λ (ps : List (ℕ × ℕ)). ps ++ movesIn (enter b c .book) es) e
+
+not-move : (c : Call) (a : Said) → ((board point : ℕ) (helpers partners : List ℕ) → c ≢ move board point helpers partners) → newPoint c a ≡ []
+not-move (write file) a h = refl
+not-move (lose board) a h = refl
+not-move (repair fresh helpers standIns) a h = refl
+not-move (read boards output) a h = refl
+not-move (edit offset bytes boards) a h = refl
+not-move (start fresh helpers standIns) a h = refl
+not-move (step allowance packets) a h = refl
+not-move (careful boards output) a h = refl
+not-move (move board point helpers partners) a h = absurd (h board point helpers partners refl)
+
+off-move : (c : Call) (a : Said) → a .refusal ≢ 0 → newPoint c a ≡ []
+off-move (write file) a h = refl
+off-move (lose board) a h = refl
+off-move (repair fresh helpers standIns) a h = refl
+off-move (read boards output) a h = refl
+off-move (edit offset bytes boards) a h = refl
+off-move (start fresh helpers standIns) a h = refl
+off-move (step allowance packets) a h = refl
+off-move (careful boards output) a h = refl
+off-move (move board point helpers partners) a h = rw (ne-eqb (a .refusal) 0 h) refl
+
+moves-refused : (b : Book) (c : Call) (es : List Event) → (Accepted b c → ⊥) → movesIn b (call c ∷ es) ≡ movesIn b es
+moves-refused b c es h =
+    no-move b c es (off-move c (enter b c .reply .answer) h) ∙ ap (λ (x : Book). movesIn x es) (ledger-laws .refused b c h .0)
+
+-- ---- lists that have the turn
+
+module _ (z : Sizes) (c : ℕ) (file : List ℕ) (ok : legal z ≡ true) where
+  -- the book while boards are moved
+  abbrev book : List ℕ → Book
+  book xs = record { sizes = z; points = xs; capacity = c; areaLength = z .n * (c * α z); file = some file; service = tabulate (z .n) (λ i. i); repairing = none }
+
+  opened : length file ≤ c * B z → enter (openBook z (firstSeries z) c (z .n * (c * α z))) (write file) .book ≡ book (firstSeries z)
+  unfolding enter accept bookLines
+  opened fits =
+      ap (λ (e : Entry). e .book) (settle-pass (first storeOrder (bookLines (openBook z (firstSeries z) c (z .n * (c * α z))) (write file))) _ _
+      (off-pass (bookLines (openBook z (firstSeries z) c (z .n * (c * α z))) (write file)) storeOrder
+      (ap not (eq-eqb (z .n * (c * α z)) (z .n * (c * α z)) refl) also le-ltb (c * B z) (length file) fits also refl also tt)))
+
+  module _ (i : ℕ) (helpers partners : List ℕ) (ch : length helpers ≡ z .d) (cp : length partners ≡ z .r - 1)
+      (low : below (z .n) (i ∷ (helpers ++ partners)) ≡ true) (once : different (i ∷ (helpers ++ partners)) ≡ true) where
+    lows : All (λ x. x < z .n) (i ∷ (helpers ++ partners))
+    lows = below-all (z .n) (i ∷ (helpers ++ partners)) low
+
+    entered : enter (book (turned z i)) (move i i helpers partners) ≡ accept (book (turned z i)) (move i i helpers partners)
+    unfolding enter bookLines
+    entered =
+        settle-pass (first storeOrder (bookLines (book (turned z i)) (move i i helpers partners))) _ _
+        (off-pass (bookLines (book (turned z i)) (move i i helpers partners)) storeOrder
+        (ap not (eq-eqb (z .n * (c * α z)) (z .n * (c * α z)) refl)
+        also refl
+        also refl
+        also ap not (hold-alls (eqb (length helpers) (z .d) ∷ eqb (length partners) (z .r - 1) ∷ []) (eq-eqb _ _ ch, (eq-eqb _ _ cp, tt)))
+        also ap not (hold-alls (ltb i (z .n) ∷ below (z .n) helpers ∷ below (z .n) partners ∷ []) (
+          lt-ltb i (z .n) (lows .0),
+          (all-below (z .n) helpers (all-left _ helpers partners (lows .1)), (all-below (z .n) partners (all-right _ helpers partners (lows .1)), tt)),
+        ))
+        also ap not (hold-alls (different (i ∷ (helpers ++ partners)) ∷ not (among (take (z .n) (turned z i)) i) ∷ [])
+        (once, (ap not (turn-laws .turn-free z i ok (lows .0)), tt)))
+        also ap not (all-every (among (tabulate (z .n) (λ t. t))) (tabulate (z .n) (λ t. t))
+        (all-imp (λ x. x < z .n) (λ x. among (tabulate (z .n) (λ t. t)) x ≡ true) (λ x h. among-first (z .n) x ∙ lt-ltb x (z .n) h)
+        (tabulate (z .n) (λ t. t)) (first-below (z .n) (z .n) (omega arith))))
+        also tt))
+
+    turn-accepted : Accepted (book (turned z i)) (move i i helpers partners)
+    unfolding accept
+    turn-accepted = ap (λ (e : Entry). e .reply .answer .refusal) entered
+
+    turn-book : enter (book (turned z i)) (move i i helpers partners) .book ≡ book (turned z (suc i))
+    unfolding accept
+    turn-book = ap (λ (e : Entry). e .book) entered ∙ ap book (turn-laws .turn-step z i ok (lows .0))
+
+  module _ (helpers partners : ℕ → List ℕ)
+      (lists : (i : ℕ) → i < z .n
+      → (length (helpers i) ≡ z .d) × (length (partners i) ≡ z .r - 1)
+      × (below (z .n) (i ∷ (helpers i ++ partners i)) ≡ true) × (different (i ∷ (helpers i ++ partners i)) ≡ true)) where
+    abbrev turns : ℕ → Event
+    turns i = call (move i i (helpers i) (partners i))
+
+    -- m boards from i on, whose numbers are `at`
+    on : (m i : ℕ) (at : ℕ → ℕ) → ((t : ℕ) → at t ≡ i + t) → i + m ≤ z .n
+        → movesIn (book (turned z i)) (tabulate m (λ t. turns (at t))) ≡ tabulate m (λ t. (at t, at t))
+    on zero i at e h = refl
+    on (suc m) i at e h =
+        let first : at 0 ≡ i = e 0 ∙ omega arith in
+        let k : i < z .n = omega arith in
+        let l = lists i k in
+        let rest = tabulate m (λ t. turns (at (suc t))) in
+        subst (λ (j : ℕ). movesIn (book (turned z i)) (turns j ∷ rest) ≡ (j, j) ∷ tabulate m (λ t. (at (suc t), at (suc t)))) (sym first)
+        (moves-one (book (turned z i)) i i (helpers i) (partners i) rest (turn-accepted i (helpers i) (partners i) (l .0) (l .1) (l .2) (l .3))
+        ∙ ap (λ (b : Book). (i, i) ∷ movesIn b rest) (turn-book i (helpers i) (partners i) (l .0) (l .1) (l .2) (l .3))
+        ∙ ap (λ (ps : List (ℕ × ℕ)). (i, i) ∷ ps) (on m (suc i) (λ t. at (suc t)) (λ t. e (suc t) ∙ omega arith) (omega arith)))
+
+    turn-met : length file ≤ c * B z
+        → movesIn (openBook z (firstSeries z) c (z .n * (c * α z))) (call (write file) ∷ tabulate (z .n) turns) ≡ tabulate (z .n) (λ i. (i, i))
+    turn-met fits =
+        ap (λ (b : Book). movesIn b (tabulate (z .n) turns)) (opened fits ∙ ap book (sym (turn-laws .turn-first z)))
+        ∙ on (z .n) 0 (λ t. t) (λ t. omega arith) (omega arith)
+
 -- ---- as in a repair of one board
 
 module _ (s : Record) (m board point : ℕ) (helpers partners : List ℕ) (ok : legal (s .sizes) ≡ true) where
@@ -590,4 +701,10 @@ move-laws = record {
   points-are = points-are;
   turn = turn;
   turn-record = turn-record;
+  moves-none = λ b. refl;
+  moves-one = moves-one;
+  moves-refused = moves-refused;
+  moves-other = λ b c es h. no-move b c es (not-move c (enter b c .reply .answer) h);
+  moves-fails = λ b p es. refl;
+  turn-met = λ z c file helpers partners ok fits lists. turn-met z c file ok helpers partners lists fits;
 }
