@@ -22,7 +22,7 @@ use Rattle.sizes.specs.Refusals.{Said, first, storeOrder, appliesIn}
 use Rattle.sizes.specs.declared.Refusal.the-variants.{Size, Area, Count, Node, Repeat, Empty, Down}
 use Rattle.sizes.proofs.Legal.{legal-facts}
 use Rattle.sizes.proofs.Orders.{_also_, clear-off, off-pass}
-use Rattle.sizes.specs.Sizing.{legal, α, B}
+use Rattle.sizes.specs.Sizing.{legal, α, B, stripes}
 use Rattle.sizes.specs.declared.Check.the-variants.{Pass}
 use Rattle.sizes.specs.declared.Sizes.{Sizes}
 use Rattle.mbcr.specs.Afresh.{shareAfresh}
@@ -31,6 +31,7 @@ use Rattle.mbcr.specs.PointLaws.{firstSeries}
 use Rattle.mbcr.specs.Rebuild.{seconds, helperPacket, standInPacket, exchangePacket, finishedShare}
 use Rattle.mbcr.specs.Share.{point, standard, share}
 use Rattle.mbcr.specs.TurnLaws.{turned}
+use Rattle.mbcr.proofs.AfreshLaws.{afresh-laws}
 use Rattle.mbcr.proofs.TurnLaws.{turn-laws}
 use Rattle.mbcr.proofs.PointLaws.{point-laws}
 use Rattle.store_spec.specs.Calls.{StoreOutcome, listLines, writeLines, writeDone, writeCall}
@@ -45,17 +46,17 @@ use Rattle.store_spec.specs.Move.{allBoards, movedRecord, afresh, afresh
 use Rattle.store_spec.specs.MoveLaws.{Moved, movesIn, MoveLaws}
 use Rattle.store_spec.specs.Packets.{Packet, helperPackets, standInPackets, exchangePackets, partnerPackets, repairPackets}
 use Rattle.store_spec.specs.Record.{Record, inService, sound, stripeCount, usedLen, partLen, areaLen, held, writtenRecord, newRecord}
-use Rattle.store_spec.proofs.Area.{shares-same, byte-stays}
+use Rattle.store_spec.proofs.Area.{shares-same, byte-stays, length-shares}
 use Rattle.store_spec.proofs.Beside.{alone-busy}
 use Rattle.store_spec.proofs.Demand3.{passes, both-done, new-sound, demand-3, set-up-both}
 use Rattle.store_spec.proofs.Held.{held-long, held-bytes}
 use Rattle.store_spec.proofs.LedgerLaws.{ledger-laws}
 use Rattle.store_spec.proofs.Marks.{among-first, first-below}
 use Rattle.store_spec.proofs.Move.{g, named-other, new-point, others-low, afresh-long, afresh-area-is, other-held, laws-of, lost, repairs, lengths, made-is}
-use Rattle.store_spec.proofs.Move.{whole-helpers, whole-partners, total-is, made-long, result, board-low, result-long, board-has, other-has, move-true, new-pointed}
+use Rattle.store_spec.proofs.Move.{whole-helpers, whole-partners, total-is, made-long, result, board-low, result-long, board-has, other-has, move-true, new-pointed, new-points}
 use Rattle.store_spec.proofs.Packets.{heard-run}
 use Rattle.store_spec.proofs.Real.{code-lengths}
-use Rattle.store_spec.proofs.Records.{Moves, move-facts, moves-pass, moveCounts, repeatTests, sound-facts, used-fits, used-least, Sound, facts-sound}
+use Rattle.store_spec.proofs.Records.{Moves, move-facts, moves-pass, moveCounts, repeatTests, sound-facts, sound-points, used-fits, used-least, Sound, facts-sound}
 use Rattle.store_spec.proofs.Repair.{heardBy, stoodBy, fresh-by}
 use Rattle.store_spec.proofs.Step.{settle-pass}
 
@@ -263,6 +264,15 @@ module _ (t : Record) (any file : List ℕ) (ok : sound t ≡ true) (long : leng
       (used-least (t .sizes) (length file) (t .capacity) legal fits)
       (tabulate (t .sizes .n) (λ i. i)) any long (first-below (t .sizes .n) (t .sizes .n) (omega arith)) i (among-first (t .sizes .n) i ∙ lt-ltb i (t .sizes .n) h)
 
+  write-long : length (writeCall t any file .area) ≡ length any
+  write-long =
+      let w = writtenRecord t (length file) in
+      let legal = sound-facts t ok .is-legal in
+      ap (λ (o : StoreOutcome). length (o .area)) write-is
+      ∙ length-shares w (share (t .sizes) (t .points) file) (usedLen w) (code-lengths (t .points) (t .sizes) legal .share-length file)
+      (used-least (t .sizes) (length file) (t .capacity) legal fits)
+      (tabulate (t .sizes .n) (λ i. i)) any long (first-below (t .sizes .n) (t .sizes .n) (omega arith))
+
 -- ---- an accepted move
 
 module _ (s : Record) (area : List ℕ) (board new : ℕ) (helpers partners : List ℕ) (ok : moveCall s area board new helpers partners .answer .refusal ≡ 0) where
@@ -340,6 +350,91 @@ module _ (s : Record) (area : List ℕ) (board new : ℕ) (helpers partners : Li
       ap (λ (o : StoreOutcome). o .answer .refusal) (write-is (movedRecord s board new) any file moved-sound long fits),
       λ i h. moved-true i h ∙ sym (write-has (movedRecord s board new) any file moved-sound long fits i h),
     )
+
+-- ---- each board by itself
+
+module _ (s : Record) (area : List ℕ) (board new : ℕ) (helpers partners : List ℕ) (byte : new < 256) (ok : moveCall s area board new helpers partners .answer .refusal ≡ 0)
+    (file : List ℕ) (l : length file ≡ s .length) (bf : Bytes file) where
+  abbrev k : Moves s (length area) board new helpers partners
+  k = known s area board new helpers partners byte ok
+
+  after-true : (i : ℕ) → i < s .sizes .n → i ≢ board → held s area i ≡ share (s .sizes) (s .points) file i
+      → shareAfresh (s .sizes) (s .points) (set (s .points) board new) (stripeCount s) i (held s area i) ≡ share (s .sizes) (set (s .points) board new) file i
+  after-true i h e t =
+      ap₂ (λ (m : ℕ) (w : List ℕ). shareAfresh (s .sizes) (s .points) (set (s .points) board new) (stripes (s .sizes) m) i w) (sym l) t
+      ∙ laws-of s area board new helpers partners k byte i h e .afresh-true file bf
+
+  other-is : (i : ℕ) → i < s .sizes .n → i ≢ board
+      → held s (moveCall s area board new helpers partners .area) i ≡ shareAfresh (s .sizes) (s .points) (set (s .points) board new) (stripeCount s) i (held s area i)
+  other-is i h e = moved s area board new helpers partners byte ok .others-have i h e ∙ moved s area board new helpers partners byte ok .afresh-is i
+
+  -- back to the points before
+  back-true : Bytes area → (i : ℕ) → i < s .sizes .n → i ≢ board
+      → shareAfresh (s .sizes) (s .points) (set (s .points) board new) (stripeCount s) i (held s area i) ≡ share (s .sizes) (set (s .points) board new) file i
+      → held s area i ≡ share (s .sizes) (s .points) file i
+  back-true ba i h e t =
+      let g = sound-facts s (k .is-sound) in
+      let zs = set (s .points) board new in
+      let back = laws-of s area board new helpers partners k byte i h e .afresh-back (stripeCount s) (held s area i)
+      (held-long s area g (k .area-is) i h) (held-bytes s area g (k .area-is) ba i) in
+      sym back
+      ∙ ap₂ (λ (m : ℕ) (w : List ℕ). shareAfresh (s .sizes) zs (s .points) (stripes (s .sizes) m) i w) (sym l) t
+      ∙ afresh-laws (s .sizes) zs (s .points) i (g .is-legal) (new-points s area board new helpers partners k byte) (sound-points s g) h
+      (sym (turn-laws .other-point (s .points) board new i e)) .afresh-true file bf
+
+  other-true : Bytes area → (i : ℕ) → i < s .sizes .n → i ≢ board
+      → (held s (moveCall s area board new helpers partners .area) i ≡ share (s .sizes) (set (s .points) board new) file i)
+      ↔ (held s area i ≡ share (s .sizes) (s .points) file i)
+  other-true ba i h e = (λ t. back-true ba i h e (sym (other-is i h e) ∙ t), λ t. other-is i h e ∙ after-true i h e t)
+
+  -- the area in which every board holds its share: as far as the named ones go it is the same
+  low-length : length file ≤ s .capacity * B (s .sizes)
+  low-length = omega (arith, l, sound-facts s (k .is-sound) .fits)
+
+  abbrev whole : List ℕ
+  whole = writeCall s area file .area
+
+  whole-long : length whole ≡ length area
+  whole-long = write-long s area file (k .is-sound) (k .area-is) low-length
+
+  whole-held : (i : ℕ) → i < s .sizes .n → held s whole i ≡ share (s .sizes) (s .points) file i
+  whole-held i h =
+      ap (λ (m : ℕ). take (stripes (s .sizes) m * α (s .sizes)) (drop (i * partLen s) whole)) (sym l) ∙ write-has s area file (k .is-sound) (k .area-is) low-length i h
+
+  whole-taken : moveCall s whole board new helpers partners .answer .refusal ≡ 0
+  unfolding moveCall
+  whole-taken =
+      ap (λ (o : StoreOutcome). o .answer .refusal)
+      (settle-pass _ _ _ (subst (λ (m : ℕ). first storeOrder (moveLines s m board new helpers partners) ≡ Pass) (sym whole-long) (pass s area board new helpers partners ok)))
+
+  same-afresh : (j : ℕ) → j < s .sizes .n → held s area j ≡ share (s .sizes) (s .points) file j → afresh s area board new j ≡ afresh s whole board new j
+  same-afresh j h t =
+      moved s area board new helpers partners byte ok .afresh-is j
+      ∙ ap (λ (w : List ℕ). shareAfresh (s .sizes) (s .points) (set (s .points) board new) (stripeCount s) j w) (t ∙ sym (whole-held j h))
+      ∙ sym (moved s whole board new helpers partners byte whole-taken .afresh-is j)
+
+  abbrev Right : ℕ → Type 0
+  Right j = held s area j ≡ share (s .sizes) (s .points) file j
+
+  both-of : (hs : List ℕ) → All (λ j. (j < s .sizes .n) × (j ≢ board)) hs → All Right hs → All (λ j. afresh s area board new j ≡ afresh s whole board new j) hs
+  both-of [] p t = tt
+  both-of (j ∷ hs) p t = (same-afresh j (p .0 .0) (t .0), both-of hs (p .1) (t .1))
+
+  named-true : All Right (helpers ++ partners)
+      → held s (moveCall s area board new helpers partners .area) board ≡ share (s .sizes) (set (s .points) board new) file board
+  named-true t =
+      let zs = set (s .points) board new in
+      let S = stripeCount s in
+      let send : List ℕ → ℕ → List ℕ = λ a j. helperPacket (s .sizes) zs S j board (afresh s a board new j) in
+      let stand : List ℕ → ℕ → List ℕ = λ a j. standInPacket (s .sizes) zs S j board (afresh s a board new j) in
+      let hs = both-of helpers (of-helpers s area board new helpers partners k byte) (all-left Right helpers partners t) in
+      let ps = both-of partners (of-partners s area board new helpers partners k byte) (all-right Right helpers partners t) in
+      moved s area board new helpers partners byte ok .has
+      ∙ ap₂ (λ (a b : List ℕ). finishedShare (s .sizes) zs S board helpers a partners b)
+      (joined-all (send area) (send whole) helpers (all-imp _ (λ j. send area j ≡ send whole j) (λ j e. ap (helperPacket (s .sizes) zs S j board) e) helpers hs))
+      (joined-all (stand area) (stand whole) partners (all-imp _ (λ j. stand area j ≡ stand whole j) (λ j e. ap (standInPacket (s .sizes) zs S j board) e) partners ps))
+      ∙ sym (moved s whole board new helpers partners byte whole-taken .has)
+      ∙ moved-true s whole board new helpers partners byte whole-taken file l bf whole-held board (below-all (s .sizes .n) (board ∷ (helpers ++ partners)) (k .named-below) .0)
 
 -- ---- the turn
 
@@ -694,6 +789,8 @@ move-laws = record {
   );
   moved = λ s area board point helpers partners byte ok. moved s area board point helpers partners byte ok;
   move-true = λ s area board point helpers partners file byte ok l bf truth. moved-true s area board point helpers partners byte ok file l bf truth;
+  other-true = λ s area board point helpers partners file byte ok l bf ba i h e. other-true s area board point helpers partners byte ok file l bf ba i h e;
+  named-true = λ s area board point helpers partners file byte ok l bf t. named-true s area board point helpers partners byte ok file l bf t;
   as-written = λ s area board point helpers partners file any byte ok l bf truth long. as-written s area board point helpers partners byte ok file l bf truth any long;
   turn-taken = λ s area i helpers partners ok pts area-is w ch cp low once up. turn-taken s area i helpers partners ok pts area-is w ch cp low once up;
   turn-ends = turn-laws .turn-last;

@@ -8,7 +8,7 @@ use mathlib.Core.List.{List, [], _∷_, _++_, map}
 use Prim.Native.Nat.{ℕ, suc, _+_, _-_, _*_, _≤_, _<_}
 use lib.ListN.{length, take, set}
 use Rattle.lists.specs.Tests.{among, below, different, every}
-use Rattle.lists.specs.Lists.{Bytes, tabulate, joined}
+use Rattle.lists.specs.Lists.{All, Bytes, tabulate, joined}
 use Rattle.sizes.specs.declared.Sizes.{Sizes}
 use Rattle.sizes.specs.declared.Answer.the-variants.{Done}
 use Rattle.sizes.specs.Sizing.{legal, α, B}
@@ -93,6 +93,18 @@ pub record MoveLaws : Type 0 where
       → ((i : ℕ) → i < s .sizes .n → held s area i ≡ share (s .sizes) (s .points) file i)
       → (i : ℕ) → i < s .sizes .n
       → held s (moveCall s area board point helpers partners .area) i ≡ share (s .sizes) (set (s .points) board point) file i
+  -- of each other board by itself, over any bytes: it then holds its share exactly where it held it before; and the moved board does where those that it names did
+  pub other-true : (s : Record) (area : List ℕ) (board point : ℕ) (helpers partners file : List ℕ) → point < 256
+      → moveCall s area board point helpers partners .answer .refusal ≡ 0
+      → length file ≡ s .length → Bytes file → Bytes area
+      → (i : ℕ) → i < s .sizes .n → i ≢ board
+      → (held s (moveCall s area board point helpers partners .area) i ≡ share (s .sizes) (set (s .points) board point) file i)
+      ↔ (held s area i ≡ share (s .sizes) (s .points) file i)
+  pub named-true : (s : Record) (area : List ℕ) (board point : ℕ) (helpers partners file : List ℕ) → point < 256
+      → moveCall s area board point helpers partners .answer .refusal ≡ 0
+      → length file ≡ s .length → Bytes file
+      → All (λ j. held s area j ≡ share (s .sizes) (s .points) file j) (helpers ++ partners)
+      → held s (moveCall s area board point helpers partners .area) board ≡ share (s .sizes) (set (s .points) board point) file board
   -- and its first S stripes are what a write of the file on the record handed on gives, over whatever area
   pub as-written : (s : Record) (area : List ℕ) (board point : ℕ) (helpers partners file any : List ℕ) → point < 256
       → moveCall s area board point helpers partners .answer .refusal ≡ 0
