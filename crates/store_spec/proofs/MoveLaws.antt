@@ -36,7 +36,8 @@ use Rattle.mbcr.proofs.TurnLaws.{turn-laws}
 use Rattle.mbcr.proofs.PointLaws.{point-laws}
 use Rattle.store_spec.specs.Calls.{StoreOutcome, listLines, writeLines, writeDone, writeCall}
 use Rattle.store_spec.specs.Demand1.{Stays}
-use Rattle.store_spec.specs.Demand3.{begun, events}
+use Rattle.store_spec.specs.Demand3.{Intact, begun, events}
+use Rattle.store_spec.specs.Premises.{IdleGiven, files, unaltered}
 use Rattle.store_spec.specs.Running.{Running, soundBeside}
 use Rattle.store_spec.specs.Both.{Outcome, beside, setUpBoth, moveLinesBoth, moveBoth}
 use Rattle.store_spec.specs.Ledger.{Call, write, lose, repair, read, edit, start, step, careful, move, Event, call, powerFails, Book, Entry, openBook, bookLines}
@@ -55,6 +56,7 @@ use Rattle.store_spec.proofs.Marks.{among-first, first-below}
 use Rattle.store_spec.proofs.Move.{g, named-other, new-point, others-low, afresh-long, afresh-area-is, other-held, laws-of, lost, repairs, lengths, made-is}
 use Rattle.store_spec.proofs.Move.{whole-helpers, whole-partners, total-is, made-long, result, board-low, result-long, board-has, other-has, move-true, new-pointed, new-points}
 use Rattle.store_spec.proofs.Packets.{heard-run}
+use Rattle.store_spec.proofs.Premises.{premises}
 use Rattle.store_spec.proofs.Real.{code-lengths}
 use Rattle.store_spec.proofs.Records.{Moves, move-facts, moves-pass, moveCounts, repeatTests, sound-facts, sound-points, used-fits, used-least, Sound, facts-sound}
 use Rattle.store_spec.proofs.Repair.{heardBy, stoodBy, fresh-by}
@@ -637,6 +639,22 @@ moves-refused b c es h =
 
 -- ---- lists that have the turn
 
+-- a call that is no step
+abbrev NoStep : Event → Type 0
+NoStep (call (write file)) = Unit
+NoStep (call (lose board)) = Unit
+NoStep (call (repair fresh helpers standIns)) = Unit
+NoStep (call (read boards output)) = Unit
+NoStep (call (edit offset bytes boards)) = Unit
+NoStep (call (start fresh helpers standIns)) = Unit
+NoStep (call (step allowance packets)) = ⊥
+NoStep (call (careful boards output)) = Unit
+NoStep (call (move board point helpers partners)) = Unit
+NoStep (powerFails p) = Unit
+
+no-step : (e : Event) → NoStep e → (allowance : ℕ) (packets : List ℕ) → e ≢ call (step allowance packets)
+no-step e h allowance packets q = subst NoStep q h
+
 module _ (z : Sizes) (c : ℕ) (file : List ℕ) (ok : legal z ≡ true) where
   -- the book while boards are moved
   abbrev book : List ℕ → Book
@@ -708,6 +726,62 @@ module _ (z : Sizes) (c : ℕ) (file : List ℕ) (ok : legal z ≡ true) where
     turn-met fits =
         ap (λ (b : Book). movesIn b (tabulate (z .n) turns)) (opened fits ∙ ap book (sym (turn-laws .turn-first z)))
         ∙ on (z .n) 0 (λ t. t) (λ t. omega arith) (omega arith)
+
+    -- the book behind it
+    behind : (m i : ℕ) (at : ℕ → ℕ) → ((t : ℕ) → at t ≡ i + t) → i + m ≤ z .n
+        → bookFinal (book (turned z i)) (tabulate m (λ t. turns (at t))) ≡ book (turned z (i + m))
+    behind zero i at e h = let q : i ≡ i + 0 = omega arith in ap (λ (j : ℕ). book (turned z j)) q
+    behind (suc m) i at e h =
+        let first : at 0 ≡ i = e 0 ∙ omega arith in
+        let k : i < z .n = omega arith in
+        let l = lists i k in
+        let rest = tabulate m (λ t. turns (at (suc t))) in
+        let q : suc i + m ≡ i + suc m = omega arith in
+        subst (λ (j : ℕ). bookFinal (book (turned z i)) (turns j ∷ rest) ≡ book (turned z (i + suc m))) (sym first)
+        (ap (λ (b : Book). bookFinal b rest) (turn-book i (helpers i) (partners i) (l .0) (l .1) (l .2) (l .3))
+        ∙ behind m (suc i) (λ t. at (suc t)) (λ t. e (suc t) ∙ omega arith) (omega arith)
+        ∙ ap (λ (j : ℕ). book (turned z j)) q)
+
+    behind-all : length file ≤ c * B z → bookFinal (openBook z (firstSeries z) c (z .n * (c * α z))) (call (write file) ∷ tabulate (z .n) turns) ≡ book (standard z)
+    behind-all fits =
+        let q : 0 + z .n ≡ z .n = omega arith in
+        ap (λ (b : Book). bookFinal b (tabulate (z .n) turns)) (opened fits ∙ ap book (sym (turn-laws .turn-first z)))
+        ∙ behind (z .n) 0 (λ t. t) (λ t. omega arith) (omega arith)
+        ∙ ap (λ (j : ℕ). book (turned z j)) q
+        ∙ ap book (turn-laws .turn-last z)
+
+    -- what is asked of the list
+    no-steps : (m : ℕ) (at : ℕ → ℕ) → All (λ e. (allowance : ℕ) (packets : List ℕ) → e ≢ call (step allowance packets)) (tabulate m (λ t. turns (at t)))
+    no-steps zero at = tt
+    no-steps (suc m) at = (no-step (turns (at 0)) tt, no-steps m (λ t. at (suc t)))
+
+    of-bytes : (m : ℕ) (at : ℕ → ℕ) → ((t : ℕ) → t < m → at t < 256) → All Bytes (files (tabulate m (λ t. turns (at t))))
+    of-bytes zero at h = tt
+    of-bytes (suc m) at h = ((h 0 (omega arith), tt), of-bytes m (λ t. at (suc t)) (λ t k. h (suc t) (omega arith)))
+
+    none-fail : (m : ℕ) (at : ℕ → ℕ) → IdleGiven (tabulate m (λ t. turns (at t)))
+    none-fail zero at = tt
+    none-fail (suc m) at = none-fail m (λ t. at (suc t))
+
+    turn-run : (old : Record) (p : Running) (area : List ℕ) → setUpBoth old p z (firstSeries z) c .answer .refusal ≡ 0 → length area ≡ z .n * (c * α z)
+        → length file ≤ c * B z → Bytes file
+        → let w = begun old p z (firstSeries z) c area in
+        let e = final w (unaltered w (openBook z (firstSeries z) c (length area)) (call (write file) ∷ tabulate (z .n) turns)) in
+        (e .kept .points ≡ standard z) × ((i : ℕ) → i < z .n → held (e .kept) (e .area) i ≡ share z (standard z) file i)
+    turn-run old p area taken long fits bf =
+        let w = begun old p z (firstSeries z) c area in
+        let b = openBook z (firstSeries z) c (length area) in
+        let es : List Event = call (write file) ∷ tabulate (z .n) turns in
+        let steps = unaltered w b es in
+        let few = legal-facts z ok .few in
+        let allowed = premises .all-allowed old p z (firstSeries z) c area es (bf, of-bytes (z .n) (λ t. t) (λ t k. omega (arith, few))) (none-fail (z .n) (λ t. t)) in
+        let same : events steps ≡ es = premises .whole-events w b es (no-step (call (write file)) tt, no-steps (z .n) (λ t. t)) in
+        let ends : bookFinal b (events steps) ≡ book (standard z) =
+        ap₂ (λ (m : ℕ) (l : List Event). bookFinal (openBook z (firstSeries z) c m) l) long same ∙ behind-all fits in
+        let intact = subst (λ (x : Book). Intact (final w steps) x) ends (demand-3 old p z (firstSeries z) c area steps taken allowed .after) in (
+          ap (λ (s : Record). s .points) (intact .same-record),
+          λ i h. intact .holds (final w steps .area) (record { as-long = refl; in-service = λ i e. refl }) i (among-first (z .n) i ∙ lt-ltb i (z .n) h),
+        )
 
 -- ---- as in a repair of one board
 
@@ -803,5 +877,7 @@ move-laws = record {
   moves-refused = moves-refused;
   moves-other = λ b c es h. no-move b c es (not-move c (enter b c .reply .answer) h);
   moves-fails = λ b p es. refl;
+  turn-run = λ old p z c area file helpers partners taken long fits bf lists.
+      turn-run z c file (sound-facts (newRecord z (firstSeries z) c) (set-up-both old p z (firstSeries z) c taken) .is-legal) helpers partners lists old p area taken long fits bf;
   turn-met = λ z c file helpers partners ok fits lists. turn-met z c file ok helpers partners lists fits;
 }

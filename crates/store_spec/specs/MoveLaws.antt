@@ -30,6 +30,7 @@ use Rattle.store_spec.specs.Demand1.{Stays}
 use Rattle.store_spec.specs.Demand3.{begun, events}
 use Rattle.store_spec.specs.Ledger.{Call, write, move, Event, call, powerFails, Book, openBook, enter, bookNext, bookFinal, Step, Allowed, final}
 use Rattle.store_spec.specs.LedgerLaws.{Accepted, newPoint, setPoints}
+use Rattle.store_spec.specs.Premises.{unaltered}
 
 -- An accepted move, over any record and any area. `ys` are the points after it.
 pub record Moved (s : Record) (area : List ℕ) (board point : ℕ) (helpers partners ys : List ℕ) : Type 0 where
@@ -161,3 +162,14 @@ pub record MoveLaws : Type 0 where
       × (below (z .n) (i ∷ (helpers i ++ partners i)) ≡ true) × (different (i ∷ (helpers i ++ partners i)) ≡ true))
       → movesIn (openBook z (firstSeries z) c (z .n * (c * α z))) (call (write file) ∷ tabulate (z .n) (λ i. call (move i i (helpers i) (partners i))))
       ≡ tabulate (z .n) (λ i. (i, i))
+  -- so it goes in the store, with nothing altered: from a set-up at the first series' points over any area, behind the last move the record has document 01's points,
+  -- and every board holds its share of the file there
+  pub turn-run : (old : Record) (p : Running) (z : Sizes) (c : ℕ) (area file : List ℕ) (helpers partners : ℕ → List ℕ)
+      → setUpBoth old p z (firstSeries z) c .answer .refusal ≡ 0 → length area ≡ z .n * (c * α z) → length file ≤ c * B z → Bytes file
+      → ((i : ℕ) → i < z .n
+      → (length (helpers i) ≡ z .d) × (length (partners i) ≡ z .r - 1)
+      × (below (z .n) (i ∷ (helpers i ++ partners i)) ≡ true) × (different (i ∷ (helpers i ++ partners i)) ≡ true))
+      → let w = begun old p z (firstSeries z) c area in
+      let es = call (write file) ∷ tabulate (z .n) (λ i. call (move i i (helpers i) (partners i))) in
+      let e = final w (unaltered w (openBook z (firstSeries z) c (length area)) es) in
+      (e .kept .points ≡ standard z) × ((i : ℕ) → i < z .n → held (e .kept) (e .area) i ≡ share z (standard z) file i)
