@@ -7,7 +7,8 @@
  * Sizes:   n boards, numbered 0 to n - 1; k read; d helpers; at most r fresh boards. Legal: 1 <= k <= d, r >= 1, d + r <= n <= 32.
  * Points:  a byte for each board, at which its share is worked out. A list of points has 32 bytes: the first n are the boards', all different,
  *          the rest 00. Board i has the point i on present robots (zbk_standard_points), i + 1 on robots of the first series
- *          (zbk_first_series_points). All boards of a file have shares at the same points. A store's points change by zbk_move alone.
+ *          (zbk_first_series_points). All boards of a file have shares at the same points. A store's points change by zbk_move alone; a
+ *          board-level call on bytes of a store is given the points that its record has at the time (from ZBK_WORD_POINTS on).
  * Share:   2d + r - 1 bytes for each stripe.          Stripe: carries k(2d + r - k) bytes of the file.
  * Stripes: S, the least number of stripes that hold the file's length.
  *
@@ -302,16 +303,19 @@ uint64_t zbk_step(uint64_t *record, size_t record_words, uint64_t *repair, size_
 /* Moves a board to a new point, with the robot running: reads, edits, losses and repairs go on between moves as ever. All n boards are in service and
  * stay so. The board is rebuilt at its new point as in a repair of it alone, from its d helpers and r - 1 partners, which send what stand-ins send; no
  * byte that it held is read. Every other board works out afresh, from what it holds and without the bus, the values that it keeps at the moved board's
- * point. A board that held its share of the file holds that at the new points; one that held wrong bytes, not the moved one, stays wrong, and a helper or
- * partner hands them on, as in a repair. Only the first S stripes change. The record has the new point from then on; nothing else changes in it. Reports
- * the bytes moved between boards, S * (2d + r - 1).
+ * point. A board that held its share of the file holds that at the new points; one that held wrong bytes, not the moved one, stays wrong, and as a helper or
+ * partner it may make the moved one wrong too, as in a repair: move after careful reads that together take in every board and find none odd. A wrong board
+ * that is moved by right helpers and partners is right. Only the first S stripes change. The record has the new point from then on; nothing else changes
+ * in it. Reports the bytes moved between boards, S * (2d + r - 1).
  *
  * The lists are those of a repair of one board: `helpers` has d numbers, `partners` r - 1, none where r is 1; all are different, and none is the board.
  * ZBK_REPEAT also where the new point is some board's, its own included; the 00 that a record keeps from n up is no board's. ZBK_DOWN where any board is
  * out of service, named or not: after a loss, repair first. ZBK_BUSY while a repair is running.
  *
  * From the first series to the present one: moved in turn, board 0 to 0, board 1 to 1, up to board n - 1, each new point is free when its turn comes,
- * and behind the last move the boards hold what a fresh write of the file at 0 to n - 1 puts there. Texts of shares follow the record's points: behind
+ * and behind the last move, if each board held its share before it, the first S stripes of the boards are what a fresh write of the file at 0 to n - 1
+ * puts there. Nothing is open between two moves: behind a power failure there the points in the record tell how far the turn is. Record and area belong
+ * together: a record from before a move with the area behind it is no store. Texts of shares follow the record's points: behind
  * the last move they have no line of points. A text that was printed before a move stays good with its own line of points, together with texts of the
  * same points: print all that are to be gathered between the same two moves, else they are ZBK_MIXED. */
 uint64_t zbk_move(uint64_t *record, size_t record_words, uint64_t *repair, size_t repair_words, uint8_t *area, size_t area_len, size_t board,

@@ -35,6 +35,19 @@ for f in crates/*/must-fail/*.edit crates/*/neutral/*.edit; do
     ! grep -v -e '^file: ' -e '^old: ' -e '^new:' -e '^#' -e '^$' "$f" >/dev/null || complain "$f has a line that the prover passes over"
 done
 
+# the text that an edit replaces stands in its file, and there once
+awk '
+    FNR == 1 { split(FILENAME, part, "/") }
+    /^file: / { path = "crates/" part[2] "/" substr($0, 7) }
+    /^old: / {
+        old = substr($0, 6)
+        if (!(path in text)) { text[path] = ""; while ((getline line <path) > 0) text[path] = text[path] line "\n"; close(path) }
+        rest = text[path]; count = 0
+        while ((at = index(rest, old)) > 0) { count++; rest = substr(rest, at + length(old)) }
+        if (count != 1) { print FILENAME ": " path " has its text " count " times"; bad = 1 }
+    }
+    END { exit bad }' crates/*/must-fail/*.edit crates/*/neutral/*.edit || bad=1
+
 # how much a buyer reads: definitions, theorem statements, tables; without imports, blanks and comments
 lines() { cat "$@" | grep -v -E '^[[:space:]]*(--|use |$)' | wc -l | tr -d ' '; }
 tables=$(ls crates/*/specs/*Figures.antt)

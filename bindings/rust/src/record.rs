@@ -623,17 +623,20 @@ impl Record {
     /// and stay so. The board is rebuilt at its new point as in a [`repair`](Record::repair) of it alone, from its d helpers and r − 1 partners, which send
     /// what stand-ins send; no byte that it held is read. Every other board works out afresh, from what it holds and without the bus, the values that it
     /// keeps at the moved board's point. A board that held its share of the file holds that at the new points; one that held wrong bytes, not the moved one,
-    /// stays wrong, and a helper or partner hands them on, as in a repair. Only the stripes of the file change, and of the record the one point. Answers the
-    /// bytes moved between boards, 2d + r − 1 for each stripe.
+    /// stays wrong, and as a helper or partner it may make the moved one wrong too, as in a repair: move after careful reads that together take in every board
+    /// and find none odd. A wrong board that is moved by right helpers and partners is right. Only the stripes of the file change, and of the record the one
+    /// point. Answers the bytes moved between boards, 2d + r − 1 for each stripe.
     ///
     /// `helpers` has d numbers, `partners` r − 1, none where r is 1; all are different, and none is the board. [`Refusal::Repeat`] also where the new point
     /// is some board's, its own included; the 00 that a record keeps from n up is no board's. [`Refusal::Down`] where any board is out of service, named or
     /// not: after a loss, repair first. [`Refusal::Busy`] while a repair is running.
     ///
     /// So a robot of the first series gets the present points: moved in turn, board 0 to 0, board 1 to 1, up to board n − 1, each new point is free when its
-    /// turn comes, and behind the last move the boards hold what a fresh write of the file puts there. Texts of shares follow the record's points: behind the
-    /// last move they have no line of points. A text that was printed before a move stays good with its own line of points, together with texts of the same
-    /// points.
+    /// turn comes, and behind the last move, if each board held its share before it, the boards hold in the stripes of the file what a fresh write puts there.
+    /// Nothing is open between two moves: behind a power failure there [`points`](Record::points) tells how far the turn is. Record and area belong together: a
+    /// record from before a move with the area behind it is no store. Texts of shares follow the record's points: behind the last move they have no line of
+    /// points. A text that was printed before a move stays good with its own line of points, together with texts of the same points: print all that are to be
+    /// gathered between the same two moves, else they are [`Refusal::Mixed`].
     ///
     /// ```
     /// use zebrankai::{Points, Record, Refusal, Sizes};

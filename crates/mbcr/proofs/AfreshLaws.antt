@@ -6,7 +6,8 @@ use Prim.Native.Nat.{ℕ, zero, suc, _+_, _*_, _-_, _%_, _<_}
 use native.Mathlib.Omega.{arith}
 use lib.ListN.{length, getD, take, drop}
 use Rattle.lists.specs.Lists.{Bytes, join, piece}
-use Rattle.lists.proofs.Pieces.{join-ext, length-join, piece-join, join-bytes, piece-bytes, piece-at, length-piece}
+use lib.Seq.{take-all}
+use Rattle.lists.proofs.Pieces.{join-ext, join-piece, length-join, piece-join, join-bytes, piece-bytes, piece-at, length-piece}
 use Rattle.lists.proofs.Put.{part-end}
 use Rattle.sizes.specs.Sizing.{legal, α, B}
 use Rattle.sizes.specs.declared.Sizes.{Sizes}
@@ -141,6 +142,10 @@ module _ (z : Sizes) (xs ys : List ℕ) (i : ℕ) (ok : Legal z) (pts : Differen
     unfolding helperPair
     pair-at j = ap₂ {C = List ℕ} (λ p q. eval p (point ys j) ∷ eval q (point ys j) ∷ []) same-f same-g
 
+    kept-back : keptAfresh z ys xs i (keptAfresh z xs ys i w) ≡ w
+    unfolding keptAfresh
+    kept-back = ap₂ (λ (p q : List ℕ). symbols z xs i (eval p) (eval q)) same-f same-g ∙ symbols-of z xs ok i w l b pts h
+
   -- ---- S stripes
 
   afresh-piece : (S : ℕ) (held : List ℕ) (s : ℕ) → s < S → piece (α z) s (shareAfresh z xs ys S i held) ≡ keptAfresh z xs ys i (piece (α z) s held)
@@ -149,6 +154,13 @@ module _ (z : Sizes) (xs ys : List ℕ) (i : ℕ) (ok : Legal z) (pts : Differen
 
   held-piece : (S : ℕ) (held : List ℕ) → length held ≡ S * α z → (s : ℕ) → s < S → length (piece (α z) s held) ≡ α z
   held-piece S held l s hs = length-piece (α z) s held (omega (arith, l, part-end s (α z) S hs))
+
+  afresh-back : (S : ℕ) (held : List ℕ) → length held ≡ S * α z → Bytes held → shareAfresh z ys xs S i (shareAfresh z xs ys S i held) ≡ held
+  unfolding shareAfresh
+  afresh-back S held l b =
+      join-ext S _ (λ s. piece (α z) s held) (λ s hs. ap (keptAfresh z ys xs i) (afresh-piece S held s hs)
+      ∙ kept-back (piece (α z) s held) (held-piece S held l s hs) (piece-bytes (α z) s held b))
+      ∙ join-piece S (α z) held ∙ take-all (S * α z) held (omega (arith, l))
 
   packet-at : (S j : ℕ) (held : List ℕ) → length held ≡ S * α z → Bytes held
       → helperPacket z ys S i j (shareAfresh z xs ys S i held) ≡ pairsAt z xs S i (point ys j) held
@@ -188,6 +200,7 @@ afresh-laws z xs ys i legal pts new h own =
       afresh-length = λ S held. length-afresh z xs ys ok S i held;
       afresh-bytes = afresh-bytes z xs ys i ok pts new h own;
       afresh-true = afresh-true z xs ys i ok pts new h own;
+      afresh-back = afresh-back z xs ys i ok pts new h own;
       packet-at = packet-at z xs ys i ok pts new h own;
       stand-in-at = stand-in-at z xs ys i ok pts new h own;
       afresh-stays = λ S held l b s t hs. (

@@ -35,6 +35,8 @@ pub record AfreshLaws (z : Sizes) (xs ys : List ℕ) (i : ℕ) : Type 0 where
   pub afresh-bytes : (S : ℕ) (held : List ℕ) → Bytes held → Bytes (shareAfresh z xs ys S i held)
   -- of its share it makes its share at the new points
   pub afresh-true : (file : List ℕ) → Bytes file → shareAfresh z xs ys (S z file) i (share z xs file i) ≡ share z ys file i
+  -- over any bytes: nothing is lost, and nothing mended; worked out afresh at the points before, it is what the board held
+  pub afresh-back : (S : ℕ) (held : List ℕ) → length held ≡ S * α z → Bytes held → shareAfresh z ys xs S i (shareAfresh z xs ys S i held) ≡ held
   -- over any bytes: the board-level packets that it sends then, at the new points, are its old f and g at the receiver's point
   pub packet-at : (S j : ℕ) (held : List ℕ) → length held ≡ S * α z → Bytes held
       → helperPacket z ys S i j (shareAfresh z xs ys S i held) ≡ pairsAt z xs S i (point ys j) held

@@ -1,25 +1,14 @@
 -- The lines of a move behind BUSY, in their order.
 -- Assumes nothing.
 use Prim.Native.Nat.{ℕ, _-_}
-use mathlib.Core.Bool.{Bool, false, not}
+use mathlib.Core.Bool.{Bool}
 use mathlib.Core.List.{List, [], _∷_, _++_}
 use lib.Dec.{eqb}
-use lib.ListN.{length, take, getD}
-use Rattle.lists.specs.Tests.{every, alls, among, different}
-use Rattle.lists.specs.Lists.{tabulate}
+use lib.ListN.{length}
 use Rattle.sizes.specs.declared.Sizes.{Sizes}
-use Rattle.sizes.specs.declared.Refusal.the-variants.{Repeat, Down}
-use Rattle.sizes.specs.Refusals.{Line, _when_}
+use Rattle.sizes.specs.Refusals.{Line}
 use Rattle.board_spec.specs.Calls.{countLine, nodeLine}
-
--- a board twice, or a point that one of the first n boards has
-abbrev pub newLine : ℕ → List ℕ → ℕ → ℕ → List ℕ → List ℕ → Line
-newLine n points board point helpers partners =
-    Repeat when not (alls (different (board ∷ (helpers ++ partners)) ∷ not (among (take n points) point) ∷ []))
-
--- one of the first n boards out of service
-abbrev pub upLine : ℕ → List Bool → Line
-upLine n marks = Down when not (every (λ i. getD marks i false) (tabulate n (λ i. i)))
+use Rattle.move_tests.specs.Steps.{newLine, upLine}
 
 abbrev pub namedLines : Sizes → List ℕ → List Bool → ℕ → ℕ → List ℕ → List ℕ → List Line
 namedLines z points marks board point helpers partners =

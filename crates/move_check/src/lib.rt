@@ -1,81 +1,17 @@
 //! The check of a move (request A.10): its lines in their order. Each check's answer is taken apart, and a refusal returned early.
 ghost use mathlib.Core.Path.{_≡_};
 ghost use mathlib.Core.Bool.{true};
-ghost use mathlib.Core.List.{_∷_, _++_};
-ghost use Prim.Native.Nat.{_≤_};
 ghost use lib.ListN.{length};
-ghost use Rattle.lists.specs.Tests.{different};
 ghost use Rattle.sizes.specs.Sizing.{legal};
 ghost use Rattle.sizes.specs.Refusals.{first, storeOrder};
-ghost use Rattle.board_spec.specs.Calls.{nodeLine};
 ghost use Rattle.store_spec.specs.Both.{moveLinesBoth};
-ghost use Rattle.line_checks.specs.Steps.{asked};
 ghost use Rattle.record.specs.Records.{recordOf, runningIn};
-ghost use Rattle.move_check.specs.Steps.{newLine, upLine, namedLines};
+ghost use Rattle.move_check.specs.Steps.{namedLines};
 use record::Kept;
 use record::Running;
 use sizes::Check;
 use sizes::Refusal;
 use sizes::Sizes;
-
-// 5 NODE of a board and two lists.
-fn check_known(sizes: Sizes, board: usize, helpers: &[usize], partners: &[usize]) -> Check
-    ensures { λ r. ⌜ r ≡ asked (nodeLine sizes (board ∷ (now (helpers .entry) ++ now (partners .entry)))) ⌝ }
-{
-    if board < sizes.n {
-        return store_checks::check_two_lists(sizes, helpers, partners);
-    }
-    Check::Refuse(Refusal::Node)
-}
-
-// Whether no board stands twice among these.
-fn all_differ(board: usize, helpers: &[usize], partners: &[usize]) -> bool
-    ensures { λ r. ⌜ r ≡ different (board ∷ (now (helpers .entry) ++ now (partners .entry))) ⌝ }
-{
-    if board_tests::among_from(helpers, 0, board) {
-        return false;
-    }
-    if board_tests::among_from(partners, 0, board) {
-        return false;
-    }
-    list_tests::both_differ(helpers, partners)
-}
-
-// 6 REPEAT: a board twice, or a new point that one of the first n boards has.
-fn check_new(
-    n: usize,
-    points: &[u8],
-    board: usize,
-    point: u8,
-    helpers: &[usize],
-    partners: &[usize],
-) -> Check
-    requires { ⌜ n ≤ length (now points) ⌝ }
-    ensures { λ r. ⌜ r ≡ asked (newLine n (now (points .entry)) board point (now (helpers .entry)) (now (partners .entry))) ⌝ }
-{
-    if all_differ(board, helpers, partners) {
-        if board_tests::point_from(&points[0..n], 0, point) {
-            return Check::Refuse(Refusal::Repeat);
-        }
-        return Check::Pass;
-    }
-    Check::Refuse(Refusal::Repeat)
-}
-
-// 9 DOWN of all n boards.
-fn check_up(n: usize, marks: &[bool]) -> Check
-    ensures { λ r. ⌜ r ≡ asked (upLine n (now (marks .entry))) ⌝ }
-{
-    let mut i: usize = 0;
-    while i < n {
-        if store_checks::mark_of(marks, i) {
-            i += 1;
-        } else {
-            return Check::Refuse(Refusal::Down);
-        }
-    }
-    Check::Pass
-}
 
 // 4 COUNT, 5 NODE, 6 REPEAT and 9 DOWN: the boards named, the new point, and every board's mark.
 fn check_named(
@@ -99,13 +35,20 @@ fn check_named(
     ) {
         return Check::Refuse(count);
     }
-    if let Check::Refuse(node) = check_known(sizes, board, helpers, partners) {
+    if let Check::Refuse(node) = move_tests::check_known(sizes, board, helpers, partners) {
         return Check::Refuse(node);
     }
-    if let Check::Refuse(repeat) = check_new(sizes.n, points, board, point, helpers, partners) {
+    if let Check::Refuse(repeat) = move_tests::check_new(
+        sizes.n,
+        points,
+        board,
+        point,
+        helpers,
+        partners,
+    ) {
         return Check::Refuse(repeat);
     }
-    check_up(sizes.n, marks)
+    move_tests::check_up(sizes.n, marks)
 }
 
 // The first refusal of a move of a board to a new point by these helpers and partners, in an area of so many bytes.

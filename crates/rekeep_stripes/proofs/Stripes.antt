@@ -18,6 +18,7 @@ use Rattle.sizes.proofs.Legal.{Legal}
 use Rattle.mbcr.specs.AfreshLaws.{patched}
 use Rattle.mbcr.proofs.Patched.{length-patched}
 use Rattle.row_dots.proofs.Rows.{join-loop}
+use Rattle.factors.specs.Steps.{dotOf}
 use Rattle.helper.specs.Steps.{pairBy}
 use Rattle.rekeep_stripes.specs.Steps.{patchBy}
 
@@ -47,8 +48,11 @@ module _ (z : Sizes) (t a b : ℕ) (ff gf w : List ℕ) (some : 1 ≤ t) (pair :
   pub patch-both : (at : ℕ) → t < d → at ≡ d + r + (t - 1) → set (set w t a) at b ≡ patchBy z t ff gf w
   patch-both at h e = ap (λ (q : ℕ). set (set w t a) q b) e ∙ sym (both-set z t a b w some h) ∙ by-pair
 
-  pub patch-one : d ≤ t → t < d + r → set w t a ≡ patchBy z t ff gf w
-  patch-one h k = sym (one-set z t a b w some h k) ∙ by-pair
+-- where the board keeps f alone, by its value alone
+pub patch-one : (z : Sizes) (t v : ℕ) (ff gf w : List ℕ) → 1 ≤ t → v ≡ dotOf ff (take (z .d + z .r) w) → z .d ≤ t → t < z .d + z .r
+    → set w t v ≡ patchBy z t ff gf w
+unfolding patchBy pairBy
+patch-one z t v ff gf w some e h k = ap (set w t) e ∙ sym (one-set z t _ _ w some h k)
 
 pub length-patch : (z : Sizes) → Legal z → (t : ℕ) (ff gf w : List ℕ) → 1 ≤ t → length w ≡ α z → length (patchBy z t ff gf w) ≡ α z
 unfolding patchBy

@@ -4,26 +4,40 @@
 ghost use mathlib.Core.Path.{_≡_};
 ghost use mathlib.Core.Bool.{true};
 ghost use Prim.Native.Nat.{_+_, _*_, _<_, _≤_};
-ghost use lib.ListN.{length};
+ghost use lib.ListN.{length, take};
 ghost use Rattle.lists.specs.Lists.{tabulate, join, piece};
 ghost use Rattle.gf256.specs.Field.{inverse};
 ghost use Rattle.sizes.specs.Sizing.{legal, α};
 ghost use Rattle.mbcr.specs.Share.{DifferentPoints};
+ghost use Rattle.factors.specs.Steps.{dotOf};
 ghost use Rattle.rekeep_stripes.specs.Steps.{patchBy, sharePatched};
 use sizes::Sizes;
 
-// The bytes of one stripe, in place, by the factors of f and of g for the new byte; the moved board is the t-th after the board.
+// f at the new byte by its factors, from the w bytes of f that begin a stripe. row is for work.
+fn first_in(w: usize, ff: &[u8], stripe: &[u8], row: &mut [u8]) -> u8
+    requires { ⌜ (w ≤ 32) × (w ≤ length (now stripe)) × (length (now ff) ≤ 32) × (now row ≡ tabulate 32 (λ j. 0)) ⌝ }
+    ensures { λ v. ⌜ v ≡ dotOf (now (ff .entry)) (take w (now (stripe .entry))) ⌝ }
+{
+    row_dots::copy(&stripe[0..w], &mut row[0..w]);
+    row_dots::dot(ff, row)
+}
+
+// The bytes of one stripe, in place, by the factors of f and of g for the new byte; the moved board is the t-th after the board. From d on the board keeps
+// f alone there, and g is not worked out.
 fn patch(sizes: Sizes, t: usize, ff: &[u8], gf: &[u8], stripe: &mut [u8])
     requires { ⌜ (legal sizes ≡ true) × (1 ≤ t) × (t < sizes .d + sizes .r) × (length (now ff) ≤ 32) × (length (now gf) ≤ 32) × (length (now stripe) ≡ α sizes) ⌝ }
     ensures { λ _. ⌜ now (stripe .exit) ≡ patchBy sizes t (now (ff .entry)) (now (gf .entry)) (now (stripe .entry)) ⌝ }
 {
     let d = sizes.d;
     let w = d + sizes.r;
-    let q = helper::helper_pair(d, w, ff, gf, stripe);
-    stripe[t] = q.first;
     if t >= d {
+        let mut row = [0u8; 32];
+        let v = first_in(w, ff, stripe, &mut row);
+        stripe[t] = v;
         return;
     }
+    let q = helper::helper_pair(d, w, ff, gf, stripe);
+    stripe[t] = q.first;
     let at = w + t - 1;
     stripe[at] = q.second;
 }

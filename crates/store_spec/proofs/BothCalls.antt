@@ -107,7 +107,8 @@ says-lengths m a mp l r = (there, back)
     there : not (alls (eqb m a ∷ pick r (eqb mp l) true ∷ [])) ≡ true → (m ≢ a) ⊎ ((r ≡ true) × (mp ≢ l))
     there e = go (eqb m a) refl r refl (eqb mp l) refl e
       where
-        go : (t : Bool) → eqb m a ≡ t → (q : Bool) → r ≡ q → (u : Bool) → eqb mp l ≡ u → not (alls (t ∷ pick q u true ∷ [])) ≡ true → (m ≢ a) ⊎ ((r ≡ true) × (mp ≢ l))
+        go : (t : Bool) → eqb m a ≡ t → (q : Bool) → r ≡ q → (u : Bool) → eqb mp l ≡ u → not (alls (t ∷ pick q u true ∷ [])) ≡ true
+            → (m ≢ a) ⊎ ((r ≡ true) × (mp ≢ l))
         go false x q y u z h = inl (eqb-false m a x)
         go true x true y false z h = inr (y, eqb-false mp l z)
         go true x true y true z h = absurd (true-false h refl)

@@ -31,7 +31,8 @@ use Rattle.store_spec.specs.Running.{Running, idle, runningBy, packetsLe
 use Rattle.store_spec.specs.Both.{Outcome, beside, repairLinesBoth, repairBoth, readBoth, setUpBoth}
 use Rattle.store_spec.specs.Demand3.{Repaired, events, WholeStep, Intact, begun, Demand3Claim, Demand3At, Demand3Standard, Demand3FirstSeries}
 use Rattle.store_spec.specs.Ledger.{State, Book, Repairing, Step, Event, call, powerFails, replies, bookReplies, final, bookFinal, Call, Fair, FairEvent, act, bookRecord, Tells, carriedBy}
-use Rattle.store_spec.specs.Ledger.{Reply, replyOf, packetsAfter, told, bookTold, next, bookNext, lent, enter, Altered, Unaltered, Allowed, bookLength, openBook, write, lose, repair, read, edit}
+use Rattle.store_spec.specs.Ledger.{Reply, replyOf, packetsAfter, told, bookTold, next, bookNext, lent, enter, Altered, Unaltered, Allowed, bookLength, openBook}
+use Rattle.store_spec.specs.Ledger.{write, lose, repair, read, edit}
 use Rattle.store_spec.specs.Ledger.{start, step, careful, move}
 use Rattle.store_spec.specs.Packets.{helperPackets, standInPackets, exchangePackets, hearHelpers, hearPartners, standInsEach, partnerPackets, freshShare, repairPackets}
 use Rattle.store_spec.specs.Record.{Record, allOff, held, usedLen, sound, newRecord}
@@ -156,7 +157,8 @@ module _ (laws : AllLaws) where
     record { same-record = h .same-record; same-running = ok; inv = inv-going b none (b .service) (w .area) (h .inv); runs = tt },
   )
 
-  altered-at : (w : State) (b : Book) (now : List ℕ) → Between w b → Altered b (w .kept) (w .area) now → Between (record { kept = w .kept; running = w .running; area = now; packets = w .packets }) b
+  altered-at : (w : State) (b : Book) (now : List ℕ) → Between w b → Altered b (w .kept) (w .area) now
+      → Between (record { kept = w .kept; running = w .running; area = now; packets = w .packets }) b
   altered-at w b now h k =
       let a = subst (λ (s : Record). Altered b s (w .area) now) (h .same-record) k in
       record {

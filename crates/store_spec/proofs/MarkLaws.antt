@@ -197,7 +197,8 @@ points-bytes xs (p ∷ ps) b h = points-bytes (set xs (p .0) (p .1)) ps (set-byt
     set-bytes (y ∷ xs) zero x b h = (h, b .1)
     set-bytes (y ∷ xs) (suc i) x b h = (b .0, set-bytes xs i x (b .1) h)
 
-fair-point : (c : Call) (a : Said) → ((board point : ℕ) (helpers partners : List ℕ) → c ≡ move board point helpers partners → point < 256) → All {A = ℕ × ℕ} (λ p. p .1 < 256) (newPoint c a)
+fair-point : (c : Call) (a : Said) → ((board point : ℕ) (helpers partners : List ℕ) → c ≡ move board point helpers partners → point < 256)
+    → All {A = ℕ × ℕ} (λ p. p .1 < 256) (newPoint c a)
 fair-point (write file) a f = tt
 fair-point (lose board) a f = tt
 fair-point (repair fresh helpers standIns) a f = tt

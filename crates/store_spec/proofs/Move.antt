@@ -63,7 +63,7 @@ module _ (s : Record) (area : List ℕ) (board new : ℕ) (helpers partners : Li
   pub new-pointed : pointed (s .sizes) ys ≡ true
   new-pointed = turn-laws .moved-pointed (s .sizes) (s .points) board new (g .is-legal) (g .is-pointed) (named .0) byte (f .point-free)
 
-  new-points : DifferentPoints (s .sizes) ys
+  pub new-points : DifferentPoints (s .sizes) ys
   new-points = pointed-differ (s .sizes) ys (g .is-legal) new-pointed
 
   pub new-point : point ys board ≡ new

@@ -5,23 +5,24 @@ use mathlib.Core.Path.{_≡_, refl, sym, _∙_, ap, ap₂, subst}
 use mathlib.Core.Bool.{Bool, true, false, not}
 use mathlib.Core.List.{List, [], _∷_, _++_, map, append-nil}
 use mathlib.Core.Logic.{_≢_, _↔_, _⊎_, inl, inr}
+use mathlib.Core.Option.{some, none}
 use native.Mathlib.Nat.{zero-mul}
 use native.Mathlib.Omega.{arith}
-use lib.Dec.{eqb}
+use lib.Dec.{eqb, ltb}
 use lib.ListN.{length, take, drop, set, getD}
 use lib.Seq.{take-all}
 use borrow.Author.Tests.{eq-eqb, ne-eqb, eqb-true, eqb-false, lt-ltb, le-leb, le-ltb}
 use Rattle.lists.specs.Tests.{pick, alls, among, apart, below, different, every}
 use Rattle.lists.specs.Lists.{All, Bytes, tabulate, without, joined}
 use Rattle.lists.proofs.Alls.{all-imp, all-left, all-right}
-use Rattle.lists.proofs.Boards.{joined-all, all-among, below-all, among-head, among-without}
+use Rattle.lists.proofs.Boards.{joined-all, all-among, below-all, all-below, among-head, among-without}
 use Rattle.lists.proofs.Pieces.{tabulate-ext}
-use Rattle.lists.proofs.Tests.{true-false, alls-hold, hold-alls, not-no}
-use Rattle.sizes.specs.Refusals.{first, storeOrder, appliesIn}
+use Rattle.lists.proofs.Tests.{true-false, alls-hold, hold-alls, not-no, all-every}
+use Rattle.sizes.specs.Refusals.{Said, first, storeOrder, appliesIn}
 use Rattle.sizes.specs.declared.Refusal.the-variants.{Size, Area, Count, Node, Repeat, Empty, Down}
 use Rattle.sizes.proofs.Legal.{legal-facts}
 use Rattle.sizes.proofs.Orders.{_also_, clear-off, off-pass}
-use Rattle.sizes.specs.Sizing.{legal, α, B}
+use Rattle.sizes.specs.Sizing.{legal, α, B, stripes}
 use Rattle.sizes.specs.declared.Check.the-variants.{Pass}
 use Rattle.sizes.specs.declared.Sizes.{Sizes}
 use Rattle.mbcr.specs.Afresh.{shareAfresh}
@@ -30,30 +31,34 @@ use Rattle.mbcr.specs.PointLaws.{firstSeries}
 use Rattle.mbcr.specs.Rebuild.{seconds, helperPacket, standInPacket, exchangePacket, finishedShare}
 use Rattle.mbcr.specs.Share.{point, standard, share}
 use Rattle.mbcr.specs.TurnLaws.{turned}
+use Rattle.mbcr.proofs.AfreshLaws.{afresh-laws}
 use Rattle.mbcr.proofs.TurnLaws.{turn-laws}
 use Rattle.mbcr.proofs.PointLaws.{point-laws}
 use Rattle.store_spec.specs.Calls.{StoreOutcome, listLines, writeLines, writeDone, writeCall}
 use Rattle.store_spec.specs.Demand1.{Stays}
-use Rattle.store_spec.specs.Demand3.{begun, events}
+use Rattle.store_spec.specs.Demand3.{Intact, begun, events}
+use Rattle.store_spec.specs.Premises.{IdleGiven, files, unaltered}
 use Rattle.store_spec.specs.Running.{Running, soundBeside}
 use Rattle.store_spec.specs.Both.{Outcome, beside, setUpBoth, moveLinesBoth, moveBoth}
-use Rattle.store_spec.specs.Ledger.{Event, call, powerFails, Book, openBook, enter, bookNext, bookFinal, Step, Allowed, final}
-use Rattle.store_spec.specs.LedgerLaws.{newPoint, setPoints}
+use Rattle.store_spec.specs.Ledger.{Call, write, lose, repair, read, edit, start, step, careful, move, Event, call, powerFails, Book, Entry, openBook, bookLines}
+use Rattle.store_spec.specs.Ledger.{accept, enter, bookNext, bookFinal, Step, Allowed, final}
+use Rattle.store_spec.specs.LedgerLaws.{Accepted, newPoint, setPoints}
 use Rattle.store_spec.specs.Move.{allBoards, movedRecord, afresh, afreshArea, movePackets, movedShare, moveLines, moveDone, moveCall}
 use Rattle.store_spec.specs.MoveLaws.{Moved, movesIn, MoveLaws}
 use Rattle.store_spec.specs.Packets.{Packet, helperPackets, standInPackets, exchangePackets, partnerPackets, repairPackets}
 use Rattle.store_spec.specs.Record.{Record, inService, sound, stripeCount, usedLen, partLen, areaLen, held, writtenRecord, newRecord}
-use Rattle.store_spec.proofs.Area.{shares-same, byte-stays}
+use Rattle.store_spec.proofs.Area.{shares-same, byte-stays, length-shares}
 use Rattle.store_spec.proofs.Beside.{alone-busy}
 use Rattle.store_spec.proofs.Demand3.{passes, both-done, new-sound, demand-3, set-up-both}
 use Rattle.store_spec.proofs.Held.{held-long, held-bytes}
 use Rattle.store_spec.proofs.LedgerLaws.{ledger-laws}
 use Rattle.store_spec.proofs.Marks.{among-first, first-below}
 use Rattle.store_spec.proofs.Move.{g, named-other, new-point, others-low, afresh-long, afresh-area-is, other-held, laws-of, lost, repairs, lengths, made-is}
-use Rattle.store_spec.proofs.Move.{whole-helpers, whole-partners, total-is, made-long, result, board-low, result-long, board-has, other-has, move-true, new-pointed}
+use Rattle.store_spec.proofs.Move.{whole-helpers, whole-partners, total-is, made-long, result, board-low, result-long, board-has, other-has, move-true, new-pointed, new-points}
 use Rattle.store_spec.proofs.Packets.{heard-run}
+use Rattle.store_spec.proofs.Premises.{premises}
 use Rattle.store_spec.proofs.Real.{code-lengths}
-use Rattle.store_spec.proofs.Records.{Moves, move-facts, moves-pass, moveCounts, repeatTests, sound-facts, used-fits, used-least, Sound, facts-sound}
+use Rattle.store_spec.proofs.Records.{Moves, move-facts, moves-pass, moveCounts, repeatTests, sound-facts, sound-points, used-fits, used-least, Sound, facts-sound}
 use Rattle.store_spec.proofs.Repair.{heardBy, stoodBy, fresh-by}
 use Rattle.store_spec.proofs.Step.{settle-pass}
 
@@ -261,6 +266,15 @@ module _ (t : Record) (any file : List ℕ) (ok : sound t ≡ true) (long : leng
       (used-least (t .sizes) (length file) (t .capacity) legal fits)
       (tabulate (t .sizes .n) (λ i. i)) any long (first-below (t .sizes .n) (t .sizes .n) (omega arith)) i (among-first (t .sizes .n) i ∙ lt-ltb i (t .sizes .n) h)
 
+  write-long : length (writeCall t any file .area) ≡ length any
+  write-long =
+      let w = writtenRecord t (length file) in
+      let legal = sound-facts t ok .is-legal in
+      ap (λ (o : StoreOutcome). length (o .area)) write-is
+      ∙ length-shares w (share (t .sizes) (t .points) file) (usedLen w) (code-lengths (t .points) (t .sizes) legal .share-length file)
+      (used-least (t .sizes) (length file) (t .capacity) legal fits)
+      (tabulate (t .sizes .n) (λ i. i)) any long (first-below (t .sizes .n) (t .sizes .n) (omega arith))
+
 -- ---- an accepted move
 
 module _ (s : Record) (area : List ℕ) (board new : ℕ) (helpers partners : List ℕ) (ok : moveCall s area board new helpers partners .answer .refusal ≡ 0) where
@@ -338,6 +352,91 @@ module _ (s : Record) (area : List ℕ) (board new : ℕ) (helpers partners : Li
       ap (λ (o : StoreOutcome). o .answer .refusal) (write-is (movedRecord s board new) any file moved-sound long fits),
       λ i h. moved-true i h ∙ sym (write-has (movedRecord s board new) any file moved-sound long fits i h),
     )
+
+-- ---- each board by itself
+
+module _ (s : Record) (area : List ℕ) (board new : ℕ) (helpers partners : List ℕ) (byte : new < 256) (ok : moveCall s area board new helpers partners .answer .refusal ≡ 0)
+    (file : List ℕ) (l : length file ≡ s .length) (bf : Bytes file) where
+  abbrev k : Moves s (length area) board new helpers partners
+  k = known s area board new helpers partners byte ok
+
+  after-true : (i : ℕ) → i < s .sizes .n → i ≢ board → held s area i ≡ share (s .sizes) (s .points) file i
+      → shareAfresh (s .sizes) (s .points) (set (s .points) board new) (stripeCount s) i (held s area i) ≡ share (s .sizes) (set (s .points) board new) file i
+  after-true i h e t =
+      ap₂ (λ (m : ℕ) (w : List ℕ). shareAfresh (s .sizes) (s .points) (set (s .points) board new) (stripes (s .sizes) m) i w) (sym l) t
+      ∙ laws-of s area board new helpers partners k byte i h e .afresh-true file bf
+
+  other-is : (i : ℕ) → i < s .sizes .n → i ≢ board
+      → held s (moveCall s area board new helpers partners .area) i ≡ shareAfresh (s .sizes) (s .points) (set (s .points) board new) (stripeCount s) i (held s area i)
+  other-is i h e = moved s area board new helpers partners byte ok .others-have i h e ∙ moved s area board new helpers partners byte ok .afresh-is i
+
+  -- back to the points before
+  back-true : Bytes area → (i : ℕ) → i < s .sizes .n → i ≢ board
+      → shareAfresh (s .sizes) (s .points) (set (s .points) board new) (stripeCount s) i (held s area i) ≡ share (s .sizes) (set (s .points) board new) file i
+      → held s area i ≡ share (s .sizes) (s .points) file i
+  back-true ba i h e t =
+      let g = sound-facts s (k .is-sound) in
+      let zs = set (s .points) board new in
+      let back = laws-of s area board new helpers partners k byte i h e .afresh-back (stripeCount s) (held s area i)
+      (held-long s area g (k .area-is) i h) (held-bytes s area g (k .area-is) ba i) in
+      sym back
+      ∙ ap₂ (λ (m : ℕ) (w : List ℕ). shareAfresh (s .sizes) zs (s .points) (stripes (s .sizes) m) i w) (sym l) t
+      ∙ afresh-laws (s .sizes) zs (s .points) i (g .is-legal) (new-points s area board new helpers partners k byte) (sound-points s g) h
+      (sym (turn-laws .other-point (s .points) board new i e)) .afresh-true file bf
+
+  other-true : Bytes area → (i : ℕ) → i < s .sizes .n → i ≢ board
+      → (held s (moveCall s area board new helpers partners .area) i ≡ share (s .sizes) (set (s .points) board new) file i)
+      ↔ (held s area i ≡ share (s .sizes) (s .points) file i)
+  other-true ba i h e = (λ t. back-true ba i h e (sym (other-is i h e) ∙ t), λ t. other-is i h e ∙ after-true i h e t)
+
+  -- the area in which every board holds its share: as far as the named ones go it is the same
+  low-length : length file ≤ s .capacity * B (s .sizes)
+  low-length = omega (arith, l, sound-facts s (k .is-sound) .fits)
+
+  abbrev whole : List ℕ
+  whole = writeCall s area file .area
+
+  whole-long : length whole ≡ length area
+  whole-long = write-long s area file (k .is-sound) (k .area-is) low-length
+
+  whole-held : (i : ℕ) → i < s .sizes .n → held s whole i ≡ share (s .sizes) (s .points) file i
+  whole-held i h =
+      ap (λ (m : ℕ). take (stripes (s .sizes) m * α (s .sizes)) (drop (i * partLen s) whole)) (sym l) ∙ write-has s area file (k .is-sound) (k .area-is) low-length i h
+
+  whole-taken : moveCall s whole board new helpers partners .answer .refusal ≡ 0
+  unfolding moveCall
+  whole-taken =
+      ap (λ (o : StoreOutcome). o .answer .refusal)
+      (settle-pass _ _ _ (subst (λ (m : ℕ). first storeOrder (moveLines s m board new helpers partners) ≡ Pass) (sym whole-long) (pass s area board new helpers partners ok)))
+
+  same-afresh : (j : ℕ) → j < s .sizes .n → held s area j ≡ share (s .sizes) (s .points) file j → afresh s area board new j ≡ afresh s whole board new j
+  same-afresh j h t =
+      moved s area board new helpers partners byte ok .afresh-is j
+      ∙ ap (λ (w : List ℕ). shareAfresh (s .sizes) (s .points) (set (s .points) board new) (stripeCount s) j w) (t ∙ sym (whole-held j h))
+      ∙ sym (moved s whole board new helpers partners byte whole-taken .afresh-is j)
+
+  abbrev Right : ℕ → Type 0
+  Right j = held s area j ≡ share (s .sizes) (s .points) file j
+
+  both-of : (hs : List ℕ) → All (λ j. (j < s .sizes .n) × (j ≢ board)) hs → All Right hs → All (λ j. afresh s area board new j ≡ afresh s whole board new j) hs
+  both-of [] p t = tt
+  both-of (j ∷ hs) p t = (same-afresh j (p .0 .0) (t .0), both-of hs (p .1) (t .1))
+
+  named-true : All Right (helpers ++ partners)
+      → held s (moveCall s area board new helpers partners .area) board ≡ share (s .sizes) (set (s .points) board new) file board
+  named-true t =
+      let zs = set (s .points) board new in
+      let S = stripeCount s in
+      let send : List ℕ → ℕ → List ℕ = λ a j. helperPacket (s .sizes) zs S j board (afresh s a board new j) in
+      let stand : List ℕ → ℕ → List ℕ = λ a j. standInPacket (s .sizes) zs S j board (afresh s a board new j) in
+      let hs = both-of helpers (of-helpers s area board new helpers partners k byte) (all-left Right helpers partners t) in
+      let ps = both-of partners (of-partners s area board new helpers partners k byte) (all-right Right helpers partners t) in
+      moved s area board new helpers partners byte ok .has
+      ∙ ap₂ (λ (a b : List ℕ). finishedShare (s .sizes) zs S board helpers a partners b)
+      (joined-all (send area) (send whole) helpers (all-imp _ (λ j. send area j ≡ send whole j) (λ j e. ap (helperPacket (s .sizes) zs S j board) e) helpers hs))
+      (joined-all (stand area) (stand whole) partners (all-imp _ (λ j. stand area j ≡ stand whole j) (λ j e. ap (standInPacket (s .sizes) zs S j board) e) partners ps))
+      ∙ sym (moved s whole board new helpers partners byte whole-taken .has)
+      ∙ moved-true s whole board new helpers partners byte whole-taken file l bf whole-held board (below-all (s .sizes .n) (board ∷ (helpers ++ partners)) (k .named-below) .0)
 
 -- ---- the turn
 
@@ -503,6 +602,187 @@ module _ (s : Record) (p : Running) (area : List ℕ) (board new : ℕ) (helpers
       → moveBoth s p area board new helpers partners ≡ beside p (moveCall s area board new helpers partners)
   same-beside h = let k = both-there h in k .2 ∙ ap (beside p) (sym (is-moved (k .0)))
 
+-- ---- the moves of a list
+
+moves-one : (b : Book) (board point : ℕ) (helpers partners : List ℕ) (es : List Event) → Accepted b (move board point helpers partners)
+    → movesIn b (call (move board point helpers partners) ∷ es) ≡ (board, point) ∷ movesIn (enter b (move board point helpers partners) .book) es
+moves-one b board point helpers partners es ok = rw (eq-eqb (enter b (move board point helpers partners) .reply .answer .refusal) 0 ok) refl
+
+no-move : (b : Book) (c : Call) (es : List Event) → newPoint c (enter b c .reply .answer) ≡ [] → movesIn b (call c ∷ es) ≡ movesIn (enter b c .book) es
+no-move b c es e = ap (λ (ps : List (ℕ × ℕ)). ps ++ movesIn (enter b c .book) es) e
+
+not-move : (c : Call) (a : Said) → ((board point : ℕ) (helpers partners : List ℕ) → c ≢ move board point helpers partners) → newPoint c a ≡ []
+not-move (write file) a h = refl
+not-move (lose board) a h = refl
+not-move (repair fresh helpers standIns) a h = refl
+not-move (read boards output) a h = refl
+not-move (edit offset bytes boards) a h = refl
+not-move (start fresh helpers standIns) a h = refl
+not-move (step allowance packets) a h = refl
+not-move (careful boards output) a h = refl
+not-move (move board point helpers partners) a h = absurd (h board point helpers partners refl)
+
+off-move : (c : Call) (a : Said) → a .refusal ≢ 0 → newPoint c a ≡ []
+off-move (write file) a h = refl
+off-move (lose board) a h = refl
+off-move (repair fresh helpers standIns) a h = refl
+off-move (read boards output) a h = refl
+off-move (edit offset bytes boards) a h = refl
+off-move (start fresh helpers standIns) a h = refl
+off-move (step allowance packets) a h = refl
+off-move (careful boards output) a h = refl
+off-move (move board point helpers partners) a h = rw (ne-eqb (a .refusal) 0 h) refl
+
+moves-refused : (b : Book) (c : Call) (es : List Event) → (Accepted b c → ⊥) → movesIn b (call c ∷ es) ≡ movesIn b es
+moves-refused b c es h =
+    no-move b c es (off-move c (enter b c .reply .answer) h) ∙ ap (λ (x : Book). movesIn x es) (ledger-laws .refused b c h .0)
+
+-- ---- lists that have the turn
+
+-- a call that is no step
+abbrev NoStep : Event → Type 0
+NoStep (call (write file)) = Unit
+NoStep (call (lose board)) = Unit
+NoStep (call (repair fresh helpers standIns)) = Unit
+NoStep (call (read boards output)) = Unit
+NoStep (call (edit offset bytes boards)) = Unit
+NoStep (call (start fresh helpers standIns)) = Unit
+NoStep (call (step allowance packets)) = ⊥
+NoStep (call (careful boards output)) = Unit
+NoStep (call (move board point helpers partners)) = Unit
+NoStep (powerFails p) = Unit
+
+no-step : (e : Event) → NoStep e → (allowance : ℕ) (packets : List ℕ) → e ≢ call (step allowance packets)
+no-step e h allowance packets q = subst NoStep q h
+
+module _ (z : Sizes) (c : ℕ) (file : List ℕ) (ok : legal z ≡ true) where
+  -- the book while boards are moved
+  abbrev book : List ℕ → Book
+  book xs = record { sizes = z; points = xs; capacity = c; areaLength = z .n * (c * α z); file = some file; service = tabulate (z .n) (λ i. i); repairing = none }
+
+  opened : length file ≤ c * B z → enter (openBook z (firstSeries z) c (z .n * (c * α z))) (write file) .book ≡ book (firstSeries z)
+  unfolding enter accept bookLines
+  opened fits =
+      ap (λ (e : Entry). e .book) (settle-pass (first storeOrder (bookLines (openBook z (firstSeries z) c (z .n * (c * α z))) (write file))) _ _
+      (off-pass (bookLines (openBook z (firstSeries z) c (z .n * (c * α z))) (write file)) storeOrder
+      (ap not (eq-eqb (z .n * (c * α z)) (z .n * (c * α z)) refl) also le-ltb (c * B z) (length file) fits also refl also tt)))
+
+  module _ (i : ℕ) (helpers partners : List ℕ) (ch : length helpers ≡ z .d) (cp : length partners ≡ z .r - 1)
+      (low : below (z .n) (i ∷ (helpers ++ partners)) ≡ true) (once : different (i ∷ (helpers ++ partners)) ≡ true) where
+    lows : All (λ x. x < z .n) (i ∷ (helpers ++ partners))
+    lows = below-all (z .n) (i ∷ (helpers ++ partners)) low
+
+    entered : enter (book (turned z i)) (move i i helpers partners) ≡ accept (book (turned z i)) (move i i helpers partners)
+    unfolding enter bookLines
+    entered =
+        settle-pass (first storeOrder (bookLines (book (turned z i)) (move i i helpers partners))) _ _
+        (off-pass (bookLines (book (turned z i)) (move i i helpers partners)) storeOrder
+        (ap not (eq-eqb (z .n * (c * α z)) (z .n * (c * α z)) refl)
+        also refl
+        also refl
+        also ap not (hold-alls (eqb (length helpers) (z .d) ∷ eqb (length partners) (z .r - 1) ∷ []) (eq-eqb _ _ ch, (eq-eqb _ _ cp, tt)))
+        also ap not (hold-alls (ltb i (z .n) ∷ below (z .n) helpers ∷ below (z .n) partners ∷ []) (
+          lt-ltb i (z .n) (lows .0),
+          (all-below (z .n) helpers (all-left _ helpers partners (lows .1)), (all-below (z .n) partners (all-right _ helpers partners (lows .1)), tt)),
+        ))
+        also ap not (hold-alls (different (i ∷ (helpers ++ partners)) ∷ not (among (take (z .n) (turned z i)) i) ∷ [])
+        (once, (ap not (turn-laws .turn-free z i ok (lows .0)), tt)))
+        also ap not (all-every (among (tabulate (z .n) (λ t. t))) (tabulate (z .n) (λ t. t))
+        (all-imp (λ x. x < z .n) (λ x. among (tabulate (z .n) (λ t. t)) x ≡ true) (λ x h. among-first (z .n) x ∙ lt-ltb x (z .n) h)
+        (tabulate (z .n) (λ t. t)) (first-below (z .n) (z .n) (omega arith))))
+        also tt))
+
+    turn-accepted : Accepted (book (turned z i)) (move i i helpers partners)
+    unfolding accept
+    turn-accepted = ap (λ (e : Entry). e .reply .answer .refusal) entered
+
+    turn-book : enter (book (turned z i)) (move i i helpers partners) .book ≡ book (turned z (suc i))
+    unfolding accept
+    turn-book = ap (λ (e : Entry). e .book) entered ∙ ap book (turn-laws .turn-step z i ok (lows .0))
+
+  module _ (helpers partners : ℕ → List ℕ)
+      (lists : (i : ℕ) → i < z .n
+      → (length (helpers i) ≡ z .d) × (length (partners i) ≡ z .r - 1)
+      × (below (z .n) (i ∷ (helpers i ++ partners i)) ≡ true) × (different (i ∷ (helpers i ++ partners i)) ≡ true)) where
+    abbrev turns : ℕ → Event
+    turns i = call (move i i (helpers i) (partners i))
+
+    -- m boards from i on, whose numbers are `at`
+    on : (m i : ℕ) (at : ℕ → ℕ) → ((t : ℕ) → at t ≡ i + t) → i + m ≤ z .n
+        → movesIn (book (turned z i)) (tabulate m (λ t. turns (at t))) ≡ tabulate m (λ t. (at t, at t))
+    on zero i at e h = refl
+    on (suc m) i at e h =
+        let first : at 0 ≡ i = e 0 ∙ omega arith in
+        let k : i < z .n = omega arith in
+        let l = lists i k in
+        let rest = tabulate m (λ t. turns (at (suc t))) in
+        subst (λ (j : ℕ). movesIn (book (turned z i)) (turns j ∷ rest) ≡ (j, j) ∷ tabulate m (λ t. (at (suc t), at (suc t)))) (sym first)
+        (moves-one (book (turned z i)) i i (helpers i) (partners i) rest (turn-accepted i (helpers i) (partners i) (l .0) (l .1) (l .2) (l .3))
+        ∙ ap (λ (b : Book). (i, i) ∷ movesIn b rest) (turn-book i (helpers i) (partners i) (l .0) (l .1) (l .2) (l .3))
+        ∙ ap (λ (ps : List (ℕ × ℕ)). (i, i) ∷ ps) (on m (suc i) (λ t. at (suc t)) (λ t. e (suc t) ∙ omega arith) (omega arith)))
+
+    turn-met : length file ≤ c * B z
+        → movesIn (openBook z (firstSeries z) c (z .n * (c * α z))) (call (write file) ∷ tabulate (z .n) turns) ≡ tabulate (z .n) (λ i. (i, i))
+    turn-met fits =
+        ap (λ (b : Book). movesIn b (tabulate (z .n) turns)) (opened fits ∙ ap book (sym (turn-laws .turn-first z)))
+        ∙ on (z .n) 0 (λ t. t) (λ t. omega arith) (omega arith)
+
+    -- the book behind it
+    behind : (m i : ℕ) (at : ℕ → ℕ) → ((t : ℕ) → at t ≡ i + t) → i + m ≤ z .n
+        → bookFinal (book (turned z i)) (tabulate m (λ t. turns (at t))) ≡ book (turned z (i + m))
+    behind zero i at e h = let q : i ≡ i + 0 = omega arith in ap (λ (j : ℕ). book (turned z j)) q
+    behind (suc m) i at e h =
+        let first : at 0 ≡ i = e 0 ∙ omega arith in
+        let k : i < z .n = omega arith in
+        let l = lists i k in
+        let rest = tabulate m (λ t. turns (at (suc t))) in
+        let q : suc i + m ≡ i + suc m = omega arith in
+        subst (λ (j : ℕ). bookFinal (book (turned z i)) (turns j ∷ rest) ≡ book (turned z (i + suc m))) (sym first)
+        (ap (λ (b : Book). bookFinal b rest) (turn-book i (helpers i) (partners i) (l .0) (l .1) (l .2) (l .3))
+        ∙ behind m (suc i) (λ t. at (suc t)) (λ t. e (suc t) ∙ omega arith) (omega arith)
+        ∙ ap (λ (j : ℕ). book (turned z j)) q)
+
+    behind-all : length file ≤ c * B z → bookFinal (openBook z (firstSeries z) c (z .n * (c * α z))) (call (write file) ∷ tabulate (z .n) turns) ≡ book (standard z)
+    behind-all fits =
+        let q : 0 + z .n ≡ z .n = omega arith in
+        ap (λ (b : Book). bookFinal b (tabulate (z .n) turns)) (opened fits ∙ ap book (sym (turn-laws .turn-first z)))
+        ∙ behind (z .n) 0 (λ t. t) (λ t. omega arith) (omega arith)
+        ∙ ap (λ (j : ℕ). book (turned z j)) q
+        ∙ ap book (turn-laws .turn-last z)
+
+    -- what is asked of the list
+    no-steps : (m : ℕ) (at : ℕ → ℕ) → All (λ e. (allowance : ℕ) (packets : List ℕ) → e ≢ call (step allowance packets)) (tabulate m (λ t. turns (at t)))
+    no-steps zero at = tt
+    no-steps (suc m) at = (no-step (turns (at 0)) tt, no-steps m (λ t. at (suc t)))
+
+    of-bytes : (m : ℕ) (at : ℕ → ℕ) → ((t : ℕ) → t < m → at t < 256) → All Bytes (files (tabulate m (λ t. turns (at t))))
+    of-bytes zero at h = tt
+    of-bytes (suc m) at h = ((h 0 (omega arith), tt), of-bytes m (λ t. at (suc t)) (λ t k. h (suc t) (omega arith)))
+
+    none-fail : (m : ℕ) (at : ℕ → ℕ) → IdleGiven (tabulate m (λ t. turns (at t)))
+    none-fail zero at = tt
+    none-fail (suc m) at = none-fail m (λ t. at (suc t))
+
+    turn-run : (old : Record) (p : Running) (area : List ℕ) → setUpBoth old p z (firstSeries z) c .answer .refusal ≡ 0 → length area ≡ z .n * (c * α z)
+        → length file ≤ c * B z → Bytes file
+        → let w = begun old p z (firstSeries z) c area in
+        let e = final w (unaltered w (openBook z (firstSeries z) c (length area)) (call (write file) ∷ tabulate (z .n) turns)) in
+        (e .kept .points ≡ standard z) × ((i : ℕ) → i < z .n → held (e .kept) (e .area) i ≡ share z (standard z) file i)
+    turn-run old p area taken long fits bf =
+        let w = begun old p z (firstSeries z) c area in
+        let b = openBook z (firstSeries z) c (length area) in
+        let es : List Event = call (write file) ∷ tabulate (z .n) turns in
+        let steps = unaltered w b es in
+        let few = legal-facts z ok .few in
+        let allowed = premises .all-allowed old p z (firstSeries z) c area es (bf, of-bytes (z .n) (λ t. t) (λ t k. omega (arith, few))) (none-fail (z .n) (λ t. t)) in
+        let same : events steps ≡ es = premises .whole-events w b es (no-step (call (write file)) tt, no-steps (z .n) (λ t. t)) in
+        let ends : bookFinal b (events steps) ≡ book (standard z) =
+        ap₂ (λ (m : ℕ) (l : List Event). bookFinal (openBook z (firstSeries z) c m) l) long same ∙ behind-all fits in
+        let intact = subst (λ (x : Book). Intact (final w steps) x) ends (demand-3 old p z (firstSeries z) c area steps taken allowed .after) in (
+          ap (λ (s : Record). s .points) (intact .same-record),
+          λ i h. intact .holds (final w steps .area) (record { as-long = refl; in-service = λ i e. refl }) i (among-first (z .n) i ∙ lt-ltb i (z .n) h),
+        )
+
 -- ---- as in a repair of one board
 
 module _ (s : Record) (m board point : ℕ) (helpers partners : List ℕ) (ok : legal (s .sizes) ≡ true) where
@@ -583,6 +863,8 @@ move-laws = record {
   );
   moved = λ s area board point helpers partners byte ok. moved s area board point helpers partners byte ok;
   move-true = λ s area board point helpers partners file byte ok l bf truth. moved-true s area board point helpers partners byte ok file l bf truth;
+  other-true = λ s area board point helpers partners file byte ok l bf ba i h e. other-true s area board point helpers partners byte ok file l bf ba i h e;
+  named-true = λ s area board point helpers partners file byte ok l bf t. named-true s area board point helpers partners byte ok file l bf t;
   as-written = λ s area board point helpers partners file any byte ok l bf truth long. as-written s area board point helpers partners byte ok file l bf truth any long;
   turn-taken = λ s area i helpers partners ok pts area-is w ch cp low once up. turn-taken s area i helpers partners ok pts area-is w ch cp low once up;
   turn-ends = turn-laws .turn-last;
@@ -590,4 +872,12 @@ move-laws = record {
   points-are = points-are;
   turn = turn;
   turn-record = turn-record;
+  moves-none = λ b. refl;
+  moves-one = moves-one;
+  moves-refused = moves-refused;
+  moves-other = λ b c es h. no-move b c es (not-move c (enter b c .reply .answer) h);
+  moves-fails = λ b p es. refl;
+  turn-run = λ old p z c area file helpers partners taken long fits bf lists.
+      turn-run z c file (sound-facts (newRecord z (firstSeries z) c) (set-up-both old p z (firstSeries z) c taken) .is-legal) helpers partners lists old p area taken long fits bf;
+  turn-met = λ z c file helpers partners ok fits lists. turn-met z c file ok helpers partners lists fits;
 }

@@ -249,6 +249,12 @@ again-other w b (call (careful boards output)) h = refl
 again-other w b (call (move board point helpers partners)) h = refl
 again-other w b (powerFails p) h = refl
 
+whole-events : (w : State) (b : Book) (es : List Event) → All (λ e. (allowance : ℕ) (packets : List ℕ) → e ≢ call (step allowance packets)) es
+    → events (unaltered w b es) ≡ es
+whole-events w b [] h = refl
+whole-events w b (e ∷ es) h =
+    ap₂ {C = List Event} (λ x r. x ∷ r) (again-other w b e (h .0)) (whole-events (next w (lentAgain w b e)) (bookNext b (lentAgain w b e)) es (h .1))
+
 bare-other : (e : Event) → ((allowance : ℕ) (packets : List ℕ) → e ≢ call (step allowance packets)) → bare e ≡ e
 bare-other (call (write file)) h = refl
 bare-other (call (lose board)) h = refl
@@ -280,6 +286,7 @@ premises = record {
   again-free = λ w b allowance packets e. ap (λ (t : Bool). call (step allowance (pick t packets (w .packets)))) e;
   again-left = λ w b allowance packets e. ap (λ (t : Bool). call (step allowance (pick t packets (w .packets)))) e;
   again-other = again-other;
+  whole-events = whole-events;
   bare-step = λ allowance packets. refl;
   bare-other = bare-other;
   unaltered-none = λ w b. refl;

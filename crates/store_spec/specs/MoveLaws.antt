@@ -5,13 +5,13 @@ use mathlib.Core.Path.{_≡_}
 use mathlib.Core.Bool.{true, false}
 use mathlib.Core.Logic.{_≢_, _↔_, _⊎_}
 use mathlib.Core.List.{List, [], _∷_, _++_, map}
-use Prim.Native.Nat.{ℕ, suc, _+_, _-_, _*_, _<_}
+use Prim.Native.Nat.{ℕ, suc, _+_, _-_, _*_, _≤_, _<_}
 use lib.ListN.{length, take, set}
 use Rattle.lists.specs.Tests.{among, below, different, every}
-use Rattle.lists.specs.Lists.{Bytes, tabulate, joined}
+use Rattle.lists.specs.Lists.{All, Bytes, tabulate, joined}
 use Rattle.sizes.specs.declared.Sizes.{Sizes}
 use Rattle.sizes.specs.declared.Answer.the-variants.{Done}
-use Rattle.sizes.specs.Sizing.{legal}
+use Rattle.sizes.specs.Sizing.{legal, α, B}
 use Rattle.sizes.specs.declared.Refusal.the-variants.{Count, Node, Repeat}
 use Rattle.sizes.specs.Refusals.{said, appliesIn}
 use Rattle.mbcr.specs.Share.{standard, share}
@@ -28,8 +28,9 @@ use Rattle.store_spec.specs.Running.{Running}
 use Rattle.store_spec.specs.Both.{beside, setUpBoth, moveBoth}
 use Rattle.store_spec.specs.Demand1.{Stays}
 use Rattle.store_spec.specs.Demand3.{begun, events}
-use Rattle.store_spec.specs.Ledger.{Event, call, powerFails, Book, openBook, enter, bookNext, bookFinal, Step, Allowed, final}
-use Rattle.store_spec.specs.LedgerLaws.{newPoint, setPoints}
+use Rattle.store_spec.specs.Ledger.{Call, write, move, Event, call, powerFails, Book, openBook, enter, bookNext, bookFinal, Step, Allowed, final}
+use Rattle.store_spec.specs.LedgerLaws.{Accepted, newPoint, setPoints}
+use Rattle.store_spec.specs.Premises.{unaltered}
 
 -- An accepted move, over any record and any area. `ys` are the points after it.
 pub record Moved (s : Record) (area : List ℕ) (board point : ℕ) (helpers partners ys : List ℕ) : Type 0 where
@@ -93,6 +94,18 @@ pub record MoveLaws : Type 0 where
       → ((i : ℕ) → i < s .sizes .n → held s area i ≡ share (s .sizes) (s .points) file i)
       → (i : ℕ) → i < s .sizes .n
       → held s (moveCall s area board point helpers partners .area) i ≡ share (s .sizes) (set (s .points) board point) file i
+  -- of each other board by itself, over any bytes: it then holds its share exactly where it held it before; and the moved board does where those that it names did
+  pub other-true : (s : Record) (area : List ℕ) (board point : ℕ) (helpers partners file : List ℕ) → point < 256
+      → moveCall s area board point helpers partners .answer .refusal ≡ 0
+      → length file ≡ s .length → Bytes file → Bytes area
+      → (i : ℕ) → i < s .sizes .n → i ≢ board
+      → (held s (moveCall s area board point helpers partners .area) i ≡ share (s .sizes) (set (s .points) board point) file i)
+      ↔ (held s area i ≡ share (s .sizes) (s .points) file i)
+  pub named-true : (s : Record) (area : List ℕ) (board point : ℕ) (helpers partners file : List ℕ) → point < 256
+      → moveCall s area board point helpers partners .answer .refusal ≡ 0
+      → length file ≡ s .length → Bytes file
+      → All (λ j. held s area j ≡ share (s .sizes) (s .points) file j) (helpers ++ partners)
+      → held s (moveCall s area board point helpers partners .area) board ≡ share (s .sizes) (set (s .points) board point) file board
   -- and its first S stripes are what a write of the file on the record handed on gives, over whatever area
   pub as-written : (s : Record) (area : List ℕ) (board point : ℕ) (helpers partners file any : List ℕ) → point < 256
       → moveCall s area board point helpers partners .answer .refusal ≡ 0
@@ -123,6 +136,14 @@ pub record MoveLaws : Type 0 where
       (writeCall fresh any file .answer .refusal ≡ 0)
       × ((j : ℕ) → j < s .sizes .n
       → held s (moveCall s area i i helpers partners .area) j ≡ held (writtenRecord fresh (length file)) (writeCall fresh any file .area) j)
+  -- the moves of a list: of an accepted move its board and its new point, once, and of all else that happens nothing
+  pub moves-none : (b : Book) → movesIn b [] ≡ []
+  pub moves-one : (b : Book) (board point : ℕ) (helpers partners : List ℕ) (es : List Event) → Accepted b (move board point helpers partners)
+      → movesIn b (call (move board point helpers partners) ∷ es) ≡ (board, point) ∷ movesIn (enter b (move board point helpers partners) .book) es
+  pub moves-refused : (b : Book) (c : Call) (es : List Event) → (Accepted b c → ⊥) → movesIn b (call c ∷ es) ≡ movesIn b es
+  pub moves-other : (b : Book) (c : Call) (es : List Event) → ((board point : ℕ) (helpers partners : List ℕ) → c ≢ move board point helpers partners)
+      → movesIn b (call c ∷ es) ≡ movesIn (enter b c .book) es
+  pub moves-fails : (b : Book) (p : Running) (es : List Event) → movesIn b (powerFails p ∷ es) ≡ movesIn (bookNext b (powerFails p)) es
   -- the book's points are those of its opening but for the boards moved since
   pub points-are : (es : List Event) (b : Book) → bookFinal b es .points ≡ setPoints (b .points) (movesIn b es)
   -- "Moving boards 0 to n − 1 in turn carries i + 1 to i", whatever other calls and power failures stand between
@@ -134,3 +155,21 @@ pub record MoveLaws : Type 0 where
       → Allowed (begun old p z (firstSeries z) c area) (openBook z (firstSeries z) c (length area)) steps
       → movesIn (openBook z (firstSeries z) c (length area)) (events steps) ≡ tabulate (z .n) (λ i. (i, i))
       → final (begun old p z (firstSeries z) c area) steps .kept .points ≡ standard z
+  -- and there are such lists, at all legal sizes: a write of any file that fits, and n moves with whatever lists a repair of one board takes
+  pub turn-met : (z : Sizes) (c : ℕ) (file : List ℕ) (helpers partners : ℕ → List ℕ) → legal z ≡ true → length file ≤ c * B z
+      → ((i : ℕ) → i < z .n
+      → (length (helpers i) ≡ z .d) × (length (partners i) ≡ z .r - 1)
+      × (below (z .n) (i ∷ (helpers i ++ partners i)) ≡ true) × (different (i ∷ (helpers i ++ partners i)) ≡ true))
+      → movesIn (openBook z (firstSeries z) c (z .n * (c * α z))) (call (write file) ∷ tabulate (z .n) (λ i. call (move i i (helpers i) (partners i))))
+      ≡ tabulate (z .n) (λ i. (i, i))
+  -- so it goes in the store, with nothing altered: from a set-up at the first series' points over any area, behind the last move the record has document 01's points,
+  -- and every board holds its share of the file there
+  pub turn-run : (old : Record) (p : Running) (z : Sizes) (c : ℕ) (area file : List ℕ) (helpers partners : ℕ → List ℕ)
+      → setUpBoth old p z (firstSeries z) c .answer .refusal ≡ 0 → length area ≡ z .n * (c * α z) → length file ≤ c * B z → Bytes file
+      → ((i : ℕ) → i < z .n
+      → (length (helpers i) ≡ z .d) × (length (partners i) ≡ z .r - 1)
+      × (below (z .n) (i ∷ (helpers i ++ partners i)) ≡ true) × (different (i ∷ (helpers i ++ partners i)) ≡ true))
+      → let w = begun old p z (firstSeries z) c area in
+      let es = call (write file) ∷ tabulate (z .n) (λ i. call (move i i (helpers i) (partners i))) in
+      let e = final w (unaltered w (openBook z (firstSeries z) c (length area)) es) in
+      (e .kept .points ≡ standard z) × ((i : ℕ) → i < z .n → held (e .kept) (e .area) i ≡ share z (standard z) file i)

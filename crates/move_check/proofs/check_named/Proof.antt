@@ -13,7 +13,8 @@ use Rattle.sizes.specs.Refusals.{Line, first, storeOrder}
 use Rattle.sizes.proofs.Legal.{legal-facts}
 use Rattle.board_spec.specs.Calls.{countLine, nodeLine}
 use Rattle.checks.proofs.Chain.{thens, grouped, goes-on, refuses, ends}
-use Rattle.move_check.specs.Steps.{newLine, upLine, namedLines}
+use Rattle.move_tests.specs.Steps.{newLine, upLine}
+use Rattle.move_check.specs.Steps.{namedLines}
 use Rattle.move_check.proofs.check_named.Statement.{statement}
 use Rattle.move_check.proofs.check_named.Tie as tie
 

@@ -1,12 +1,12 @@
--- `move_check::all_differ` meets its contract.
+-- `move_tests::all_differ` meets its contract.
 -- Assumes nothing.
 use mathlib.Core.Path.{_≡_, sym, _∙_}
 use mathlib.Core.Bool.{false}
 use borrow.Author.Needs.{needs}
 use Rattle.lists.specs.Tests.{among}
-use Rattle.move_check.proofs.Tests.{first-has, second-has, neither-has}
-use Rattle.move_check.proofs.all_differ.Statement.{statement}
-use Rattle.move_check.proofs.all_differ.Tie as tie
+use Rattle.move_tests.proofs.Tests.{first-has, second-has, neither-has}
+use Rattle.move_tests.proofs.all_differ.Statement.{statement}
+use Rattle.move_tests.proofs.all_differ.Tie as tie
 
 -- the places
 abbrev st : tie.After-among-from → tie.Start

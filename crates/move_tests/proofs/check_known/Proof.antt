@@ -1,4 +1,4 @@
--- `move_check::check_known` meets its contract.
+-- `move_tests::check_known` meets its contract.
 -- Assumes nothing.
 use Prim.Native.Nat.{ℕ}
 use mathlib.Core.Path.{_≡_, refl, sym, ap, _∙_}
@@ -12,8 +12,8 @@ use Rattle.sizes.specs.Refusals.{_when_}
 use Rattle.board_spec.specs.Calls.{nodeLine}
 use Rattle.line_checks.specs.Steps.{asked}
 use Rattle.line_checks.proofs.Answers.{refuses}
-use Rattle.move_check.proofs.check_known.Statement.{statement}
-use Rattle.move_check.proofs.check_known.Tie as tie
+use Rattle.move_tests.proofs.check_known.Statement.{statement}
+use Rattle.move_tests.proofs.check_known.Tie as tie
 
 -- the others' answer is that of all
 is-node : tie.Need-returns

@@ -1,4 +1,4 @@
--- `move_check::check_up` meets its contract. The loop's invariant: the test of the boards that are left is the test of all.
+-- `move_tests::check_up` meets its contract. The loop's invariant: the test of the boards that are left is the test of all.
 -- Assumes nothing.
 use Prim.Native.Nat.{ℕ, _-_}
 use mathlib.Core.Path.{_≡_, refl, sym, ap, _∙_}
@@ -8,10 +8,10 @@ use borrow.Author.Needs.{needs}
 use lib.ListN.{getD, drop}
 use Rattle.lists.specs.Tests.{every}
 use Rattle.line_checks.proofs.Answers.{passes, refuses}
-use Rattle.move_check.specs.Steps.{upLine}
-use Rattle.move_check.proofs.Tests.{all, walk-next, walk-no, walk-ends}
-use Rattle.move_check.proofs.check_up.Statement.{statement}
-use Rattle.move_check.proofs.check_up.Tie as tie
+use Rattle.move_tests.specs.Steps.{upLine}
+use Rattle.move_tests.proofs.Tests.{all, walk-next, walk-no, walk-ends}
+use Rattle.move_tests.proofs.check_up.Statement.{statement}
+use Rattle.move_tests.proofs.check_up.Tie as tie
 
 abbrev up : List Bool → ℕ → Bool
 up marks i = getD marks i false

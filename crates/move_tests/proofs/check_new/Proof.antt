@@ -1,4 +1,4 @@
--- `move_check::check_new` meets its contract: the tests in their order.
+-- `move_tests::check_new` meets its contract: the tests in their order.
 -- Assumes nothing.
 use mathlib.Core.Path.{_≡_, sym, _∙_}
 use mathlib.Core.Bool.{true}
@@ -8,10 +8,10 @@ use lib.ListN.{take}
 use Rattle.lists.specs.Tests.{among, different}
 use Rattle.sizes.specs.Refusals.{Line}
 use Rattle.line_checks.proofs.Answers.{passes, refuses}
-use Rattle.move_check.specs.Steps.{newLine}
-use Rattle.move_check.proofs.Tests.{two-hold, first-fails, second-fails, first-of}
-use Rattle.move_check.proofs.check_new.Statement.{statement}
-use Rattle.move_check.proofs.check_new.Tie as tie
+use Rattle.move_tests.specs.Steps.{newLine}
+use Rattle.move_tests.proofs.Tests.{two-hold, first-fails, second-fails, first-of}
+use Rattle.move_tests.proofs.check_new.Statement.{statement}
+use Rattle.move_tests.proofs.check_new.Tie as tie
 
 -- the places
 abbrev st : tie.After-all-differ → tie.Start
