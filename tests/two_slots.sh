@@ -36,7 +36,10 @@ try() {
     [ "$status" -eq "$due" ] || fail "two_slots $*: exit code $status, not $due"
     if [ "$due" -ne 0 ] && [ ! -s said ]; then fail "two_slots $*: it said nothing"; fi
 }
-is() { try 0 store read && cmp -s "$1" out || fail "the store has not the file $1"; }
+is() {
+    try 0 store read
+    cmp -s "$1" out || fail "the store has not the file $1"
+}
 try 1 store read
 try 0 store new stock first
 is stock
@@ -88,8 +91,8 @@ if [ -e /dev/full ]; then
 fi
 head -c 3000 /dev/zero >long
 try 1 store write long
-head -c 5000 store >cut
-try 1 cut read
+head -c 5000 store >shorter
+try 1 shorter read
 : >said
 echo "ok it keeps, changes, repairs and carries over a file"
 
@@ -107,7 +110,7 @@ while [ "$bytes" -le 7200 ]; do
     if cmp -s out edited && [ "$status" -eq 99 ]; then old=$((old + 1)); elif cmp -s out stock; then new=$((new + 1)); else fail "stopped after $bytes bytes: another file"; fi
     bytes=$((bytes + 97))
 done
-[ "$old" -gt 50 ] && [ "$new" -gt 0 ] || fail "stopped: $old times the old file, $new times the new one"
+if [ "$old" -le 50 ] || [ "$new" -eq 0 ]; then fail "stopped: $old times the old file, $new times the new one"; fi
 echo "ok stopped at $((old + new)) places of a write: $old times the file from before, $new times the one from behind"
 valgrind=$(command -v valgrind || true)
 if [ -n "$valgrind" ]; then
@@ -143,7 +146,7 @@ faulty() {
     if cmp -s "$work/small.c" "$work/faulty.c"; then fail "$1: the edit changes nothing"; fi
     status=0
     cuts "$work/faulty.c" || status=$?
-    [ "$status" -eq 1 ] && grep -q '^WRONG ' "$work/out" || fail "$1: not reported"
+    if [ "$status" -ne 1 ] || ! grep -q '^WRONG ' "$work/out"; then fail "$1: not reported"; fi
     reported=$((reported + 1))
 }
 faulty "one slot" 's/SLOTS = 2,/SLOTS = 1,/'
