@@ -158,6 +158,7 @@ faulty "a head that is cut is taken" 's/ || check(head, AT_CHECK) != number_at(h
 faulty "the last slot, not the newer one" 's/if (turn > s->turn) s/if (turn > 0) s/'
 faulty "a head that cannot be read is passed over" 's/return said("the store", "a head cannot be read")/continue/'
 faulty "a board that was altered is taken" 's/if (there && check(bytes, BOARD) == .*/if (there) continue;/'
+faulty "a new store's name is not synced" 's/if (above < 0 || fsync(above) != 0)/if (above < 0)/'
 faulty "a new store has its name before it is there" 's/kept = kept \&\& save(s);/kept = kept \&\& rename(other, name) == 0 \&\& save(s); if (kept) return 1;/'
 echo "ok programs with a fault are reported: $reported of $reported"
 echo "two slots: all passed"
