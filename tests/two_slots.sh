@@ -151,6 +151,7 @@ faulty() {
 }
 faulty "one slot" 's/SLOTS = 2,/SLOTS = 1,/'
 faulty "a change to the slot that is current" 's/turn = s->turn + 1;/turn = s->turn + 2;/'
+faulty "slots that share a block of the medium" 's/BLOCK = 4096,/BLOCK = 512,/'
 faulty "no sync between boards and head" '/the boards cannot be synced/d'
 faulty "no sync behind the head" '/the head cannot be synced/d'
 faulty "no sync before the store is loaded" '/the store cannot be synced/d'

@@ -3,9 +3,10 @@
  *
  * What two_slots.c writes goes to the system's memory; an fsync puts it on the medium. When power fails, of the bytes written since the last fsync any may
  * be on the medium and any not. Tried are, for each command and each fsync of it: the bytes up to every one, in the order in which they were written;
- * the bytes from every one on; every one alone; all but every one; blocks of 512 drawn at random; bytes drawn at random; and bytes drawn at random that
- * are altered to others. After each failure the program itself loads the store and reads the file: it must be the one from before the command or
- * the one from behind it, and behind a command that said it was done it must be the latter. Then histories: the program is stopped or power fails,
+ * the bytes from every one on; every one alone; all but every one; blocks of 512 drawn at random; bytes drawn at random; bytes drawn at random of which
+ * some are altered to others; and all bytes altered of the blocks of 4,096 that were written to. After each failure the program itself loads the store and
+ * reads the file: it must be the one from before the command or the one from behind it, and behind a command that said it was done it must be the latter;
+ * and the record must be one that the command kept, so that no board is out of service that was not lost. Then histories: the program is stopped or power fails,
  * drawn at random, at any byte, again and again, and each time goes on with what it found. Then reads and writes that fail, and boards that are altered.
  *
  * The exit code is 1 where a failure left anything else; the first three of them are said, and no more are tried.
@@ -183,22 +184,43 @@ static void complain(const char *what, const char *how) {
 static int same(const struct text *a, const struct text *b) { return a->there == b->there && a->length == b->length && memcmp(a->bytes, b->bytes, a->length) == 0; }
 
 /* What the program finds: the store loaded and the file read. Gives whether it could; a store that is not there is a text that is not. */
+static uint64_t found_record[ZBK_RECORD_WORDS];
 static int find(struct text *found) {
     static struct store s;
     found->there = 0, found->length = 0;
+    memset(found_record, 0, sizeof found_record);
     s.fd = open("store", O_RDWR);
     if (s.fd < 0) return 1;
-    if (!load(&s) || zbk_record_length(s.record) > LONGEST || !read_file(&s, found->bytes)) return 0;
+    const int loaded = load(&s);
+    memcpy(found_record, s.record, sizeof found_record);
+    if (!loaded || zbk_record_length(s.record) > LONGEST || !read_file(&s, found->bytes)) return 0;
     found->there = 1;
     found->length = zbk_record_length(s.record);
     return 1;
 }
 
-/* Power has failed, and the medium has what `shown` has: the file is the old one or the new one, and no board was taken out of service unasked. */
+/* The records that a command keeps, one after another, with the one from before it; none are asked for where there are none. */
+static uint64_t records[64][ZBK_RECORD_WORDS];
+static size_t records_count;
+
+static void keep_record(void) {
+    if (records_count > 0 && memcmp(records[records_count - 1], found_record, sizeof found_record) == 0) return;
+    if (records_count == 64) abort();
+    memcpy(records[records_count++], found_record, sizeof found_record);
+}
+
+static int known_record(void) {
+    for (size_t i = 0; i < records_count; i++)
+        if (memcmp(records[i], found_record, sizeof found_record) == 0) return 1;
+    return records_count == 0;
+}
+
+/* Power has failed, and the medium has what `shown` has: the file is the old one or the new one, and the record one that was kept. */
 static void look(const struct text *before, const struct text *after, const char *how) {
     static struct text found;
     failures++;
     if (!find(&found)) complain("no file can be read", how);
+    else if (!known_record()) complain("a record that was not kept", how);
     else if (before != NULL && same(&found, before)) olds++;
     else if (same(&found, after)) news++;
     else if (before == NULL) complain("the command was done, and the file is not the one from behind it", how);
@@ -276,6 +298,37 @@ static void choices(const struct image *base, int names, const struct text *befo
         for (size_t j = 0; j < loose_count; j++)
             if (draw(100) < share) set(&now, j, draw(2) ? loose_byte[j] : (uint8_t)draw(256));
         with(base, names, before, after, "some bytes, and some altered", &now);
+        if (turn % 10 != 0) continue;
+        static uint8_t written[FILE_LEN / 4096 + 1];
+        now = *base;
+        memset(written, 0, sizeof written);
+        for (size_t j = 0; j < loose_count; j++) written[loose_place[j] / 4096] = 1;
+        for (size_t at = 0; at < now.length; at++)
+            if (written[at / 4096]) now.bytes[at] = (uint8_t)draw(256);
+        with(base, names, before, after, "whole blocks altered", &now);
+    }
+}
+
+/* The records that stand on the medium when the command has synced, whatever it synced. */
+static void learn(const struct image *start) {
+    static struct image base;
+    static struct text found;
+    shown = *start;
+    records_count = 0;
+    find(&found);
+    keep_record();
+    base = *start;
+    for (size_t e = 0; e < event_count; e++) {
+        if (events[e].kind == CREATE) base.names = NEW_NAME, base.length = 0;
+        if (events[e].kind == RENAME) base.names = STORE_NAME;
+        if (events[e].kind == WRITE) {
+            memcpy(base.bytes + events[e].place, events[e].bytes, events[e].count);
+            if (events[e].place + events[e].count > base.length) base.length = events[e].place + events[e].count;
+        }
+        if (events[e].kind != SYNC && events[e].kind != SYNC_NAMES) continue;
+        shown = base;
+        find(&found);
+        keep_record();
     }
 }
 
@@ -370,7 +423,11 @@ static void every_cut(void) {
         recording = 0;
         end = shown;
         if (!done) complain("it was refused", "with no failure");
+        learn(&start);
+        /* all records are known by what is kept: a carry keeps one for each board, a command else one at most */
+        if (records_count > (strcmp(doing, "carry") == 0 ? N + 1 : 2)) complain("more records than it should keep", "with no failure");
         cut(&start, &before, &after);
+        records_count = 0;
         shown = kept = end;
         before = after;
     }
@@ -390,7 +447,8 @@ static void fail_power(void) {
 static void histories(size_t count) {
     static struct text before, after, found;
     static const struct command changes[] = {
-        {{"edit", "7", "seven"}, 0, 7, "seven"}, {{"write"}, 1, 0, NULL}, {{"edit", "40", "y"}, 0, 40, "y"}, {{"write"}, 2, 0, NULL}, {{"repair"}, 0, 0, NULL},
+        {{"edit", "7", "seven"}, 0, 7, "seven"}, {{"write"}, 1, 0, NULL}, {{"edit", "40", "y"}, 0, 40, "y"}, {{"write"}, 2, 0, NULL},
+        {{"repair"}, 0, 0, NULL},                {{"lose", "3"}, 0, 0, NULL}, {{"lose", "6"}, 0, 0, NULL},
     };
     doing = "a history";
     memset(&shown, 0, sizeof shown);
@@ -398,7 +456,7 @@ static void histories(size_t count) {
     if (!run(&session[0])) complain("it was refused", "new");
     before = texts[1];
     for (size_t i = 0; i < count; i++) {
-        const struct command *c = &changes[draw(5)];
+        const struct command *c = &changes[draw(7)];
         behind(c, &before, &after);
         stopped = 0;
         /* never, at any byte, or near the end of the head */
