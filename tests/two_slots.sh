@@ -93,8 +93,40 @@ head -c 3000 /dev/zero >long
 try 1 store write long
 head -c 5000 store >shorter
 try 1 shorter read
+# eight at once: each waits for the others, and nothing is lost
+try 0 store write stock
+pids=
+for at in 0 1 2 3 4 5 6 7; do
+    ./two_slots store edit "$at" "$at" &
+    pids="$pids $!"
+done
+for pid in $pids; do wait "$pid" || fail "one of eight edits at once: exit code $?"; done
+sed '1s/^......../01234567/' stock >edited
+is edited
+try 0 store write other
+try 0 store edit 0 A
+sed '1s/^a/A/' other >edited
+is edited
 : >said
 echo "ok it keeps, changes, repairs and carries over a file"
+
+# ---- other sizes at the top
+for sizes in '3 1 1 1' '5 2 3 2' '12 6 8 2' '32 16 24 8'; do
+    # shellcheck disable=SC2086 # four numbers
+    set -- $sizes
+    sed "s/enum { N = 8, K = 4, D = 6, R = 2, CAPACITY = 64 }/enum { N = $1, K = $2, D = $3, R = $4, CAPACITY = 100 }/" "$top/examples/c/two_slots.c" >sized.c
+    # shellcheck disable=SC2086
+    gcc $strict -I"$top/include" sized.c "$(case $archive in /*) ;; *) printf '%s/' "$top" ;; esac)$archive" -o sized || fail "$sizes: it does not compile"
+    rm -f sized.store
+    for words in 'new stock first' 'edit 0 A' 'lose 1' repair carry 'lose 0' 'edit 1 B' repair check anew read; do
+        # shellcheck disable=SC2086 # the words of a command
+        ./sized sized.store $words >out 2>said || fail "$sizes: $words"
+    done
+    sed '1s/^as/AB/' stock | cmp -s - out || fail "$sizes: another file"
+    if ./sized store read >out 2>said; then fail "$sizes: a store of other sizes is read"; fi
+done
+: >said
+echo "ok so it does at four other sizes"
 
 # ---- stopped at many bytes of a command, with real files
 cp store before

@@ -14,7 +14,8 @@
  * the medium that what is written before an fsync is there when that has come back, and that a write alters no block of 4,096 bytes but those written to.
  * Where an fsync fails, copy the file away and use another medium: the system may show bytes that are not on this one.
  *
- * Nothing of this program is proved. tests/two_slots.sh cuts it at every byte that it writes, and after each cut reads the file.
+ * Nothing of this program is proved. tests/two_slots.sh cuts it, with room for four stripes, at every byte that it writes, and after each cut reads the
+ * file.
  *
  *   two_slots STORE new FILE [first]     a new store with this file; 'first': at the points of the first series
  *   two_slots STORE read                 the file, on standard output
@@ -262,7 +263,7 @@ static int anew(struct store *s, uint8_t *out) {
 static int check_boards(struct store *s, uint8_t *out) {
     size_t boards[ZBK_MAX_BOARDS];
     const size_t count = zbk_choose_careful(s->record, boards);
-    if (count == 0) return said("check", "fewer than k + 2 boards are in service: repair first");
+    if (count == 0) return said("check", "fewer than k + 2 boards are in service");
     const uint64_t answer = zbk_read_careful(RECORDS(s), s->area, AREA, boards, count, out, zbk_record_length(s->record));
     if (!accepted("check", answer)) return 0;
     if (zbk_value(answer) == 0) return 1;
