@@ -293,7 +293,7 @@ static void bus(void) {
     char text[200];
     int y = 84;
     begin(880, 606, "Bytes over the bus to rebuild boards, for each stripe", "Bars: Reed-Solomon, where each fresh board fetches the file; where one fetches it and sends on; and this code.");
-    words(20, 56, "start", "normal", "In each group the longest bar is Reed-Solomon with each fresh board fetching the file by itself.");
+    words(20, 56, "start", "normal", "Each set of bars has its own scale: its longest is Reed-Solomon, each fresh board fetching the file by itself.");
     for (size_t i = 0; i < 3; i++) {
         const struct figures f = of(sizes[i][0], sizes[i][1], sizes[i][2], sizes[i][3]);
         sprintf(text, "n = %zu, k = %zu, d = %zu, r = %zu: a stripe carries %llu bytes of the file", f.n, f.k, f.d, f.r, (unsigned long long)f.carries);
