@@ -83,6 +83,13 @@ for slot in 0 1; do
     if grep -q 'board 2 is not as it was kept' said; then named=$slot; fi
 done
 [ -n "${named:-}" ] || fail "a worn board is not named"
+# a head that is not whole: it is said, and the other slot is there
+for slot in 0 1; do
+    cp store worn
+    printf '\377' | dd of=worn bs=1 seek=$((slot * 12288 + 100)) conv=notrunc 2>/dev/null
+    ./two_slots worn read >out 2>said || fail "a store with one head cannot be read"
+    grep -q 'a head is not whole' said || fail "a head that is not whole is not said"
+done
 try 2 store
 try 2 store edit x y
 try 2 store carry now

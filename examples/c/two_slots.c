@@ -134,6 +134,7 @@ static int load(struct store *s) {
         /* a head that cannot be read may be the newer one: an old file is not taken for the last */
         if (!get(s->fd, heads[slot], HEAD, slot * SLOT)) return said("the store", "a head cannot be read");
         const uint64_t turn = turn_of(heads[slot]);
+        if (turn == 0 && number_at(heads[slot]) != 0) said("a head is not whole", "the last change was cut off, or the head was altered since");
         if (turn > s->turn) s->turn = turn, current = slot;
     }
     if (s->turn == 0) return said("no slot has a head that is whole", "this is no store of these sizes, or it was altered");
