@@ -32,3 +32,13 @@ esac
 RT
     chmod +x "$1/rt"
 }
+# without FOLDER PROGRAM: FOLDER, made anew, has all programs of the path but this one
+without() {
+    rm -rf "$1"
+    mkdir -p "$1"
+    printf '%s\n' "$PATH" | tr ':' '\n' | while read -r folder; do
+        for program in "$folder"/*; do
+            [ "${program##*/}" = "$2" ] || [ ! -x "$program" ] || [ -e "$1/${program##*/}" ] || ln -s "$program" "$1"
+        done
+    done
+}

@@ -11,7 +11,7 @@ mkdir -p "$1/bin"
 cat >"$1/bin/pkg-config" <<'SCRIPT'
 #!/bin/sh
 for module; do :; done
-awk -v pcfiledir="$PKG_CONFIG_PATH" 'BEGIN { is["pcfiledir"] = pcfiledir }
+awk -v pcfiledir="$PKG_CONFIG_PATH" 'BEGIN { gsub(/ /, "\\ ", pcfiledir); is["pcfiledir"] = pcfiledir }
     /^[a-z]+=/ { at = index($0, "="); is[substr($0, 1, at - 1)] = substr($0, at + 1); next }
     /^(Cflags|Libs): / { sub(/^[A-Za-z]+: /, ""); line = line " " $0 }
     function whole(s,    v) { for (v in is) while (at = index(s, "${" v "}")) s = substr(s, 1, at - 1) is[v] substr(s, at + length(v) + 3); return s }

@@ -5,7 +5,6 @@
 set -eu
 prefix=$1
 cd "$(dirname "$0")/.."
-top=$PWD
 own=$(mktemp -d)
 trap 'rm -rf "$own"' EXIT
 fail() {
@@ -16,7 +15,7 @@ fail() {
 LC_ALL=C
 export LC_ALL
 unset LD_LIBRARY_PATH CPATH LIBRARY_PATH CMAKE_PREFIX_PATH
-PATH=$("$top/tests/pkg_config.sh" "$own"):$PATH
+PATH=$(sh tests/pkg_config.sh "$own"):$PATH
 
 { printf '#include <zebrankai.h>\n' && sed '/^#include "zebrankai\.h"$/d' examples/c/shelf.c; } >"$own/shelf.c"
 gcc -Iinclude "$own/shelf.c" "$prefix/lib/libzebrankai.a" -o "$own/due" && "$own/due" >"$own/due.out" || fail "the example itself"
@@ -104,7 +103,7 @@ fi
 
 # zbk and its pages
 printf 'seven boxes of tea\n' >"$own/stock"
-(cd "$own" && "$prefix/bin/zbk" spread stock shelf --boards 5 --read 2 --helpers 3 --fresh 2 >/dev/null && "$prefix/bin/zbk" gather shelf/board-3.txt shelf/board-1.txt -o back 2>"$own/said") &&
+(cd "$own" && "$prefix/bin/zbk" spread stock boards --boards 5 --read 2 --helpers 3 --fresh 2 >/dev/null && "$prefix/bin/zbk" gather boards/board-3.txt boards/board-1.txt -o back 2>"$own/said") &&
     cmp -s "$own/stock" "$own/back" || fail "zbk does not spread and gather"
 "$prefix/bin/zbk" --man | cmp -s - "$prefix/share/man/man1/zbk.1" || fail "another page of zbk than its own"
 if command -v man >/dev/null && [ -z "$(man --warnings -l "$prefix/share/man/man1/zbk.1" 2>&1 >"$own/page" || echo no)" ]; then

@@ -51,6 +51,11 @@ if readelf -d "$out/lib/libzebrankai.so.1" | grep -q TEXTREL; then fail "the sha
 ln -s libzebrankai.so.1 "$out/lib/libzebrankai.so"
 
 # ---- for pkg-config: 'zebrankai' is the archive, which a program carries with it, 'zebrankai-shared' the shared library
+# a space in a path stands in quotes; in pkg-config's own name for the folder of its file it is written '\ ' already
+case $prefix in
+'$'*) quote= ;;
+*) quote='"' ;;
+esac
 pc() {
     cat <<PC
 prefix=$prefix
@@ -60,8 +65,8 @@ libdir=\${prefix}/lib
 Name: $1
 Description: $2
 Version: $version
-Cflags: -I"\${includedir}"
-Libs: -L"\${libdir}" $3
+Cflags: -I$quote\${includedir}$quote
+Libs: -L$quote\${libdir}$quote $3
 PC
 }
 about='A proved stock store: a file over n shelf boards, any k give it back, up to r rebuilt together'
