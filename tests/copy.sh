@@ -1,16 +1,19 @@
 # tests/copy.sh, read with `.` by tests/install.sh and tests/dist.sh from the top folder: the tree as it stands in a folder of its own, and a prover for
 # it. What is tried there is what stands around the archive; that the archive is proved, ./test says.
 
-# copy FOLDER: the files that git knows or would take, changed ones too, as one commit of a fixed date in a repository of its own
+# files: those that git knows or would take, changed ones too; where the tree is no checkout, all but what was built
+files() {
+    if git rev-parse --git-dir >/dev/null 2>&1; then
+        git ls-files --cached --others --exclude-standard | while IFS= read -r file; do [ ! -f "$file" ] || printf '%s\n' "$file"; done
+    else
+        find . -name target -prune -o -type f -print
+    fi
+}
+# copy FOLDER: these files as one commit of a fixed date in a repository of its own
 copy() {
     mkdir -p "$1"
-    git ls-files --cached --others --exclude-standard | while IFS= read -r file; do [ ! -f "$file" ] || printf '%s\n' "$file"; done |
-        tar -c -T - -f - | tar -x -f - -C "$1"
-    (
-        cd "$1"
-        git init --quiet .
-        kept "a copy"
-    )
+    files | tar -c -T - -f - | tar -x -f - -C "$1"
+    (cd "$1" && git init --quiet . && kept "a copy")
 }
 # kept TEXT: all that lies in this folder as a commit
 kept() {

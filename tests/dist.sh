@@ -49,6 +49,7 @@ ok "two tarballs of one commit, made in different folders, have the same bytes"
 TZ=UTC tar --numeric-owner --full-time -tvf "$first" >"$own/listing"
 [ "$(awk '{ print $2, $4, $5 }' "$own/listing" | sort -u)" = '0/0 2026-01-02 03:04:05' ] || fail "other owners or times: $(head -n 3 "$own/listing")"
 tar -tf "$first" >"$own/names"
+sort "$own/names" | diff "$own/names" - || fail "the names are not sorted"
 awk '{ print $1 }' "$own/listing" | sort -u | tr '\n' ' ' >"$own/modes"
 [ "$(cat "$own/modes")" = '-rw-r--r-- -rwxr-xr-x drwxr-xr-x lrwxrwxrwx ' ] || fail "other modes: $(cat "$own/modes")"
 ok "names, owners, times, modes"
@@ -96,6 +97,7 @@ proof "commit            $commit, of 2026-01-02"
 proof 'toolchain         made-up 1'
 proof "crates            $crates in the tree"
 proof "must-fail edits   $edits in the tree"
+grep -qE '^bin/zbk needs     glibc 2\.[0-9.]+ or later$' "$here/PROOF" || fail "PROOF does not say which glibc zbk needs"
 proof 'last whole test   not run on this commit'
 proof "$(sha256sum <"$archive" | cut -d ' ' -f 1)"
 ok "PROOF, with no test run"
@@ -147,10 +149,11 @@ rm "$one/tools/left_over"
 for tool in git rt cargo gcc; do
     without "$own/without" $tool
     path=$PATH
+    # shellcheck disable=SC2123 # the path itself
     PATH=$own/without
     refuses 1 "$tool"
     PATH=$path
-    grep -qE "(^|: )$tool[ ,].*is not on the path" "$own/said" || fail "without $tool it says $(cat "$own/said")"
+    grep -qE "(^|: )${tool}[ ,].*is not on the path" "$own/said" || fail "without $tool it says $(cat "$own/said")"
 done
 mv "$one/.git" "$own/git"
 refuses 1 "$one is not a git checkout"
@@ -199,6 +202,7 @@ product() {
 { echo '.text' && sed 's/.*/.globl &\n.type &, @function\n&: ret/' "$own/calls" && echo '.section .note.GNU-stack,"",@progbits'; } >"$own/right.s"
 cp "$own/right.s" "$own/code.s"
 product ''
+# shellcheck disable=SC2016 # the assembler's sign
 sed 's/^zbk_read: ret$/zbk_read: movabs $zbk_share, %rax\nret/' "$own/right.s" >"$own/code.s"
 product 'its code is not position independent'
 sed '/zbk_read_text\>/d' "$own/right.s" >"$own/code.s"

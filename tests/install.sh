@@ -65,7 +65,7 @@ checked() {
 used() {
     include=$(sed -n 's/^    \(#include .*\)/\1/p' "$own/out")
     cc=$(sed -n 's/^    \(.*cc program\.c .*\)/\1/p' "$own/out")
-    [ -n "$include" ] && [ -n "$cc" ] || fail "$1: the two lines are not printed"
+    if [ -z "$include" ] || [ -z "$cc" ]; then fail "$1: the two lines are not printed"; fi
     rm -rf "$own/use"
     mkdir "$own/use"
     { printf '%s\n' "$include" && sed '/^#include "zebrankai\.h"$/d' examples/c/shelf.c; } >"$own/use/program.c"
@@ -75,7 +75,14 @@ used() {
     echo "ok installed and used: $1"
 }
 # taken PREFIX WHAT: each way to use it
-taken() { sh tests/take.sh "$1" >"$own/taken" 2>&1 || { cat "$own/taken" && fail "$2"; } && sed -n '/^skipped/p' "$own/taken" && echo "ok taken by pkg-config, CMake, zbk: $2"; }
+taken() {
+    if ! sh tests/take.sh "$1" >"$own/taken" 2>&1; then
+        cat "$own/taken"
+        fail "$2: it cannot be used in each way"
+    fi
+    sed -n '/^skipped/p' "$own/taken"
+    echo "ok used by pkg-config, by CMake, and zbk: $2"
+}
 
 install "$work/plain" || fail "a plain PREFIX: $(cat "$own/said")"
 checked "$work/plain" "$work/plain" "a plain PREFIX"
@@ -246,10 +253,11 @@ done
 for tool in rt cargo gcc; do
     without "$own/without" $tool
     path=$PATH
+    # shellcheck disable=SC2123 # the path itself
     PATH=$own/without
     refuses 1 "$tool" missing
     PATH=$path
-    grep -qE "(^|: )$tool[ ,].*is not on the path" "$own/said" || fail "without $tool it says $(cat "$own/said")"
+    grep -qE "(^|: )${tool}[ ,].*is not on the path" "$own/said" || fail "without $tool it says $(cat "$own/said")"
 done
 
 # where the archive is not proved, nothing is written: a copy, with a prover that proves nothing
