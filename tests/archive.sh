@@ -27,11 +27,7 @@ archive=${ZBK_ARCHIVE:-target/staticlib/libzebrankai.a}
 sh tests/prove_archive.sh || { echo "FAIL the archive: $archive"; exit 1; }
 echo "ok the archive: $archive"
 step "how far the proof is, as it is shown" sh tests/progress.sh
-if [ -z "${ZBK_ARCHIVE:-}" ]; then
-    step "./install, and a C program by its two lines" sh tests/install.sh
-else
-    echo "skipped ./install: it takes the proved archive alone"
-fi
+step "./install, and a C program by its two lines and each other way" sh tests/install.sh
 
 strict='-Wall -Wextra -Werror -Iinclude'
 # shellcheck disable=SC2086 # the options are words
