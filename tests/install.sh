@@ -1,5 +1,6 @@
 #!/bin/sh
 # ./install: what it writes and what not, that a C program compiles and runs by the two lines that it prints and by each other way (tests/take.sh), that
+# those of README.md do (tests/readme.sh), that
 # --uninstall leaves all as it was, and what it says where it cannot. Where pkg-config is not on the machine, the words are read from its file. Proves and
 # builds the archive first where that is not done; where ZBK_ARCHIVE names another one, seen from the top folder, a copy of the tree is tried, with a
 # made-up prover that hands that one over.
@@ -88,6 +89,7 @@ install "$work/plain" || fail "a plain PREFIX: $(cat "$own/said")"
 checked "$work/plain" "$work/plain" "a plain PREFIX"
 used "a plain PREFIX"
 taken "$work/plain" "a plain PREFIX"
+sh tests/readme.sh "$work/plain" || fail "the programs of README.md"
 version=$(sed -n 's/^version = "\(.*\)"$/\1/p' bindings/rust/Cargo.toml)
 cat >"$own/expected" <<END
 prefix=$work/plain
