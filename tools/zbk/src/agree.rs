@@ -22,7 +22,7 @@ const BLOCK: usize = 128;
 
 /// What texts show. `step` is called with the stripes that were looked at. Of more than k + 2 the first so many say the file: where all but one
 /// of all texts have shares of a file, all but one of these have. Whole shares count: a text that is wrong in one part is the odd one in all.
-pub fn shown(texts: &Texts, step: impl Fn(usize)) -> Result<Shown, Refusal> {
+fn shown(texts: &Texts, step: impl Fn(usize)) -> Result<Shown, Refusal> {
     let Read { sizes, length, .. } = *texts[0].1;
     let k = sizes.k;
     let first = if texts.len() < k + 2 { k } else { k + 2 };
@@ -76,8 +76,8 @@ fn odd_words(name: &str, others: usize, fit: &str) -> String {
 }
 
 /// The groups into which texts fall two by two, in words; or where to find more.
-fn groups_words(texts: &Texts) -> Result<String, Refusal> {
-    let Some(groups) = Pairs::of(texts, || ())?.groups().filter(|groups| groups.len() > 1) else {
+fn groups_words(texts: &Texts, quiet: bool) -> Result<String, Refusal> {
+    let Some(groups) = Pairs::told(texts, quiet)?.groups().filter(|groups| groups.len() > 1) else {
         return Ok("; 'zbk check' says which do not fit, and in which stripes".to_string());
     };
     if groups.len() == texts.len() {
@@ -107,7 +107,7 @@ fn disagree<T>(texts: &Texts, advice: &str, quiet: bool) -> Outcome<T> {
         return refused(Refusal::Disagree, format!("no file has the shares of {named}: {more}"));
     }
     let none = || -> Outcome<String> {
-        let groups = groups_words(texts).map_err(unforeseen)?;
+        let groups = groups_words(texts, quiet).map_err(unforeseen)?;
         Ok(format!("the texts of {named} do not agree, whichever one of them is left out{groups}"))
     };
     if texts.len() > k + 1 {
@@ -127,14 +127,14 @@ fn disagree<T>(texts: &Texts, advice: &str, quiet: bool) -> Outcome<T> {
 }
 
 /// What texts show, with a word on how far it is.
-fn looked_at(texts: &Texts, quiet: bool) -> Outcome<Shown> {
-    let progress = Progress::new("stripes gathered", texts[0].1.sizes.stripes(texts[0].1.length), quiet);
-    shown(texts, |stripes| progress.step(stripes)).map_err(unforeseen)
+pub fn looked_at(texts: &Texts, what: &'static str, quiet: bool) -> Result<Shown, Refusal> {
+    let progress = Progress::new(what, texts[0].1.sizes.stripes(texts[0].1.length), quiet);
+    shown(texts, |stripes| progress.step(stripes))
 }
 
 /// Sees that all texts agree; else the refusal says which do not, as far as it can be told. `advice` is what to do with one at fault.
 pub fn all(texts: &Texts, advice: &str, quiet: bool) -> Outcome {
-    match looked_at(texts, quiet)? {
+    match looked_at(texts, "stripes checked", quiet).map_err(unforeseen)? {
         Shown::Agree(_) => Ok(()),
         Shown::Odd(_, place) => {
             let odd = odd_words(&texts[place].0.name, texts.len() - 1, "agree");
@@ -155,12 +155,12 @@ pub struct Gathered {
 
 /// What so many texts that agree show.
 pub fn agree_words(texts: usize, Sizes { n, k, .. }: Sizes) -> String {
-    let more = "one more would show whether one of them is wrong, two more which";
-    match texts {
-        all if all == k && k + 2 <= n => format!("from {}, and none is left to check them: {more}", count(all, "text")),
-        all if all == k => format!("from {}, and none is left to check them", count(all, "text")),
-        all => format!("{} agree; one that is wrong would show", count(all, "text")),
+    let all = count(texts, "text");
+    if texts > k {
+        return format!("{all} agree; one that is wrong would show");
     }
+    let more = if k + 2 <= n { ": one more would show whether one of them is wrong, two more which" } else { "" };
+    format!("{all} fit together, and none is left to check them{more}")
 }
 
 /// The file that all texts agree on, or all but one of k + 2 or more; else the refusal that says which do not.
@@ -171,7 +171,7 @@ pub fn gathered(texts: &Texts, quiet: bool) -> Outcome<Gathered> {
         used.sort_unstable();
         format!("{} from {}", count(length, "byte"), boards(&used))
     };
-    match looked_at(texts, quiet)? {
+    match looked_at(texts, "stripes gathered", quiet).map_err(unforeseen)? {
         Shown::Agree(file) => {
             let shown = format!("{}; {}", agree_words(texts.len(), texts[0].1.sizes), from(file.len(), None));
             Ok(Gathered { file, shown, odd: false })

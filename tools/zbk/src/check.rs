@@ -39,13 +39,13 @@ impl<'a> Checked<'a> {
         boards.sort_unstable();
         boards.dedup();
         let Read { sizes, length, .. } = *texts[0].1;
-        let progress = Progress::new("texts held to the others", texts.len(), quiet);
-        let pairs = Pairs::of(&texts, || progress.step(1))?;
-        drop(progress);
         let enough = boards.len() >= sizes.k;
         let different = boards.len() == texts.len();
-        let agree = enough && different && matches!(agree::shown(&texts, |_| ())?, Shown::Agree(_));
-        let progress = Progress::new("stripes checked", sizes.stripes(length), quiet);
+        let agree =
+            enough && different && matches!(agree::looked_at(&texts, "stripes checked", quiet)?, Shown::Agree(_));
+        // texts that agree also fit two by two
+        let pairs = if agree { Pairs::all_fit(texts.len()) } else { Pairs::told(&texts, quiet)? };
+        let progress = Progress::new("stripes looked at", sizes.stripes(length), quiet);
         let stripes = (enough && !agree).then(|| Stripes::of(&texts, |stripes| progress.step(stripes))).transpose()?;
         Ok(Checked { texts, copies, boards, agree, pairs, stripes })
     }
@@ -101,7 +101,8 @@ impl<'a> Checked<'a> {
         let mut said = String::new();
         let most = most_wrong(all, k);
         if wrong.iter().any(|list| !list.is_empty()) {
-            said.push_str(&format!("stripe by stripe, if at most {most} of the {all} are wrong in one:\n"));
+            let are = if most == 1 { "is" } else { "are" };
+            said.push_str(&format!("stripe by stripe, if at most {most} of the {all} {are} wrong in each:\n"));
         }
         for (place, list) in wrong.iter().enumerate().filter(|(_, list)| !list.is_empty()) {
             said.push_str(&format!("  {} is wrong in {} of {stripes}: {}\n", self.name(place), list.len(), of(list)));
@@ -110,7 +111,7 @@ impl<'a> Checked<'a> {
             let told = if k + 2 <= self.sizes().n { format!("; {} texts can tell", k + 2) } else { String::new() };
             said.push_str(&format!("not all are right in {}{told}\n", of(untold)));
         } else if !untold.is_empty() {
-            said.push_str(&format!("more than {most} are wrong in {}, and it cannot be told which\n", of(untold)));
+            said.push_str(&format!("it cannot be told which are wrong in {}\n", of(untold)));
         }
         said
     }
@@ -118,7 +119,7 @@ impl<'a> Checked<'a> {
     /// Which texts fit each other: their groups where they fall into some, else of each text those that it does not fit.
     fn pairs_words(&self) -> String {
         if self.all_fit() {
-            return "two by two all fit each other\n".to_string();
+            return if self.enough() { "two by two all fit each other\n".to_string() } else { String::new() };
         }
         let mut said = String::new();
         if let Some(groups) = self.pairs.groups() {

@@ -108,7 +108,7 @@ one board.
 Where they do not agree:
   stripe by stripe   which texts are wrong, of k + 2 texts or more: where at
                      most (m - k) / 2 of m texts are wrong in a stripe, they are
-                     named, in each stripe for itself
+                     named, in each stripe for itself; stripes are counted from 0
   two by two         which texts fit each other, by the packets that their
                      boards send each other as helpers: texts of two robots fall
                      into their groups, also where there are fewer than k. That

@@ -2,6 +2,7 @@
 //! two, exchanged: both boards know them. So texts of two files fall into their groups, however many there are of each.
 
 use crate::part::Texts;
+use crate::progress::Progress;
 use crate::texts::Read;
 use zebrankai::{board, Refusal};
 
@@ -30,15 +31,21 @@ fn apart(one: &Read, other: &Read) -> Result<usize, Refusal> {
 }
 
 impl Pairs {
-    /// `step` is called for each text.
-    pub fn of(texts: &Texts, step: impl Fn()) -> Result<Pairs, Refusal> {
-        let mut pairs = Pairs { apart: vec![vec![0; texts.len()]; texts.len()] };
+    /// So many texts that all fit.
+    pub fn all_fit(count: usize) -> Pairs {
+        Pairs { apart: vec![vec![0; count]; count] }
+    }
+
+    /// Holds texts to each other, with a word on how far it is.
+    pub fn told(texts: &Texts, quiet: bool) -> Result<Pairs, Refusal> {
+        let progress = Progress::new("texts held to the others", texts.len(), quiet);
+        let mut pairs = Pairs::all_fit(texts.len());
         for (place, (_, one)) in texts.iter().enumerate() {
             for (before, (_, other)) in texts[..place].iter().enumerate() {
                 let stripes = apart(one, other)?;
                 (pairs.apart[place][before], pairs.apart[before][place]) = (stripes, stripes);
             }
-            step();
+            progress.step(1);
         }
         Ok(pairs)
     }
@@ -71,7 +78,7 @@ mod tests {
 
     /// Texts of which these two by two do not fit.
     fn groups(count: usize, apart: &[(usize, usize)]) -> Option<Vec<Vec<usize>>> {
-        let mut pairs = Pairs { apart: vec![vec![0; count]; count] };
+        let mut pairs = Pairs::all_fit(count);
         for &(one, other) in apart {
             (pairs.apart[one][other], pairs.apart[other][one]) = (1, 1);
         }
