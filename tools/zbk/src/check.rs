@@ -28,7 +28,8 @@ struct Checked<'a> {
 
 impl<'a> Checked<'a> {
     fn of(given: &Texts<'a>, quiet: bool) -> Result<Checked<'a>, Refusal> {
-        let (mut texts, mut copies): (Vec<(&Text, &Read)>, Vec<(&str, &str)>) = (Vec::new(), Vec::new());
+        let mut texts: Vec<(&Text, &Read)> = Vec::new();
+        let mut copies = Vec::new();
         for &(text, read) in given {
             match texts.iter().find(|(_, other)| other.node == read.node && other.share == read.share) {
                 Some((before, _)) => copies.push((text.name.as_str(), before.name.as_str())),

@@ -4,7 +4,7 @@ use crate::args::{Takes, Words};
 use crate::files;
 use crate::json::Value;
 use crate::spread::{answered, broken_rule};
-use crate::trouble::{given, refused, Outcome, Trouble};
+use crate::trouble::{count, given, refused, Outcome, Trouble};
 use zebrankai::{Refusal, Sizes, MAX_BOARDS, MAX_STRIPES};
 
 pub const SIZES: Takes =
@@ -133,6 +133,7 @@ fn table(sizes: Sizes, length: Option<usize>) -> String {
     let Cost { storage, least, one, together, fetched } = Cost::of(sizes);
     let careful =
         if k + 2 <= n { format!("{} boards name one that is wrong", k + 2) } else { "too few boards".to_string() };
+    let others = if r > 1 { format!(" and {}", count(r - 1, "other")) } else { String::new() };
     let mut rows = vec![
         ("sizes", format!("n={n} k={k} d={d} r={r}")),
         ("a stripe", format!("{} bytes of the file, {} on each board", sizes.stripe_len(), sizes.share_len())),
@@ -140,7 +141,7 @@ fn table(sizes: Sizes, length: Option<usize>) -> String {
         ("may be lost", format!("{} of {n} boards, and the file is read; with {d} left, boards are rebuilt", n - k)),
         ("careful read", careful),
         ("storage", format!("{storage:.2} times the file; the least for these n and k is {least:.2}")),
-        ("one rebuilt", format!("{one:.2} of the file over the bus, from {d} helpers and {} others", r - 1)),
+        ("one rebuilt", format!("{one:.2} of the file over the bus, from {}{others}", count(d, "helper"))),
     ];
     if r > 1 {
         let against = format!("{fetched:.2} where one fetches the file for all");
