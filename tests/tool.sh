@@ -304,6 +304,7 @@ damaged() {
     try 1 gather broken kept/board-1.txt kept/board-3.txt kept/board-4.txt -o none
     said "TEXT (12): of 4 texts given, one is no text"
     said "broken: line $2, place $3: expected $4"
+    said "'zbk "
     try 1 look broken
     out "not readable: line $2, place $3: expected $4"
     [ ! -e none ] || fail "$what: it wrote a file"
@@ -368,6 +369,7 @@ try 1 gather broken shattered kept/board-1.txt kept/board-4.txt kept/board-5.txt
 said 'of 6 texts given, 2 are no texts'
 said 'broken: line 3'
 said 'shattered: line 2'
+said "  copy such a text again, whole, from where it was written; 'zbk look' says how far it makes sense"
 said 'the other 4 are enough, since k = 4'
 # four others that are of two boards, or of two files, are not enough
 try 1 gather broken kept/board-1.txt kept/board-1.txt kept/board-3.txt kept/board-3.txt -o none
@@ -727,7 +729,7 @@ try 1 check kept wider/board-0.txt
 out 'the texts are of 2 files'
 out "n=8 k=4 d=6 r=2 points 0 to 7 length=$(wc -c <stock):"
 out '8 texts agree; one that is wrong would show; boards 0 to 7'
-out '1 text of board 0 fit each other two by two; k = 4 are needed to say more, 3 more'
+out '1 text of board 0; k = 4 are needed to say more, 3 more'
 # where there are no k + 2 boards
 try 1 check three
 out "not all are right in stripe 0"
@@ -767,6 +769,7 @@ tidied() {
     try 1 gather untidy kept/board-1.txt kept/board-3.txt kept/board-4.txt -o none
     said 'TEXT (12): of 4 texts given, one is no text'
     said "    'zbk tidy' makes it a text: $1"
+    unsaid 'copy such a text again'
     try 1 look untidy
     out "        'zbk tidy' makes it a text: $1"
     rm -f tidied

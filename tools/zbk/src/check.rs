@@ -74,8 +74,9 @@ impl<'a> Checked<'a> {
         let mut said = if self.agree {
             format!("{}; {boards}\n", agree_words(self.texts.len(), self.sizes()))
         } else if !self.enough() && self.all_fit() {
+            let fit = if self.texts.len() > 1 { " fit each other two by two" } else { "" };
             let more = k - self.boards.len();
-            format!("{texts} of {boards} fit each other two by two; k = {k} are needed to say more, {more} more\n")
+            format!("{texts} of {boards}{fit}; k = {k} are needed to say more, {more} more\n")
         } else {
             format!("{texts} of {boards} do not agree\n")
         };

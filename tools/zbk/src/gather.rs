@@ -42,7 +42,7 @@ pub fn gather(words: &Words) -> Outcome {
 }
 
 /// Sees that there are k texts; else the refusal says which boards are missing.
-pub fn enough(texts: &[(&Text, &Read)]) -> Outcome {
+fn enough(texts: &[(&Text, &Read)]) -> Outcome {
     let Sizes { n, k, .. } = texts[0].1.sizes;
     let mut have: Vec<usize> = texts.iter().map(|(_, read)| read.node).collect();
     have.sort_unstable();

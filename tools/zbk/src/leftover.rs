@@ -26,8 +26,11 @@ pub fn temporary(number: usize) -> String {
 
 /// Whether a process of this machine is this tool, and not this very process, which has begun no file yet.
 fn runs(process: &str) -> bool {
-    let tool = |process: &str| fs::read(format!("/proc/{process}/comm")).ok();
-    process != std::process::id().to_string() && tool(process).is_some_and(|name| Some(name) == tool("self"))
+    let name = |process: &str| fs::read(format!("/proc/{process}/comm")).ok();
+    let program = |process: &str| fs::read_link(format!("/proc/{process}/exe")).ok();
+    let same = name(process).is_some_and(|other| Some(other) == name("self"))
+        || program(process).is_some_and(|other| Some(other) == program("self"));
+    same && process != std::process::id().to_string()
 }
 
 /// Whether a file is one that an interrupted run left.

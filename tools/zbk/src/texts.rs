@@ -222,11 +222,13 @@ pub fn load_file(name: &OsStr) -> Result<Vec<Text>, Unread> {
 pub fn readable(texts: &[Text]) -> Outcome<Vec<(&Text, &Read)>> {
     let mut readable: Vec<(&Text, &Read)> = Vec::new();
     let mut faults = Vec::new();
+    let mut again = false;
     for text in texts {
         match &text.read {
             Ok(read) => readable.push((text, read)),
             Err(unreadable) if unreadable.refusal == Refusal::Text => {
-                faults.push(format!("{}: {}{}", text.name, unreadable.why, unreadable.remedy()))
+                faults.push(format!("{}: {}{}", text.name, unreadable.why, unreadable.remedy()));
+                again |= unreadable.tidy.is_none();
             }
             Err(Unreadable { refusal, .. }) => return Err(unforeseen(*refusal)),
         }
@@ -236,6 +238,11 @@ pub fn readable(texts: &[Text]) -> Outcome<Vec<(&Text, &Read)>> {
     }
     let none = if faults.len() == 1 { "one is no text".to_string() } else { format!("{} are no texts", faults.len()) };
     let mut what = format!("of {} given, {none}\n  {}", count(texts.len(), "text"), faults.join("\n  "));
+    if again {
+        what.push_str(
+            "\n  copy such a text again, whole, from where it was written; 'zbk look' says how far it makes sense",
+        );
+    }
     if let Some((_, first)) = readable.first() {
         let k = first.sizes.k;
         let mut have: Vec<usize> = readable.iter().map(|(_, read)| read.node).collect();
