@@ -710,6 +710,28 @@ awk 'BEGIN { srand(1) } { gsub(/[0-9]/, "7"); print }' stock >stock3
 try 0 spread stock3 third-robot -n 8 -k 4 -d 6 -r 2
 try 1 check kept/board-0.txt second-robot/board-1.txt third-robot/board-2.txt
 out '  fits none: third-robot/board-2.txt'
+# with k = 2 two texts fit just where these two give a file, whichever digit is another one
+try 0 spread stock five -n 5 -k 2 -d 3 -r 2
+fitting=0 apart=0
+for place in $(seq 0 13); do
+    cp five/board-0.txt digit
+    digit=$(sed -n "s/^data=.\{$place\}\(.\).*/\1/p" digit | tr 0123456789abcdef 123456789abcdef0)
+    sed "s/^\(data=.\{$place\}\)./\1$digit/" five/board-0.txt >digit
+    due=0
+    for board in 1 2 3 4; do
+        if "$zbk" gather digit five/board-$board.txt >"$own/out" 2>"$own/said"; then
+            due=$due,0
+            fitting=$((fitting + 1))
+        else
+            due=$due,1
+            apart=$((apart + 1))
+        fi
+    done
+    try 1 check digit five/board-[1-4].txt --json
+    out "{\"text\":\"digit\",\"board\":0,\"wrong_stripes\":[0],\"misfit_stripes\":[$due]}"
+done
+[ "$fitting" -gt 3 ] || fail "a wrong digit that one other text does not show: $fitting times"
+[ "$apart" -gt 3 ] || fail "a wrong digit that one other text shows: $apart times"
 # two of one board: the same one is told, another one does not fit
 try 0 check kept kept/board-3.txt
 out '8 texts agree'
