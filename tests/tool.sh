@@ -717,18 +717,18 @@ for place in $(seq 0 13); do
     cp five/board-0.txt digit
     digit=$(sed -n "s/^data=.\{$place\}\(.\).*/\1/p" digit | tr 0123456789abcdef 123456789abcdef0)
     sed "s/^\(data=.\{$place\}\)./\1$digit/" five/board-0.txt >digit
-    due=0
+    row=0
     for board in 1 2 3 4; do
         if "$zbk" gather digit five/board-$board.txt >"$own/out" 2>"$own/said"; then
-            due=$due,0
+            row=$row,0
             fitting=$((fitting + 1))
         else
-            due=$due,1
+            row=$row,1
             apart=$((apart + 1))
         fi
     done
     try 1 check digit five/board-[1-4].txt --json
-    out "{\"text\":\"digit\",\"board\":0,\"wrong_stripes\":[0],\"misfit_stripes\":[$due]}"
+    out "{\"text\":\"digit\",\"board\":0,\"wrong_stripes\":[0],\"misfit_stripes\":[$row]}"
 done
 [ "$fitting" -gt 3 ] || fail "a wrong digit that one other text does not show: $fitting times"
 [ "$apart" -gt 3 ] || fail "a wrong digit that one other text shows: $apart times"
