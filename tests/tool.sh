@@ -273,7 +273,8 @@ said "zbk: 5 texts agree; one that is wrong would show; $(wc -c <stock) bytes fr
 # just four: none is left to check them
 try 0 gather kept/board-2.txt kept/board-1.txt kept/board-3.txt kept/board-4.txt
 whole "$own/out" stock
-said "zbk: 4 texts fit together, and none is left to check them: one more would show whether one of them is wrong, two more which; $(wc -c <stock) bytes from boards 1 to 4"
+said 'zbk: 4 texts fit together, and none is left to check them: one more would show whether one of them is wrong, two more which; '
+said "which; $(wc -c <stock) bytes from boards 1 to 4"
 for texts in kept 'kept/board-2.txt kept/board-1.txt kept/board-3.txt kept/board-4.txt'; do
     # shellcheck disable=SC2086
     try 0 gather $texts --quiet
@@ -443,7 +444,8 @@ for order in 'altered kept/board-1.txt kept/board-3.txt kept/board-4.txt kept/bo
     try 0 gather $order
     whole "$own/out" stock
     # shellcheck disable=SC2086
-    said "zbk: altered does not fit the other $(($(set -- $order && echo $#) - 1)) texts, which agree: if one text alone is wrong, it is this one; $(wc -c <stock) bytes from boards "
+    said "zbk: altered does not fit the other $(($(set -- $order && echo $#) - 1)) texts, which agree: if one text alone is wrong, it is this one; "
+    said "this one; $(wc -c <stock) bytes from boards "
     # shellcheck disable=SC2086
     try 0 gather $order --quiet -o odd
     whole odd stock
@@ -452,7 +454,8 @@ for order in 'altered kept/board-1.txt kept/board-3.txt kept/board-4.txt kept/bo
 done
 try 0 gather kept/board-1.txt altered0 kept/board-3.txt kept/board-4.txt kept/board-7.txt kept/board-2.txt
 whole "$own/out" stock
-said "zbk: altered0 does not fit the other 5 texts, which agree: if one text alone is wrong, it is this one; $(wc -c <stock) bytes from boards 1, 2, 3, 4 and 7"
+said 'zbk: altered0 does not fit the other 5 texts, which agree: if one text alone is wrong, it is this one; '
+said "this one; $(wc -c <stock) bytes from boards 1, 2, 3, 4 and 7"
 # each digit of a share: five texts show it, six name it; four show it at some digits only, and else give another file
 share=$(sed -n 's/^data=//p' kept/board-2.txt | cut -c 1-26)
 shown=0 missed=0
@@ -758,10 +761,10 @@ out "not all are right in stripe 0"
 if grep -q 'can tell' "$own/out"; then fail "$what: it asked for more texts than there are boards"; fi
 # as JSON
 try 0 check three/board-1.txt three/board-2.txt --json
-just "{\"agree\":true,\"files\":[{\"agree\":true,\"enough\":true,\"checked\":false,\"n\":3,\"k\":2,\"d\":2,\"r\":1,\"points\":[0,1,2],\"length\":$(wc -c <stock),\
-\"stripes\":$((($(wc -c <stock) + 5) / 6)),\"texts\":[{\"text\":\"three/board-1.txt\",\"board\":1,\"wrong_stripes\":[],\"misfit_stripes\":[0,0]},\
-{\"text\":\"three/board-2.txt\",\"board\":2,\"wrong_stripes\":[],\"misfit_stripes\":[0,0]}],\"copies\":[],\"groups\":[[0,1]],\"told_if_wrong_at_most\":0,\
-\"untold_stripes\":[]}],\"unreadable\":[]}"
+just "{\"agree\":true,\"files\":[{\"agree\":true,\"enough\":true,\"checked\":false,\"n\":3,\"k\":2,\"d\":2,\"r\":1,\"points\":[0,1,2],\
+\"length\":$(wc -c <stock),\"stripes\":$((($(wc -c <stock) + 5) / 6)),\"texts\":[{\"text\":\"three/board-1.txt\",\"board\":1,\"wrong_stripes\":[],\"misfit_stripes\":[0,0]},\
+{\"text\":\"three/board-2.txt\",\"board\":2,\"wrong_stripes\":[],\"misfit_stripes\":[0,0]}],\
+\"copies\":[],\"groups\":[[0,1]],\"told_if_wrong_at_most\":0,\"untold_stripes\":[]}],\"unreadable\":[]}"
 try 1 check worn broken --json
 out '{"agree":false,"files":[{"agree":false,"enough":true,"checked":false,"n":8,'
 out "{\"text\":\"worn/board-5.txt\",\"board\":5,\"wrong_stripes\":[5,9,10,11,$((stripes - 1))],"
@@ -769,8 +772,8 @@ out '"groups":null,"told_if_wrong_at_most":2,"untold_stripes":[]}],'
 out '"unreadable":[{"text":"broken","why":"line 1, place 4: '
 out '"tidy":"7 line ends made a line feed"}]}'
 try 0 look kept/board-3.txt --json
-just "[{\"text\":\"kept/board-3.txt\",\"readable\":true,\"board\":3,\"n\":8,\"k\":4,\"d\":6,\"r\":2,\"points\":[0,1,2,3,4,5,6,7],\"length\":$(wc -c <stock),\"stripes\":$stripes,\
-\"share\":$pairs}]"
+just "[{\"text\":\"kept/board-3.txt\",\"readable\":true,\"board\":3,\"n\":8,\"k\":4,\"d\":6,\"r\":2,\"points\":[0,1,2,3,4,5,6,7],\
+\"length\":$(wc -c <stock),\"stripes\":$stripes,\"share\":$pairs}]"
 try 1 look broken absent --json
 out '[{"text":"broken","readable":false,"why":"line 1, place 4: '
 out '"sense":"it makes sense up to line 1, place 3: \"n=8\"; then comes \"\\r\"","tidy":"7 line ends made a line feed"},'
@@ -846,8 +849,8 @@ try 0 tidy $text -q
 [ ! -s "$own/said" ] || fail "$what: it said something"
 # no digit of a count is joined, cut or made: refused, with the place, and nothing is written; tidy is no remedy then
 rm -f tidied
-for edit in 's/^length=\(.\)/length=\1 /' 's/^length=\(.\)/length=\1\n/' 's/^n=8/n=08/' 's/^n=8/n=/' 's/^node=2/node=Z/' 's/^data=./data=O/' 's/^data=./data=/' \
-    's/^data=./data=-/' '2d' 's/^k=4/k:4/' 's/^d=6/d=6,/' 's/^length=/len gth=/'; do
+for edit in 's/^length=\(.\)/length=\1 /' 's/^length=\(.\)/length=\1\n/' 's/^n=8/n=08/' 's/^n=8/n=/' 's/^node=2/node=Z/' \
+    's/^data=./data=O/' 's/^data=./data=/' 's/^data=./data=-/' '2d' 's/^k=4/k:4/' 's/^d=6/d=6,/' 's/^length=/len gth=/'; do
     sed "$edit" $text | sed 's/$/\r/' >untidy
     try 1 tidy untidy -o tidied
     said 'TEXT (12): nothing is written'
@@ -946,8 +949,8 @@ try 0 rebuild names --fresh 7 --force --json
 said 'names/board-1 (1).txt is not used: a copy of names/board-1.txt'
 said 'names/board-7 (1).txt is not used: a text of board 7, which is rebuilt; move it away'
 whole names/BOARD-7.TXT kept/board-7.txt
-[ "$(cat "$own/out")" = "{\"rebuilt\":[{\"board\":7,\"text\":\"names/BOARD-7.TXT\",\"helpers\":[0,1,2,3,4,5],\"stand_ins\":[6],\"exchanges\":[]}],\"stripes\":$stripes,\
-\"bytes_over_bus\":$((stripes * 13)),\"unused\":[{\"text\":\"names/board-7 (1).txt\",\"why\":\"a text of board 7, which is rebuilt; move it away\"},\
+[ "$(cat "$own/out")" = "{\"rebuilt\":[{\"board\":7,\"text\":\"names/BOARD-7.TXT\",\"helpers\":[0,1,2,3,4,5],\"stand_ins\":[6],\
+\"exchanges\":[]}],\"stripes\":$stripes,\"bytes_over_bus\":$((stripes * 13)),\"unused\":[{\"text\":\"names/board-7 (1).txt\",\"why\":\"a text of board 7, which is rebuilt; move it away\"},\
 {\"text\":\"names/board-1 (1).txt\",\"why\":\"a copy of names/board-1.txt\"}]}" ] || fail "$what: other JSON"
 try 0 rebuild names --fresh 7,1 --force
 whole names/board-1.txt kept/board-1.txt
@@ -956,7 +959,8 @@ try 1 rebuild names --fresh 7 --force
 said 'REPEAT (6): two texts are of board 2: names/board-2.txt; names/board-2 (1).txt'
 # spread says which it does not replace
 try 0 spread stock names -n 8 -k 4 -d 6 -r 2 --force
-said 'names also has texts under other names, which are not replaced: names/board-1 (1).txt; names/board-2 (1).txt; names/BOARD-6.TXT; names/BOARD-7.TXT; names/board-7 (1).txt'
+said 'names also has texts under other names, which are not replaced: names/board-1 (1).txt; names/board-2 (1).txt; names/BOARD-6.TXT; '
+said '; names/BOARD-7.TXT; names/board-7 (1).txt'
 rm -rf names
 # any bytes: a file, a folder, an output, joined to its option and not
 odd_name=$(printf 'b\377ck')
@@ -1081,7 +1085,8 @@ this file     length 6516, stripes 163, share 2119, text at most 4438, helper pa
 LINES
 whole "$own/out" "$own/due"
 try 0 sizes -n 32 -k 16 -d 24 -r 8 --json
-just '{"n":32,"k":16,"d":24,"r":8,"share":55,"stripe":640,"longest":2621440,"may_be_lost":16,"careful_read":18,"storage":2.75,"storage_least":2,"bus_one":0.0859,"bus_together":0.6875,"bus_together_fetched":1.4375}'
+out '{"n":32,"k":16,"d":24,"r":8,"share":55,"stripe":640,"longest":2621440,"may_be_lost":16,"careful_read":18,"storage":2.75,'
+out ',"storage_least":2,"bus_one":0.0859,"bus_together":0.6875,"bus_together_fetched":1.4375}'
 try 0 sizes -n 3 -k 2 -d 2 -r 1 --json --length 0
 out '"careful_read":null,'
 out '"file":{"length":0,"stripes":0,"share":0,"text_at_most":200,"helper_packet":0,"exchange_packet":0,"area":12,"bus_for_a_board":0}}'
@@ -1217,7 +1222,8 @@ try 0 spread stock lone -n 5 -k 1 -d 1 -r 1
 rm lone/board-4.txt
 alter lone/board-0.txt
 try 1 rebuild lone --fresh 4
-said 'DISAGREE (10): lone/board-0.txt does not fit the other 3 texts, which agree: if one text alone is wrong, it is this one; name it with --fresh, or move it away'
+said 'DISAGREE (10): lone/board-0.txt does not fit the other 3 texts, which agree: if one text alone is wrong, it is this one; '
+said 'this one; name it with --fresh, or move it away'
 is lone board-0.txt board-1.txt board-2.txt board-3.txt
 cp altered6 robot/board-6.txt
 refused 'DISAGREE (10): robot/board-6.txt does not fit the other 6 texts, which agree: if one text alone is wrong, it is this one; name it with' --fresh 2
