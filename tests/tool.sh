@@ -431,7 +431,8 @@ said 'DISAGREE (10): no file has the shares of boards 2, 1, 3 and 4'
 said 'with two texts more it can be told which'
 # the first byte of board 2's share is seen by board 1 alone of these
 try 1 gather altered kept/board-1.txt kept/board-3.txt kept/board-4.txt kept/board-7.txt -o none
-said 'DISAGREE (10): no file has the shares of boards 2, 1, 3, 4 and 7: if one alone is wrong, it is one of these; with a text more it can be told which'
+said 'DISAGREE (10): no file has the shares of boards 2, 1, 3, 4 and 7: if one alone is wrong, it is one of these; '
+said 'one of these; with a text more it can be told which'
 # of six or more it is named, wherever it stands, and the file is that of the others; board 0 too
 cp kept/board-0.txt altered0
 alter altered0
@@ -762,7 +763,8 @@ if grep -q 'can tell' "$own/out"; then fail "$what: it asked for more texts than
 # as JSON
 try 0 check three/board-1.txt three/board-2.txt --json
 just "{\"agree\":true,\"files\":[{\"agree\":true,\"enough\":true,\"checked\":false,\"n\":3,\"k\":2,\"d\":2,\"r\":1,\"points\":[0,1,2],\
-\"length\":$(wc -c <stock),\"stripes\":$((($(wc -c <stock) + 5) / 6)),\"texts\":[{\"text\":\"three/board-1.txt\",\"board\":1,\"wrong_stripes\":[],\"misfit_stripes\":[0,0]},\
+\"length\":$(wc -c <stock),\"stripes\":$((($(wc -c <stock) + 5) / 6)),\
+\"texts\":[{\"text\":\"three/board-1.txt\",\"board\":1,\"wrong_stripes\":[],\"misfit_stripes\":[0,0]},\
 {\"text\":\"three/board-2.txt\",\"board\":2,\"wrong_stripes\":[],\"misfit_stripes\":[0,0]}],\
 \"copies\":[],\"groups\":[[0,1]],\"told_if_wrong_at_most\":0,\"untold_stripes\":[]}],\"unreadable\":[]}"
 try 1 check worn broken --json
@@ -950,7 +952,8 @@ said 'names/board-1 (1).txt is not used: a copy of names/board-1.txt'
 said 'names/board-7 (1).txt is not used: a text of board 7, which is rebuilt; move it away'
 whole names/BOARD-7.TXT kept/board-7.txt
 [ "$(cat "$own/out")" = "{\"rebuilt\":[{\"board\":7,\"text\":\"names/BOARD-7.TXT\",\"helpers\":[0,1,2,3,4,5],\"stand_ins\":[6],\
-\"exchanges\":[]}],\"stripes\":$stripes,\"bytes_over_bus\":$((stripes * 13)),\"unused\":[{\"text\":\"names/board-7 (1).txt\",\"why\":\"a text of board 7, which is rebuilt; move it away\"},\
+\"exchanges\":[]}],\"stripes\":$stripes,\"bytes_over_bus\":$((stripes * 13)),\
+\"unused\":[{\"text\":\"names/board-7 (1).txt\",\"why\":\"a text of board 7, which is rebuilt; move it away\"},\
 {\"text\":\"names/board-1 (1).txt\",\"why\":\"a copy of names/board-1.txt\"}]}" ] || fail "$what: other JSON"
 try 0 rebuild names --fresh 7,1 --force
 whole names/board-1.txt kept/board-1.txt
@@ -1226,7 +1229,7 @@ said 'DISAGREE (10): lone/board-0.txt does not fit the other 3 texts, which agre
 said 'this one; name it with --fresh, or move it away'
 is lone board-0.txt board-1.txt board-2.txt board-3.txt
 cp altered6 robot/board-6.txt
-refused 'DISAGREE (10): robot/board-6.txt does not fit the other 6 texts, which agree: if one text alone is wrong, it is this one; name it with' --fresh 2
+refused 'DISAGREE (10): robot/board-6.txt does not fit the other 6 texts, which agree: if one text alone is wrong, it is this one; ' --fresh 2
 cp others/board-6.txt robot/board-6.txt
 refused 'MIXED (13)' --fresh 2
 
@@ -1492,7 +1495,8 @@ said 'zbk: removed 1 file that an interrupted run left in '
 is stopped back drawn .zbk-notes .zbk-1-2-x .zbk-0-1-2 .zbk-123-1 .zbk-0-123-0
 reader=
 # one with this process's own number is none that it has begun
-sh -c 'echo mine >"stopped/.zbk-$2-$$-0" && exec "$1" gather kept -o stopped/again' sh "$zbk" "$machine" >"$own/out" 2>"$own/said" || fail "$what: exit code $?"
+sh -c 'echo mine >"stopped/.zbk-$2-$$-0" && exec "$1" gather kept -o stopped/again' sh "$zbk" "$machine" >"$own/out" 2>"$own/said" ||
+    fail "$what: exit code $?"
 said 'zbk: removed 1 file that an interrupted run left in '
 whole stopped/again stock
 rm -r stopped
