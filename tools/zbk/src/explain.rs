@@ -16,7 +16,8 @@ pub fn explain(words: &Words) -> Outcome {
     if words.rest.is_empty() {
         return Err(words.wrong("which refusal? Name it by number or name"));
     }
-    let refusals: Vec<Refusal> = words.rest.iter().map(|word| refusal(words, word)).collect::<Outcome<_>>()?;
+    let refusals: Vec<Refusal> =
+        words.rest.iter().map(|word| refusal(words, words.plain(word)?)).collect::<Outcome<_>>()?;
     let mut said = String::new();
     for (place, refusal) in refusals.into_iter().enumerate() {
         if place > 0 {
