@@ -205,18 +205,18 @@ try 0 spread stock new/joined --boards=8 --read=4 --helpers=6 --fresh=2 -q
 [ ! -s "$own/out" ] || fail "$what: it reported"
 diff -r new/deep new/joined >&2 || fail "$what: other texts"
 
-# ---- the session of the README, line by line
+# ---- the session of docs/TOOL.md, line by line
 mkdir session
 cp stock session
 # shellcheck disable=SC2016 # the marks are the page's
-sed -n '/A session, with a file/,/^`zbk look`/s/^    //p' "$top/README.md" >"$own/due"
-grep -q '^\$ zbk' "$own/due" || fail "the README has no session"
+sed -n '/A session, with a file/,/^`zbk look`/s/^    //p' "$top/docs/TOOL.md" >"$own/due"
+grep -q '^\$ zbk' "$own/due" || fail "docs/TOOL.md has no session"
 grep '^\$ ' "$own/due" | while IFS= read -r line; do
     printf '%s\n' "$line"
     (cd session && PATH=$(dirname "$zbk"):$PATH && export PATH && sh -c "${line#??}" 2>&1) || true
 done >"$own/session"
-diff "$own/due" "$own/session" >&2 || fail "the README's session is another one"
-cmp -s session/back stock || fail "the README's session gives another file"
+diff "$own/due" "$own/session" >&2 || fail "the session of docs/TOOL.md is another one"
+cmp -s session/back stock || fail "the session of docs/TOOL.md gives another file"
 passed=$((passed + 1))
 
 # ---- gather: from every four boards, in rising and in falling order

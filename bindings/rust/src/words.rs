@@ -150,17 +150,18 @@ impl Refusal {
                  is another file's. Do a careful read of k + 2 boards: where just one of them is wrong it gives the \
                  file and names that board, which is then taken out of service and rebuilt. Where that is DISAGREE \
                  too, two or more of them are wrong: try others, or write the file anew. That k boards do not \
-                 disagree does not show that none is altered. Of texts name k + 2 or more to zbk gather, which names \
-                 one that is wrong."
+                 disagree does not show that none is altered. Of texts name k + 2 or more to zbk check, which says \
+                 which of them are wrong, or fit each other two by two."
             }
             Refusal::Text => {
                 "Copy the text again, whole and unaltered: small letters, no blanks, no empty line, no line broken \
                  in two, each line ended by one line feed, nothing behind the last. zbk look says up to which line \
-                 and place it makes sense, and what was expected there."
+                 and place it makes sense, and what was expected there; zbk tidy undoes what mail and editors do to \
+                 a text, as CR LF, blanks, capitals and broken lines."
             }
             Refusal::Mixed => {
                 "Sort the texts by robot and by file, and gather only those of one file; zbk look shows sizes, \
-                 points and length of each."
+                 points and length of each, zbk check which fit each other."
             }
             Refusal::Serving => {
                 "See that the board named is the one that was changed. If it is, take it out of service first, and \
