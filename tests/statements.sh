@@ -13,9 +13,10 @@ trap 'rm -rf "$work"' EXIT
 bad=0
 complain() { echo "$page: $*"; bad=1; }
 
-# `crate/path: name, name`, `crate/path` and `edit crate/label`, each on one line; a name stands by itself, not as a part of another. Of bytes, and so of
-# no fewer than there are characters
+# `crate/path: name, name`, `crate/path` and `edit crate/label`, each on one line; a name stands by itself in the file, not as a part of another. Lengths
+# are in bytes, which are no fewer than the characters
 LC_ALL=C awk -v edits="$work/named" '
+    BEGIN { inside = "A-Za-z0-9_\200-\377-" }
     function complain(text) { print FILENAME ":" FNR ": " text; bad = 1 }
     # what is in a file, with a blank before and behind; nothing where there is none
     function within(file,   all) {
@@ -32,7 +33,7 @@ LC_ALL=C awk -v edits="$work/named" '
         if (within(file) == "") { complain("no file " file); return }
         n = at ? split(substr(span, at + 2), name, /[ ,]+/) : 0
         for (i = 1; i <= n; i++) if (!((file, name[i]) in stands)) {
-            if (match(within(file), "[^A-Za-z0-9_\200-\377-]" name[i] "[^A-Za-z0-9_\200-\377-]")) stands[file, name[i]]
+            if (name[i] ~ "^[" inside "]+$" && within(file) ~ "[^" inside "]" name[i] "[^" inside "]") stands[file, name[i]]
             else complain(file " has no " name[i])
         }
         many += n
