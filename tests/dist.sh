@@ -64,7 +64,7 @@ here="$here/$name"
     printf '%s\n' PROOF README SHA256SUMS bin/zbk include/zebrankai.h include/zebrankai_util.h lib/cmake/zebrankai/zebrankai-config-version.cmake \
         lib/cmake/zebrankai/zebrankai-config.cmake lib/libzebrankai.a lib/libzebrankai.so lib/libzebrankai.so.1 lib/pkgconfig/zebrankai-shared.pc \
         lib/pkgconfig/zebrankai.pc share/bash-completion/completions/zbk share/man/man1/zbk.1
-    for page in REFUSALS USE; do [ ! -f "docs/$page.md" ] || echo "share/doc/zebrankai/$page.md"; done
+    for page in CALLS.md REFUSALS.md TOOL.md USE.md boards.svg bus.svg; do echo "share/doc/zebrankai/$page"; done
     find examples -type f | sed 's,^,share/doc/zebrankai/,'
 } | sort >"$own/due"
 (cd "$here" && find . ! -type d | sed 's,^\./,,' | sort) | diff "$own/due" - || fail "other files"

@@ -747,9 +747,16 @@ out '  second-robot/board-3.txt is wrong in'
 # bytes that are no text, files that cannot be read, and texts of several files
 sed 's/$/\r/' kept/board-2.txt >broken
 try 1 check kept/board-[0134].txt broken absent
-out 'broken is no text: line 1, place 4: expected a digit or the end of the line, found a carriage return (byte 0D)'
+out 'broken is not readable: line 1, place 4: expected a digit or the end of the line, found a carriage return (byte 0D)'
 out "    'zbk tidy' makes it a text: 7 line ends made a line feed"
-out 'absent is no text: no such file'
+out 'absent is not readable: no such file'
+# where tidying does not help, what does is said; not of a file that is not there
+if grep -q 'copy such a text again' "$own/out"; then fail "$what: it asks for another copy"; fi
+head -n 7 kept/board-2.txt | head -c 200 >cut
+try 1 check kept/board-[0134].txt cut
+out 'cut is not readable: line 7, place '
+out 'copy such a text again, whole, from where it was written'
+rm cut
 out '4 texts fit together'
 try 1 check kept wider/board-0.txt
 out 'the texts are of 2 files'

@@ -113,9 +113,8 @@ for page in share/man/man1/zbk.1 share/bash-completion/completions/zbk; do
 done
 
 # ---- pages and examples
-for page in REFUSALS.md USE.md; do
-    [ ! -f "docs/$page" ] || cp "docs/$page" "$out/share/doc/zebrankai"
-done
+# those that a user turns to, with the drawings that they show: no link of one leads out of the folder
+for page in CALLS.md REFUSALS.md TOOL.md USE.md boards.svg bus.svg; do cp "docs/$page" "$out/share/doc/zebrankai"; done
 cp -R examples "$out/share/doc/zebrankai/examples"
 
 find "$out" -type d -exec chmod 755 {} +

@@ -210,7 +210,12 @@ pub fn check(words: &Words) -> Outcome {
 fn said(checked: &[Checked], unreadable: &[(&str, &Unreadable)]) -> String {
     let mut said = String::new();
     for (name, why) in unreadable {
-        said.push_str(&format!("{name} is no text: {}{}\n", why.why, why.remedy()));
+        said.push_str(&format!("{name} is not readable: {}{}\n", why.why, why.remedy()));
+    }
+    if unreadable.iter().any(|(_, why)| why.sense.is_some() && why.tidy.is_none()) {
+        said.push_str(
+            "copy such a text again, whole, from where it was written; 'zbk look' says how far it makes sense\n",
+        );
     }
     if checked.len() > 1 {
         said.push_str(&format!("the texts are of {} files\n", checked.len()));

@@ -44,7 +44,7 @@ fn refusal(words: &Words, word: &str) -> Result<Refusal, Trouble> {
         words.wrong(match number {
             Some(0) => "0 is no refusal: the call was accepted".to_string(),
             Some(11) => "11 is not used: no call answers it".to_string(),
-            _ => format!("no refusal {word}"),
+            _ => format!("no refusal {word}; their numbers are 1 to 17, without 11"),
         })
     })
 }
