@@ -39,6 +39,8 @@ grep -qF "$top/bindings/rust" "$own/rust/Cargo.toml" || fail "the dependency is 
 diff "$own/due" "$own/said" || fail "the Rust program prints something else"
 echo "ok both programs of README.md print what it says"
 
+# no word that was to be filled in
+! grep -nE '\b(TODO|TBD|XXX|[A-Z]*TIME[A-Z]*|PLACEHOLDER)\b' "$page" || fail "a word that was to be filled in"
 words=$(wc -w <"$page")
 [ "$words" -le 2500 ] || fail "$words words"
 for request in 1 2 3 4 5 6 7 8 9 10 11 12 13 14; do

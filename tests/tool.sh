@@ -35,6 +35,8 @@ try() {
     what="zbk $*"
     status=0
     "$zbk" "$@" >"$own/out" 2>"$own/said" || status=$?
+    # how far it is, which a busy machine brings about, is no part of what it says, but where that is tried
+    [ -n "${slow:-}" ] || sed -i '/^zbk: .*, [0-9]* of [0-9]* done$/d' "$own/said"
     [ "$status" -eq "$due" ] || fail "$what: exit code $status, not $due"
     # errors are on standard error, and only there
     if [ "$due" -eq 2 ] && [ -s "$own/out" ]; then fail "$what: it wrote to standard output"; fi
@@ -1307,8 +1309,10 @@ mkfifo slow/board-0.txt
     exec cat slow/board-0.txt >"$own/slow"
 ) &
 reader=$!
+slow=yes
 # shellcheck disable=SC2086
 try 0 spread stock slow $sizes
+slow=
 said 'zbk: shares worked out, 8 of 8 done'
 wait $reader
 reader=
