@@ -15,7 +15,7 @@
  * - It ends on all input, made-up records and lists included, with its result or with one refusal.
  * - It answers one number. zbk_refusal(answer) is 0 where the call was accepted, else the refusal's number. zbk_value(answer) is what an
  *   accepted call reports: the bytes written by a board-level call, the bytes of a text that make sense by zbk_text_prefix, the bytes moved by a
- *   repair, the packets carried by a step, else 0.
+ *   repair, the packets carried by a step, the odd board's number plus 1 by a careful read, else 0.
  *   zbk_trial_file alone answers no such number: it refuses nothing, and gives a state.
  * - After a refusal no word of a record and no byte of any buffer has changed.
  * - It keeps nothing between calls and allocates nothing.
@@ -23,8 +23,9 @@
  * What the caller owes: a pointer is followed by the number of its elements, and points to that many, aligned as their type asks; it is not
  * NULL, also where that number is 0; and what a call may change (record, repair, area, packets, out; head and points of zbk_read_text) does not
  * overlap anything else that the call is lent, and no other thread uses it meanwhile. Both records must be writable in every call that takes them, a
- * read and a refusal included: such a call may write words again as they are. A call takes less than 64 kB of stack, as measured; where
- * the C library's functions are bound late, the dynamic linker takes 3 kB more in the first call. size_t has 64 bits.
+ * read and a refusal included: such a call may write words again as they are. A call takes less than 64 kB of stack, but zbk_read_careful
+ * less than 84 kB, as measured; where the C library's functions are bound late, the dynamic linker takes 3 kB more in the first call. size_t has
+ * 64 bits.
  *
  * Lists of shares and packets are one buffer each, the pieces one after another in the order of their list of boards.
  */
@@ -68,7 +69,8 @@ enum zbk_refusal_number {
     ZBK_AREA = 2,
     /* The file is longer than the store's capacity, or than 4,096 stripes at board level. */
     ZBK_LONG = 3,
-    /* A list has the wrong number of boards, there are not 1 to r fresh boards, or the texts to gather are not k. */
+    /* A list has the wrong number of boards, not k + 2 of them for a careful read, or k + 2 is above n; there are not 1 to r fresh boards; or the texts
+     * to gather are not k. */
     ZBK_COUNT = 4,
     /* A board number is n or more. */
     ZBK_NODE = 5,
@@ -76,11 +78,12 @@ enum zbk_refusal_number {
     ZBK_REPEAT = 6,
     /* The output is shorter than what is to be written. */
     ZBK_SHORT = 7,
-    /* A repair, a read, an edit, a start or a step before any file was written. */
+    /* A repair, a read, a careful read, an edit, a start or a step before any file was written. */
     ZBK_EMPTY = 8,
     /* A board to read from, a helper or a stand-in is out of service. */
     ZBK_DOWN = 9,
-    /* No file of this length has these shares. */
+    /* No file of this length has these shares; of a careful read, none has all of them but one. No guard against altered bytes: k boards show that they
+     * fit together, not that none is altered, and often another file has them (zbk_read says what k, k + 1 and k + 2 boards show). */
     ZBK_DISAGREE = 10,
     /* The text is none that zbk_share_text writes. */
     ZBK_TEXT = 12,
@@ -246,9 +249,22 @@ uint64_t zbk_repair(uint64_t *record, size_t record_words, uint64_t *repair, siz
                     const size_t *fresh, size_t fresh_count, const size_t *helpers, size_t helpers_count, const size_t *stand_ins,
                     size_t stand_ins_count);
 
-/* Reads the file from k boards into the first bytes of out; the rest of out stays. What records and area say does not change. */
+/* Reads the file from k boards into the first bytes of out; the rest of out stays. What records and area say does not change.
+ *
+ * What boards show of altered bytes in service. k boards show that they fit together, not that none is altered: only the values that two of them share are
+ * compared, and a wrong byte on one of them often gives another file, accepted. Among k + 1 boards one that is wrong always shows: two reads of k of
+ * them that leave out different boards do not then both give the same file. Among k + 2 it is named, and the file is given all the same:
+ * zbk_read_careful. */
 uint64_t zbk_read(uint64_t *record, size_t record_words, uint64_t *repair, size_t repair_words, const uint8_t *area, size_t area_len,
                   const size_t *boards, size_t boards_count, uint8_t *out, size_t out_len);
+
+/* Reads the file from k + 2 boards of which one may answer wrong bytes, as a worn board does that is still in service: the file of which at least k + 1
+ * of them hold their shares goes to the first bytes of out; the rest of out stays. Reports 0 where all of them hold theirs; else the number of the odd
+ * board, the one that does not, plus 1, so that 1 is board 0. ZBK_DISAGREE just where there is no such file; there are never two. Shares count whole, all
+ * stripes and the padding of the last, so that two boards that are wrong in different stripes are not mended stripe by stripe. ZBK_COUNT also where k + 2
+ * is above n, whatever the list. What records and area say does not change: the odd board keeps its bytes and stays in service; lose it, and rebuild it. */
+uint64_t zbk_read_careful(uint64_t *record, size_t record_words, uint64_t *repair, size_t repair_words, const uint8_t *area, size_t area_len,
+                          const size_t *boards, size_t boards_count, uint8_t *out, size_t out_len);
 
 /* Puts `bytes` in the place of as many bytes of the file, from byte `offset` on: the file that reads give is from then on the edited one. Its length
  * stays; ZBK_RANGE where offset and bytes_len together are more than that. The old bytes are those that the k boards in service in `boards` hold, of
@@ -261,8 +277,8 @@ uint64_t zbk_edit(uint64_t *record, size_t record_words, uint64_t *repair, size_
 
 /* Repair a packet at a time, while the bus is shared. A start takes the lists of zbk_repair, refuses what that refuses, and carries nothing; steps
  * carry the packets, t * (d + r - 1) in all, as many in each as the caller allows. Until the last one the fresh boards are out of service and no step
- * changes the record or the area. Reads go on meanwhile, and losses; a write, an edit, a repair and a start are ZBK_BUSY. Stepped to its end, with no
- * bytes altered of boards in service and of packets carried, it leaves what zbk_repair would leave in the place of its last step. */
+ * changes the record or the area. Reads go on meanwhile, careful ones too, and losses; a write, an edit, a repair and a start are ZBK_BUSY. Stepped to
+ * its end, with no bytes altered of boards in service and of packets carried, it leaves what zbk_repair would leave in the place of its last step. */
 
 /* Starts a repair: writes the repair record. The area is asked for its length alone. */
 uint64_t zbk_start(uint64_t *record, size_t record_words, uint64_t *repair, size_t repair_words, const uint8_t *area, size_t area_len,

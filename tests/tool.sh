@@ -224,9 +224,23 @@ said 'REPEAT (6): two texts are of board 1'
 try 2 gather kept -o --force
 said '--output wants a value'
 [ ! -e ./--force ] || fail "$what: it wrote a file"
-# more than four: all must agree
+# more than four: all agree, which is said, but not into the file, and not where it is to be quiet
 try 0 gather kept
 whole "$own/out" stock
+said 'zbk: 8 texts agree; one that is wrong would show'
+try 0 gather kept/board-2.txt kept/board-1.txt kept/board-3.txt kept/board-4.txt kept/board-7.txt
+whole "$own/out" stock
+said 'zbk: 5 texts agree; one that is wrong would show'
+# just four: none is left to check them
+try 0 gather kept/board-2.txt kept/board-1.txt kept/board-3.txt kept/board-4.txt
+whole "$own/out" stock
+said 'zbk: from 4 texts, and none is left to check them: one more would show whether one of them is wrong, two more which'
+for texts in kept 'kept/board-2.txt kept/board-1.txt kept/board-3.txt kept/board-4.txt'; do
+    # shellcheck disable=SC2086
+    try 0 gather $texts --quiet
+    whole "$own/out" stock
+    [ ! -s "$own/said" ] || fail "$what: it said something"
+done
 try 1 gather nothing -o none
 said 'cannot read nothing: no such file'
 mkdir empty
@@ -375,23 +389,69 @@ said 'DISAGREE (10): no file has the shares of boards 2, 1, 3 and 4'
 said 'with two texts more it can be told which'
 # the first byte of board 2's share is seen by board 1 alone of these
 try 1 gather altered kept/board-1.txt kept/board-3.txt kept/board-4.txt kept/board-7.txt -o none
-said 'DISAGREE (10): the texts of boards 2, 1, 3, 4 and 7 agree if one of these is left out; with a text more it can be told which'
+said 'DISAGREE (10): one of the texts of boards 2, 1, 3, 4 and 7 is wrong: they agree if one of these is left out; with a text more it can be told which'
+# of six or more it is named, wherever it stands, and the file is that of the others; board 0 too
+cp kept/board-0.txt altered0
+alter altered0
 for order in 'altered kept/board-1.txt kept/board-3.txt kept/board-4.txt kept/board-7.txt kept/board-5.txt' \
-    'kept/board-1.txt kept/board-3.txt kept/board-4.txt kept/board-7.txt altered kept/board-0.txt'; do
+    'kept/board-1.txt kept/board-3.txt kept/board-4.txt kept/board-7.txt altered kept/board-0.txt' \
+    'kept/board-1.txt kept/board-3.txt kept/board-4.txt kept/board-7.txt kept/board-0.txt altered' \
+    'kept/board-1.txt kept/board-3.txt altered kept/board-7.txt kept/board-0.txt kept/board-6.txt kept/board-5.txt kept/board-4.txt' \
+    'kept/board-1.txt kept/board-3.txt kept/board-7.txt kept/board-0.txt kept/board-6.txt kept/board-5.txt kept/board-4.txt altered'; do
     # shellcheck disable=SC2086
-    try 1 gather $order -o none
-    said 'DISAGREE (10): altered disagrees with all others, which agree: leave it out'
+    try 0 gather $order
+    whole "$own/out" stock
+    # shellcheck disable=SC2086
+    said "zbk: altered is not as it was written; the other $(($(set -- $order && echo $#) - 1)) texts agree, and gave the file"
+    # shellcheck disable=SC2086
+    try 0 gather $order --quiet -o odd
+    whole odd stock
+    said 'zbk: altered is not as it was written'
+    rm odd
 done
+try 0 gather kept/board-1.txt altered0 kept/board-3.txt kept/board-4.txt kept/board-7.txt kept/board-2.txt
+whole "$own/out" stock
+said 'zbk: altered0 is not as it was written; the other 5 texts agree, and gave the file'
+# each digit of a share: five texts show it, six name it; four show it at some digits only, and else give another file
+share=$(sed -n 's/^data=//p' kept/board-2.txt | cut -c 1-26)
+shown=0 missed=0
+for place in $(seq ${#share}); do
+    digit=$(printf %s "$share" | cut -c "$place")
+    other=$(printf %s "$digit" | tr 0123456789abcdef 123456789abcdef0)
+    sed "s/^\(data=.\{$((place - 1))\}\)./\1$other/" kept/board-2.txt >digit
+    try 1 gather digit kept/board-1.txt kept/board-3.txt kept/board-4.txt kept/board-7.txt -o none
+    said 'DISAGREE (10): '
+    try 0 gather kept/board-1.txt digit kept/board-3.txt kept/board-4.txt kept/board-7.txt kept/board-6.txt
+    whole "$own/out" stock
+    said 'zbk: digit is not as it was written'
+    if "$zbk" gather digit kept/board-1.txt kept/board-3.txt kept/board-4.txt >"$own/out" 2>"$own/said"; then
+        missed=$((missed + 1))
+        said 'none is left to check them'
+        ! cmp -s "$own/out" stock || fail 'four texts of which one is wrong gave the file'
+    else
+        shown=$((shown + 1))
+    fi
+done
+[ "$shown" -gt 3 ] && [ "$missed" -gt 3 ] || fail "a wrong digit among four texts: shown at $shown, not at $missed"
 cp kept/board-6.txt altered6
 alter altered6
 try 1 gather altered altered6 kept/board-0.txt kept/board-1.txt kept/board-3.txt kept/board-4.txt -o none
 said 'DISAGREE (10): the texts of boards 2, 6, 0, 1, 3 and 4 do not agree, whichever one of them is left out'
+# also where one of the two is behind the first six, and where there are eight
+try 1 gather altered kept/board-0.txt kept/board-1.txt kept/board-3.txt kept/board-4.txt kept/board-7.txt altered6 -o none
+said 'DISAGREE (10): the texts of boards 2, 0, 1, 3, 4, 7 and 6 do not agree, whichever one of them is left out'
+try 1 gather kept/board-0.txt kept/board-1.txt kept/board-3.txt kept/board-4.txt kept/board-7.txt kept/board-5.txt altered altered6 -o none
+said 'do not agree, whichever one of them is left out'
 # where there are not so many boards, no more texts are asked for
 try 0 spread stock three -n 3 -k 2 -d 2 -r 1
 alter three/board-0.txt
 try 1 gather three -o none
-said 'DISAGREE (10): the texts of boards 0 to 2 agree if one of these is left out'
+said 'DISAGREE (10): one of the texts of boards 0 to 2 is wrong: they agree if one of these is left out'
 unsaid 'it can be told which'
+try 0 gather three/board-1.txt three/board-2.txt
+whole "$own/out" stock
+said 'zbk: from 2 texts, and none is left to check them'
+unsaid 'would show'
 # of just k texts one at fault shows at some places of its share, as at its second byte here
 sed -e 's/^\(data=..\)f/\10/' -e t -e 's/^\(data=..\)./\1f/' three/board-1.txt >second
 try 1 gather second three/board-2.txt -o none
@@ -638,8 +698,8 @@ refused 'MIXED (13)' --fresh 2
 # shellcheck disable=SC2086
 "$zbk" spread - - $sizes <stock >all 2>"$own/said" || fail 'spread to a pipe'
 cat kept/board-?.txt | cmp -s - all || fail 'spread to a pipe: other texts'
-"$zbk" gather - <all | cmp -s - stock || fail 'gather from a pipe'
-cat kept/board-6.txt kept/board-1.txt | "$zbk" gather - kept/board-0.txt kept/board-3.txt | cmp -s - stock || fail 'gather from a pipe and files'
+"$zbk" gather - --quiet <all | cmp -s - stock || fail 'gather from a pipe'
+cat kept/board-6.txt kept/board-1.txt | "$zbk" gather - kept/board-0.txt kept/board-3.txt --quiet | cmp -s - stock || fail 'gather from a pipe and files'
 "$zbk" look - <all >"$own/out" || fail 'look at a pipe'
 what='look -'
 out 'standard input, text 8      7'

@@ -6,8 +6,8 @@
  *
  * Three of its shares are also written as texts, as before boards are pulled for the workshop, and loaded again: one for its share, all three for
  * the file. Then two boards are rebuilt while the arm works, three packets at a time with reads in between; power fails in the middle, the file is
- * still there, and the repair is started anew. At last a carton is loaded: one pack count, four bytes of the file, is changed by an edit, and read back
- * from other boards.
+ * still there, and the repair is started anew. A worn board answers a wrong byte: a careful read of five boards gives the file all the same and names
+ * the board, which is rebuilt. At last a carton is loaded: one pack count, four bytes of the file, is changed by an edit, and read back from other boards.
  *
  * Build, from the top folder:  cc -std=c11 -Iinclude examples/c/shelf.c target/staticlib/libzebrankai.a -o shelf
  */
@@ -177,6 +177,37 @@ static int swap_while_working(uint64_t *record, uint64_t *repair, uint8_t *area,
     return same;
 }
 
+/* A careful read of five boards, two more than give the file; gives whether it gave the file and named this board, or none where that is N. */
+static int read_carefully(uint64_t *record, uint64_t *repair, const uint8_t *area, uint8_t *out, size_t length, size_t odd) {
+    const size_t five[K + 2] = {4, 0, 6, 1, 3};
+    memset(out, 0, length);
+    const uint64_t reported = accepted("careful read", zbk_read_careful(RECORDS, area, AREA, five, K + 2, out, length));
+    /* 0 is none, and 1 board 0 */
+    const int same = reported == (odd < N ? odd + 1 : 0) && memcmp(out, stock, length) == 0;
+    if (reported > 0) printf("careful read from boards 4, 0, 6, 1 and 3: board %llu is odd; ", (unsigned long long)reported - 1);
+    else printf("careful read from boards 4, 0, 6, 1 and 3: none is odd; ");
+    printf("%s\n", same ? "the file as it was written" : "ANOTHER FILE, OR ANOTHER BOARD");
+    return same;
+}
+
+/* Board 0 is worn: a byte of it is another one, and it stays in service. It is named, then lost and rebuilt from others. Gives whether all was right. */
+static int swap_worn(uint64_t *record, uint64_t *repair, uint8_t *area, uint8_t *out, size_t length) {
+    const size_t worn[1] = {0}, helpers[D] = {1, 2, 3, 4}, stand_ins[R - 1] = {5}, five[K + 2] = {4, 0, 6, 1, 3};
+    int same = read_carefully(record, repair, area, out, length, N);
+    area[worn[0] * CAPACITY * SHARE + 5] ^= 0x10;
+    same &= read_carefully(record, repair, area, out, length, worn[0]);
+
+    /* a second one, in another stripe: no file has the shares of four of the five */
+    area[6 * CAPACITY * SHARE + SHARE] ^= 0x10;
+    refused("a careful read of two worn boards", zbk_read_careful(RECORDS, area, AREA, five, K + 2, out, length), ZBK_DISAGREE);
+    area[6 * CAPACITY * SHARE + SHARE] ^= 0x10;
+    refused("a careful read of K boards", zbk_read_careful(RECORDS, area, AREA, five, K, out, length), ZBK_COUNT);
+
+    accepted("lose", zbk_lose(RECORDS, worn[0]));
+    accepted("repair of the worn board", zbk_repair(RECORDS, area, AREA, worn, 1, helpers, D, stand_ins, R - 1));
+    return same & read_carefully(record, repair, area, out, length, N);
+}
+
 /* Loads a carton of 24 bags: four bytes of the file, "120 ", become "144 ", without a rewrite. Three boards tell the old bytes, and three others give
  * the edited file back; gives whether it is that. */
 static int load_carton(uint64_t *record, uint64_t *repair, uint8_t *area, uint8_t *out, size_t length) {
@@ -231,6 +262,7 @@ static int robot(const uint8_t *points, uint8_t *area, uint8_t *out, size_t leng
     /* the text says the points where board i has another one than i */
     const int said = print_text(record, points, area, 4) == (points[0] != 0);
     if (!swap_while_working(record, repair, area, out, length)) return 0;
+    if (!swap_worn(record, repair, area, out, length)) return 0;
     if (!load_carton(record, repair, area, out, length)) return 0;
     const uint64_t board_moved = stripes_of(length) * (2 * D + R - 1);
     return same && said && moved_for_one == board_moved && moved == R * board_moved;

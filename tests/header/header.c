@@ -1,5 +1,5 @@
 /*
- * header.c: include/zebrankai.h held to the archive, in C11 and in C++11. Each constant is held to its number, written out here; each of the eighteen
+ * header.c: include/zebrankai.h held to the archive, in C11 and in C++11. Each constant is held to its number, written out here; each of the nineteen
  * calls is made with arguments that differ, and its whole answer, every word and every byte that it was lent, and those behind, are held to what must
  * stand there; and each refusal is brought about and held to its name.
  *
@@ -504,6 +504,82 @@ static void store(void) {
     repair_is(__LINE__, repair, &none_running);
 }
 
+/* A careful read that is accepted: what it reports, the file, and nothing else changed. */
+static void careful(int line, uint64_t *record, uint64_t *repair, const uint8_t *area, const size_t *boards, uint64_t due) {
+    uint64_t words[ZBK_RECORD_WORDS + 2], repair_words[ZBK_REPAIR_WORDS + 2];
+    uint8_t kept[AREA + 16];
+    memcpy(words, record, sizeof words);
+    memcpy(repair_words, repair, sizeof repair_words);
+    memcpy(kept, area, sizeof kept);
+    answers(line, zbk_read_careful(record, ZBK_RECORD_WORDS, repair, ZBK_REPAIR_WORDS, area, AREA, boards, 4, out, STOCK + 6), due << 8);
+    bytes_are(line, "another output of a careful read", out, (const uint8_t *)stock, STOCK, BLANK, ROOM);
+    memset(out, BLANK, ROOM);
+    check(line, memcmp(words, record, sizeof words) == 0, "a careful read changed the record");
+    check(line, memcmp(repair_words, repair, sizeof repair_words) == 0, "a careful read changed the repair");
+    check(line, memcmp(kept, area, sizeof kept) == 0, "a careful read changed the area");
+}
+
+/* One that is refused: nothing changed. */
+static void careful_refused(int line, uint64_t *record, uint64_t *repair, const uint8_t *area, const size_t *boards, size_t count, size_t room,
+                            uint64_t number) {
+    uint64_t words[ZBK_RECORD_WORDS + 2];
+    memcpy(words, record, sizeof words);
+    refused(line, zbk_read_careful(record, ZBK_RECORD_WORDS, repair, ZBK_REPAIR_WORDS, area, AREA, boards, count, out, room), number);
+    check(line, memcmp(words, record, sizeof words) == 0, "a refusal changed the record");
+}
+
+/* Careful reads of stock from the boards 7, 0, 3 and 8: with each byte of each board altered, with two boards wrong, and what is refused of them. */
+static void careful_reads(void) {
+    uint64_t record[ZBK_RECORD_WORDS + 2], repair[ZBK_REPAIR_WORDS + 2];
+    uint8_t area[AREA + 16];
+    const size_t four[4] = {7, 0, 3, 8}, five[5] = {9, 9, 4, 3, 8}, twice[4] = {4, 4, 3, 8}, down[4] = {4, 0, 3, 8}, all[4] = {3, 2, 1, 0};
+    memset(area, BLANK, sizeof area);
+    made_up(record, repair);
+    answers(__LINE__, zbk_set_up(record, ZBK_RECORD_WORDS, repair, ZBK_REPAIR_WORDS, 9, 2, 4, 3, odd, 32, CAPACITY), 0);
+    careful_refused(__LINE__, record, repair, area, five, 3, 0, ZBK_EMPTY);
+    refused(__LINE__, zbk_read_careful(record, ZBK_RECORD_WORDS, repair, ZBK_REPAIR_WORDS, area, AREA - 1, five, 3, out, 0), ZBK_AREA);
+    refused(__LINE__, zbk_read_careful(record, ZBK_RECORD_WORDS - 1, repair, ZBK_REPAIR_WORDS, area, AREA - 1, five, 3, out, 0), ZBK_SIZE);
+    refused(__LINE__, zbk_read_careful(record, ZBK_RECORD_WORDS, repair, ZBK_REPAIR_WORDS + 1, area, AREA - 1, five, 3, out, 0), ZBK_SIZE);
+    answers(__LINE__, zbk_write(record, ZBK_RECORD_WORDS, repair, ZBK_REPAIR_WORDS, area, AREA, (const uint8_t *)stock, STOCK), 0);
+    careful(__LINE__, record, repair, area, four, 0);
+    for (size_t i = 0; i < AREA; i++) {
+        /* of the 50 bytes of a board the first 30 are its share */
+        const size_t board = i / BOARD;
+        const int counts = i % BOARD < STOCK_SHARE && (board == 7 || board == 0 || board == 3 || board == 8);
+        area[i] ^= (uint8_t)(1 + i % 255);
+        careful(__LINE__, record, repair, area, four, counts ? board + 1 : 0);
+        area[i] ^= (uint8_t)(1 + i % 255);
+    }
+
+    answers(__LINE__, zbk_lose(record, ZBK_RECORD_WORDS, repair, ZBK_REPAIR_WORDS, 4), 0);
+    area[3 * BOARD + 2] ^= 0x99;
+    for (size_t stripe = 0; stripe < 3; stripe++) {
+        area[7 * BOARD + 10 * stripe] ^= 0x99;
+        careful_refused(__LINE__, record, repair, area, four, 4, STOCK, ZBK_DISAGREE);
+        careful_refused(__LINE__, record, repair, area, four, 4, STOCK - 1, ZBK_SHORT);
+        area[7 * BOARD + 10 * stripe] ^= 0x99;
+    }
+    for (size_t count = 0; count <= 5; count++)
+        if (count != 4) careful_refused(__LINE__, record, repair, area, five, count, 0, ZBK_COUNT);
+    careful_refused(__LINE__, record, repair, area, five, 4, 0, ZBK_NODE);
+    careful_refused(__LINE__, record, repair, area, twice, 4, 0, ZBK_REPEAT);
+    careful_refused(__LINE__, record, repair, area, down, 4, 0, ZBK_DOWN);
+    careful(__LINE__, record, repair, area, four, 4);
+
+    /* four boards of which three are read: k + 2 is above n */
+    uint8_t points[ZBK_MAX_BOARDS];
+    zbk_standard_points(points, 4);
+    answers(__LINE__, zbk_set_up(record, ZBK_RECORD_WORDS, repair, ZBK_REPAIR_WORDS, 4, 3, 3, 1, points, 32, 1), 0);
+    answers(__LINE__, zbk_write(record, ZBK_RECORD_WORDS, repair, ZBK_REPAIR_WORDS, area, 24, square, 12), 0);
+    for (size_t count = 0; count <= 5; count++)
+        refused(__LINE__, zbk_read_careful(record, ZBK_RECORD_WORDS, repair, ZBK_REPAIR_WORDS, area, 24, count < 5 ? all : five, count, out, 12), ZBK_COUNT);
+    /* two of them, and a file of no bytes: whatever the boards hold, none is odd */
+    answers(__LINE__, zbk_set_up(record, ZBK_RECORD_WORDS, repair, ZBK_REPAIR_WORDS, 4, 2, 3, 1, points, 32, 1), 0);
+    answers(__LINE__, zbk_write(record, ZBK_RECORD_WORDS, repair, ZBK_REPAIR_WORDS, area, 24, square, 0), 0);
+    answers(__LINE__, zbk_read_careful(record, ZBK_RECORD_WORDS, repair, ZBK_REPAIR_WORDS, area, 24, all, 4, out, 0), 0);
+    bytes_are(__LINE__, "a careful read of no bytes wrote some", out, out, 0, BLANK, ROOM);
+}
+
 /* What lies in the packet area of the boards 3 and 7 of stock, in the order carried: of the helpers 8, 0, 5, 6 and 2, 4, 8, 0, of the stand-ins 1 and 6,
  * and what the boards send each other. Where each of the twelve packets begins, and where the last one ends. */
 static const char lying[] = "aee31f91417b020a881002280eed9f262df3b5921e181fd06043461b526e215f298873a1f7b8e47040529ce288970301de06b701daf97b9fc87050e0";
@@ -579,11 +655,16 @@ static void starts(void) {
 static void meanwhile(uint64_t *record, uint64_t *repair, uint8_t *area, uint8_t *packets) {
     static const uint8_t too_long[CAPACITY * 18 + 1] = {1};
     const uint8_t *const file = (const uint8_t *)stock;
-    const size_t two[2] = {8, 2}, one_fresh[2] = {8, 3}, beyond[1] = {9};
+    const size_t two[2] = {8, 2}, one_fresh[2] = {8, 3}, beyond[1] = {9}, four[4] = {8, 2, 0, 5}, fresh_too[4] = {8, 2, 0, 7};
     answers(__LINE__, zbk_read(record, ZBK_RECORD_WORDS, repair, ZBK_REPAIR_WORDS, area, AREA, two, 2, out, STOCK + 6), 0);
     bytes_are(__LINE__, "another output of a read while a repair is running", out, file, STOCK, BLANK, ROOM);
     memset(out, BLANK, ROOM);
     refused(__LINE__, zbk_read(record, ZBK_RECORD_WORDS, repair, ZBK_REPAIR_WORDS, area, AREA, one_fresh, 2, out, STOCK), ZBK_DOWN);
+    careful(__LINE__, record, repair, area, four, 0);
+    area[5 * BOARD + 29] ^= 0x99;
+    careful(__LINE__, record, repair, area, four, 6);
+    area[5 * BOARD + 29] ^= 0x99;
+    careful_refused(__LINE__, record, repair, area, fresh_too, 4, STOCK, ZBK_DOWN);
     answers(__LINE__, zbk_write(record, ZBK_RECORD_WORDS, repair, ZBK_REPAIR_WORDS, area, AREA, too_long, sizeof too_long), ZBK_LONG);
     answers(__LINE__, zbk_write(record, ZBK_RECORD_WORDS, repair, ZBK_REPAIR_WORDS, area, AREA, file, STOCK), ZBK_BUSY);
     answers(__LINE__, zbk_edit(record, ZBK_RECORD_WORDS, repair, ZBK_REPAIR_WORDS, area, AREA, 0, file, 1, two, 2), ZBK_BUSY);
@@ -613,6 +694,7 @@ static void meanwhile(uint64_t *record, uint64_t *repair, uint8_t *area, uint8_t
         *(i < 6 ? &words[which[i]] : &other[which[i]]) = numbers[i];
         answers(__LINE__, zbk_step(other, ZBK_RECORD_WORDS, words, ZBK_REPAIR_WORDS, area, AREA, packets, 60, 1), ZBK_SIZE);
         refused(__LINE__, zbk_read(other, ZBK_RECORD_WORDS, words, ZBK_REPAIR_WORDS, area, AREA, two, 2, out, STOCK), ZBK_SIZE);
+        refused(__LINE__, zbk_read_careful(other, ZBK_RECORD_WORDS, words, ZBK_REPAIR_WORDS, area, AREA, four, 4, out, STOCK), ZBK_SIZE);
         answers(__LINE__, zbk_lose(other, ZBK_RECORD_WORDS, words, ZBK_REPAIR_WORDS, 0), ZBK_SIZE);
     }
 }
@@ -759,6 +841,7 @@ int main(void) {
     texts(points);
     trial_files();
     store();
+    careful_reads();
     starts();
     steps();
     power_fails();

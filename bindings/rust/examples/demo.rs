@@ -1,9 +1,10 @@
 //! The demo: a small stock file on eight shelf boards. Two boards are lost and rebuilt together, then two others one at a time, each with a board
 //! that stands in, and the file is read back from the four rebuilt boards only. A carton is loaded: one pack count is changed by an edit, without a
 //! rewrite, and read back from other boards than those that told the old one. Two more boards are rebuilt while the arm works, three packets at a time
-//! with reads in between; power fails in the middle, and the repair is started anew. Then the first file on a robot of the first series, whose boards
-//! have other points: two boards are lost and rebuilt, one of them is printed as text, and the file is read back. Prints what happens, board by
-//! board, and how many bytes the bus carried.
+//! with reads in between; power fails in the middle, and the repair is started anew. A board answers a wrong byte: a read of four boards takes it, and a
+//! careful read of six gives the right file and names the board, which is swapped. Then the first file on a robot of the first series, whose boards have
+//! other points: two boards are lost and rebuilt, one of them is printed as text, and the file is read back. Prints what happens, board by board, and
+//! how many bytes the bus carried.
 
 use std::error::Error;
 use zebrankai::{board, Points, Record, Sizes};
@@ -79,17 +80,30 @@ fn main() -> Result<(), Box<dyn Error>> {
     println!("\n14. The file is read from boards 1, 6, 0 and 7.\n");
     shelf.read(&[1, 6, 0, 7], edited.as_bytes())?;
 
-    println!("\n15. A robot of the first series keeps the first file. There board i has the point i + 1 and not i, so the boards");
+    println!("\n15. Board 5 is worn: a byte of it is another one, and it stays in service. A read of boards 5, 0, 2 and 3 sees that they fit");
+    println!("    together, and no more.\n");
+    shelf.wear(5);
+    shelf.read_wrongly(&[5, 0, 2, 3], edited.as_bytes())?;
+
+    println!("\n16. A careful read of six boards, two more than give the file back: 5, 0, 2, 3, 6 and 7.\n");
+    shelf.read_careful(&[5, 0, 2, 3, 6, 7], edited.as_bytes())?;
+
+    shelf.swap(17, &[5])?;
+
+    println!("\n19. The careful read once more.\n");
+    shelf.read_careful(&[5, 0, 2, 3, 6, 7], edited.as_bytes())?;
+
+    println!("\n20. A robot of the first series keeps the first file. There board i has the point i + 1 and not i, so the boards");
     println!("    hold other bytes.\n");
     let mut shelf = Shelf::write(Points::first_series(SIZES.n), file)?;
     shelf.print_boards();
 
-    shelf.swap(16, &[3, 4])?;
+    shelf.swap(21, &[3, 4])?;
 
-    println!("\n18. Board 3 is printed as text, which says the points of all boards.\n");
+    println!("\n23. Board 3 is printed as text, which says the points of all boards.\n");
     shelf.print_text(3)?;
 
-    println!("\n19. The file is read from boards 3, 4, 6 and 1.\n");
+    println!("\n24. The file is read from boards 3, 4, 6 and 1.\n");
     shelf.read(&[3, 4, 6, 1], file)
 }
 
@@ -126,6 +140,40 @@ impl Shelf {
                 read.len()
             ),
         }
+        Ok(())
+    }
+
+    /// A byte of a board's share becomes another one: the second, which no board shares with it but the next one by number.
+    fn wear(&mut self, board: usize) {
+        let byte = &mut self.area[board * CAPACITY * SIZES.share_len() + 1];
+        let was = *byte;
+        *byte ^= 0x10;
+        println!("    board {board}: byte 1: {was:02x}  became  {byte:02x}");
+    }
+
+    /// Reads the file from boards of which one is worn, and prints how many bytes are wrong.
+    fn read_wrongly(&self, boards: &[usize], file: &[u8]) -> Result<(), Box<dyn Error>> {
+        let mut read = vec![0; self.record.length()];
+        self.record.read(&self.area, boards, &mut read)?;
+        let wrong = read.iter().zip(file).filter(|(read, right)| read != right).count();
+        if wrong == 0 {
+            return Err("the worn board did not show".into());
+        }
+        println!("    accepted, with {wrong} of {} bytes wrong", read.len());
+        Ok(())
+    }
+
+    /// Reads the file from two boards more, and says which one is odd.
+    fn read_careful(&self, boards: &[usize], file: &[u8]) -> Result<(), Box<dyn Error>> {
+        let mut read = vec![0; self.record.length()];
+        match self.record.read_careful(&self.area, boards, &mut read)? {
+            Some(odd) => println!("    board {odd} is odd; the other {} agree", boards.len() - 1),
+            None => println!("    all {} boards agree; none is odd", boards.len()),
+        }
+        if read != file {
+            return Err("the careful read gave another file".into());
+        }
+        println!("    All {} bytes are right.", read.len());
         Ok(())
     }
 

@@ -55,6 +55,18 @@ extern "C" {
         out: *mut u8,
         out_len: usize,
     ) -> u64;
+    fn zbk_read_careful(
+        record: *mut u64,
+        record_words: usize,
+        repair: *mut u64,
+        repair_words: usize,
+        area: *const u8,
+        area_len: usize,
+        boards: *const usize,
+        boards_count: usize,
+        out: *mut u8,
+        out_len: usize,
+    ) -> u64;
     fn zbk_edit(
         record: *mut u64,
         record_words: usize,
@@ -319,6 +331,11 @@ impl Record {
     }
 
     /// Reads the file from k boards into the first [`length`](Record::length) bytes of `out`; the rest of `out` stays.
+    ///
+    /// k boards show that they fit together, not that none is altered: only the values that two of them share are compared, and a wrong byte on one
+    /// of them often gives another file, which is accepted. Among k + 1 boards one that is wrong always shows: two reads of k of them that leave out
+    /// different boards do not then both give the same file. Among k + 2 it is named, and the file is given all the same, by
+    /// [`read_careful`](Record::read_careful).
     pub fn read(&self, area: &[u8], boards: &[usize], out: &mut [u8]) -> Result<(), Refusal> {
         // the call is lent a copy, since a read hands on both records as they came
         let Record { mut words, mut repair } = self.clone();
@@ -337,6 +354,60 @@ impl Record {
             )
         })
         .map(drop)
+    }
+
+    /// Reads the file from k + 2 boards of which one may answer wrong bytes, as a worn board does that is still in service: the file of which at least
+    /// k + 1 of them hold their shares goes to the first [`length`](Record::length) bytes of `out`; the rest of `out` stays. Answers the number of the
+    /// odd board, the one that does not hold its share, or none where all do.
+    ///
+    /// [`Refusal::Disagree`] just where there is no such file; there are never two. Shares count whole, all stripes and the padding of the last, so that
+    /// two boards that are wrong in different stripes are not mended stripe by stripe. [`Refusal::Count`] also where k + 2 is above n. Nothing but
+    /// `out` changes: the odd board keeps its bytes and stays in service; lose it, and rebuild it.
+    ///
+    /// ```
+    /// use zebrankai::{Points, Record, Refusal, Sizes};
+    ///
+    /// let sizes = Sizes { n: 5, k: 2, d: 3, r: 2 };
+    /// let stock = b"saline 0.9 %: 120 bags\n";
+    /// let mut area = vec![0; sizes.area_len(4)];
+    /// let mut record = Record::set_up(sizes, Points::standard(5), 4)?;
+    /// record.write(&mut area, stock)?;
+    /// let mut file = vec![0; record.length()];
+    /// assert_eq!(record.read_careful(&area, &[4, 0, 2, 1], &mut file)?, None);
+    ///
+    /// // board 0 is worn: a byte of it is another one
+    /// area[6] ^= 1;
+    /// record.read(&area, &[0, 1], &mut file)?;
+    /// assert_ne!(file, stock);
+    /// assert_eq!(record.read_careful(&area, &[4, 0, 2, 1], &mut file)?, Some(0));
+    /// assert_eq!(file, stock);
+    ///
+    /// // it is lost, and rebuilt from others
+    /// record.lose(0)?;
+    /// record.repair(&mut area, &[0], &[1, 2, 3], &[4])?;
+    /// assert_eq!(record.read_careful(&area, &[0, 1, 2, 3], &mut file)?, None);
+    /// assert_eq!(file, stock);
+    /// # Ok::<(), Refusal>(())
+    /// ```
+    pub fn read_careful(&self, area: &[u8], boards: &[usize], out: &mut [u8]) -> Result<Option<usize>, Refusal> {
+        // copies, as in a read
+        let Record { mut words, mut repair } = self.clone();
+        let reported = result(unsafe {
+            zbk_read_careful(
+                words.as_mut_ptr(),
+                words.len(),
+                repair.as_mut_ptr(),
+                repair.len(),
+                area.as_ptr(),
+                area.len(),
+                boards.as_ptr(),
+                boards.len(),
+                out.as_mut_ptr(),
+                out.len(),
+            )
+        })?;
+        // 0 is none, and 1 board 0
+        Ok(reported.checked_sub(1))
     }
 
     /// Puts `bytes` in the place of as many bytes of the file, from byte `offset` on, without a rewrite: the file that reads give is from then on the
@@ -391,7 +462,7 @@ impl Record {
 
     /// Starts a repair, to be carried a packet at a time while the bus is shared: takes the lists of [`repair`](Record::repair), refuses what that
     /// refuses, and carries nothing. [`step`](Record::step) carries its packets, t × (d + r − 1) in all. Until the last one the fresh boards are out of
-    /// service and nothing else changes. Reads go on meanwhile, and losses; a write, an edit, a repair and a start are [`Refusal::Busy`].
+    /// service and nothing else changes. Reads go on meanwhile, careful ones too, and losses; a write, an edit, a repair and a start are [`Refusal::Busy`].
     ///
     /// ```
     /// use zebrankai::{Points, Record, Refusal, Sizes};

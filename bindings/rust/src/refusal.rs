@@ -31,7 +31,8 @@ pub enum Refusal {
     Area = 2,
     /// The file is too long.
     Long = 3,
-    /// A list has the wrong number of boards, or there are not 1 to r fresh boards, or the texts to gather are not k.
+    /// A list has the wrong number of boards, or k + 2 is above n in a careful read, or there are not 1 to r fresh boards, or the texts to gather are
+    /// not k.
     Count = 4,
     /// A board number is n or more.
     Node = 5,
@@ -43,7 +44,8 @@ pub enum Refusal {
     Empty = 8,
     /// A named board is out of service.
     Down = 9,
-    /// The shares belong to no file of this length.
+    /// The shares belong to no file of this length; of a careful read, all but one of them belong to none. It is no guard against altered bytes: k
+    /// boards show that they fit together, not that none is altered ([`Record::read`](crate::Record::read)).
     Disagree = 10,
     /// The text is none that [`share_text`](crate::board::share_text) writes.
     Text = 12,
@@ -125,15 +127,22 @@ impl Refusal {
                  than the sizes give."
             }
             Refusal::Long => "The file is longer than the store's capacity, or than 4,096 stripes at board level.",
-            Refusal::Count => "A list has the wrong number of boards, or there are not 1 to r fresh boards, or the texts to gather are not k.",
+            Refusal::Count => {
+                "A list has the wrong number of boards, not k + 2 of them for a careful read, or k + 2 is above n; there are \
+                 not 1 to r fresh boards; or the texts to gather are not k."
+            }
             Refusal::Node => "A board number is n or more.",
             Refusal::Repeat => {
                 "A board is named twice where each must be another one, or two texts to gather are of one board."
             }
             Refusal::Short => "The output is shorter than what is to be written.",
-            Refusal::Empty => "A repair, a read, an edit, a start or a step before any file was written.",
+            Refusal::Empty => {
+                "A repair, a read, a careful read, an edit, a start or a step before any file was written."
+            }
             Refusal::Down => "A board to read from, a helper or a stand-in is out of service.",
-            Refusal::Disagree => "No file of this length has these shares.",
+            Refusal::Disagree => {
+                "No file of this length has these shares; of a careful read, none has all of them but one."
+            }
             Refusal::Text => "The text is none that zbk_share_text writes.",
             Refusal::Mixed => "The texts differ in sizes, points or length.",
             Refusal::Serving => "A fresh board is in service.",

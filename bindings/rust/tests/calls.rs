@@ -569,6 +569,150 @@ fn a_store_refuses_and_stays() {
     }
 }
 
+#[test]
+fn a_careful_read_names_the_odd_board() {
+    for points in [present(), first()] {
+        let (record, area) = written(points);
+        let lists = [[0, 1, 2, 3], [4, 3, 2, 1], [2, 0, 4, 1], [3, 4, 0, 2], [1, 4, 3, 0]];
+        for boards in lists {
+            let mut out = [0xEE; 13];
+            assert_eq!(record.read_careful(&area, &boards, &mut out), Ok(None));
+            assert_eq!((&out[..12], out[12]), (&FILE[..], 0xEE));
+            // each byte of each board in turn, board 0 too; a board that is not read does not matter
+            for place in 0..area.len() {
+                let mut worn = area.clone();
+                worn[place] ^= 0x80 >> (place % 8);
+                let (before, kept) = (record.clone(), worn.clone());
+                let odd = Some(place / 7).filter(|board| boards.contains(board));
+                let mut out = [0xEE; 13];
+                assert_eq!(record.read_careful(&worn, &boards, &mut out), Ok(odd));
+                assert_eq!((&out[..12], out[12]), (&FILE[..], 0xEE));
+                assert_eq!((&record, worn), (&before, kept));
+            }
+        }
+        // a read of k boards takes most of these bytes for another file's, and two reads among k + 1 never give the same
+        let mut accepted = 0;
+        for place in 0..7 {
+            let mut worn = area.clone();
+            worn[place] ^= 1;
+            let [with, without] = [[0, 1], [2, 1]].map(|boards| {
+                let mut out = [0xEE; 12];
+                record.read(&worn, &boards, &mut out).map(|()| out)
+            });
+            accepted += usize::from(with.is_ok());
+            assert_eq!(without, Ok(FILE));
+            assert_ne!(with, without);
+        }
+        assert!(accepted > 3, "{accepted} of 7 are accepted");
+    }
+}
+
+#[test]
+fn a_careful_read_counts_whole_shares() {
+    // two stripes, the second with one byte of the file
+    let file: Vec<u8> = (1..=13).collect();
+    let mut area = vec![0xEE; FIVE.area_len(3)];
+    let mut record = Record::set_up(FIVE, first(), 3).unwrap();
+    record.write(&mut area, &file).unwrap();
+    let boards = [3, 0, 4, 1];
+    let careful = |area: &[u8]| {
+        let mut out = [0xEE; 14];
+        let odd = record.read_careful(area, &boards, &mut out);
+        assert_eq!(out[13], 0xEE);
+        let due = if odd.is_ok() { file.clone() } else { vec![0xEE; 13] };
+        assert_eq!(out[..13], due);
+        odd
+    };
+    // one board wrong in both stripes, and behind its share, which does not count
+    let mut worn = area.clone();
+    worn[..21].fill(0x5A);
+    assert_eq!(careful(&worn), Ok(Some(0)));
+    // another board wrong too: in the same stripe, or in another one
+    for place in [3 * 21, 3 * 21 + 7] {
+        let mut both = area.clone();
+        both[0] ^= 1;
+        both[place] ^= 1;
+        assert_eq!(careful(&both), Err(Refusal::Disagree));
+    }
+    // a board with its share of another file, and one with that of a file that has a byte in the padding
+    for other in [vec![9; 13], [&file[..], &[0, 7]].concat()] {
+        let mut others = vec![0; FIVE.area_len(3)];
+        Record::set_up(FIVE, first(), 3).unwrap().write(&mut others, &other).unwrap();
+        let mut worn = area.clone();
+        worn[21..42].copy_from_slice(&others[21..42]);
+        assert_eq!(careful(&worn), Ok(Some(1)));
+    }
+    // all boards with those of such a file: they agree, and it is none of 13 bytes
+    let mut padded = vec![0; FIVE.area_len(3)];
+    Record::set_up(FIVE, first(), 3).unwrap().write(&mut padded, &[&file[..], &[0, 7]].concat()).unwrap();
+    assert_eq!(careful(&padded), Err(Refusal::Disagree));
+}
+
+#[test]
+fn a_careful_read_is_refused_by_the_first_line_that_holds() {
+    let (mut record, mut area) = written(present());
+    record.lose(2).unwrap();
+    let mut out = [0xEE; 12];
+    let mut refusal = |record: &Record, area: &[u8], boards: &[usize], room: usize| {
+        let refused = record.read_careful(area, boards, &mut out[..room]).unwrap_err();
+        assert_eq!(out, [0xEE; 12]);
+        refused
+    };
+    // boards 0 and 1 disagree with each other and with all others
+    area[0] ^= 1;
+    area[7] ^= 1;
+    let no_record = Record::from_words([9; 12]);
+    let empty = Record::set_up(FIVE, present(), 1).unwrap();
+    assert_eq!(refusal(&no_record, &area[1..], &[9], 0), Refusal::Size);
+    assert_eq!(refusal(&empty, &area[1..], &[9], 0), Refusal::Area);
+    assert_eq!(refusal(&empty, &area, &[9], 0), Refusal::Empty);
+    for boards in [&[9][..], &[9, 9], &[9, 9, 9], &[9, 9, 9, 9, 9], &[]] {
+        assert_eq!(refusal(&record, &area, boards, 0), Refusal::Count);
+    }
+    assert_eq!(refusal(&record, &area, &[5, 5, 2, 1], 0), Refusal::Node);
+    assert_eq!(refusal(&record, &area, &[2, 2, 0, 1], 0), Refusal::Repeat);
+    assert_eq!(refusal(&record, &area, &[2, 3, 0, 1], 0), Refusal::Down);
+    assert_eq!(refusal(&record, &area, &[4, 3, 0, 1], 11), Refusal::Short);
+    assert_eq!(refusal(&record, &area, &[4, 3, 0, 1], 12), Refusal::Disagree);
+    // one of the two as it was: the other is named
+    area[0] ^= 1;
+    assert_eq!((record.read_careful(&area, &[4, 3, 0, 1], &mut out), out), (Ok(Some(1)), FILE));
+
+    // k + 2 above n: COUNT, whatever the list
+    for (n, k) in [(2, 1), (3, 2), (4, 3)] {
+        let sizes = Sizes { n, k, d: n - 1, r: 1 };
+        let mut area = vec![0; sizes.area_len(1)];
+        let mut record = Record::set_up(sizes, Points::standard(n), 1).unwrap();
+        record.write(&mut area, &[1]).unwrap();
+        for count in 0..=k + 3 {
+            let boards: Vec<usize> = (0..count).collect();
+            assert_eq!(record.read_careful(&area, &boards, &mut [0; 1]), Err(Refusal::Count));
+        }
+    }
+}
+
+#[test]
+fn a_careful_read_of_few_boards_and_of_no_bytes() {
+    // k = 1: any bytes of one board are the share of some whole stripe, and two others outvote it
+    let sizes = Sizes { n: 3, k: 1, d: 2, r: 1 };
+    let mut area = vec![0xEE; sizes.area_len(1)];
+    let mut record = Record::set_up(sizes, Points::standard(3), 1).unwrap();
+    record.write(&mut area, &[0x11, 0x22, 0x33, 0x44]).unwrap();
+    for worn in 0..3 {
+        let mut area = area.clone();
+        area[worn * sizes.share_len()..][..sizes.share_len()].fill(0x77);
+        let mut out = [0; 4];
+        assert_eq!(record.read_careful(&area, &[2, 0, 1], &mut out), Ok(Some(worn)));
+        assert_eq!(out, [0x11, 0x22, 0x33, 0x44]);
+    }
+    // a file of no bytes: every board holds its share of it
+    record.write(&mut area, &[]).unwrap();
+    area.fill(0x99);
+    assert_eq!(record.read_careful(&area, &[0, 1, 2], &mut []), Ok(None));
+    // no board's mark was touched
+    assert_eq!(record.words()[7], 0b111);
+}
+
 /// M12's packets for boards 0 and 1, in the order carried: of helpers 2, 3, 4 for each, then what board 1 sends board 0 and board 0 board 1.
 const CARRIED: [u8; 14] = [0, 0, 0, 0, 0, 0, 0x04, 0x02, 0x05, 0x03, 0x10, 0x04, 0, 0];
 const FIRST_CARRIED: [u8; 14] = [5, 3, 0x10, 4, 0x11, 5, 0x0A, 0x0C, 0x20, 0x10, 0x22, 0x14, 2, 4];
@@ -685,6 +829,8 @@ fn while_a_repair_runs_reads_and_losses_go_on() {
     assert_eq!(record.step(&mut area, &mut packets[1..], 1), Err(Refusal::Area));
     assert_eq!(record.step(&mut area[1..], &mut packets, 1), Err(Refusal::Area));
     assert_eq!(record.lose(5), Err(Refusal::Node));
+    // a careful read, of boards that are in service: only three of five are
+    assert_eq!(record.read_careful(&area, &[2, 3, 4, 0], &mut [0; 12]), Err(Refusal::Down));
     assert_eq!((&record, &area, &packets), (&before.0, &before.1, &before.2));
     // a board that is named ends it, in service or not
     for lost in 0..5 {
@@ -708,6 +854,10 @@ fn while_a_repair_runs_reads_and_losses_go_on() {
     record.start(&area, &[0, 1], &[2, 3, 4, 3, 4, 5], &[]).unwrap();
     let mut packets = vec![0; record.packets_len()];
     assert_eq!(record.step(&mut area, &mut packets, 5), Ok(5));
+    let mut out = [0; 12];
+    area[3 * 7] ^= 1;
+    assert_eq!((record.read_careful(&area, &[2, 3, 5, 6], &mut out), out), (Ok(Some(3)), [7; 12]));
+    area[3 * 7] ^= 1;
     let words = record.repair_words();
     assert_eq!((record.lose(6), record.repair_words()), (Ok(()), words));
     assert_eq!((record.step(&mut area, &mut packets, 5), area), (Ok(3), truth));

@@ -19,8 +19,10 @@ use Rattle.store_spec.specs.Record.{sound}
 use Rattle.store_spec.specs.Packets.{helperPackets, standInPackets, exchangePackets, partnerPackets, repairPackets, freshShare}
 use Rattle.store_spec.specs.Lying.{helpersLying, partnersLying, exchangesMade, shareLying, packetsNow}
 use Rattle.store_spec.specs.Calls.{writeLines, loseLines, listLines, repairLines, readLines}
+use Rattle.store_spec.specs.Careful.{carefulFile, carefulLines}
 use Rattle.store_spec.specs.Running.{Running, soundBeside}
-use Rattle.store_spec.specs.Both.{writeLinesBoth, loseLinesBoth, repairLinesBoth, readLinesBoth, stepLines, setUpBoth, writeBoth, loseBoth, repairBoth, readBoth, startCall, stepCall}
+use Rattle.store_spec.specs.Both.{writeLinesBoth, loseLinesBoth, repairLinesBoth, readLinesBoth, carefulLinesBoth, stepLines}
+use Rattle.store_spec.specs.Both.{setUpBoth, writeBoth, loseBoth, repairBoth, readBoth, carefulBoth, startCall, stepCall}
 use Rattle.store_spec.specs.MarkLaws.{Arrays}
 use Rattle.store_spec.specs.Ledger.{Book, Event, call, powerFails, Step, act, openBook, repairAsked, bookLines, accept, enter, bookNext}
 use Rattle.store_spec.proofs.Tested.{agrees, agree, fairlyEvent, fair-event}
@@ -97,7 +99,7 @@ unfolding piece put pointed seconds add product reduce mul squares inverse legal
     exchanged ownF ownG helperPair helperPacket standInPacket gFrom exchangePacket fFrom finishedStripe finishedShare through bColumn cRow aColumn
     decodedStripe decodedFile readFile sound helperPackets standInPackets exchangePackets partnerPackets repairPackets freshShare writeLines loseLines listLines repairLines
     readLines helpersLying partnersLying exchangesMade shareLying packetsNow soundBeside writeLinesBoth loseLinesBoth repairLinesBoth readLinesBoth stepLines setUpBoth
-    writeBoth loseBoth repairBoth readBoth startCall stepCall isRecord isRepair zbkSetUp act repairAsked bookLines accept enter
+    carefulFile carefulLines carefulLinesBoth carefulBoth writeBoth loseBoth repairBoth readBoth startCall stepCall isRecord isRepair zbkSetUp act repairAsked bookLines accept enter
     admitted somePoints textAt readText readTextLines readTextCall zbkReadText
 archive-figures = record {
   read-text = refl;
@@ -111,6 +113,7 @@ archive-figures = record {
   lost-named = refl;
   no-repairs = refl;
   disagrees = refl;
+  careful-reads = refl;
   calls-say = refl;
   ledger-says = refl;
   allowed = allow (firstHeld any beside four points 1 blank steps) (openBook four points 1 12) steps refl;

@@ -10,7 +10,7 @@ use Prim.Native.Nat.{ℕ}
 use lib.ListN.{take, set, replicate}
 use Rattle.sizes.specs.declared.Sizes.{Sizes}
 use Rattle.store_spec.specs.Running.{Running}
-use Rattle.store_spec.specs.Ledger.{Call, write, lose, repair, read, start, step, call, powerFails, Step, openBook, bookReplies}
+use Rattle.store_spec.specs.Ledger.{Call, write, lose, repair, read, start, step, careful, call, powerFails, Step, openBook, bookReplies}
 use Rattle.store_spec.specs.Demand3.{events}
 use Rattle.archive_spec.specs.Archive.{sizesOf}
 use Rattle.archive_spec.specs.Lent.{Lent, zbkSetUp, zbk}
@@ -226,6 +226,12 @@ pub record ArchiveFigures : Type 0 where
         output = replicate 4 0x55;
         packets = [];
       }
+  -- a careful read of boards 2, 0 and 3: none is odd; board 2 is, by one byte, and 3 × 256 tells it; boards 2 and 0 are. Nothing but the output changes
+  pub careful-reads : map (λ now. zbk (words4 15) gives now (careful (2 ∷ 0 ∷ 3 ∷ []) (replicate 4 0x55))) (area ∷ set area 7 0x00 ∷ set (set area 7 0x00) 0 0x00 ∷ [])
+      ≡ after 0 15 gives area (1 ∷ 2 ∷ 3 ∷ 0x55 ∷ []) []
+      ∷ after 768 15 gives (set area 7 0x00) (1 ∷ 2 ∷ 3 ∷ 0x55 ∷ []) []
+      ∷ after 10 15 gives (set (set area 7 0x00) 0 0x00) (replicate 4 0x55) []
+      ∷ []
   -- what is compared: the calls' words and outputs, and the ledger's
   pub calls-say : map told (lents (firstHeld any beside four points 1 blank steps) steps) ≡ answers
   pub ledger-says : map inWord (bookReplies (openBook four points 1 12) (events steps)) ≡ answers

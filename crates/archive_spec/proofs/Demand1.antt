@@ -1,39 +1,32 @@
 -- Demand 1 of the archive: that of the definitions, with answers and records in words.
 -- Assumes nothing.
 use Prim.Native.Nat.{ℕ, _+_, _-_, _*_, _≤_, _<_, min}
-use mathlib.Core.Path.{_≡_, refl, sym, ap, subst, _∙_}
-use mathlib.Core.Bool.{Bool, true, false, not}
+use mathlib.Core.Path.{_≡_, refl, sym, ap, _∙_}
+use mathlib.Core.Bool.{Bool, true, false}
 use mathlib.Core.Logic.{_≢_, _↔_, _⊎_, inl, inr, ⊎-elim}
 use mathlib.Core.List.{List, [], _∷_}
 use native.Mathlib.Omega.{arith}
 use native.Mathlib.Nat.{min-eq-left, min-eq-right}
 use lib.Dec.{leb, eqb}
-use lib.ListN.{length, drop, replicate}
+use lib.ListN.{length, replicate}
 use borrow.Author.Tests.{eq-eqb, ne-eqb, leb-true, leb-false}
 use Rattle.lists.specs.Tests.{pick, alls}
-use Rattle.lists.specs.Lists.{All, Bytes, over}
-use Rattle.lists.proofs.Tests.{not-no, alls-hold}
+use Rattle.lists.specs.Lists.{over}
 use Rattle.sizes.specs.declared.Sizes.{Sizes}
 use Rattle.sizes.specs.declared.Refusal.{Refusal}
-use Rattle.sizes.specs.declared.Refusal.the-variants.{Size, Disagree}
-use Rattle.sizes.specs.declared.Check.{Check}
-use Rattle.sizes.specs.declared.Check.the-variants.{Pass, Refuse}
-use Rattle.sizes.specs.declared.Answer.the-variants.{Done, Refused}
-use Rattle.sizes.specs.Refusals.{number, Said, said, Line, _when_, appliesIn, first, storeOrder}
+use Rattle.sizes.specs.declared.Answer.the-variants.{Done}
+use Rattle.sizes.specs.Refusals.{number, said, Line}
 use Rattle.sizes.proofs.Laws.{number-low}
-use Rattle.mbcr.specs.Share.{share}
 use Rattle.board_spec.specs.Calls.{BoardOutcome}
 use Rattle.board_spec.specs.Demand1.{BoardEnds}
 use Rattle.board_spec.proofs.Demand1 as at-board
-use Rattle.store_spec.specs.Record.{Record, newRecord, sound, held}
-use Rattle.store_spec.specs.Running.{Running, idle, freshOf, packetCount, soundBeside}
-use Rattle.store_spec.specs.Calls.{StoreOutcome, settle, accepted, refused, recordLine, readLines, readDone, readCall}
-use Rattle.store_spec.specs.Both.{Outcome, beside, bothLine, readLinesBoth, leftOf, stepLast, stepOn, stepDone, setUpBoth, readBoth}
+use Rattle.store_spec.specs.Record.{Record, newRecord}
+use Rattle.store_spec.specs.Running.{Running, idle, freshOf, packetCount}
+use Rattle.store_spec.specs.Calls.{accepted, recordLine}
+use Rattle.store_spec.specs.Both.{Outcome, beside, leftOf, stepLast, stepOn, stepDone, setUpBoth}
 use Rattle.store_spec.specs.BothCalls.{storeLines, storeDone}
-use Rattle.store_spec.specs.Ledger.{Call, write, lose, repair, read, edit, start, step, act, outputOf, packetsOfCall}
+use Rattle.store_spec.specs.Ledger.{Call, write, lose, repair, read, edit, start, step, careful, act, outputOf, packetsOfCall}
 use Rattle.store_spec.proofs.BothCalls.{both-calls}
-use Rattle.store_spec.proofs.Demand1 as at-store
-use Rattle.store_spec.proofs.MarkLaws.{mark-laws}
 use Rattle.text_spec.specs.Texts.{ShareTold, textOf, readText}
 use Rattle.text_spec.specs.Laws.{Writable}
 use Rattle.text_spec.specs.Calls.{ReadOutcome, toldOf, readTextLines, readTextCall}
@@ -47,6 +40,7 @@ use Rattle.repair_words.specs.RepairWords.{isRepair, repairFrom, repairWordsOf}
 use Rattle.archive_spec.specs.Lent.{Lent, inWords, zbkSetUp, zbk}
 use Rattle.archive_spec.specs.Texts.{TextLent, noRoom, readInWords, zbkReadText}
 use Rattle.archive_spec.specs.Demand1.{LentEnds, WordEnds, TextEnds, tells, Unchanged, Neither, ArchiveCalls}
+use Rattle.archive_spec.proofs.Exact.{read-exact, careful-exact}
 use Rattle.archive_spec.proofs.InWords.{both-yes, both-no, lent, not-lent, back-words, set-up-lent}
 
 -- a refusal's word is its number
@@ -156,102 +150,6 @@ module _ (ws ps : List ℕ) (z : Sizes) (xs : List ℕ) (c : ℕ) where
             packets = [];
           }
 
--- ---- the reader's exactness
-
--- an outcome by its parts
-outcome-is : (o : StoreOutcome) (a : Said) (s : Record) (area output : List ℕ) → o .answer ≡ a → o .handed ≡ s → o .area ≡ area → o .output ≡ output
-    → o ≡ record { answer = a; handed = s; area = area; output = output }
-outcome-is o a s area output p q r t =
-    ap (λ (y : Said). record { answer = y; handed = o .handed; area = o .area; output = o .output }) p
-    ∙ ap (λ (y : Record). record { answer = a; handed = y; area = o .area; output = o .output }) q
-    ∙ ap (λ (y : List ℕ). record { answer = a; handed = s; area = y; output = o .output }) r
-    ∙ ap (λ (y : List ℕ). record { answer = a; handed = s; area = area; output = y }) t
-
-said-is : (a : Said) (x : ℕ) → a .reported ≡ 0 → wordOf a ≡ x → a ≡ record { refusal = x; reported = 0 }
-said-is a x p q =
-    let e : a .refusal ≡ x = omega (arith, p, q) in
-    ap (λ (v : ℕ). record { refusal = a .refusal; reported = v }) p ∙ ap (λ (v : ℕ). record { refusal = v; reported = 0 }) e
-
--- a read with both records, where SIZE is by neither: that of the call alone
-module _ (s : Record) (p : Running) (area boards output : List ℕ)
-    (others : All (λ x. (x ≡ Disagree) ⊎ (appliesIn (readLinesBoth s p area boards output) x ≡ false)) storeOrder) where
-  no-size : bothLine s p .applies ≡ false
-  unfolding readLinesBoth
-  no-size = go (others .0)
-    where
-      go : (Size ≡ Disagree) ⊎ (appliesIn (readLinesBoth s p area boards output) Size ≡ false) → bothLine s p .applies ≡ false
-      go (inl e) = absurd (omega (arith, ap number e))
-      go (inr e) = e
-
-  lines-alone : readLinesBoth s p area boards output ≡ readLines s area boards output
-  unfolding readLinesBoth readLines
-  lines-alone =
-      let h = alls-hold (sound s ∷ soundBeside s p ∷ []) (not-no _ no-size) in
-      ap (λ (t : Bool). Size when t ∷ drop 1 (readLines s area boards output)) (no-size ∙ sym (ap not (h .0)))
-
-  read-alone : readBoth s p area boards output ≡ beside p (readCall s area boards output)
-  unfolding readBoth readCall
-  read-alone = ap (λ (l : List Line). by-lines (first storeOrder l)) lines-alone ∙ go (first storeOrder (readLines s area boards output))
-    where
-      by-lines : Check → Outcome
-      by-lines t =
-          settle t (λ x. record { answer = said (Refused x); handed = s; running = p; area = area; output = output; packets = [] })
-          (beside p (readDone s area boards output))
-
-      go : (t : Check) → by-lines t ≡ beside p (settle t (refused s area output) (readDone s area boards output))
-      go Pass = refl
-      go (Refuse x) = refl
-
-  others-alone : All (λ x. (x ≡ Disagree) ⊎ (appliesIn (readLines s area boards output) x ≡ false)) storeOrder
-  others-alone = subst (λ (l : List Line). All (λ x. (x ≡ Disagree) ⊎ (appliesIn l x ≡ false)) storeOrder) lines-alone others
-
-module _ (ws ps area boards output : List ℕ) (is-record : isRecord ws ≡ true) (is-repair : isRepair ps ≡ true) where
-  abbrev kept : Record
-  kept = recordFrom ws
-
-  abbrev running : Running
-  running = repairFrom ps
-
-  abbrev outcome : StoreOutcome
-  outcome = readCall kept area boards output
-
-  module _ (others : All (λ x. (x ≡ Disagree) ⊎ (appliesIn (readLinesBoth kept running area boards output) x ≡ false)) storeOrder) where
-    in-words : zbk ws ps area (read boards output) ≡ inWords (beside running outcome)
-    unfolding act
-    in-words =
-        sym (lent (calling ws ps area (read boards output)) ws ps area output [] is-record is-repair)
-        ∙ ap inWords (read-alone kept running area boards output others)
-
-    -- what the call answers and writes is what the definition's does
-    there : (x : ℕ) (out : List ℕ)
-        → zbk ws ps area (read boards output) ≡ record { answer = x; words = ws; repair = ps; area = area; output = out; packets = [] }
-        → outcome ≡ record { answer = record { refusal = x; reported = 0 }; handed = kept; area = area; output = out }
-    there x out e =
-        let reports = at-store.demand-1 .read-reports kept area boards output in
-        let given : inWords (beside running outcome) ≡ record { answer = x; words = ws; repair = ps; area = area; output = out; packets = [] } = sym in-words ∙ e in
-        outcome-is outcome _ kept area out (said-is (outcome .answer) x (reports .0) (ap (λ (l : Lent). l .answer) given)) (mark-laws .reads kept area boards output)
-        (reports .1) (ap (λ (l : Lent). l .output) given)
-
-    back : (x : ℕ) (out : List ℕ) → outcome ≡ record { answer = record { refusal = x; reported = 0 }; handed = kept; area = area; output = out }
-        → zbk ws ps area (read boards output) ≡ record { answer = x; words = ws; repair = ps; area = area; output = out; packets = [] }
-    back x out e =
-        let zero : x + 256 * 0 ≡ x = omega arith in
-        in-words ∙ ap (λ (o : StoreOutcome). inWords (beside running o)) e
-        ∙ ap (λ (w : ℕ). record { answer = w; words = wordsOf kept; repair = repairWordsOf running; area = area; output = out; packets = [] }) zero
-        ∙ back-words ws ps is-record is-repair x area out []
-
-  exact : Bytes area → All (λ x. (x ≡ Disagree) ⊎ (appliesIn (readLinesBoth kept running area boards output) x ≡ false)) storeOrder
-      → ((file : List ℕ) → length file ≡ kept .length → Bytes file
-      → (zbk ws ps area (read boards output) ≡ record { answer = 0; words = ws; repair = ps; area = area; output = over file output; packets = [] })
-      ↔ All (λ i. held kept area i ≡ share (kept .sizes) (kept .points) file i) boards)
-      × ((zbk ws ps area (read boards output) ≡ record { answer = 10; words = ws; repair = ps; area = area; output = output; packets = [] })
-      ↔ ((file : List ℕ) → length file ≡ kept .length → Bytes file → All (λ i. held kept area i ≡ share (kept .sizes) (kept .points) file i) boards → ⊥))
-  exact bytes others =
-      let exactly = at-store.demand-1 .read-exact kept area boards output bytes (others-alone kept running area boards output others) in (
-        λ file long bf. let p = exactly .0 file long bf in (λ e. p .0 (there others 0 (over file output) e), λ h. back others 0 (over file output) (p .1 h)),
-        (λ e. exactly .1 .0 (there others 10 output e), λ h. back others 10 output (exactly .1 .1 h)),
-      )
-
 -- ---- the text reader
 
 -- what a text tells, with the word of the number of its share's bytes
@@ -338,6 +236,7 @@ archive-demand-1 = record {
   start-ends = λ ws ps area fresh helpers standIns h k. lent-ends ws ps area (start fresh helpers standIns) 0 h k refl;
   step-ends = λ ws ps area allowance packets h k.
       lent-ends ws ps area (step allowance packets) _ h k (step-reports (recordFrom ws) (repairFrom ps) area packets allowance);
+  careful-ends = λ ws ps area boards output h k. lent-ends ws ps area (careful boards output) _ h k refl;
   set-up-none = set-up-none;
   write-none = λ ws ps area file. none ws ps area (write file);
   lose-none = λ ws ps area board. none ws ps area (lose board);
@@ -346,7 +245,9 @@ archive-demand-1 = record {
   edit-none = λ ws ps area offset bytes boards. none ws ps area (edit offset bytes boards);
   start-none = λ ws ps area fresh helpers standIns. none ws ps area (start fresh helpers standIns);
   step-none = λ ws ps area allowance packets. none ws ps area (step allowance packets);
-  read-exact = exact;
+  careful-none = λ ws ps area boards output. none ws ps area (careful boards output);
+  read-exact = read-exact;
+  careful-exact = careful-exact;
   text-ends = text-ends;
   text-none = text-none;
   text-gives = text-gives;

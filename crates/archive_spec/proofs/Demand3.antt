@@ -32,11 +32,12 @@ use Rattle.store_spec.specs.Running.{Running, idle}
 use Rattle.store_spec.specs.Both.{Outcome, repairLinesBoth, setUpBoth, repairBoth, stepCall}
 use Rattle.store_spec.specs.BothCalls.{storeLines, storeDone}
 use Rattle.store_spec.specs.MarkLaws.{Arrays}
-use Rattle.store_spec.specs.Ledger.{Call, write, lose, repair, read, edit, start, step, Event, call, powerFails, Book, State, Step}
+use Rattle.store_spec.specs.Ledger.{Call, write, lose, repair, read, edit, start, step, careful, Event, call, powerFails, Book, State, Step}
 use Rattle.store_spec.specs.Ledger.{Altered, FairEvent, Allowed, packetsAfter, act, lent, next, replies, final, outputOf, packetsOfCall, openBook, bookNext}
 use Rattle.store_spec.specs.Ledger.{told as toldBy}
 use Rattle.store_spec.specs.Demand3.{Intact, Demand3, WholeStep, begun, events}
 use Rattle.store_spec.specs.Premises.{files, IdleGiven, lentAgain, bare}
+use Rattle.store_spec.specs.CarefulLaws.{OfBytes}
 use Rattle.store_spec.proofs.AloneLaws.{alone-laws}
 use Rattle.store_spec.proofs.BothCalls.{by, act-is, done-accepted}
 use Rattle.store_spec.proofs.Demand1.{demand-1}
@@ -44,7 +45,7 @@ use Rattle.store_spec.proofs.Demand3.{demand-3, set-up-done, set-up-both, both-
 use Rattle.store_spec.proofs.Records.{sound-facts}
 use Rattle.store_spec.proofs.Follows.{act-any}
 use Rattle.store_spec.proofs.MarkLaws.{mark-laws}
-use Rattle.store_spec.proofs.Premises.{as-it-was, fair, again-bare}
+use Rattle.store_spec.proofs.Premises.{as-it-was, fair, again-bare, premises}
 use Rattle.answer_word.specs.Answers.{wordOf}
 use Rattle.answer_word.proofs.Laws.{answer-laws}
 use Rattle.record_words.specs.Words.{isRecord, recordFrom, wordsOf}
@@ -75,13 +76,13 @@ answer-word w c =
     go (Refuse x) = answer-laws .refusal-is (Refused x)
 
 -- the words held tell the records of the definitions' state
-record Tells (h : Held) (w : State) : Type 0 where
-  words-are : h .words ≡ wordsOf (w .kept)
-  repair-are : h .repair ≡ repairWordsOf (w .running)
-  area-is : h .area ≡ w .area
-  packets-are : h .packets ≡ w .packets
-  whole : Whole (w .kept)
-  arrays : Arrays (w .running)
+pub record Tells (h : Held) (w : State) : Type 0 where
+  pub words-are : h .words ≡ wordsOf (w .kept)
+  pub repair-are : h .repair ≡ repairWordsOf (w .running)
+  pub area-is : h .area ≡ w .area
+  pub packets-are : h .packets ≡ w .packets
+  pub whole : Whole (w .kept)
+  pub arrays : Arrays (w .running)
 
 -- a call on the words of records is the definitions' call on the records
 zbk-is : (s : Record) (p : Running) → Whole s → Arrays p → (area packets : List ℕ) (c : Call)
@@ -104,6 +105,7 @@ left-same before w (edit offset bytes boards) = refl
 left-same before w (start fresh helpers standIns) = refl
 left-same before w (step allowance packets) =
     ap (λ (n : ℕ). pick (eqb n 0) (act w (step allowance packets) .packets) before) (answer-word w (step allowance packets))
+left-same before w (careful boards output) = refl
 
 still-whole : (w : State) (c : Call) → Whole (w .kept) → Whole (act w c .handed)
 still-whole w c f =
@@ -135,7 +137,7 @@ back h w k = ap recordFrom (k .words-are) ∙ word-laws .record-back (w .kept) (
 repair-back : (h : Held) (w : State) → Tells h w → repairFrom (h .repair) ≡ w .running
 repair-back h w k = ap repairFrom (k .repair-are) ∙ repair-words .repair-back (w .running) (k .arrays)
 
-state-is : (h : Held) (w : State) → Tells h w → heldState h ≡ w
+pub state-is : (h : Held) (w : State) → Tells h w → heldState h ≡ w
 state-is h w k =
     ap₂ {C = State} (λ (s : Record) (q : Running). record { kept = s; running = q; area = h .area; packets = h .packets }) (back h w k) (repair-back h w k)
     ∙ ap₂ {C = State} (λ (x y : List ℕ). record { kept = w .kept; running = w .running; area = x; packets = y }) (k .area-is) (k .packets-are)
@@ -152,17 +154,29 @@ told-same : (h : Held) (w : State) → Tells h w → (t : Step) (e : Event) → 
 told-same h w k t (call c) = ap (λ (o : Lent). told o ∷ []) (one h w k t c)
 told-same h w k t (powerFails p) = refl
 
-answers : (steps : List Step) (h : Held) (w : State) (b : Book) → Tells h w → AllowedLents h b steps → map told (lents h steps) ≡ map inWord (replies w steps)
-answers [] h w b k a = refl
-answers (t ∷ ts) h w b k a =
+-- of each event: what it has is of bytes, and a record given is one that words can tell
+abbrev pub Fit : Event → Type 0
+Fit e = OfBytes e × GivenWords e
+
+allowed-fit : (steps : List Step) (h : Held) (b : Book) → AllowedLents h b steps → All Fit (events steps)
+allowed-fit [] h b a = tt
+allowed-fit (t ∷ ts) h b a = ((fair-of (t .event) (a .1), a .2), allowed-fit ts (heldNext h (t .area) (t .event)) (bookNext b (t .event)) (a .3))
+  where
+    fair-of : (e : Event) → FairEvent b (h .packets) e → OfBytes e
+    fair-of (call c) f = premises .fair-bytes b (h .packets) c f
+    fair-of (powerFails p) f = f
+
+answers : (steps : List Step) (h : Held) (w : State) → Tells h w → All Fit (events steps) → map told (lents h steps) ≡ map inWord (replies w steps)
+answers [] h w k a = refl
+answers (t ∷ ts) h w k a =
     map-append told (lentAt h (t .area) (t .event)) (lents (heldNext h (t .area) (t .event)) ts)
     ∙ ap₂ {C = List Told} (λ (x y : List Told). x ++ y) (told-same h w k t (t .event))
-    (answers ts (heldNext h (t .area) (t .event)) (next (lent w t) (t .event)) (bookNext b (t .event)) (following h w k t (t .event) (a .2)) (a .3))
+    (answers ts (heldNext h (t .area) (t .event)) (next (lent w t) (t .event)) (following h w k t (t .event) (a .0 .1)) (a .1))
     ∙ sym (map-append inWord (toldBy (lent w t) (t .event)) (replies (next (lent w t) (t .event)) ts))
 
-ends : (steps : List Step) (h : Held) (w : State) (b : Book) → Tells h w → AllowedLents h b steps → Tells (lastHeld h steps) (final w steps)
-ends [] h w b k a = k
-ends (t ∷ ts) h w b k a = ends ts (heldNext h (t .area) (t .event)) (next (lent w t) (t .event)) (bookNext b (t .event)) (following h w k t (t .event) (a .2)) (a .3)
+pub ends : (steps : List Step) (h : Held) (w : State) → Tells h w → All Fit (events steps) → Tells (lastHeld h steps) (final w steps)
+ends [] h w k a = k
+ends (t ∷ ts) h w k a = ends ts (heldNext h (t .area) (t .event)) (next (lent w t) (t .event)) (following h w k t (t .event) (a .0 .1)) (a .1)
 
 -- from any words that tell both records, whatever is altered
 goes-as : (steps : List Step) (h : Held) (w : State) → Tells h w → All (λ t. GivenWords (t .event)) steps
@@ -202,8 +216,8 @@ module _ (ws ps : List ℕ) (z : Sizes) (xs : List ℕ) (c : ℕ) where
   abbrev made : Outcome
   made = setUpBoth (newRecord z xs c) idle z xs c
 
-  record Begins : Type 0 where
-    accepts : made .answer .refusal ≡ 0
+  pub record Begins : Type 0 where
+    pub accepts : made .answer .refusal ≡ 0
     twelve : length ws ≡ 12
     seventy-one : length ps ≡ 71
     words-are : zbkSetUp ws ps z xs c .words ≡ wordsOf (made .handed)
@@ -302,10 +316,10 @@ module _ (ws ps : List ℕ) (z : Sizes) (xs : List ℕ) (c : ℕ) (area : List �
   abbrev end-held : Held
   end-held = endHeld ws ps z xs c area steps
 
-  begun-so : Begins ws ps z xs c
+  pub begun-so : Begins ws ps z xs c
   begun-so = begins ws ps z xs c e
 
-  tells-start : Tells first-held starts
+  pub tells-start : Tells first-held starts
   tells-start = record {
     words-are = begun-so .words-are;
     repair-are = begun-so .repair-are;
@@ -316,8 +330,11 @@ module _ (ws ps : List ℕ) (z : Sizes) (xs : List ℕ) (c : ℕ) (area : List �
   }
 
   module _ (ok : AllowedLents first-held book steps) where
+    fit : All Fit (events steps)
+    fit = allowed-fit steps first-held book ok
+
     tells-last : Tells end-held last
-    tells-last = ends steps first-held starts book tells-start ok
+    tells-last = ends steps first-held starts tells-start fit
 
     of-definitions : Demand3 (newRecord z xs c) idle z xs c area steps
     of-definitions = demand-3 (newRecord z xs c) idle z xs c area steps (begun-so .accepts) (allowed steps first-held starts book tells-start ok)
@@ -334,7 +351,7 @@ module _ (ws ps : List ℕ) (z : Sizes) (xs : List ℕ) (c : ℕ) (area : List �
     runs : ArchiveRun ws ps z xs c area steps
     unfolding act
     runs = record {
-      alike = answers steps first-held starts book tells-start ok ∙ ap (map inWord) (of-definitions .alike);
+      alike = answers steps first-held starts tells-start fit ∙ ap (map inWord) (of-definitions .alike);
       are-words = are-words;
       are-repair = are-repair;
       after = intact;
@@ -429,6 +446,7 @@ given-again w b (call (read boards output)) g = tt
 given-again w b (call (edit offset bytes boards)) g = tt
 given-again w b (call (start fresh helpers standIns)) g = tt
 given-again w b (call (step allowance packets)) g = tt
+given-again w b (call (careful boards output)) g = tt
 given-again w b (powerFails p) g = g
 
 all-allowed : (h : Held) (b : Book) (es : List Event) → All Bytes (files es) → IdleGiven es → All GivenWords es → AllowedLents h b (unalteredLents h b es)

@@ -26,7 +26,7 @@ use Rattle.store_spec.specs.Record.{Record, newRecord}
 use Rattle.store_spec.specs.Running.{Running, idle, namedIn}
 use Rattle.store_spec.specs.Both.{Outcome, setUpBoth}
 use Rattle.store_spec.specs.BothCalls.{storeLines, storeDone}
-use Rattle.store_spec.specs.Ledger.{Call, write, lose, repair, read, edit, start, State, act, outputOf, packetsOfCall}
+use Rattle.store_spec.specs.Ledger.{Call, write, lose, repair, read, edit, start, careful, State, act, outputOf, packetsOfCall}
 use Rattle.store_spec.proofs.BothCalls.{by, act-is}
 use Rattle.store_spec.proofs.Follows.{act-any}
 use Rattle.store_spec.proofs.MarkLaws.{mark-laws}
@@ -118,23 +118,30 @@ module _ (ws ps area : List ℕ) where
       in-words k p (inl e) = inl (ap repairWordsOf e ∙ repair-words .words-back ps k)
       in-words k p (inr e) = inr (ap repairWordsOf e)
 
-  -- starting
-  start-leaves : (fresh helpers standIns : List ℕ)
-      → (zbk ws ps area (start fresh helpers standIns) .words ≡ ws) × (zbk ws ps area (start fresh helpers standIns) .area ≡ area)
-  unfolding storeDone
-  start-leaves fresh helpers standIns =
-      by-words (λ o. (o .words ≡ ws) × (o .area ≡ area)) (start fresh helpers standIns)
+  -- starting, and a careful read: the record and the area stay where the work leaves them
+  both-stay : (call : Call) → (storeDone (recordFrom ws) (repairFrom ps) area call .handed ≡ recordFrom ws) × (storeDone (recordFrom ws) (repairFrom ps) area call .area ≡ area)
+      → (zbk ws ps area call .words ≡ ws) × (zbk ws ps area call .area ≡ area)
+  both-stay call d =
+      by-words (λ o. (o .words ≡ ws) × (o .area ≡ area)) call
       (λ is-record is-repair.
-      let e = started (first storeOrder (storeLines (recordFrom ws) (repairFrom ps) area (start fresh helpers standIns))) (act-is state (start fresh helpers standIns)) in
+      let e = stay (first storeOrder (storeLines (recordFrom ws) (repairFrom ps) area call)) (act-is state call) in
       (ap wordsOf (e .0) ∙ word-laws .words-back ws is-record, e .1))
       (refl, refl)
     where
-      started : (t : Check)
-          → act state (start fresh helpers standIns)
-          ≡ by (recordFrom ws) (repairFrom ps) area [] [] (storeDone (recordFrom ws) (repairFrom ps) area (start fresh helpers standIns)) t
-          → (act state (start fresh helpers standIns) .handed ≡ recordFrom ws) × (act state (start fresh helpers standIns) .area ≡ area)
-      started Pass e = (ap (λ (o : Outcome). o .handed) e, ap (λ (o : Outcome). o .area) e)
-      started (Refuse x) e = (ap (λ (o : Outcome). o .handed) e, ap (λ (o : Outcome). o .area) e)
+      stay : (t : Check)
+          → act state call ≡ by (recordFrom ws) (repairFrom ps) area (outputOf call) (packetsOfCall call) (storeDone (recordFrom ws) (repairFrom ps) area call) t
+          → (act state call .handed ≡ recordFrom ws) × (act state call .area ≡ area)
+      stay Pass e = (ap (λ (o : Outcome). o .handed) e ∙ d .0, ap (λ (o : Outcome). o .area) e ∙ d .1)
+      stay (Refuse x) e = (ap (λ (o : Outcome). o .handed) e, ap (λ (o : Outcome). o .area) e)
+
+  start-leaves : (fresh helpers standIns : List ℕ)
+      → (zbk ws ps area (start fresh helpers standIns) .words ≡ ws) × (zbk ws ps area (start fresh helpers standIns) .area ≡ area)
+  unfolding storeDone
+  start-leaves fresh helpers standIns = both-stay (start fresh helpers standIns) (refl, refl)
+
+  careful-leaves : (boards output : List ℕ) → (zbk ws ps area (careful boards output) .words ≡ ws) × (zbk ws ps area (careful boards output) .area ≡ area)
+  unfolding storeDone
+  careful-leaves boards output = both-stay (careful boards output) (refl, refl)
 
 -- ---- board level
 
@@ -223,6 +230,8 @@ archive-laws = record {
   edit-beside = λ ws ps area offset bytes boards. beside-stays ws ps area (edit offset bytes boards) refl;
   lose-beside = lose-beside;
   start-leaves = start-leaves;
+  careful-beside = λ ws ps area boards output. beside-stays ws ps area (careful boards output) refl;
+  careful-leaves = careful-leaves;
   share-leaves = share-leaves;
   file-leaves = file-leaves;
   helper-leaves = helper-leaves;

@@ -5,6 +5,8 @@ pub mod Given
 pub mod InWords
 pub mod Told
 pub mod Laws
+pub mod Exact
 pub mod Demand1
 pub mod Demand3
+pub mod Worn
 pub mod ListLaws

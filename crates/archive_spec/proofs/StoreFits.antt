@@ -1,15 +1,18 @@
--- What the store's calls report is small: a repair the bytes moved, a step at most t(d + r − 1) packets, every other call 0.
+-- What the store's calls report is small: a repair the bytes moved, a step at most t(d + r − 1) packets, a careful read at most n, every other call 0.
 -- Assumes nothing.
-use Prim.Native.Nat.{ℕ, _+_, _*_, _-_, _≤_, _<_}
+use Prim.Native.Nat.{ℕ, suc, _+_, _*_, _-_, _≤_, _<_}
 use mathlib.Core.Path.{_≡_, refl, sym, subst}
 use mathlib.Core.Bool.{Bool, true, false}
+use mathlib.Core.Logic.{_⊎_, inl, inr}
 use mathlib.Core.List.{List, [], _∷_}
 use native.Mathlib.Nat.{mul-le-mul, mul-le-mul-right}
 use native.Mathlib.Omega.{arith}
 use lib.Dec.{leb, eqb}
 use lib.ListN.{length, drop}
 use borrow.Author.Tests.{leb-true, leb-false}
-use Rattle.lists.specs.Tests.{pick, alls}
+use Rattle.lists.specs.Lists.{All}
+use Rattle.lists.specs.Tests.{pick, alls, among}
+use Rattle.lists.proofs.Boards.{below-all, all-among}
 use Rattle.lists.proofs.Tests.{not-no, alls-hold}
 use Rattle.sizes.specs.declared.Sizes.{Sizes}
 use Rattle.sizes.specs.declared.Check.{Check}
@@ -18,16 +21,19 @@ use Rattle.sizes.specs.declared.Refusal.the-variants.{Size, Count, Idle}
 use Rattle.sizes.specs.Refusals.{first, storeOrder}
 use Rattle.sizes.proofs.Legal.{legal-facts, α-most, stripes-least}
 use Rattle.sizes.proofs.Orders.{clear-off}
+use Rattle.board_spec.specs.Calls.{fileOf}
 use Rattle.store_spec.specs.Record.{Record, newRecord, sound, stripeCount}
 use Rattle.store_spec.specs.Running.{Running, freshOf, helpersOf, standInsOf, packetCount, soundBeside}
 use Rattle.store_spec.specs.Packets.{standInsEach, total, repairPackets}
 use Rattle.store_spec.specs.Calls.{recordLine, listLines, repairLines}
-use Rattle.store_spec.specs.Both.{Outcome, repairLinesBoth, stepLines, leftOf, stepLast, stepOn, setUpBoth}
+use Rattle.store_spec.specs.Both.{Outcome, repairLinesBoth, carefulLinesBoth, stepLines, leftOf, stepLast, stepOn, setUpBoth}
+use Rattle.store_spec.specs.Careful.{odd, oddReport, carefulFile, carefulLines}
 use Rattle.store_spec.specs.BothCalls.{storeLines, storeDone}
-use Rattle.store_spec.specs.Ledger.{Call, write, lose, repair, read, edit, start, step, State, act, outputOf, packetsOfCall}
+use Rattle.store_spec.specs.Ledger.{Call, write, lose, repair, read, edit, start, step, careful, State, act, outputOf, packetsOfCall}
 use Rattle.store_spec.proofs.BothCalls.{by, act-is}
-use Rattle.store_spec.proofs.Beside.{alone-busy, sound-beside}
-use Rattle.store_spec.proofs.Records.{sound-facts, repair-facts}
+use Rattle.store_spec.proofs.Beside.{alone, alone-busy, sound-beside}
+use Rattle.store_spec.proofs.Careful.{odd-named}
+use Rattle.store_spec.proofs.Records.{sound-facts, repair-facts, careful-facts}
 use Rattle.store_spec.proofs.Real.{code-lengths}
 use Rattle.store_spec.proofs.Repair.{moved-is}
 use Rattle.archive_spec.proofs.Bounds.{Fits}
@@ -91,6 +97,22 @@ few-carried : (s : Record) (p : Running) (area packets : List ℕ) (allowance : 
 few-carried s p area packets allowance h true e = let n : packetCount (s .sizes) (length (freshOf p)) - p .carried < 72057594037927936 = omega (arith, h) in n
 few-carried s p area packets allowance h false e = omega (arith, h, leb-false (leftOf s p area packets) allowance e)
 
+-- what a careful read reports: none, or a board below n
+careful-few : (s : Record) (p : Running) (area boards output : List ℕ) → first storeOrder (carefulLinesBoth s p area boards output) ≡ Pass
+    → Fits (oddReport (odd s area (fileOf (carefulFile s area boards)) boards))
+unfolding carefulLinesBoth carefulLines
+careful-few s p area boards output h =
+    let f = careful-facts s area boards output (alone s p (drop 1 (carefulLines s area boards output)) h) .0 in
+    let l = legal-facts (s .sizes) (sound-facts s (f .is-sound) .is-legal) in
+    go (odd-named s area (fileOf (carefulFile s area boards)) boards) (l .few) (below-all (s .sizes .n) boards (f .named-below))
+  where
+    v : ℕ
+    v = oddReport (odd s area (fileOf (carefulFile s area boards)) boards)
+
+    go : (v ≡ 0) ⊎ ((i : ℕ) × (v ≡ suc i) × (among boards i ≡ true)) → s .sizes .n ≤ 32 → All (λ i. i < s .sizes .n) boards → Fits v
+    go (inl e) m a = omega (arith, e)
+    go (inr q) m a = omega (arith, m, q .1, all-among (λ i. i < s .sizes .n) boards (q .0) a (q .2))
+
 done-few : (s : Record) (p : Running) (area : List ℕ) (c : Call) → first storeOrder (storeLines s p area c) ≡ Pass → Fits (storeDone s p area c .answer .reported)
 unfolding storeLines storeDone
 done-few s p area (write file) h = omega arith
@@ -101,6 +123,7 @@ done-few s p area (edit offset bytes boards) h = omega arith
 done-few s p area (start fresh helpers standIns) h = omega arith
 done-few s p area (step allowance packets) h =
     few-carried s p area packets allowance (most-packets s p (length area) (length packets) h) (leb (leftOf s p area packets) allowance) refl
+done-few s p area (careful boards output) h = careful-few s p area boards output h
 
 pub store-fits : (w : State) (c : Call) → Fits (act w c .answer .reported)
 store-fits w c =

@@ -1,4 +1,4 @@
--- Demand 1 of the archive, and the reader's exactness, for every words, area, list and text: what each of the seventeen calls answers, and every word and
+-- Demand 1 of the archive, and the reader's exactness, for every words, area, list and text: what each of the eighteen calls answers, and every word and
 -- byte that it was lent, are those of the definitions of document 01, over the records that the words tell; where they do not tell both it is SIZE, and
 -- nothing changes. proofs/Demand1.antt has `archive-demand-1 : ArchiveCalls`.
 -- Assumes nothing.
@@ -6,7 +6,7 @@ use mathlib.Core.Path.{_≡_}
 use mathlib.Core.Bool.{true, false}
 use mathlib.Core.Logic.{_≢_, _↔_, _⊎_}
 use mathlib.Core.List.{List, [], _∷_}
-use Prim.Native.Nat.{ℕ, _-_, _*_, _≤_, min}
+use Prim.Native.Nat.{ℕ, _+_, _-_, _*_, _≤_, min}
 use lib.ListN.{length}
 use Rattle.lists.specs.Lists.{All, Bytes, over}
 use Rattle.sizes.specs.declared.Sizes.{Sizes}
@@ -26,9 +26,11 @@ use Rattle.store_spec.specs.Record.{newRecord, held}
 use Rattle.store_spec.specs.Packets.{total, repairPackets}
 use Rattle.store_spec.specs.Calls.{accepted, recordLine, writeDone, loseDone, repairDone, readDone}
 use Rattle.store_spec.specs.Edit.{editDone}
+use Rattle.store_spec.specs.Careful.{agreeing, odd, carefulFile, oddReport, carefulDone}
+use Rattle.store_spec.specs.CarefulLaws.{OddTold}
 use Rattle.store_spec.specs.Running.{idle, runningBy, freshOf, packetCount}
-use Rattle.store_spec.specs.Both.{Outcome, beside, lostBeside, writeLinesBoth, loseLinesBoth, repairLinesBoth, readLinesBoth, editLinesBoth, stepLines, stepDone}
-use Rattle.store_spec.specs.Ledger.{write, lose, repair, read, edit, start, step}
+use Rattle.store_spec.specs.Both.{Outcome, beside, lostBeside, writeLinesBoth, loseLinesBoth, repairLinesBoth, readLinesBoth, editLinesBoth, carefulLinesBoth, stepLines, stepDone}
+use Rattle.store_spec.specs.Ledger.{write, lose, repair, read, edit, start, step, careful}
 use Rattle.text_spec.specs.Texts.{ShareTold, textOf, readText, textsOf}
 use Rattle.text_spec.specs.Laws.{Writable}
 use Rattle.text_spec.specs.Calls.{toldOf, readTextLines, textsTold, gathered, gatherLines, gatherCall}
@@ -118,6 +120,11 @@ pub record ArchiveCalls : Type 0 where
       → LentEnds (stepLines (recordFrom ws) (repairFrom ps) (length area) (length packets)) ws ps area [] packets
       (min allowance (packetCount (recordFrom ws .sizes) (length (freshOf (repairFrom ps))) - repairFrom ps .carried))
       (stepDone (recordFrom ws) (repairFrom ps) area packets allowance) (zbk ws ps area (step allowance packets))
+  -- request A.11: a careful read reports 0 where no board is odd, else the odd board's number plus 1
+  pub careful-ends : (ws ps area boards output : List ℕ) → isRecord ws ≡ true → isRepair ps ≡ true
+      → LentEnds (carefulLinesBoth (recordFrom ws) (repairFrom ps) area boards output) ws ps area output []
+      (oddReport (odd (recordFrom ws) area (fileOf (carefulFile (recordFrom ws) area boards)) boards))
+      (beside (repairFrom ps) (carefulDone (recordFrom ws) area boards output)) (zbk ws ps area (careful boards output))
   -- ---- and on words that do not tell both
   pub set-up-none : (ws ps : List ℕ) (z : Sizes) (xs : List ℕ) (c : ℕ) → (length ws ≢ 12) ⊎ (length ps ≢ 71)
       → Unchanged (zbkSetUp ws ps z xs c) ws ps [] [] []
@@ -132,6 +139,7 @@ pub record ArchiveCalls : Type 0 where
       → Unchanged (zbk ws ps area (start fresh helpers standIns)) ws ps area [] []
   pub step-none : (ws ps area : List ℕ) (allowance : ℕ) (packets : List ℕ) → Neither ws ps
       → Unchanged (zbk ws ps area (step allowance packets)) ws ps area [] packets
+  pub careful-none : (ws ps area boards output : List ℕ) → Neither ws ps → Unchanged (zbk ws ps area (careful boards output)) ws ps area output []
   -- ---- a read over any bytes, where no line but DISAGREE holds: it gives f exactly when f has length L and the k boards hold its shares, and answers 10
   -- with every byte of the output as it came exactly when there is no such file
   pub read-exact : (ws ps area boards output : List ℕ) → isRecord ws ≡ true → isRepair ps ≡ true → Bytes area
@@ -142,6 +150,16 @@ pub record ArchiveCalls : Type 0 where
       × ((zbk ws ps area (read boards output) ≡ record { answer = 10; words = ws; repair = ps; area = area; output = output; packets = [] })
       ↔ ((file : List ℕ) → length file ≡ recordFrom ws .length → Bytes file
       → All (λ i. held (recordFrom ws) area i ≡ share (recordFrom ws .sizes) (recordFrom ws .points) file i) boards → ⊥))
+  -- so it is with a careful read: it gives f, and the odd board's number or none, exactly when f has length L and all its boards but at most that one hold their
+  -- shares, and answers 10 exactly when no file's shares agree with k + 1 of them
+  pub careful-exact : (ws ps area boards output : List ℕ) → isRecord ws ≡ true → isRepair ps ≡ true → Bytes area
+      → All (λ x. (x ≡ Disagree) ⊎ (appliesIn (carefulLinesBoth (recordFrom ws) (repairFrom ps) area boards output) x ≡ false)) storeOrder
+      → ((file : List ℕ) → length file ≡ recordFrom ws .length → Bytes file → (v : ℕ)
+      → (zbk ws ps area (careful boards output) ≡ record { answer = 256 * v; words = ws; repair = ps; area = area; output = over file output; packets = [] })
+      ↔ OddTold (recordFrom ws) area file boards v)
+      × ((zbk ws ps area (careful boards output) ≡ record { answer = 10; words = ws; repair = ps; area = area; output = output; packets = [] })
+      ↔ ((file : List ℕ) → length file ≡ recordFrom ws .length → Bytes file
+      → recordFrom ws .sizes .k + 1 ≤ length (agreeing (recordFrom ws) area file boards) → ⊥))
   -- ---- the text reader
   pub text-ends : (text head points output : List ℕ) → length head ≡ 6 → length points ≡ 32
       → TextEnds (readTextLines text output) head points output (toldOf (readText text)) (zbkReadText text head points output)

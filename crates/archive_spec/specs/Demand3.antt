@@ -20,7 +20,7 @@ use Rattle.store_spec.specs.Record.{held}
 use Rattle.store_spec.specs.Packets.{contents, total, repairPackets, freshShare}
 use Rattle.store_spec.specs.Running.{packetsLen}
 use Rattle.store_spec.specs.MarkLaws.{Arrays}
-use Rattle.store_spec.specs.Ledger.{Call, write, lose, repair, read, edit, start, step, Event, call, powerFails, Reply, Book, Repairing, State, Step}
+use Rattle.store_spec.specs.Ledger.{Call, write, lose, repair, read, edit, start, step, careful, Event, call, powerFails, Reply, Book, Repairing, State, Step}
 use Rattle.store_spec.specs.Ledger.{Altered, Unaltered, FairEvent, openBook, bookLength, bookNext, bookReplies, bookFinal}
 use Rattle.store_spec.specs.Demand3.{Intact, Repaired, events}
 use Rattle.store_spec.specs.Premises.{files, IdleGiven, lentAgain, bare}
@@ -47,6 +47,7 @@ packetsLeft before (read boards output) o = before
 packetsLeft before (edit offset bytes boards) o = before
 packetsLeft before (start fresh helpers standIns) o = before
 packetsLeft before (step allowance packets) o = pick (eqb (o .answer % 256) 0) (o .packets) before
+packetsLeft before (careful boards output) o = before
 
 -- a call on the words held, and the area as it was altered before it; after a power failure the words of the record given are held, and no packets
 abbrev pub heldNext : Held → List ℕ → Event → Held

@@ -106,7 +106,8 @@ module _ (s s′ : Record) (p p′ : beside-record.Running) (z : Sizes) (xs : Li
       go (Refuse x) h = absurd (omega (arith, number-low x, h))
 
 -- a set-up at the array of the points is the set-up at the points
-pub due : (s : Record) (p : beside-record.Running) (z : Sizes) (xs points : List ℕ) (c : ℕ) (o : Outcome) → o ≡ setUpBoth s p z xs c → xs ≡ arrayOf points → o ≡ setUpBoth s p z points c
+pub due : (s : Record) (p : beside-record.Running) (z : Sizes) (xs points : List ℕ) (c : ℕ) (o : Outcome)
+    → o ≡ setUpBoth s p z xs c → xs ≡ arrayOf points → o ≡ setUpBoth s p z points c
 due s p z xs points c o e ex = e ∙ ap (λ (ys : List ℕ). setUpBoth s p z ys c) ex ∙ set-up-given s p z points c
 
 -- what `word_of` asks

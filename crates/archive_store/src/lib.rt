@@ -5,7 +5,7 @@ ghost use mathlib.Core.List.{List, []};
 ghost use Prim.Native.Nat.{ℕ, _<_};
 ghost use lib.ListN.{length};
 ghost use Rattle.sizes.specs.Refusals.{said};
-ghost use Rattle.store_spec.specs.Ledger.{write, lose, repair, read, edit, start, step};
+ghost use Rattle.store_spec.specs.Ledger.{write, lose, repair, read, careful, edit, start, step};
 ghost use Rattle.record.specs.Records.{runningIn};
 ghost use Rattle.store.specs.Handing.{recordIn};
 ghost use Rattle.answer_word.specs.Answers.{wordOf};
@@ -135,6 +135,27 @@ pub fn read(ws: &mut [u64], ps: &mut [u64], area: &[u8], boards: &[usize], out: 
     };
     let running = running_words::running_of(ps);
     let handed = store.read(running, area, boards, out);
+    hand_on(handed, ws, ps)
+}
+
+// Reads the file from k + 2 boards, of which one may hold wrong bytes.
+pub fn read_careful(
+    ws: &mut [u64],
+    ps: &mut [u64],
+    area: &[u8],
+    boards: &[usize],
+    out: &mut [u8],
+) -> u64
+    ensures { λ w. ⌜ record { answer = w; words = now (ws .exit); repair = now (ps .exit); area = now (area .entry); output = now (out .exit); packets = [] } ≡ zbk (now (ws .entry)) (now (ps .entry)) (now (area .entry)) (careful (now (boards .entry)) (now (out .entry))) ⌝ }
+{
+    if !words::are_records(ws, ps) {
+        return SIZE;
+    }
+    let store = Store {
+        record: words::kept_of(ws),
+    };
+    let running = running_words::running_of(ps);
+    let handed = store.read_careful(running, area, boards, out);
     hand_on(handed, ws, ps)
 }
 

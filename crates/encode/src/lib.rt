@@ -14,7 +14,7 @@ ghost use Rattle.encode_values.specs.Steps.{rowValues};
 use sizes::Sizes;
 
 // What board i keeps of a stripe, out of the rows of its values; x is the board's point.
-fn share_rows(sizes: Sizes, tables: &[u8], x: u8, i: usize, rows: &[u8], out: &mut [u8])
+pub fn share_rows(sizes: Sizes, tables: &[u8], x: u8, i: usize, rows: &[u8], out: &mut [u8])
     requires { ⌜ (legal sizes ≡ true) × (i < sizes .n) × (length (now tables) ≡ 16384) × (length (now rows) ≡ 992) × (length (now out) ≡ α sizes) ⌝ }
     ensures { λ _. ⌜ ((points u rest : List ℕ) → length points ≡ 32 → length u ≡ B sizes → Tabled (powerRows points (sizes .d + sizes .r)) (now (tables .entry)) → x ≡ point points i → now (rows .entry) ≡ rowValues sizes points u ++ rest → now (out .exit) ≡ kept sizes points u i) ⌝ }
 {

@@ -7,5 +7,6 @@ pub mod Read
 pub mod Places
 pub mod Linear
 pub mod Demand2
+pub mod Own
 pub mod Tight
 pub mod PointLaws

@@ -80,7 +80,7 @@ module _ (z : Sizes) (xs : List ℕ) where
 module _ (z : Sizes) (xs : List ℕ) (legal : Legal z) where
   open Sizes z using (n, k, d, r)
 
-  symbols-f-at : (i t : ℕ) (f g : ℕ → ℕ) → t < d + r → getD (symbols z xs i f g) t 0 ≡ f (point xs ((i + t) % n))
+  pub symbols-f-at : (i t : ℕ) (f g : ℕ → ℕ) → t < d + r → getD (symbols z xs i f g) t 0 ≡ f (point xs ((i + t) % n))
   unfolding symbols
   symbols-f-at i t f g h =
       let l : length (points xs (neighbours z i (d + r))) ≡ d + r = length-points xs (neighbours z i (d + r)) ∙ length-neighbours z i (d + r) in
@@ -88,7 +88,7 @@ module _ (z : Sizes) (xs : List ℕ) (legal : Legal z) where
       ∙ map-at f (points xs (neighbours z i (d + r))) t (omega arith)
       ∙ ap f (map-at (point xs) (neighbours z i (d + r)) t (omega (arith, length-neighbours z i (d + r))) ∙ ap (point xs) (neighbour-at z i (d + r) t h))
 
-  symbols-g-at : (i t : ℕ) (f g : ℕ → ℕ) → suc t < d → getD (symbols z xs i f g) (d + r + t) 0 ≡ g (point xs ((i + suc t) % n))
+  pub symbols-g-at : (i t : ℕ) (f g : ℕ → ℕ) → suc t < d → getD (symbols z xs i f g) (d + r + t) 0 ≡ g (point xs ((i + suc t) % n))
   unfolding symbols
   symbols-g-at i t f g h =
       let ns : List ℕ = neighbours z i d in
@@ -157,7 +157,7 @@ module _ (z : Sizes) (xs : List ℕ) (legal : Legal z) where
   unfolding F
   F-byte u lu bu x y = eval-byte (atY (grid z u) y) x (atY-bytes (grid z u) y (shape z legal u lu bu .bytes))
 
-  symbols-bytes : (i : ℕ) (f g : ℕ → ℕ) → ((y : ℕ) → f y < 256) → ((x : ℕ) → g x < 256) → Bytes (symbols z xs i f g)
+  pub symbols-bytes : (i : ℕ) (f g : ℕ → ℕ) → ((y : ℕ) → f y < 256) → ((x : ℕ) → g x < 256) → Bytes (symbols z xs i f g)
   unfolding symbols
   symbols-bytes i f g hf hg =
       let ys : List ℕ = points xs (neighbours z i (d + r)) in
@@ -172,11 +172,11 @@ module _ (z : Sizes) (xs : List ℕ) (legal : Legal z) where
       (λ y. F-byte (stripe z file s) (length-stripe z file s) (stripe-bytes z file s bf) (point xs i) y)
       (λ x. F-byte (stripe z file s) (length-stripe z file s) (stripe-bytes z file s bf) x (point xs i)))
 
-  own-f-bytes : (j : ℕ) (w : List ℕ) → Bytes w → Bytes (ownF z xs j w)
+  pub own-f-bytes : (j : ℕ) (w : List ℕ) → Bytes w → Bytes (ownF z xs j w)
   unfolding ownF
   own-f-bytes j w b = interpolate-bytes (points xs (neighbours z j (d + r))) (take (d + r) w) (take-alls (λ a. a < 256) (d + r) w b)
 
-  own-g-bytes : (j : ℕ) (w : List ℕ) → Bytes w → Bytes (ownG z xs j w)
+  pub own-g-bytes : (j : ℕ) (w : List ℕ) → Bytes w → Bytes (ownG z xs j w)
   unfolding ownG
   own-g-bytes j w b =
       interpolate-bytes (points xs (neighbours z j d)) (take 1 w ++ drop (d + r) w)

@@ -18,7 +18,7 @@ use Rattle.lists.proofs.Tests.{same-eq, same-refl}
 use Rattle.sizes.specs.Sizing.{α, B, stripes}
 use Rattle.sizes.specs.declared.Sizes.{Sizes}
 use Rattle.sizes.proofs.Legal.{Legal, stripes-enough}
-use Rattle.mbcr.specs.Read.{decodedFile, readFile}
+use Rattle.mbcr.specs.Read.{decodedStripe, decodedFile, readFile}
 use Rattle.mbcr.specs.Share.{DifferentPoints, stripe, share, shares}
 use Rattle.mbcr.proofs.Decode.{length-decoded, decoded-bytes, decoded-true}
 use Rattle.mbcr.proofs.Points.{Boards}
@@ -64,6 +64,16 @@ module _ (z : Sizes) (xs : List ℕ) (legal : Legal z) (pts : DifferentPoints z 
       ap (piece (α z) s) (piece-join (length bs) (stripes z (length file) * α z) (λ t. share z xs file (getD bs t 0)) (λ t l. length-share z xs legal file (getD bs t 0)) t (omega arith))
       ∙ share-piece z xs legal pts file bf (getD bs t 0) s h)))
       ∙ join-stripes file
+
+  -- stripe by stripe, for code
+  pub stripe-decoded : (file : List ℕ) → Bytes file → (s : ℕ) → s < stripes z (length file)
+      → decodedStripe z xs bs (λ t. piece (α z) s (piece (stripes z (length file) * α z) t (shares z xs file bs))) ≡ stripe z file s
+  stripe-decoded file bf s h =
+      decoded-true z xs legal pts (stripe z file s) (length-stripe z file s) (stripe-bytes z file s bf) bs boards lb _
+      (λ t l.
+      ap (λ (held : List ℕ). piece (α z) s (piece (stripes z (length file) * α z) t held)) (shares-by-place file)
+      ∙ ap (piece (α z) s) (piece-join (length bs) (stripes z (length file) * α z) (λ t. share z xs file (getD bs t 0)) (λ t l. length-share z xs legal file (getD bs t 0)) t (omega arith))
+      ∙ share-piece z xs legal pts file bf (getD bs t 0) s h)
 
   pub decoded-file-true : (file : List ℕ) → Bytes file → decodedFile z xs (length file) bs (shares z xs file bs) ≡ file
   decoded-file-true file bf = ap (decodedFile z xs (length file) bs) (shares-by-place file) ∙ decoded-by-place file bf

@@ -11,9 +11,9 @@ use native.Mathlib.Omega.{arith}
 use lib.ListN.{length, getD, take, drop, replicate, length-append, length-map, length-take, length-drop, length-replicate, getD-replicate, List·getD-append, List·getD-eq-default, take-append-drop}
 use lib.Seq.{getD-append-add, length-take-le, drop-at}
 use Rattle.lists.specs.Tests.{below, different}
-use Rattle.lists.specs.Lists.{All, Bytes, tabulate, join}
+use Rattle.lists.specs.Lists.{All, Bytes, tabulate, join, fit}
 use Rattle.lists.proofs.Alls.{Distinct, all-atD, all-of, byte-at, append-all, take-alls, drop-alls, zeros-bytes}
-use Rattle.lists.proofs.Pieces.{length-tabulate, tabulate-at, tabulate-all, piece-at, piece-join, length-join, map-at, map-drop}
+use Rattle.lists.proofs.Pieces.{length-tabulate, tabulate-at, tabulate-all, piece-at, piece-join, length-join, map-at, map-drop, fit-at}
 use Rattle.gf256.specs.Field.{add, mul}
 use Rattle.gf256.proofs.Ring.{ring}
 use Rattle.sizes.specs.declared.Sizes.{Sizes}
@@ -28,9 +28,11 @@ use Rattle.mbcr.specs.Rebuild.{ownF, ownG}
 use Rattle.mbcr.specs.Read.{through, bColumn, cRow, aColumn, decodedStripe}
 use Rattle.mbcr.proofs.Points.{Boards, boards-of, length-neighbours, length-points, points-bytes, points-distinct, neighbours-boards}
 use Rattle.mbcr.proofs.Shape.{shape, entry-a, entry-b, entry-c, entry-none}
-use Rattle.mbcr.proofs.Stripe.{atX-high, atY-high, atY-bytes, f-kept, g-kept, f-value, g-value}
+use Rattle.mbcr.proofs.Own.{own-f-length, own-g-length, symbols-of}
+use Rattle.mbcr.proofs.Places.{own-f-bytes, own-g-bytes}
+use Rattle.mbcr.proofs.Stripe.{atX-high, atY-high, atX-bytes, atY-bytes, f-kept, g-kept, f-value, g-value}
 use Rattle.mbcr.proofs.Decode.{length-decoded, decoded-bytes}
-use Rattle.pairs.specs.Steps.{Pairs, Kept, PairsClaim}
+use Rattle.pairs.specs.Steps.{Pairs, Kept, Joins, PairsClaim, JoinsClaim}
 
 -- lists with the same coefficients have the same values
 eval-ext : (p q : List ℕ) (y : ℕ) → ((i : ℕ) → getD p i 0 ≡ getD q i 0) → eval p y ≡ eval q y
@@ -46,31 +48,6 @@ zeros : (i m : ℕ) → getD {A = ℕ} (replicate m 0) i 0 ≡ 0
 zeros i zero = refl
 zeros zero (suc m) = refl
 zeros (suc i) (suc m) = zeros i m
-
--- any bytes: f and g by the bytes that a board keeps have these bytes for values
-module _ (z : Sizes) (xs : List ℕ) (legal : Legal z) (pts : DifferentPoints z xs) where
-  open Sizes z using (n, k, d, r)
-
-  symbols-of : (i : ℕ) (w : List ℕ) → i < n → length w ≡ α z → Bytes w → symbols z xs i (eval (ownF z xs i w)) (eval (ownG z xs i w)) ≡ w
-  unfolding symbols ownF ownG
-  symbols-of i w h l b =
-      let m : d + r + (d - 1) ≡ length w = α-parts z legal ∙ sym l in
-      let bf : Boards z (neighbours z i (d + r)) = neighbours-boards z i (d + r) h (legal .enough) in
-      let bg : Boards z (neighbours z i d) = neighbours-boards z i d h (omega (arith, legal .enough)) in
-      let one : length (take 1 w) ≡ 1 = length-take-le 1 w (omega (arith, legal .some-fresh)) in
-      let lf : length (take (d + r) w) ≡ d + r = length-take-le (d + r) w (omega arith) in
-      let lg : length (take 1 w ++ drop (d + r) w) ≡ d =
-      length-append (take 1 w) (drop (d + r) w) ∙ ap₂ _+_ one (length-drop (d + r) w) ∙ omega (arith, legal .some-read, legal .read-helpers) in
-      ap₂ {C = List ℕ} (λ x y. x ++ y)
-      (evals-interpolate (points xs (neighbours z i (d + r))) (take (d + r) w)
-      (length-points xs (neighbours z i (d + r)) ∙ length-neighbours z i (d + r) ∙ sym lf)
-      (take-alls (λ a. a < 256) (d + r) w b) (points-bytes z xs pts _ bf) (points-distinct z xs pts _ bf))
-      (ap (map _) (map-drop (point xs) 1 (neighbours z i d)) ∙ map-drop _ 1 (points xs (neighbours z i d))
-      ∙ ap (drop 1) (evals-interpolate (points xs (neighbours z i d)) (take 1 w ++ drop (d + r) w)
-      (length-points xs (neighbours z i d) ∙ length-neighbours z i d ∙ sym lg)
-      (append-all (λ a. a < 256) (take 1 w) (drop (d + r) w) (take-alls (λ a. a < 256) 1 w b) (drop-alls (λ a. a < 256) (d + r) w b)) (points-bytes z xs pts _ bg) (points-distinct z xs pts _ bg))
-      ∙ drop-at (take 1 w) (drop (d + r) w) 1 one)
-      ∙ take-append-drop (d + r) w
 
 module _ (z : Sizes) (xs : List ℕ) (legal : Legal z) (pts : DifferentPoints z xs) (bs : List ℕ) (boards : Boards z bs) (lb : length bs ≡ z .k)
     (w : ℕ → List ℕ) (lw : (t : ℕ) → t < z .k → length (w t) ≡ α z) (bw : (t : ℕ) → t < z .k → Bytes (w t)) where
@@ -368,7 +345,100 @@ module _ (z : Sizes) (xs : List ℕ) (legal : Legal z) (pts : DifferentPoints z 
     unfolding kept
     pairs-kept t ht =
         ap₂ (symbols z xs (getD bs t 0)) (fun-ext (λ y. F-f t y ht)) (fun-ext (λ y. F-g t y ht))
-        ∙ symbols-of z xs legal pts (getD bs t 0) (w t) (board t ht) (lw t ht) (bw t ht)
+        ∙ symbols-of z xs legal (getD bs t 0) (w t) (lw t ht) (bw t ht) pts (board t ht)
+
+    -- ---- a further board
+
+    module _ (q : ℕ) (v : List ℕ) (hq : q < n) (lv : length v ≡ α z) (bv : Bytes v) where
+      abbrev y : ℕ
+      y = point xs q
+
+      fq-bytes : Bytes (ownF z xs q v)
+      fq-bytes = own-f-bytes z xs legal q v bv
+
+      gq-bytes : Bytes (ownG z xs q v)
+      gq-bytes = own-g-bytes z xs legal q v bv
+
+      -- at the boards' points
+      f-at : (t : ℕ) → t < k → eval (atX gr y) (x t) ≡ eval (g t) y
+      unfolding F
+      f-at t ht = eval-atX gr y (x t) ∙ F-g t y ht
+
+      g-at : (t : ℕ) → t < k → eval (atY gr y) (x t) ≡ eval (f t) y
+      unfolding F
+      g-at t ht = F-f t y ht
+
+      -- coefficients from k on
+      f-top : (j : ℕ) → k ≤ j → j < d + r → getD (atX gr y) j 0 ≡ eval (bColumn z xs bs w j) y
+      f-top j hj lj = atX-at gr y j ∙ eval-ext (column gr j) (bColumn z xs bs w j) y (λ i. column-b j i hj lj)
+
+      g-top : (i : ℕ) → k ≤ i → i < d → getD (atY gr y) i 0 ≡ eval (cRow z xs bs w i) y
+      g-top i hi li = atY-at gr y i ∙ eval-ext (getD gr i []) (cRow z xs bs w i) y (λ j. row-c i j hi li)
+
+      module _ (joins : Joins z xs bs w q v) where
+        f-high : (j : ℕ) → k ≤ j → getD (atX gr y) j 0 ≡ getD (ownF z xs q v) j 0
+        f-high j hj = go (decLt j (d + r))
+          where
+            go : Dec (j < d + r) → getD (atX gr y) j 0 ≡ getD (ownF z xs q v) j 0
+            go (yes e) = f-top j hj e ∙ sym (joins .1 j hj e)
+            go (no e) = atX-high k d r gr sh (legal .read-helpers) y j (omega arith) ∙ sym (List·getD-eq-default (ownF z xs q v) 0 (omega (arith, own-f-length z xs legal q v lv)))
+
+        g-high : (i : ℕ) → k ≤ i → getD (atY gr y) i 0 ≡ getD (ownG z xs q v) i 0
+        g-high i hi = go (decLt i d)
+          where
+            go : Dec (i < d) → getD (atY gr y) i 0 ≡ getD (ownG z xs q v) i 0
+            go (yes e) = g-top i hi e ∙ sym (joins .2 i hi e)
+            go (no e) = atY-high k d r gr sh (legal .read-helpers) y i (omega arith) ∙ sym (List·getD-eq-default (ownG z xs q v) 0 (omega (arith, own-g-length z xs legal q v lv)))
+
+        f-same : (j : ℕ) → getD (atX gr y) j 0 ≡ getD (ownF z xs q v) j 0
+        f-same =
+            same-polynomial (atX gr y) (ownF z xs q v) (points xs bs) (λ j h. f-high j (omega (arith, lx))) (atX-bytes gr y (sh .bytes)) fq-bytes bx dx
+            (all-of (λ p. eval (atX gr y) p ≡ eval (ownF z xs q v) p) 0 (points xs bs)
+            (λ t h.
+            let e : getD (points xs bs) t 0 ≡ x t = map-at (point xs) bs t (omega (arith, lx)) in
+            rw e (f-at t (omega (arith, lx)) ∙ sym (joins .0 t (omega (arith, lx)) .0))))
+
+        g-same : (i : ℕ) → getD (atY gr y) i 0 ≡ getD (ownG z xs q v) i 0
+        g-same =
+            same-polynomial (atY gr y) (ownG z xs q v) (points xs bs) (λ i h. g-high i (omega (arith, lx))) (atY-bytes gr y (sh .bytes)) gq-bytes bx dx
+            (all-of (λ p. eval (atY gr y) p ≡ eval (ownG z xs q v) p) 0 (points xs bs)
+            (λ t h.
+            let e : getD (points xs bs) t 0 ≡ x t = map-at (point xs) bs t (omega (arith, lx)) in
+            rw e (g-at t (omega (arith, lx)) ∙ sym (joins .0 t (omega (arith, lx)) .1))))
+
+        F-of-f : (p : ℕ) → F z u y p ≡ eval (ownF z xs q v) p
+        unfolding F
+        F-of-f p = sym (eval-atX gr y p) ∙ eval-ext (atX gr y) (ownF z xs q v) p f-same
+
+        F-of-g : (p : ℕ) → F z u p y ≡ eval (ownG z xs q v) p
+        unfolding F
+        F-of-g p = eval-ext (atY gr y) (ownG z xs q v) p g-same
+
+        pub joined : kept z xs u q ≡ v
+        unfolding kept
+        joined = ap₂ (symbols z xs q) (fun-ext F-of-f) (fun-ext F-of-g) ∙ symbols-of z xs legal q v lv bv pts hq
+
+      pub joining : kept z xs u q ≡ v → Joins z xs bs w q v
+      joining e = (
+        (λ t ht. (
+          ap (λ (p : List ℕ). eval p (x t)) own-f ∙ f-value z xs legal pts u lu bu y (x t) ∙ F-g t y ht,
+          ap (λ (p : List ℕ). eval p (x t)) own-g ∙ g-value z xs legal pts u lu bu (x t) y ∙ F-f t y ht,
+        )),
+        (λ j hj lj. ap (λ (p : List ℕ). getD p j 0) own-f ∙ fit-at (d + r) (atX gr y) j lj ∙ f-top j hj lj),
+        (λ i hi li. ap (λ (p : List ℕ). getD p i 0) own-g ∙ fit-at d (atY gr y) i li ∙ g-top i hi li),
+      )
+        where
+          own-f : ownF z xs q v ≡ fit (d + r) (atX gr y)
+          own-f = ap (ownF z xs q) (sym e) ∙ f-kept z xs legal pts u lu bu q hq
+
+          own-g : ownG z xs q v ≡ fit d (atY gr y)
+          own-g = ap (ownG z xs q) (sym e) ∙ g-kept z xs legal pts u lu bu q hq
+
+pub joins-kept : JoinsClaim
+joins-kept z xs bs w l pts lb below once lw bw pairs q v hq lv bv =
+    let facts : Legal z = legal-facts z l in
+    let boards : Boards z bs = boards-of z bs below once in
+    (joined z xs facts pts bs boards lb w lw bw pairs q v hq lv bv, joining z xs facts pts bs boards lb w lw bw pairs q v hq lv bv)
 
 pub pairs-agree : PairsClaim
 pairs-agree z xs bs w l pts lb below once lw bw =

@@ -125,7 +125,8 @@ points-step text xs part n i j h e t w g go =
     let one : n - j ≡ suc (n - (j + 1)) = omega (arith, h) in
     let all : length part + (n - (j + 1)) ≡ n = omega (arith, h, e) in
     ap (λ (m : ℕ). i + pairsOn (mayPoint n) m xs (drop i text) go) one
-    ∙ ap₂ (λ (m : ℕ) (l : List ℕ). i + pairOn (λ x. mayPoint m (n - (j + 1)) (l ++ (x ∷ []))) (drop i text) (λ x input. pairsOn (mayPoint n) (n - (j + 1)) (xs ++ (x ∷ [])) input go)) (sym all) (sym t)
+    ∙ ap₂ (λ (m : ℕ) (l : List ℕ). i + pairOn (λ x. mayPoint m (n - (j + 1)) (l ++ (x ∷ []))) (drop i text)
+    (λ x input. pairsOn (mayPoint n) (n - (j + 1)) (xs ++ (x ∷ [])) input go)) (sym all) (sym t)
     ∙ g (λ x input. pairsOn (mayPoint n) (n - (j + 1)) (xs ++ (x ∷ [])) input go)
 
 -- the first j + 1 of a list, as a part of it is lent

@@ -48,7 +48,8 @@ end-best z node L xs share input = record {
     empty [] e = refl
     empty (b ∷ w) e = by (eqb (length (b ∷ w)) 0) refl e
       where
-        by : (t : Bool) → eqb (length (b ∷ w)) 0 ≡ t → given {A = ShareTold} (pick t (some (record { sizes = z; points = xs; length = L; node = node; share = share })) none) ≡ true → b ∷ w ≡ []
+        by : (t : Bool) → eqb (length (b ∷ w)) 0 ≡ t
+            → given {A = ShareTold} (pick t (some (record { sizes = z; points = xs; length = L; node = node; share = share })) none) ≡ true → b ∷ w ≡ []
         by true h e = absurd (omega (arith, eqb-true (length (b ∷ w)) 0 h))
         by false h e = absurd (true-false e refl)
 

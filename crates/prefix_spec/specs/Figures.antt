@@ -53,7 +53,8 @@ beyond text l = map (λ rest. longest (text rest) - length (text [])) l
 pub record PrefixFigures : Type 0 where
   pub first-bytes : map longest ([] ∷ (0x78 ∷ []) ∷ (0x6E ∷ []) ∷ (0x6E ∷ 0x20 ∷ []) ∷ []) ≡ 0 ∷ 0 ∷ 1 ∷ 1 ∷ []
   -- 0; 02; 1; 1 and byte 0A; 2 and byte 0A; 32; 33; 4 and 0
-  pub boards : beyond n ((0x30 ∷ []) ∷ (0x30 ∷ 0x32 ∷ []) ∷ (0x31 ∷ []) ∷ (0x31 ∷ 0x0A ∷ []) ∷ (0x32 ∷ 0x0A ∷ []) ∷ (0x33 ∷ 0x32 ∷ []) ∷ (0x33 ∷ 0x33 ∷ []) ∷ (0x34 ∷ 0x30 ∷ []) ∷ [])
+  pub boards : beyond n ((0x30 ∷ []) ∷ (0x30 ∷ 0x32 ∷ []) ∷ (0x31 ∷ []) ∷ (0x31 ∷ 0x0A ∷ []) ∷ (0x32 ∷ 0x0A ∷ [])
+      ∷ (0x33 ∷ 0x32 ∷ []) ∷ (0x33 ∷ 0x33 ∷ []) ∷ (0x34 ∷ 0x30 ∷ []) ∷ [])
       ≡ 0 ∷ 0 ∷ 1 ∷ 1 ∷ 2 ∷ 2 ∷ 1 ∷ 1 ∷ []
   -- n=4, k=3: d is 3
   pub helpers : beyond four ((0x32 ∷ []) ∷ (0x33 ∷ []) ∷ (0x34 ∷ []) ∷ []) ≡ 0 ∷ 1 ∷ 0 ∷ []
@@ -61,13 +62,17 @@ pub record PrefixFigures : Type 0 where
   pub many-helpers : beyond twenty ((0x31 ∷ []) ∷ (0x32 ∷ []) ∷ (0x33 ∷ []) ∷ (0x32 ∷ 0x30 ∷ []) ∷ (0x33 ∷ 0x32 ∷ []) ∷ []) ≡ 0 ∷ 1 ∷ 1 ∷ 2 ∷ 1 ∷ []
   -- n=5, k=2, d=3: r=0, 1, 2, 3; then with r=2 a length of 4,096 × 12, one more, and one digit more
   pub fresh : beyond five ((0x30 ∷ []) ∷ (0x31 ∷ []) ∷ (0x32 ∷ []) ∷ (0x33 ∷ []) ∷ []) ≡ 0 ∷ 1 ∷ 1 ∷ 0 ∷ []
-  pub file : beyond fiveLong ((0x34 ∷ 0x39 ∷ 0x31 ∷ 0x35 ∷ 0x32 ∷ []) ∷ (0x34 ∷ 0x39 ∷ 0x31 ∷ 0x35 ∷ 0x33 ∷ []) ∷ (0x31 ∷ 0x30 ∷ 0x30 ∷ 0x30 ∷ 0x30 ∷ 0x30 ∷ []) ∷ []) ≡ 5 ∷ 4 ∷ 5 ∷ []
+  pub file : beyond fiveLong ((0x34 ∷ 0x39 ∷ 0x31 ∷ 0x35 ∷ 0x32 ∷ []) ∷ (0x34 ∷ 0x39 ∷ 0x31 ∷ 0x35 ∷ 0x33 ∷ [])
+      ∷ (0x31 ∷ 0x30 ∷ 0x30 ∷ 0x30 ∷ 0x30 ∷ 0x30 ∷ []) ∷ [])
+      ≡ 5 ∷ 4 ∷ 5 ∷ []
   -- n=32: node=4, 40, 31, 32, 0, 00
-  pub node : beyond (ones (0x33 ∷ 0x32 ∷ [])) ((0x34 ∷ []) ∷ (0x34 ∷ 0x30 ∷ []) ∷ (0x33 ∷ 0x31 ∷ []) ∷ (0x33 ∷ 0x32 ∷ []) ∷ (0x30 ∷ []) ∷ (0x30 ∷ 0x30 ∷ []) ∷ []) ≡ 1 ∷ 1 ∷ 2 ∷ 1 ∷ 1 ∷ 1 ∷ []
+  pub node : beyond (ones (0x33 ∷ 0x32 ∷ [])) ((0x34 ∷ []) ∷ (0x34 ∷ 0x30 ∷ []) ∷ (0x33 ∷ 0x31 ∷ []) ∷ (0x33 ∷ 0x32 ∷ []) ∷ (0x30 ∷ []) ∷ (0x30 ∷ 0x30 ∷ []) ∷ [])
+      ≡ 1 ∷ 1 ∷ 2 ∷ 1 ∷ 1 ∷ 1 ∷ []
   -- n=2: a length of 4,096 × B and one more
   pub longest-file : beyond (long (0x32 ∷ [])) ((0x38 ∷ 0x31 ∷ 0x39 ∷ 0x32 ∷ []) ∷ (0x38 ∷ 0x31 ∷ 0x39 ∷ 0x33 ∷ []) ∷ []) ≡ 4 ∷ 3 ∷ []
   -- n=2: 0001 would be 0 to n − 1; 0000 repeats; 0002 stands
-  pub two-points : beyond (points (0x32 ∷ [])) (inOrder 2 [] ∷ (0x30 ∷ 0x30 ∷ 0x30 ∷ 0x30 ∷ []) ∷ (0x30 ∷ 0x30 ∷ 0x30 ∷ 0x32 ∷ []) ∷ (0x30 ∷ 0x41 ∷ []) ∷ []) ≡ 3 ∷ 3 ∷ 4 ∷ 1 ∷ []
+  pub two-points : beyond (points (0x32 ∷ [])) (inOrder 2 [] ∷ (0x30 ∷ 0x30 ∷ 0x30 ∷ 0x30 ∷ []) ∷ (0x30 ∷ 0x30 ∷ 0x30 ∷ 0x32 ∷ []) ∷ (0x30 ∷ 0x41 ∷ []) ∷ [])
+      ≡ 3 ∷ 3 ∷ 4 ∷ 1 ∷ []
   -- n=16 behind 00 to 0e: 0f would be the row; n=17 behind 00 to 0f: all of 00 to 0f are used; n=32 behind 00 to 1e: 1f would be the row
   pub sixteen : beyond (points (0x31 ∷ 0x36 ∷ [])) (inOrder 15 (0x30 ∷ []) ∷ inOrder 15 (0x31 ∷ []) ∷ []) ≡ 30 ∷ 31 ∷ []
   pub seventeen : beyond (points (0x31 ∷ 0x37 ∷ [])) (inOrder 16 (0x30 ∷ []) ∷ inOrder 16 (0x31 ∷ 0x30 ∷ []) ∷ inOrder 16 (0x31 ∷ 0x31 ∷ []) ∷ []) ≡ 32 ∷ 33 ∷ 34 ∷ []

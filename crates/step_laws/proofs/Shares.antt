@@ -77,7 +77,8 @@ module _ (s : Record) (fresh helpers standIns packets : List ℕ) (f : Listed (s
   share-at : (a : ℕ) → a < t → shareLying s fresh helpers standIns packets (getD fresh a 0) ≡ shareAt (s .sizes) (s .points) S fresh helpers standIns packets a
   unfolding shareLying helpersLying partnersLying shareAt
   share-at a h =
-      ap₂ (λ (hs bytes : List ℕ). finishedShare (s .sizes) (s .points) S (getD fresh a 0) hs bytes (sendersOf (sentTo (getD fresh a 0) (stand ++ swapped))) (contents (sentTo (getD fresh a 0) (stand ++ swapped))))
+      ap₂ (λ (hs bytes : List ℕ). finishedShare (s .sizes) (s .points) S (getD fresh a 0) hs bytes
+      (sendersOf (sentTo (getD fresh a 0) (stand ++ swapped))) (contents (sentTo (getD fresh a 0) (stand ++ swapped))))
       (run-senders fresh (f .fresh-different) (2 * S) d helpers packets (f .helper-count) a h)
       (run-contents fresh (f .fresh-different) (2 * S) d helpers packets (f .helper-count) a h)
       ∙ ap₂ (λ (ms sent : List ℕ). finishedShare (s .sizes) (s .points) S (getD fresh a 0) (piece d a helpers) (piece (d * (2 * S)) a packets) ms sent) (partners-are a h) (partners-sent a h)

@@ -9,7 +9,7 @@ use denote.Ref.{now}
 use denote.Triple.Clauses.{AtExit}
 use borrow.Fn.Kinds.{Dens, endedOf}
 use Rattle.store_spec.specs.Both.{setUpBoth}
-use Rattle.store_spec.specs.Ledger.{write, lose, repair, read, edit, start, step, act}
+use Rattle.store_spec.specs.Ledger.{write, lose, repair, read, careful, edit, start, step, act}
 use Rattle.record.specs.declared.Running.{Running}
 use Rattle.record.specs.Records.{runningIn}
 use Rattle.store.specs.declared.Store.{Store}
@@ -26,6 +26,8 @@ use Rattle.store.proofs.Store.repair.Reads as repairs
 use Rattle.store.proofs.Store.repair.Kinds as repair-kinds
 use Rattle.store.proofs.Store.read.Reads as reads
 use Rattle.store.proofs.Store.read.Kinds as read-kinds
+use Rattle.store.proofs.Store.read_careful.Reads as carefuls
+use Rattle.store.proofs.Store.read_careful.Kinds as careful-kinds
 use Rattle.store.proofs.Store.edit.Reads as edits
 use Rattle.store.proofs.Store.edit.Kinds as edit-kinds
 use Rattle.store.proofs.Store.start.Reads as starts
@@ -69,6 +71,13 @@ pub read-meets : (κs : Lfts 3) (a : Dens κs read-kinds.ps) (r : Handed) (e : A
     → Meets (on (a .0) (a .1 .0)) (now (a .1 .1 .0)) (read (now (a .1 .1 .1 .0)) (now (a .1 .1 .1 .1 .0))) (gaveBack r (now (a .1 .1 .0)) (now (e .1 .1 .1 .1 .0)) []))
 unfolding act
 read-meets κs a r e = (tt, λ h. h)
+
+pub read-careful-meets : (κs : Lfts 3) (a : Dens κs careful-kinds.ps) (r : Handed) (e : AtExit (endedOf 3 careful-kinds.ps careful-kinds.r) κs)
+    → carefuls.Asked κs a
+    × (carefuls.Learnt κs a r e
+    → Meets (on (a .0) (a .1 .0)) (now (a .1 .1 .0)) (careful (now (a .1 .1 .1 .0)) (now (a .1 .1 .1 .1 .0))) (gaveBack r (now (a .1 .1 .0)) (now (e .1 .1 .1 .1 .0)) []))
+unfolding act
+read-careful-meets κs a r e = (tt, λ h. h)
 
 pub edit-meets : (κs : Lfts 3) (a : Dens κs edit-kinds.ps) (r : Handed) (e : AtExit (endedOf 3 edit-kinds.ps edit-kinds.r) κs)
     → edits.Asked κs a

@@ -4,10 +4,10 @@ use mathlib.Core.Path.{sym, ap, _∙_}
 use Rattle.store_spec.specs.Both.{Outcome}
 use Rattle.store_spec.specs.Ledger.{act}
 use Rattle.store_spec.proofs.Demand3.{accepted-both}
-use Rattle.store_spec.proofs.Follows.{follows}
+use Rattle.store_spec.proofs.Follows.{follows, follows-worn}
 use Rattle.record.specs.Records.{runningIn}
 use Rattle.store.specs.Handing.{recordIn}
-use Rattle.store.specs.Demand3.{Records, keptIn, besideIn, handedOn, CodeDemand3}
+use Rattle.store.specs.Demand3.{Records, keptIn, besideIn, handedOn, CodeDemand3, CodeWorn}
 
 pub code-demand-3 : CodeDemand3
 unfolding act
@@ -20,3 +20,8 @@ code-demand-3 old p z xs c new made taken area steps run ok r =
       λ x any fresh helpers standIns g m k.
           accepted-both (keptIn x) (besideIn x) any fresh helpers standIns (ap (λ (o : Outcome). o .answer .refusal) (sym m) ∙ k) .1,
     )
+
+pub code-worn : CodeWorn
+code-worn old p z xs c new made taken area steps run ok r =
+    follows-worn Records keptIn besideIn (recordIn old) (runningIn p) z xs c (handedOn new) (ap (λ (o : Outcome). o .handed) made)
+    (ap (λ (o : Outcome). o .running) made) (ap (λ (o : Outcome). o .answer .refusal) (sym made) ∙ taken) area steps run ok r

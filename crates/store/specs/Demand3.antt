@@ -1,6 +1,6 @@
 -- Demand 3 of the code: what holds of any list of events of the methods, by the crate store_spec's `Follows`. A run is what the calls gave back, each by its method's
 -- contract on the records that the last one handed on, and after a power failure the records that the calls after it are given.
--- proofs/Demand3.antt has `code-demand-3 : CodeDemand3`.
+-- proofs/Demand3.antt has `code-demand-3 : CodeDemand3` and, of request A.11, `code-worn : CodeWorn`.
 -- Assumes nothing.
 use mathlib.Core.Path.{_≡_}
 use mathlib.Core.List.{List, []}
@@ -13,6 +13,7 @@ use Rattle.store_spec.specs.Running as spec
 use Rattle.store_spec.specs.Both.{setUpBoth}
 use Rattle.store_spec.specs.Ledger.{Call, repair, call, Step, State, Reply, Allowed, openBook, bookReplies, bookFinal}
 use Rattle.store_spec.specs.Demand3.{Intact, Repaired, begun, events}
+use Rattle.store_spec.specs.CarefulLaws.{AnyBytes, Worn}
 use Rattle.store_spec.specs.Follows as follow
 use Rattle.record.specs.declared.Running.{Running}
 use Rattle.record.specs.Records.{runningIn}
@@ -65,3 +66,12 @@ CodeDemand3 =
     × Intact (ending (handedOn new) area steps run) (bookFinal (openBook z xs c (length area)) (events steps))
     × ((x : Records) (any fresh helpers standIns : List ℕ) (g : follow.Given Records) → Meets x any (repair fresh helpers standIns) g → g .answer .refusal ≡ 0
     → Repaired (keptIn x) any fresh helpers standIns)
+
+-- request A.11: over any areas of bytes, of boards in service too, the records are the book's where a run ends, and a careful read of boards of which all but at most
+-- one hold their share of the last file gives it
+abbrev pub CodeWorn : Type 0
+CodeWorn =
+    (old : Store) (p : Running) (z : Sizes) (xs : List ℕ) (c : ℕ) (new : Handed)
+    → outcomeBoth new [] [] [] ≡ setUpBoth (recordIn old) (runningIn p) z xs c → said (new .answer) .refusal ≡ 0
+    → (area : List ℕ) (steps : List Step) (run : List (follow.Moment Records)) → AnyBytes (length area) steps → Run (handedOn new) steps run
+    → Worn (ending (handedOn new) area steps run) (bookFinal (openBook z xs c (length area)) (events steps))

@@ -13,7 +13,7 @@ ghost use Rattle.line_checks.specs.Steps.{asked};
 ghost use Rattle.store_spec.specs.Packets.{repairPackets, total};
 ghost use Rattle.store_spec.specs.Calls.{repairLines, readLines, fileHeld, repairDone, readDone};
 ghost use Rattle.store_spec.specs.Edit.{editLines, editDone};
-ghost use Rattle.store_spec.specs.Both.{setUpBoth, writeBoth, loseBoth, repairBoth, readBoth, editBoth, startCall, stepCall};
+ghost use Rattle.store_spec.specs.Both.{setUpBoth, writeBoth, loseBoth, repairBoth, readBoth, carefulBoth, editBoth, startCall, stepCall};
 ghost use Rattle.store_checks.specs.Steps.{Bounded};
 ghost use Rattle.decode_stripe.specs.Steps.{Asked};
 ghost use Rattle.decode_setup.specs.Steps.{Made};
@@ -281,6 +281,38 @@ impl Store {
             store: self,
             running: running,
             answer: Answer::Done(0),
+        }
+    }
+
+    // Reads the file from k + 2 boards, of which one may hold wrong bytes: the file whose shares all of them hold, or all but one, goes to the
+    // beginning of the output. Answers 0, or the number of the odd board plus 1.
+    pub fn read_careful(
+        self,
+        running: Running,
+        area: &[u8],
+        boards: &[usize],
+        out: &mut [u8],
+    ) -> Handed
+        ensures { λ r. ⌜ outcomeBoth r (now (area .entry)) (now (out .exit)) [] ≡ carefulBoth (recordIn self) (runningIn running) (now (area .entry)) (now (boards .entry)) (now (out .entry)) ⌝ }
+    {
+        let kept = self.record;
+        if let Check::Refuse(x) = careful_check::check_careful(
+            kept,
+            running,
+            area.len(),
+            boards,
+            out,
+        ) {
+            return refuse(self, running, x);
+        }
+        let tried = careful_tries::read_file(kept, boards, area, out);
+        if !tried.found {
+            return refuse(self, running, Refusal::Disagree);
+        }
+        Handed {
+            store: self,
+            running: running,
+            answer: Answer::Done(tried.odd),
         }
     }
 

@@ -19,10 +19,11 @@ use Rattle.sizes.proofs.Legal.{legal-facts}
 use Rattle.sizes.proofs.Alike.{here, past, Alike, _and_, end, further, size, disagree}
 use Rattle.store_spec.specs.Calls.{writeLines, loseLines, listLines, repairLines, readLines}
 use Rattle.store_spec.specs.Edit.{editLines}
+use Rattle.store_spec.specs.Careful.{carefulLines}
 use Rattle.store_spec.specs.Running.{Running, freshOf, packetsLen, soundBeside}
-use Rattle.store_spec.specs.Both.{writeLinesBoth, loseLinesBoth, repairLinesBoth, readLinesBoth, editLinesBoth, stepLines}
+use Rattle.store_spec.specs.Both.{writeLinesBoth, loseLinesBoth, repairLinesBoth, readLinesBoth, editLinesBoth, carefulLinesBoth, stepLines}
 use Rattle.store_spec.specs.BothCalls.{storeLines}
-use Rattle.store_spec.specs.Ledger.{Call, write, lose, repair, read, edit, start, step, Book, Repairing, during, bookRecord, bookLength, bookLines, repairAsked}
+use Rattle.store_spec.specs.Ledger.{Call, write, lose, repair, read, edit, start, step, careful, Book, Repairing, during, bookRecord, bookLength, bookLines, repairAsked}
 use Rattle.store_spec.specs.Packets.{hearNamed}
 use Rattle.store_spec.specs.Record.{Record, sound, areaLen, inService}
 use Rattle.store_spec.proofs.Marks.{mark-at}
@@ -149,7 +150,7 @@ module _ (b : Book) (area : List ℕ) (ok : legal (b .sizes) ≡ true) (low : Al
         and end))
 
     pub alike : (call : Call) → Alike (storeLines (bookRecord b) p area call) (bookLines b call)
-    unfolding storeLines writeLinesBoth loseLinesBoth readLinesBoth editLinesBoth stepLines writeLines loseLines readLines editLines bookLines
+    unfolding storeLines writeLinesBoth loseLinesBoth readLinesBoth editLinesBoth carefulLinesBoth stepLines writeLines loseLines readLines editLines carefulLines bookLines
     alike (write file) = size (further runs (past refl (past refl here)) (ap not area-is and refl and end))
     alike (lose board) = size (ap not (one-below (b .sizes .n) board) and end)
     alike (repair fresh helpers standIns) = asked fresh helpers standIns
@@ -181,11 +182,22 @@ module _ (b : Book) (area : List ℕ) (ok : legal (b .sizes) ≡ true) (low : Al
         and refl
         and ap not runs
         and end)
+    alike (careful boards output) =
+        size
+        (ap not area-is
+        and refl
+        and refl
+        and refl
+        and refl
+        and ap not (every-same (inService (bookRecord b)) (among (b .service)) boards serves)
+        and refl
+        and disagree end)
 
 -- SIZE is off in both
 pub size-same : (b : Book) (p : Running) (area : List ℕ) → not (alls (sound (bookRecord b) ∷ soundBeside (bookRecord b) p ∷ [])) ≡ false → (call : Call)
     → appliesIn (storeLines (bookRecord b) p area call) Size ≡ appliesIn (bookLines b call) Size
-unfolding storeLines writeLinesBoth loseLinesBoth repairLinesBoth readLinesBoth editLinesBoth stepLines writeLines loseLines listLines repairLines readLines editLines bookLines repairAsked
+unfolding storeLines writeLinesBoth loseLinesBoth repairLinesBoth readLinesBoth editLinesBoth carefulLinesBoth stepLines writeLines loseLines listLines
+    repairLines readLines editLines carefulLines bookLines repairAsked
 size-same b p area h (write file) = h
 size-same b p area h (lose board) = h
 size-same b p area h (repair fresh helpers standIns) = h
@@ -193,3 +205,4 @@ size-same b p area h (read boards output) = h
 size-same b p area h (edit offset bytes boards) = h
 size-same b p area h (start fresh helpers standIns) = h
 size-same b p area h (step allowance packets) = h
+size-same b p area h (careful boards output) = h

@@ -27,9 +27,10 @@ use Rattle.store_spec.specs.Record.{Record, inService, sound, newRecord,
 use Rattle.store_spec.specs.Calls.{StoreOutcome, accepted, refused, settle, recordLine, writeLines, loseLines, listLines, repairLines, readLines, writeDone, loseDone, repairDone, readDone}
 use Rattle.store_spec.specs.Calls.{setUpCall, writeCall, loseCall, repairCall, readCall}
 use Rattle.store_spec.specs.Edit.{editLines, editDone, editCall}
+use Rattle.store_spec.specs.Careful.{carefulLines, carefulDone, carefulCall}
 use Rattle.store_spec.specs.Running.{Running, idle, runningBy, freshOf, helpersOf, standInsOf, soundBeside}
-use Rattle.store_spec.specs.Both.{Outcome, beside, bothLine, writeLinesBoth, loseLinesBoth, repairLinesBoth, readLinesBoth, editLinesBoth, lostBeside}
-use Rattle.store_spec.specs.Both.{setUpBoth, writeBoth, loseBoth, repairBoth, readBoth, editBoth, startCall}
+use Rattle.store_spec.specs.Both.{Outcome, beside, bothLine, writeLinesBoth, loseLinesBoth, repairLinesBoth, readLinesBoth, editLinesBoth, carefulLinesBoth, lostBeside}
+use Rattle.store_spec.specs.Both.{setUpBoth, writeBoth, loseBoth, repairBoth, readBoth, editBoth, carefulBoth, startCall}
 use Rattle.store_spec.specs.AloneLaws.{AsAlone, StartedBy, AloneLaws}
 use Rattle.store_spec.proofs.Beside.{alone-busy, fresh-back, helpers-back, stand-ins-back, sound-beside, lists-taken, lists-pass}
 use Rattle.store_spec.proofs.Records.{sound-facts, countTests}
@@ -129,6 +130,16 @@ read-alone s p area boards output e =
   where
     done : StoreOutcome
     done = readDone s area boards output
+
+careful-alone : (s : Record) (p : Running) (area boards output : List ℕ) → soundBeside s p ≡ true
+    → AsAlone p (carefulCall s area boards output) (carefulBoth s p area boards output)
+unfolding carefulCall carefulBoth carefulLinesBoth carefulLines
+careful-alone s p area boards output e =
+    subst (λ (t : Check). AsAlone p (sole s p p area output done (first storeOrder (carefulLines s area boards output))) (both s p p area output done t))
+    (sym (same-first s p e (drop 1 (carefulLines s area boards output)))) (same-either s p area output done (first storeOrder (carefulLines s area boards output)))
+  where
+    done : StoreOutcome
+    done = carefulDone s area boards output
 
 lose-alone : (s : Record) (p : Running) (area : List ℕ) (board : ℕ) → soundBeside s p ≡ true
     → AsAlone (pick (eqb (loseCall s area board .answer .refusal) 0) (lostBeside s p board) p) (loseCall s area board) (loseBoth s p area board)
@@ -259,6 +270,7 @@ pub alone-laws : AloneLaws
 alone-laws = record {
   set-up-alone = set-up-alone;
   read-alone = read-alone;
+  careful-alone = careful-alone;
   lose-alone = lose-alone;
   write-alone = write-alone;
   repair-alone = repair-alone;

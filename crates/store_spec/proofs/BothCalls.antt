@@ -24,13 +24,15 @@ use Rattle.store_spec.specs.Record.{Record, newRecord}
 use Rattle.store_spec.specs.Running.{Running, idle, runningBy, freshOf, helpersOf, standInsOf, packetCount, passed, soundBeside}
 use Rattle.store_spec.specs.Calls.{settle, accepted, recordLine, writeLines, loseLines, listLines, repairLines, readLines}
 use Rattle.store_spec.specs.Edit.{editLines}
-use Rattle.store_spec.specs.Both.{Outcome, beside, writeLinesBoth, loseLinesBoth, repairLinesBoth, readLinesBoth, editLinesBoth, stepLines, leftOf, stepLast, stepOn, setUpBoth}
-use Rattle.store_spec.specs.Both.{writeBoth, loseBoth, repairBoth, readBoth, editBoth, startCall, stepCall}
+use Rattle.store_spec.specs.Careful.{carefulLines}
+use Rattle.store_spec.specs.Both.{Outcome, beside, writeLinesBoth, loseLinesBoth, repairLinesBoth}
+use Rattle.store_spec.specs.Both.{readLinesBoth, editLinesBoth, carefulLinesBoth, stepLines, leftOf, stepLast, stepOn, setUpBoth}
+use Rattle.store_spec.specs.Both.{writeBoth, loseBoth, repairBoth, readBoth, editBoth, carefulBoth, startCall, stepCall}
 use Rattle.store_spec.specs.BothCalls.{BothEnds, storeLines, storeDone, storeClaims, BothCalls}
-use Rattle.store_spec.specs.Ledger.{Call, write, lose, repair, read, edit, start, step, Book, Repairing, during, carriedBy, bookRunning, State, act, outputOf, packetsOfCall}
+use Rattle.store_spec.specs.Ledger.{Call, write, lose, repair, read, edit, start, step, careful, Book, Repairing, during, carriedBy, bookRunning, State, act, outputOf, packetsOfCall}
 use Rattle.store_spec.proofs.Agree.{Tallies, alike}
 use Rattle.store_spec.proofs.Beside.{sound-beside}
-use Rattle.store_spec.proofs.Demand1.{list-each}
+use Rattle.store_spec.proofs.Demand1.{list-each, says-both}
 use Rattle.store_spec.proofs.Step.{settle-pass}
 
 -- ---- a call by its lines
@@ -43,7 +45,7 @@ module _ (s : Record) (p : Running) (area output packets : List ℕ) (done : Out
 pub act-is : (w : State) (c : Call)
     → act w c ≡ by (w .kept) (w .running) (w .area) (outputOf c) (packetsOfCall c) (storeDone (w .kept) (w .running) (w .area) c)
     (first storeOrder (storeLines (w .kept) (w .running) (w .area) c))
-unfolding act storeLines storeDone writeBoth loseBoth repairBoth readBoth editBoth startCall stepCall
+unfolding act storeLines storeDone writeBoth loseBoth repairBoth readBoth editBoth startCall stepCall carefulBoth
 act-is w (write file) = refl
 act-is w (lose board) = refl
 act-is w (repair fresh helpers standIns) = refl
@@ -51,6 +53,7 @@ act-is w (read boards output) = refl
 act-is w (edit offset bytes boards) = refl
 act-is w (start fresh helpers standIns) = refl
 act-is w (step allowance packets) = refl
+act-is w (careful boards output) = refl
 
 -- what is done is accepted
 pub done-accepted : (s : Record) (p : Running) (area : List ℕ) (c : Call) → storeDone s p area c .answer .refusal ≡ 0
@@ -66,6 +69,7 @@ done-accepted s p area (step allowance packets) = go (leb (leftOf s p area packe
     go : (t : Bool) → pick t (stepLast s p area packets) (stepOn s p area packets allowance) .answer .refusal ≡ 0
     go true = refl
     go false = refl
+done-accepted s p area (careful boards output) = refl
 
 ends : (lines : List Line) (s : Record) (p : Running) (area output packets : List ℕ) (done : Outcome) → done .answer .refusal ≡ 0
     → BothEnds lines s p area output packets done (by s p area output packets done (first storeOrder lines))
@@ -101,7 +105,8 @@ says-lengths m a mp l r = (there, back)
     there : not (alls (eqb m a ∷ pick r (eqb mp l) true ∷ [])) ≡ true → (m ≢ a) ⊎ ((r ≡ true) × (mp ≢ l))
     there e = go (eqb m a) refl r refl (eqb mp l) refl e
       where
-        go : (t : Bool) → eqb m a ≡ t → (q : Bool) → r ≡ q → (u : Bool) → eqb mp l ≡ u → not (alls (t ∷ pick q u true ∷ [])) ≡ true → (m ≢ a) ⊎ ((r ≡ true) × (mp ≢ l))
+        go : (t : Bool) → eqb m a ≡ t → (q : Bool) → r ≡ q → (u : Bool) → eqb mp l ≡ u → not (alls (t ∷ pick q u true ∷ [])) ≡ true
+            → (m ≢ a) ⊎ ((r ≡ true) × (mp ≢ l))
         go false x q y u z h = inl (eqb-false m a x)
         go true x true y false z h = inr (y, eqb-false mp l z)
         go true x true y true z h = absurd (true-false h refl)
@@ -117,7 +122,7 @@ says-lengths m a mp l r = (there, back)
         go false = refl
 
 lines-hold : (s : Record) (p : Running) (area : List ℕ) (c : Call) → EachSays (storeLines s p area c) (storeClaims s p area c)
-unfolding storeLines writeLinesBoth loseLinesBoth repairLinesBoth readLinesBoth editLinesBoth stepLines writeLines loseLines repairLines readLines editLines
+unfolding storeLines writeLinesBoth loseLinesBoth repairLinesBoth readLinesBoth editLinesBoth carefulLinesBoth stepLines writeLines loseLines repairLines readLines editLines carefulLines
 lines-hold s p area (write file) = says-either _ _ and says-itself _ and says-differ _ _ and says-less _ _ and end
 lines-hold s p area (lose board) = says-either _ _ and says-not _ and end
 lines-hold s p area (repair fresh helpers standIns) =
@@ -148,6 +153,17 @@ lines-hold s p area (edit offset bytes boards) =
 lines-hold s p area (start fresh helpers standIns) =
     says-either _ _ and says-itself _ and says-differ _ _ and says-not _ and list-each s fresh helpers standIns
 lines-hold s p area (step allowance packets) = says-either _ _ and says-lengths _ _ _ _ _ and says-not _ and says-not _ and end
+lines-hold s p area (careful boards output) =
+    says-either _ _
+    and says-differ _ _
+    and says-not _
+    and says-both _ _ _ _
+    and says-not _
+    and says-not _
+    and says-not _
+    and says-less _ _
+    and says-no-file _
+    and end
 
 -- ---- records of a repair
 

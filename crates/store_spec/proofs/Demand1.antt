@@ -1,9 +1,9 @@
 -- Demand 1 of the store holds.
 -- Assumes nothing.
-use Prim.Native.Nat.{ℕ, _+_, _-_, _*_, _≤_, _<_}
+use Prim.Native.Nat.{ℕ, suc, _+_, _-_, _*_, _≤_, _<_}
 use mathlib.Core.Path.{_≡_, refl, sym, _∙_, ap, subst}
 use mathlib.Core.Bool.{Bool, true, false, not}
-use mathlib.Core.Logic.{_↔_}
+use mathlib.Core.Logic.{_↔_, _⊎_, inl, inr}
 use mathlib.Core.List.{List, [], _∷_, _++_}
 use native.Mathlib.Omega.{arith}
 use lib.ListN.{length, drop, take, getD}
@@ -27,13 +27,16 @@ use Rattle.mbcr.specs.Share.{pointed, share, stripe, kept}
 use Rattle.mbcr.proofs.Repair.{length-kept}
 use Rattle.store_spec.specs.Calls.{StoreOutcome, settle, accepted, refused, recordLine, setUpCall, writeLines, writeDone, writeCall, loseLines, loseDone, loseCall}
 use Rattle.store_spec.specs.Calls.{listLines, repairLines, repairDone, repairCall, readLines, readDone, readCall}
+use Rattle.board_spec.specs.Calls.{fileOf}
 use Rattle.board_spec.specs.Claims.{LinesSay}
 use Rattle.board_spec.proofs.Claims.{EachSays, _and_, end, lines-say}
 use Rattle.store_spec.specs.Edit.{editLines, editDone, editCall}
-use Rattle.store_spec.specs.Demand1.{StoreEnds, Stays, StoreCalls, writeClaims, loseClaims, listClaims, repairClaims, readClaims, editClaims}
+use Rattle.store_spec.specs.Careful.{carefulFile, carefulLines, carefulDone, carefulCall}
+use Rattle.store_spec.specs.Demand1.{StoreEnds, Stays, StoreCalls, writeClaims, loseClaims, listClaims, repairClaims, readClaims, editClaims, carefulClaims}
 use Rattle.store_spec.specs.Packets.{freshShare, hearNamed, standInsEach}
 use Rattle.store_spec.specs.Record.{Record, newRecord, sound, inService, stripeCount, held, writtenRecord, usedLen, partLen}
 use Rattle.store_spec.proofs.Area.{held-stripe, length-shares, byte-stays, shares-same}
+use Rattle.store_spec.proofs.Careful.{odd-named}
 use Rattle.store_spec.proofs.Demand3.{set-up-sound, set-up-taken, passes}
 use Rattle.store_spec.proofs.Exact.{read-exact}
 use Rattle.store_spec.proofs.Marks.{off-from, off-none, on-below, off-above, first-below, among-first}
@@ -83,6 +86,11 @@ edit-ends : (s : Record) (area : List ℕ) (offset : ℕ) (bytes boards : List �
     → StoreEnds (editLines s area offset bytes boards) s area [] (editDone s area offset bytes boards) (editCall s area offset bytes boards)
 unfolding editCall
 edit-ends s area offset bytes boards = ends _ s area [] _ refl
+
+careful-ends : (s : Record) (area boards output : List ℕ)
+    → StoreEnds (carefulLines s area boards output) s area output (carefulDone s area boards output) (carefulCall s area boards output)
+unfolding carefulCall
+careful-ends s area boards output = ends _ s area output _ refl
 
 -- ---- records
 
@@ -304,6 +312,32 @@ edit-lines s area offset bytes boards =
     and says-no-file _
     and end)
 
+-- COUNT by two tests
+pub says-both : (a b c d : ℕ) → (not (alls (leb a b ∷ eqb c d ∷ [])) ≡ true) ↔ ((a ≤ b) × (c ≡ d) → ⊥)
+says-both a b c d = (
+  (λ q p. true-false (hold-alls tests (le-leb a b (p .0), (eq-eqb c d (p .1), tt))) (says-not (alls tests) .0 q)),
+  (λ no. says-not (alls tests) .1 (is-false (alls tests) (λ q. let p = alls-hold tests q in no (leb-true a b (p .0), eqb-true c d (p .1 .0))))),
+)
+  where
+    tests : List Bool
+    tests = leb a b ∷ eqb c d ∷ []
+
+careful-lines : (s : Record) (area boards output : List ℕ)
+    → LinesSay (carefulLines s area boards output) (carefulClaims s area boards output)
+unfolding carefulLines
+careful-lines s area boards output =
+    lines-say (carefulLines s area boards output) (carefulClaims s area boards output)
+    (says-not _
+    and says-differ _ _
+    and says-not _
+    and says-both _ _ _ _
+    and says-not _
+    and says-not _
+    and says-not _
+    and says-less _ _
+    and says-no-file _
+    and end)
+
 -- ---- what is reported, and what losing and reading leave
 
 -- what holds of a refusal and of the work holds of the call
@@ -338,6 +372,15 @@ unfolding editCall
 edit-reports s area offset bytes boards =
     either (λ o. Reports0 o × (o .output ≡ [])) (first storeOrder (editLines s area offset bytes boards)) s area [] _ (λ x. (refl, refl)) (refl, refl)
 
+careful-reports : (s : Record) (area boards output : List ℕ)
+    → ((carefulCall s area boards output .answer .reported ≡ 0)
+    ⊎ ((i : ℕ) × (carefulCall s area boards output .answer .reported ≡ suc i) × (among boards i ≡ true)))
+    × (carefulCall s area boards output .area ≡ area)
+unfolding carefulCall
+careful-reports s area boards output =
+    either (λ o. ((o .answer .reported ≡ 0) ⊎ ((i : ℕ) × (o .answer .reported ≡ suc i) × (among boards i ≡ true))) × (o .area ≡ area))
+    (first storeOrder (carefulLines s area boards output)) s area output _ (λ x. (inl refl, refl)) (odd-named s area (fileOf (carefulFile s area boards)) boards, refl)
+
 pub demand-1 : StoreCalls
 demand-1 = record {
   accepted-is = λ v s area output. refl;
@@ -347,6 +390,7 @@ demand-1 = record {
   lose-reports = lose-reports;
   read-reports = read-reports;
   edit-reports = edit-reports;
+  careful-reports = careful-reports;
   new-is = λ z xs c. refl;
   in-service-is = λ s i. refl;
   written-is = λ s L. refl;
@@ -358,12 +402,14 @@ demand-1 = record {
   repair-lines = repair-lines;
   read-lines = read-lines;
   edit-lines = edit-lines;
+  careful-lines = careful-lines;
   set-up-ends = set-up-ends;
   write-ends = write-ends;
   lose-ends = lose-ends;
   repair-ends = repair-ends;
   read-ends = read-ends;
   edit-ends = edit-ends;
+  careful-ends = careful-ends;
   set-up-accepted = set-up-accepted;
   sound-is = λ s. (sound-there s, sound-back s);
   held-place = held-place;

@@ -31,8 +31,9 @@ use Rattle.store_spec.specs.Running.{Running, idle, runningBy, packetsLe
 use Rattle.store_spec.specs.Both.{Outcome, beside, repairLinesBoth, repairBoth, readBoth, setUpBoth}
 use Rattle.store_spec.specs.Demand3.{Repaired, events, WholeStep, Intact, begun, Demand3Claim, Demand3At, Demand3Standard, Demand3FirstSeries}
 use Rattle.store_spec.specs.Ledger.{State, Book, Repairing, Step, Event, call, powerFails, replies, bookReplies, final, bookFinal, Call, Fair, FairEvent, act, bookRecord, Tells, carriedBy}
-use Rattle.store_spec.specs.Ledger.{Reply, replyOf, packetsAfter, told, bookTold, next, bookNext, lent, enter, Altered, Unaltered, Allowed, bookLength, openBook, write, lose, repair, read, edit}
-use Rattle.store_spec.specs.Ledger.{start, step}
+use Rattle.store_spec.specs.Ledger.{Reply, replyOf, packetsAfter, told, bookTold, next, bookNext, lent, enter}
+use Rattle.store_spec.specs.Ledger.{Altered, Unaltered, Allowed, bookLength, openBook, write, lose, repair, read, edit}
+use Rattle.store_spec.specs.Ledger.{start, step, careful}
 use Rattle.store_spec.specs.Packets.{helperPackets, standInPackets, exchangePackets, hearHelpers, hearPartners, standInsEach, partnerPackets, freshShare, repairPackets}
 use Rattle.store_spec.specs.Record.{Record, allOff, held, usedLen, sound, newRecord}
 use Rattle.store_spec.proofs.Area.{shares-same}
@@ -48,6 +49,7 @@ use Rattle.store_spec.proofs.Step.{settle-pass, Inv, Going, Runs, Good,
 use Rattle.store_spec.proofs.StepRead.{read-good, read-gives}
 use Rattle.store_spec.proofs.StepRepair.{repair-good}
 use Rattle.store_spec.proofs.StepEdit.{edit-good}
+use Rattle.store_spec.proofs.StepCareful.{careful-good}
 use Rattle.store_spec.proofs.StepCarry.{inv-going, altered-runs, start-good, step-good, all-is, ls, lent-lies}
 
 -- a call that answers no refusal has passed its lines
@@ -117,11 +119,11 @@ record Run (w : State) (b : Book) (steps : List Step) : Type 0 where
   intact : Intact (final w steps) (bookFinal b (events steps))
 
 -- what holds between a state and a book
-record Between (w : State) (b : Book) : Type 0 where
-  same-record : w .kept ≡ bookRecord b
-  same-running : Tells (b .sizes) (b .repairing) (w .running)
-  inv : Inv b (w .area)
-  runs : Runs b (b .repairing) (w .area) (w .packets)
+pub record Between (w : State) (b : Book) : Type 0 where
+  pub same-record : w .kept ≡ bookRecord b
+  pub same-running : Tells (b .sizes) (b .repairing) (w .running)
+  pub inv : Inv b (w .area)
+  pub runs : Runs b (b .repairing) (w .area) (w .packets)
 
 module _ (laws : AllLaws) where
   -- one call, of a book's own state
@@ -134,9 +136,10 @@ module _ (laws : AllLaws) where
   one-call b area packets v g p tells (edit offset bytes boards) ok = edit-good laws b area v packets g p tells offset bytes boards ok
   one-call b area packets v g p tells (start fresh helpers standIns) ok = start-good laws b area v packets g p tells fresh helpers standIns
   one-call b area packets v g p tells (step allowance lent) ok = step-good laws b area v packets g p tells allowance lent ok
+  one-call b area packets v g p tells (careful boards output) ok = careful-good laws b area v packets g p tells boards output
 
   -- one event of a state that is the book's
-  one : (w : State) (b : Book) (h : Between w b) (e : Event) → FairEvent b (w .packets) e → (told w e ≡ bookTold b e) × Between (next w e) (bookNext b e)
+  pub one : (w : State) (b : Book) (h : Between w b) (e : Event) → FairEvent b (w .packets) e → (told w e ≡ bookTold b e) × Between (next w e) (bookNext b e)
   one w b h (call c) ok =
       subst
       (λ (u : State). (replyOf (act u c) ∷ [] ≡ bookTold b (call c)) × Between (next u (call c)) (bookNext b (call c)))
@@ -152,7 +155,8 @@ module _ (laws : AllLaws) where
     record { same-record = h .same-record; same-running = ok; inv = inv-going b none (b .service) (w .area) (h .inv); runs = tt },
   )
 
-  altered-at : (w : State) (b : Book) (now : List ℕ) → Between w b → Altered b (w .kept) (w .area) now → Between (record { kept = w .kept; running = w .running; area = now; packets = w .packets }) b
+  altered-at : (w : State) (b : Book) (now : List ℕ) → Between w b → Altered b (w .kept) (w .area) now
+      → Between (record { kept = w .kept; running = w .running; area = now; packets = w .packets }) b
   altered-at w b now h k =
       let a = subst (λ (s : Record). Altered b s (w .area) now) (h .same-record) k in
       record {
@@ -232,7 +236,7 @@ set-up-sound old z xs c h =
     not-no _ (clear-off (recordLine (newRecord z xs c) ∷ []) storeOrder
     (passes (first storeOrder (recordLine (newRecord z xs c) ∷ [])) old [] [] (accepted 0 (newRecord z xs c) [] []) h) Size refl)
 
-open-inv : (z : Sizes) (xs : List ℕ) (c : ℕ) (area : List ℕ) → sound (newRecord z xs c) ≡ true → Inv (openBook z xs c (length area)) area
+pub open-inv : (z : Sizes) (xs : List ℕ) (c : ℕ) (area : List ℕ) → sound (newRecord z xs c) ≡ true → Inv (openBook z xs c (length area)) area
 open-inv z xs c area s =
     record {
       as-long = refl;

@@ -1,4 +1,4 @@
--- Demand 3 holds for whatever follows the definitions.
+-- Demand 3 holds for whatever follows the definitions, and so does what holds of worn boards.
 -- Assumes nothing.
 use mathlib.Core.Path.{_≡_, refl, sym, _∙_, ap, ap₂, subst}
 use mathlib.Core.List.{List, [], _∷_}
@@ -7,11 +7,13 @@ use lib.ListN.{length}
 use Rattle.store_spec.specs.Record.{Record}
 use Rattle.store_spec.specs.Running.{Running}
 use Rattle.store_spec.specs.Both.{Outcome}
-use Rattle.store_spec.specs.Ledger.{Call, write, lose, repair, read, edit, start, step, Event, call, powerFails, State, Step, Reply}
+use Rattle.store_spec.specs.Ledger.{Call, write, lose, repair, read, edit, start, step, careful, Event, call, powerFails, State, Step, Reply}
 use Rattle.store_spec.specs.Ledger.{replyOf, packetsAfter, act, lent, next, replies, final, openBook, bookFinal}
 use Rattle.store_spec.specs.Demand3.{Intact, begun, events}
-use Rattle.store_spec.specs.Follows.{Moment, gave, anew, outcomeOf, Meets, handedOn, Follows, repliesIn, ending, FollowsDemand3, FollowsLaws}
+use Rattle.store_spec.specs.Follows.{Moment, gave, anew, outcomeOf, Meets, handedOn, Follows, repliesIn, ending, FollowsDemand3, FollowsWorn, FollowsLaws}
+use Rattle.store_spec.specs.CarefulLaws.{Worn}
 use Rattle.store_spec.proofs.Demand3.{demand-3}
+use Rattle.store_spec.proofs.Worn.{worn}
 
 -- a call does not look at the packet area that the last step left
 pub act-any : (s : Record) (p : Running) (area l m : List ℕ) (c : Call)
@@ -24,6 +26,7 @@ act-any s p area l m (read boards output) = refl
 act-any s p area l m (edit offset bytes boards) = refl
 act-any s p area l m (start fresh helpers standIns) = refl
 act-any s p area l m (step allowance packets) = refl
+act-any s p area l m (careful boards output) = refl
 
 module _ (X : Type 0) (kept : X → Record) (beside : X → Running) where
   -- x tells the records of the definitions' state
@@ -76,6 +79,12 @@ module _ (X : Type 0) (kept : X → Record) (beside : X → Running) where
         r .alike ∙ d .alike,
         subst (λ (e : State). Intact e (bookFinal (openBook z xs c (length area)) (events steps))) (sym (r .ends)) (d .after),
       )
+
+  pub follows-worn : FollowsWorn X kept beside
+  follows-worn old p z xs c x a b ok area steps run any f =
+      subst (λ (e : State). Worn e (bookFinal (openBook z xs c (length area)) (events steps)))
+      (sym (ran steps x (begun old p z xs c area) run (record { same-record = a; same-running = b }) f .ends))
+      (worn old p z xs c area steps ok any)
 
   pub follows-laws : FollowsLaws X kept beside
   follows-laws = record {

@@ -24,8 +24,8 @@ use Rattle.sizes.proofs.Orders.{clear-off}
 use Rattle.sizes.proofs.Laws.{number-low}
 use Rattle.board_spec.specs.Calls.{fileOf}
 use Rattle.store_spec.specs.Calls.{settle}
-use Rattle.store_spec.specs.Ledger.{Call, write, lose, repair, read, edit, start, step, Book, Repairing, during, keptOn, ended, goesOn, repairAsked, Entry, outputOf, replied, bookLength}
-use Rattle.store_spec.specs.Ledger.{bookLines, accept, enter}
+use Rattle.store_spec.specs.Ledger.{Call, write, lose, repair, read, edit, start, step, careful, Book, Repairing, during, keptOn, ended, goesOn, repairAsked, Entry, outputOf, replied}
+use Rattle.store_spec.specs.Ledger.{bookLength, bookLines, accept, enter}
 use Rattle.store_spec.specs.LedgerLaws.{Accepted, LedgerLaws}
 use Rattle.store_spec.proofs.Marks.{among-first}
 
@@ -68,6 +68,7 @@ accepts b (step allowance packets) = go (b .repairing)
         by : (t : Bool) → pick t (ended b r) (goesOn b r allowance) .reply .answer .refusal ≡ 0
         by true = refl
         by false = refl
+accepts b (careful boards output) = refl
 
 done-stay : (b : Book) (call : Call)
     → (accept b call .book .sizes ≡ b .sizes) × (accept b call .book .points ≡ b .points)
@@ -91,6 +92,7 @@ done-stay b (step allowance packets) = go (b .repairing)
             (e .book .sizes ≡ b .sizes) × (e .book .points ≡ b .points) × (e .book .capacity ≡ b .capacity) × (e .book .areaLength ≡ b .areaLength)
         by true = (refl, refl, refl, refl)
         by false = (refl, refl, refl, refl)
+done-stay b (careful boards output) = (refl, refl, refl, refl)
 
 is-done : (b : Book) (call : Call) → Accepted b call → enter b call ≡ accept b call
 unfolding enter
@@ -138,6 +140,10 @@ repairs b fresh helpers standIns e =
 reads : (b : Book) (boards output : List ℕ) → enter b (read boards output) .book ≡ b
 unfolding enter accept
 reads b boards output = by-same b output (accept b (read boards output)) (first storeOrder (bookLines b (read boards output))) refl
+
+careful-reads : (b : Book) (boards output : List ℕ) → enter b (careful boards output) .book ≡ b
+unfolding enter accept
+careful-reads b boards output = by-same b output (accept b (careful boards output)) (first storeOrder (bookLines b (careful boards output))) refl
 
 edits : (b : Book) (offset : ℕ) (bytes boards : List ℕ) → Accepted b (edit offset bytes boards)
     → (enter b (edit offset bytes boards) .book .file ≡ some (put (fileOf (b .file)) offset bytes))
@@ -241,6 +247,7 @@ ledger-laws = record {
   by-length = by-length;
   loses-repair = loses-repair;
   reads = reads;
+  careful-reads = careful-reads;
   record-is = λ b. refl;
   tells-none = λ z p. (λ h. h, λ h. h);
   tells-some = λ z r p. (λ h. h, λ h. h);

@@ -16,6 +16,10 @@ pub mod Step
 pub mod StepRepair
 pub mod StepRead
 pub mod StepEdit
+pub mod Those
+pub mod Held
+pub mod Careful
+pub mod StepCareful
 pub mod StepCarry
 pub mod Whole
 pub mod Demand3
@@ -25,6 +29,7 @@ pub mod EditLaws
 pub mod ListLaws
 pub mod MarkLaws
 pub mod Exact
+pub mod CarefulLaws
 pub mod Demand1
 pub mod BothCalls
 pub mod AloneLaws
@@ -32,7 +37,9 @@ pub mod Still
 pub mod Stepped
 pub mod SteppedLists
 pub mod StepLaws
+pub mod Worn
 pub mod Figures
+pub mod LaterFigures
 pub mod Tested
 pub mod Stripes
 pub mod Follows

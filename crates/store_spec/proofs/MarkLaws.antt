@@ -20,6 +20,7 @@ use Rattle.store_spec.specs.Record.{Record, inService, turnOn}
 use Rattle.store_spec.specs.Calls.{StoreOutcome, settle, refused, writeLines, writeDone, writeCall, loseLines, loseDone, loseCall, listLines, repairLines, repairDone, repairCall}
 use Rattle.store_spec.specs.Calls.{readLines, readDone, readCall}
 use Rattle.store_spec.specs.Edit.{editLines, editDone, editCall}
+use Rattle.store_spec.specs.Careful.{carefulLines, carefulDone, carefulCall}
 use Rattle.store_spec.specs.Running.{Running, idle, runningBy, freshOf, namedIn}
 use Rattle.store_spec.specs.Both.{Outcome, repairLinesBoth, leftOf, stepLast, stepOn}
 use Rattle.store_spec.proofs.Beside.{alone-busy}
@@ -31,7 +32,7 @@ use Rattle.lists.proofs.Boards.{below-all}
 use Rattle.lists.proofs.Pieces.{length-fit, fit-bytes}
 use Rattle.store_spec.specs.BothCalls.{storeLines, storeDone}
 use Rattle.store_spec.proofs.BothCalls.{by, act-is, done-accepted}
-use Rattle.store_spec.specs.Ledger.{Call, write, lose, repair, read, edit, start, step, State, act, outputOf, packetsOfCall}
+use Rattle.store_spec.specs.Ledger.{Call, write, lose, repair, read, edit, start, step, careful, State, act, outputOf, packetsOfCall}
 use Rattle.store_spec.specs.MarkLaws.{Arrays, MarkLaws}
 
 -- a call that is accepted has done its work
@@ -105,6 +106,10 @@ module _ (s : Record) (area : List ℕ) where
   unfolding editCall
   did-edit offset bytes boards = same (first storeOrder (editLines s area offset bytes boards)) [] (editDone s area offset bytes boards) refl
 
+  did-careful : (boards output : List ℕ) → carefulCall s area boards output .handed ≡ s
+  unfolding carefulCall
+  did-careful boards output = same (first storeOrder (carefulLines s area boards output)) output (carefulDone s area boards output) refl
+
 -- ---- whatever the call, with both records
 
 length-on : (boards : List ℕ) (marks : List Bool) → length (turnOn boards marks) ≡ length marks
@@ -138,6 +143,7 @@ done-full s p area (step allowance packets) e = go (leb (leftOf s p area packets
     go : (t : Bool) → length (pick t (stepLast s p area packets) (stepOn s p area packets allowance) .handed .marks) ≡ maxBoards
     go true = length-on (freshOf p) (s .marks) ∙ e
     go false = e
+done-full s p area (careful boards output) e = e
 
 done-points : (s : Record) (p : Running) (area : List ℕ) (c : Call) → storeDone s p area c .handed .points ≡ s .points
 unfolding storeDone
@@ -152,12 +158,14 @@ done-points s p area (step allowance packets) = go (leb (leftOf s p area packets
     go : (t : Bool) → pick t (stepLast s p area packets) (stepOn s p area packets allowance) .handed .points ≡ s .points
     go true = refl
     go false = refl
+done-points s p area (careful boards output) = refl
 
 refused-keeps : (w : State) (c : Call) → (act w c .answer .refusal ≡ 0 → ⊥)
     → act w c ≡ record { answer = act w c .answer; handed = w .kept; running = w .running; area = w .area; output = outputOf c; packets = packetsOfCall c }
 refused-keeps w c =
     subst
-    (λ (o : Outcome). (o .answer .refusal ≡ 0 → ⊥) → o ≡ record { answer = o .answer; handed = w .kept; running = w .running; area = w .area; output = outputOf c; packets = packetsOfCall c })
+    (λ (o : Outcome). (o .answer .refusal ≡ 0 → ⊥)
+    → o ≡ record { answer = o .answer; handed = w .kept; running = w .running; area = w .area; output = outputOf c; packets = packetsOfCall c })
     (sym (act-is w c))
     (keeps (w .kept) (w .running) (w .area) (outputOf c) (packetsOfCall c) (storeDone (w .kept) (w .running) (w .area) c)
     (first storeOrder (storeLines (w .kept) (w .running) (w .area) c)) (done-accepted (w .kept) (w .running) (w .area) c))
@@ -229,6 +237,7 @@ done-arrays s p area (step allowance packets) h a = go (leb (leftOf s p area pac
       stand-ins-long = a .stand-ins-long;
       stand-ins-bytes = a .stand-ins-bytes;
     }
+done-arrays s p area (careful boards output) h a = a
 
 arrays-stay : (w : State) (c : Call) → Arrays (w .running) → Arrays (act w c .running)
 arrays-stay w c a = subst (λ (o : Outcome). Arrays (o .running)) (sym (act-is w c)) (go (first storeOrder (storeLines (w .kept) (w .running) (w .area) c)) refl)
@@ -265,5 +274,6 @@ mark-laws = record {
         (ap (λ (r : Record). r .written) d, ap (λ (r : Record). r .length) d),
       );
   reads = did-read;
+  careful-reads = did-careful;
   edits = did-edit;
 }

@@ -18,11 +18,11 @@ use Rattle.sizes.specs.Sizing.{α, stripes}
 use Rattle.store_spec.specs.Record.{Record, part, partLen, stripeCount}
 use Rattle.store_spec.specs.Running.{Running, packetsLen}
 use Rattle.store_spec.specs.Lying.{placeOf}
-use Rattle.store_spec.specs.Ledger.{write, lose, repair, read, edit, start, step, Event, call, powerFails, Book, Repairing, during, bookLength, bookRecord, carriedBy, State, Step, Altered}
-use Rattle.store_spec.specs.Ledger.{Unaltered, FairEvent, Allowed, lent, next, bookNext, openBook}
+use Rattle.store_spec.specs.Ledger.{Call, write, lose, repair, read, edit, start, step, careful, Event, call, powerFails, Book, Repairing, during, bookLength, bookRecord}
+use Rattle.store_spec.specs.Ledger.{carriedBy, State, Step, Altered, Unaltered, Fair, FairEvent, Allowed, lent, next, bookNext, openBook}
 use Rattle.store_spec.specs.Demand3.{begun, events}
 use Rattle.store_spec.specs.Stepped.{IsCall}
-use Rattle.store_spec.specs.Premises.{noneCarried, files, IdleGiven, lentAgain, unaltered, AgreeInService, Asked, bare, Premises}
+use Rattle.store_spec.specs.Premises.{noneCarried, filesOf, files, IdleGiven, lentAgain, unaltered, AgreeInService, Asked, bare, Premises}
 
 pub as-it-was : (b : Book) (s : Record) (area : List ℕ) → Altered b s area area
 as-it-was b s area = record { as-long = refl; in-service = λ i e. refl }
@@ -77,7 +77,18 @@ fair w b (call (read boards output)) es h i = (tt, h, i)
 fair w b (call (edit offset bytes boards)) es h i = (h .0, h .1, i)
 fair w b (call (start fresh helpers standIns)) es h i = (tt, h, i)
 fair w b (call (step allowance packets)) es h i = (by-turns b (w .packets) packets, h, i)
+fair w b (call (careful boards output)) es h i = (tt, h, i)
 fair w b (powerFails p) es h i = (i .0, h, i .1)
+
+pub fair-bytes : (b : Book) (old : List ℕ) (c : Call) → Fair b old c → All Bytes (filesOf c)
+fair-bytes b old (write file) h = (h, tt)
+fair-bytes b old (lose board) h = tt
+fair-bytes b old (repair fresh helpers standIns) h = tt
+fair-bytes b old (read boards output) h = tt
+fair-bytes b old (edit offset bytes boards) h = (h, tt)
+fair-bytes b old (start fresh helpers standIns) h = tt
+fair-bytes b old (step allowance packets) h = tt
+fair-bytes b old (careful boards output) h = tt
 
 all-allowed : (w : State) (b : Book) (es : List Event) → All Bytes (files es) → IdleGiven es → Allowed w b (unaltered w b es)
 all-allowed w b [] h i = tt
@@ -93,6 +104,7 @@ again-bare w b (call (read boards output)) = refl
 again-bare w b (call (edit offset bytes boards)) = refl
 again-bare w b (call (start fresh helpers standIns)) = refl
 again-bare w b (call (step allowance packets)) = refl
+again-bare w b (call (careful boards output)) = refl
 again-bare w b (powerFails p) = refl
 
 same-events : (w : State) (b : Book) (es : List Event) → map bare (events (unaltered w b es)) ≡ map bare es
@@ -149,6 +161,7 @@ fair-is w b area (call (read boards output)) a = tt
 fair-is w b area (call (edit offset bytes boards)) a = a .edits-bytes offset bytes boards refl
 fair-is w b area (call (start fresh helpers standIns)) a = tt
 fair-is w b area (call (step allowance packets)) a = a .packets-lent allowance packets refl
+fair-is w b area (call (careful boards output)) a = tt
 fair-is w b area (powerFails p) a = a .idle-given p refl
 
 pub asked-is : (w : State) (b : Book) (t : Step) → Altered b (w .kept) (w .area) (t .area) → FairEvent b (w .packets) (t .event) → Asked w b t
@@ -203,6 +216,7 @@ files-other (call (read boards output)) es a b = refl
 files-other (call (edit offset bytes boards)) es a b = absurd (b offset bytes boards refl)
 files-other (call (start fresh helpers standIns)) es a b = refl
 files-other (call (step allowance packets)) es a b = refl
+files-other (call (careful boards output)) es a b = refl
 files-other (powerFails p) es a b = refl
 
 idle-there : (e : Event) (es : List Event) → IdleGiven (e ∷ es) → ((p : Running) → e ≡ powerFails p → p .running ≡ false) × IdleGiven es
@@ -225,11 +239,13 @@ again-other w b (call (read boards output)) h = refl
 again-other w b (call (edit offset bytes boards)) h = refl
 again-other w b (call (start fresh helpers standIns)) h = refl
 again-other w b (call (step allowance packets)) h = absurd (h allowance packets refl)
+again-other w b (call (careful boards output)) h = refl
 again-other w b (powerFails p) h = refl
 
 pub premises : Premises
 premises = record {
   all-allowed = λ old p z xs c area es h i. all-allowed (begun old p z xs c area) (openBook z xs c (length area)) es h i;
+  fair-bytes = fair-bytes;
   same-events = same-events;
   none-allowed = λ w b. tt;
   more-allowed = more-allowed;

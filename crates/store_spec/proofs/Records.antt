@@ -22,6 +22,7 @@ use Rattle.mbcr.specs.Share.{pointed, DifferentPoints}
 use Rattle.mbcr.proofs.PointLaws.{pointed-differ}
 use Rattle.store_spec.specs.Calls.{writeLines, loseLines, listLines, repairLines, readLines, fileHeld}
 use Rattle.store_spec.specs.Edit.{editLines}
+use Rattle.store_spec.specs.Careful.{carefulLines, carefulFile}
 use Rattle.store_spec.specs.Packets.{hearNamed, standInsEach}
 use Rattle.store_spec.specs.Record.{Record, allOff, sound, usedLen, partLen, areaLen, inService}
 
@@ -246,3 +247,55 @@ edit-facts s area offset bytes boards h =
       },
       not-no _ (off Disagree refl),
     )
+
+pub record Cares (s : Record) (m : ℕ) (boards output : List ℕ) : Type 0 where
+  pub is-sound : sound s ≡ true
+  pub area-is : m ≡ areaLen s
+  pub is-written : s .written ≡ true
+  pub enough : s .sizes .k + 2 ≤ s .sizes .n
+  pub count : length boards ≡ s .sizes .k + 2
+  pub named-below : below (s .sizes .n) boards ≡ true
+  pub all-different : different boards ≡ true
+  pub all-up : every (inService s) boards ≡ true
+  pub room : s .length ≤ length output
+
+-- COUNT of a careful read
+abbrev pub careTests : Record → List ℕ → List Bool
+careTests s boards = leb (s .sizes .k + 2) (s .sizes .n) ∷ eqb (length boards) (s .sizes .k + 2) ∷ []
+
+pub careful-facts : (s : Record) (area boards output : List ℕ) → first storeOrder (carefulLines s area boards output) ≡ Pass
+    → Cares s (length area) boards output × (given (carefulFile s area boards) ≡ true)
+unfolding carefulLines
+careful-facts s area boards output h =
+    let off = clear-off (carefulLines s area boards output) storeOrder h in
+    let c = alls-hold (careTests s boards) (not-no _ (off Count refl)) in (
+      record {
+        is-sound = not-no _ (off Size refl);
+        area-is = eqb-true _ _ (not-no _ (off Area refl));
+        is-written = not-no _ (off Empty refl);
+        enough = leb-true _ _ (c .0);
+        count = eqb-true _ _ (c .1 .0);
+        named-below = not-no _ (off Node refl);
+        all-different = not-no _ (off Repeat refl);
+        all-up = not-no _ (off Down refl);
+        room = ltb-false _ _ (off Short refl);
+      },
+      not-no _ (off Disagree refl),
+    )
+
+pub cares-pass : (s : Record) (area boards output : List ℕ) → Cares s (length area) boards output
+    → given (carefulFile s area boards) ≡ true
+    → first storeOrder (carefulLines s area boards output) ≡ Pass
+unfolding carefulLines
+cares-pass s area boards output f g =
+    off-pass (carefulLines s area boards output) storeOrder
+    (ap not (f .is-sound)
+    also ap not (eq-eqb _ _ (f .area-is))
+    also ap not (f .is-written)
+    also ap not (hold-alls (careTests s boards) (le-leb _ _ (f .enough), (eq-eqb _ _ (f .count), tt)))
+    also ap not (f .named-below)
+    also ap not (f .all-different)
+    also ap not (f .all-up)
+    also le-ltb _ _ (f .room)
+    also ap not g
+    also tt)

@@ -1,4 +1,4 @@
--- Interpolations of a repair and of a read: where no check refuses, no two points of one of them are equal.
+-- Interpolations of a repair, of a read and of a careful one: where no check refuses, no two points of one of them are equal.
 -- Assumes nothing.
 use Prim.Native.Nat.{ℕ, zero, suc, _-_, _*_, _<_}
 use native.Mathlib.Omega.{arith}
@@ -10,7 +10,7 @@ use lib.ListN.{length, getD, take, drop}
 use Rattle.lists.specs.Lists.{All, tabulate, concat, piece, without}
 use Rattle.lists.specs.Tests.{different, among}
 use Rattle.lists.proofs.Alls.{all-imp, append-all, take-alls, drop-alls, all-left, all-right}
-use Rattle.lists.proofs.Boards.{below-all, getD-among}
+use Rattle.lists.proofs.Boards.{below-all, all-below, all-among, getD-among}
 use Rattle.lists.proofs.Pieces.{tabulate-all}
 use Rattle.lists.proofs.Tests.{every-all, all-every}
 use Rattle.sizes.specs.Refusals.{first, storeOrder}
@@ -18,16 +18,18 @@ use Rattle.sizes.specs.declared.Check.the-variants.{Pass}
 use Rattle.sizes.specs.declared.Sizes.{Sizes}
 use Rattle.sizes.proofs.Legal.{legal-facts}
 use Rattle.mbcr.proofs.Points.{Boards, boards-of}
-use Rattle.board_spec.specs.Runs.{equalPoints, ownRuns, finishRuns, readRuns, In}
+use Rattle.board_spec.specs.Runs.{equalPoints, ownRuns, finishRuns, readRuns, In, Within}
 use Rattle.board_spec.proofs.Runs.{unequal-append, unequal-concat, own-runs, finish-runs, read-runs, in-left, in-right, in-groups, own-within}
 use Rattle.store_spec.specs.Calls.{repairLines, readLines}
 use Rattle.store_spec.specs.Edit.{editLines}
+use Rattle.store_spec.specs.Careful.{leaving, carefulLines}
 use Rattle.store_spec.specs.Packets.{standInsEach}
 use Rattle.store_spec.specs.Record.{Record}
-use Rattle.store_spec.specs.Runs.{runsOf, repairRuns, RepairAre, StoreRuns}
+use Rattle.store_spec.specs.Runs.{runsOf, repairRuns, carefulRuns, RepairAre, StoreRuns}
+use Rattle.store_spec.proofs.Careful.{first-named}
 use Rattle.store_spec.proofs.Named.{named-boards}
 use Rattle.store_spec.proofs.Packets.{run-different}
-use Rattle.store_spec.proofs.Records.{Sound, Repairs, sound-facts, sound-points, repair-facts, read-facts, edit-facts}
+use Rattle.store_spec.proofs.Records.{Sound, Repairs, sound-facts, sound-points, repair-facts, read-facts, edit-facts, careful-facts}
 
 unequal-all : (xs : List ℕ) (rs : List (List (List ℕ))) → All (λ r. equalPoints xs r ≡ false) rs → equalPoints xs (concat rs) ≡ false
 unequal-all xs [] h = refl
@@ -100,6 +102,26 @@ edit-apart s area offset bytes boards h =
     let f = edit-facts s area offset bytes boards h .0 in
     decode-apart s boards (sound-facts s (f .is-sound)) (boards-of (s .sizes) boards (f .named-below) (f .all-different))
 
+-- of any of the boards of a careful read, and so of its tries
+careful-any-apart : (s : Record) (area boards output some : List ℕ)
+    → first storeOrder (carefulLines s area boards output) ≡ Pass → different some ≡ true → All (λ i. among boards i ≡ true) some
+    → equalPoints (s .points) (readRuns (s .sizes) some) ≡ false
+careful-any-apart s area boards output some h d a =
+    let f = careful-facts s area boards output h .0 in
+    let low : All (λ i. i < s .sizes .n) boards = below-all (s .sizes .n) boards (f .named-below) in
+    decode-apart s some (sound-facts s (f .is-sound))
+    (boards-of (s .sizes) some (all-below (s .sizes .n) some (all-imp (λ i. among boards i ≡ true) (λ i. i < s .sizes .n) (λ i e. all-among (λ x. x < s .sizes .n) boards i low e) some a)) d)
+
+careful-apart : (s : Record) (area boards output : List ℕ)
+    → first storeOrder (carefulLines s area boards output) ≡ Pass → equalPoints (s .points) (carefulRuns (s .sizes) boards) ≡ false
+careful-apart s area boards output h =
+    let f = careful-facts s area boards output h .0 in
+    let run : ℕ → List (List ℕ) = λ t. readRuns (s .sizes) (take (s .sizes .k) (leaving t boards)) in
+    unequal-all (s .points) (tabulate (length boards) run)
+    (tabulate-all (λ r. equalPoints (s .points) r ≡ false) (length boards) run (λ t l.
+    let n = first-named s boards (f .count, f .named-below, f .all-different) t l in
+    decode-apart s (take (s .sizes .k) (leaving t boards)) (sound-facts s (f .is-sound)) (boards-of (s .sizes) (take (s .sizes .k) (leaving t boards)) (n .1) (n .2))))
+
 -- ---- the interpolations of the definitions
 
 -- a group of one place, of all places
@@ -135,5 +157,22 @@ repair-are s fresh helpers standIns a h = record {
     finishing : (run : List ℕ) → In run (finishRuns i hs (ss ++ without i fresh)) → In run (repairRuns s fresh helpers standIns)
     finishing run k = in-places run (length fresh) runs a h (in-right run (concat (map (ownRuns z) (hs ++ ss))) (finishRuns i hs (ss ++ without i fresh)) k)
 
+careful-are : (z : Sizes) (boards : List ℕ) (t : ℕ) → t < length boards → Within (readRuns z (take (z .k) (leaving t boards))) (carefulRuns z boards)
+careful-are z boards t h =
+    within-self (readRuns z (take (z .k) (leaving t boards))) (carefulRuns z boards) (λ run k.
+    in-places run (length boards) (λ u. readRuns z (take (z .k) (leaving u boards))) t h k)
+  where
+    within-self : (some runs : List (List ℕ)) → ((run : List ℕ) → In run some → In run runs) → Within some runs
+    within-self [] runs f = tt
+    within-self (r ∷ some) runs f = (f r (inl refl), within-self some runs (λ run k. f run (inr k)))
+
 pub store-runs : StoreRuns
-store-runs = record { repair-are = repair-are; repair-apart = repair-apart; read-apart = read-apart; edit-apart = edit-apart }
+store-runs = record {
+  repair-are = repair-are;
+  repair-apart = repair-apart;
+  read-apart = read-apart;
+  edit-apart = edit-apart;
+  careful-are = careful-are;
+  careful-apart = careful-apart;
+  careful-any-apart = careful-any-apart;
+}

@@ -31,7 +31,8 @@ use Rattle.store_spec.specs.Running.{Running, idle, runningBy, withCarri
 use Rattle.store_spec.specs.Lying.{placeOf, shareLying, carry}
 use Rattle.store_spec.specs.Both.{Outcome, startCall, stepLines, leftOf, stepDone, stepCall}
 use Rattle.store_spec.specs.BothCalls.{storeLines}
-use Rattle.store_spec.specs.Ledger.{start, step, Book, Repairing, during, going, ended, goesOn, bookRecord, Tells, bookLength, bookLines, carriedBy, packetsAfter, Altered, Unaltered, act, enter}
+use Rattle.store_spec.specs.Ledger.{start, step, Book, Repairing, during, going, ended, goesOn, bookRecord, Tells}
+use Rattle.store_spec.specs.Ledger.{bookLength, bookLines, carriedBy, packetsAfter, Altered, Unaltered, act, enter}
 use Rattle.store_spec.specs.Ledger.{accept, replied}
 use Rattle.store_spec.proofs.Beside.{fresh-back, helpers-back, stand-ins-back}
 use Rattle.store_spec.proofs.Carried.{Begins, Lies, R-count, place-is, carried-on, all-lie, shares-lie}
@@ -169,7 +170,8 @@ module _ (s : Record) (p : Running) (area lent : List ℕ) (allowance : ℕ) whe
         packets = carry s fresh helpers standIns area (p .carried) allowance lent;
       })
 
-  pub step-by : (fresh helpers standIns : List ℕ) (left : ℕ) → freshOf p ≡ fresh → helpersOf (s .sizes) p ≡ helpers → standInsOf (s .sizes) p ≡ standIns → leftOf s p area lent ≡ left
+  pub step-by : (fresh helpers standIns : List ℕ) (left : ℕ)
+      → freshOf p ≡ fresh → helpersOf (s .sizes) p ≡ helpers → standInsOf (s .sizes) p ≡ standIns → leftOf s p area lent ≡ left
       → stepDone s p area lent allowance ≡ stepBy fresh helpers standIns left
   step-by fresh helpers standIns left a c d e =
       ap (λ (x : List ℕ). stepBy x (helpersOf (s .sizes) p) (standInsOf (s .sizes) p) (leftOf s p area lent)) a

@@ -45,14 +45,17 @@ module _ (laws : AllLaws) (b : Book) (area : List ℕ) (v : Inv b area) where
       ap (readFile (b .sizes) (b .points) (bookLength b) boards) m ∙ lawful laws b area v .reads (fileOf (b .file)) (v .bytes) boards c l d
 
   -- where a board is in service, a file was accepted
-  pub some-written : (boards : List ℕ) → length boards ≡ b .sizes .k → every (among (b .service)) boards ≡ true → given (b .file) ≡ true
-  some-written [] c u = let k = legal-facts (b .sizes) (known .is-legal) .some-read in absurd (omega arith)
-  some-written (x ∷ l) c u = go (given (b .file)) refl
+  pub one-written : (boards : List ℕ) → 0 < length boards → every (among (b .service)) boards ≡ true → given (b .file) ≡ true
+  one-written [] c u = absurd (omega arith)
+  one-written (x ∷ l) c u = go (given (b .file)) refl
     where
       go : (t : Bool) → given (b .file) ≡ t → given (b .file) ≡ true
       go true e = e
       go false e =
           absurd (off-none (marksOf (b .service)) x (blank-off (bookRecord b) (known .blank) e) (up laws b area v x ∙ both (among (b .service) x) (every (among (b .service)) l) u .0))
+
+  pub some-written : (boards : List ℕ) → length boards ≡ b .sizes .k → every (among (b .service)) boards ≡ true → given (b .file) ≡ true
+  some-written boards c u = one-written boards (omega (arith, c, legal-facts (b .sizes) (known .is-legal) .some-read)) u
 
   pub read-facts-at : (boards output : List ℕ) → length boards ≡ b .sizes .k → different boards ≡ true → every (among (b .service)) boards ≡ true
       → bookLength b ≤ length output → Reads (bookRecord b) (length area) boards output × (fileHeld (bookRecord b) area boards ≡ some (fileOf (b .file)))

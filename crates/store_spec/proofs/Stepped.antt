@@ -181,7 +181,9 @@ module _ (w : State) (fresh helpers standIns : List ℕ) where
         ap₂ (λ (l : List ℕ) (n : ℕ). placeOf s (length l) n) fresh-is carried-is ∙ e in
         record {
           long = long;
-          begins = ap (λ (m : ℕ). take m packets) (sym p) ∙ same (long ∙ ap (λ (l : List ℕ). packetsLen s (length l)) (sym fresh-is)) ∙ ap (λ (m : ℕ). take m (v .packets)) p ∙ h .lies;
+          begins =
+              ap (λ (m : ℕ). take m packets) (sym p) ∙ same (long ∙ ap (λ (l : List ℕ). packetsLen s (length l)) (sym fresh-is))
+              ∙ ap (λ (m : ℕ). take m (v .packets)) p ∙ h .lies;
         }
 
     -- packets are carried, and not the last
@@ -251,6 +253,7 @@ module _ (w : State) (fresh helpers standIns : List ℕ) where
       same-lent (call (Rattle.store_spec.specs.Ledger.edit offset bytes boards)) x = tt
       same-lent (call (start f1 h1 s1)) x = tt
       same-lent (call (step allowance packets)) x = x
+      same-lent (call (Rattle.store_spec.specs.Ledger.careful boards output)) x = tt
       same-lent (powerFails q) x = tt
 
   -- just after the start
@@ -360,7 +363,8 @@ module _ (w : State) where
             counted = ap (λ (y : ℕ). y + allowance) (h .counted);
           }))
 
-  way : (steps : List Step) (v : State) (gone : List ℕ) (c : ℕ) → Way v gone c → GoesOn v steps → BoardsUntouched v steps → Way (final v steps) (gone ++ lost v steps) (c + carriedIn v steps)
+  way : (steps : List Step) (v : State) (gone : List ℕ) (c : ℕ) → Way v gone c → GoesOn v steps → BoardsUntouched v steps
+      → Way (final v steps) (gone ++ lost v steps) (c + carriedIn v steps)
   way [] v gone c h k a = let z : c + 0 ≡ c = omega arith in rw (append-nil, z) h
   way (t ∷ ts) v gone c h k a =
       let n = way-one (lent v t) gone c (t .event) (way-altered v gone c t h (a .0)) (k .0) (k .1) in

@@ -13,8 +13,8 @@ use Rattle.lists.proofs.Tests.{both, every-all, same-eq}
 use Rattle.lists.proofs.Boards.{all-among, below-all}
 use Rattle.store_spec.specs.Record.{Record, part}
 use Rattle.store_spec.specs.Lying.{placeOf}
-use Rattle.store_spec.specs.Ledger.{Call, write, lose, repair, read, edit, start, step, Event, call, powerFails, Book, Repairing, during, bookRecord, carriedBy, State, Step, Altered, Fair}
-use Rattle.store_spec.specs.Ledger.{FairEvent, Allowed, lent, next, bookNext}
+use Rattle.store_spec.specs.Ledger.{Call, write, lose, repair, read, edit, start, step, careful, Event, call, powerFails, Book, Repairing, during, bookRecord, carriedBy, State, Step, Altered}
+use Rattle.store_spec.specs.Ledger.{Fair, FairEvent, Allowed, lent, next, bookNext}
 
 -- a file or an edit is of bytes, and a packet area of the right length has the packets carried as they were left
 abbrev pub fairly : Book → List ℕ → Call → Bool
@@ -27,6 +27,7 @@ fairly b old (start fresh helpers standIns) = true
 fairly b old (step allowance packets) =
     during (b .repairing) true (λ r.
     same (take (placeOf (bookRecord b) (length (r .fresh)) (carriedBy b r)) packets) (take (placeOf (bookRecord b) (length (r .fresh)) (carriedBy b r)) old))
+fairly b old (careful boards output) = true
 
 abbrev pub fairlyEvent : Book → List ℕ → Event → Bool
 fairlyEvent b old (call c) = fairly b old c
@@ -61,6 +62,7 @@ fair b old (start fresh helpers standIns) e = tt
 fair b old (step allowance packets) e = λ r q l.
     same-eq _ _ (ap (λ (o : Option Repairing). during o true (λ r.
     same (take (placeOf (bookRecord b) (length (r .fresh)) (carriedBy b r)) packets) (take (placeOf (bookRecord b) (length (r .fresh)) (carriedBy b r)) old))) (sym q) ∙ e)
+fair b old (careful boards output) e = tt
 
 pub fair-event : (b : Book) (old : List ℕ) (e : Event) → fairlyEvent b old e ≡ true → FairEvent b old e
 fair-event b old (call c) h = fair b old c h

@@ -1,5 +1,5 @@
 -- Request A.8: the record of a repair by its parts, and the calls with such a record beside: each is the call alone, so that what is said of the calls alone (Demand1,
--- EditLaws, MarkLaws) holds of what is called. proofs/AloneLaws.antt has `alone-laws : AloneLaws`.
+-- EditLaws, CarefulLaws, MarkLaws) holds of what is called. proofs/AloneLaws.antt has `alone-laws : AloneLaws`.
 -- Assumes nothing.
 use mathlib.Core.Path.{_≡_}
 use mathlib.Core.Bool.{true, false}
@@ -15,8 +15,9 @@ use Rattle.sizes.specs.Sizing.{stripes}
 use Rattle.store_spec.specs.Record.{Record, sound, areaLen}
 use Rattle.store_spec.specs.Calls.{StoreOutcome, setUpCall, writeCall, loseCall, repairCall, readCall}
 use Rattle.store_spec.specs.Edit.{editCall}
+use Rattle.store_spec.specs.Careful.{carefulCall}
 use Rattle.store_spec.specs.Running.{Running, idle, runningBy, withCarried, freshOf, helpersOf, standInsOf, namedIn, packetCount, packetsLen, soundBeside}
-use Rattle.store_spec.specs.Both.{Outcome, beside, setUpBoth, writeBoth, lostBeside, loseBoth, repairBoth, readBoth, editBoth, startCall}
+use Rattle.store_spec.specs.Both.{Outcome, beside, setUpBoth, writeBoth, lostBeside, loseBoth, repairBoth, readBoth, editBoth, carefulBoth, startCall}
 
 -- the outcome of a call alone, with this record of a repair handed on and no packet area
 pub record AsAlone (p : Running) (a : StoreOutcome) (o : Outcome) : Type 0 where
@@ -45,6 +46,8 @@ pub record AloneLaws : Type 0 where
   -- "Reads go on meanwhile": with a record beside that is not SIZE, whether it runs or not; and so do losses, which may end the repair
   pub read-alone : (s : Record) (p : Running) (area boards output : List ℕ) → soundBeside s p ≡ true
       → AsAlone p (readCall s area boards output) (readBoth s p area boards output)
+  pub careful-alone : (s : Record) (p : Running) (area boards output : List ℕ) → soundBeside s p ≡ true
+      → AsAlone p (carefulCall s area boards output) (carefulBoth s p area boards output)
   pub lose-alone : (s : Record) (p : Running) (area : List ℕ) (board : ℕ) → soundBeside s p ≡ true
       → AsAlone (pick (eqb (loseCall s area board .answer .refusal) 0) (lostBeside s p board) p) (loseCall s area board) (loseBoth s p area board)
   -- the others where none runs

@@ -1,5 +1,5 @@
--- Request A.8, every store call with both records: the store's, and beside it that of a started repair. The calls of Calls.antt and Edit.antt go on
--- as they were; `start` and `step` are new.
+-- Request A.8, every store call with both records: the store's, and beside it that of a started repair. The calls of Calls.antt, Edit.antt
+-- and Careful.antt go on as they were; `start` and `step` are new.
 -- Assumes nothing.
 use Prim.Native.Nat.{ℕ, _+_, _-_}
 use mathlib.Core.Bool.{true, not}
@@ -16,6 +16,7 @@ use Rattle.store_spec.specs.Running.{Running, idle, runningBy, withCarri
 use Rattle.store_spec.specs.Lying.{shareLying, carry}
 use Rattle.store_spec.specs.Calls.{StoreOutcome, accepted, settle, recordLine, emptyLine, writeLines, loseLines, repairLines, readLines, writeDone, loseDone, repairDone, readDone}
 use Rattle.store_spec.specs.Edit.{editLines, editDone}
+use Rattle.store_spec.specs.Careful.{carefulLines, carefulDone}
 
 -- what a call answers, the two records that it hands on, and all lent bytes after it
 pub record Outcome : Type 0 where
@@ -66,6 +67,9 @@ readLinesBoth s p area boards output = linesBoth s p [] (readLines s area boards
 unfoldable pub editLinesBoth : Record → Running → List ℕ → ℕ → List ℕ → List ℕ → List Line
 editLinesBoth s p area offset bytes boards = linesBoth s p (busyLine p ∷ []) (editLines s area offset bytes boards)
 
+unfoldable pub carefulLinesBoth : Record → Running → List ℕ → List ℕ → List ℕ → List Line
+carefulLinesBoth s p area boards output = linesBoth s p [] (carefulLines s area boards output)
+
 -- "with none running its length is not checked"; "17 IDLE, a step with none running". `m` and `mp` are the lengths of the two areas.
 unfoldable pub stepLines : Record → Running → ℕ → ℕ → List Line
 stepLines s p m mp =
@@ -101,6 +105,10 @@ readBoth s p area boards output = callBoth s p area output [] (readLinesBoth s p
 unfoldable pub editBoth : Record → Running → List ℕ → ℕ → List ℕ → List ℕ → Outcome
 editBoth s p area offset bytes boards =
     callBoth s p area [] [] (editLinesBoth s p area offset bytes boards) (beside p (editDone s area offset bytes boards))
+
+unfoldable pub carefulBoth : Record → Running → List ℕ → List ℕ → List ℕ → Outcome
+carefulBoth s p area boards output =
+    callBoth s p area output [] (carefulLinesBoth s p area boards output) (beside p (carefulDone s area boards output))
 
 -- a start carries nothing
 unfoldable pub startCall : Record → Running → List ℕ → List ℕ → List ℕ → List ℕ → Outcome

@@ -22,9 +22,10 @@ use Rattle.store_spec.specs.Record.{Record, sound, newRecord, stripeCoun
 use Rattle.store_spec.specs.Running.{Running, idle, runningBy, freshOf, helpersOf, standInsOf, soundBeside}
 use Rattle.store_spec.specs.Calls.{accepted, recordLine, listLines, writeDone, loseDone, repairDone, readDone}
 use Rattle.store_spec.specs.Edit.{editDone}
-use Rattle.store_spec.specs.Both.{Outcome, beside, lostBeside, writeLinesBoth, loseLinesBoth, repairLinesBoth, readLinesBoth, editLinesBoth, stepLines, stepDone, setUpBoth}
-use Rattle.store_spec.specs.Demand1.{writeClaims, loseClaims, repairClaims, readClaims, editClaims}
-use Rattle.store_spec.specs.Ledger.{Call, write, lose, repair, read, edit, start, step, Book, Repairing, bookRecord, bookRunning, bookLines, State, act, outputOf, packetsOfCall}
+use Rattle.store_spec.specs.Careful.{carefulDone}
+use Rattle.store_spec.specs.Both.{Outcome, beside, lostBeside, writeLinesBoth, loseLinesBoth, repairLinesBoth, readLinesBoth, editLinesBoth, carefulLinesBoth, stepLines, stepDone, setUpBoth}
+use Rattle.store_spec.specs.Demand1.{writeClaims, loseClaims, repairClaims, readClaims, editClaims, carefulClaims}
+use Rattle.store_spec.specs.Ledger.{Call, write, lose, repair, read, edit, start, step, careful, Book, Repairing, bookRecord, bookRunning, bookLines, State, act, outputOf, packetsOfCall}
 
 -- one call: its lines; records and lent bytes as they came; what it does where no line holds; and its outcome
 pub record BothEnds (lines : List Line) (s : Record) (p : Running) (area output packets : List ℕ) (done o : Outcome) : Type 0 where
@@ -45,6 +46,7 @@ storeLines s p area (read boards output) = readLinesBoth s p area boards output
 storeLines s p area (edit offset bytes boards) = editLinesBoth s p area offset bytes boards
 storeLines s p area (start fresh helpers standIns) = repairLinesBoth s p (length area) fresh helpers standIns
 storeLines s p area (step allowance packets) = stepLines s p (length area) (length packets)
+storeLines s p area (careful boards output) = carefulLinesBoth s p area boards output
 
 unfoldable pub storeDone : Record → Running → List ℕ → Call → Outcome
 storeDone s p area (write file) = beside p (writeDone s area file)
@@ -54,6 +56,7 @@ storeDone s p area (read boards output) = beside p (readDone s area boards outpu
 storeDone s p area (edit offset bytes boards) = beside p (editDone s area offset bytes boards)
 storeDone s p area (start fresh helpers standIns) = beside (runningBy fresh helpers standIns 0) (accepted 0 s area [])
 storeDone s p area (step allowance packets) = stepDone s p area packets allowance
+storeDone s p area (careful boards output) = beside p (carefulDone s area boards output)
 
 -- what the lines of each call say: SIZE by either record, these further claims, and those of the call alone behind its own SIZE
 module _ (s : Record) (p : Running) where
@@ -78,6 +81,7 @@ module _ (s : Record) (p : Running) where
       ∷ Empty means (s .written ≡ false)
       ∷ Idle means (p .running ≡ false)
       ∷ []
+  storeClaims area (careful boards output) = bothClaims [] (carefulClaims s area boards output)
 
 pub record BothCalls : Type 0 where
   -- the lines of each call say this, and it has no others

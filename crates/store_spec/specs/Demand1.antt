@@ -7,7 +7,7 @@ use mathlib.Core.Bool.{true, false}
 use mathlib.Core.Logic.{_≢_, _↔_, _⊎_}
 use mathlib.Core.Option.{none}
 use mathlib.Core.List.{List, [], _∷_, _++_}
-use Prim.Native.Nat.{ℕ, _+_, _-_, _*_, _≤_, _<_}
+use Prim.Native.Nat.{ℕ, suc, _+_, _-_, _*_, _≤_, _<_}
 use lib.Dec.{ltb}
 use lib.ListN.{length, take, drop, getD, replicate}
 use Rattle.lists.specs.Tests.{every, alls, below, among, different, apart}
@@ -25,6 +25,7 @@ use Rattle.store_spec.specs.Record.{Record, inService, sound, newRecord,
 use Rattle.store_spec.specs.Calls.{StoreOutcome, accepted, refused, fileHeld, recordLine, writeLines, loseLines, listLines, repairLines, readLines, setUpCall, writeDone, writeCall}
 use Rattle.store_spec.specs.Calls.{loseDone, loseCall, repairDone, repairCall, readDone, readCall}
 use Rattle.store_spec.specs.Edit.{editLines, editDone, editCall}
+use Rattle.store_spec.specs.Careful.{carefulFile, carefulLines, carefulDone, carefulCall}
 
 -- one call: its lines; record, area and output as they came; what it does where no line holds; and its outcome
 pub record StoreEnds (lines : List Line) (s : Record) (area output : List ℕ) (done o : StoreOutcome) : Type 0 where
@@ -96,6 +97,19 @@ module _ (s : Record) where
       ∷ Disagree means (fileHeld s area boards ≡ none)
       ∷ [])
 
+  -- those of a careful read: "Where k + 2 exceeds n, COUNT."
+  abbrev pub carefulClaims : List ℕ → List ℕ → List ℕ → List Claim
+  carefulClaims area boards output =
+      lentClaims (length area)
+      ++ (Empty means (s .written ≡ false)
+      ∷ Count means ((s .sizes .k + 2 ≤ s .sizes .n) × (length boards ≡ s .sizes .k + 2) → ⊥)
+      ∷ Node means (below (s .sizes .n) boards ≡ false)
+      ∷ Repeat means (different boards ≡ false)
+      ∷ Down means (every (inService s) boards ≡ false)
+      ∷ Short means (length output < s .length)
+      ∷ Disagree means (carefulFile s area boards ≡ none)
+      ∷ [])
+
 pub record StoreCalls : Type 0 where
   -- the lines of each call say this, and it has no others
   pub write-lines : (s : Record) (m : ℕ) (file : List ℕ) → LinesSay (writeLines s m file) (writeClaims s m file)
@@ -107,6 +121,8 @@ pub record StoreCalls : Type 0 where
       → LinesSay (readLines s area boards output) (readClaims s area boards output)
   pub edit-lines : (s : Record) (area : List ℕ) (offset : ℕ) (bytes boards : List ℕ)
       → LinesSay (editLines s area offset bytes boards) (editClaims s area offset bytes boards)
+  pub careful-lines : (s : Record) (area boards output : List ℕ)
+      → LinesSay (carefulLines s area boards output) (carefulClaims s area boards output)
   pub set-up-ends : (old : Record) (z : Sizes) (xs : List ℕ) (c : ℕ)
       → StoreEnds (recordLine (newRecord z xs c) ∷ []) old [] [] (accepted 0 (newRecord z xs c) [] []) (setUpCall old z xs c)
   pub write-ends : (s : Record) (area file : List ℕ)
@@ -119,18 +135,25 @@ pub record StoreCalls : Type 0 where
       → StoreEnds (readLines s area boards output) s area output (readDone s area boards output) (readCall s area boards output)
   pub edit-ends : (s : Record) (area : List ℕ) (offset : ℕ) (bytes boards : List ℕ)
       → StoreEnds (editLines s area offset bytes boards) s area [] (editDone s area offset bytes boards) (editCall s area offset bytes boards)
+  pub careful-ends : (s : Record) (area boards output : List ℕ)
+      → StoreEnds (carefulLines s area boards output) s area output (carefulDone s area boards output) (carefulCall s area boards output)
   -- an outcome by its parts
   pub accepted-is : (v : ℕ) (s : Record) (area output : List ℕ)
       → accepted v s area output ≡ record { answer = record { refusal = 0; reported = v }; handed = s; area = area; output = output }
   pub refused-is : (s : Record) (area output : List ℕ) (x : Refusal)
       → refused s area output x ≡ record { answer = record { refusal = number x; reported = 0 }; handed = s; area = area; output = output }
-  -- all but a repair report 0; losing and reading leave the area, whatever they answer
+  -- all but a repair and a careful read report 0; losing and reading leave the area, whatever they answer
   pub set-up-reports : (old : Record) (z : Sizes) (xs : List ℕ) (c : ℕ) → setUpCall old z xs c .answer .reported ≡ 0
   pub write-reports : (s : Record) (area file : List ℕ) → writeCall s area file .answer .reported ≡ 0
   pub lose-reports : (s : Record) (area : List ℕ) (board : ℕ) → (loseCall s area board .answer .reported ≡ 0) × (loseCall s area board .area ≡ area)
   pub read-reports : (s : Record) (area boards output : List ℕ) → (readCall s area boards output .answer .reported ≡ 0) × (readCall s area boards output .area ≡ area)
   pub edit-reports : (s : Record) (area : List ℕ) (offset : ℕ) (bytes boards : List ℕ)
       → (editCall s area offset bytes boards .answer .reported ≡ 0) × (editCall s area offset bytes boards .output ≡ [])
+  -- a careful read reports 0 or the number plus 1 of a board that it names, and leaves the area too
+  pub careful-reports : (s : Record) (area boards output : List ℕ)
+      → ((carefulCall s area boards output .answer .reported ≡ 0)
+      ⊎ ((i : ℕ) × (carefulCall s area boards output .answer .reported ≡ suc i) × (among boards i ≡ true)))
+      × (carefulCall s area boards output .area ≡ area)
   -- when a set-up is accepted
   pub set-up-accepted : (old : Record) (z : Sizes) (xs : List ℕ) (c : ℕ)
       → (setUpCall old z xs c .answer .refusal ≡ 0) ↔ ((legal z ≡ true) × (pointed z xs ≡ true) × (1 ≤ c) × (c ≤ maxStripes))

@@ -1,6 +1,6 @@
 -- Demand 3 for whatever follows the definitions: methods on a struct, or calls on lent words. `X` holds both records, `kept` and `beside` tell them; each call
 -- gives back what the definition of the call gives on them, and after a power failure it goes on from some X with the store's record and the record given.
--- proofs/Follows.antt has `follows : FollowsDemand3` and `follows-laws : FollowsLaws`.
+-- proofs/Follows.antt has `follows : FollowsDemand3`, `follows-worn : FollowsWorn` and `follows-laws : FollowsLaws`.
 -- Assumes nothing.
 use mathlib.Core.Path.{_≡_}
 use mathlib.Core.List.{List, [], _∷_, _++_}
@@ -13,6 +13,7 @@ use Rattle.store_spec.specs.Running.{Running}
 use Rattle.store_spec.specs.Both.{Outcome, setUpBoth}
 use Rattle.store_spec.specs.Ledger.{Call, Event, call, powerFails, State, Step, Reply, replyOf, packetsAfter, act, Allowed, replies, final, openBook, bookReplies, bookFinal}
 use Rattle.store_spec.specs.Demand3.{Intact, begun, events}
+use Rattle.store_spec.specs.CarefulLaws.{AnyBytes, Worn}
 
 -- what one call gave back
 pub record Given (X : Type 0) : Type 0 where
@@ -82,6 +83,14 @@ module _ (X : Type 0) (kept : X → Record) (beside : X → Running) where
       → (area : List ℕ) (steps : List Step) (run : List (Moment X)) → Allowed (begun old p z xs c area) (openBook z xs c (length area)) steps → Follows x steps run
       → (repliesIn run ≡ bookReplies (openBook z xs c (length area)) (events steps))
       × Intact (ending x area [] steps run) (bookFinal (openBook z xs c (length area)) (events steps))
+
+  -- request A.11: so it is where any bytes are altered between calls, of boards in service too
+  abbrev pub FollowsWorn : Type 0
+  FollowsWorn =
+      (old : Record) (p : Running) (z : Sizes) (xs : List ℕ) (c : ℕ) (x : X)
+      → kept x ≡ setUpBoth old p z xs c .handed → beside x ≡ setUpBoth old p z xs c .running → setUpBoth old p z xs c .answer .refusal ≡ 0
+      → (area : List ℕ) (steps : List Step) (run : List (Moment X)) → AnyBytes (length area) steps → Follows x steps run
+      → Worn (ending x area [] steps run) (bookFinal (openBook z xs c (length area)) (events steps))
 
   -- runs however long: nothing but this is asked of a call that stands before a run, and of a power failure; where they end, and what is compared
   pub record FollowsLaws : Type 0 where

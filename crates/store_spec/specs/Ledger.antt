@@ -19,7 +19,7 @@ use Rattle.store_spec.specs.Record.{Record, part}
 use Rattle.store_spec.specs.Calls.{settle}
 use Rattle.store_spec.specs.Running.{Running, idle, runningBy, packetCount, packetsLen}
 use Rattle.store_spec.specs.Lying.{placeOf}
-use Rattle.store_spec.specs.Both.{Outcome, writeBoth, loseBoth, repairBoth, readBoth, editBoth, startCall, stepCall}
+use Rattle.store_spec.specs.Both.{Outcome, writeBoth, loseBoth, repairBoth, readBoth, editBoth, carefulBoth, startCall, stepCall}
 
 -- "writes, losses, repairs and reads", and from request A.6 on "every store call that a request adds": a call with its arguments other than
 -- record and area. A step's packet area is lent with it; the ledger looks at its length alone.
@@ -31,6 +31,7 @@ pub data Call : Type 0 where
   edit : (offset : ℕ) (bytes boards : List ℕ) → Call
   start : (fresh helpers standIns : List ℕ) → Call
   step : (allowance : ℕ) (packets : List ℕ) → Call
+  careful : (boards output : List ℕ) → Call
 
 -- what store and ledger have to agree in: "refused or not, the number, the bytes moved, and all bytes of a read's output after it"
 pub record Reply : Type 0 where
@@ -136,6 +137,15 @@ bookLines b (step allowance packets) =
     ∷ Empty when not (given (b .file))
     ∷ Idle when not (given (b .repairing))
     ∷ []
+bookLines b (careful boards output) =
+    Area when not (eqb (b .areaLength) (b .sizes .n * (b .capacity * α (b .sizes))))
+    ∷ Empty when not (given (b .file))
+    ∷ Count when not (alls (leb (b .sizes .k + 2) (b .sizes .n) ∷ eqb (length boards) (b .sizes .k + 2) ∷ []))
+    ∷ Node when not (below (b .sizes .n) boards)
+    ∷ Repeat when not (different boards)
+    ∷ Down when not (every (among (b .service)) boards)
+    ∷ Short when ltb (length output) (bookLength b)
+    ∷ []
 
 -- what the ledger replies, and the book after it
 pub record Entry : Type 0 where
@@ -145,7 +155,7 @@ pub record Entry : Type 0 where
 abbrev pub replied : Said → List ℕ → Book → Entry
 replied a output b = record { reply = record { answer = a; output = output }; book = b }
 
--- the output that a call was lent; none but a read's
+-- the output that a call was lent; none but a read's, a careful one's too
 abbrev pub outputOf : Call → List ℕ
 outputOf (write file) = []
 outputOf (lose board) = []
@@ -154,6 +164,7 @@ outputOf (read boards output) = output
 outputOf (edit offset bytes boards) = []
 outputOf (start fresh helpers standIns) = []
 outputOf (step allowance packets) = []
+outputOf (careful boards output) = output
 
 -- the packet area that a call was lent; none but a step's
 abbrev pub packetsOfCall : Call → List ℕ
@@ -164,6 +175,7 @@ packetsOfCall (read boards output) = []
 packetsOfCall (edit offset bytes boards) = []
 packetsOfCall (start fresh helpers standIns) = []
 packetsOfCall (step allowance packets) = packets
+packetsOfCall (careful boards output) = []
 
 -- "Losing a board named in the repair ends it"
 abbrev pub keptOn : Repairing → ℕ → Option Repairing
@@ -193,6 +205,7 @@ accept b (start fresh helpers standIns) =
     replied (said (Done 0)) []
     (going b (some (record { fresh = fresh; helpers = helpers; standIns = standIns; left = length fresh * (b .sizes .d + b .sizes .r - 1) })) (b .service))
 accept b (step allowance packets) = during (b .repairing) (replied (said (Done 0)) [] b) (λ r. pick (leb (r .left) allowance) (ended b r) (goesOn b r allowance))
+accept b (careful boards output) = replied (said (Done 0)) (over (fileOf (b .file)) output) b
 
 -- "A call is refused with the first number, in the store's order, whose line holds by this book, and then changes nothing"
 unfoldable pub enter : Book → Call → Entry
@@ -232,6 +245,7 @@ act w (read boards output) = readBoth (w .kept) (w .running) (w .area) boards ou
 act w (edit offset bytes boards) = editBoth (w .kept) (w .running) (w .area) offset bytes boards
 act w (start fresh helpers standIns) = startCall (w .kept) (w .running) (w .area) fresh helpers standIns
 act w (step allowance packets) = stepCall (w .kept) (w .running) (w .area) packets allowance
+act w (careful boards output) = carefulBoth (w .kept) (w .running) (w .area) boards output
 
 abbrev pub replyOf : Outcome → Reply
 replyOf o = record { answer = o .answer; output = o .output }
@@ -245,6 +259,7 @@ packetsAfter before (read boards output) o = before
 packetsAfter before (edit offset bytes boards) o = before
 packetsAfter before (start fresh helpers standIns) o = before
 packetsAfter before (step allowance packets) o = pick (eqb (o .answer .refusal) 0) (o .packets) before
+packetsAfter before (careful boards output) o = before
 
 -- ---- lists of calls
 
@@ -301,6 +316,7 @@ Fair b old (read boards output) = Unit
 Fair b old (edit offset bytes boards) = Bytes bytes
 Fair b old (start fresh helpers standIns) = Unit
 Fair b old (step allowance packets) = Unaltered b old packets
+Fair b old (careful boards output) = Unit
 
 abbrev pub FairEvent : Book → List ℕ → Event → Type 0
 FairEvent b old (call c) = Fair b old c

@@ -14,7 +14,7 @@ use Rattle.lists.specs.Lists.{tabulate, put, fit}
 use Rattle.sizes.specs.declared.Sizes.{Sizes}
 use Rattle.board_spec.specs.Calls.{fileOf}
 use Rattle.store_spec.specs.Running.{Running}
-use Rattle.store_spec.specs.Ledger.{Call, write, lose, repair, read, edit, start, step, Book, Repairing, during, keptOn, outputOf, enter, bookRecord, Tells}
+use Rattle.store_spec.specs.Ledger.{Call, write, lose, repair, read, edit, start, step, careful, Book, Repairing, during, keptOn, outputOf, enter, bookRecord, Tells}
 
 abbrev pub Accepted : Book → Call → Type 0
 Accepted b call = enter b call .reply .answer .refusal ≡ 0
@@ -63,8 +63,9 @@ pub record LedgerLaws : Type 0 where
   pub by-length : (b : Book) (allowance : ℕ) (packets packets′ : List ℕ) → length packets ≡ length packets′ → enter b (step allowance packets) ≡ enter b (step allowance packets′)
   -- "Losing a board named in the repair ends it", and no other loss does
   pub loses-repair : (b : Book) (board : ℕ) → Accepted b (lose board) → enter b (lose board) .book .repairing ≡ during (b .repairing) none (λ r. keptOn r board)
-  -- a read changes no book
+  -- a read changes no book, a careful one neither
   pub reads : (b : Book) (boards output : List ℕ) → enter b (read boards output) .book ≡ b
+  pub careful-reads : (b : Book) (boards output : List ℕ) → enter b (careful boards output) .book ≡ b
   -- the record that the book tells
   pub record-is : (b : Book)
       → bookRecord b

@@ -2,6 +2,7 @@ pub mod Record
 pub mod Packets
 pub mod Calls
 pub mod Edit
+pub mod Careful
 pub mod Running
 pub mod Lying
 pub mod Both
@@ -17,7 +18,9 @@ pub mod Premises
 pub mod LedgerLaws
 pub mod EditLaws
 pub mod ListLaws
+pub mod CarefulLaws
 pub mod MarkLaws
 pub mod FurtherFigures
+pub mod LaterFigures
 pub mod Stripes
 pub mod Follows

@@ -7,9 +7,9 @@ use mathlib.Core.Logic.{_≢_}
 use mathlib.Core.List.{List, [], _∷_, _++_}
 use Prim.Native.Nat.{ℕ}
 use Rattle.store_spec.specs.Running.{Running}
-use Rattle.store_spec.specs.Both.{Outcome, writeBoth, loseBoth, repairBoth, readBoth, editBoth, startCall, stepCall}
-use Rattle.store_spec.specs.Ledger.{Call, write, lose, repair, read, edit, start, step, Event, call, powerFails, Book, State, Step, act, replyOf, lent, next, told, enter, bookNext, bookTold}
-use Rattle.store_spec.specs.Ledger.{replies, final, bookReplies, bookFinal}
+use Rattle.store_spec.specs.Both.{Outcome, writeBoth, loseBoth, repairBoth, readBoth, editBoth, carefulBoth, startCall, stepCall}
+use Rattle.store_spec.specs.Ledger.{Call, write, lose, repair, read, edit, start, step, careful, Event, call, powerFails, Book, State, Step, act, replyOf, lent, next, told, enter}
+use Rattle.store_spec.specs.Ledger.{bookNext, bookTold, replies, final, bookReplies, bookFinal}
 use Rattle.store_spec.specs.Demand3.{events}
 
 pub record ListLaws : Type 0 where
@@ -25,6 +25,7 @@ pub record ListLaws : Type 0 where
       → act w (start fresh helpers standIns) ≡ startCall (w .kept) (w .running) (w .area) fresh helpers standIns
   pub steps : (w : State) (allowance : ℕ) (packets : List ℕ)
       → act w (step allowance packets) ≡ stepCall (w .kept) (w .running) (w .area) packets allowance
+  pub careful-reads : (w : State) (boards output : List ℕ) → act w (careful boards output) ≡ carefulBoth (w .kept) (w .running) (w .area) boards output
   -- it is made on the records that were left and the area as it was altered
   pub lents : (w : State) (t : Step) → lent w t ≡ record { kept = w .kept; running = w .running; area = t .area; packets = w .packets }
   -- it leaves the records that it hands on and the area; its reply is its answer and its output

@@ -13,6 +13,7 @@ use Rattle.sizes.specs.Sizing.{maxBoards}
 use Rattle.store_spec.specs.Record.{Record, inService}
 use Rattle.store_spec.specs.Calls.{writeCall, loseCall, repairCall, readCall}
 use Rattle.store_spec.specs.Edit.{editCall}
+use Rattle.store_spec.specs.Careful.{carefulCall}
 use Rattle.store_spec.specs.Running.{Running, idle}
 use Rattle.store_spec.specs.Ledger.{Call, State, act, outputOf, packetsOfCall}
 
@@ -58,7 +59,8 @@ pub record MarkLaws : Type 0 where
   pub arrays-idle : Arrays idle
   -- request A.9: the points are those of the set-up, whatever the call
   pub points-stay : (w : State) (call : Call) → act w call .handed .points ≡ w .kept .points
-  -- a read hands on the record that it was given
+  -- a read hands on the record that it was given, a careful one too: the odd board stays in service
   pub reads : (s : Record) (area boards output : List ℕ) → readCall s area boards output .handed ≡ s
+  pub careful-reads : (s : Record) (area boards output : List ℕ) → carefulCall s area boards output .handed ≡ s
   -- and so does an edit
   pub edits : (s : Record) (area : List ℕ) (offset : ℕ) (bytes boards : List ℕ) → editCall s area offset bytes boards .handed ≡ s

@@ -15,8 +15,8 @@ use Rattle.sizes.specs.declared.Sizes.{Sizes}
 use Rattle.sizes.specs.Sizing.{α, stripes}
 use Rattle.store_spec.specs.Record.{Record}
 use Rattle.store_spec.specs.Running.{Running, packetsLen}
-use Rattle.store_spec.specs.Ledger.{Call, write, lose, repair, read, edit, start, step, Event, call, powerFails, Book, Repairing, during, bookLength, bookRecord, carriedBy, State, Step, Altered}
-use Rattle.store_spec.specs.Ledger.{Unaltered, Allowed, lent, next, bookNext, openBook}
+use Rattle.store_spec.specs.Ledger.{Call, write, lose, repair, read, edit, start, step, careful, Event, call, powerFails, Book, Repairing, during, bookLength, bookRecord}
+use Rattle.store_spec.specs.Ledger.{carriedBy, State, Step, Altered, Unaltered, Fair, Allowed, lent, next, bookNext, openBook}
 use Rattle.store_spec.specs.Demand3.{begun, events}
 
 -- no repair runs, or it has carried no packet
@@ -32,6 +32,7 @@ filesOf (read boards output) = []
 filesOf (edit offset bytes boards) = bytes ∷ []
 filesOf (start fresh helpers standIns) = []
 filesOf (step allowance packets) = []
+filesOf (careful boards output) = []
 
 abbrev pub files : List Event → List (List ℕ)
 files [] = []
@@ -53,6 +54,7 @@ lentAgain w b (call (read boards output)) = call (read boards output)
 lentAgain w b (call (edit offset bytes boards)) = call (edit offset bytes boards)
 lentAgain w b (call (start fresh helpers standIns)) = call (start fresh helpers standIns)
 lentAgain w b (call (step allowance packets)) = call (step allowance (pick (noneCarried b) packets (w .packets)))
+lentAgain w b (call (careful boards output)) = call (careful boards output)
 lentAgain w b (powerFails p) = powerFails p
 
 -- the steps of these events with nothing altered between them: each is given the area that the last one left
@@ -87,12 +89,15 @@ bare (call (read boards output)) = call (read boards output)
 bare (call (edit offset bytes boards)) = call (edit offset bytes boards)
 bare (call (start fresh helpers standIns)) = call (start fresh helpers standIns)
 bare (call (step allowance packets)) = call (step allowance [])
+bare (call (careful boards output)) = call (careful boards output)
 bare (powerFails p) = powerFails p
 
 pub record Premises : Type 0 where
   -- every list whose files are of bytes is allowed, with nothing altered, after a set-up of any sizes and points over any area
   pub all-allowed : (old : Record) (p : Running) (z : Sizes) (xs : List ℕ) (c : ℕ) (area : List ℕ) (es : List Event) → All Bytes (files es) → IdleGiven es
       → Allowed (begun old p z xs c area) (openBook z xs c (length area)) (unaltered (begun old p z xs c area) (openBook z xs c (length area)) es)
+  -- and what is fair is of bytes
+  pub fair-bytes : (b : Book) (old : List ℕ) (c : Call) → Fair b old c → All Bytes (filesOf c)
   -- these steps are of these events, but for the packet areas lent
   pub same-events : (w : State) (b : Book) (es : List Event) → map bare (events (unaltered w b es)) ≡ map bare es
   -- and every longer list: nothing but this is asked of an entry that stands before an allowed list, whatever was altered in boards out of service

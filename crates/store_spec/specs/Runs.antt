@@ -5,9 +5,10 @@ use mathlib.Core.Path.{_≡_}
 use mathlib.Core.Bool.{true, false}
 use mathlib.Core.List.{List, _++_, map}
 use Prim.Native.Nat.{ℕ, _-_, _<_}
-use lib.ListN.{length, getD}
-use Rattle.lists.specs.Tests.{among}
-use Rattle.lists.specs.Lists.{tabulate, concat, piece, without}
+use lib.ListN.{length, getD, take}
+use Rattle.lists.specs.Tests.{among, different}
+use Rattle.lists.specs.Lists.{All, tabulate, concat, piece, without}
+use Rattle.sizes.specs.declared.Sizes.{Sizes}
 use Rattle.sizes.specs.declared.Check.the-variants.{Pass}
 use Rattle.sizes.specs.Refusals.{first, storeOrder}
 use Rattle.board_spec.specs.Runs.{equalPoints, ownRuns, finishRuns, readRuns, Within}
@@ -15,6 +16,7 @@ use Rattle.store_spec.specs.Record.{Record}
 use Rattle.store_spec.specs.Packets.{standInsEach}
 use Rattle.store_spec.specs.Calls.{repairLines, readLines}
 use Rattle.store_spec.specs.Edit.{editLines}
+use Rattle.store_spec.specs.Careful.{leaving, carefulLines}
 
 -- the boards at whose points a repair interpolates: each helper and each stand-in for its f and g, each fresh board for its own, where its partners are
 -- its stand-ins and the other fresh boards
@@ -34,6 +36,10 @@ pub record RepairAre (s : Record) (fresh helpers standIns : List ℕ) (a : ℕ) 
       (finishRuns (getD fresh a 0) (piece (s .sizes .d) a helpers) (piece (s .sizes .r - length fresh) a standIns ++ without (getD fresh a 0) fresh))
       (repairRuns s fresh helpers standIns)
 
+-- those of a careful read: of each try, of k boards where one is left out, those of a read
+abbrev pub carefulRuns : Sizes → List ℕ → List (List ℕ)
+carefulRuns z boards = concat (tabulate (length boards) (λ t. readRuns z (take (z .k) (leaving t boards))))
+
 pub record StoreRuns : Type 0 where
   pub repair-are : (s : Record) (fresh helpers standIns : List ℕ) (a : ℕ) → a < length fresh → RepairAre s fresh helpers standIns a
   pub repair-apart : (s : Record) (m : ℕ) (fresh helpers standIns : List ℕ)
@@ -43,3 +49,10 @@ pub record StoreRuns : Type 0 where
   -- an edit decodes from its k boards as a read does
   pub edit-apart : (s : Record) (area : List ℕ) (offset : ℕ) (bytes boards : List ℕ)
       → first storeOrder (editLines s area offset bytes boards) ≡ Pass → equalPoints (s .points) (readRuns (s .sizes) boards) ≡ false
+  -- the tries of a careful read are among these, and none has two equal points; no more has a decoding from any others of its boards, in any order
+  pub careful-are : (z : Sizes) (boards : List ℕ) (t : ℕ) → t < length boards → Within (readRuns z (take (z .k) (leaving t boards))) (carefulRuns z boards)
+  pub careful-apart : (s : Record) (area boards output : List ℕ)
+      → first storeOrder (carefulLines s area boards output) ≡ Pass → equalPoints (s .points) (carefulRuns (s .sizes) boards) ≡ false
+  pub careful-any-apart : (s : Record) (area boards output some : List ℕ)
+      → first storeOrder (carefulLines s area boards output) ≡ Pass → different some ≡ true → All (λ i. among boards i ≡ true) some
+      → equalPoints (s .points) (readRuns (s .sizes) some) ≡ false

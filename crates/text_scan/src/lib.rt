@@ -26,23 +26,6 @@ fn note(list: &mut [usize], at: usize, v: usize)
     }
 }
 
-// Whether two lists of bytes are the same.
-fn same_bytes(a: &[u8], b: &[u8]) -> bool
-    ensures { λ r. ⌜ r ≡ same (now (a .entry)) (now (b .entry)) ⌝ }
-{
-    if a.len() != b.len() {
-        return false;
-    }
-    let mut i = 0;
-    while i < a.len() {
-        if a[i] != b[i] {
-            return false;
-        }
-        i += 1;
-    }
-    true
-}
-
 // Whether two sizes are the same.
 fn same_sizes(y: Sizes, z: Sizes) -> bool
     ensures { λ r. ⌜ r ≡ likeSizes y z ⌝ }
@@ -66,7 +49,7 @@ fn like(sizes: Sizes, points: &[u8], length: usize, z: Sizes, theirs: &[u8], tol
     if !same_sizes(sizes, z) {
         return false;
     }
-    if !same_bytes(points, theirs) {
+    if !byte_tests::same_bytes(points, theirs) {
         return false;
     }
     length == told

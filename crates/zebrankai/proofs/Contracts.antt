@@ -14,7 +14,7 @@ use borrow.Fn.Kinds.{Dens, endedOf}
 use Rattle.sizes.specs.declared.Answer.the-variants.{Done}
 use Rattle.sizes.specs.Refusals.{said}
 use Rattle.board_spec.specs.Calls.{BoardOutcome, shareCall, fileCall, helperCall, exchangeCall, finishedCall, textCall}
-use Rattle.store_spec.specs.Ledger.{write, lose, repair, read, edit, start, step}
+use Rattle.store_spec.specs.Ledger.{write, lose, repair, read, careful, edit, start, step}
 use Rattle.text_spec.specs.Calls.{gatherCall}
 use Rattle.prefix_spec.specs.Prefix.{longest}
 use Rattle.generator.specs.Generator.{after, emitted}
@@ -32,6 +32,8 @@ use Rattle.zebrankai.proofs.zbk_repair.Reads as repairs
 use Rattle.zebrankai.proofs.zbk_repair.Kinds as repair-kinds
 use Rattle.zebrankai.proofs.zbk_read.Reads as reads
 use Rattle.zebrankai.proofs.zbk_read.Kinds as read-kinds
+use Rattle.zebrankai.proofs.zbk_read_careful.Reads as carefuls
+use Rattle.zebrankai.proofs.zbk_read_careful.Kinds as careful-kinds
 use Rattle.zebrankai.proofs.zbk_edit.Reads as edits
 use Rattle.zebrankai.proofs.zbk_edit.Kinds as edit-kinds
 use Rattle.zebrankai.proofs.zbk_start.Reads as starts
@@ -100,6 +102,14 @@ pub read-gives : (κs : Lfts 5) (a : Dens κs read-kinds.ps) (w : ℕ) (e : AtEx
     lent w (now (e .0)) (now (e .1 .0)) (now (b .0)) (now (e .1 .1 .1 .1 .0)) []
     ≡ zbk (now (a .0)) (now (a .1 .0)) (now (b .0)) (read (now (b .1 .0)) (now (b .1 .1 .0))))
 read-gives κs a w e = (tt, λ h. h)
+
+pub read-careful-gives : (κs : Lfts 5) (a : Dens κs careful-kinds.ps) (w : ℕ) (e : AtExit (endedOf 5 careful-kinds.ps careful-kinds.r) κs)
+    → carefuls.Asked κs a
+    × (carefuls.Learnt κs a w e
+    → let b = a .1 .1 in
+    lent w (now (e .0)) (now (e .1 .0)) (now (b .0)) (now (e .1 .1 .1 .1 .0)) []
+    ≡ zbk (now (a .0)) (now (a .1 .0)) (now (b .0)) (careful (now (b .1 .0)) (now (b .1 .1 .0))))
+read-careful-gives κs a w e = (tt, λ h. h)
 
 pub edit-gives : (κs : Lfts 5) (a : Dens κs edit-kinds.ps) (w : ℕ) (e : AtExit (endedOf 5 edit-kinds.ps edit-kinds.r) κs)
     → edits.Asked κs a

@@ -17,7 +17,7 @@ ghost use Rattle.sizes.specs.Refusals.{said};
 ghost use Rattle.board_spec.specs.Calls.{shareCall, fileCall, helperCall, exchangeCall, finishedCall, textCall};
 ghost use Rattle.text_spec.specs.Calls.{gatherCall};
 ghost use Rattle.prefix_spec.specs.Prefix.{longest};
-ghost use Rattle.store_spec.specs.Ledger.{write, lose, repair, read, edit, start, step};
+ghost use Rattle.store_spec.specs.Ledger.{write, lose, repair, read, careful, edit, start, step};
 ghost use Rattle.answer_word.specs.Answers.{wordOf};
 ghost use Rattle.archive_spec.specs.Archive.{sizesOf};
 ghost use Rattle.archive_spec.specs.Lent.{zbkSetUp, zbk};
@@ -260,6 +260,20 @@ pub extern "C" fn zbk_read(
     ensures { λ w. ⌜ record { answer = w; words = now (ws .exit); repair = now (ps .exit); area = now (area .entry); output = now (out .exit); packets = [] } ≡ zbk (now (ws .entry)) (now (ps .entry)) (now (area .entry)) (read (now (boards .entry)) (now (out .entry))) ⌝ }
 {
     archive_store::read(ws, ps, area, boards, out)
+}
+
+// Reads the file from k + 2 boards, of which one may hold wrong bytes: the answer reports 0, or the number of the odd board plus 1.
+#[no_mangle]
+pub extern "C" fn zbk_read_careful(
+    ws: &mut [u64],
+    ps: &mut [u64],
+    area: &[u8],
+    boards: &[usize],
+    out: &mut [u8],
+) -> u64
+    ensures { λ w. ⌜ record { answer = w; words = now (ws .exit); repair = now (ps .exit); area = now (area .entry); output = now (out .exit); packets = [] } ≡ zbk (now (ws .entry)) (now (ps .entry)) (now (area .entry)) (careful (now (boards .entry)) (now (out .entry))) ⌝ }
+{
+    archive_store::read_careful(ws, ps, area, boards, out)
 }
 
 // Puts bytes into the file from an offset on, read from k boards, in all boards in service.

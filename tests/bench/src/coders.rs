@@ -8,6 +8,8 @@ pub trait Coder {
     fn write(&mut self, file: &[u8], area: &mut [u8]);
     /// The file from k boards.
     fn read(&mut self, boards: &[usize], area: &[u8], out: &mut [u8]);
+    /// The file from k + 2 boards of which one may be wrong; 0, or the number of that one plus 1.
+    fn read_careful(&mut self, boards: &[usize], area: &[u8], out: &mut [u8]) -> usize;
     /// Bytes in the place of others of the file of so many bytes, by k boards.
     fn edit(&mut self, edit: &Edit, boards: &[usize], area: &mut [u8]);
     /// Takes boards out of service for the repairs that follow, and for these alone.
@@ -64,6 +66,11 @@ impl Coder for Archive {
         self.record.read(area, boards, out).expect("a read is accepted");
     }
 
+    fn read_careful(&mut self, boards: &[usize], area: &[u8], out: &mut [u8]) -> usize {
+        let odd = self.record.read_careful(area, boards, out).expect("a careful read is accepted");
+        odd.map_or(0, |board| board + 1)
+    }
+
     fn edit(&mut self, edit: &Edit, boards: &[usize], area: &mut [u8]) {
         self.record.edit(area, edit.offset, edit.bytes, boards).expect("an edit is accepted");
     }
@@ -115,6 +122,10 @@ impl Coder for Plain {
         plain::store::read(&self.words, &self.repair, area, boards, out).expect("a read is accepted");
     }
 
+    fn read_careful(&mut self, boards: &[usize], area: &[u8], out: &mut [u8]) -> usize {
+        plain::careful::read(&self.words, &self.repair, area, boards, out).expect("a careful read is accepted")
+    }
+
     fn edit(&mut self, edit: &Edit, boards: &[usize], area: &mut [u8]) {
         plain::store::edit(&self.words, &self.repair, area, edit.offset, edit.bytes, boards)
             .expect("an edit is accepted");
@@ -163,6 +174,11 @@ impl Coder for Kernels {
 
     fn read(&mut self, boards: &[usize], area: &[u8], out: &mut [u8]) {
         assert!(plain_kernels::read(self.sizes, &self.points, boards, area, out), "a read is accepted");
+    }
+
+    fn read_careful(&mut self, boards: &[usize], area: &[u8], out: &mut [u8]) -> usize {
+        let reported = plain_kernels::read_careful(self.sizes, &self.points, boards, area, out);
+        reported.expect("a careful read is accepted")
     }
 
     fn edit(&mut self, edit: &Edit, boards: &[usize], area: &mut [u8]) {

@@ -1,6 +1,7 @@
 //! The bench: encode (a write to all boards), read (of k boards), repair r (of r boards together), repair 1 (of one board, with r − 1 stand-ins), one
-//! share (the call of a single board), edit 4 (four bytes of the file, one pack count) and rewrite (the same without an edit, by a read and a write)
-//! through the archive, beside two coders in plain Rust; the bytes that repairs move, those of r boards against the cut-set bound; what part of a
+//! share (the call of a single board), edit 4 (four bytes of the file, one pack count), rewrite (the same without an edit, by a read and a write), careful
+//! (a careful read, of k + 2 boards) and one worn (the same with a byte of one of them altered) through the archive, beside two coders in plain Rust; how
+//! many times a read's time careful reads take; the bytes that repairs move, those of r boards against the cut-set bound; what part of a
 //! whole write, and of a read and a write, an edit takes; and how many times a whole repair's time the same repair takes a packet at a time, and in one
 //! step (request A.8), through the archive and by the plain coder.
 //!
@@ -25,7 +26,7 @@ use std::fs;
 use std::process::ExitCode;
 use std::thread;
 use std::time::Duration;
-use turns::{measure, Measured, Work, EDIT, EDITED, OPERATIONS, REPAIR, REWRITE, WRITE};
+use turns::{measure, Measured, Work, CAREFUL, EDIT, EDITED, OPERATIONS, READ, REPAIR, REWRITE, WRITE};
 use zebrankai::Sizes;
 
 const TWELVE: Sizes = Sizes { n: 12, k: 6, d: 8, r: 2 };
@@ -152,6 +153,7 @@ fn print(work: &Work, measured: &Measured) {
     }
     print_moved(work.sizes, work.file.len(), measured);
     print_edit(measured);
+    print_careful(measured);
     print_steps(work.sizes, measured);
 }
 
@@ -181,6 +183,18 @@ fn print_edit(measured: &Measured) {
         1e6 * edit,
         edit / write,
         edit / rewrite
+    );
+}
+
+/// The times of careful reads beside that of a read: of the archive, of the plain coder and of the kernels' algorithm.
+fn print_careful(measured: &Measured) {
+    let of_read = |coder: usize, operation: usize| {
+        measured.best[coder][operation].as_secs_f64() / measured.best[coder][READ].as_secs_f64()
+    };
+    let [sound, worn] = CAREFUL.map(|operation| [0, 1, 2].map(|coder| of_read(coder, operation)));
+    println!(
+        "careful   {:.2} times a read, {:.2} times with one board worn (plain {:.2}, {:.2}; kernels {:.2}, {:.2})",
+        sound[0], worn[0], sound[1], worn[1], sound[2], worn[2]
     );
 }
 

@@ -5,12 +5,18 @@ use std::time::{Duration, Instant};
 use zebrankai::{trial_file, Sizes};
 
 /// What is measured, in the order of a turn.
-pub const OPERATIONS: [&str; 7] = ["encode", "read", "repair r", "repair 1", "one share", "edit 4", "rewrite"];
+pub const OPERATIONS: [&str; 9] =
+    ["encode", "read", "repair r", "repair 1", "one share", "edit 4", "rewrite", "careful", "one worn"];
 
-/// The places of a write of the whole file, of an edit, and of a read with a write behind it that does the same.
+/// The places of a write of the whole file, of a read, of an edit, and of a read with a write behind it that does the same.
 pub const WRITE: usize = 0;
+pub const READ: usize = 1;
 pub const EDIT: usize = 5;
 pub const REWRITE: usize = 6;
+
+/// The places of careful reads of k + 2 boards that hold their shares, and of such a read with a byte altered: of the last stripe of the board that is
+/// named first, where it takes longest to find.
+pub const CAREFUL: [usize; 2] = [7, 8];
 
 /// How many bytes an edit has: those of one pack count.
 pub const EDITED: usize = 4;
@@ -29,7 +35,7 @@ const FEWEST_TURNS: usize = 4;
 
 /// A file, and the boards that the calls name. In the repair of r boards the first r are fresh, and each hears the d behind them; in that of one the
 /// first is fresh, hears the d behind it, and the r − 1 behind these stand in. The file is read from the last k boards, also by an edit, of four bytes in
-/// its middle, in one stripe; and the one share is the last board's.
+/// its middle, in one stripe; a careful read names the last k + 2; and the one share is the last board's.
 pub struct Work {
     pub sizes: Sizes,
     pub stripes: usize,
@@ -37,6 +43,7 @@ pub struct Work {
     all: Named,
     one: Named,
     readers: Vec<usize>,
+    careful: Vec<usize>,
     node: usize,
     /// where an edit is
     offset: usize,
@@ -59,6 +66,7 @@ impl Work {
             },
             one: Named { fresh: vec![0], helpers: (1..1 + d).collect(), stand_ins: (1 + d..d + r).collect() },
             readers: (n - k..n).collect(),
+            careful: (n - k - 2..n).collect(),
             node: n - 1,
             offset: length / 2,
             calls: STRIPES_A_TURN.div_ceil(stripes),
@@ -83,6 +91,9 @@ struct Left {
     share: Vec<u8>,
     edited: Vec<u8>,
     rewritten: Vec<u8>,
+    /// the file by both careful reads, and what they report
+    careful: [Vec<u8>; 2],
+    odd: [usize; 2],
     moved: usize,
     moved_one: usize,
 }
@@ -116,6 +127,8 @@ impl Left {
         let read = vec![0; work.file.len()];
         Left {
             written: area.clone(),
+            careful: [read.clone(), read.clone()],
+            odd: [0; 2],
             read,
             repaired: area.clone(),
             repaired_one: area.clone(),
@@ -127,13 +140,14 @@ impl Left {
         }
     }
 
-    /// Whether the file came back, the fresh boards hold what was written, the share is the one that was written, and an edit leaves what a write of
-    /// the edited file does, which is another one.
+    /// Whether the file came back, by careful reads too, of which the second names the altered board, the fresh boards hold what was written, the share is
+    /// the one that was written, and an edit leaves what a write of the edited file does, which is another one.
     fn is_right(&self, work: &Work) -> bool {
         let written = self.written.chunks(self.share.len()).nth(work.node);
         let rebuilt = self.repaired == self.written && self.repaired_one == self.written;
         let edited = self.edited == self.rewritten && self.edited != self.written;
-        self.read == work.file && rebuilt && written == Some(&self.share[..]) && edited
+        let careful = self.careful.iter().all(|file| *file == work.file) && self.odd == [0, work.careful[0] + 1];
+        self.read == work.file && careful && rebuilt && written == Some(&self.share[..]) && edited
     }
 }
 
@@ -204,7 +218,19 @@ fn turn(coder: &mut dyn Coder, work: &Work, left: &mut Left) -> Best {
     let edit = edit(coder, work, &mut left.edited);
     left.rewritten.copy_from_slice(&left.written);
     let rewrite = rewrite(coder, work, &mut left.rewritten);
-    [write, read, repair, repair_one, share, edit, rewrite]
+    let [careful, one_worn] = [false, true].map(|worn| read_careful(coder, work, worn, left));
+    [write, read, repair, repair_one, share, edit, rewrite, careful, one_worn]
+}
+
+/// A careful read over what was written, or with a byte of it altered.
+fn read_careful(coder: &mut dyn Coder, work: &Work, worn: bool, left: &mut Left) -> Duration {
+    let mut area = left.written.clone();
+    if worn {
+        area[(work.careful[0] + 1) * work.stripes * work.sizes.share_len() - 1] ^= 0x5A;
+    }
+    let (file, odd) = (&mut left.careful[usize::from(worn)], &mut left.odd[usize::from(worn)]);
+    file.fill(0xEE);
+    timed(work, || *odd = coder.read_careful(&work.careful, &area, file))
 }
 
 /// The repair of r boards by steps of so many packets. Area and packet area are filled before it, outside of the time.

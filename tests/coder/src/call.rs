@@ -1,4 +1,4 @@
-//! The eighteen calls with their arguments: how each is passed to the archive, what of it may be spoilt, how it is shown. And the memory that they
+//! The nineteen calls with their arguments: how each is passed to the archive, what of it may be spoilt, how it is shown. And the memory that they
 //! are lent to change.
 
 use crate::code::{self, Sizes};
@@ -112,6 +112,9 @@ pub enum Call {
     Step {
         allowance: usize,
     },
+    Careful {
+        boards: Vec<usize>,
+    },
     ReadText {
         text: Vec<u8>,
     },
@@ -127,7 +130,7 @@ pub enum Call {
 }
 
 /// The C names of the calls, in the order of `Call::place`, each with the refusals that it can give.
-pub const CALLS: [(&str, &[u8]); 18] = [
+pub const CALLS: [(&str, &[u8]); 19] = [
     ("zbk_share", &[1, 3, 5, 7]),
     ("zbk_file", &[1, 3, 4, 5, 6, 2, 7, 10]),
     ("zbk_helper_packet", &[1, 3, 5, 6, 2, 7]),
@@ -142,6 +145,7 @@ pub const CALLS: [(&str, &[u8]); 18] = [
     ("zbk_edit", &[1, 2, 8, 16, 15, 4, 5, 6, 9, 10]),
     ("zbk_start", &[1, 2, 8, 16, 4, 5, 6, 14, 9]),
     ("zbk_step", &[1, 2, 8, 17]),
+    ("zbk_read_careful", &[1, 2, 8, 4, 5, 6, 9, 7, 10]),
     ("zbk_read_text", &[1, 12, 7]),
     ("zbk_gather", &[12, 13, 4, 6, 7, 10]),
     ("zbk_text_prefix", &[]),
@@ -152,10 +156,10 @@ pub const CALLS: [(&str, &[u8]); 18] = [
 pub const SET_UP: usize = 6;
 
 /// The place in `CALLS` of the first of the three calls that are given texts.
-pub const READ_TEXT: usize = 14;
+pub const READ_TEXT: usize = 15;
 
 /// The place in `CALLS` of the call that draws a file from a seed.
-pub const TRIAL_FILE: usize = 17;
+pub const TRIAL_FILE: usize = 18;
 
 // The archive's names, as include/zebrankai.h declares them (`tests/names`).
 macro_rules! asked {
@@ -204,6 +208,7 @@ impl Call {
             Call::Edit { .. } => 11,
             Call::Start { .. } => 12,
             Call::Step { .. } => 13,
+            Call::Careful { .. } => 14,
             Call::ReadText { .. } => READ_TEXT,
             Call::Gather { .. } => READ_TEXT + 1,
             Call::Prefix { .. } => READ_TEXT + 2,
@@ -250,6 +255,7 @@ impl Call {
             Call::Edit { offset, bytes, boards } => zbk_edit(record, repair, area, *offset, bytes, boards),
             Call::Start { fresh, helpers, stand_ins } => zbk_start(record, repair, area, fresh, helpers, stand_ins),
             Call::Step { allowance } => zbk_step(record, repair, area, packets, *allowance),
+            Call::Careful { boards } => zbk_read_careful(record, repair, area, boards, out),
             Call::ReadText { text } => zbk_read_text(text, record, area, out),
             Call::Gather { text } => zbk_gather(text, out),
             Call::Prefix { text } => zbk_text_prefix(text),
@@ -328,7 +334,7 @@ impl Call {
             Call::Repair { fresh, helpers, stand_ins } | Call::Start { fresh, helpers, stand_ins } => {
                 Parts { lists: vec![fresh, helpers, stand_ins], ..none }
             }
-            Call::Read { boards } => Parts { lists: vec![boards], ..none },
+            Call::Read { boards } | Call::Careful { boards } => Parts { lists: vec![boards], ..none },
             Call::Edit { offset, bytes, boards } => {
                 Parts { offset: Some(offset), lists: vec![boards], slices: vec![bytes], ..none }
             }
@@ -463,7 +469,7 @@ impl fmt::Display for Call {
             Call::Repair { fresh, helpers, stand_ins } | Call::Start { fresh, helpers, stand_ins } => {
                 write!(to, "(fresh={fresh:?}, helpers={helpers:?}, stand_ins={stand_ins:?}")
             }
-            Call::Read { boards } => write!(to, "(boards={boards:?}"),
+            Call::Read { boards } | Call::Careful { boards } => write!(to, "(boards={boards:?}"),
             Call::Edit { offset, bytes, boards } => {
                 write!(to, "(offset={offset}, bytes[{}], boards={boards:?}", bytes.len())
             }

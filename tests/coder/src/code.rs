@@ -5,6 +5,7 @@
 use crate::field::FIELD;
 use crate::matrix::Matrix;
 use std::collections::HashMap;
+use std::ops::Range;
 
 pub const MAX_BOARDS: usize = 32;
 pub const MAX_STRIPES: usize = 4096;
@@ -140,31 +141,44 @@ pub fn files(sizes: Sizes, points: &[u8], length: usize, boards: &[usize], lists
     if stripes == 0 {
         return vec![Some(Vec::new()); lists.len()];
     }
-    let width = sizes.share_len();
-    // for each stripe of each list the boards' bytes one below another, as columns; those that are alike are solved once
-    let mut places = HashMap::new();
-    let mut columns: Vec<Vec<u8>> = Vec::new();
-    let mut place_of = |list: &[u8], s: usize| {
-        let held = |board: usize| &list[(board * stripes + s) * width..][..width];
-        let column: Vec<u8> = (0..boards.len()).flat_map(held).copied().collect();
-        *places.entry(column).or_insert_with_key(|column| {
-            columns.push(column.clone());
-            columns.len() - 1
-        })
-    };
-    let asked: Vec<usize> =
-        lists.iter().flat_map(|list| (0..stripes).map(|s| place_of(list, s)).collect::<Vec<usize>>()).collect();
-    let values = Matrix::new(boards.len() * width, columns.len(), |e, column| columns[column][e]);
-    let Some(solved) = equations(sizes, points, boards).solve_each(&values) else {
+    let held = Held::of(sizes, boards.len(), 0..stripes, lists);
+    let Some(solved) = equations(sizes, points, boards).solve_each(&held.columns) else {
         panic!("{sizes:?}: the shares of boards {boards:?} do not settle a stripe")
     };
-    let whole = |stripes: &[usize]| {
+    let whole = |stripes: &Vec<usize>| {
         let stripes: Option<Vec<&[u8]>> = stripes.iter().map(|&place| solved[place].as_deref()).collect();
         let mut bytes = stripes?.concat();
         let padding = bytes.split_off(length);
         padding.iter().all(|&byte| byte == 0).then_some(bytes)
     };
-    asked.chunks(stripes).map(whole).collect()
+    held.asked.iter().map(whole).collect()
+}
+
+/// What boards hold of some stripes, in several lists of their shares: of each stripe the boards' bytes one below another, as a column. Stripes that are
+/// alike have one, so that they are solved once.
+pub struct Held {
+    pub columns: Matrix,
+    /// of each list, the column of each of the stripes
+    pub asked: Vec<Vec<usize>>,
+}
+
+impl Held {
+    pub fn of(sizes: Sizes, boards: usize, stripes: Range<usize>, lists: &[&[u8]]) -> Held {
+        let width = sizes.share_len();
+        let mut places = HashMap::new();
+        let mut columns: Vec<Vec<u8>> = Vec::new();
+        let mut place_of = |list: &[u8], s: usize| {
+            let share_len = list.len() / boards;
+            let held = |board: usize| &list[board * share_len + s * width..][..width];
+            let column: Vec<u8> = (0..boards).flat_map(held).copied().collect();
+            *places.entry(column).or_insert_with_key(|column| {
+                columns.push(column.clone());
+                columns.len() - 1
+            })
+        };
+        let asked = lists.iter().map(|list| stripes.clone().map(|s| place_of(list, s)).collect()).collect();
+        Held { columns: Matrix::new(boards * width, columns.len(), |e, column| columns[column][e]), asked }
+    }
 }
 
 /// For each target, the factors by which a polynomial of degree below the number of points has its value there as a sum of its values at the

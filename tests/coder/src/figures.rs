@@ -1,7 +1,7 @@
 //! The figures of document 01, as literal values: all that are not marked M, through the archive and by the coder itself. Those marked M are
 //! proved; they are run here too, since they also try the coder. Then the same for robots of the first series, whose figures were worked out by
 //! hand, and which points are refused (request A.9 of document 02); and a board rebuilt alone, with a stand-in (request A.3);
-//! edits (request A.6); repairs a packet at a time (request A.8); and first bytes of trial files (request A.2).
+//! edits (request A.6); repairs a packet at a time (request A.8); careful reads (request A.11); and first bytes of trial files (request A.2).
 
 use crate::call::refusal::{COUNT, DOWN, LONG, NODE, REPEAT, SERVING, SIZE};
 use crate::call::{Call, Lent, Outcome};
@@ -10,7 +10,8 @@ use crate::field::FIELD;
 use crate::points::{filled_up, first_series, standard};
 use crate::trial::{Place, Trial};
 use crate::{
-    board, edit_figures, load, prefix_figures, step_figures, store, stream, stream_cases, text_figures, texts,
+    board, careful_figures, edit_figures, load, prefix_figures, step_figures, store, stream, stream_cases,
+    text_figures, texts,
 };
 
 pub fn run(trial: &mut Trial) {
@@ -26,7 +27,13 @@ pub fn run(trial: &mut Trial) {
         step_figures::meanwhile(trial, &series);
         step_figures::none_running(trial, &series);
         step_figures::made_up(trial, &series);
+        careful_figures::odd(trial, &series);
+        careful_figures::padding(trial, &series);
+        careful_figures::stripes(trial, &series);
+        careful_figures::refusals(trial, &series);
     }
+    careful_figures::one_read(trial);
+    careful_figures::in_pairs(trial);
     step_figures::in_order(trial);
     step_figures::altered(trial);
     step_figures::goes_on(trial);
@@ -97,7 +104,7 @@ const SMALL: Sizes = Sizes { n: 2, k: 1, d: 1, r: 1 };
 const FIVE: Sizes = Sizes { n: 5, k: 2, d: 3, r: 2 };
 
 /// Eleven bytes 00, then 01: F = X²Y.
-const X2Y: [u8; 12] = [0, 0, 0, 0, 0, 0, 0, 0, 0, 0, 0, 1];
+pub const X2Y: [u8; 12] = [0, 0, 0, 0, 0, 0, 0, 0, 0, 0, 0, 1];
 
 /// What the five boards of a robot hold of it, and what they send boards 0 and 1.
 pub struct Series {

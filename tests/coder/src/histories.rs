@@ -38,7 +38,7 @@ struct History {
 }
 
 /// What a whole history has had, beside its set-up: accepted calls, bytes altered of boards out of service, and failures of power.
-const PARTS: [&str; 11] = [
+const PARTS: [&str; 12] = [
     "write",
     "loss",
     "repair of r boards",
@@ -50,6 +50,7 @@ const PARTS: [&str; 11] = [
     "loss that ends a repair",
     "bytes altered",
     "power failure",
+    "careful read",
 ];
 
 /// The places of some of them.
@@ -57,6 +58,7 @@ const STEPPED: usize = 7;
 const ENDED: usize = 8;
 const ALTERED: usize = 9;
 const FAILED: usize = 10;
+const CAREFUL: usize = 11;
 
 pub fn run(trial: &mut Trial, random: &mut Random, sizes: Sizes) {
     let capacity = draw::stripes(random, sizes);
@@ -69,7 +71,7 @@ pub fn run(trial: &mut Trial, random: &mut Random, sizes: Sizes) {
     history.go_on(trial, random, calls, None);
 }
 
-/// A history that has all parts: a file of some length after others, an edit of it, r boards lost and rebuilt, fewer of them lost and rebuilt with
+/// A history that has all parts: a file of some length after others, an edit of it, reads, a careful one too, r boards lost and rebuilt, fewer of them lost and rebuilt with
 /// stand-ins, with an edit before each repair, reads, some lost and rebuilt by steps, once more after a power failure, a repair that a loss ends, and then
 /// so many calls as they are drawn. True where it had them all and the archive answered each call as the book.
 pub fn whole(trial: &mut Trial, random: &mut Random, scene: &Scene, capacity: usize, calls: usize) -> bool {
@@ -86,12 +88,14 @@ pub fn whole(trial: &mut Trial, random: &mut Random, scene: &Scene, capacity: us
     let alike = written
         && history.edit_four(trial, random)
         && history.read_any(trial, random)
+        && history.read_careful(trial, random)
         && history.rebuild(trial, random, sizes.r)
         && history.rebuild(trial, random, fewer)
         && history.rebuild_by_steps(trial, random, fewer)
         && history.end_by_a_loss(trial, random, &scene.file)
         && history.go_on(trial, random, calls, Some(scene.length()));
-    let parts = PARTS.len() - usize::from(sizes.r == 1);
+    // and of too few boards there is no careful read
+    let parts = PARTS.len() - usize::from(sizes.r == 1) - usize::from(sizes.k + 2 > sizes.n);
     alike && history.had.len() == parts
 }
 
@@ -364,6 +368,7 @@ impl History {
             Call::Repair { .. } => 3,
             Call::Edit { .. } if self.book.in_service.len() == self.book.sizes.n => 5,
             Call::Edit { .. } => 6,
+            Call::Careful { .. } => CAREFUL,
             _ => 4,
         };
         self.had.insert(part);
@@ -386,6 +391,13 @@ impl History {
             let share = code::share_by(self.book.sizes, &self.generators[board], file);
             area[board * self.board_len()..][..share.len()].copy_from_slice(&share);
         }
+    }
+
+    /// A careful read of any k + 2 boards in service, as far as there are so many; false where the archive answered otherwise.
+    fn read_careful(&mut self, trial: &mut Trial, random: &mut Random) -> bool {
+        self.lent.out = random.bytes(self.file_len());
+        let boards = random.choose(self.in_service(), self.book.sizes.k + 2);
+        self.check(trial, &Call::Careful { boards })
     }
 
     /// "After the list, a read of any k different boards in service"; false where the archive answered otherwise.

@@ -92,6 +92,15 @@ impl Book {
                 (REPEAT, !different(boards)),
                 (DOWN, !serving(boards)),
             ],
+            Call::Careful { boards } => vec![
+                (AREA, wrong_area),
+                (EMPTY, self.file.is_none()),
+                (COUNT, n < k + 2 || boards.len() != k + 2),
+                (NODE, !known(boards)),
+                (REPEAT, !different(boards)),
+                (DOWN, !serving(boards)),
+                (SHORT, out < self.file_len()),
+            ],
             Call::Step { .. } => {
                 // "with none running its length is not checked"
                 let due = self.repairing.as_ref().map(|repairing| self.moved(repairing.lists.fresh.len()));
@@ -161,7 +170,8 @@ impl Book {
                 reply.answer = (self.moved(fresh.len()) as u64) << 8;
                 reply.made.clone_from(fresh);
             }
-            Call::Read { .. } => {
+            // of boards that hold their shares none is odd
+            Call::Read { .. } | Call::Careful { .. } => {
                 let file = self.file.as_ref().expect("EMPTY does not hold");
                 reply.out[..file.len()].copy_from_slice(file);
             }

@@ -13,34 +13,40 @@
 //! second files that k − 1 boards do not tell from the first (request A.13 of document 02), and shares with one byte altered where least shows it
 //! (request A.7); all of them at points 0 to n − 1, i + 1 and others (request A.9), with repairs of 1 to r boards with stand-ins (request A.3) and edits
 //! (request A.6), these also over areas with wrong bytes in boards that are read or not; and with repairs a packet at a time (request A.8), stepped by
-//! every allowance, over packets and boards that are altered, up to power failures and losses, and beside made-up records. Each case draws from its own
+//! every allowance, over packets and boards that are altered, up to power failures and losses, and beside made-up records; and with careful reads (request
+//! A.11), over areas with no, one, two and all boards altered in every way, and through whole histories of worn boards. Each case draws from its own
 //! seed, made of the run's seed and the case's number: `--only` repeats one case.
 //! `--wrong` alters what the archive answers to one call, to show that this is reported. `--first` ends the run at the first case with a mismatch.
 //! `--trace` prints each call before it is made, `--verbose` how often each call gave each refusal, with which points, how often an altered byte was
-//! accepted and refused, how many boards repairs had, where edits stood, how repairs were stepped, and what was met at real sizes. `--multiply` tries all products and quotients through the
-//! archive and nothing else. `--products`, `--printer`, `--sizes`, `--trial` and `--load` make no call: the first writes all products and inverses of
-//! the coder's own field, the second reads standard input and writes what the share printer or the points printer must write for it, the third writes
-//! a line for each legal combination of sizes with at most N boards (request A.12), the fourth reads standard input and writes what the program
-//! `trial` must write for it (request A.2), and the fifth writes one of the inputs that it is tried with.
+//! accepted and refused, how many boards repairs had, where edits stood, how repairs were stepped, what careful reads were of, and what was met at real
+//! sizes. `--multiply` tries all products and quotients through the archive and nothing else. `--products`, `--printer`, `--sizes`, `--trial` and `--load`
+//! make no call: the first writes all products and inverses of the coder's own field, the second reads standard input and writes what the share printer
+//! or the points printer must write for it, the third writes a line for each legal combination of sizes with at most N boards (request A.12), the fourth
+//! reads standard input and writes what the program `trial` must write for it (request A.2), and the fifth writes one of the inputs that it is tried
+//! with.
 //!
 //! Texts of shares are read and gathered in cases of their own (request A.1), and asked how far they make sense in others (request A.14): whole, cut
 //! at every byte, altered at every place, with bytes behind, and with points that are about to be 0 to n − 1. Every kind of these must have been met,
 //! too. Trial files (request A.2) are drawn from any seed, at once and in parts, of up to 600,000 bytes.
 //!
-//! Most cases are small, of at most 100 stripes. Thirteen cases of each run, and one in a thousand of the others, are of real sizes (`real_cases`):
+//! Most cases are small, of at most 100 stripes. Fifteen cases of each run, and one in a thousand of the others, are of real sizes (`real_cases`):
 //! 32,768 bytes on 12 boards, 163,840 bytes and more on 32, 101 to 4,096 stripes on any. There every call is made, areas are read of which a byte,
 //! several bytes or the padding are altered in any stripe, texts of such files are written, read and gathered, and whole histories are kept. Runs of
 //! at most 4,000 calls leave them out.
 //!
 //! The last line counts calls and mismatches. The exit code is 1 where there is a mismatch, or where in a run of 40,000 calls or more some
-//! refusal that a call can give was never met, a kind of points, DISAGREE for a kind of altered byte, a kind of repair, of edit or of step, or a call at
-//! a kind of real sizes.
+//! refusal that a call can give was never met, a kind of points, DISAGREE for a kind of altered byte, a kind of repair, of edit, of step or of careful read,
+//! or a call at a kind of real sizes.
 
 mod altered;
 mod archive;
 mod board;
 mod board_cases;
 mod call;
+mod careful;
+mod careful_cases;
+mod careful_figures;
+mod careful_met;
 mod code;
 mod draw;
 mod edit_cases;
@@ -85,6 +91,7 @@ mod text_spoil;
 mod texts;
 mod tight;
 mod trial;
+mod worn;
 
 use printer::Printer;
 use random::Random;
@@ -238,6 +245,8 @@ fn run_case(trial: &mut Trial, case: u64) {
         altered::run(trial, &mut random, sizes);
         edit_cases::run(trial, &mut random, sizes);
         step_cases::run(trial, &mut random, sizes);
+        careful_cases::run(trial, &mut random, sizes);
+        worn::run(trial, &mut random, sizes);
         text_cases::run(trial, &mut random, sizes);
         prefix_cases::first(trial, &mut random, sizes);
         stream_cases::first(trial, &mut random);
@@ -247,7 +256,7 @@ fn run_case(trial: &mut Trial, case: u64) {
         return real_cases::run(trial, &mut random, turn);
     }
     let sizes = draw::sizes(&mut random);
-    match random.below(23) {
+    match random.below(25) {
         0..=1 => histories::run(trial, &mut random, sizes),
         2..=9 => store_cases::run(trial, &mut random, sizes),
         10..=11 => tight::run(trial, &mut random, sizes),
@@ -260,6 +269,8 @@ fn run_case(trial: &mut Trial, case: u64) {
         15 => stream_cases::run(trial, &mut random),
         16 => edit_cases::run(trial, &mut random, sizes),
         17 => step_cases::run(trial, &mut random, sizes),
+        18 => careful_cases::run(trial, &mut random, sizes),
+        19 => worn::run(trial, &mut random, sizes),
         _ => board_cases::run(trial, &mut random, sizes),
     }
 }

@@ -15,6 +15,10 @@ impl Matrix {
         Matrix { rows, columns, cells }
     }
 
+    pub fn rows(&self) -> usize {
+        self.rows
+    }
+
     pub fn columns(&self) -> usize {
         self.columns
     }

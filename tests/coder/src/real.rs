@@ -74,7 +74,8 @@ impl Measure {
             | Call::Read { .. }
             | Call::Edit { .. }
             | Call::Start { .. }
-            | Call::Step { .. } => {
+            | Call::Step { .. }
+            | Call::Careful { .. } => {
                 let (sizes, _) = store::given(&lent.record)?;
                 let now = lent.record[word::LENGTH] as usize;
                 let length = if let Call::Write { file } = call { file.len() } else { now };
@@ -238,7 +239,7 @@ impl Met {
 const COUNTED: [u8; 2] = [ACCEPTED, DISAGREE];
 
 /// The places in `CALLS` of the calls over a file in a store.
-const OVER_A_STORE: std::ops::RangeInclusive<usize> = 7..=13;
+const OVER_A_STORE: std::ops::RangeInclusive<usize> = 7..=14;
 
 /// Whether a call is about too few bytes for any of CLASSES.
 fn small(call: &Call, lent: &Lent) -> bool {
@@ -249,7 +250,8 @@ fn small(call: &Call, lent: &Lent) -> bool {
         | Call::Read { .. }
         | Call::Edit { .. }
         | Call::Start { .. }
-        | Call::Step { .. } => lent.area.len() < 500,
+        | Call::Step { .. }
+        | Call::Careful { .. } => lent.area.len() < 500,
         _ => false,
     }
 }

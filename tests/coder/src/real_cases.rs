@@ -3,6 +3,7 @@
 //! whole history.
 
 use crate::board_cases;
+use crate::careful_cases;
 use crate::code::{Sizes, MAX_STRIPES};
 use crate::draw;
 use crate::edit_cases;
@@ -18,10 +19,11 @@ use crate::store_cases;
 use crate::stream_cases;
 use crate::text_cases;
 use crate::trial::Trial;
+use crate::worn;
 use std::ops::RangeInclusive;
 
 /// How many cases stand behind those of extreme sizes in each run.
-const FIRST: u64 = 14;
+const FIRST: u64 = 15;
 
 /// After how many cases there is one more.
 const EVERY: u64 = 1000;
@@ -73,6 +75,7 @@ impl Plan {
             10 => Plan::drawn(random, 17..=32, 101),
             11 => Plan::drawn(random, 2..=4, 101),
             12 => Plan::one_read(random),
+            13 => Plan::two_more(random),
             _ if random.once_in(4) => Plan::full(random, 5..=32),
             _ => Plan::drawn(random, 2..=32, 101),
         }
@@ -95,6 +98,15 @@ impl Plan {
         };
         let stripes = random.within(101, MAX_STRIPES);
         Plan { sizes, capacity: random.within(stripes, MAX_STRIPES), length: stripes * sizes.stripe_len(), calls: 10 }
+    }
+
+    /// k + 2 boards in all.
+    fn two_more(random: &mut Random) -> Plan {
+        let n = random.within(5, 12);
+        let sizes = Sizes::new(n, n - 2, n - 2, 2);
+        let stripes = random.within(101, 4 * 101);
+        let length = stripes * sizes.stripe_len() - random.below(2);
+        Plan { sizes, capacity: stripes + 1, length, calls: 10 }
     }
 
     /// So many stripes or more.
@@ -153,6 +165,7 @@ pub fn run(trial: &mut Trial, random: &mut Random, turn: u64) {
     edit_cases::over(trial, random, &scene, capacity);
     let t = fresh_in_turn(random, turn, sizes.r);
     step_cases::over(trial, random, &scene, capacity, t);
+    careful_cases::over(trial, random, &scene, capacity);
     store_cases::over(trial, random, &scene, capacity, calls);
     text_cases::named(trial, random, &scene);
     text_cases::over(trial, random, &scene);
@@ -161,6 +174,7 @@ pub fn run(trial: &mut Trial, random: &mut Random, turn: u64) {
         prefix_cases::longest(trial, random);
         stream_cases::long(trial, random);
     }
+    worn::whole(trial, random, &scene, capacity, calls);
     if histories::whole(trial, random, &scene, capacity, calls) {
         trial.real.count_history(Measure { sizes, room: capacity, length });
     }

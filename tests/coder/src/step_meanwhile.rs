@@ -21,6 +21,7 @@ impl Stepping<'_> {
             running_draw::fill_unused(random, &self.lists, &mut lent.repair);
         }
         self.read(trial, random, &lent, &self.in_service)?;
+        self.read_careful(trial, random, &lent)?;
         for call in self.refused(random) {
             let packets = if random.once_in(2) { Vec::new() } else { lent.packets.clone() };
             Stepping::check(trial, &call, &Lent { packets, ..lent.clone() })?;
@@ -30,6 +31,13 @@ impl Stepping<'_> {
         self.set_ups(trial, random, &lent)?;
         self.before_a_write(trial, random)?;
         self.after_the_end(trial, random, lent)
+    }
+
+    /// A careful read of boards in service, where there are enough of them.
+    fn read_careful(&self, trial: &mut Trial, random: &mut Random, lent: &Lent) -> Option<()> {
+        let boards = random.choose(self.in_service.clone(), self.scene.sizes.k + 2);
+        let lent = Lent { out: random.bytes(self.scene.length() + 1), ..lent.clone() };
+        Stepping::check(trial, &Call::Careful { boards }, &lent).map(drop)
     }
 
     /// A start and a step where no file was written, whatever the lists and the packet area are.
@@ -53,8 +61,11 @@ impl Stepping<'_> {
         with_fresh[0] = random.pick(&fresh);
         let boards = random.choose(self.in_service.clone(), k);
         let count = length.min(4);
+        // one of n boards or more, or one that is fresh
+        let careful = [&fresh[..1], &self.in_service, &[n, n]].concat();
         vec![
             Call::Read { boards: with_fresh },
+            Call::Careful { boards: careful[..k + 2].to_vec() },
             Call::Write { file: random.bytes(length) },
             Call::Write { file: random.bytes(room + 1) },
             Call::Edit { offset: random.within(0, length - count), bytes: random.bytes(count), boards: boards.clone() },
@@ -154,9 +165,9 @@ impl Stepping<'_> {
         let mut record = lent.record.clone();
         record[store::word::WRITTEN..=store::word::MARKS].fill(0);
         all.push(Lent { record, ..lent.clone() });
-        let first = random.below(7);
+        let first = random.below(8);
         for (turn, lent) in all.into_iter().enumerate() {
-            let call = self.any_call(random, (first + turn) % 7);
+            let call = self.any_call(random, (first + turn) % 8);
             let packets =
                 if random.once_in(2) { random.bytes(crate::steps::area_len(&self.order)) } else { Vec::new() };
             let lent = Lent { packets, ..lent };
@@ -168,7 +179,7 @@ impl Stepping<'_> {
         Some(())
     }
 
-    /// One of the seven calls that look at the repair's record, mostly with arguments that are right.
+    /// One of the eight calls that look at the repair's record, mostly with arguments that are right.
     fn any_call(&self, random: &mut Random, which: usize) -> Call {
         let k = self.scene.sizes.k;
         let Lists { fresh, helpers, stand_ins } = self.lists.clone();
@@ -180,6 +191,7 @@ impl Stepping<'_> {
             3 => Call::Read { boards },
             4 => Call::Edit { offset: 0, bytes: Vec::new(), boards },
             5 => self.start(),
+            6 => Call::Careful { boards: random.choose(self.in_service.clone(), k + 2) },
             _ => Call::Step { allowance: running_draw::allowance(random, self.order.len()) },
         }
     }

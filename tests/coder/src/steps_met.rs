@@ -10,7 +10,7 @@ use crate::store::{self, Record};
 
 /// What may be met, with what it is answered; a call may be several. Each must have been met, and those that are not marked `Small` also with five
 /// boards or more and over 100 stripes.
-const KINDS: [(&str, u8, Where); 66] = [
+const KINDS: [(&str, u8, Where); 68] = [
     ("a step of 0", ACCEPTED, Where::Any),
     ("a step of 1 packet", ACCEPTED, Where::Any),
     ("a step of 3 packets", ACCEPTED, Where::Any),
@@ -77,6 +77,8 @@ const KINDS: [(&str, u8, Where); 66] = [
     ("words: all carried", SIZE, Where::Any),
     ("words: more carried than there are", SIZE, Where::Any),
     ("words: 2^64 − 1 carried", SIZE, Where::Any),
+    ("a careful read meanwhile", ACCEPTED, Where::Any),
+    ("a careful read of a fresh board meanwhile", DOWN, Where::Any),
 ];
 
 /// The kinds that only who altered something can tell.
@@ -85,15 +87,16 @@ pub const EXCHANGE_ALTERED: usize = 23;
 pub const SENDER_WRONG: usize = 24;
 pub const AFTER_A_LOSS: usize = 25;
 
-/// The first of those about records that no call hands on.
+/// The first of those about records that no call hands on, and the first behind them.
 const WORDS: usize = 51;
+const CAREFUL: usize = 66;
 
 /// When power fails; told by who lets it.
 pub const FAILURES: [&str; 4] =
     ["before the first packet", "between two packets", "before the last packet", "inside a last step"];
 
 /// The calls that look at a running record, by their places in `CALLS`: each must have found one that no call hands on.
-const LOOKING: std::ops::RangeInclusive<usize> = 7..=13;
+const LOOKING: std::ops::RangeInclusive<usize> = 7..=14;
 
 /// Where a kind is due.
 #[derive(Clone, Copy, PartialEq, Eq)]
@@ -109,7 +112,7 @@ pub struct Met {
     large: Vec<u64>,
     failures: [[u64; 2]; FAILURES.len()],
     /// of each call, how often a record that no call hands on was found
-    looking: [u64; 14],
+    looking: [u64; 15],
 }
 
 /// A call while a repair runs, or by words that say so.
@@ -145,7 +148,7 @@ impl Met {
                 false => now.unsound(&lists, carried),
             },
         };
-        let looked = kinds.iter().any(|&(kind, holds)| kind >= WORDS && holds);
+        let looked = kinds.iter().any(|&(kind, holds)| (WORDS..CAREFUL).contains(&kind) && holds);
         self.looking[place] += u64::from(looked && LOOKING.contains(&place));
         for (kind, holds) in kinds {
             self.set(kind, holds && KINDS[kind].1 == number, size);
@@ -275,6 +278,9 @@ impl Meanwhile<'_> {
             Call::Repair { fresh, helpers, stand_ins } => vec![(39, true), (41, self.wrong(fresh, helpers, stand_ins))],
             Call::Start { fresh, helpers, stand_ins } => vec![(40, true), (41, self.wrong(fresh, helpers, stand_ins))],
             Call::Read { boards } => vec![(33, true), (34, boards.iter().any(|board| lists.fresh.contains(board)))],
+            Call::Careful { boards } => {
+                vec![(CAREFUL, true), (CAREFUL + 1, boards.iter().any(|board| lists.fresh.contains(board)))]
+            }
             Call::Edit { offset, .. } => {
                 vec![(37, true), (38, *offset as u64 > self.lent.record[store::word::LENGTH])]
             }

@@ -1,11 +1,11 @@
-//! The coder's own model of the eight calls of the store, over any records and any area: what each answers and leaves, refusals in document
-//! 01's order with those of later requests in their places. Start and step stand in `steps`.
+//! The coder's own model of the nine calls of the store, over any records and any area: what each answers and leaves, refusals in document
+//! 01's order with those of later requests in their places. Start and step stand in `steps`, the careful read in `careful`.
 
 use crate::call::refusal::{AREA, BUSY, COUNT, DISAGREE, DOWN, EMPTY, LONG, NODE, RANGE, REPEAT, SERVING, SHORT, SIZE};
 use crate::call::{Call, Lent, Outcome};
 use crate::code::{self, Sizes, MAX_STRIPES};
 use crate::running::{self, Lists, Told};
-use crate::{points, steps};
+use crate::{careful, points, steps};
 
 /// The places of a record's words.
 pub mod word {
@@ -24,7 +24,7 @@ pub struct Record {
     pub points: Vec<u8>,
     capacity: usize,
     pub written: bool,
-    length: usize,
+    pub length: usize,
     pub marks: Vec<bool>,
 }
 
@@ -127,6 +127,7 @@ pub fn expect(call: &Call, lent: &Lent) -> Outcome {
         Call::Edit { offset, bytes, boards } => edit(*offset, bytes, boards, lent),
         Call::Start { fresh, helpers, stand_ins } => steps::start(fresh, helpers, stand_ins, lent),
         Call::Step { allowance } => steps::step(*allowance, lent),
+        Call::Careful { boards } => careful::read(boards, lent),
         _ => unreachable!("a board-level call"),
     };
     result.unwrap_or_else(|number| Outcome::refused(number, lent))
@@ -273,9 +274,9 @@ fn repair(fresh: &[usize], helpers: &[usize], stand_ins: &[usize], lent: &Lent) 
     Ok(Outcome::accepted(moved, after))
 }
 
-/// What is asked of the boards that are read: 4, 5, 6, 9.
-fn check_readers(record: &Record, boards: &[usize]) -> Result<(), u8> {
-    if boards.len() != record.sizes.k {
+/// What is asked of the boards that are read, so many of them: 4, 5, 6, 9.
+pub fn check_readers(record: &Record, count: usize, boards: &[usize]) -> Result<(), u8> {
+    if boards.len() != count {
         return Err(COUNT);
     }
     if boards.iter().any(|&board| board >= record.sizes.n) {
@@ -301,7 +302,7 @@ fn read(boards: &[usize], lent: &Lent) -> Result<Outcome, u8> {
     if !record.written {
         return Err(EMPTY);
     }
-    check_readers(&record, boards)?;
+    check_readers(&record, record.sizes.k, boards)?;
     if lent.out.len() < record.length {
         return Err(SHORT);
     }
@@ -324,7 +325,7 @@ fn edit(offset: usize, bytes: &[u8], boards: &[usize], lent: &Lent) -> Result<Ou
     if offset as u128 + bytes.len() as u128 > record.length as u128 {
         return Err(RANGE);
     }
-    check_readers(&record, boards)?;
+    check_readers(&record, record.sizes.k, boards)?;
     let old = file_held(&record, boards, lent)?;
     Ok(Outcome::accepted(0, edited(&old, offset, bytes, lent)))
 }

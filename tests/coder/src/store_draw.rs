@@ -15,7 +15,7 @@ pub fn call(random: &mut Random, scene: &Scene, capacity: usize, in_service: &[u
     let sizes = scene.sizes;
     let all: Vec<usize> = (0..sizes.n).collect();
     let boards = if random.once_in(8) { &all } else { in_service };
-    match random.below(13) {
+    match random.below(15) {
         0 => Call::SetUp { sizes, points: scene.points.clone(), capacity },
         1 => lose(random, sizes),
         2 => write(random, sizes, capacity),
@@ -23,6 +23,7 @@ pub fn call(random: &mut Random, scene: &Scene, capacity: usize, in_service: &[u
         5..=6 => edits::draw(random, sizes, scene.length(), boards),
         7 => repairs::start(random, sizes, boards),
         8..=9 => Call::Step { allowance: running_draw::allowance(random, sizes.d + sizes.r - 1) },
+        10..=11 => careful(random, sizes, boards),
         _ => read(random, sizes, boards),
     }
 }
@@ -33,13 +34,15 @@ pub fn call(random: &mut Random, scene: &Scene, capacity: usize, in_service: &[u
 pub fn next_call(random: &mut Random, sizes: Sizes, capacity: usize, length: usize, in_service: &[usize]) -> Call {
     let lost = sizes.n - in_service.len();
     let all: Vec<usize> = (0..sizes.n).collect();
-    match random.below(25) {
+    match random.below(27) {
         0 => write(random, sizes, capacity),
         1 => repairs::draw(random, sizes, &all),
         2 => read(random, sizes, &all),
         20 => edits::draw(random, sizes, length, &all),
         21..=23 => edits::draw(random, sizes, length, in_service),
         24 => Call::Step { allowance: running_draw::allowance(random, 1) },
+        25 => careful(random, sizes, &all),
+        26 => careful(random, sizes, in_service),
         3..=14 => {
             let can_lose = repairs::possible(sizes, lost + 1) || random.once_in(10);
             if can_lose && (lost == 0 || random.once_in(3)) {
@@ -67,7 +70,7 @@ pub fn call_meanwhile(
     in_service: &[usize],
     repairing: &Repairing,
 ) -> Call {
-    match random.below(20) {
+    match random.below(21) {
         0..=8 => Call::Step { allowance: running_draw::allowance(random, repairing.left) },
         9..=11 => read(random, sizes, in_service),
         12 => read(random, sizes, &(0..sizes.n).collect::<Vec<usize>>()),
@@ -76,6 +79,7 @@ pub fn call_meanwhile(
         16 => repairs::draw(random, sizes, in_service),
         17 => repairs::start(random, sizes, in_service),
         18 => edits::draw(random, sizes, length, in_service),
+        19 => careful(random, sizes, in_service),
         _ => Call::Step { allowance: 1 },
     }
 }
@@ -83,7 +87,7 @@ pub fn call_meanwhile(
 /// The output that a call is lent, over a file of so many bytes; empty where it takes none.
 pub fn output(random: &mut Random, call: &Call, length: usize) -> Vec<u8> {
     match call {
-        Call::Read { .. } => draw::output(random, length),
+        Call::Read { .. } | Call::Careful { .. } => draw::output(random, length),
         _ => Vec::new(),
     }
 }
@@ -102,4 +106,9 @@ fn lose(random: &mut Random, sizes: Sizes) -> Call {
 /// A read from k of these boards.
 fn read(random: &mut Random, sizes: Sizes, boards: &[usize]) -> Call {
     Call::Read { boards: random.choose(boards.to_vec(), sizes.k) }
+}
+
+/// A careful read from k + 2 of these boards, as far as there are so many.
+fn careful(random: &mut Random, sizes: Sizes, boards: &[usize]) -> Call {
+    Call::Careful { boards: random.choose(boards.to_vec(), sizes.k + 2) }
 }

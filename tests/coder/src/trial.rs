@@ -4,7 +4,7 @@ use crate::altered;
 use crate::archive::{self, Performed};
 use crate::call::{refusal, Call, Lent, Outcome, CALLS, READ_TEXT, SET_UP, TRIAL_FILE};
 use crate::code::Sizes;
-use crate::{edits, points, prefix_met, real, repairs, running, steps_met, store, stream_cases, texts};
+use crate::{careful_met, edits, points, prefix_met, real, repairs, running, steps_met, store, stream_cases, texts};
 use std::fmt;
 use std::time::{Duration, Instant};
 
@@ -108,6 +108,8 @@ pub struct Trial {
     pub edits: edits::Met,
     /// what was met of repairs a packet at a time
     pub steps: steps_met::Met,
+    /// what was met of careful reads
+    pub careful: careful_met::Met,
     /// what was met at real sizes
     pub real: real::Met,
     pub place: Place,
@@ -138,6 +140,7 @@ impl Trial {
             repairs: Default::default(),
             edits: Default::default(),
             steps: Default::default(),
+            careful: Default::default(),
             real: Default::default(),
             place: Place::Figure(String::new()),
             trace: false,
@@ -169,6 +172,7 @@ impl Trial {
                 self.count_repair(call, lent, number);
                 self.edits.count(call, lent, expected);
                 self.steps.count(call, lent, expected);
+                self.careful.count(call, lent, expected);
                 self.real.count(call, lent, number);
                 true
             }
@@ -296,6 +300,7 @@ impl Trial {
         }
         missing.extend(self.edits.never());
         missing.extend(self.steps.never());
+        missing.extend(self.careful.never());
         missing.extend(self.real.never());
         missing
     }
@@ -330,6 +335,7 @@ impl Trial {
         }
         self.edits.print();
         self.steps.print();
+        self.careful.print();
         self.real.print();
     }
 }

@@ -53,6 +53,11 @@ macro_rules! archive {
                 offset: usize, bytes: &[u8], boards: &[usize],
             );
         });
+        $crate::names!($each careful {
+            read as zbk_read_careful(
+                record: &mut [u64], repair: &mut [u64], area: &[u8], boards: &[usize], out: &mut [u8],
+            );
+        });
         $crate::names!($each steps {
             start as zbk_start(
                 record: &mut [u64], repair: &mut [u64], area: &[u8],

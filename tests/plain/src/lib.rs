@@ -10,6 +10,7 @@
 //! be tried without a prover.
 
 pub mod board;
+pub mod careful;
 pub mod field;
 pub mod generator;
 pub mod polynomial;

@@ -1,5 +1,5 @@
 //! The six calls of the store that do their work at once, over a record of twelve words, that of a started repair (`running`) and an area. A repair
-//! reports the bytes moved, the others 0. A repair a packet at a time stands in `steps`.
+//! reports the bytes moved, the others 0. A repair a packet at a time stands in `steps`, a careful read in `careful`.
 
 use crate::board;
 use crate::running::{self, Running};
@@ -40,7 +40,7 @@ pub struct Record {
     pub points: Points,
     capacity: usize,
     pub written: bool,
-    length: usize,
+    pub length: usize,
     marks: u32,
 }
 
@@ -86,7 +86,7 @@ impl Record {
     }
 
     /// Bytes of a share of the file.
-    fn share_len(&self) -> usize {
+    pub fn share_len(&self) -> usize {
         self.stripes() * self.sizes.share_len()
     }
 
@@ -102,16 +102,16 @@ impl Record {
         boards.iter().any(|&b| self.marks >> b & 1 == 0)
     }
 
-    /// What a read and an edit ask of the boards that they read.
-    fn check_readers(&self, boards: &[usize]) -> Result<(), Refusal> {
-        refuse_if(boards.len() != self.sizes.k, Refusal::Count)?;
+    /// What a read and an edit ask of the k boards that they read, and a careful read of its k + 2.
+    pub fn check_readers(&self, count: usize, boards: &[usize]) -> Result<(), Refusal> {
+        refuse_if(boards.len() != count, Refusal::Count)?;
         refuse_if(boards.iter().any(|&b| b >= self.sizes.n), Refusal::Node)?;
         refuse_if(repeats(boards.iter().copied()), Refusal::Repeat)?;
         refuse_if(self.down(boards), Refusal::Down)
     }
 
     /// The file that k boards hold, or DISAGREE.
-    fn file(&self, area: &[u8], boards: &[usize]) -> Result<Vec<u8>, Refusal> {
+    pub fn file(&self, area: &[u8], boards: &[usize]) -> Result<Vec<u8>, Refusal> {
         let mut shares: [&[u8]; MAX_BOARDS] = [&[]; MAX_BOARDS];
         for (share, &board) in shares.iter_mut().zip(boards) {
             *share = self.share(area, board);
@@ -277,7 +277,7 @@ pub fn repair(
 pub fn read(words: &[u64], repair: &[u64], area: &[u8], boards: &[usize], out: &mut [u8]) -> Result<usize, Refusal> {
     let record = Record::with_area(words, repair, area)?;
     refuse_if(!record.written, Refusal::Empty)?;
-    record.check_readers(boards)?;
+    record.check_readers(record.sizes.k, boards)?;
     refuse_if(out.len() < record.length, Refusal::Short)?;
     let file = record.file(area, boards)?;
     out[..file.len()].copy_from_slice(&file);
@@ -299,7 +299,7 @@ pub fn edit(
     refuse_if(!record.written, Refusal::Empty)?;
     refuse_if(running::runs(repair), Refusal::Busy)?;
     refuse_if(beyond, Refusal::Range)?;
-    record.check_readers(boards)?;
+    record.check_readers(record.sizes.k, boards)?;
     let old = record.file(area, boards)?;
     if bytes.is_empty() {
         return Ok(0);

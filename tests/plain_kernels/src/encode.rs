@@ -3,9 +3,10 @@
 use crate::interpolate::powers;
 use crate::rows::{add_multiples, Rows};
 use crate::{from_board, Points, Sizes};
+use plain::sizes::MAX_BOARDS;
 
 /// One stripe at a time, as rows of values.
-struct Encoder {
+pub struct Encoder {
     sizes: Sizes,
     /// the powers of all points
     powers: Rows,
@@ -16,14 +17,14 @@ struct Encoder {
 }
 
 impl Encoder {
-    fn new(sizes: Sizes, points: &Points) -> Encoder {
+    pub fn new(sizes: Sizes, points: &Points) -> Encoder {
         let Sizes { n, d, r, .. } = sizes;
         let bytes = vec![0; sizes.stripe_len()];
         Encoder { sizes, powers: powers(sizes, points, d + r), at_y: Rows::new(d, n), bytes }
     }
 
     /// Takes up a stripe; bytes that are missing at its end are 00.
-    fn take(&mut self, bytes: &[u8]) {
+    pub fn take(&mut self, bytes: &[u8]) {
         let Sizes { k, d, r, .. } = self.sizes;
         let (given, rest) = self.bytes.split_at_mut(bytes.len());
         given.copy_from_slice(bytes);
@@ -53,6 +54,14 @@ impl Encoder {
     fn row(&self, board: usize, out: &mut [u8]) {
         out.fill(0);
         add_multiples(out, self.powers.column(board), self.at_y.iter());
+    }
+
+    /// What one board keeps of the stripe.
+    pub fn kept(&self, board: usize, out: &mut [u8]) {
+        let (mut f, mut g) = ([0; MAX_BOARDS], [0; MAX_BOARDS]);
+        self.row(board, &mut f[..self.sizes.n]);
+        self.column(board, &mut g[..self.sizes.n]);
+        keep(self.sizes, board, |y| f[y], |x| g[x], out);
     }
 }
 
@@ -108,12 +117,8 @@ pub fn add(sizes: Sizes, points: &Points, first: usize, bytes: &[u8], area: &mut
 /// One board's share of a file.
 pub fn share(sizes: Sizes, points: &Points, node: usize, file: &[u8], out: &mut [u8]) {
     let mut encoder = Encoder::new(sizes, points);
-    let mut f = vec![0; sizes.n];
-    let mut g = vec![0; sizes.n];
     for (bytes, held) in file.chunks(sizes.stripe_len()).zip(out.chunks_mut(sizes.share_len())) {
         encoder.take(bytes);
-        encoder.row(node, &mut f);
-        encoder.column(node, &mut g);
-        keep(sizes, node, |y| f[y], |x| g[x], held);
+        encoder.kept(node, held);
     }
 }

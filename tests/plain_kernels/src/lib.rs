@@ -7,6 +7,7 @@
 //! plain coder what the algorithm gives, and beside this one what the rows give. It also allocates, checks every index, and is without the
 //! calls' checks: the sizes are legal, lists and lengths are right. Nothing of it is proved.
 
+mod careful;
 mod edit;
 mod encode;
 mod interpolate;
@@ -14,6 +15,7 @@ mod read;
 mod repair;
 mod rows;
 
+pub use careful::read_careful;
 pub use edit::edit;
 pub use encode::{share, write};
 pub use plain::{Points, Sizes};

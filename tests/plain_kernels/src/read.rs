@@ -7,18 +7,18 @@ use plain::field::multiply;
 use std::ops::Range;
 
 /// What the boards keep of one stripe: a row for each.
-struct Kept {
+pub struct Kept {
     f: Rows,
     g: Rows,
 }
 
 impl Kept {
-    fn new(sizes: Sizes) -> Kept {
+    pub fn new(sizes: Sizes) -> Kept {
         Kept { f: Rows::new(sizes.k, sizes.d + sizes.r), g: Rows::new(sizes.k, sizes.d) }
     }
 
     /// Takes up stripe s of the boards.
-    fn take(&mut self, sizes: Sizes, boards: &[usize], area: &[u8], s: usize) {
+    pub fn take(&mut self, sizes: Sizes, boards: &[usize], area: &[u8], s: usize) {
         let board_len = area.len() / sizes.n;
         for (b, &board) in boards.iter().enumerate() {
             let held = &area[board * board_len + s * sizes.share_len()..][..sizes.share_len()];
@@ -32,13 +32,13 @@ impl Kept {
 }
 
 /// The factors of what each board keeps, for the boards that it keeps nothing for.
-struct Factors {
+pub struct Factors {
     f: Vec<Rows>,
     g: Vec<Rows>,
 }
 
 impl Factors {
-    fn new(sizes: Sizes, points: &Points, boards: &[usize]) -> Factors {
+    pub fn new(sizes: Sizes, points: &Points, boards: &[usize]) -> Factors {
         let of_all = |kept: usize| boards.iter().map(|&board| missing(sizes, points, board, kept)).collect();
         Factors { f: of_all(sizes.d + sizes.r), g: of_all(sizes.d) }
     }
@@ -55,7 +55,7 @@ fn agree(sizes: Sizes, boards: &[usize], factors: &Factors, kept: &Kept) -> bool
 }
 
 /// The matrices that make a stripe of what the boards keep.
-struct Decoder<'a> {
+pub struct Decoder<'a> {
     sizes: Sizes,
     boards: &'a [usize],
     factors: &'a Factors,
@@ -72,7 +72,7 @@ struct Decoder<'a> {
 }
 
 impl<'a> Decoder<'a> {
-    fn new(sizes: Sizes, points: &Points, boards: &'a [usize], factors: &'a Factors) -> Decoder<'a> {
+    pub fn new(sizes: Sizes, points: &Points, boards: &'a [usize], factors: &'a Factors) -> Decoder<'a> {
         let Sizes { k, d, r, .. } = sizes;
         let near = |board: usize, count: usize| {
             from_board(sizes, board).take(count).map(|other| points[other]).collect::<Vec<u8>>()
@@ -91,7 +91,7 @@ impl<'a> Decoder<'a> {
     }
 
     /// A stripe's bytes of what the boards keep.
-    fn decode(&mut self, kept: &Kept, out: &mut [u8]) {
+    pub fn decode(&mut self, kept: &Kept, out: &mut [u8]) {
         let Sizes { k, d, r, .. } = self.sizes;
         let (a, rest) = out.split_at_mut(k * k);
         let (b, c) = rest.split_at_mut(k * (d + r - k));
@@ -168,7 +168,14 @@ fn by_x(sizes: Sizes, points: &Points, boards: &[usize]) -> Rows {
 }
 
 /// Whether the boards agree in each of so many stripes.
-fn all_agree(sizes: Sizes, boards: &[usize], factors: &Factors, kept: &mut Kept, area: &[u8], stripes: usize) -> bool {
+pub fn all_agree(
+    sizes: Sizes,
+    boards: &[usize],
+    factors: &Factors,
+    kept: &mut Kept,
+    area: &[u8],
+    stripes: usize,
+) -> bool {
     (0..stripes).all(|s| {
         kept.take(sizes, boards, area, s);
         agree(sizes, boards, factors, kept)

@@ -1,7 +1,7 @@
 //! The plain coder and the kernels' algorithm give the same bytes, over all sizes of few boards and some of many, at points 0 to n − 1, i + 1 and
 //! drawn ones, with true and damaged areas.
 
-use plain::{running, steps, store, Points, Sizes};
+use plain::{careful, running, steps, store, Points, Refusal, Sizes};
 
 /// Numbers that differ from call to call.
 struct Numbers(u64);
@@ -108,6 +108,10 @@ fn one(sizes: Sizes, stripes: usize, length: usize, damaged: bool, numbers: &mut
     assert_eq!(given, plain_kernels::read(sizes, &points, &readers, &other, &mut other_out));
     assert!(out == other_out, "a read at n={n} k={k} d={d} r={r}, {length} bytes, boards {readers:?}");
 
+    if k + 2 <= n {
+        careful_reads(sizes, &points, (&words, &repair), &area, length, numbers);
+    }
+
     for count in [0, 1, 4, length, 1 + numbers.below(length)] {
         let count = count.min(length);
         let offset = numbers.below(length - count + 1);
@@ -158,4 +162,36 @@ fn one(sizes: Sizes, stripes: usize, length: usize, damaged: bool, numbers: &mut
         );
     }
     given
+}
+
+/// Careful reads of any k + 2 boards, as the area is, and with one, two and three of them altered, in a byte or in all.
+fn careful_reads(
+    sizes: Sizes,
+    points: &Points,
+    (words, repair): (&[u64], &[u64]),
+    area: &[u8],
+    length: usize,
+    numbers: &mut Numbers,
+) {
+    let Sizes { n, k, d, r } = sizes;
+    let boards: Vec<usize> = (0..n).collect();
+    let board_len = area.len() / n;
+    for wrong in [0, 1, 1, 1, 2, 3] {
+        let named = numbers.choose(&boards, k + 2);
+        let mut area = area.to_vec();
+        for board in numbers.choose(&named, wrong) {
+            let bytes = &mut area[board * board_len..][..board_len];
+            let place = numbers.below(board_len);
+            match numbers.below(3) {
+                0 => bytes.copy_from_slice(&numbers.bytes(board_len)),
+                _ => bytes[place] ^= 1 + numbers.below(255) as u8,
+            }
+        }
+        let mut out = vec![0xEE; length];
+        let mut other_out = out.clone();
+        let reported = careful::read(words, repair, &area, &named, &mut out);
+        let other = plain_kernels::read_careful(sizes, points, &named, &area, &mut other_out).ok_or(Refusal::Disagree);
+        assert_eq!(reported, other, "a careful read at n={n} k={k} d={d} r={r}, {length} bytes, boards {named:?}");
+        assert!(out == other_out, "a careful read at n={n} k={k} d={d} r={r}, {length} bytes, boards {named:?}");
+    }
 }

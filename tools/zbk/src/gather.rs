@@ -4,7 +4,7 @@ use crate::agree;
 use crate::args::{Takes, Words};
 use crate::files::{self, Target, PIPE};
 use crate::texts::{self, points_words, Read, Text, Unreadable};
-use crate::trouble::{boards, count, refused, Outcome, Trouble};
+use crate::trouble::{boards, count, refused, say, Outcome, Trouble};
 use zebrankai::{Refusal, Sizes};
 
 pub const GATHER: Takes = Takes { command: "gather", valued: &["--output"], plain: &["--force"] };
@@ -26,11 +26,17 @@ pub fn gather(words: &Words) -> Outcome {
     texts::alike(&readable)?;
     enough(&readable)?;
     different(&readable)?;
-    let file = agree::file(&readable, "leave it out", words.has("--quiet"))?;
+    let quiet = words.has("--quiet");
+    let gathered = agree::gathered(&readable, quiet)?;
     match target {
-        Some(target) => files::write_all(&[(target, file)]),
-        None => files::print(&file),
+        Some(target) => files::write_all(&[(target, gathered.file)])?,
+        None => files::print(&gathered.file)?,
     }
+    // a text that is wrong is named in any case
+    if gathered.odd || !quiet {
+        say(gathered.shown);
+    }
+    Ok(())
 }
 
 /// Sees that there are k texts; else the refusal says which boards are missing.

@@ -55,8 +55,12 @@ zbk gather TEXT.. [-o FILE] [--force]
 
 Writes the file that k texts give, to standard output or to FILE. Texts are
 named in any order; - is standard input; a file may have several texts, one
-after another; a folder stands for its texts board-0.txt and so on. Where more
-than k are named, all of them must agree.
+after another; a folder stands for its texts board-0.txt and so on.
+
+What texts show of each other, which is said when it is done: k texts show that
+they fit together, not that none was altered. Among k + 1 one that is wrong
+always shows. Of k + 2 or more it is named, and the file is that of the others;
+with more than one wrong, it is DISAGREE.
 
 Refused, in this order:
   TEXT (12)      bytes that are no text: line and place, what was expected there
@@ -64,8 +68,8 @@ Refused, in this order:
   MIXED (13)     texts that differ in sizes, points or length
   COUNT (4)      fewer than k texts, and which boards are missing
   REPEAT (6)     two texts of one board
-  DISAGREE (10)  texts that no file has; which one is at fault is said where
-                 k + 2 are named or more, and often with k + 1
+  DISAGREE (10)  texts that no file has, but for one of k + 2 or more; of k + 1
+                 those are named of which one is at fault
 
   -o, --output FILE      where the file is written
   -f, --force            replaces FILE where it is there

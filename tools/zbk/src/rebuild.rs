@@ -250,7 +250,7 @@ pub fn rebuild(words: &Words) -> Outcome {
         .collect::<Outcome<_>>()?;
 
     // packets of a text that is not as it was written would spoil what is rebuilt; where d = k those that send may not show it, the others do
-    agree::file(&all, "name it with --fresh, or move it away", words.has("--quiet"))?;
+    agree::all(&all, "name it with --fresh, or move it away", words.has("--quiet"))?;
     let sends =
         |board: usize| plans.iter().any(|plan| plan.helpers.contains(&board) || plan.stand_ins.contains(&board));
     let senders: Vec<(&Text, &Read)> = all.into_iter().filter(|(_, read)| sends(read.node)).collect();

@@ -16,12 +16,18 @@ use Rattle.archive_store.proofs.Worded.{due, set-up-asks, not-twelve, n
 use Rattle.archive_store.proofs.set_up.Statement.{statement}
 use Rattle.archive_store.proofs.set_up.Tie as tie
 
+abbrev st-at-shared-slice-known : tie.After-shared-slice-known → tie.Start
+st-at-shared-slice-known c = c .before .before .before
+
 -- the places
 abbrev st : tie.Else1 → tie.Start
-st c = c .before .before .before .before
+st c = st-at-shared-slice-known (c .before)
+
+abbrev new-kept-at-set-up : tie.After-set-up → tie.After-new-kept
+new-kept-at-set-up c = c .before .before
 
 abbrev at-array : tie.After-set-up → tie.After-points-array
-at-array c = c .before .before .before
+at-array c = new-kept-at-set-up c .before
 
 abbrev st-call : tie.After-set-up → tie.Start
 st-call c = st (at-array c .before .before)
@@ -40,7 +46,7 @@ z g = sizesOf (g .args .n) (g .args .k) (g .args .d) (g .args .r)
 
 -- the records that the store's call is handed, which it does not examine
 abbrev kept : tie.After-set-up → Record
-kept c = recordOf (c .before .before .new-kept .result)
+kept c = recordOf (new-kept-at-set-up c .new-kept .result)
 
 abbrev running : tie.After-set-up → beside-record.Running
 running c = runningIn (c .before .idle .result)
@@ -61,7 +67,7 @@ made c =
     (at-array c .points-array .ensures)
 
 not-ws : tie.Need-returns
-not-ws c = let g = c .before .before .before .before in not-twelve (g .args .ws .now) (g .args .ps .now) (z g) (g .args .points .now) (g .args .capacity) (c .if1 .taken)
+not-ws c = let g = st-at-shared-slice-known (c .before) in not-twelve (g .args .ws .now) (g .args .ps .now) (z g) (g .args .points .now) (g .args .capacity) (c .if1 .taken)
 
 not-ps : tie.Need-returns-2
 not-ps c = let g = st (c .before) in not-71 (g .args .ws .now) (g .args .ps .now) (z g) (g .args .points .now) (g .args .capacity) (c .if2 .taken)

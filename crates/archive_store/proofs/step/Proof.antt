@@ -14,11 +14,17 @@ use Rattle.archive_store.proofs.step.Tie as tie
 abbrev st : tie.After-are-records → tie.Start
 st c = c .before .before .before .before .before .before .before
 
+abbrev running-of-at-step : tie.After-step → tie.After-running-of
+running-of-at-step c = c .before .before .before
+
 abbrev at-kept : tie.After-step → tie.After-kept-of
-at-kept c = c .before .before .before .before .before
+at-kept c = running-of-at-step c .before .before
+
+abbrev else1-at-kept-of : tie.After-kept-of → tie.Else1
+else1-at-kept-of c = c .before .before
 
 abbrev at-else : tie.After-kept-of → tie.Else1
-at-else c = c .before .before
+at-else c = else1-at-kept-of c
 
 abbrev at-call : tie.After-hand-on-arg2 → tie.After-step
 at-call c = c .before .before .before .before .before .before
@@ -59,7 +65,7 @@ hands-on c =
     let g = st-call k in
     let o = at-kept k in
     lent-on (call g) (g .args .ws .now) (g .args .ps .now) (g .args .area .now) [] (g .args .packets .now) _ _ (k .step .result) _ _ _ _ _ _ (both (at-else o))
-    (o .kept-of .ensures) (k .before .before .before .running-of .ensures) (k .step .ensures) (h .hand-on .ensures)
+    (o .kept-of .ensures) (running-of-at-step k .running-of .ensures) (k .step .ensures) (h .hand-on .ensures)
 
 pub step-spec : {M : Type 1} → statement M
 step-spec =

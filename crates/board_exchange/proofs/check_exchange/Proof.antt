@@ -68,8 +68,11 @@ whole g = grouped (stateds g)
 abbrev st-stated : tie.After-check-stated → tie.Start
 st-stated c = c .before .before .before .before .before
 
-no-stated : (c : tie.After-stated) → Refuse (c .stated .given .0 .0) ≡ answer (st-stated (c .before .before))
-no-stated c = let k = c .before .before in refuses _ (whole (st-stated k)) (k .check-stated .ensures) (c .stated .given .1)
+abbrev check-stated-at-stated : tie.After-stated → tie.After-check-stated
+check-stated-at-stated c = c .before .before
+
+no-stated : (c : tie.After-stated) → Refuse (c .stated .given .0 .0) ≡ answer (st-stated (check-stated-at-stated c))
+no-stated c = let k = check-stated-at-stated c in refuses _ (whole (st-stated k)) (k .check-stated .ensures) (c .stated .given .1)
 
 -- 4 COUNT
 abbrev at-stated : tie.After-check-count → tie.After-check-stated
@@ -84,8 +87,11 @@ stated-on c = stated-facts _ _ _ (sym (at-stated c .check-stated .ensures) ∙ c
 on-count : (c : tie.After-check-count) → thens (counts (st-count c)) ≡ answer (st-count c)
 on-count c = goes-on (whole (st-count c)) (at-stated c .check-stated .ensures) (c .before .enum-told .given .1)
 
-no-count : (c : tie.After-count) → Refuse (c .count .given .0 .0) ≡ answer (st-count (c .before .before))
-no-count c = let k = c .before .before in refuses _ (on-count k) (k .check-count .ensures) (c .count .given .1)
+abbrev check-count-at-count : tie.After-count → tie.After-check-count
+check-count-at-count c = c .before .before
+
+no-count : (c : tie.After-count) → Refuse (c .count .given .0 .0) ≡ answer (st-count (check-count-at-count c))
+no-count c = let k = check-count-at-count c in refuses _ (on-count k) (k .check-count .ensures) (c .count .given .1)
 
 -- 5 NODE
 abbrev at-count : tie.After-check-nodes-with → tie.After-check-count
@@ -97,8 +103,11 @@ st-node c = st-count (at-count c)
 on-node : (c : tie.After-check-nodes-with) → thens (nodes (st-node c)) ≡ answer (st-node c)
 on-node c = goes-on (on-count (at-count c)) (at-count c .check-count .ensures) (c .before .enum-told2 .given .1)
 
-no-node : (c : tie.After-node) → Refuse (c .node .given .0 .0) ≡ answer (st-node (c .before .before))
-no-node c = let k = c .before .before in refuses _ (on-node k) (k .check-nodes-with .ensures) (c .node .given .1)
+abbrev check-nodes-with-at-node : tie.After-node → tie.After-check-nodes-with
+check-nodes-with-at-node c = c .before .before
+
+no-node : (c : tie.After-node) → Refuse (c .node .given .0 .0) ≡ answer (st-node (check-nodes-with-at-node c))
+no-node c = let k = check-nodes-with-at-node c in refuses _ (on-node k) (k .check-nodes-with .ensures) (c .node .given .1)
 
 -- 6 REPEAT
 abbrev at-node : tie.After-check-repeat-with → tie.After-check-nodes-with
@@ -110,12 +119,18 @@ st-repeat c = st-node (at-node c)
 on-repeat : (c : tie.After-check-repeat-with) → thens (repeats (st-repeat c)) ≡ answer (st-repeat c)
 on-repeat c = goes-on (on-node (at-node c)) (at-node c .check-nodes-with .ensures) (c .before .enum-told3 .given .1)
 
-no-repeat : (c : tie.After-repeat) → Refuse (c .repeat .given .0 .0) ≡ answer (st-repeat (c .before .before))
-no-repeat c = let k = c .before .before in refuses _ (on-repeat k) (k .check-repeat-with .ensures) (c .repeat .given .1)
+abbrev check-repeat-with-at-repeat : tie.After-repeat → tie.After-check-repeat-with
+check-repeat-with-at-repeat c = c .before .before
+
+no-repeat : (c : tie.After-repeat) → Refuse (c .repeat .given .0 .0) ≡ answer (st-repeat (check-repeat-with-at-repeat c))
+no-repeat c = let k = check-repeat-with-at-repeat c in refuses _ (on-repeat k) (k .check-repeat-with .ensures) (c .repeat .given .1)
 
 -- 2 AREA
+abbrev check-repeat-with-at-enum-told4 : tie.After-enum-told4 → tie.After-check-repeat-with
+check-repeat-with-at-enum-told4 c = c .before .before
+
 abbrev at-repeat : tie.After-stripe-count → tie.After-check-repeat-with
-at-repeat c = c .before .before .before
+at-repeat c = check-repeat-with-at-enum-told4 (c .before)
 
 abbrev st-lent : tie.After-stripe-count → tie.Start
 st-lent c = st-repeat (at-repeat c)
@@ -154,8 +169,11 @@ is-lent c =
     c .check-lent .ensures
     ∙ ap (λ (m : ℕ). asked (areaLine (eqb (length (a .packets .now)) (a .sizes .d * (2 * m)) ∷ []))) (at-stripes c .stripe-count .ensures .0)
 
-no-lent : (c : tie.After-lent) → Refuse (c .lent .given .0 .0) ≡ answer (st-lent (at-stripes (c .before .before)))
-no-lent c = let k = c .before .before in refuses _ (on-lent (at-stripes k)) (is-lent k) (c .lent .given .1)
+abbrev check-lent-at-lent : tie.After-lent → tie.After-check-lent
+check-lent-at-lent c = c .before .before
+
+no-lent : (c : tie.After-lent) → Refuse (c .lent .given .0 .0) ≡ answer (st-lent (at-stripes (check-lent-at-lent c)))
+no-lent c = let k = check-lent-at-lent c in refuses _ (on-lent (at-stripes k)) (is-lent k) (c .lent .given .1)
 
 -- 7 SHORT
 abbrev at-lent : tie.After-check-room → tie.After-check-lent
@@ -190,7 +208,7 @@ check-exchange-spec =
     (λ c. search needs)
     (λ c. no-repeat (c .before))
     (λ c. search needs)
-    (λ c κs. stated-on (at-count (at-node (c .before .before))))
+    (λ c κs. stated-on (at-count (at-node (check-repeat-with-at-enum-told4 c))))
     (λ c. omega (arith, c .stripe-count .ensures .1))
     (λ c. omega (arith, sent-few (c .before)))
     (λ c κs. search needs)

@@ -72,8 +72,11 @@ whole g = grouped (all g)
 abbrev st-stated : tie.After-check-stated → tie.Start
 st-stated c = c .before .before .before .before .before .before .before
 
-no-stated : (c : tie.After-stated) → Refuse (c .stated .given .0 .0) ≡ answer (st-stated (c .before .before))
-no-stated c = let k = c .before .before in refuses _ (whole (st-stated k)) (k .check-stated .ensures) (c .stated .given .1)
+abbrev check-stated-at-stated : tie.After-stated → tie.After-check-stated
+check-stated-at-stated c = c .before .before
+
+no-stated : (c : tie.After-stated) → Refuse (c .stated .given .0 .0) ≡ answer (st-stated (check-stated-at-stated c))
+no-stated c = let k = check-stated-at-stated c in refuses _ (whole (st-stated k)) (k .check-stated .ensures) (c .stated .given .1)
 
 -- 4 COUNT
 abbrev at-stated : tie.After-check-count → tie.After-check-stated
@@ -85,8 +88,11 @@ st-count c = st-stated (at-stated c)
 on-count : (c : tie.After-check-count) → thens (counts (st-count c)) ≡ answer (st-count c)
 on-count c = goes-on (whole (st-count c)) (at-stated c .check-stated .ensures) (c .before .enum-told .given .1)
 
-no-count : (c : tie.After-miscounted) → Refuse (c .miscounted .given .0 .0) ≡ answer (st-count (c .before .before))
-no-count c = let k = c .before .before in refuses _ (on-count k) (k .check-count .ensures) (c .miscounted .given .1)
+abbrev check-count-at-miscounted : tie.After-miscounted → tie.After-check-count
+check-count-at-miscounted c = c .before .before
+
+no-count : (c : tie.After-miscounted) → Refuse (c .miscounted .given .0 .0) ≡ answer (st-count (check-count-at-miscounted c))
+no-count c = let k = check-count-at-miscounted c in refuses _ (on-count k) (k .check-count .ensures) (c .miscounted .given .1)
 
 -- 5 NODE
 abbrev at-count : tie.After-check-nodes → tie.After-check-count
@@ -98,8 +104,11 @@ st-nodes c = st-count (at-count c)
 on-nodes : (c : tie.After-check-nodes) → thens (nodes (st-nodes c)) ≡ answer (st-nodes c)
 on-nodes c = let k = at-count c in goes-on (on-count k) (k .check-count .ensures) (c .before .enum-told2 .given .1)
 
-no-nodes : (c : tie.After-named) → Refuse (c .named .given .0 .0) ≡ answer (st-nodes (c .before .before))
-no-nodes c = let k = c .before .before in refuses _ (on-nodes k) (k .check-nodes .ensures) (c .named .given .1)
+abbrev check-nodes-at-named : tie.After-named → tie.After-check-nodes
+check-nodes-at-named c = c .before .before
+
+no-nodes : (c : tie.After-named) → Refuse (c .named .given .0 .0) ≡ answer (st-nodes (check-nodes-at-named c))
+no-nodes c = let k = check-nodes-at-named c in refuses _ (on-nodes k) (k .check-nodes .ensures) (c .named .given .1)
 
 -- 6 REPEAT
 abbrev at-nodes : tie.After-check-repeat → tie.After-check-nodes
@@ -111,8 +120,11 @@ st-repeat c = st-nodes (at-nodes c)
 on-repeat : (c : tie.After-check-repeat) → thens (repeats (st-repeat c)) ≡ answer (st-repeat c)
 on-repeat c = let k = at-nodes c in goes-on (on-nodes k) (k .check-nodes .ensures) (c .before .enum-told3 .given .1)
 
-no-repeat : (c : tie.After-repeated) → Refuse (c .repeated .given .0 .0) ≡ answer (st-repeat (c .before .before))
-no-repeat c = let k = c .before .before in refuses _ (on-repeat k) (k .check-repeat .ensures) (c .repeated .given .1)
+abbrev check-repeat-at-repeated : tie.After-repeated → tie.After-check-repeat
+check-repeat-at-repeated c = c .before .before
+
+no-repeat : (c : tie.After-repeated) → Refuse (c .repeated .given .0 .0) ≡ answer (st-repeat (check-repeat-at-repeated c))
+no-repeat c = let k = check-repeat-at-repeated c in refuses _ (on-repeat k) (k .check-repeat .ensures) (c .repeated .given .1)
 
 taken-on : (c : tie.After-check-repeat) → Taken (st-repeat c .args .sizes) (st-repeat c .args .points .now)
 taken-on c =
@@ -125,14 +137,20 @@ stated-on c =
     stated-facts _ _ _ (sym (at-stated k .check-stated .ensures) ∙ k .before .enum-told .given .1)
 
 -- 2 AREA
+abbrev check-repeat-at-enum-told4 : tie.After-enum-told4 → tie.After-check-repeat
+check-repeat-at-enum-told4 c = c .before .before
+
+abbrev enum-told4-at-share-len : tie.After-share-len → tie.After-enum-told4
+enum-told4-at-share-len c = c .before .before
+
 abbrev at-repeat : tie.After-share-len → tie.After-check-repeat
-at-repeat c = c .before .before .before .before
+at-repeat c = check-repeat-at-enum-told4 (enum-told4-at-share-len c)
 
 abbrev st-area : tie.After-share-len → tie.Start
 st-area c = st-repeat (at-repeat c)
 
 on-area : (c : tie.After-share-len) → thens (areas (st-area c)) ≡ answer (st-area c)
-on-area c = let k = at-repeat c in goes-on (on-repeat k) (k .check-repeat .ensures) (c .before .before .enum-told4 .given .1)
+on-area c = let k = at-repeat c in goes-on (on-repeat k) (k .check-repeat .ensures) (enum-told4-at-share-len c .enum-told4 .given .1)
 
 few : (c : tie.After-share-len) → c .before .stripe-count .result * c .share-len .result ≤ 253952
 few c =
@@ -156,8 +174,11 @@ is-area c =
     let many = as-many _ (k .share-len .result) _ _ _ (k .before .stripe-count .ensures .0) (k .share-len .ensures) (stated-on (at-repeat k) .is-legal) in
     c .check-lent .ensures ∙ ap (λ (m : ℕ). asked (areaLine (eqb (length (a .held .now)) (a .sizes .k * m) ∷ []))) many
 
-no-area : (c : tie.After-lent) → Refuse (c .lent .given .0 .0) ≡ answer (st-area (at-len (c .before .before)))
-no-area c = let k = c .before .before in refuses _ (on-area (at-len k)) (is-area k) (c .lent .given .1)
+abbrev check-lent-at-lent : tie.After-lent → tie.After-check-lent
+check-lent-at-lent c = c .before .before
+
+no-area : (c : tie.After-lent) → Refuse (c .lent .given .0 .0) ≡ answer (st-area (at-len (check-lent-at-lent c)))
+no-area c = let k = check-lent-at-lent c in refuses _ (on-area (at-len k)) (is-area k) (c .lent .given .1)
 
 -- 7 SHORT
 abbrev at-area : tie.After-check-room → tie.After-check-lent
@@ -169,8 +190,11 @@ st-short c = st-area (at-len (at-area c))
 on-short : (c : tie.After-check-room) → thens (shorts (st-short c)) ≡ answer (st-short c)
 on-short c = let k = at-area c in goes-on (on-area (at-len k)) (is-area k) (c .before .enum-told5 .given .1)
 
-no-short : (c : tie.After-short) → Refuse (c .short .given .0 .0) ≡ answer (st-short (c .before .before))
-no-short c = let k = c .before .before in refuses _ (on-short k) (k .check-room .ensures) (c .short .given .1)
+abbrev check-room-at-short : tie.After-short → tie.After-check-room
+check-room-at-short c = c .before .before
+
+no-short : (c : tie.After-short) → Refuse (c .short .given .0 .0) ≡ answer (st-short (check-room-at-short c))
+no-short c = let k = check-room-at-short c in refuses _ (on-short k) (k .check-room .ensures) (c .short .given .1)
 
 -- what the checks so far told
 readable-on : (c : tie.After-check-room) → let a = st-short c .args in Readable (a .sizes) (a .points .now) (a .len) (a .boards .now) (length (a .held .now))
@@ -180,11 +204,14 @@ readable-on c =
     let n = at-nodes r in
     let k = at-count n in
     readable _ _ _ _ _ (stated-on r) (taken-on r) (sym (k .check-count .ensures) ∙ n .before .enum-told2 .given .1) (sym (n .check-nodes .ensures) ∙ r .before .enum-told3 .given .1)
-    (sym (r .check-repeat .ensures) ∙ l .before .before .enum-told4 .given .1) (sym (is-area (at-area c)) ∙ c .before .enum-told5 .given .1)
+    (sym (r .check-repeat .ensures) ∙ enum-told4-at-share-len l .enum-told4 .given .1) (sym (is-area (at-area c)) ∙ c .before .enum-told5 .given .1)
 
 -- 10 DISAGREE
+abbrev check-room-at-check-agrees-arg : tie.After-check-agrees-arg → tie.After-check-room
+check-room-at-check-agrees-arg c = c .before .before .before
+
 abbrev at-room : tie.After-check-agrees → tie.After-check-room
-at-room c = c .before .before .before .before
+at-room c = check-room-at-check-agrees-arg (c .before)
 
 abbrev st-agrees : tie.After-check-agrees → tie.Start
 st-agrees c = st-short (at-room c)
@@ -201,7 +228,7 @@ asked-on c = asked-of _ _ _ _ _ (readable-on c)
 
 agrees-ask : tie.Need-check-agrees-requires
 agrees-ask c κs =
-    let k = c .before .before .before in
+    let k = check-room-at-check-agrees-arg c in
     let n = at-len (at-area k) .before in
     let f = readable-on k in
     let e = n .stripe-count .ensures .0 in
@@ -227,7 +254,7 @@ check-file-spec =
     (λ c. search needs)
     (λ c. (no-repeat (c .before), not-passed))
     (λ c. search needs)
-    (λ c κs. stated-on (c .before .before))
+    (λ c κs. stated-on (check-repeat-at-enum-told4 c))
     (λ c κs. search needs)
     (λ c. omega (arith, few c))
     (λ c. omega (arith, all-few (c .before)))

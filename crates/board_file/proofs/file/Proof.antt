@@ -36,10 +36,13 @@ facts c = let g = st (at-check c) in let a = g .args in file-readable (a .sizes)
 made : (c : tie.After-enum-told) → let k = at-check c in let a = st k .args in Made (a .sizes) (given (st k)) (a .boards .now) (k .check-file .last .1 .1 .1 .1 .1 .1 .1 .0)
 made c = at-check c .check-file .ensures .1 (c .enum-told .given .1)
 
+abbrev stripe-count-at-file-arg : tie.After-file-arg → tie.After-stripe-count
+stripe-count-at-file-arg c = c .before .before .before
+
 -- the work
 file-asks : tie.Need-file-requires
 file-asks c κs =
-    let n = c .before .before .before in
+    let n = stripe-count-at-file-arg c in
     let t = n .before in
     let k = at-check t in
     let g = st k in
@@ -57,7 +60,7 @@ file-asks c κs =
 file-done : tie.Need-returns-2
 file-done c =
     let w = c .before .before in
-    let n = w .before .before .before .before in
+    let n = stripe-count-at-file-arg (w .before) in
     let t = n .before in
     let g = st (at-check t) in
     let a = g .args in

@@ -78,8 +78,11 @@ whole g = grouped (stateds g)
 abbrev st-stated : tie.After-check-stated → tie.Start
 st-stated c = c .before .before .before .before .before .before .before
 
-no-stated : (c : tie.After-stated) → Refuse (c .stated .given .0 .0) ≡ answer (st-stated (c .before .before))
-no-stated c = let k = c .before .before in refuses _ (whole (st-stated k)) (k .check-stated .ensures) (c .stated .given .1)
+abbrev check-stated-at-stated : tie.After-stated → tie.After-check-stated
+check-stated-at-stated c = c .before .before
+
+no-stated : (c : tie.After-stated) → Refuse (c .stated .given .0 .0) ≡ answer (st-stated (check-stated-at-stated c))
+no-stated c = let k = check-stated-at-stated c in refuses _ (whole (st-stated k)) (k .check-stated .ensures) (c .stated .given .1)
 
 abbrev check-stated-at-enum-told : tie.After-enum-told → tie.After-check-stated
 check-stated-at-enum-told c = c .before .before
@@ -100,8 +103,11 @@ st-count c = st-stated (at-stated c)
 on-count : (c : tie.After-check-counts) → thens (counts (st-count c)) ≡ answer (st-count c)
 on-count c = goes-on (whole (st-count c)) (at-stated c .check-stated .ensures) (enum-told-at-check-counts c .enum-told .given .1)
 
-no-count : (c : tie.After-count) → Refuse (c .count .given .0 .0) ≡ answer (st-count (c .before .before))
-no-count c = let k = c .before .before in refuses _ (on-count k) (k .check-counts .ensures) (c .count .given .1)
+abbrev check-counts-at-count : tie.After-count → tie.After-check-counts
+check-counts-at-count c = c .before .before
+
+no-count : (c : tie.After-count) → Refuse (c .count .given .0 .0) ≡ answer (st-count (check-counts-at-count c))
+no-count c = let k = check-counts-at-count c in refuses _ (on-count k) (k .check-counts .ensures) (c .count .given .1)
 
 -- 5 NODE
 abbrev at-count : tie.After-check-nodes-joined → tie.After-check-counts
@@ -116,8 +122,11 @@ on-node c = goes-on (on-count (at-count c)) (at-count c .check-counts .ensures) 
 is-node : (c : tie.After-check-nodes-joined) → c .check-nodes-joined .result ≡ asked (nodeLine (st-node c .args .sizes) (named (st-node c)))
 is-node c = c .check-nodes-joined .ensures
 
-no-node : (c : tie.After-node) → Refuse (c .node .given .0 .0) ≡ answer (st-node (c .before .before))
-no-node c = let k = c .before .before in refuses _ (on-node k) (is-node k) (c .node .given .1)
+abbrev check-nodes-joined-at-node : tie.After-node → tie.After-check-nodes-joined
+check-nodes-joined-at-node c = c .before .before
+
+no-node : (c : tie.After-node) → Refuse (c .node .given .0 .0) ≡ answer (st-node (check-nodes-joined-at-node c))
+no-node c = let k = check-nodes-joined-at-node c in refuses _ (on-node k) (is-node k) (c .node .given .1)
 
 -- 6 REPEAT
 abbrev at-node : tie.After-check-repeat-joined → tie.After-check-nodes-joined
@@ -129,8 +138,11 @@ st-repeat c = st-node (at-node c)
 on-repeat : (c : tie.After-check-repeat-joined) → thens (repeats (st-repeat c)) ≡ answer (st-repeat c)
 on-repeat c = goes-on (on-node (at-node c)) (is-node (at-node c)) (c .before .enum-told3 .given .1)
 
-no-repeat : (c : tie.After-repeat) → Refuse (c .repeat .given .0 .0) ≡ answer (st-repeat (c .before .before))
-no-repeat c = let k = c .before .before in refuses _ (on-repeat k) (k .check-repeat-joined .ensures) (c .repeat .given .1)
+abbrev check-repeat-joined-at-repeat : tie.After-repeat → tie.After-check-repeat-joined
+check-repeat-joined-at-repeat c = c .before .before
+
+no-repeat : (c : tie.After-repeat) → Refuse (c .repeat .given .0 .0) ≡ answer (st-repeat (check-repeat-joined-at-repeat c))
+no-repeat c = let k = check-repeat-joined-at-repeat c in refuses _ (on-repeat k) (k .check-repeat-joined .ensures) (c .repeat .given .1)
 
 -- 2 AREA
 abbrev check-repeat-joined-at-enum-told4 : tie.After-enum-told4 → tie.After-check-repeat-joined
@@ -180,8 +192,11 @@ at-stripes c = c .before .before
 is-lent : (c : tie.After-check-two-lent) → let g = st-lent (at-stripes c) in c .check-two-lent .result ≡ asked (sentLine g (S g))
 is-lent c = let g = st-lent (at-stripes c) in c .check-two-lent .ensures ∙ ap (λ (s : ℕ). asked (sentLine g s)) (at-stripes c .stripe-count .ensures .0)
 
-no-lent : (c : tie.After-lent) → Refuse (c .lent .given .0 .0) ≡ answer (st-lent (at-stripes (c .before .before)))
-no-lent c = let k = c .before .before in refuses _ (on-lent (at-stripes k)) (is-lent k) (c .lent .given .1)
+abbrev check-two-lent-at-lent : tie.After-lent → tie.After-check-two-lent
+check-two-lent-at-lent c = c .before .before
+
+no-lent : (c : tie.After-lent) → Refuse (c .lent .given .0 .0) ≡ answer (st-lent (at-stripes (check-two-lent-at-lent c)))
+no-lent c = let k = check-two-lent-at-lent c in refuses _ (on-lent (at-stripes k)) (is-lent k) (c .lent .given .1)
 
 -- 7 SHORT
 abbrev at-lent : tie.After-share-len → tie.After-check-two-lent

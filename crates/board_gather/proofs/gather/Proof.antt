@@ -20,8 +20,14 @@ use Rattle.board_gather.proofs.gather.Tie as tie
 abbrev st : tie.After-head-at → tie.Start
 st c = c .before .before .before .before
 
+abbrev at-points : tie.After-scan-texts → tie.After-points2
+at-points c = c .before .before .before
+
+abbrev else2-at-points2 : tie.After-points2 → tie.Else2
+else2-at-points2 c = c .before .before .before
+
 abbrev at-head : tie.After-scan-texts → tie.After-head-at
-at-head c = c .before .before .before .before .before .before .before .before
+at-head c = else2-at-points2 (at-points c) .before .before
 
 abbrev at-scan : tie.After-struct-known2 → tie.After-scan-texts
 at-scan c = c .before .before .before
@@ -49,7 +55,7 @@ some-bytes : (c : tie.After-head-at) → 0 < length (text (st c))
 some-bytes c = omega (arith, c .before .if1 .left)
 
 first-stands : (c : tie.After-scan-texts) → first (at-head c) .ok ≡ true
-first-stands c = not-false _ (c .before .before .before .before .before .before .if2 .left)
+first-stands c = not-false _ (else2-at-points2 (at-points c) .if2 .left)
 
 -- what the walk found
 abbrev found : tie.After-scan-texts → Scan
@@ -99,9 +105,6 @@ miscounted c =
 points-long : tie.Need-slice-aggregate-scan-texts
 points-long c = search needs
 
-abbrev at-points : tie.After-scan-texts → tie.After-points2
-at-points c = c .before .before .before
-
 -- k texts that are alike
 told : (q : tie.Else5) → let s = at-scan (at-alike (at-count q)) in let k = at-head s in law.Told (text (st k)) (out (st k)) (first k) (nodes s) (places s)
 told q =
@@ -111,8 +114,11 @@ told q =
     let w = walked (a .before .before) in
     law.told (text (st k)) (out (st k)) (first k) (stands k) (some-bytes k) (first-stands s) (found s) (nodes s) (places s) (w .0) (w .1) (not-false _ (a .if4 .left)) (q .if5 .left)
 
+abbrev else5-at-places3 : tie.After-places3 → tie.Else5
+else5-at-places3 c = c .before .before .before .before
+
 abbrev at-told : tie.After-gather-told-arg3 → tie.Else5
-at-told c = c .before .before .before .before .before .before
+at-told c = else5-at-places3 (c .before .before)
 
 pub gather-spec : {M : Type 1} → statement M
 gather-spec =
@@ -134,7 +140,7 @@ gather-spec =
     (λ c. told (c .before .before) .boards-enough)
     (λ c. search needs)
     (λ c. search needs)
-    (λ c. told (c .before .before .before .before) .places-enough)
+    (λ c. told (else5-at-places3 c) .places-enough)
     (λ c κs. told (at-told c) .ready)
     (λ c. search needs)
     (λ c. let t = c .before .before in t .gather-told .ensures ∙ sym (told (at-told (t .before)) .gathers)))

@@ -62,8 +62,11 @@ whole g = grouped (stateds g)
 abbrev st-stated : tie.After-check-stated → tie.Start
 st-stated c = c .before .before .before .before
 
-no-stated : (c : tie.After-stated) → Refuse (c .stated .given .0 .0) ≡ answer (st-stated (c .before .before))
-no-stated c = let k = c .before .before in refuses _ (whole (st-stated k)) (k .check-stated .ensures) (c .stated .given .1)
+abbrev check-stated-at-stated : tie.After-stated → tie.After-check-stated
+check-stated-at-stated c = c .before .before
+
+no-stated : (c : tie.After-stated) → Refuse (c .stated .given .0 .0) ≡ answer (st-stated (check-stated-at-stated c))
+no-stated c = let k = check-stated-at-stated c in refuses _ (whole (st-stated k)) (k .check-stated .ensures) (c .stated .given .1)
 
 -- 5 NODE
 abbrev enum-told-at-check-nodes : tie.After-check-nodes → tie.After-enum-told
@@ -81,25 +84,40 @@ stated-on c = stated-facts _ _ _ (sym (at-stated c .check-stated .ensures) ∙ e
 on-node : (c : tie.After-check-nodes) → thens (nodes (st-node c)) ≡ answer (st-node c)
 on-node c = goes-on (whole (st-node c)) (at-stated c .check-stated .ensures) (enum-told-at-check-nodes c .enum-told .given .1)
 
-no-node : (c : tie.After-node) → Refuse (c .node .given .0 .0) ≡ answer (st-node (c .before .before))
-no-node c = let k = c .before .before in refuses _ (on-node k) (k .check-nodes .ensures) (c .node .given .1)
+abbrev check-nodes-at-node : tie.After-node → tie.After-check-nodes
+check-nodes-at-node c = c .before .before
+
+no-node : (c : tie.After-node) → Refuse (c .node .given .0 .0) ≡ answer (st-node (check-nodes-at-node c))
+no-node c = let k = check-nodes-at-node c in refuses _ (on-node k) (k .check-nodes .ensures) (c .node .given .1)
 
 -- 6 REPEAT
+abbrev enum-told2-at-check-repeat : tie.After-check-repeat → tie.After-enum-told2
+enum-told2-at-check-repeat c = c .before .before
+
 abbrev at-node : tie.After-check-repeat → tie.After-check-nodes
-at-node c = c .before .before .before .before
+at-node c = enum-told2-at-check-repeat c .before .before
 
 abbrev st-repeat : tie.After-check-repeat → tie.Start
 st-repeat c = st-node (at-node c)
 
 on-repeat : (c : tie.After-check-repeat) → thens (repeats (st-repeat c)) ≡ answer (st-repeat c)
-on-repeat c = goes-on (on-node (at-node c)) (at-node c .check-nodes .ensures) (c .before .before .enum-told2 .given .1)
+on-repeat c = goes-on (on-node (at-node c)) (at-node c .check-nodes .ensures) (enum-told2-at-check-repeat c .enum-told2 .given .1)
 
-no-repeat : (c : tie.After-repeat) → Refuse (c .repeat .given .0 .0) ≡ answer (st-repeat (c .before .before))
-no-repeat c = let k = c .before .before in refuses _ (on-repeat k) (k .check-repeat .ensures) (c .repeat .given .1)
+abbrev check-repeat-at-repeat : tie.After-repeat → tie.After-check-repeat
+check-repeat-at-repeat c = c .before .before
+
+no-repeat : (c : tie.After-repeat) → Refuse (c .repeat .given .0 .0) ≡ answer (st-repeat (check-repeat-at-repeat c))
+no-repeat c = let k = check-repeat-at-repeat c in refuses _ (on-repeat k) (k .check-repeat .ensures) (c .repeat .given .1)
 
 -- 2 AREA
+abbrev enum-told3-at-share-len : tie.After-share-len → tie.After-enum-told3
+enum-told3-at-share-len c = c .before .before
+
+abbrev check-repeat-at-enum-told3 : tie.After-enum-told3 → tie.After-check-repeat
+check-repeat-at-enum-told3 c = c .before .before
+
 abbrev at-repeat : tie.After-share-len → tie.After-check-repeat
-at-repeat c = c .before .before .before .before
+at-repeat c = check-repeat-at-enum-told3 (enum-told3-at-share-len c)
 
 abbrev st-len : tie.After-share-len → tie.Start
 st-len c = st-repeat (at-repeat c)
@@ -116,7 +134,7 @@ long-few c =
     few-bytes _ _ _ _ (c .before .stripe-count .ensures .1) (c .share-len .ensures) (legal-on c) (α-most _ (legal-facts _ (legal-on c)))
 
 on-lent : (c : tie.After-share-len) → thens (lents (st-len c)) ≡ answer (st-len c)
-on-lent c = goes-on (on-repeat (at-repeat c)) (at-repeat c .check-repeat .ensures) (c .before .before .enum-told3 .given .1)
+on-lent c = goes-on (on-repeat (at-repeat c)) (at-repeat c .check-repeat .ensures) (enum-told3-at-share-len c .enum-told3 .given .1)
 
 abbrev at-len : tie.After-check-lent → tie.After-share-len
 at-len c = c .before
@@ -126,12 +144,18 @@ is-lent c =
     let g = st-len (at-len c) in
     c .check-lent .ensures ∙ ap (λ (m : ℕ). asked (areaLine (eqb (length (g .args .held .now)) m ∷ []))) (long-is (at-len c))
 
-no-lent : (c : tie.After-lent) → Refuse (c .lent .given .0 .0) ≡ answer (st-len (at-len (c .before .before)))
-no-lent c = let k = c .before .before in refuses _ (on-lent (at-len k)) (is-lent k) (c .lent .given .1)
+abbrev check-lent-at-lent : tie.After-lent → tie.After-check-lent
+check-lent-at-lent c = c .before .before
+
+no-lent : (c : tie.After-lent) → Refuse (c .lent .given .0 .0) ≡ answer (st-len (at-len (check-lent-at-lent c)))
+no-lent c = let k = check-lent-at-lent c in refuses _ (on-lent (at-len k)) (is-lent k) (c .lent .given .1)
 
 -- 7 SHORT
+abbrev check-lent-at-enum-told4 : tie.After-enum-told4 → tie.After-check-lent
+check-lent-at-enum-told4 c = c .before .before
+
 abbrev at-lent : tie.After-check-room → tie.After-check-lent
-at-lent c = c .before .before .before
+at-lent c = check-lent-at-enum-told4 (c .before)
 
 abbrev st-short : tie.After-check-room → tie.Start
 st-short c = st-len (at-len (at-lent c))
@@ -162,13 +186,13 @@ check-helper-spec =
     (λ c. search needs)
     (λ c. no-repeat (c .before))
     (λ c. search needs)
-    (λ c κs. stated-on (at-node (c .before .before)))
+    (λ c κs. stated-on (at-node (check-repeat-at-enum-told3 c)))
     (λ c κs. search needs)
     (λ c. omega (arith, long-few c))
     (λ c κs. search needs)
     (λ c. search needs)
     (λ c. no-lent (c .before))
     (λ c. search needs)
-    (λ c. omega (arith, at-len (c .before .before) .before .stripe-count .ensures .1))
+    (λ c. omega (arith, at-len (check-lent-at-enum-told4 c) .before .stripe-count .ensures .1))
     (λ c κs. search needs)
     (λ c. ends (on-short c) (is-short c)))

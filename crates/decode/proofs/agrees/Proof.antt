@@ -26,14 +26,23 @@ use Rattle.decode.proofs.agrees.Tie as tie
 abbrev st-lent-bytes : tie.After-shared-slice-known4 → tie.Start
 st-lent-bytes c = c .before .before .before .before
 
+abbrev shared-slice-known4-at-pairs-meet : tie.After-pairs-meet → tie.After-shared-slice-known4
+shared-slice-known4-at-pairs-meet c = c .before .before
+
+abbrev pairs-meet-at-stripe-len : tie.After-stripe-len → tie.After-pairs-meet
+pairs-meet-at-stripe-len c = c .before .before
+
 abbrev st-stripe-len : tie.After-stripe-len → tie.Start
-st-stripe-len c = st-lent-bytes (c .before .before .before .before)
+st-stripe-len c = st-lent-bytes (shared-slice-known4-at-pairs-meet (pairs-meet-at-stripe-len c))
 
 abbrev lent-bytes-at-else2 : tie.Else2 → tie.After-shared-slice-known4
-lent-bytes-at-else2 c = c .before .before .before .before .before
+lent-bytes-at-else2 c = shared-slice-known4-at-pairs-meet (pairs-meet-at-stripe-len (c .before))
+
+abbrev stripe-len-at-padding : tie.After-padding → tie.After-stripe-len
+stripe-len-at-padding c = c .before .before
 
 abbrev lent-bytes-at-padding : tie.After-padding → tie.After-shared-slice-known4
-lent-bytes-at-padding c = c .before .before .before .before .before .before
+lent-bytes-at-padding c = shared-slice-known4-at-pairs-meet (pairs-meet-at-stripe-len (stripe-len-at-padding c))
 
 abbrev st-padding : tie.After-padding → tie.Start
 st-padding c = st-lent-bytes (lent-bytes-at-padding c)
@@ -55,7 +64,7 @@ meeting c =
     let a = c .args in
     alls (tabulate (a .stripes) (λ s. pairsMeet (a .sizes) (a .points .now) (a .boards .now) (heldAt (a .sizes) (a .starts .now) (a .bytes .now) s)))
 
-met : (c : tie.Else1) → meeting (st-lent-bytes (c .before .before .before)) ≡ true
+met : (c : tie.Else1) → meeting (st-lent-bytes (shared-slice-known4-at-pairs-meet (c .before))) ≡ true
 met c = sym (c .before .pairs-meet .ensures) ∙ not-false (c .before .pairs-meet .result) (c .if1 .left)
 
 -- the length of a stripe
@@ -77,12 +86,12 @@ pairs-meet-requires c κs = let p = st-lent-bytes (c .before) .pre in (p .0, p .
 
 returns : tie.Need-returns
 returns c =
-    let g = st-lent-bytes (c .before .before .before) in
+    let g = st-lent-bytes (shared-slice-known4-at-pairs-meet (c .before)) in
     let a = g .args in
     let p = g .pre in
     let k = c .before in
     no-pairs (a .sizes) (a .points .now) (facts g) (p .0 .distinct) (a .boards .now) (known g) (p .0 .counted) (a .len) (a .stripes) (p .4) (a .starts .now) (a .bytes .now) (p .1) (p .2)
-    (bytes (c .before .before .before)) (sym (k .pairs-meet .ensures) ∙ not-true (k .pairs-meet .result) (c .if1 .taken))
+    (bytes (shared-slice-known4-at-pairs-meet (c .before))) (sym (k .pairs-meet .ensures) ∙ not-true (k .pairs-meet .result) (c .if1 .taken))
 
 stripe-len-requires : tie.Need-stripe-len-requires
 stripe-len-requires c κs = search needs
@@ -115,10 +124,10 @@ returns-2 c =
     let g = st-padding c in
     let a = g .args in
     let p = g .pre in
-    let k = c .before .before in
+    let k = stripe-len-at-padding c in
     c .padding .ensures
     ∙ last-cut (a .sizes) (a .points .now) (facts g) (p .0 .distinct) (a .boards .now) (known g) (p .0 .counted) (a .len) (a .stripes) (p .4) (a .starts .now) (a .bytes .now) (p .1) (p .2)
-    (bytes (lent-bytes-at-padding c)) (met (c .before .before .before)) (k .stripe-len .result) (whole k) (c .before .if2 .taken)
+    (bytes (lent-bytes-at-padding c)) (met (stripe-len-at-padding c .before)) (k .stripe-len .result) (whole k) (c .before .if2 .taken)
 
 returns-3 : tie.Need-returns-3
 returns-3 c =

@@ -22,11 +22,20 @@ use Rattle.decode.proofs.padding.Tie as tie
 abbrev st-stripe-len : tie.After-stripe-len → tie.Start
 st-stripe-len c = c .before .before .before .before .before .before
 
+abbrev stripe-len-at-stripes : tie.After-stripes → tie.After-stripe-len
+stripe-len-at-stripes c = c .before .before
+
+abbrev stripe-len-at-u2 : tie.After-u2 → tie.After-stripe-len
+stripe-len-at-u2 c = stripe-len-at-stripes (c .before)
+
 abbrev st-u3 : tie.After-u3 → tie.Start
-st-u3 c = st-stripe-len (c .before .before .before .before)
+st-u3 c = st-stripe-len (stripe-len-at-u2 (c .before))
+
+abbrev u2-at-zeros : tie.After-zeros → tie.After-u2
+u2-at-zeros c = c .before .before .before
 
 abbrev stripe-len-at-zeros : tie.After-zeros → tie.After-stripe-len
-stripe-len-at-zeros c = c .before .before .before .before .before .before
+stripe-len-at-zeros c = stripe-len-at-u2 (u2-at-zeros c)
 
 abbrev st-zeros : tie.After-zeros → tie.Start
 st-zeros c = st-stripe-len (stripe-len-at-zeros c)
@@ -52,8 +61,8 @@ each-long c =
     let a = g .args in
     length-decoded (a .sizes) (a .points .now) (facts g) (a .boards .now) (g .pre .0 .counted) _ ∙ sym (whole c)
 
-y-long : (c : tie.After-stripes) → length (c .stripes .last .1 .1 .1 .1 .1 .1 .1 .1 .0) ≡ c .before .before .stripe-len .result
-y-long c = c .stripes .kept .1 .1 .1 .1 .1 .1 .1 .1 .0 ∙ part-long _ _ (most (c .before .before))
+y-long : (c : tie.After-stripes) → length (c .stripes .last .1 .1 .1 .1 .1 .1 .1 .1 .0) ≡ stripe-len-at-stripes c .stripe-len .result
+y-long c = c .stripes .kept .1 .1 .1 .1 .1 .1 .1 .1 .0 ∙ part-long _ _ (most (stripe-len-at-stripes c))
 
 stripe-len-requires : tie.Need-stripe-len-requires
 stripe-len-requires c κs = search needs
@@ -75,13 +84,13 @@ stripes-requires c κs =
     (p .0, p .1, p .2, p .3, p .5, one-long _ _ _ (whole k) (most k), one-short _ _ _ (whole k) (most k))
 
 sub-zeros : tie.Need-sub-zeros
-sub-zeros c = omega (arith, whole (c .before .before .before), st-stripe-len (c .before .before .before) .pre .4)
+sub-zeros c = omega (arith, whole (stripe-len-at-u2 c), st-stripe-len (stripe-len-at-u2 c) .pre .4)
 
 part-zeros-start : tie.Need-part-zeros-start
-part-zeros-start c = omega (arith, whole (c .before .before .before .before), st-u3 c .pre .4)
+part-zeros-start c = omega (arith, whole (stripe-len-at-u2 (c .before)), st-u3 c .pre .4)
 
 part-zeros-end : tie.Need-part-zeros-end
-part-zeros-end c = simp length-append (omega (arith, y-long (c .before .before), most (c .before .before .before .before)))
+part-zeros-end c = simp length-append (omega (arith, y-long (c .before .before), most (stripe-len-at-u2 (c .before))))
 
 zeros-requires : tie.Need-zeros-requires
 zeros-requires c κs = search needs
@@ -90,7 +99,7 @@ returns : tie.Need-returns
 returns c =
     let g = st-zeros c in
     let k = stripe-len-at-zeros c in
-    let e = c .before .before .before .before .stripes .ensures in
+    let e = u2-at-zeros c .before .stripes .ensures in
     c .zeros .ensures
     ∙ ap zeros (end-is (k .stripe-len .result) (g .args .s) (each g) _ _ (each-long k) (most k) e (g .args .rest) (omega (arith, whole k, g .pre .4)))
 

@@ -23,8 +23,11 @@ st-struct-known2 c = st-struct-known (c .before)
 abbrev st-struct-known3 : tie.After-struct-known3 → tie.Start
 st-struct-known3 c = st-struct-known2 (c .before)
 
+abbrev struct-known3-at-stripes-meet-arg2 : tie.After-stripes-meet-arg2 → tie.After-struct-known3
+struct-known3-at-stripes-meet-arg2 c = c .before .before
+
 abbrev st-gs : tie.After-gs → tie.Start
-st-gs c = st-struct-known3 (c .before .before .before .before)
+st-gs c = st-struct-known3 (struct-known3-at-stripes-meet-arg2 (c .before .before))
 
 -- the sizes are legal
 facts : (c : tie.Start) → Legal (c .args .sizes)
@@ -82,7 +85,7 @@ part-fs-start : tie.Need-part-fs-start
 part-fs-start c = search needs
 
 part-fs-end : tie.Need-part-fs-end
-part-fs-end c = omega (arith, facts (st-struct-known3 (c .before .before)))
+part-fs-end c = omega (arith, facts (st-struct-known3 (struct-known3-at-stripes-meet-arg2 c)))
 
 sub-stripes-meet-4 : tie.Need-sub-stripes-meet-4
 sub-stripes-meet-4 c = search needs
@@ -91,7 +94,7 @@ part-gs-start : tie.Need-part-gs-start
 part-gs-start c = search needs
 
 part-gs-end : tie.Need-part-gs-end
-part-gs-end c = omega (arith, facts (st-struct-known3 (c .before .before .before)))
+part-gs-end c = omega (arith, facts (st-struct-known3 (struct-known3-at-stripes-meet-arg2 (c .before))))
 
 stripes-meet-requires : tie.Need-stripes-meet-requires
 stripes-meet-requires c κs =

@@ -25,10 +25,14 @@ loop-holds c = (refl, omega arith)
 shared-slice-read-if1 : tie.Need-shared-slice-read-if1 Inv-loop μ-loop
 shared-slice-read-if1 c = search needs
 
+-- the places
+abbrev loop-at-shared-slice-known : tie.After-shared-slice-known Inv-loop μ-loop → tie.At-loop Inv-loop μ-loop
+loop-at-shared-slice-known c = c .before .before
+
 returns : tie.Need-returns Inv-loop μ-loop
 returns c =
-    let l = (c .before .before .before) .loop in
-    sym (sym (l .inv .0) ∙ zeros-no ((c .before .before .before .before) .args .a .now) (l .i) ((c .before .before) .loop-test .taken) (c .if1 .taken))
+    let l = (loop-at-shared-slice-known (c .before)) .loop in
+    sym (sym (l .inv .0) ∙ zeros-no ((loop-at-shared-slice-known (c .before) .before) .args .a .now) (l .i) ((c .before .before) .loop-test .taken) (c .if1 .taken))
 
 add-i : tie.Need-add-i Inv-loop μ-loop
 add-i c = search needs
@@ -38,8 +42,8 @@ loop-less c = search needs
 
 loop-again : tie.Need-loop-again Inv-loop μ-loop
 loop-again c =
-    let l = (c .before .before .before) .loop in
-    (zeros-next ((c .before .before .before .before) .args .a .now) (l .i) ((c .before .before) .loop-test .taken) (c .if1 .left) ∙ l .inv .0, omega arith)
+    let l = (loop-at-shared-slice-known (c .before)) .loop in
+    (zeros-next ((loop-at-shared-slice-known (c .before) .before) .args .a .now) (l .i) ((c .before .before) .loop-test .taken) (c .if1 .left) ∙ l .inv .0, omega arith)
 
 returns-2 : tie.Need-returns-2 Inv-loop μ-loop
 returns-2 c =

@@ -20,50 +20,65 @@ st-struct-known c = c .before .before .before .before .before .before
 abbrev st-by-rows : tie.After-by-rows → tie.Start
 st-by-rows c = st-struct-known (c .before .before)
 
+abbrev by-rows-at-by-columns-arg2 : tie.After-by-columns-arg2 → tie.After-by-rows
+by-rows-at-by-columns-arg2 c = c .before .before .before .before
+
 abbrev st-by-columns-arg2 : tie.After-by-columns-arg2 → tie.Start
-st-by-columns-arg2 c = st-by-rows (c .before .before .before .before)
+st-by-columns-arg2 c = st-by-rows (by-rows-at-by-columns-arg2 c)
 
 abbrev by-rows-at-by-columns : tie.After-by-columns → tie.After-by-rows
-by-rows-at-by-columns c = c .before .before .before .before .before
+by-rows-at-by-columns c = by-rows-at-by-columns-arg2 (c .before)
 
 abbrev st-by-columns : tie.After-by-columns → tie.Start
-st-by-columns c = st-by-columns-arg2 (c .before)
+st-by-columns c = st-by-rows (by-rows-at-by-columns c)
+
+abbrev by-columns-at-turned-arg : tie.After-turned-arg → tie.After-by-columns
+by-columns-at-turned-arg c = c .before .before .before
 
 abbrev st-turned-arg2 : tie.After-turned-arg2 → tie.Start
-st-turned-arg2 c = st-by-columns (c .before .before .before .before)
+st-turned-arg2 c = st-by-columns (by-columns-at-turned-arg (c .before))
 
 abbrev by-columns-at-turned : tie.After-turned → tie.After-by-columns
-by-columns-at-turned c = c .before .before .before .before .before
+by-columns-at-turned c = by-columns-at-turned-arg (c .before .before)
 
 abbrev st-turned : tie.After-turned → tie.Start
-st-turned c = st-turned-arg2 (c .before)
+st-turned c = st-by-columns (by-columns-at-turned c)
+
+abbrev turned-at-turned-arg3 : tie.After-turned-arg3 → tie.After-turned
+turned-at-turned-arg3 c = c .before .before .before
 
 abbrev by-columns-at-turned-arg4 : tie.After-turned-arg4 → tie.After-by-columns
-by-columns-at-turned-arg4 c = by-columns-at-turned (c .before .before .before .before)
+by-columns-at-turned-arg4 c = by-columns-at-turned (turned-at-turned-arg3 (c .before))
 
 abbrev st-turned-arg4 : tie.After-turned-arg4 → tie.Start
 st-turned-arg4 c = st-by-columns (by-columns-at-turned-arg4 c)
 
 abbrev turned-at-turned2 : tie.After-turned2 → tie.After-turned
-turned-at-turned2 c = c .before .before .before .before .before
+turned-at-turned2 c = turned-at-turned-arg3 (c .before .before)
 
 abbrev st-turned2 : tie.After-turned2 → tie.Start
-st-turned2 c = st-turned-arg4 (c .before)
+st-turned2 c = st-turned (turned-at-turned2 c)
 
 abbrev st-slice-known7 : tie.After-slice-known7 → tie.Start
 st-slice-known7 c = st-turned2 (c .before .before)
 
+abbrev turned2-at-rows2 : tie.After-rows2 → tie.After-turned2
+turned2-at-rows2 c = c .before .before .before
+
 abbrev by-rows-at-rows2 : tie.After-rows2 → tie.After-by-rows
-by-rows-at-rows2 c = by-rows-at-by-columns (by-columns-at-turned-arg4 (c .before .before .before .before))
+by-rows-at-rows2 c = by-rows-at-by-columns (by-columns-at-turned (turned-at-turned2 (turned2-at-rows2 c)))
 
 abbrev st-parts-arg : tie.After-parts-arg → tie.Start
-st-parts-arg c = st-slice-known7 (c .before .before)
+st-parts-arg c = st-turned2 (turned2-at-rows2 (c .before))
 
 abbrev turned2-at-parts-arg2 : tie.After-parts-arg2 → tie.After-turned2
-turned2-at-parts-arg2 c = c .before .before .before .before .before
+turned2-at-parts-arg2 c = turned2-at-rows2 (c .before .before)
+
+abbrev parts-at-slice-known8 : tie.After-slice-known8 → tie.After-parts
+parts-at-slice-known8 c = c .before .before
 
 abbrev turned2-at-end : tie.After-slice-known8 → tie.After-turned2
-turned2-at-end c = turned2-at-parts-arg2 (c .before .before .before)
+turned2-at-end c = turned2-at-parts-arg2 (parts-at-slice-known8 c .before)
 
 abbrev turned-at-end : tie.After-slice-known8 → tie.After-turned
 turned-at-end c = turned-at-turned2 (turned2-at-end c)
@@ -155,7 +170,7 @@ by-columns-requires : tie.Need-by-columns-requires
 by-columns-requires c κs =
     let g = st-by-columns-arg2 c in
     let f = facts g in
-    (omega (arith, f), omega (arith, f), omega (arith, rows-same (c .before .before .before .before)), omega (arith, g .pre .1), g .pre .4)
+    (omega (arith, f), omega (arith, f), omega (arith, rows-same (by-rows-at-by-columns-arg2 c)), omega (arith, g .pre .1), g .pre .4)
 
 sub-turned : tie.Need-sub-turned
 sub-turned c = search needs
@@ -164,13 +179,13 @@ part-turned-start : tie.Need-part-turned-start
 part-turned-start c = search needs
 
 part-turned-end : tie.Need-part-turned-end
-part-turned-end c = omega (arith, three (st-by-columns (c .before .before .before)))
+part-turned-end c = omega (arith, three (st-by-columns (by-columns-at-turned-arg c)))
 
 turned-requires : tie.Need-turned-requires
 turned-requires c κs =
     let g = st-turned-arg2 c in
     let f = facts g in
-    (omega (arith, f), omega arith, omega (arith, f), omega (arith, f, columns-same (c .before .before .before .before)), simp length-take (omega (arith, three g)))
+    (omega (arith, f), omega arith, omega (arith, f), omega (arith, f, columns-same (by-columns-at-turned-arg (c .before))), simp length-take (omega (arith, three g)))
 
 sub-turned-2 : tie.Need-sub-turned-2
 sub-turned-2 c = omega (arith, facts (st-turned (c .before .before)))
@@ -182,7 +197,7 @@ part-turned-start-2 : tie.Need-part-turned-start-2
 part-turned-start-2 c = omega arith
 
 part-turned-end-2 : tie.Need-part-turned-end-2
-part-turned-end-2 c = omega (arith, three (st-turned (c .before .before .before)), first-same (c .before .before .before))
+part-turned-end-2 c = omega (arith, three (st-turned (turned-at-turned-arg3 c)), first-same (turned-at-turned-arg3 c))
 
 turned-requires-2 : tie.Need-turned-requires-2
 turned-requires-2 c κs =
@@ -192,7 +207,7 @@ turned-requires-2 c κs =
       omega (arith, f),
       omega (arith, f),
       omega (arith, f, columns-same (by-columns-at-turned-arg4 c)),
-      simp (length-take, length-drop) (omega (arith, three g, first-same (c .before .before .before .before))),
+      simp (length-take, length-drop) (omega (arith, three g, first-same (turned-at-turned-arg3 (c .before)))),
     )
 
 sub-parts : tie.Need-sub-parts
@@ -202,7 +217,7 @@ sub-parts-2 : tie.Need-sub-parts-2
 sub-parts-2 c = omega (arith, facts (st-slice-known7 c))
 
 part-parts-start : tie.Need-part-parts-start
-part-parts-start c = omega (arith, facts (st-slice-known7 (c .before)))
+part-parts-start c = omega (arith, facts (st-turned2 (turned2-at-rows2 c)))
 
 part-parts-end : tie.Need-part-parts-end
 part-parts-end c = omega (arith, rows-same (by-rows-at-rows2 c))
@@ -214,15 +229,15 @@ part-parts-start-2 : tie.Need-part-parts-start-2
 part-parts-start-2 c = omega (arith, three (st-parts-arg c))
 
 part-parts-end-2 : tie.Need-part-parts-end-2
-part-parts-end-2 c = omega (arith, second-same (c .before .before .before .before))
+part-parts-end-2 c = omega (arith, second-same (turned2-at-rows2 (c .before)))
 
 parts-requires : tie.Need-parts-requires
 parts-requires c κs =
-    let g = st-parts-arg (c .before) in
+    let g = st-turned2 (turned2-at-parts-arg2 c) in
     let f = facts g in (
       omega (arith, f),
       omega (arith, f),
-      simp (length-take, length-drop) (omega (arith, f, rows-same (by-rows-at-rows2 (c .before .before)))),
+      simp (length-take, length-drop) (omega (arith, f, rows-same (by-rows-at-by-columns (by-columns-at-turned (turned-at-turned2 (turned2-at-parts-arg2 c)))))),
       simp (length-take, length-drop) (omega (arith, three g, second-same (turned2-at-parts-arg2 c))),
     )
 
@@ -240,7 +255,7 @@ same-length-3 c =
     let u = st-end c .args .u .now in
     same-len-mid {X = ℕ} b (length u - b)
     (putMid a (b - a) (putMid 0 (a - 0) u (turned-at-end c .turned .last .1 .1 .1 .1 .0)) (turned2-at-end c .turned2 .last .1 .1 .1 .1 .0))
-    (c .before .before .parts .last .1 .1 .1 .0) (c .before .before .parts .kept .1 .1 .1 .0) ∙ second-same (turned2-at-end c)
+    (parts-at-slice-known8 c .parts .last .1 .1 .1 .0) (parts-at-slice-known8 c .parts .kept .1 .1 .1 .0) ∙ second-same (turned2-at-end c)
 
 returns : tie.Need-returns
 returns c e he te =
@@ -250,7 +265,7 @@ returns c e he te =
     stripe-made z f (g .args .rows .now) _ e (g .args .tp .now) _ (g .args .u .now) _ _ _ (g .pre .3) (g .pre .5)
     (by-rows-at-end c .by-rows .ensures e (omega (arith, f)) (λ s h. te s (omega (arith, f))))
     (by-columns-at-end c .by-columns .ensures e he te)
-    (turned-at-end c .turned .ensures) (turned2-at-end c .turned2 .ensures) (c .before .before .parts .ensures)
+    (turned-at-end c .turned .ensures) (turned2-at-end c .turned2 .ensures) (parts-at-slice-known8 c .parts .ensures)
 
 pub stripe-of-spec : {M : Type 1} → statement M
 stripe-of-spec =

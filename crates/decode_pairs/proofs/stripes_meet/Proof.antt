@@ -38,11 +38,14 @@ st-stripe-meets-arg2 c = st-loop (loop-at-stripe-meets-arg2 c)
 abbrev turn-at-stripe-meets : tie.After-stripe-meets Inv-loop μ-loop → tie.In-loop Inv-loop μ-loop
 turn-at-stripe-meets c = c .before .before .before
 
+abbrev stripe-meets-at-slice-known4 : tie.After-slice-known4 Inv-loop μ-loop → tie.After-stripe-meets Inv-loop μ-loop
+stripe-meets-at-slice-known4 c = c .before .before .before .before
+
 abbrev stripe-meets-at-then1 : tie.Then1 Inv-loop μ-loop → tie.After-stripe-meets Inv-loop μ-loop
-stripe-meets-at-then1 c = c .before .before .before .before .before
+stripe-meets-at-then1 c = stripe-meets-at-slice-known4 (c .before)
 
 abbrev stripe-meets-at-else1 : tie.Else1 Inv-loop μ-loop → tie.After-stripe-meets Inv-loop μ-loop
-stripe-meets-at-else1 c = c .before .before .before .before .before
+stripe-meets-at-else1 c = stripe-meets-at-slice-known4 (c .before)
 
 abbrev turn-at-then1 : tie.Then1 Inv-loop μ-loop → tie.In-loop Inv-loop μ-loop
 turn-at-then1 c = turn-at-stripe-meets (stripe-meets-at-then1 c)

@@ -15,11 +15,17 @@ use Rattle.decode_pairs.proofs.value_at.Statement.{statement}
 use Rattle.decode_pairs.proofs.value_at.Tie as tie
 
 -- places in the code
+abbrev st-at-shared-slice-known5 : tie.After-shared-slice-known5 → tie.Start
+st-at-shared-slice-known5 c = c .before .before .before .before .before
+
 abbrev st-offset : tie.After-offset → tie.Start
-st-offset c = c .before .before .before .before .before .before
+st-offset c = st-at-shared-slice-known5 (c .before)
+
+abbrev offset-at-value-arg2 : tie.After-value-arg2 → tie.After-offset
+offset-at-value-arg2 c = c .before .before
 
 abbrev st-value-arg2 : tie.After-value-arg2 → tie.Start
-st-value-arg2 c = st-offset (c .before .before)
+st-value-arg2 c = st-offset (offset-at-value-arg2 c)
 
 -- the two boards are known
 known-t : (g : tie.Start) → getD (g .args .boards .now) (g .args .t) 0 < g .args .n
@@ -45,7 +51,7 @@ shared-slice-read-offset-2 : tie.Need-shared-slice-read-offset-2
 shared-slice-read-offset-2 c = search needs
 
 offset-requires : tie.Need-offset-requires
-offset-requires c κs = let g = c .before .before .before .before .before in (g .pre .0, known-t g, known-i g)
+offset-requires c κs = let g = st-at-shared-slice-known5 c in (g .pre .0, known-t g, known-i g)
 
 sub-from : tie.Need-sub-from
 sub-from c = search needs
@@ -89,7 +95,7 @@ value-requires c κs =
       g .pre .0,
       g .pre .1,
       g .pre .2,
-      omega (arith, below, c .before .before .offset .ensures),
+      omega (arith, below, offset-at-value-arg2 c .offset .ensures),
       simp (length-take, length-drop) (omega arith),
       simp (length-take, length-drop) (omega arith),
     )
@@ -102,7 +108,7 @@ returns : tie.Need-returns
 returns c =
     let a = st-value-arg2 (c .before) .args in
     c .value .ensures
-    ∙ same-value (a .c) (a .m) _ _ _ _ _ _ (c .before .before .before .offset .ensures) (rest-part (a .t * ((a .n - a .c) * 32)) (a .factors .now)) (part-piece 32 (a .t) (a .rows .now))
+    ∙ same-value (a .c) (a .m) _ _ _ _ _ _ (offset-at-value-arg2 (c .before) .offset .ensures) (rest-part (a .t * ((a .n - a .c) * 32)) (a .factors .now)) (part-piece 32 (a .t) (a .rows .now))
 
 pub value-at-spec : {M : Type 1} → statement M
 value-at-spec =

@@ -24,17 +24,20 @@ abbrev μ-loop : tie.MeasureT-loop
 μ-loop count from m a tables out₀ i₀ out i = count - i
 
 -- places in the code
-abbrev start-from-after-slice-known2 : tie.After-slice-known2 Inv-loop μ-loop → tie.Start Inv-loop μ-loop
-start-from-after-slice-known2 c = c .before .before .before .before .before .before .before .before .before .before
-
-abbrev at-loop-from-after-slice-known2 : tie.After-slice-known2 Inv-loop μ-loop → tie.At-loop Inv-loop μ-loop
-at-loop-from-after-slice-known2 c = c .before .before .before .before .before .before
-
 abbrev after-column-sum-from-after-slice-known2 : tie.After-slice-known2 Inv-loop μ-loop → tie.After-column-sum Inv-loop μ-loop
 after-column-sum-from-after-slice-known2 c = c .before .before .before .before
 
+abbrev at-loop-from-after-slice-known2 : tie.After-slice-known2 Inv-loop μ-loop → tie.At-loop Inv-loop μ-loop
+at-loop-from-after-slice-known2 c = after-column-sum-from-after-slice-known2 c .before .before
+
+abbrev st-at-loop : tie.At-loop Inv-loop μ-loop → tie.Start Inv-loop μ-loop
+st-at-loop c = c .before .before .before .before
+
+abbrev start-from-after-slice-known2 : tie.After-slice-known2 Inv-loop μ-loop → tie.Start Inv-loop μ-loop
+start-from-after-slice-known2 c = st-at-loop (at-loop-from-after-slice-known2 c)
+
 abbrev start-from-after-loop : tie.After-loop Inv-loop μ-loop → tie.Start Inv-loop μ-loop
-start-from-after-loop c = c .before .before .before .before .before
+start-from-after-loop c = st-at-loop (c .before)
 
 loop-holds : tie.Need-loop-holds Inv-loop μ-loop
 loop-holds c = ((λ rows lr tr. refl), omega arith, refl)

@@ -25,26 +25,32 @@ abbrev μ-loop : tie.MeasureT-loop
 μ-loop count m a tables out₀ i₀ out i = count - i
 
 -- places in the code
+abbrev st-at-loop : tie.At-loop Inv-loop μ-loop → tie.Start Inv-loop μ-loop
+st-at-loop c = c .before .before .before .before
+
 abbrev start-from-in-loop : tie.In-loop Inv-loop μ-loop → tie.Start Inv-loop μ-loop
-start-from-in-loop c = c .before .before .before .before .before
+start-from-in-loop c = st-at-loop (c .before)
+
+abbrev loop-at-row-sum-arg : tie.After-row-sum-arg Inv-loop μ-loop → tie.At-loop Inv-loop μ-loop
+loop-at-row-sum-arg c = c .before .before
 
 abbrev start-from-after-row-sum-arg : tie.After-row-sum-arg Inv-loop μ-loop → tie.Start Inv-loop μ-loop
-start-from-after-row-sum-arg c = c .before .before .before .before .before .before
-
-abbrev start-from-after-slice-known2 : tie.After-slice-known2 Inv-loop μ-loop → tie.Start Inv-loop μ-loop
-start-from-after-slice-known2 c = c .before .before .before .before .before .before .before .before .before .before .before
-
-abbrev at-loop-from-after-slice-known2 : tie.After-slice-known2 Inv-loop μ-loop → tie.At-loop Inv-loop μ-loop
-at-loop-from-after-slice-known2 c = c .before .before .before .before .before .before .before
-
-abbrev in-loop-from-after-slice-known2 : tie.After-slice-known2 Inv-loop μ-loop → tie.In-loop Inv-loop μ-loop
-in-loop-from-after-slice-known2 c = c .before .before .before .before .before .before
+start-from-after-row-sum-arg c = st-at-loop (loop-at-row-sum-arg c)
 
 abbrev after-row-sum-from-after-slice-known2 : tie.After-slice-known2 Inv-loop μ-loop → tie.After-row-sum Inv-loop μ-loop
 after-row-sum-from-after-slice-known2 c = c .before .before .before .before
 
+abbrev in-loop-from-after-slice-known2 : tie.After-slice-known2 Inv-loop μ-loop → tie.In-loop Inv-loop μ-loop
+in-loop-from-after-slice-known2 c = after-row-sum-from-after-slice-known2 c .before .before
+
+abbrev start-from-after-slice-known2 : tie.After-slice-known2 Inv-loop μ-loop → tie.Start Inv-loop μ-loop
+start-from-after-slice-known2 c = start-from-in-loop (in-loop-from-after-slice-known2 c)
+
+abbrev at-loop-from-after-slice-known2 : tie.After-slice-known2 Inv-loop μ-loop → tie.At-loop Inv-loop μ-loop
+at-loop-from-after-slice-known2 c = in-loop-from-after-slice-known2 c .before
+
 abbrev start-from-after-loop : tie.After-loop Inv-loop μ-loop → tie.Start Inv-loop μ-loop
-start-from-after-loop c = c .before .before .before .before .before
+start-from-after-loop c = st-at-loop (c .before)
 
 -- where the numbers of a turn end
 end : (c : tie.In-loop Inv-loop μ-loop) → let a = (start-from-in-loop c) .args in (c .before) .loop .i * a .m + a .m ≤ a .count * a .m
@@ -77,9 +83,9 @@ part-row-sum-end c = omega (arith, end c)
 row-sum-requires : tie.Need-row-sum-requires Inv-loop μ-loop
 row-sum-requires c κs =
     let e = end (c .before) in
-    let g = (start-from-after-row-sum-arg c) in
-    let l : length (take ((c .before .before) .loop .i * g .args .m + g .args .m - (c .before .before) .loop .i * g .args .m) (drop ((c .before .before) .loop .i * g .args .m) (g .args .a .now)))
-    ≡ g .args .m =
+    let g = start-from-after-row-sum-arg c in
+    let i = loop-at-row-sum-arg c .loop .i in
+    let l : length (take (i * g .args .m + g .args .m - i * g .args .m) (drop (i * g .args .m) (g .args .a .now))) ≡ g .args .m =
     simp (length-take, length-drop) (omega arith) in
     (omega arith, rw l (g .pre .3))
 

@@ -24,20 +24,23 @@ abbrev μ-loop : tie.MeasureT-loop
 μ-loop count m rows out₀ i₀ out i = count - i
 
 -- places in the code
+abbrev st-at-slice-known : tie.After-slice-known Inv-loop μ-loop → tie.Start Inv-loop μ-loop
+st-at-slice-known c = c .before .before
+
 abbrev start-from-in-loop : tie.In-loop Inv-loop μ-loop → tie.Start Inv-loop μ-loop
-start-from-in-loop c = c .before .before .before .before
-
-abbrev start-from-after-slice-known2 : tie.After-slice-known2 Inv-loop μ-loop → tie.Start Inv-loop μ-loop
-start-from-after-slice-known2 c = c .before .before .before .before .before .before .before .before .before
-
-abbrev at-loop-from-after-slice-known2 : tie.After-slice-known2 Inv-loop μ-loop → tie.At-loop Inv-loop μ-loop
-at-loop-from-after-slice-known2 c = c .before .before .before .before .before .before
+start-from-in-loop c = st-at-slice-known (c .before .before)
 
 abbrev in-loop-from-after-slice-known2 : tie.After-slice-known2 Inv-loop μ-loop → tie.In-loop Inv-loop μ-loop
 in-loop-from-after-slice-known2 c = c .before .before .before .before .before
 
+abbrev start-from-after-slice-known2 : tie.After-slice-known2 Inv-loop μ-loop → tie.Start Inv-loop μ-loop
+start-from-after-slice-known2 c = start-from-in-loop (in-loop-from-after-slice-known2 c)
+
+abbrev at-loop-from-after-slice-known2 : tie.After-slice-known2 Inv-loop μ-loop → tie.At-loop Inv-loop μ-loop
+at-loop-from-after-slice-known2 c = in-loop-from-after-slice-known2 c .before
+
 abbrev start-from-after-loop : tie.After-loop Inv-loop μ-loop → tie.Start Inv-loop μ-loop
-start-from-after-loop c = c .before .before .before .before
+start-from-after-loop c = st-at-slice-known (c .before .before)
 
 -- where the part of a turn ends
 end : (c : tie.In-loop Inv-loop μ-loop) → let a = (start-from-in-loop c) .args in (c .before) .loop .i * a .m + a .m ≤ a .count * a .m
@@ -49,7 +52,7 @@ long : (c : tie.In-loop Inv-loop μ-loop) → let a = (start-from-in-loop c) .ar
 long c = simp (length-take, length-drop) (omega (arith, end c))
 
 loop-holds : tie.Need-loop-holds Inv-loop μ-loop
-loop-holds c = (ap (λ (m : ℕ). drop m ((c .before .before) .args .out .now)) (sym (zero-mul ((c .before .before) .args .m))), omega arith, refl)
+loop-holds c = (ap (λ (m : ℕ). drop m ((st-at-slice-known c) .args .out .now)) (sym (zero-mul ((st-at-slice-known c) .args .m))), omega arith, refl)
 
 mul-from : tie.Need-mul-from Inv-loop μ-loop
 mul-from c = search needs

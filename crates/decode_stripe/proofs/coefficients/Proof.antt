@@ -32,14 +32,23 @@ lent-bytes-at-struct-known c = c .before .before .before .before .before .before
 abbrev st-struct-known : tie.After-struct-known → tie.Start
 st-struct-known c = st-lent-bytes (lent-bytes-at-struct-known c)
 
+abbrev struct-known-at-whole-vectors2 : tie.After-whole-vectors2 → tie.After-struct-known
+struct-known-at-whole-vectors2 c = c .before .before
+
 abbrev st-whole-vectors2 : tie.After-whole-vectors2 → tie.Start
-st-whole-vectors2 c = st-struct-known (c .before .before)
+st-whole-vectors2 c = st-struct-known (struct-known-at-whole-vectors2 c)
+
+abbrev whole-vectors2-at-rows-of-arg2 : tie.After-rows-of-arg2 → tie.After-whole-vectors2
+whole-vectors2-at-rows-of-arg2 c = c .before .before
 
 abbrev whole-vectors2-at-rows-of : tie.After-rows-of → tie.After-whole-vectors2
-whole-vectors2-at-rows-of c = c .before .before .before
+whole-vectors2-at-rows-of c = whole-vectors2-at-rows-of-arg2 (c .before)
+
+abbrev fs-at-slice-known8 : tie.After-slice-known8 → tie.After-fs
+fs-at-slice-known8 c = c .before .before .before
 
 abbrev rows-of-at-slice-known8 : tie.After-slice-known8 → tie.After-rows-of
-rows-of-at-slice-known8 c = c .before .before .before .before
+rows-of-at-slice-known8 c = fs-at-slice-known8 c .before
 
 abbrev st-rows-of : tie.After-rows-of → tie.Start
 st-rows-of c = st-whole-vectors2 (whole-vectors2-at-rows-of c)
@@ -56,8 +65,11 @@ values-arg2-at-values c = c .before .before
 abbrev rows-of-at-values : tie.After-values → tie.After-rows-of
 rows-of-at-values c = rows-of-at-slice-known8 (slice-known8-at-values-arg2 (values-arg2-at-values c))
 
+abbrev vg-at-values-arg5 : tie.After-values-arg5 → tie.After-vg
+vg-at-values-arg5 c = c .before .before .before
+
 abbrev values-at-values-arg5 : tie.After-values-arg5 → tie.After-values
-values-at-values-arg5 c = c .before .before .before .before
+values-at-values-arg5 c = vg-at-values-arg5 c .before
 
 abbrev values-at-values2 : tie.After-values2 → tie.After-values
 values-at-values2 c = values-at-values-arg5 (c .before)
@@ -77,8 +89,11 @@ slice-known10-at-tops-arg2 c = c .before .before
 abbrev values2-at-tops : tie.After-tops → tie.After-values2
 values2-at-tops c = values2-at-slice-known10 (slice-known10-at-tops-arg2 (c .before))
 
+abbrev tp-at-by-rows-arg2 : tie.After-by-rows-arg2 → tie.After-tp
+tp-at-by-rows-arg2 c = c .before .before .before
+
 abbrev tops-at-by-rows-arg2 : tie.After-by-rows-arg2 → tie.After-tops
-tops-at-by-rows-arg2 c = c .before .before .before .before
+tops-at-by-rows-arg2 c = tp-at-by-rows-arg2 c .before
 
 abbrev tops-at-by-rows : tie.After-by-rows → tie.After-tops
 tops-at-by-rows c = tops-at-by-rows-arg2 (c .before)
@@ -135,7 +150,7 @@ whole-vectors-requires-2 c κs = omega (arith, facts (st-struct-known (c .before
 
 rows-of-requires : tie.Need-rows-of-requires
 rows-of-requires c κs =
-    let g = st-whole-vectors2 (c .before .before) in
+    let g = st-whole-vectors2 (whole-vectors2-at-rows-of-arg2 c) in
     let f = facts g in (
       omega (arith, f),
       omega (arith, f),
@@ -235,7 +250,7 @@ abbrev by-rows-at-slice-known12 : tie.After-slice-known12 → tie.After-by-rows
 by-rows-at-slice-known12 c = c .before .before
 
 same-length : tie.Need-same-length
-same-length c = slice-known8-at-values-arg2 (values-arg2-at-values (values-at-values2 (values2-at-tops (tops-at-by-rows (by-rows-at-slice-known12 c))))) .before .before .before .fs .given
+same-length c = fs-at-slice-known8 (slice-known8-at-values-arg2 (values-arg2-at-values (values-at-values2 (values2-at-tops (tops-at-by-rows (by-rows-at-slice-known12 c)))))) .fs .given
 
 same-length-2 : tie.Need-same-length-2
 same-length-2 c = slice-known8-at-values-arg2 (values-arg2-at-values (values-at-values2 (values2-at-tops (tops-at-by-rows (by-rows-at-slice-known12 c))))) .before .gs .given
@@ -244,13 +259,13 @@ same-length-3 : tie.Need-same-length-3
 same-length-3 c = slice-known10-at-tops-arg2 (tops-at-by-rows (by-rows-at-slice-known12 c) .before) .before .vf .given
 
 same-length-4 : tie.Need-same-length-4
-same-length-4 c = values2-at-tops (tops-at-by-rows (by-rows-at-slice-known12 c)) .before .before .before .before .vg .given .1
+same-length-4 c = vg-at-values-arg5 (values2-at-tops (tops-at-by-rows (by-rows-at-slice-known12 c)) .before) .vg .given .1
 
 same-length-5 : tie.Need-same-length-5
 same-length-5 c = c .before .cf .given
 
 same-length-6 : tie.Need-same-length-6
-same-length-6 c = by-rows-at-slice-known12 c .before .before .before .before .tp .given
+same-length-6 c = tp-at-by-rows-arg2 (by-rows-at-slice-known12 c .before) .tp .given
 
 returns : tie.Need-returns
 returns c =
@@ -265,7 +280,7 @@ returns c =
     let z = a .sizes in
     let xs = a .points .now in
     let lb = g .pre .2 in
-    let b = bytes (lent-bytes-at-struct-known (e .before .before)) in
+    let b = bytes (lent-bytes-at-struct-known (struct-known-at-whole-vectors2 e)) in
     let w = e .before .whole-vectors in
     let w2 = e .whole-vectors2 in
     let rows = o .rows-of .ensures in

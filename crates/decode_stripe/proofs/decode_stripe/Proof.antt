@@ -37,8 +37,11 @@ struct-known-at-coefficients-arg4 c = c .before .before .before .before
 abbrev st-coefficients-arg4 : tie.After-coefficients-arg4 → tie.Start
 st-coefficients-arg4 c = st-struct-known (struct-known-at-coefficients-arg4 c)
 
+abbrev coefficients-arg4-at-coefficients-arg6 : tie.After-coefficients-arg6 → tie.After-coefficients-arg4
+coefficients-arg4-at-coefficients-arg6 c = c .before .before
+
 abbrev lent-bytes-at-coefficients : tie.After-coefficients → tie.After-shared-slice-known5
-lent-bytes-at-coefficients c = lent-bytes-at-struct-known (struct-known-at-coefficients-arg4 (c .before .before .before))
+lent-bytes-at-coefficients c = lent-bytes-at-struct-known (struct-known-at-coefficients-arg4 (coefficients-arg4-at-coefficients-arg6 (c .before)))
 
 abbrev st-coefficients : tie.After-coefficients → tie.Start
 st-coefficients c = st-lent-bytes (lent-bytes-at-coefficients c)
@@ -49,20 +52,35 @@ tp-at-stripe-of-arg4 c = c .before .before .before .before .before
 abbrev vg-at-stripe-of-arg4 : tie.After-stripe-of-arg4 → tie.After-vg
 vg-at-stripe-of-arg4 c = tp-at-stripe-of-arg4 c .before .before .before .before
 
+abbrev vf-at-vg : tie.After-vg → tie.After-vf
+vf-at-vg c = c .before .before
+
 abbrev gs-at-vg : tie.After-vg → tie.After-gs
-gs-at-vg c = c .before .before .before .before
+gs-at-vg c = vf-at-vg c .before .before
+
+abbrev fs-at-gs : tie.After-gs → tie.After-fs
+fs-at-gs c = c .before .before
 
 abbrev coefficients-at-stripe-of-arg4 : tie.After-stripe-of-arg4 → tie.After-coefficients
-coefficients-at-stripe-of-arg4 c = gs-at-vg (vg-at-stripe-of-arg4 c) .before .before .before
+coefficients-at-stripe-of-arg4 c = fs-at-gs (gs-at-vg (vg-at-stripe-of-arg4 c)) .before
 
 abbrev st-stripe-of-arg4 : tie.After-stripe-of-arg4 → tie.Start
 st-stripe-of-arg4 c = st-coefficients (coefficients-at-stripe-of-arg4 c)
 
+abbrev columns-at-slice-known17 : tie.After-slice-known17 → tie.After-columns
+columns-at-slice-known17 c = c .before .before .before
+
+abbrev stripe-of-at-columns : tie.After-columns → tie.After-stripe-of
+stripe-of-at-columns c = c .before .before .before
+
 abbrev stripe-of-at-end : tie.After-slice-known17 → tie.After-stripe-of
-stripe-of-at-end c = c .before .before .before .before .before .before
+stripe-of-at-end c = stripe-of-at-columns (columns-at-slice-known17 c)
+
+abbrev stripe-of-arg4-at-columns : tie.After-columns → tie.After-stripe-of-arg4
+stripe-of-arg4-at-columns c = stripe-of-at-columns c .before
 
 abbrev coefficients-at-end : tie.After-slice-known17 → tie.After-coefficients
-coefficients-at-end c = coefficients-at-stripe-of-arg4 (stripe-of-at-end c .before)
+coefficients-at-end c = coefficients-at-stripe-of-arg4 (stripe-of-arg4-at-columns (columns-at-slice-known17 c))
 
 abbrev lent-bytes-at-end : tie.After-slice-known17 → tie.After-shared-slice-known5
 lent-bytes-at-end c = lent-bytes-at-coefficients (coefficients-at-end c)
@@ -110,7 +128,7 @@ part-coefficients-end c = few-rows (st-coefficients-arg4 c)
 
 coefficients-requires : tie.Need-coefficients-requires
 coefficients-requires c κs =
-    let g = st-coefficients-arg4 (c .before .before) in
+    let g = st-coefficients-arg4 (coefficients-arg4-at-coefficients-arg6 c) in
     let p = g .pre in
     let t = p .5 in
     let w = p .6 in
@@ -147,25 +165,25 @@ stripe-of-requires c κs =
     (g .pre .0 .sized, g .pre .5 .seeds-long, g-long m, long, g .pre .6 .all-columns, g .pre .7)
 
 same-length : tie.Need-same-length
-same-length c = gs-at-vg (vg-at-stripe-of-arg4 (stripe-of-at-end c .before)) .before .before .fs .given
+same-length c = fs-at-gs (gs-at-vg (vg-at-stripe-of-arg4 (stripe-of-arg4-at-columns (columns-at-slice-known17 c)))) .fs .given
 
 same-length-2 : tie.Need-same-length-2
-same-length-2 c = gs-at-vg (vg-at-stripe-of-arg4 (stripe-of-at-end c .before)) .gs .given
+same-length-2 c = gs-at-vg (vg-at-stripe-of-arg4 (stripe-of-arg4-at-columns (columns-at-slice-known17 c))) .gs .given
 
 same-length-3 : tie.Need-same-length-3
-same-length-3 c = vg-at-stripe-of-arg4 (stripe-of-at-end c .before) .before .before .vf .given
+same-length-3 c = vf-at-vg (vg-at-stripe-of-arg4 (stripe-of-arg4-at-columns (columns-at-slice-known17 c))) .vf .given
 
 same-length-4 : tie.Need-same-length-4
-same-length-4 c = vg-at-stripe-of-arg4 (stripe-of-at-end c .before) .vg .given
+same-length-4 c = vg-at-stripe-of-arg4 (stripe-of-arg4-at-columns (columns-at-slice-known17 c)) .vg .given
 
 same-length-5 : tie.Need-same-length-5
-same-length-5 c = tp-at-stripe-of-arg4 (stripe-of-at-end c .before) .tp .given
+same-length-5 c = tp-at-stripe-of-arg4 (stripe-of-arg4-at-columns (columns-at-slice-known17 c)) .tp .given
 
 same-length-6 : tie.Need-same-length-6
 same-length-6 c = search needs
 
 same-length-7 : tie.Need-same-length-7
-same-length-7 c = c .before .before .before .columns .given
+same-length-7 c = columns-at-slice-known17 c .columns .given
 
 same-length-8 : tie.Need-same-length-8
 same-length-8 c = c .before .u .given

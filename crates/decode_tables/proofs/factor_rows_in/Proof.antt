@@ -33,8 +33,11 @@ start-from-after-struct-known c = c .before .before .before .before .before .bef
 abbrev start-from-in-loop : tie.In-loop Inv-loop μ-loop → tie.Start Inv-loop μ-loop
 start-from-in-loop c = start-from-after-struct-known (c .before .before)
 
+abbrev turn-at-factors-in-arg2 : tie.After-factors-in-arg2 Inv-loop μ-loop → tie.In-loop Inv-loop μ-loop
+turn-at-factors-in-arg2 c = c .before .before .before
+
 abbrev in-loop-from-after-factors-in-arg3 : tie.After-factors-in-arg3 Inv-loop μ-loop → tie.In-loop Inv-loop μ-loop
-in-loop-from-after-factors-in-arg3 c = c .before .before .before .before
+in-loop-from-after-factors-in-arg3 c = turn-at-factors-in-arg2 (c .before)
 
 abbrev start-from-after-factors-in-arg3 : tie.After-factors-in-arg3 Inv-loop μ-loop → tie.Start Inv-loop μ-loop
 start-from-after-factors-in-arg3 c = start-from-in-loop (in-loop-from-after-factors-in-arg3 c)
@@ -45,8 +48,11 @@ after-factors-in-from-after-slice-known6 c = c .before .before .before .before .
 abbrev start-from-after-slice-known6 : tie.After-slice-known6 Inv-loop μ-loop → tie.Start Inv-loop μ-loop
 start-from-after-slice-known6 c = start-from-after-factors-in-arg3 (after-factors-in-from-after-slice-known6 c .before)
 
+abbrev factors-in-arg2-at-factors-in : tie.After-factors-in Inv-loop μ-loop → tie.After-factors-in-arg2 Inv-loop μ-loop
+factors-in-arg2-at-factors-in c = c .before .before
+
 abbrev at-loop-from-after-slice-known6 : tie.After-slice-known6 Inv-loop μ-loop → tie.At-loop Inv-loop μ-loop
-at-loop-from-after-slice-known6 c = in-loop-from-after-factors-in-arg3 (after-factors-in-from-after-slice-known6 c .before) .before
+at-loop-from-after-slice-known6 c = turn-at-factors-in-arg2 (factors-in-arg2-at-factors-in (after-factors-in-from-after-slice-known6 c)) .before
 
 abbrev start-from-after-loop : tie.After-loop Inv-loop μ-loop → tie.Start Inv-loop μ-loop
 start-from-after-loop c = start-from-after-struct-known (c .before .before)
@@ -58,8 +64,8 @@ end c = row-fits _ _ _ (c .loop-test .taken)
 
 -- the board of a turn
 known : (c : tie.In-loop Inv-loop μ-loop) → let a = (start-from-in-loop c) .args in getD (a .boards .now) ((c .before) .loop .t) 0 < a .sizes .n
-known c = all-at (λ i. i < (start-from-in-loop c) .args .sizes .n) 0 ((start-from-in-loop c) .args .boards .now)
-    (below-all ((start-from-in-loop c) .args .sizes .n) ((start-from-in-loop c) .args .boards .now) ((start-from-in-loop c) .pre .5)) ((c .before) .loop .t) (c .loop-test .taken)
+known c = all-at (λ i. i < (start-from-in-loop c) .args .sizes .n) 0 (start-from-in-loop c .args .boards .now)
+    (below-all (start-from-in-loop c .args .sizes .n) (start-from-in-loop c .args .boards .now) (start-from-in-loop c .pre .5)) ((c .before) .loop .t) (c .loop-test .taken)
 
 sub-m : tie.Need-sub-m Inv-loop μ-loop
 sub-m c = search needs
@@ -69,8 +75,8 @@ mul-m c = search needs
 
 loop-holds : tie.Need-loop-holds Inv-loop μ-loop
 loop-holds c = (
-  ap (λ (m : ℕ). drop m ((start-from-after-struct-known c) .args .out .now))
-      (sym (zero-mul (((start-from-after-struct-known c) .args .sizes .n - (start-from-after-struct-known c) .args .c) * 32))),
+  ap (λ (m : ℕ). drop m (start-from-after-struct-known c .args .out .now))
+      (sym (zero-mul ((start-from-after-struct-known c .args .sizes .n - (start-from-after-struct-known c) .args .c) * 32))),
   omega arith,
   refl,
   refl,
@@ -96,7 +102,7 @@ part-factors-in-start : tie.Need-part-factors-in-start Inv-loop μ-loop
 part-factors-in-start c = search needs
 
 part-factors-in-end : tie.Need-part-factors-in-end Inv-loop μ-loop
-part-factors-in-end c = omega (arith, end (c .before .before .before))
+part-factors-in-end c = omega (arith, end (turn-at-factors-in-arg2 c))
 
 factors-in-requires : tie.Need-factors-in-requires Inv-loop μ-loop
 factors-in-requires c κs =
@@ -134,12 +140,12 @@ add-t : tie.Need-add-t Inv-loop μ-loop
 add-t c = omega (
   arith,
   at-loop-from-after-slice-known6 c .loop .inv,
-  in-loop-from-after-factors-in-arg3 (after-factors-in-from-after-slice-known6 c .before) .loop-test .taken,
+  turn-at-factors-in-arg2 (factors-in-arg2-at-factors-in (after-factors-in-from-after-slice-known6 c)) .loop-test .taken,
   start-from-after-slice-known6 c .pre,
 )
 
 loop-less : tie.Need-loop-less Inv-loop μ-loop
-loop-less c = omega (arith, in-loop-from-after-factors-in-arg3 (after-factors-in-from-after-slice-known6 c .before) .loop-test .taken)
+loop-less c = omega (arith, turn-at-factors-in-arg2 (factors-in-arg2-at-factors-in (after-factors-in-from-after-slice-known6 c)) .loop-test .taken)
 
 loop-again : tie.Need-loop-again Inv-loop μ-loop
 loop-again c =
@@ -147,8 +153,8 @@ loop-again c =
     let a = g .args in
     let l = (at-loop-from-after-slice-known6 c) .loop in (
       join-loop (λ t. factorsOf (a .sizes) (a .points .now) (a .c) (getD (a .boards .now) t 0)) ((a .sizes .n - a .c) * 32) (l .t) (a .out .now) (l .out) _
-          (λ t h. length-factors (a .sizes) (a .points .now) (a .c) (getD (a .boards .now) t 0)) ((after-factors-in-from-after-slice-known6 c) .factors-in .ensures) (l .inv .0),
-      omega (arith, in-loop-from-after-factors-in-arg3 (after-factors-in-from-after-slice-known6 c .before) .loop-test .taken),
+          (λ t h. length-factors (a .sizes) (a .points .now) (a .c) (getD (a .boards .now) t 0)) (after-factors-in-from-after-slice-known6 c .factors-in .ensures) (l .inv .0),
+      omega (arith, turn-at-factors-in-arg2 (factors-in-arg2-at-factors-in (after-factors-in-from-after-slice-known6 c)) .loop-test .taken),
       omega arith,
       omega arith,
       omega arith,

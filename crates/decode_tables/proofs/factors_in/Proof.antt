@@ -16,8 +16,11 @@ use Rattle.decode_tables.proofs.factors_in.Statement.{statement}
 use Rattle.decode_tables.proofs.factors_in.Tie as tie
 
 -- places in the code
+abbrev near-at-lagrange-rows-arg2 : tie.After-lagrange-rows-arg2 → tie.After-near
+near-at-lagrange-rows-arg2 c = c .before .before .before
+
 abbrev after-boards-from-from-after-lagrange-rows-arg2 : tie.After-lagrange-rows-arg2 → tie.After-boards-from
-after-boards-from-from-after-lagrange-rows-arg2 c = c .before .before .before .before
+after-boards-from-from-after-lagrange-rows-arg2 c = near-at-lagrange-rows-arg2 c .before
 
 abbrev start-from-after-lagrange-rows-arg2 : tie.After-lagrange-rows-arg2 → tie.Start
 start-from-after-lagrange-rows-arg2 c = after-boards-from-from-after-lagrange-rows-arg2 c .before .before .before .before .before .before .before
@@ -28,8 +31,11 @@ lagrange-rows-at-board-factors-arg2 c = c .before .before .before .before
 abbrev start-from-after-board-factors-arg2 : tie.After-board-factors-arg2 → tie.Start
 start-from-after-board-factors-arg2 c = start-from-after-lagrange-rows-arg2 (lagrange-rows-at-board-factors-arg2 c .before)
 
+abbrev board-factors-at-slice-known6 : tie.After-slice-known6 → tie.After-board-factors
+board-factors-at-slice-known6 c = c .before .before
+
 abbrev after-lagrange-rows-from-after-slice-known6 : tie.After-slice-known6 → tie.After-lagrange-rows
-after-lagrange-rows-from-after-slice-known6 c = lagrange-rows-at-board-factors-arg2 (c .before .before .before)
+after-lagrange-rows-from-after-slice-known6 c = lagrange-rows-at-board-factors-arg2 (board-factors-at-slice-known6 c .before)
 
 abbrev start-from-after-slice-known6 : tie.After-slice-known6 → tie.Start
 start-from-after-slice-known6 c = start-from-after-lagrange-rows-arg2 (after-lagrange-rows-from-after-slice-known6 c .before)
@@ -54,7 +60,7 @@ board-factors-requires c κs =
     (g .pre .2, g .pre .3, g .pre .4, omega arith, g .pre .7)
 
 same-length : tie.Need-same-length
-same-length c = after-lagrange-rows-from-after-slice-known6 c .before .before .before .before .near .given
+same-length c = near-at-lagrange-rows-arg2 (after-lagrange-rows-from-after-slice-known6 c .before) .near .given
 
 same-length-2 : tie.Need-same-length-2
 same-length-2 c = search needs
@@ -67,9 +73,9 @@ returns c =
     let g = (start-from-after-slice-known6 c) in
     let a = g .args in
     let e = (after-boards-from-from-after-slice-known6 c) .boards-from .ensures ∙ ap (λ (m : ℕ). tabulate m (λ t. (a .b + t) % a .sizes .n)) (g .pre .5) in
-    (c .before .before) .board-factors .ensures
+    board-factors-at-slice-known6 c .board-factors .ensures
     ∙ ap (λ (rows : List ℕ). join (a .sizes .n - a .c) (λ o. fit 32 (tabulate (a .c) (λ t. cell rows t ((a .b + (a .c + o)) % a .sizes .n)))))
-    ((after-lagrange-rows-from-after-slice-known6 c) .lagrange-rows .ensures ∙ ap (lagrangeRows (a .points .now)) e)
+    (after-lagrange-rows-from-after-slice-known6 c .lagrange-rows .ensures ∙ ap (lagrangeRows (a .points .now)) e)
     ∙ factors-made (a .sizes) (a .points .now) (a .c) (a .b) (g .pre .2) (g .pre .4) (g .pre .3)
 
 pub factors-in-spec : {M : Type 1} → statement M

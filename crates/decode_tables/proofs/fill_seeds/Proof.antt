@@ -23,11 +23,17 @@ abbrev μ-loop : tie.MeasureT-loop
 μ-loop xs s out₀ m t₀ out t = m - t
 
 -- places in the code
+abbrev loop-at-seed : tie.After-seed Inv-loop μ-loop → tie.At-loop Inv-loop μ-loop
+loop-at-seed c = c .before .before .before
+
+abbrev st-at-loop : tie.At-loop Inv-loop μ-loop → tie.Start Inv-loop μ-loop
+st-at-loop c = c .before .before .before
+
 abbrev start-from-after-seed : tie.After-seed Inv-loop μ-loop → tie.Start Inv-loop μ-loop
-start-from-after-seed c = c .before .before .before .before .before .before
+start-from-after-seed c = st-at-loop (loop-at-seed c)
 
 abbrev start-from-after-loop : tie.After-loop Inv-loop μ-loop → tie.Start Inv-loop μ-loop
-start-from-after-loop c = c .before .before .before .before
+start-from-after-loop c = st-at-loop (c .before)
 
 loop-holds : tie.Need-loop-holds Inv-loop μ-loop
 loop-holds c = search needs
@@ -49,8 +55,8 @@ loop-less c = search needs
 
 loop-again : tie.Need-loop-again Inv-loop μ-loop
 loop-again c =
-    let l = (c .before .before .before) .loop in (
-      fill-loop _ ((start-from-after-seed c) .args .out .now) (l .out) (l .t) _ (omega arith) (c .seed .ensures) (l .inv .0),
+    let l = (loop-at-seed c) .loop in (
+      fill-loop _ (start-from-after-seed c .args .out .now) (l .out) (l .t) _ (omega arith) (c .seed .ensures) (l .inv .0),
       omega arith,
       length-set (l .out) (l .t) _ ∙ l .inv .2,
     )

@@ -26,8 +26,11 @@ abbrev μ-loop : tie.MeasureT-loop
 abbrev turn-at-fill-multiples-arg2 : tie.After-fill-multiples-arg2 Inv-loop μ-loop → tie.In-loop Inv-loop μ-loop
 turn-at-fill-multiples-arg2 c = c .before .before
 
+abbrev fill-multiples-at-slice-known2 : tie.After-slice-known2 Inv-loop μ-loop → tie.After-fill-multiples Inv-loop μ-loop
+fill-multiples-at-slice-known2 c = c .before .before
+
 abbrev turn-at-slice-known2 : tie.After-slice-known2 Inv-loop μ-loop → tie.In-loop Inv-loop μ-loop
-turn-at-slice-known2 c = turn-at-fill-multiples-arg2 (c .before .before .before)
+turn-at-slice-known2 c = turn-at-fill-multiples-arg2 (fill-multiples-at-slice-known2 c .before)
 
 abbrev at-loop-from-after-slice-known2 : tie.After-slice-known2 Inv-loop μ-loop → tie.At-loop Inv-loop μ-loop
 at-loop-from-after-slice-known2 c = turn-at-slice-known2 c .before
@@ -95,7 +98,7 @@ loop-again c =
     let l = (at-loop-from-after-slice-known2 c) .loop in (
       join-loop (λ s. multiples (piece 32 s (a .rows .now))) 512 (l .s) (a .tables .now) (l .tables) _
           (λ s h. length-multiples (piece 32 s (a .rows .now)) (length-piece 32 s (a .rows .now) (omega (arith, row-fits s (a .count) 32 (omega arith), g .pre))))
-          ((c .before .before) .fill-multiples .ensures ∙ ap multiples (part-piece 32 (l .s) (a .rows .now)))
+          (fill-multiples-at-slice-known2 c .fill-multiples .ensures ∙ ap multiples (part-piece 32 (l .s) (a .rows .now)))
           (l .inv .0),
       omega arith,
       search needs,

@@ -11,8 +11,11 @@ use Rattle.decode_tables.proofs.seed_row.Statement.{statement}
 use Rattle.decode_tables.proofs.seed_row.Tie as tie
 
 -- places in the code
+abbrev interpolate-at-slice-known4 : tie.After-slice-known4 → tie.After-interpolate
+interpolate-at-slice-known4 c = c .before .before
+
 abbrev after-fill-seeds-from-after-slice-known4 : tie.After-slice-known4 → tie.After-fill-seeds
-after-fill-seeds-from-after-slice-known4 c = c .before .before .before .before .before .before
+after-fill-seeds-from-after-slice-known4 c = interpolate-at-slice-known4 c .before .before .before .before
 
 abbrev after-clear-from-after-slice-known4 : tie.After-slice-known4 → tie.After-clear
 after-clear-from-after-slice-known4 c = after-fill-seeds-from-after-slice-known4 c .before .before .before .before
@@ -55,7 +58,7 @@ returns c =
     let g = (start-from-after-slice-known4 c) in
     let a = g .args in
     seed-row-made (a .xs .now) (a .s) _ _ _ (g .pre .1) ((after-clear-from-after-slice-known4 c) .clear .ensures ∙ ap (λ (k : ℕ). tabulate k (λ _. 0)) (g .pre .2))
-    ((after-fill-seeds-from-after-slice-known4 c) .fill-seeds .ensures) ((c .before .before) .interpolate .ensures)
+    ((after-fill-seeds-from-after-slice-known4 c) .fill-seeds .ensures) (interpolate-at-slice-known4 c .interpolate .ensures)
 
 pub seed-row-spec : {M : Type 1} → statement M
 seed-row-spec =

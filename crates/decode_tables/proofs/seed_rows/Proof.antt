@@ -28,8 +28,11 @@ st-at-loop c = c .before .before .before .before
 abbrev start-from-after-seed-row-arg : tie.After-seed-row-arg Inv-loop μ-loop → tie.Start Inv-loop μ-loop
 start-from-after-seed-row-arg c = st-at-loop (c .before .before)
 
+abbrev seed-row-at-slice-known2 : tie.After-slice-known2 Inv-loop μ-loop → tie.After-seed-row Inv-loop μ-loop
+seed-row-at-slice-known2 c = c .before .before
+
 abbrev turn-at-slice-known2 : tie.After-slice-known2 Inv-loop μ-loop → tie.In-loop Inv-loop μ-loop
-turn-at-slice-known2 c = c .before .before .before .before
+turn-at-slice-known2 c = seed-row-at-slice-known2 c .before .before
 
 abbrev at-loop-from-after-slice-known2 : tie.After-slice-known2 Inv-loop μ-loop → tie.At-loop Inv-loop μ-loop
 at-loop-from-after-slice-known2 c = turn-at-slice-known2 c .before
@@ -74,7 +77,7 @@ loop-again c =
     let a = g .args in
     let l = (at-loop-from-after-slice-known2 c) .loop in (
       join-loop (λ s. fit 32 (interpolate (a .xs .now) (seeds (a .xs .now) s))) 32 (l .s) (a .rows .now) (l .rows) _
-          (λ s h. length-fit 32 (interpolate (a .xs .now) (seeds (a .xs .now) s))) ((c .before .before) .seed-row .ensures) (l .inv .0),
+          (λ s h. length-fit 32 (interpolate (a .xs .now) (seeds (a .xs .now) s))) (seed-row-at-slice-known2 c .seed-row .ensures) (l .inv .0),
       omega (arith, turn-at-slice-known2 c .loop-test .taken),
       omega arith,
     )

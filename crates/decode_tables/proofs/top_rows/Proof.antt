@@ -30,14 +30,17 @@ in-loop-from-after-slice-known2 c = column-at-slice-known2 c .before .before
 abbrev at-loop-from-after-slice-known2 : tie.After-slice-known2 Inv-loop μ-loop → tie.At-loop Inv-loop μ-loop
 at-loop-from-after-slice-known2 c = in-loop-from-after-slice-known2 c .before
 
+abbrev st-at-loop : tie.At-loop Inv-loop μ-loop → tie.Start Inv-loop μ-loop
+st-at-loop c = c .before .before .before
+
 abbrev st-at-column-arg : tie.After-column-arg Inv-loop μ-loop → tie.Start Inv-loop μ-loop
-st-at-column-arg c = c .before .before .before .before .before
+st-at-column-arg c = st-at-loop (c .before .before)
 
 abbrev start-from-after-slice-known2 : tie.After-slice-known2 Inv-loop μ-loop → tie.Start Inv-loop μ-loop
-start-from-after-slice-known2 c = st-at-column-arg (column-at-slice-known2 c .before)
+start-from-after-slice-known2 c = st-at-loop (at-loop-from-after-slice-known2 c)
 
 abbrev start-from-after-loop : tie.After-loop Inv-loop μ-loop → tie.Start Inv-loop μ-loop
-start-from-after-loop c = c .before .before .before .before
+start-from-after-loop c = st-at-loop (c .before)
 
 -- how long the row of a turn is
 long : (c : tie.In-loop Inv-loop μ-loop) → let l = (c .before) .loop in length (take (l .i * 32 + 32 - l .i * 32) (drop (l .i * 32) (l .out))) ≡ 32
@@ -82,7 +85,7 @@ loop-again c =
     let l = (at-loop-from-after-slice-known2 c) .loop in (
       join-loop (λ i. fit 32 (tabulate (a .m) (λ s. cell (a .rows .now) s (a .k + i)))) 32 (l .i) (a .out .now) (l .out) _
           (λ i h. length-fit 32 (tabulate (a .m) (λ s. cell (a .rows .now) s (a .k + i))))
-          ((column-at-slice-known2 c) .column .ensures ∙ ap (λ (n : ℕ). fit n (tabulate (a .m) (λ s. cell (a .rows .now) s (a .k + l .i)))) (long (in-loop-from-after-slice-known2 c)))
+          (column-at-slice-known2 c .column .ensures ∙ ap (λ (n : ℕ). fit n (tabulate (a .m) (λ s. cell (a .rows .now) s (a .k + l .i)))) (long (in-loop-from-after-slice-known2 c)))
           (l .inv .0),
       omega (arith, in-loop-from-after-slice-known2 c .loop-test .taken),
       omega arith,

@@ -40,10 +40,13 @@ stripes-requires c κs =
     let e = one-mul (B (s .args .sizes)) in
     (p .0, p .1, p .2, p .3, p .4, omega (arith, e, p .5), omega (arith, e, p .5))
 
+abbrev slice-known-at-stripes : tie.After-stripes → tie.After-slice-known
+slice-known-at-stripes c = c .before .before
+
 change-requires : tie.Need-change-requires
 change-requires c κs =
     let k = stripes-at-change c in
-    let s = st (k .before .before) in
+    let s = st (slice-known-at-stripes k) in
     (from s, omega (arith, k .stripes .kept .1 .1 .1 .1 .1 .1 .1 .1 .0, s .pre .5, B-most _ (facts s)))
 
 returns : tie.Need-returns
@@ -51,7 +54,7 @@ unfolding changedStripe
 returns c =
     let h = change-at-end c in
     let k = stripes-at-change (h .before) in
-    let s = st (k .before .before) in
+    let s = st (slice-known-at-stripes k) in
     let a = s .args in
     one-changed (B (a .sizes)) (a .s) (length (a .u .now)) (a .offset) (a .bytes .now)
     (stripeAt (a .sizes) (a .points .now) (a .boards .now) (a .starts .now) (a .area .now)) _ _ (s .pre .5)

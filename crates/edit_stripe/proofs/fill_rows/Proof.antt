@@ -29,11 +29,14 @@ copied c = c .before .before .before .before .before
 abbrev turn : tie.After-power3 Inv-loop μ-loop → tie.In-loop Inv-loop μ-loop
 turn c = copied c .before .before .before
 
+abbrev st-at-slice-known : tie.After-slice-known Inv-loop μ-loop → tie.Start Inv-loop μ-loop
+st-at-slice-known c = c .before .before
+
 abbrev st : tie.At-loop Inv-loop μ-loop → tie.Start Inv-loop μ-loop
-st c = c .before .before .before
+st c = st-at-slice-known (c .before)
 
 loop-holds : tie.Need-loop-holds Inv-loop μ-loop
-loop-holds c = let s = c .before .before in (refl, power-start (s .args .points .now) 32 (s .pre .0), omega arith, refl, refl)
+loop-holds c = let s = st-at-slice-known c in (refl, power-start (s .args .points .now) 32 (s .pre .0), omega arith, refl, refl)
 
 loop-again : tie.Need-loop-again Inv-loop μ-loop
 loop-again c =

@@ -23,17 +23,26 @@ use Rattle.edit_stripe.proofs.keep_values.Tie as tie
 abbrev st : tie.After-stripe-len → tie.Start
 st c = c .before .before .before
 
+abbrev stripe-len-at-u : tie.After-u → tie.After-stripe-len
+stripe-len-at-u c = c .before .before
+
 abbrev len-at-lay : tie.After-rows → tie.After-stripe-len
-len-at-lay c = c .before .before .before .before
+len-at-lay c = stripe-len-at-u (c .before .before)
+
+abbrev lay-rows-at-rows3 : tie.After-rows3 → tie.After-lay-rows
+lay-rows-at-rows3 c = c .before .before
 
 abbrev laid : tie.After-values-arg → tie.After-lay-rows
-laid c = c .before .before .before
+laid c = lay-rows-at-rows3 (c .before)
 
 abbrev valued : tie.After-top-rows-arg → tie.After-values
 valued c = c .before .before .before
 
+abbrev top-rows-at-rows6 : tie.After-rows6 → tie.After-top-rows
+top-rows-at-rows6 c = c .before .before
+
 abbrev turned : tie.After-values-arg2 → tie.After-top-rows
-turned c = c .before .before .before
+turned c = top-rows-at-rows6 (c .before)
 
 facts : (c : tie.Start) → Legal (c .args .sizes)
 facts c = legal-facts _ (c .pre .0)
@@ -55,9 +64,12 @@ values-requires c κs =
     let f = facts s in
     (s .pre .1, omega (arith, f .enough, f .few), search needs, s .pre .2)
 
+abbrev lay-rows-at-values : tie.After-values → tie.After-lay-rows
+lay-rows-at-values c = lay-rows-at-rows3 (c .before .before)
+
 -- what is for work is as long as it was
 abbrev st-at-values : tie.After-values → tie.Start
-st-at-values c = st (len-at-lay (laid (c .before) .before))
+st-at-values c = st (len-at-lay (lay-rows-at-values c .before))
 
 rows-long : (c : tie.After-lay-rows) → length (c .lay-rows .last .1 .1 .0) ≡ 1024
 rows-long c = c .lay-rows .kept .1 .1 .0
@@ -66,8 +78,8 @@ u-long : (c : tie.After-values) → length (c .values .last .1 .1 .1 .0) ≡ 102
 u-long c = c .values .kept .1 .1 .1 .0 ∙ st-at-values c .pre .2
 
 -- the rows by board lie within
-room : (c : tie.After-values) → st-at-values c .args .sizes .n * 32 ≤ length (laid (c .before) .lay-rows .last .1 .1 .0)
-room c = let f = facts (st-at-values c) in omega (arith, f .few, rows-long (laid (c .before)))
+room : (c : tie.After-values) → st-at-values c .args .sizes .n * 32 ≤ length (lay-rows-at-values c .lay-rows .last .1 .1 .0)
+room c = let f = facts (st-at-values c) in omega (arith, f .few, rows-long (lay-rows-at-values c))
 
 top-rows-requires : tie.Need-top-rows-requires
 top-rows-requires c κs =
@@ -77,20 +89,23 @@ top-rows-requires c κs =
       omega (arith, f .few),
       omega (arith, f .enough, f .few),
       omega (arith, u-long v, f .enough, f .few),
-      first-long (s .args .sizes .n * 32) (laid (v .before) .lay-rows .last .1 .1 .0) (room v),
+      first-long (s .args .sizes .n * 32) (lay-rows-at-values v .lay-rows .last .1 .1 .0) (room v),
     )
 
-turned-long : (c : tie.After-top-rows) → let v = valued (c .before .before) in
-    length (putMid 0 (st-at-values v .args .sizes .n * 32 - 0) (laid (v .before) .lay-rows .last .1 .1 .0) (c .top-rows .last .1 .1 .1 .1 .0)) ≡ 1024
+abbrev top-rows-arg-at-top-rows : tie.After-top-rows → tie.After-top-rows-arg
+top-rows-arg-at-top-rows c = c .before .before
+
+turned-long : (c : tie.After-top-rows) → let v = valued (top-rows-arg-at-top-rows c) in
+    length (putMid 0 (st-at-values v .args .sizes .n * 32 - 0) (lay-rows-at-values v .lay-rows .last .1 .1 .0) (c .top-rows .last .1 .1 .1 .1 .0)) ≡ 1024
 turned-long c =
-    let v = valued (c .before .before) in
-    let rows = laid (v .before) .lay-rows .last .1 .1 .0 in
+    let v = valued (top-rows-arg-at-top-rows c) in
+    let rows = lay-rows-at-values v .lay-rows .last .1 .1 .0 in
     let m = st-at-values v .args .sizes .n * 32 in
-    put-long m rows (c .top-rows .last .1 .1 .1 .1 .0) (room v) (c .top-rows .kept .1 .1 .1 .1 .0 ∙ first-long m rows (room v)) ∙ rows-long (laid (v .before))
+    put-long m rows (c .top-rows .last .1 .1 .1 .1 .0) (room v) (c .top-rows .kept .1 .1 .1 .1 .0 ∙ first-long m rows (room v)) ∙ rows-long (lay-rows-at-values v)
 
 values-requires-2 : tie.Need-values-requires-2
 values-requires-2 c κs =
-    let v = valued (turned c .before .before) in
+    let v = valued (top-rows-arg-at-top-rows (turned c)) in
     let s = st-at-values v in
     (s .pre .1, facts s .few, turned-long (turned c), u-long v)
 
@@ -98,8 +113,8 @@ returns : tie.Need-returns
 returns c =
     let w = c .before .before in
     let t = turned (w .before) in
-    let v = valued (t .before .before) in
-    let l = laid (v .before) in
+    let v = valued (top-rows-arg-at-top-rows t) in
+    let l = lay-rows-at-values v in
     let k = len-at-lay (l .before) in
     let s = st k in
     let a = s .args in
@@ -120,7 +135,7 @@ keep-values-spec =
     (λ c. omega (arith, facts (st (c .before))))
     (λ c. search needs)
     (λ c. search needs)
-    (λ c. inside (c .before .before))
+    (λ c. inside (stripe-len-at-u c))
     (λ c. search needs)
     lay-rows-requires
     (λ c. search needs)
@@ -129,7 +144,7 @@ keep-values-spec =
     (λ c. search needs)
     (λ c. room (valued c))
     top-rows-requires
-    (λ c. sym (turned-long (c .before .before)))
+    (λ c. sym (turned-long (top-rows-at-rows6 c)))
     values-requires-2
     (λ c. search needs)
     returns)

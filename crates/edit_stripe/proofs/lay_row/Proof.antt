@@ -39,9 +39,12 @@ returns c =
     let s = st (t .before) in
     p .upper-row .ensures ∙ ap (fit 32) (sym (shape.upper-row (s .args .sizes) (facts s) (s .args .u .now) (s .pre .2) (s .args .i) (t .if1 .taken)))
 
+abbrev else1-at-lower-row-arg : tie.After-lower-row-arg → tie.Else1
+else1-at-lower-row-arg c = c .before .before
+
 lower-row-requires : tie.Need-lower-row-requires
 lower-row-requires c κs =
-    let t = c .before .before in
+    let t = else1-at-lower-row-arg c in
     let s = st (t .before) in
     let f = facts s in
     let h = t .if1 .left in (
@@ -56,7 +59,7 @@ lower-row-requires c κs =
 returns-2 : tie.Need-returns-2
 returns-2 c =
     let p = c .before .before in
-    let t = p .before .before .before in
+    let t = else1-at-lower-row-arg (p .before) in
     let s = st (t .before) in
     let z = s .args .sizes in
     let u = s .args .u .now in
@@ -64,6 +67,9 @@ returns-2 c =
     let e : z .k + (i - z .k) ≡ i = omega (arith, t .if1 .left) in
     p .lower-row .ensures
     ∙ ap (fit 32) (sym (shape.lower-row z (facts s) u (s .pre .2) (i - z .k) (omega (arith, t .if1 .left, s .pre .1))) ∙ ap (λ (j : ℕ). getD (grid z u) j []) e)
+
+abbrev struct-known-at-struct-known2 : tie.After-struct-known2 → tie.After-struct-known
+struct-known-at-struct-known2 c = c .before .before
 
 pub lay-row-spec : {M : Type 1} → statement M
 lay-row-spec =
@@ -75,9 +81,9 @@ lay-row-spec =
     (λ c. search needs)
     returns
     (λ c. search needs)
-    (λ c. record { fits = least (st (c .before .before)) .0 })
-    (λ c. record { fits = least (st (c .before .before)) .1 })
-    (λ c. record { fits = least (st (c .before .before)) .2 })
+    (λ c. record { fits = least (st (struct-known-at-struct-known2 c)) .0 })
+    (λ c. record { fits = least (st (struct-known-at-struct-known2 c)) .1 })
+    (λ c. record { fits = least (st (struct-known-at-struct-known2 c)) .2 })
     lower-row-requires
     (λ c. search needs)
     returns-2)

@@ -1,6 +1,6 @@
 -- `edit_stripe::upper_row` meets its contract.
 -- Assumes nothing.
-use mathlib.Core.Path.{_≡_}
+use mathlib.Core.Path.{_≡_, _∙_}
 use Prim.Native.Nat.{ℕ, _+_, _-_, _*_, _≤_}
 use native.Mathlib.Nat.{sub-zero}
 use native.Mathlib.Omega.{arith}
@@ -34,11 +34,14 @@ ends c =
     let p = c .pre in
     (run-end (a .i) (a .k) (a .k) (p .0) (omega (arith, p .1)) (omega (arith, p .1)), run-end (a .i) (a .k) (a .m) (p .0) (omega (arith, p .1)) (omega (arith, p .1)))
 
+abbrev slice-known2-at-padded : tie.After-padded → tie.After-slice-known2
+slice-known2-at-padded c = c .before .before .before
+
 returns : tie.Need-returns
 unfolding piece
 returns c =
     let p = padded c in
-    let k = copy-at-padded (p .before .before .before) in
+    let k = copy-at-padded (slice-known2-at-padded p) in
     let s = st-at-copy k in
     let a = s .args in
     let e = ends s in
@@ -64,13 +67,13 @@ upper-row-spec =
     (λ c. search needs)
     (λ c. search needs)
     (λ c. search needs)
-    (λ c κs. search needs)
+    (λ c κs. omega arith)
     (λ c. search needs)
     (λ c. search needs)
     (λ c. let s = st-at-copy (copy-at-padded c) in omega (arith, ends s, s .pre .2))
-    (λ c. search needs)
-    (λ c. search needs)
-    (λ c. search needs)
-    (λ c κs. search needs)
-    (λ c. search needs)
+    (λ c. omega (arith, st-at-copy (copy-at-padded (c .before)) .pre))
+    (λ c. omega (arith, st-at-copy (copy-at-padded (c .before)) .pre))
+    (λ c. omega arith)
+    (λ c κs. omega arith)
+    (λ c. c .before .out2 .given .1 ∙ slice-known2-at-padded (padded c) .before .out .given .1)
     returns)

@@ -26,15 +26,18 @@ abbrev μ-loop : tie.MeasureT-loop
 abbrev made : tie.After-slice-known2 Inv-loop μ-loop → tie.After-sums Inv-loop μ-loop
 made c = c .before .before
 
+abbrev turn-at-sums-arg2 : tie.After-sums-arg2 Inv-loop μ-loop → tie.In-loop Inv-loop μ-loop
+turn-at-sums-arg2 c = c .before .before
+
 abbrev turn : tie.After-sums Inv-loop μ-loop → tie.In-loop Inv-loop μ-loop
-turn c = c .before .before .before
+turn c = turn-at-sums-arg2 (c .before)
 
 abbrev st : tie.At-loop Inv-loop μ-loop → tie.Start Inv-loop μ-loop
 st c = c .before .before .before .before
 
 sums-requires : tie.Need-sums-requires Inv-loop μ-loop
 sums-requires c κs =
-    let t = c .before .before in
+    let t = turn-at-sums-arg2 c in
     let l = t .before .loop in
     let s = st (t .before) in
     let h = t .loop-test .taken in
@@ -55,7 +58,7 @@ loop-again c =
           ∙ ap₂ {C = List ℕ} (λ (n : ℕ) (cs : List ℕ). rowSums n cs (a .powers .now)) (row-long (l .t) (l .out) (l .inv .2 ∙ s .pre .3) (omega (arith, h, s .pre .1)))
           (part-piece 32 (l .t) (a .rows .now))) (l .inv .0),
       omega (arith, h),
-      search needs,
+      c .before .out .given .1 ∙ l .inv .2,
     )
 
 returns : tie.Need-returns Inv-loop μ-loop
@@ -81,8 +84,8 @@ values-in-spec =
     (λ c. search needs)
     (λ c. search needs)
     sums-requires
-    (λ c. search needs)
-    (λ c. search needs)
+    (λ c. let t = turn (made c) in omega (arith, t .before .loop .inv, t .loop-test .taken, st (t .before) .pre))
+    (λ c. omega (arith, turn (made c) .loop-test .taken))
     loop-again
     (λ c. search needs)
     returns)

@@ -12,8 +12,14 @@ use Rattle.exchange.proofs.byte_in.Statement.{statement}
 use Rattle.exchange.proofs.byte_in.Tie as tie
 
 -- the places
+abbrev st-at-slice-known : tie.After-slice-known → tie.Start
+st-at-slice-known c = c .before .before .before
+
+abbrev vs-at-dot-arg : tie.After-dot-arg → tie.After-vs
+vs-at-dot-arg c = c .before .before
+
 abbrev st-at-dot-arg : tie.After-dot-arg → tie.Start
-st-at-dot-arg c = c .before .before .before .before .before .before .before .before
+st-at-dot-arg c = st-at-slice-known (vs-at-dot-arg c .before .before .before)
 
 abbrev st-at-dot : tie.After-dot → tie.Start
 st-at-dot c = st-at-dot-arg (c .before)
@@ -23,8 +29,8 @@ long c = ap length (c .pre .5)
 
 received-requires : tie.Need-received-requires
 received-requires c κs =
-    let p = c .before .before .before .before .pre in
-    let l = long (c .before .before .before .before) in
+    let p = st-at-slice-known (c .before) .pre in
+    let l = long (st-at-slice-known (c .before)) in
     (omega arith, p .2, p .3, p .4, simp length-take (omega arith))
 
 returns : tie.Need-returns
@@ -32,7 +38,7 @@ returns c =
     let a = st-at-dot c .args in
     let came : List ℕ = received (a .sizes) (a .stripes) 0 (a .s) (a .packets .now) in
     dot-row (a .ff .now) came _ (a .vs .now) (a .sizes .d - 0) _ (st-at-dot c .pre .5)
-    (ap (λ (l : List ℕ). l ++ drop (a .sizes .d - 0) (a .vs .now)) (c .before .before .before .before .received .ensures)) (c .dot .ensures)
+    (ap (λ (l : List ℕ). l ++ drop (a .sizes .d - 0) (a .vs .now)) (vs-at-dot-arg (c .before) .before .received .ensures)) (c .dot .ensures)
 
 pub byte-in-spec : {M : Type 1} → statement M
 byte-in-spec =
@@ -40,8 +46,8 @@ byte-in-spec =
     (tie.spec
     (λ c. search needs)
     (λ c. search needs)
-    (λ c. omega (arith, long (c .before .before .before)))
+    (λ c. omega (arith, long (st-at-slice-known c)))
     received-requires
-    (λ c κs. omega (arith, c .before .before .vs .given .1, long (st-at-dot-arg c)))
+    (λ c κs. omega (arith, vs-at-dot-arg c .vs .given .1, long (st-at-dot-arg c)))
     (λ c. search needs)
     returns)

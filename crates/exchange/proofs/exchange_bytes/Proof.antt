@@ -20,15 +20,21 @@ abbrev μ-loop : tie.MeasureT-loop
 μ-loop sizes ff stripes packets out₀ s₀ out s = stripes - s
 
 -- the places
+abbrev st-from-loop : tie.At-loop Inv-loop μ-loop → tie.Start Inv-loop μ-loop
+st-from-loop c = c .before .before .before .before
+
+abbrev head-at-exchange-byte : tie.After-exchange-byte Inv-loop μ-loop → tie.At-loop Inv-loop μ-loop
+head-at-exchange-byte c = c .before .before
+
 abbrev st-at-exchange-byte : tie.After-exchange-byte Inv-loop μ-loop → tie.Start Inv-loop μ-loop
-st-at-exchange-byte c = c .before .before .before .before .before .before
+st-at-exchange-byte c = st-from-loop (head-at-exchange-byte c)
 
 abbrev st-at-loop : tie.After-loop Inv-loop μ-loop → tie.Start Inv-loop μ-loop
-st-at-loop c = c .before .before .before .before .before
+st-at-loop c = st-from-loop (c .before)
 
 loop-again : tie.Need-loop-again Inv-loop μ-loop
 loop-again c =
-    let l = c .before .before .loop in
+    let l = head-at-exchange-byte c .loop in
     (fill-loop _ (st-at-exchange-byte c .args .out .now) (l .out) (l .s) _ (omega arith) (c .exchange-byte .ensures) (l .inv .0), omega arith, length-set (l .out) (l .s) _ ∙ l .inv .2)
 
 returns : tie.Need-returns Inv-loop μ-loop

@@ -25,20 +25,30 @@ sub-m c = search needs
 loop-holds : tie.Need-loop-holds Inv-loop μ-loop
 loop-holds c = search needs
 
+-- the places
+abbrev st-at-head : tie.At-loop Inv-loop μ-loop → tie.Start Inv-loop μ-loop
+st-at-head c = c .before .before
+
+abbrev st-at-turn : tie.In-loop Inv-loop μ-loop → tie.Start Inv-loop μ-loop
+st-at-turn c = st-at-head (c .before)
+
 mul-at : tie.Need-mul-at Inv-loop μ-loop
 mul-at c =
-    let a = c .before .before .before .args in
+    let a = st-at-turn c .args in
     omega (arith, row-fits (c .before .loop .t) (a .sizes .r - 1) (a .stripes) (omega arith))
 
 add-at : tie.Need-add-at Inv-loop μ-loop
 add-at c =
-    let a = c .before .before .before .args in
+    let a = st-at-turn c .args in
     omega (arith, row-fits (c .before .loop .t) (a .sizes .r - 1) (a .stripes) (omega arith))
+
+abbrev head-at-shared-slice-known : tie.After-shared-slice-known Inv-loop μ-loop → tie.At-loop Inv-loop μ-loop
+head-at-shared-slice-known c = c .before .before
 
 shared-slice-read-out : tie.Need-shared-slice-read-out Inv-loop μ-loop
 shared-slice-read-out c =
-    let a = c .before .before .before .before .args in
-    omega (arith, row-fits (c .before .before .loop .t) (a .sizes .r - 1) (a .stripes) (omega arith))
+    let a = st-at-head (head-at-shared-slice-known c) .args in
+    omega (arith, row-fits (head-at-shared-slice-known c .loop .t) (a .sizes .r - 1) (a .stripes) (omega arith))
 
 slice-write-out : tie.Need-slice-write-out Inv-loop μ-loop
 slice-write-out c = search needs
@@ -51,8 +61,8 @@ loop-less c = search needs
 
 loop-again : tie.Need-loop-again Inv-loop μ-loop
 loop-again c =
-    let l = c .before .before .loop in
-    let a = c .before .before .before .before .args in (
+    let l = head-at-shared-slice-known c .loop in
+    let a = st-at-head (head-at-shared-slice-known c) .args in (
       fill-loop _ (a .out .now) (l .out) (l .t) _ (omega arith) refl (l .inv .0),
       omega arith,
       length-set (l .out) (l .t) _ ∙ l .inv .2,
@@ -63,7 +73,7 @@ same-length c = search needs
 
 returns : tie.Need-returns Inv-loop μ-loop
 returns c =
-    let a = c .before .before .before .args in
+    let a = st-at-head (c .before) .args in
     fill-end _ _ (c .before .loop .out) (c .before .loop .t) (a .sizes .r - 1) (omega arith) (c .before .loop .inv .0)
     ∙ fill-all _ (a .out .now) (a .sizes .r - 1) (omega arith)
     ∙ exchanged-made (a .sizes) (a .stripes) (a .s) (a .exchanges .now) (omega arith)

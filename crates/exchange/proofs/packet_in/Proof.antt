@@ -14,20 +14,29 @@ use Rattle.exchange.proofs.packet_in.Statement.{statement}
 use Rattle.exchange.proofs.packet_in.Tie as tie
 
 -- the places
+abbrev shared-slice-known4-at-factors-arg : tie.After-factors-arg → tie.After-shared-slice-known4
+shared-slice-known4-at-factors-arg c = c .before .before .before
+
 abbrev st-at-factors-arg : tie.After-factors-arg → tie.Start
-st-at-factors-arg c = c .before .before .before .before .before .before .before
+st-at-factors-arg c = shared-slice-known4-at-factors-arg c .before .before .before .before
+
+abbrev ff-at-exchange-bytes-arg2 : tie.After-exchange-bytes-arg2 → tie.After-ff
+ff-at-exchange-bytes-arg2 c = c .before .before .before
 
 abbrev st-at-exchange-bytes-arg2 : tie.After-exchange-bytes-arg2 → tie.Start
-st-at-exchange-bytes-arg2 c = st-at-factors-arg (c .before .before .before .before .before)
+st-at-exchange-bytes-arg2 c = st-at-factors-arg (ff-at-exchange-bytes-arg2 c .before .before)
 
-abbrev st-at-slice-known4 : tie.After-slice-known4 → tie.Start
-st-at-slice-known4 c = st-at-exchange-bytes-arg2 (c .before .before .before)
-
-abbrev shared-slice-known4-at-slice-known4 : tie.After-slice-known4 → tie.After-shared-slice-known4
-shared-slice-known4-at-slice-known4 c = c .before .before .before .before .before .before .before .before .before .before .before
+abbrev exchange-bytes-at-slice-known4 : tie.After-slice-known4 → tie.After-exchange-bytes
+exchange-bytes-at-slice-known4 c = c .before .before
 
 abbrev factors-at-slice-known4 : tie.After-slice-known4 → tie.After-factors
-factors-at-slice-known4 c = c .before .before .before .before .before .before .before
+factors-at-slice-known4 c = ff-at-exchange-bytes-arg2 (exchange-bytes-at-slice-known4 c .before) .before
+
+abbrev st-at-slice-known4 : tie.After-slice-known4 → tie.Start
+st-at-slice-known4 c = st-at-factors-arg (factors-at-slice-known4 c .before)
+
+abbrev shared-slice-known4-at-slice-known4 : tie.After-slice-known4 → tie.After-shared-slice-known4
+shared-slice-known4-at-slice-known4 c = shared-slice-known4-at-factors-arg (factors-at-slice-known4 c .before)
 
 facts : (c : tie.Start) → Legal (c .args .sizes)
 facts c = legal-facts _ (c .pre .0)
@@ -43,14 +52,14 @@ exchange-bytes-requires : tie.Need-exchange-bytes-requires
 exchange-bytes-requires c κs =
     let p = st-at-exchange-bytes-arg2 c .pre in
     let f = facts (st-at-exchange-bytes-arg2 c) in
-    (omega arith, omega (arith, c .before .before .before .ff .given), p .4, p .8, p .10)
+    (omega arith, omega (arith, ff-at-exchange-bytes-arg2 c .ff .given), p .4, p .8, p .10)
 
 returns : tie.Need-returns
 returns c =
     let a = st-at-slice-known4 c .args in
     let p = st-at-slice-known4 c .pre in
     let b = all-of (λ x. x < 256) 0 (a .packets .now) (λ i l. omega (arith, shared-slice-known4-at-slice-known4 c .shared-slice-known4 .given i)) in
-    c .before .before .exchange-bytes .ensures
+    exchange-bytes-at-slice-known4 c .exchange-bytes .ensures
     ∙ ap (λ (l : List ℕ). l ++ drop (a .stripes) (a .out .now))
     (packet-is (a .sizes) (a .points .now) (p .2) (a .stripes) (a .m) (length (a .ff .now)) (a .helpers .now) (a .packets .now) _ (p .5) (p .6) (p .7) (p .11) b
     (factors-at-slice-known4 c .factors .ensures))

@@ -25,9 +25,13 @@ mul-w c = search needs
 loop-holds : tie.Need-loop-holds Inv-loop μ-loop
 loop-holds c = search needs
 
+-- the places
+abbrev st-at-turn : tie.In-loop Inv-loop μ-loop → tie.Start Inv-loop μ-loop
+st-at-turn c = c .before .before
+
 mul-at : tie.Need-mul-at Inv-loop μ-loop
 mul-at c =
-    let a = c .before .before .args in
+    let a = st-at-turn c .args in
     omega (arith, row-fits (c .before .loop .t) (a .sizes .d) (2 * a .stripes) (omega arith))
 
 mul-at-2 : tie.Need-mul-at-2 Inv-loop μ-loop
@@ -38,13 +42,16 @@ add-at c = search needs
 
 add-at-2 : tie.Need-add-at-2 Inv-loop μ-loop
 add-at-2 c =
-    let a = c .before .before .args in
+    let a = st-at-turn c .args in
     omega (arith, row-fits (c .before .loop .t) (a .sizes .d) (2 * a .stripes) (omega arith))
+
+abbrev head-at-shared-slice-known : tie.After-shared-slice-known Inv-loop μ-loop → tie.At-loop Inv-loop μ-loop
+head-at-shared-slice-known c = c .before .before
 
 shared-slice-read-out : tie.Need-shared-slice-read-out Inv-loop μ-loop
 shared-slice-read-out c =
-    let a = c .before .before .before .args in
-    omega (arith, row-fits (c .before .before .loop .t) (a .sizes .d) (2 * a .stripes) (omega arith))
+    let a = st-at-turn (c .before) .args in
+    omega (arith, row-fits (head-at-shared-slice-known c .loop .t) (a .sizes .d) (2 * a .stripes) (omega arith))
 
 slice-write-out : tie.Need-slice-write-out Inv-loop μ-loop
 slice-write-out c = search needs
@@ -57,8 +64,8 @@ loop-less c = search needs
 
 loop-again : tie.Need-loop-again Inv-loop μ-loop
 loop-again c =
-    let l = c .before .before .loop in
-    let a = c .before .before .before .args in (
+    let l = head-at-shared-slice-known c .loop in
+    let a = st-at-turn (c .before) .args in (
       fill-loop _ (a .out .now) (l .out) (l .t) _ (omega arith) refl (l .inv .0),
       omega arith,
       length-set (l .out) (l .t) _ ∙ l .inv .2,

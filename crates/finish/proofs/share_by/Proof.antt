@@ -51,11 +51,17 @@ turn-at-stripe-by-arg5 c = turn-at-stripe-by-arg4 (c .before)
 abbrev st-stripe-by-arg5 : tie.After-stripe-by-arg5 Inv-loop μ-loop → tie.Start Inv-loop μ-loop
 st-stripe-by-arg5 c = st-turn (turn-at-stripe-by-arg5 c)
 
+abbrev f-at-slice-known10 : tie.After-slice-known10 Inv-loop μ-loop → tie.After-f Inv-loop μ-loop
+f-at-slice-known10 c = c .before .before .before
+
 abbrev g-at-turn-end : tie.After-slice-known10 Inv-loop μ-loop → tie.After-g Inv-loop μ-loop
-g-at-turn-end c = c .before .before .before .before .before
+g-at-turn-end c = f-at-slice-known10 c .before .before
+
+abbrev got-at-g : tie.After-g Inv-loop μ-loop → tie.After-got Inv-loop μ-loop
+got-at-g c = c .before .before
 
 abbrev firsts-at-turn-end : tie.After-slice-known10 Inv-loop μ-loop → tie.After-firsts Inv-loop μ-loop
-firsts-at-turn-end c = g-at-turn-end c .before .before .before .before
+firsts-at-turn-end c = got-at-g (g-at-turn-end c) .before .before
 
 abbrev stripe-by-arg5-at-firsts : tie.After-firsts Inv-loop μ-loop → tie.After-stripe-by-arg5 Inv-loop μ-loop
 stripe-by-arg5-at-firsts c = c .before .before
@@ -116,9 +122,9 @@ loop-again c =
       omega (arith, turn-at-stripe-by-arg5 (stripe-by-arg5-at-firsts (firsts-at-turn-end c)) .loop-test .taken),
       c .before .out .given .1 ∙ l .inv .2,
       firsts-at-turn-end c .firsts .given ∙ l .inv .3,
-      g-at-turn-end c .before .before .got .given ∙ l .inv .4,
+      got-at-g (g-at-turn-end c) .got .given ∙ l .inv .4,
       g-at-turn-end c .g .given ∙ l .inv .5,
-      c .before .before .before .f .given ∙ l .inv .6,
+      f-at-slice-known10 c .f .given ∙ l .inv .6,
     )
 
 returns : tie.Need-returns Inv-loop μ-loop

@@ -23,20 +23,29 @@ st-lent-packets c = c .before .before .before .before
 abbrev lent-packets-at-lent-exchanges : tie.After-shared-slice-known6 → tie.After-shared-slice-known4
 lent-packets-at-lent-exchanges c = c .before .before
 
+abbrev shared-slice-known6-at-slice-known3 : tie.After-slice-known3 → tie.After-shared-slice-known6
+shared-slice-known6-at-slice-known3 c = c .before .before .before
+
 abbrev st-slice-known3 : tie.After-slice-known3 → tie.Start
-st-slice-known3 c = st-lent-packets (lent-packets-at-lent-exchanges (c .before .before .before))
+st-slice-known3 c = st-lent-packets (lent-packets-at-lent-exchanges (shared-slice-known6-at-slice-known3 c))
+
+abbrev whole-vectors-at-board-rows-arg2 : tie.After-board-rows-arg2 → tie.After-whole-vectors
+whole-vectors-at-board-rows-arg2 c = c .before .before
 
 abbrev st-board-rows-arg2 : tie.After-board-rows-arg2 → tie.Start
-st-board-rows-arg2 c = st-slice-known3 (c .before .before .before)
+st-board-rows-arg2 c = st-slice-known3 (whole-vectors-at-board-rows-arg2 c .before)
 
 abbrev whole-vectors-at-board-rows : tie.After-board-rows → tie.After-whole-vectors
-whole-vectors-at-board-rows c = c .before .before .before
+whole-vectors-at-board-rows c = whole-vectors-at-board-rows-arg2 (c .before)
 
 abbrev rows-at-share-work-arg2 : tie.After-share-work-arg2 → tie.After-rows
 rows-at-share-work-arg2 c = c .before .before .before
 
+abbrev all-at-rows : tie.After-rows → tie.After-all
+all-at-rows c = c .before .before
+
 abbrev board-rows-at-share-work-arg2 : tie.After-share-work-arg2 → tie.After-board-rows
-board-rows-at-share-work-arg2 c = rows-at-share-work-arg2 c .before .before .before
+board-rows-at-share-work-arg2 c = all-at-rows (rows-at-share-work-arg2 c) .before
 
 abbrev whole-vectors-at-share-work-arg2 : tie.After-share-work-arg2 → tie.After-whole-vectors
 whole-vectors-at-share-work-arg2 c = whole-vectors-at-board-rows (board-rows-at-share-work-arg2 c)
@@ -44,8 +53,11 @@ whole-vectors-at-share-work-arg2 c = whole-vectors-at-board-rows (board-rows-at-
 abbrev st-share-work-arg2 : tie.After-share-work-arg2 → tie.Start
 st-share-work-arg2 c = st-slice-known3 (whole-vectors-at-share-work-arg2 c .before)
 
+abbrev share-work-at-slice-known6 : tie.After-slice-known6 → tie.After-share-work
+share-work-at-slice-known6 c = c .before .before
+
 abbrev share-work-arg2-at-slice-known6 : tie.After-slice-known6 → tie.After-share-work-arg2
-share-work-arg2-at-slice-known6 c = c .before .before .before
+share-work-arg2-at-slice-known6 c = share-work-at-slice-known6 c .before
 
 abbrev board-rows-at-end : tie.After-slice-known6 → tie.After-board-rows
 board-rows-at-end c = board-rows-at-share-work-arg2 (share-work-arg2-at-slice-known6 c)
@@ -54,7 +66,7 @@ abbrev whole-vectors-at-end : tie.After-slice-known6 → tie.After-whole-vectors
 whole-vectors-at-end c = whole-vectors-at-board-rows (board-rows-at-end c)
 
 abbrev lent-exchanges-at-end : tie.After-slice-known6 → tie.After-shared-slice-known6
-lent-exchanges-at-end c = whole-vectors-at-end c .before .before .before .before
+lent-exchanges-at-end c = shared-slice-known6-at-slice-known3 (whole-vectors-at-end c .before)
 
 abbrev lent-packets-at-end : tie.After-slice-known6 → tie.After-shared-slice-known4
 lent-packets-at-end c = lent-packets-at-lent-exchanges (lent-exchanges-at-end c)
@@ -107,7 +119,7 @@ returns c =
     let v = whole-vectors-at-end c .whole-vectors .ensures in
     let bp = all-of (λ x. x < 256) 0 (a .packets .now) (λ i l. omega (arith, lent-packets-at-end c .shared-slice-known4 .given i)) in
     let be = all-of (λ x. x < 256) 0 (a .exchanges .now) (λ i l. omega (arith, lent-exchanges-at-end c .shared-slice-known6 .given i)) in
-    c .before .before .share-work .ensures
+    share-work-at-slice-known6 c .share-work .ensures
     ∙ ap (λ (l : List ℕ). l ++ drop (a .stripes * α (a .sizes)) (a .out .now))
     (share-is (a .sizes) (a .points .now) (facts (st-end c)) (p .2) (a .i) (a .stripes) _ (a .helpers .now) (a .packets .now) (a .partners .now) (a .exchanges .now) _
     ((known (st-end c)) .2) (p .7) (p .8) (p .9) (p .10) bp be (v .0) (v .1) (board-rows-at-end c .board-rows .ensures))
@@ -119,7 +131,7 @@ share-in-spec =
     (λ c κs. let f = facts (st-slice-known3 c) in search needs)
     board-rows-requires
     share-work-requires
-    (λ c. rows-at-share-work-arg2 (share-work-arg2-at-slice-known6 c) .before .before .all .given)
+    (λ c. all-at-rows (rows-at-share-work-arg2 (share-work-arg2-at-slice-known6 c)) .all .given)
     (λ c. rows-at-share-work-arg2 (share-work-arg2-at-slice-known6 c) .rows .given)
     (λ c. search needs)
     returns)

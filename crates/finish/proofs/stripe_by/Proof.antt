@@ -18,23 +18,35 @@ use Rattle.finish.proofs.stripe_by.Tie as tie
 abbrev st-received : tie.After-received → tie.Start
 st-received c = c .before .before .before .before .before .before .before .before .before .before .before
 
+abbrev firsts-at-gather-arg : tie.After-gather-arg → tie.After-firsts
+firsts-at-gather-arg c = c .before .before
+
 abbrev st-gather-arg : tie.After-gather-arg → tie.Start
-st-gather-arg c = st-received (c .before .before .before)
+st-gather-arg c = st-received (firsts-at-gather-arg c .before)
+
+abbrev gather-arg-at-got : tie.After-got → tie.After-gather-arg
+gather-arg-at-got c = c .before .before
+
+abbrev got-at-row-sums-arg : tie.After-row-sums-arg → tie.After-got
+got-at-row-sums-arg c = c .before .before
 
 abbrev gather-arg-at-row-sums-arg : tie.After-row-sums-arg → tie.After-gather-arg
-gather-arg-at-row-sums-arg c = c .before .before .before .before
+gather-arg-at-row-sums-arg c = gather-arg-at-got (got-at-row-sums-arg c)
 
 abbrev st-row-sums-arg : tie.After-row-sums-arg → tie.Start
 st-row-sums-arg c = st-gather-arg (gather-arg-at-row-sums-arg c)
 
+abbrev row-sums-arg-at-row-sums-arg3 : tie.After-row-sums-arg3 → tie.After-row-sums-arg
+row-sums-arg-at-row-sums-arg3 c = c .before .before
+
 abbrev firsts-at-row-sums-arg3 : tie.After-row-sums-arg3 → tie.After-firsts
-firsts-at-row-sums-arg3 c = gather-arg-at-row-sums-arg (c .before .before) .before .before
+firsts-at-row-sums-arg3 c = firsts-at-gather-arg (gather-arg-at-row-sums-arg (row-sums-arg-at-row-sums-arg3 c))
 
 abbrev st-row-sums-arg3 : tie.After-row-sums-arg3 → tie.Start
-st-row-sums-arg3 c = st-received (firsts-at-row-sums-arg3 c .before)
+st-row-sums-arg3 c = st-row-sums-arg (row-sums-arg-at-row-sums-arg3 c)
 
 abbrev got-at-row-sums : tie.After-row-sums → tie.After-got
-got-at-row-sums c = c .before .before .before .before .before
+got-at-row-sums c = got-at-row-sums-arg (row-sums-arg-at-row-sums-arg3 (c .before))
 
 abbrev g-at-finish-arg5 : tie.After-finish-arg5 → tie.After-g
 g-at-finish-arg5 c = c .before .before .before .before .before .before
@@ -51,8 +63,11 @@ st-finish-arg5 c = st-row-sums-arg3 (row-sums-arg3-at-g (g-at-finish-arg5 c))
 abbrev f-at-slice-known11 : tie.After-slice-known11 → tie.After-f
 f-at-slice-known11 c = c .before .before .before
 
+abbrev got2-at-f : tie.After-f → tie.After-got2
+got2-at-f c = c .before .before
+
 abbrev finish-at-end : tie.After-slice-known11 → tie.After-finish
-finish-at-end c = f-at-slice-known11 c .before .before .before
+finish-at-end c = got2-at-f (f-at-slice-known11 c) .before
 
 abbrev row-sums-at-end : tie.After-slice-known11 → tie.After-row-sums
 row-sums-at-end c = g-at-finish-arg5 (finish-at-end c .before) .before
@@ -61,7 +76,7 @@ abbrev got-at-end : tie.After-slice-known11 → tie.After-got
 got-at-end c = got-at-row-sums (row-sums-at-end c)
 
 abbrev received-at-end : tie.After-slice-known11 → tie.After-received
-received-at-end c = firsts-at-row-sums-arg3 (row-sums-at-end c .before) .before
+received-at-end c = firsts-at-gather-arg (gather-arg-at-got (got-at-end c)) .before
 
 abbrev st-end : tie.After-slice-known11 → tie.Start
 st-end c = st-received (received-at-end c)
@@ -128,8 +143,8 @@ stripe-by-spec =
     (λ c. omega (arith, st-row-sums-arg3 (row-sums-arg3-at-g (c .before)) .pre))
     (λ c. search needs)
     finish-requires
-    (λ c. firsts-at-row-sums-arg3 (row-sums-at-end c .before) .firsts .given)
-    (λ c. f-at-slice-known11 c .before .before .got2 .given ∙ got-at-end c .got .given)
+    (λ c. firsts-at-gather-arg (gather-arg-at-got (got-at-end c)) .firsts .given)
+    (λ c. got2-at-f (f-at-slice-known11 c) .got2 .given ∙ got-at-end c .got .given)
     (λ c. g-at-finish-arg5 (finish-at-end c .before) .g .given)
     (λ c. f-at-slice-known11 c .f .given)
     (λ c. c .before .out .given)

@@ -9,8 +9,11 @@ use Rattle.finish_rows.proofs.all_boards.Statement.{statement}
 use Rattle.finish_rows.proofs.all_boards.Tie as tie
 
 -- the places
+abbrev copy-boards2-at-slice-known3 : tie.After-slice-known3 → tie.After-copy-boards2
+copy-boards2-at-slice-known3 c = c .before .before
+
 abbrev out-at-slice-known3 : tie.After-slice-known3 → tie.After-out
-out-at-slice-known3 c = c .before .before .before .before .before
+out-at-slice-known3 c = copy-boards2-at-slice-known3 c .before .before .before
 
 abbrev copy-boards-at-slice-known3 : tie.After-slice-known3 → tie.After-copy-boards
 copy-boards-at-slice-known3 c = out-at-slice-known3 c .before
@@ -25,7 +28,7 @@ returns : tie.Need-returns
 returns c =
     let a = st-at-slice-known3 c .args in
     boards-made (a .helpers .now) (a .partners .now) (a .out .now) _ _ (a .i) (st-at-slice-known3 c .pre) (copy-boards-at-slice-known3 c .copy-boards .ensures)
-    (c .before .before .copy-boards2 .ensures)
+    (copy-boards2-at-slice-known3 c .copy-boards2 .ensures)
 
 pub all-boards-spec : {M : Type 1} → statement M
 all-boards-spec =

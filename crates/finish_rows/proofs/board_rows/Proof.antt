@@ -23,8 +23,11 @@ all-boards-at-lagrange-rows-arg3 c = all-at-lagrange-rows-arg3 c .before
 abbrev st-at-lagrange-rows-arg3 : tie.After-lagrange-rows-arg3 → tie.Start
 st-at-lagrange-rows-arg3 c = all-boards-at-lagrange-rows-arg3 c .before .before .before .before .before .before .before .before
 
+abbrev lagrange-rows2-at-slice-known5 : tie.After-slice-known5 → tie.After-lagrange-rows2
+lagrange-rows2-at-slice-known5 c = c .before .before
+
 abbrev lagrange-rows-arg3-at-slice-known5 : tie.After-slice-known5 → tie.After-lagrange-rows-arg3
-lagrange-rows-arg3-at-slice-known5 c = c .before .before .before
+lagrange-rows-arg3-at-slice-known5 c = lagrange-rows2-at-slice-known5 c .before
 
 abbrev st-at-slice-known5 : tie.After-slice-known5 → tie.Start
 st-at-slice-known5 c = st-at-lagrange-rows-arg3 (lagrange-rows-arg3-at-slice-known5 c)
@@ -57,7 +60,7 @@ returns c =
     let a = st-at-slice-known5 c .args in
     rows-made (a .points .now) (a .helpers .now) (a .partners .now) (a .rows .now) _ _ _ (a .i) (all-boards-at-slice-known5 c .all-boards .ensures)
     (omega (arith, all-at-slice-known5 c .all .given, st-at-slice-known5 c .pre))
-    (lagrange-rows-at-slice-known5 c .lagrange-rows .ensures) (c .before .before .lagrange-rows2 .ensures)
+    (lagrange-rows-at-slice-known5 c .lagrange-rows .ensures) (lagrange-rows2-at-slice-known5 c .lagrange-rows2 .ensures)
 
 pub board-rows-spec : {M : Type 1} → statement M
 board-rows-spec =

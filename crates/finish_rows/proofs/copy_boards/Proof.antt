@@ -18,17 +18,24 @@ Inv-loop a out₀ n j₀ out j = (out ≡ tabulate j (λ j. getD a j 0) ++ drop 
 abbrev μ-loop : tie.MeasureT-loop
 μ-loop a out₀ n j₀ out j = n - j
 
+-- the places
+abbrev head-at-shared-slice-known : tie.After-shared-slice-known Inv-loop μ-loop → tie.At-loop Inv-loop μ-loop
+head-at-shared-slice-known c = c .before .before
+
 loop-again : tie.Need-loop-again Inv-loop μ-loop
 loop-again c =
-    let l = c .before .before .loop in
-    let a = c .before .before .before .args .out .now in
+    let l = head-at-shared-slice-known c .loop in
+    let a = head-at-shared-slice-known c .before .args .out .now in
     (fill-loop _ a (l .out) (l .j) _ (omega arith) refl (l .inv .0), omega arith, length-set (l .out) (l .j) _ ∙ l .inv .2)
+
+abbrev st-at-loop : tie.After-loop Inv-loop μ-loop → tie.Start Inv-loop μ-loop
+st-at-loop c = c .before .before
 
 returns : tie.Need-returns Inv-loop μ-loop
 returns c =
     let l = c .before .loop in
-    let a = c .before .before .args in
-    changed _ (a .out .now) (l .out) (l .j) (omega arith) (omega arith) (l .inv .0) ∙ tabulate-take _ (a .a .now) (c .before .before .pre)
+    let a = st-at-loop c .args in
+    changed _ (a .out .now) (l .out) (l .j) (omega arith) (omega arith) (l .inv .0) ∙ tabulate-take _ (a .a .now) (st-at-loop c .pre)
 
 pub copy-boards-spec : {M : Type 1} → statement M
 copy-boards-spec =

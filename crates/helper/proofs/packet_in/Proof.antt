@@ -23,32 +23,41 @@ st-at-struct-known c = shared-slice-known3-at-struct-known c .before .before .be
 abbrev st-at-factors-from-arg : tie.After-factors-from-arg → tie.Start
 st-at-factors-from-arg c = st-at-struct-known (c .before)
 
+abbrev ff-at-factors-from-arg2 : tie.After-factors-from-arg2 → tie.After-ff
+ff-at-factors-from-arg2 c = c .before .before
+
 abbrev st-at-factors-from-arg2 : tie.After-factors-from-arg2 → tie.Start
-st-at-factors-from-arg2 c = st-at-factors-from-arg (c .before .before .before .before)
+st-at-factors-from-arg2 c = st-at-factors-from-arg (ff-at-factors-from-arg2 c .before .before)
 
 abbrev gf-at-pairs-arg3 : tie.After-pairs-arg3 → tie.After-gf
 gf-at-pairs-arg3 c = c .before .before .before .before
 
+abbrev factors-from-arg2-at-gf : tie.After-gf → tie.After-factors-from-arg2
+factors-from-arg2-at-gf c = c .before .before
+
 abbrev st-at-pairs-arg3 : tie.After-pairs-arg3 → tie.Start
-st-at-pairs-arg3 c = st-at-factors-from-arg2 (gf-at-pairs-arg3 c .before .before)
+st-at-pairs-arg3 c = st-at-factors-from-arg2 (factors-from-arg2-at-gf (gf-at-pairs-arg3 c))
 
 abbrev ff-at-pairs-arg3 : tie.After-pairs-arg3 → tie.After-ff
-ff-at-pairs-arg3 c = gf-at-pairs-arg3 c .before .before .before .before
+ff-at-pairs-arg3 c = ff-at-factors-from-arg2 (factors-from-arg2-at-gf (gf-at-pairs-arg3 c))
 
 abbrev pairs-at-slice-known6 : tie.After-slice-known6 → tie.After-pairs
 pairs-at-slice-known6 c = c .before .before
 
+abbrev pairs-arg3-at-slice-known6 : tie.After-slice-known6 → tie.After-pairs-arg3
+pairs-arg3-at-slice-known6 c = c .before .before .before
+
 abbrev st-at-slice-known6 : tie.After-slice-known6 → tie.Start
-st-at-slice-known6 c = st-at-pairs-arg3 (pairs-at-slice-known6 c .before)
+st-at-slice-known6 c = st-at-pairs-arg3 (pairs-arg3-at-slice-known6 c)
 
 abbrev factors-from-at-slice-known6 : tie.After-slice-known6 → tie.After-factors-from
-factors-from-at-slice-known6 c = ff-at-pairs-arg3 (pairs-at-slice-known6 c .before) .before
+factors-from-at-slice-known6 c = ff-at-pairs-arg3 (pairs-arg3-at-slice-known6 c) .before
 
 abbrev shared-slice-known3-at-slice-known6 : tie.After-slice-known6 → tie.After-shared-slice-known3
 shared-slice-known3-at-slice-known6 c = shared-slice-known3-at-struct-known (factors-from-at-slice-known6 c .before .before)
 
 abbrev factors-from2-at-slice-known6 : tie.After-slice-known6 → tie.After-factors-from2
-factors-from2-at-slice-known6 c = gf-at-pairs-arg3 (pairs-at-slice-known6 c .before) .before
+factors-from2-at-slice-known6 c = gf-at-pairs-arg3 (pairs-arg3-at-slice-known6 c) .before
 
 facts : (c : tie.Start) → Legal (c .args .sizes)
 facts c = legal-facts _ (c .pre .0)
@@ -100,7 +109,7 @@ packet-in-spec =
     factors-from-requires
     factors-from-requires-2
     pairs-requires
-    (λ c. ff-at-pairs-arg3 (pairs-at-slice-known6 c .before) .ff .given)
-    (λ c. gf-at-pairs-arg3 (pairs-at-slice-known6 c .before) .gf .given)
+    (λ c. ff-at-pairs-arg3 (pairs-arg3-at-slice-known6 c) .ff .given)
+    (λ c. gf-at-pairs-arg3 (pairs-arg3-at-slice-known6 c) .gf .given)
     (λ c. search needs)
     returns)

@@ -12,8 +12,11 @@ use Rattle.helper.proofs.pair_in.Tie as tie
 abbrev st-at-own-rows-arg2 : tie.After-own-rows-arg2 → tie.Start
 st-at-own-rows-arg2 c = c .before .before .before .before .before .before .before
 
+abbrev g-at-dot-arg : tie.After-dot-arg → tie.After-g
+g-at-dot-arg c = c .before .before
+
 abbrev f-at-dot-arg : tie.After-dot-arg → tie.After-f
-f-at-dot-arg c = c .before .before .before .before
+f-at-dot-arg c = g-at-dot-arg c .before .before
 
 abbrev st-at-dot-arg : tie.After-dot-arg → tie.Start
 st-at-dot-arg c = st-at-own-rows-arg2 (f-at-dot-arg c .before .before)
@@ -44,7 +47,7 @@ dot-requires : tie.Need-dot-requires
 dot-requires c κs = omega (arith, f-at-dot-arg c .f .given, long-f (st-at-dot-arg c))
 
 dot-requires-2 : tie.Need-dot-requires-2
-dot-requires-2 c κs = omega (arith, dot-arg-at-dot-arg2 c .before .before .g .given, long-g (st-at-dot-arg2 c))
+dot-requires-2 c κs = omega (arith, g-at-dot-arg (dot-arg-at-dot-arg2 c) .g .given, long-g (st-at-dot-arg2 c))
 
 returns : tie.Need-returns
 returns c =

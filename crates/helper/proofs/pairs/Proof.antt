@@ -27,11 +27,14 @@ st-from-loop c = c .before .before .before .before .before
 abbrev st-at-in-loop : tie.In-loop Inv-loop μ-loop → tie.Start Inv-loop μ-loop
 st-at-in-loop c = st-from-loop (c .before)
 
+abbrev head-at-helper-pair-arg : tie.After-helper-pair-arg Inv-loop μ-loop → tie.At-loop Inv-loop μ-loop
+head-at-helper-pair-arg c = c .before .before
+
 abbrev st-at-helper-pair-arg : tie.After-helper-pair-arg Inv-loop μ-loop → tie.Start Inv-loop μ-loop
-st-at-helper-pair-arg c = st-at-in-loop (c .before)
+st-at-helper-pair-arg c = st-from-loop (head-at-helper-pair-arg c)
 
 abbrev loop-at-helper-pair : tie.After-helper-pair Inv-loop μ-loop → tie.At-loop Inv-loop μ-loop
-loop-at-helper-pair c = c .before .before .before
+loop-at-helper-pair c = head-at-helper-pair-arg (c .before)
 
 abbrev st-at-helper-pair : tie.After-helper-pair Inv-loop μ-loop → tie.Start Inv-loop μ-loop
 st-at-helper-pair c = st-from-loop (loop-at-helper-pair c)
@@ -48,7 +51,7 @@ helper-pair-requires : tie.Need-helper-pair-requires Inv-loop μ-loop
 helper-pair-requires c κs =
     let a = st-at-helper-pair-arg c .args in
     let p = st-at-helper-pair-arg c .pre in
-    let l = c .before .before .loop in
+    let l = head-at-helper-pair-arg c .loop in
     let n : l .s * (a .w + a .d - 1) + (a .w + a .d - 1) ≤ length (a .held .now) = omega (arith, stripe-end (c .before)) in
     (p .0, p .1, ap length (part-piece (a .w + a .d - 1) (l .s) (a .held .now)) ∙ length-piece (a .w + a .d - 1) (l .s) (a .held .now) n, p .3, p .4, p .5, p .6)
 

@@ -17,15 +17,19 @@ Inv-loop marks boards t₀ t = every (λ i. not (getD marks i false)) (drop t bo
 abbrev μ-loop : tie.MeasureT-loop
 μ-loop marks boards t₀ t = length boards - t
 
+-- the places
+abbrev turn-at-mark-of : tie.After-mark-of Inv-loop μ-loop → tie.In-loop Inv-loop μ-loop
+turn-at-mark-of c = c .before .before
+
 loop-again : tie.Need-loop-again Inv-loop μ-loop
 loop-again c =
-    every-next _ _ _ (c .before .before .before .loop-test .taken) (ap not (sym (c .before .mark-of .ensures) ∙ c .if1 .left))
-    ∙ c .before .before .before .before .loop .inv
+    every-next _ _ _ (turn-at-mark-of (c .before) .loop-test .taken) (ap not (sym (c .before .mark-of .ensures) ∙ c .if1 .left))
+    ∙ turn-at-mark-of (c .before) .before .loop .inv
 
 returns : tie.Need-returns Inv-loop μ-loop
 returns c =
-    sym (every-no _ _ _ (c .before .before .before .loop-test .taken) (ap not (sym (c .before .mark-of .ensures) ∙ c .if1 .taken)))
-    ∙ c .before .before .before .before .loop .inv
+    sym (every-no _ _ _ (turn-at-mark-of (c .before) .loop-test .taken) (ap not (sym (c .before .mark-of .ensures) ∙ c .if1 .taken)))
+    ∙ turn-at-mark-of (c .before) .before .loop .inv
 
 returns-2 : tie.Need-returns-2 Inv-loop μ-loop
 returns-2 c = sym (ap (every _) (drop-of-length-le _ (c .loop-test .left))) ∙ c .before .loop .inv

@@ -62,17 +62,20 @@ st-count c = c .before .before .before .before .before
 no-count : (c : tie.After-count) → Refuse (c .count .given .0 .0) ≡ answer (st-count (c .before .before))
 no-count c = let k = c .before .before in refuses _ (whole (st-count k)) (k .check-named-counts .ensures) (c .count .given .1)
 
+abbrev check-named-counts-at-enum-told : tie.After-enum-told → tie.After-check-named-counts
+check-named-counts-at-enum-told c = c .before .before
+
 -- what is known past it
 counts-on : (c : tie.After-enum-told)
-    → let a = st-count (c .before .before) .args in Counted (a .sizes) (length (a .fresh .now)) (length (a .helpers .now)) (length (a .standins .now))
+    → let a = st-count (check-named-counts-at-enum-told c) .args in Counted (a .sizes) (length (a .fresh .now)) (length (a .helpers .now)) (length (a .standins .now))
 counts-on c =
-    let k = c .before .before in
+    let k = check-named-counts-at-enum-told c in
     let a = st-count k .args in
     counted (a .sizes) (length (a .fresh .now)) (length (a .helpers .now)) (length (a .standins .now)) (sym (k .check-named-counts .ensures) ∙ c .enum-told .given .1)
 
 -- 5 NODE
 abbrev at-count : tie.After-check-three-lists → tie.After-check-named-counts
-at-count c = c .before .before .before
+at-count c = check-named-counts-at-enum-told (c .before)
 
 abbrev st-node : tie.After-check-three-lists → tie.Start
 st-node c = st-count (at-count c)
@@ -84,8 +87,11 @@ no-node : (c : tie.After-node) → Refuse (c .node .given .0 .0) ≡ answer (st-
 no-node c = let k = c .before .before in refuses _ (on-node k) (k .check-three-lists .ensures) (c .node .given .1)
 
 -- 6 REPEAT
+abbrev check-three-lists-at-struct-known : tie.After-struct-known → tie.After-check-three-lists
+check-three-lists-at-struct-known c = c .before .before .before
+
 abbrev at-node : tie.After-check-named → tie.After-check-three-lists
-at-node c = c .before .before .before .before
+at-node c = check-three-lists-at-struct-known (c .before)
 
 abbrev st-repeat : tie.After-check-named → tie.Start
 st-repeat c = st-node (at-node c)
@@ -98,15 +104,15 @@ no-repeat c = let k = c .before .before in refuses _ (on-repeat k) (k .check-nam
 
 -- what it asks
 abbrev at-each : tie.After-struct-known → tie.After-enum-told
-at-each c = c .before .before .before .before
+at-each c = check-three-lists-at-struct-known c .before
 
-most-on : (c : tie.After-struct-known) → let a = st-count (at-each c .before .before) .args in length (a .fresh .now) ≤ a .sizes .r
+most-on : (c : tie.After-struct-known) → let a = st-node (check-three-lists-at-struct-known c) .args in length (a .fresh .now) ≤ a .sizes .r
 most-on c = counts-on (at-each c) .most
 
 named-asks : tie.Need-check-named-requires
 named-asks c κs =
     let k = at-each c in
-    let g = st-count (k .before .before) in
+    let g = st-count (check-named-counts-at-enum-told k) in
     let z = g .args .sizes in
     let t = length (g .args .fresh .now) in
     let e = counts-on k in

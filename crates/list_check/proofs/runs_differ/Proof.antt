@@ -20,8 +20,11 @@ abbrev μ-loop : tie.MeasureT-loop
 μ-loop d e fresh helpers standins a₀ a = length fresh - a
 
 -- the places
+abbrev st-at-shared-slice-known3 : tie.After-shared-slice-known3 Inv-loop μ-loop → tie.Start Inv-loop μ-loop
+st-at-shared-slice-known3 c = c .before .before .before
+
 abbrev st : tie.In-loop Inv-loop μ-loop → tie.Start Inv-loop μ-loop
-st c = c .before .before .before .before .before
+st c = st-at-shared-slice-known3 (c .before .before)
 
 abbrev at-loop : tie.After-both-differ Inv-loop μ-loop → tie.In-loop Inv-loop μ-loop
 at-loop c = c .before .before .before
@@ -41,7 +44,7 @@ stood-end c =
 
 holds-first : tie.Need-loop-holds Inv-loop μ-loop
 holds-first c =
-    let a = c .before .before .before .args in
+    let a = st-at-shared-slice-known3 c .args in
     ap₂ {C = Bool} (λ (m n : ℕ). runsDiffer (a .d) (a .e) (a .fresh .now) (drop m (a .helpers .now)) (drop n (a .standins .now))) (zero-mul (a .d)) (zero-mul (a .e))
 
 one-more : tie.Need-loop-again Inv-loop μ-loop
@@ -60,7 +63,7 @@ one-repeats c =
 
 none-left : tie.Need-returns-2 Inv-loop μ-loop
 none-left c =
-    let a = c .before .before .before .before .before .args in
+    let a = st-at-shared-slice-known3 (c .before .before) .args in
     let l = c .before .loop in
     sym
     (sym (l .inv)

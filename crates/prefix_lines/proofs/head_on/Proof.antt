@@ -23,30 +23,46 @@ named : (text : List ℕ) (at x y : ℕ) (w : Went) → nameOf x ≡ nameOf y �
     → Goes text at (λ go. nameOn (nameOf x) (drop at text) (go 0)) w
 named text at x y w e h = subst (λ (l : List ℕ). Goes text at (λ go. nameOn l (drop at text) (go 0)) w) (sym e) h
 
+-- the places
+abbrev at-match-keys1-at-name-on : tie.After-name-on → tie.At-match-keys1
+at-match-keys1-at-name-on c = c .before .before
+
 returns : tie.Need-returns
 returns c =
-    let a = c .before .before .before .before .args in
-    named (a .text .now) (a .at) (a .which) 0 (c .name-on .result) (ap nameOf (c .before .before .match .keys1)) (c .name-on .ensures)
+    let a = at-match-keys1-at-name-on c .before .before .args in
+    named (a .text .now) (a .at) (a .which) 0 (c .name-on .result) (ap nameOf (at-match-keys1-at-name-on c .match .keys1)) (c .name-on .ensures)
+
+abbrev at-match-keys2-at-name-on2 : tie.After-name-on2 → tie.At-match-keys2
+at-match-keys2-at-name-on2 c = c .before .before
 
 returns-2 : tie.Need-returns-2
 returns-2 c =
-    let a = c .before .before .before .before .args in
-    named (a .text .now) (a .at) (a .which) 1 (c .name-on2 .result) (ap nameOf (c .before .before .match .keys2)) (c .name-on2 .ensures)
+    let a = at-match-keys2-at-name-on2 c .before .before .args in
+    named (a .text .now) (a .at) (a .which) 1 (c .name-on2 .result) (ap nameOf (at-match-keys2-at-name-on2 c .match .keys2)) (c .name-on2 .ensures)
+
+abbrev at-match-keys3-at-name-on3 : tie.After-name-on3 → tie.At-match-keys3
+at-match-keys3-at-name-on3 c = c .before .before
 
 returns-3 : tie.Need-returns-3
 returns-3 c =
-    let a = c .before .before .before .before .args in
-    named (a .text .now) (a .at) (a .which) 2 (c .name-on3 .result) (ap nameOf (c .before .before .match .keys3)) (c .name-on3 .ensures)
+    let a = at-match-keys3-at-name-on3 c .before .before .args in
+    named (a .text .now) (a .at) (a .which) 2 (c .name-on3 .result) (ap nameOf (at-match-keys3-at-name-on3 c .match .keys3)) (c .name-on3 .ensures)
+
+abbrev at-match-keys4-at-name-on4 : tie.After-name-on4 → tie.At-match-keys4
+at-match-keys4-at-name-on4 c = c .before .before
 
 returns-4 : tie.Need-returns-4
 returns-4 c =
-    let a = c .before .before .before .before .args in
-    named (a .text .now) (a .at) (a .which) 3 (c .name-on4 .result) (ap nameOf (c .before .before .match .keys4)) (c .name-on4 .ensures)
+    let a = at-match-keys4-at-name-on4 c .before .before .args in
+    named (a .text .now) (a .at) (a .which) 3 (c .name-on4 .result) (ap nameOf (at-match-keys4-at-name-on4 c .match .keys4)) (c .name-on4 .ensures)
+
+abbrev at-match-keys5-at-name-on5 : tie.After-name-on5 → tie.At-match-keys5
+at-match-keys5-at-name-on5 c = c .before .before
 
 returns-5 : tie.Need-returns-5
 returns-5 c =
-    let a = c .before .before .before .before .args in
-    named (a .text .now) (a .at) (a .which) 4 (c .name-on5 .result) (ap nameOf (c .before .before .match .keys5)) (c .name-on5 .ensures)
+    let a = at-match-keys5-at-name-on5 c .before .before .args in
+    named (a .text .now) (a .at) (a .which) 4 (c .name-on5 .result) (ap nameOf (at-match-keys5-at-name-on5 c .match .keys5)) (c .name-on5 .ensures)
 
 returns-6 : tie.Need-returns-6
 returns-6 c =

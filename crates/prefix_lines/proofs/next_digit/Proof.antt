@@ -27,17 +27,20 @@ returns-3 c =
 sub-next : tie.Need-sub-next
 sub-next c = digit-range (st-at-is-digit (c .before) .args .b) (sym (c .before .is-digit .ensures) ∙ not-false _ (c .if3 .left)) .0
 
+abbrev is-digit-at-opens : tie.After-opens → tie.After-is-digit
+is-digit-at-opens c = c .before .before
+
 returns-4 : tie.Need-returns-4
 returns-4 c =
     let o = c .before in
-    let k = o .before .before in
+    let k = is-digit-at-opens o in
     let a = st-at-is-digit k .args in
     rw (ne-eqb (a .b) 0x0A (k .before .if1 .left), sym (k .is-digit .ensures) ∙ not-false _ (o .before .if3 .left), sym (o .opens .ensures) ∙ c .if4 .taken)
 
 returns-5 : tie.Need-returns-5
 returns-5 c =
     let o = c .before in
-    let k = o .before .before in
+    let k = is-digit-at-opens o in
     let a = st-at-is-digit k .args in
     rw (ne-eqb (a .b) 0x0A (k .before .if1 .left), sym (k .is-digit .ensures) ∙ not-false _ (o .before .if3 .left), sym (o .opens .ensures) ∙ c .if4 .left)
 

@@ -36,12 +36,15 @@ returns c =
       stopped-range (c .stopped .result) (a .at) (a .lo) (a .hi) (c .stopped .ensures),
     )
 
+abbrev then2-at-stopped2 : tie.After-stopped2 → tie.Then2
+then2-at-stopped2 c = c .before .before
+
 returns-2 : tie.Need-returns-2
 returns-2 c =
-    let k = c .before .before .before in
+    let k = then2-at-stopped2 c .before in
     let a = st k .args in (
       goes-stop (a .text .now) (a .at) _ (c .stopped2 .result) (a .at) (c .stopped2 .ensures)
-          (λ go. number-no-zero (a .text .now) (a .lo) (a .hi) (a .at) go (inside k) (c .before .before .if2 .taken) (c .before .if3 .taken)),
+          (λ go. number-no-zero (a .text .now) (a .lo) (a .hi) (a .at) go (inside k) (then2-at-stopped2 c .if2 .taken) (c .before .if3 .taken)),
       stopped-range (c .stopped2 .result) (a .at) (a .lo) (a .hi) (c .stopped2 .ensures),
     )
 

@@ -46,7 +46,8 @@ returns c =
     let l = d .before .before in
     let a = st l .args in
     goes-stop (a .text .now) (a .at) _ (c .stopped .result) (l .loop .i) (c .stopped .ensures)
-    (λ go. sym (l .loop .inv (go 0)) ∙ data-high (a .text .now) (l .loop .i) (l .loop .left) (d .before .loop-test .taken) (go 0) (sym (d .digit-at .ensures) ∙ not-true _ (c .before .if1 .taken)))
+    (λ go. sym (l .loop .inv (go 0))
+    ∙ data-high (a .text .now) (l .loop .i) (l .loop .left) (d .before .loop-test .taken) (go 0) (sym (d .digit-at .ensures) ∙ not-true _ (c .before .if1 .taken)))
 
 add-digit-at : tie.Need-add-digit-at Inv-loop μ-loop
 add-digit-at c =

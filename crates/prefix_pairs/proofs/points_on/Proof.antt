@@ -82,7 +82,12 @@ points-on-spec =
     (tie.spec
     Inv-loop
     μ-loop
-    (λ c. let a = c .before .args in (λ go. let e : a .n - 0 ≡ a .n = omega arith in ap (λ (m : ℕ). a .at + pairsOn (mayPoint (a .n)) m [] (drop (a .at) (a .text .now)) go) e, refl, omega arith))
+    (λ c. let a = c .before .args in (
+      λ go. let e : a .n - 0 ≡ a .n = omega arith in
+          ap (λ (m : ℕ). a .at + pairsOn (mayPoint (a .n)) m [] (drop (a .at) (a .text .now)) go) e,
+      refl,
+      omega arith,
+    ))
     (λ c. search needs)
     (λ c. search needs)
     (λ c. search needs)

@@ -34,31 +34,34 @@ abbrev st-at-struct-known : tie.After-struct-known Inv-loop μ-loop → tie.Star
 st-at-struct-known c = c .before .before .before .before .before .before .before
 
 abbrev st-at-struct-known2 : tie.After-struct-known2 Inv-loop μ-loop → tie.Start Inv-loop μ-loop
-st-at-struct-known2 c = c .before .before .before .before .before .before .before .before
-
-abbrev st-at-shared-slice-known5 : tie.After-shared-slice-known5 Inv-loop μ-loop → tie.Start Inv-loop μ-loop
-st-at-shared-slice-known5 c = c .before .before .before .before .before .before .before .before .before .before .before
-
-abbrev st-at-helper-pair-arg2 : tie.After-helper-pair-arg2 Inv-loop μ-loop → tie.Start Inv-loop μ-loop
-st-at-helper-pair-arg2 c = c .before .before .before .before .before .before .before .before .before .before .before .before .before
-
-abbrev st-at-helper-pair-arg3 : tie.After-helper-pair-arg3 Inv-loop μ-loop → tie.Start Inv-loop μ-loop
-st-at-helper-pair-arg3 c = c .before .before .before .before .before .before .before .before .before .before .before .before .before .before
-
-abbrev loop-at-helper-pair-arg3 : tie.After-helper-pair-arg3 Inv-loop μ-loop → tie.At-loop Inv-loop μ-loop
-loop-at-helper-pair-arg3 c = c .before .before .before .before .before
-
-abbrev st-at-helper-pair : tie.After-helper-pair Inv-loop μ-loop → tie.Start Inv-loop μ-loop
-st-at-helper-pair c = c .before .before .before .before .before .before .before .before .before .before .before .before .before .before .before
-
-abbrev loop-at-helper-pair : tie.After-helper-pair Inv-loop μ-loop → tie.At-loop Inv-loop μ-loop
-loop-at-helper-pair c = c .before .before .before .before .before .before
-
-abbrev st-at-loop : tie.After-loop Inv-loop μ-loop → tie.Start Inv-loop μ-loop
-st-at-loop c = c .before .before .before .before .before .before .before .before .before .before
+st-at-struct-known2 c = st-at-struct-known (c .before)
 
 abbrev st-at-turn : tie.In-loop Inv-loop μ-loop → tie.Start Inv-loop μ-loop
-st-at-turn c = c .before .before .before .before .before .before .before .before .before .before
+st-at-turn c = st-at-struct-known2 (c .before .before)
+
+abbrev st-at-shared-slice-known5 : tie.After-shared-slice-known5 Inv-loop μ-loop → tie.Start Inv-loop μ-loop
+st-at-shared-slice-known5 c = st-at-turn (c .before)
+
+abbrev turn-at-helper-pair-arg2 : tie.After-helper-pair-arg2 Inv-loop μ-loop → tie.In-loop Inv-loop μ-loop
+turn-at-helper-pair-arg2 c = c .before .before .before
+
+abbrev st-at-helper-pair-arg2 : tie.After-helper-pair-arg2 Inv-loop μ-loop → tie.Start Inv-loop μ-loop
+st-at-helper-pair-arg2 c = st-at-turn (turn-at-helper-pair-arg2 c)
+
+abbrev st-at-helper-pair-arg3 : tie.After-helper-pair-arg3 Inv-loop μ-loop → tie.Start Inv-loop μ-loop
+st-at-helper-pair-arg3 c = st-at-helper-pair-arg2 (c .before)
+
+abbrev loop-at-helper-pair-arg3 : tie.After-helper-pair-arg3 Inv-loop μ-loop → tie.At-loop Inv-loop μ-loop
+loop-at-helper-pair-arg3 c = turn-at-helper-pair-arg2 (c .before) .before
+
+abbrev st-at-helper-pair : tie.After-helper-pair Inv-loop μ-loop → tie.Start Inv-loop μ-loop
+st-at-helper-pair c = st-at-helper-pair-arg3 (c .before)
+
+abbrev loop-at-helper-pair : tie.After-helper-pair Inv-loop μ-loop → tie.At-loop Inv-loop μ-loop
+loop-at-helper-pair c = loop-at-helper-pair-arg3 (c .before)
+
+abbrev st-at-loop : tie.After-loop Inv-loop μ-loop → tie.Start Inv-loop μ-loop
+st-at-loop c = st-at-struct-known2 (c .before .before)
 
 facts : (c : tie.Start Inv-loop μ-loop) → Legal (c .args .sizes)
 facts c = legal-facts _ (c .pre .0)
@@ -108,7 +111,7 @@ add-to : tie.Need-add-to Inv-loop μ-loop
 add-to c = let f = facts (st-at-shared-slice-known5 c) in omega (arith, its-end (c .before), few (st-at-shared-slice-known5 c), st-at-shared-slice-known5 c .pre .7)
 
 part-helper-pair-end-3 : tie.Need-part-helper-pair-end-3 Inv-loop μ-loop
-part-helper-pair-end-3 c = omega (arith, its-end (c .before .before .before), st-at-helper-pair-arg2 c .pre .7)
+part-helper-pair-end-3 c = omega (arith, its-end (turn-at-helper-pair-arg2 c), st-at-helper-pair-arg2 c .pre .7)
 
 -- a share's bytes of a stripe, as f's and g's
 whole : (z : Sizes) → α z ≡ z .d + z .r + z .d - 1
@@ -124,7 +127,7 @@ helper-pair-requires c κs =
     let n : α z ≡ z .d + z .r + z .d - 1 = whole z in (
       omega (arith, f .some-read, f .read-helpers),
       omega (arith, f .some-fresh),
-      its-stripe (c .before .before .before .before) ∙ n,
+      its-stripe (turn-at-helper-pair-arg2 (c .before)) ∙ n,
       simp (length-take, length-drop) (omega (arith, p .1)),
       simp (length-take, length-drop) (omega (arith, p .2)),
       omega (arith, f .enough, f .few),
@@ -137,7 +140,7 @@ loop-again c =
     let p = st-at-helper-pair c .pre in
     let l = loop-at-helper-pair c .loop in
     let z = a .sizes in
-    let on = c .before .before .before .before .before .loop-test .taken in
+    let on = turn-at-helper-pair-arg2 (c .before .before) .loop-test .taken in
     let own : ℕ → List ℕ = λ j. piece (α z) (a .s) (drop (j * a .part) (a .area .now)) in
     let rf = row-part 32 (l .p) (a .fl) (a .ff .now) (p .1) in
     let rg = row-part 32 (l .p) (a .gl) (a .gf .now) (p .2) in
@@ -177,15 +180,15 @@ hear-spec =
     mul-from-2
     add-from
     add-to
-    (λ c. let g = st-at-turn (c .before) in omega (arith, its-row (c .before), g .pre .1, g .pre .2, g .pre .3, g .pre .4, g .pre .5))
-    (λ c. let g = st-at-turn (c .before) in omega (arith, its-row (c .before), g .pre .1, g .pre .2, g .pre .3, g .pre .4, g .pre .5))
-    (λ c. let g = st-at-turn (c .before) in omega (arith, its-row (c .before), g .pre .1, g .pre .2, g .pre .3, g .pre .4, g .pre .5))
+    (λ c. let g = st-at-shared-slice-known5 c in omega (arith, its-row (c .before), g .pre .1, g .pre .2, g .pre .3, g .pre .4, g .pre .5))
+    (λ c. let g = st-at-shared-slice-known5 c in omega (arith, its-row (c .before), g .pre .1, g .pre .2, g .pre .3, g .pre .4, g .pre .5))
+    (λ c. let g = st-at-shared-slice-known5 c in omega (arith, its-row (c .before), g .pre .1, g .pre .2, g .pre .3, g .pre .4, g .pre .5))
     (λ c. search needs)
     (λ c. search needs)
-    (λ c. let g = st-at-turn (c .before) in omega (arith, its-row (c .before), g .pre .1, g .pre .2, g .pre .3, g .pre .4, g .pre .5))
+    (λ c. let g = st-at-shared-slice-known5 c in omega (arith, its-row (c .before), g .pre .1, g .pre .2, g .pre .3, g .pre .4, g .pre .5))
     (λ c. search needs)
     (λ c. search needs)
-    (λ c. let g = st-at-turn (c .before .before) in omega (arith, its-row (c .before .before), g .pre .1, g .pre .2, g .pre .3, g .pre .4, g .pre .5))
+    (λ c. let g = st-at-shared-slice-known5 (c .before) in omega (arith, its-row (c .before .before), g .pre .1, g .pre .2, g .pre .3, g .pre .4, g .pre .5))
     (λ c. search needs)
     (λ c. search needs)
     part-helper-pair-end-3

@@ -23,11 +23,20 @@ abbrev μ-loop : tie.MeasureT-loop
 μ-loop words out₀ q₀ out q = length words - q
 
 -- the places
+abbrev st-at-loop : tie.At-loop Inv-loop μ-loop → tie.Start Inv-loop μ-loop
+st-at-loop c = c .before .before .before
+
 abbrev st : tie.In-loop Inv-loop μ-loop → tie.Start Inv-loop μ-loop
-st c = c .before .before .before .before
+st c = st-at-loop (c .before)
+
+abbrev turn-at-put-word-arg : tie.After-put-word-arg Inv-loop μ-loop → tie.In-loop Inv-loop μ-loop
+turn-at-put-word-arg c = c .before .before
+
+abbrev put-word-at-slice-known2 : tie.After-slice-known2 Inv-loop μ-loop → tie.After-put-word Inv-loop μ-loop
+put-word-at-slice-known2 c = c .before .before
 
 abbrev turn-at-end : tie.After-slice-known2 Inv-loop μ-loop → tie.In-loop Inv-loop μ-loop
-turn-at-end c = c .before .before .before .before .before
+turn-at-end c = turn-at-put-word-arg (put-word-at-slice-known2 c .before)
 
 -- where the bytes of a turn end
 end : (c : tie.In-loop Inv-loop μ-loop) → c .before .loop .q * 8 + 8 ≤ length (c .before .loop .out)
@@ -35,7 +44,7 @@ end c = omega (arith, part-end (c .before .loop .q) 8 (length (st c .args .words
 
 put-word-requires : tie.Need-put-word-requires Inv-loop μ-loop
 put-word-requires c κs =
-    let k = c .before .before in
+    let k = turn-at-put-word-arg c in
     let l = k .before .loop in
     ap length (part-piece 8 (l .q) (l .out)) ∙ length-piece 8 (l .q) (l .out) (end k)
 
@@ -44,7 +53,7 @@ loop-again c =
     let k = turn-at-end c in
     let a = st k .args in
     let l = k .before .loop in (
-      join-loop (λ t. bytes 8 (getD (a .words .now) t 0)) 8 (l .q) (a .out .now) (l .out) _ (λ i h. length-bytes 8 (getD (a .words .now) i 0)) (c .before .before .put-word .ensures)
+      join-loop (λ t. bytes 8 (getD (a .words .now) t 0)) 8 (l .q) (a .out .now) (l .out) _ (λ i h. length-bytes 8 (getD (a .words .now) i 0)) (put-word-at-slice-known2 c .put-word .ensures)
           (l .inv .0),
       omega (arith, k .loop-test .taken),
       c .before .out .given .1 ∙ l .inv .2,
@@ -53,7 +62,7 @@ loop-again c =
 returns : tie.Need-returns Inv-loop μ-loop
 returns c =
     let l = c .before .loop in
-    let g = c .before .before .before .before in
+    let g = st-at-loop (c .before) in
     words-done (g .args .words .now) (g .args .out .now) (l .out) (l .q) (omega (arith, l .inv .1)) (g .pre) (l .inv .0)
 
 pub fill-bytes-spec : {M : Type 1} → statement M

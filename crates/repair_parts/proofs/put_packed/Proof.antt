@@ -20,8 +20,11 @@ abbrev μ-loop : tie.MeasureT-loop
 μ-loop packed words₀ q₀ words q = length words₀ - q
 
 -- the places
+abbrev st-at-loop : tie.At-loop Inv-loop μ-loop → tie.Start Inv-loop μ-loop
+st-at-loop c = c .before .before .before
+
 abbrev st : tie.In-loop Inv-loop μ-loop → tie.Start Inv-loop μ-loop
-st c = c .before .before .before .before
+st c = st-at-loop (c .before)
 
 abbrev turn : tie.After-word-of Inv-loop μ-loop → tie.In-loop Inv-loop μ-loop
 turn c = c .before .before
@@ -54,7 +57,7 @@ loop-again c =
 returns : tie.Need-returns Inv-loop μ-loop
 returns c =
     let l = c .before .loop in
-    let g = c .before .before .before .before in
+    let g = st-at-loop (c .before) in
     let done : length (g .args .words .now) ≤ l .q = omega (arith, l .inv .2) in
     let e : l .q ≡ length (g .args .words .now) = omega (arith, done, l .inv .1) in
     l .inv .0 ∙ fill-all (λ t. fromBytes (piece 8 t (g .args .packed .now))) (g .args .words .now) (l .q) done

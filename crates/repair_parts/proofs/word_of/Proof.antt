@@ -25,12 +25,19 @@ loop-holds c =
 small : (c : tie.In-loop Inv-loop μ-loop) → c .before .loop .word < 72057594037927936
 small c = let l = c .before .loop in few (l .i) (l .word) (c .loop-test .taken) (l .inv .2)
 
+-- the places
+abbrev turn-at-wide : tie.After-wide Inv-loop μ-loop → tie.In-loop Inv-loop μ-loop
+turn-at-wide c = c .before .before
+
+abbrev st-at-loop : tie.At-loop Inv-loop μ-loop → tie.Start Inv-loop μ-loop
+st-at-loop c = c .before .before
+
 loop-again : tie.Need-loop-again Inv-loop μ-loop
 loop-again c =
     let b = c .wide in
-    let t = c .before .before in
+    let t = turn-at-wide c in
     let l = t .before .loop in
-    let g = t .before .before .before in (
+    let g = st-at-loop (t .before) in (
       number-next (g .args .eight .now) (l .i) (l .word) (b .result) (t .loop-test .taken) (omega (arith, g .pre, l .inv .1)) (b .ensures .0) (l .inv .0),
       omega (arith, l .inv .1),
       few-next (l .i) (l .word) (b .result) (t .loop-test .taken) (l .inv .1) (l .inv .2) (b .ensures .1),
@@ -40,7 +47,7 @@ returns : tie.Need-returns Inv-loop μ-loop
 returns c =
     let l = c .before .loop in
     let e : l .i ≡ 0 = omega arith in
-    l .inv .0 ∙ ap (λ (m : ℕ). fromBytes (drop m (c .before .before .before .args .eight .now))) e
+    l .inv .0 ∙ ap (λ (m : ℕ). fromBytes (drop m (st-at-loop (c .before) .args .eight .now))) e
 
 pub word-of-spec : {M : Type 1} → statement M
 word-of-spec =
@@ -53,7 +60,7 @@ word-of-spec =
     (λ c. omega (arith, small c))
     (λ c. search needs)
     (λ c κs. search needs)
-    (λ c. omega (arith, small (c .before .before), c .wide .ensures .1))
+    (λ c. omega (arith, small (turn-at-wide c), c .wide .ensures .1))
     (λ c. search needs)
     loop-again
     returns)

@@ -40,19 +40,19 @@ abbrev turn-at-part : tie.After-finish-arg2 Inv-loop μ-loop → tie.In-loop Inv
 turn-at-part c = c .before .before .before
 
 abbrev turn-at-call : tie.After-finish-arg3 Inv-loop μ-loop → tie.In-loop Inv-loop μ-loop
-turn-at-call c = c .before .before .before .before
-
-abbrev turn-at-end : tie.After-slice-known6 Inv-loop μ-loop → tie.In-loop Inv-loop μ-loop
-turn-at-end c = turn-at-call (c .before .before .before .before .before .before .before)
-
-abbrev finish-at-end : tie.After-slice-known6 Inv-loop μ-loop → tie.After-finish Inv-loop μ-loop
-finish-at-end c = c .before .before .before .before .before .before
-
-abbrev got-at-end : tie.After-slice-known6 Inv-loop μ-loop → tie.After-got Inv-loop μ-loop
-got-at-end c = c .before .before .before .before .before
+turn-at-call c = turn-at-part (c .before)
 
 abbrev f-at-end : tie.After-slice-known6 Inv-loop μ-loop → tie.After-f Inv-loop μ-loop
 f-at-end c = c .before .before .before
+
+abbrev got-at-end : tie.After-slice-known6 Inv-loop μ-loop → tie.After-got Inv-loop μ-loop
+got-at-end c = f-at-end c .before .before
+
+abbrev finish-at-end : tie.After-slice-known6 Inv-loop μ-loop → tie.After-finish Inv-loop μ-loop
+finish-at-end c = got-at-end c .before
+
+abbrev turn-at-end : tie.After-slice-known6 Inv-loop μ-loop → tie.In-loop Inv-loop μ-loop
+turn-at-end c = turn-at-call (finish-at-end c .before)
 
 abbrev st-at-loop : tie.After-loop Inv-loop μ-loop → tie.Start Inv-loop μ-loop
 st-at-loop c = st-at-sizes (c .before .before)

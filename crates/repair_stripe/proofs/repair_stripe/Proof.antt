@@ -17,32 +17,47 @@ use Rattle.repair_stripe.proofs.repair_stripe.Tie as tie
 abbrev st-at-hear : tie.After-hear-arg3 → tie.Start
 st-at-hear c = c .before .before .before .before .before .before .before .before .before .before .before .before .before .before
 
+abbrev seconds-at-all-g-arg2 : tie.After-all-g-arg2 → tie.After-seconds
+seconds-at-all-g-arg2 c = c .before .before .before
+
+abbrev gs-at-put-stripes-arg4 : tie.After-put-stripes-arg4 → tie.After-gs
+gs-at-put-stripes-arg4 c = c .before .before .before .before .before
+
+abbrev put-stripes-at-area : tie.After-area → tie.After-put-stripes
+put-stripes-at-area c = c .before .before .before .before .before
+
+abbrev put-stripes-arg5-at-slice-known12 : tie.After-slice-known12 → tie.After-put-stripes-arg5
+put-stripes-arg5-at-slice-known12 c = put-stripes-at-area (c .before) .before
+
+abbrev all-g-arg2-at-put-stripes-arg5 : tie.After-put-stripes-arg5 → tie.After-all-g-arg2
+all-g-arg2-at-put-stripes-arg5 c = gs-at-put-stripes-arg4 (c .before) .before .before
+
 abbrev st-at-g : tie.After-all-g-arg2 → tie.Start
-st-at-g c = st-at-hear (c .before .before .before .before .before .before .before)
+st-at-g c = st-at-hear (seconds-at-all-g-arg2 c .before .before .before .before)
 
 abbrev firsts-at-g : tie.After-all-g-arg2 → tie.After-firsts
-firsts-at-g c = c .before .before .before .before .before
+firsts-at-g c = seconds-at-all-g-arg2 c .before .before
 
 abbrev st-at-put : tie.After-put-stripes-arg5 → tie.Start
-st-at-put c = st-at-g (c .before .before .before .before .before .before .before .before)
+st-at-put c = st-at-g (all-g-arg2-at-put-stripes-arg5 c)
 
 abbrev seconds-at-put : tie.After-put-stripes-arg5 → tie.After-seconds
-seconds-at-put c = c .before .before .before .before .before .before .before .before .before .before .before
+seconds-at-put c = seconds-at-all-g-arg2 (all-g-arg2-at-put-stripes-arg5 c)
 
 abbrev gs-at-put : tie.After-put-stripes-arg5 → tie.After-gs
-gs-at-put c = c .before .before .before .before .before .before
+gs-at-put c = gs-at-put-stripes-arg4 (c .before)
 
 abbrev st-at-end : tie.After-slice-known12 → tie.Start
-st-at-end c = st-at-put (c .before .before .before .before .before .before .before)
+st-at-end c = st-at-put (put-stripes-arg5-at-slice-known12 c)
 
 abbrev hear-at-end : tie.After-slice-known12 → tie.After-hear
-hear-at-end c = c .before .before .before .before .before .before .before .before .before .before .before .before .before .before .before .before .before .before .before .before .before
+hear-at-end c = firsts-at-g (all-g-arg2-at-put-stripes-arg5 (put-stripes-arg5-at-slice-known12 c)) .before
 
 abbrev g-at-end : tie.After-slice-known12 → tie.After-all-g
-g-at-end c = c .before .before .before .before .before .before .before .before .before .before .before .before .before .before
+g-at-end c = gs-at-put (put-stripes-arg5-at-slice-known12 c) .before
 
 abbrev put-at-end : tie.After-slice-known12 → tie.After-put-stripes
-put-at-end c = c .before .before .before .before .before .before
+put-at-end c = put-stripes-at-area (c .before)
 
 hear-requires : tie.Need-hear-requires
 hear-requires c κs =

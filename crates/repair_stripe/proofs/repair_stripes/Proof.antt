@@ -38,23 +38,26 @@ st-at-turn c = st-at-entry (c .before .before)
 abbrev turn-at-call : tie.After-repair-stripe-arg6 Inv-loop μ-loop → tie.In-loop Inv-loop μ-loop
 turn-at-call c = c .before .before .before .before .before .before
 
-abbrev turn-at-end : tie.After-slice-known12 Inv-loop μ-loop → tie.In-loop Inv-loop μ-loop
-turn-at-end c = turn-at-call (c .before .before .before .before .before .before .before .before .before .before .before .before .before)
-
-abbrev stripe-at-end : tie.After-slice-known12 Inv-loop μ-loop → tie.After-repair-stripe Inv-loop μ-loop
-stripe-at-end c = c .before .before .before .before .before .before .before .before .before .before .before .before
-
-abbrev firsts-at-end : tie.After-slice-known12 Inv-loop μ-loop → tie.After-firsts Inv-loop μ-loop
-firsts-at-end c = c .before .before .before .before .before .before .before .before .before .before .before
-
-abbrev seconds-at-end : tie.After-slice-known12 Inv-loop μ-loop → tie.After-seconds Inv-loop μ-loop
-seconds-at-end c = c .before .before .before .before .before .before .before .before .before
-
-abbrev gs-at-end : tie.After-slice-known12 Inv-loop μ-loop → tie.After-gs Inv-loop μ-loop
-gs-at-end c = c .before .before .before .before .before .before .before
+abbrev f-at-slice-known12 : tie.After-slice-known12 Inv-loop μ-loop → tie.After-f Inv-loop μ-loop
+f-at-slice-known12 c = c .before .before .before
 
 abbrev got-at-end : tie.After-slice-known12 Inv-loop μ-loop → tie.After-got Inv-loop μ-loop
-got-at-end c = c .before .before .before .before .before
+got-at-end c = f-at-slice-known12 c .before .before
+
+abbrev gs-at-end : tie.After-slice-known12 Inv-loop μ-loop → tie.After-gs Inv-loop μ-loop
+gs-at-end c = got-at-end c .before .before
+
+abbrev seconds-at-end : tie.After-slice-known12 Inv-loop μ-loop → tie.After-seconds Inv-loop μ-loop
+seconds-at-end c = gs-at-end c .before .before
+
+abbrev firsts-at-end : tie.After-slice-known12 Inv-loop μ-loop → tie.After-firsts Inv-loop μ-loop
+firsts-at-end c = seconds-at-end c .before .before
+
+abbrev stripe-at-end : tie.After-slice-known12 Inv-loop μ-loop → tie.After-repair-stripe Inv-loop μ-loop
+stripe-at-end c = firsts-at-end c .before
+
+abbrev turn-at-end : tie.After-slice-known12 Inv-loop μ-loop → tie.In-loop Inv-loop μ-loop
+turn-at-end c = turn-at-call (stripe-at-end c .before)
 
 abbrev st-at-loop : tie.After-loop Inv-loop μ-loop → tie.Start Inv-loop μ-loop
 st-at-loop c = st-at-entry (c .before .before)
@@ -119,7 +122,7 @@ loop-again c =
       seconds-at-end c .seconds .given ∙ l .inv .4,
       gs-at-end c .gs .given ∙ l .inv .5,
       got-at-end c .got .given ∙ l .inv .6,
-      c .before .before .before .f .given ∙ l .inv .7,
+      f-at-slice-known12 c .f .given ∙ l .inv .7,
     )
 
 returns : tie.Need-returns Inv-loop μ-loop

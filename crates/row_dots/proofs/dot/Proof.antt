@@ -21,8 +21,11 @@ abbrev μ-loop : tie.MeasureT-loop
 abbrev loop-at-times : tie.After-times Inv-loop μ-loop → tie.At-loop Inv-loop μ-loop
 loop-at-times c = c .before .before .before .before .before
 
+abbrev st-at-loop : tie.At-loop Inv-loop μ-loop → tie.Start Inv-loop μ-loop
+st-at-loop c = c .before .before .before
+
 abbrev st-at-times : tie.After-times Inv-loop μ-loop → tie.Start Inv-loop μ-loop
-st-at-times c = c .before .before .before .before .before .before .before .before
+st-at-times c = st-at-loop (loop-at-times c)
 
 loop-again : tie.Need-loop-again Inv-loop μ-loop
 unfolding add
@@ -34,7 +37,7 @@ loop-again c =
 returns : tie.Need-returns Inv-loop μ-loop
 returns c =
     let l = c .before .loop in
-    let e : l .j ≡ length (c .before .before .before .before .args .a .now) = omega arith in
+    let e : l .j ≡ length (st-at-loop (c .before) .args .a .now) = omega arith in
     rw (← e) (l .inv .0)
 
 pub dot-spec : {M : Type 1} → statement M

@@ -19,14 +19,20 @@ abbrev μ-loop : tie.MeasureT-loop
 μ-loop c a₀ m n j₀ a j = n - j
 
 -- the places
+abbrev loop-at-times : tie.After-times Inv-loop μ-loop → tie.At-loop Inv-loop μ-loop
+loop-at-times c = c .before .before .before
+
+abbrev st-at-loop : tie.At-loop Inv-loop μ-loop → tie.Start Inv-loop μ-loop
+st-at-loop c = c .before .before .before
+
 abbrev st-at-times : tie.After-times Inv-loop μ-loop → tie.Start Inv-loop μ-loop
-st-at-times c = c .before .before .before .before .before .before
+st-at-times c = st-at-loop (loop-at-times c)
 
 loop-again : tie.Need-loop-again Inv-loop μ-loop
 loop-again c =
-    let l = c .before .before .before .loop in
+    let l = loop-at-times c .loop in
     let a = st-at-times c .args in (
-      change (λ j x. mul (a .c) x) (a .a .now) (l .a) (l .j) _ (omega arith) (cc (c .before .before .before .before .multiples-of .ensures .0)) (l .inv .0),
+      change (λ j x. mul (a .c) x) (a .a .now) (l .a) (l .j) _ (omega arith) (cc (loop-at-times c .before .multiples-of .ensures .0)) (l .inv .0),
       omega arith,
       length-set (l .a) (l .j) _ ∙ l .inv .2,
     )
@@ -34,7 +40,7 @@ loop-again c =
 returns : tie.Need-returns Inv-loop μ-loop
 returns c =
     let l = c .before .loop in
-    changed _ (c .before .before .before .before .args .a .now) (l .a) (l .j) (omega arith) (omega arith) (l .inv .0)
+    changed _ (st-at-loop (c .before) .args .a .now) (l .a) (l .j) (omega arith) (omega arith) (l .inv .0)
 
 pub scale-spec : {M : Type 1} → statement M
 scale-spec =

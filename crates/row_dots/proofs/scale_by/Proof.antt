@@ -22,8 +22,11 @@ abbrev μ-loop : tie.MeasureT-loop
 abbrev loop-at-times : tie.After-times Inv-loop μ-loop → tie.At-loop Inv-loop μ-loop
 loop-at-times c = c .before .before .before .before .before
 
+abbrev st-at-loop : tie.At-loop Inv-loop μ-loop → tie.Start Inv-loop μ-loop
+st-at-loop c = c .before .before .before
+
 abbrev st-at-times : tie.After-times Inv-loop μ-loop → tie.Start Inv-loop μ-loop
-st-at-times c = c .before .before .before .before .before .before .before .before
+st-at-times c = st-at-loop (loop-at-times c)
 
 loop-again : tie.Need-loop-again Inv-loop μ-loop
 loop-again c =
@@ -37,7 +40,7 @@ loop-again c =
 returns : tie.Need-returns Inv-loop μ-loop
 returns c =
     let l = c .before .loop in
-    changed _ (c .before .before .before .before .args .a .now) (l .a) (l .j) (omega arith) (omega arith) (l .inv .0)
+    changed _ (st-at-loop (c .before) .args .a .now) (l .a) (l .j) (omega arith) (omega arith) (l .inv .0)
 
 pub scale-by-spec : {M : Type 1} → statement M
 scale-by-spec =

@@ -6,17 +6,17 @@ use Rattle.row_sums.proofs.put_row.Statement.{statement}
 use Rattle.row_sums.proofs.put_row.Tie as tie
 
 -- places in the code
-abbrev st : tie.After-slice-known5 → tie.Start
-st c = c .before .before .before .before .before .before .before .before .before .before .before .before .before .before .before .before .before
-
-abbrev put-word : tie.After-slice-known5 → tie.After-put-word
-put-word c = c .before .before .before .before .before .before .before .before .before .before .before .before .before .before
-
-abbrev put-word2 : tie.After-slice-known5 → tie.After-put-word2
-put-word2 c = c .before .before .before .before .before .before .before .before .before .before
-
 abbrev put-word3 : tie.After-slice-known5 → tie.After-put-word3
 put-word3 c = c .before .before .before .before .before .before
+
+abbrev put-word2 : tie.After-slice-known5 → tie.After-put-word2
+put-word2 c = put-word3 c .before .before .before .before
+
+abbrev put-word : tie.After-slice-known5 → tie.After-put-word
+put-word c = put-word2 c .before .before .before .before
+
+abbrev st : tie.After-slice-known5 → tie.Start
+st c = put-word c .before .before .before
 
 sub-put-word : tie.Need-sub-put-word
 sub-put-word c = search needs

@@ -6,8 +6,11 @@ use Rattle.row_sums.proofs.row_at.Statement.{statement}
 use Rattle.row_sums.proofs.row_at.Tie as tie
 
 -- places in the code
+abbrev word-at2-at-word-at4 : tie.After-word-at4 → tie.After-word-at2
+word-at2-at-word-at4 c = c .before .before
+
 abbrev st : tie.After-word-at4 → tie.Start
-st c = c .before .before .before .before .before
+st c = word-at2-at-word-at4 c .before .before .before
 
 word-at-requires : tie.Need-word-at-requires
 word-at-requires c κs = search needs
@@ -34,8 +37,8 @@ returns : tie.Need-returns
 returns c =
     let s = st c in
     row-run (s .args .t .now) (s .args .i)
-    (record { a = c .before .before .before .word-at .result; b = c .before .before .word-at2 .result; c = c .before .word-at3 .result; d = c .word-at4 .result })
-    (c .before .before .before .word-at .ensures) (c .before .before .word-at2 .ensures) (c .before .word-at3 .ensures) (c .word-at4 .ensures)
+    (record { a = word-at2-at-word-at4 c .before .word-at .result; b = word-at2-at-word-at4 c .word-at2 .result; c = c .before .word-at3 .result; d = c .word-at4 .result })
+    (word-at2-at-word-at4 c .before .word-at .ensures) (word-at2-at-word-at4 c .word-at2 .ensures) (c .before .word-at3 .ensures) (c .word-at4 .ensures)
 
 pub row-at-spec : {M : Type 1} → statement M
 row-at-spec =

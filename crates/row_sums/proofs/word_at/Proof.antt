@@ -6,23 +6,26 @@ use Rattle.row_sums.proofs.word_at.Statement.{statement}
 use Rattle.row_sums.proofs.word_at.Tie as tie
 
 -- places in the code
-abbrev wide : tie.After-wide8 → tie.After-wide
-wide c = c .before .before .before .before .before .before .before .before .before .before .before .before .before .before
-
-abbrev wide2 : tie.After-wide8 → tie.After-wide2
-wide2 c = c .before .before .before .before .before .before .before .before .before .before .before .before
-
-abbrev wide3 : tie.After-wide8 → tie.After-wide3
-wide3 c = c .before .before .before .before .before .before .before .before .before .before
-
-abbrev wide4 : tie.After-wide8 → tie.After-wide4
-wide4 c = c .before .before .before .before .before .before .before .before
+abbrev wide6-at-wide8 : tie.After-wide8 → tie.After-wide6
+wide6-at-wide8 c = c .before .before .before .before
 
 abbrev wide5 : tie.After-wide8 → tie.After-wide5
-wide5 c = c .before .before .before .before .before .before
+wide5 c = wide6-at-wide8 c .before .before
+
+abbrev wide4 : tie.After-wide8 → tie.After-wide4
+wide4 c = wide5 c .before .before
+
+abbrev wide3 : tie.After-wide8 → tie.After-wide3
+wide3 c = wide4 c .before .before
+
+abbrev wide2 : tie.After-wide8 → tie.After-wide2
+wide2 c = wide3 c .before .before
+
+abbrev wide : tie.After-wide8 → tie.After-wide
+wide c = wide2 c .before .before
 
 abbrev st : tie.After-wide8 → tie.Start
-st c = c .before .before .before .before .before .before .before .before .before .before .before .before .before .before .before .before .before
+st c = wide c .before .before .before
 
 shared-slice-read-wide : tie.Need-shared-slice-read-wide
 shared-slice-read-wide c = search needs
@@ -142,7 +145,7 @@ returns c =
     let w2 = (wide3 c) .wide3 in
     let w3 = (wide4 c) .wide4 in
     let w4 = (wide5 c) .wide5 in
-    let w5 = c .before .before .before .before .wide6 in
+    let w5 = wide6-at-wide8 c .wide6 in
     let w6 = c .before .before .wide7 in
     let w7 = c .wide8 in
     let s = st c in

@@ -22,15 +22,21 @@ abbrev μ-loop : tie.MeasureT-loop
 μ-loop row n i out₀ m b₀ t₀ out b t = m - t
 
 -- the places
+abbrev loop-at-next : tie.After-next Inv-loop μ-loop → tie.At-loop Inv-loop μ-loop
+loop-at-next c = c .before .before .before
+
+abbrev st-at-loop : tie.At-loop Inv-loop μ-loop → tie.Start Inv-loop μ-loop
+st-at-loop c = c .before .before .before
+
 abbrev st-at-next : tie.After-next Inv-loop μ-loop → tie.Start Inv-loop μ-loop
-st-at-next c = c .before .before .before .before .before .before
+st-at-next c = st-at-loop (loop-at-next c)
 
 loop-holds : tie.Need-loop-holds Inv-loop μ-loop
 loop-holds c = (refl, sym (rw add-zero (mod-eq-of-lt (omega arith))), omega arith, omega arith, refl)
 
 loop-again : tie.Need-loop-again Inv-loop μ-loop
 loop-again c =
-    let l = c .before .before .before .loop in
+    let l = loop-at-next c .loop in
     let a = st-at-next c .args in
     let e = c .next .ensures in (
       fill-loop (λ t. getD (a .row .now) ((a .i + t) % a .n) 0) (a .out .now) (l .out) (l .t) _ (omega arith)
@@ -45,7 +51,7 @@ returns : tie.Need-returns Inv-loop μ-loop
 unfolding turned
 returns c =
     let l = c .before .loop in
-    changed _ (c .before .before .before .before .args .out .now) (l .out) (l .t) (omega arith) (omega arith) (l .inv .0)
+    changed _ (st-at-loop (c .before) .args .out .now) (l .out) (l .t) (omega arith) (omega arith) (l .inv .0)
 
 pub emit-turned-spec : {M : Type 1} → statement M
 emit-turned-spec =

@@ -20,20 +20,23 @@ abbrev μ-loop : tie.MeasureT-loop
 abbrev st-at-slice-known2 : tie.After-slice-known2 Inv-loop μ-loop → tie.Start Inv-loop μ-loop
 st-at-slice-known2 c = c .before .before .before .before .before .before .before
 
-abbrev loop-at-slice-known3 : tie.After-slice-known3 Inv-loop μ-loop → tie.At-loop Inv-loop μ-loop
-loop-at-slice-known3 c = c .before .before .before .before .before .before .before
-
-abbrev st-at-slice-known3 : tie.After-slice-known3 Inv-loop μ-loop → tie.Start Inv-loop μ-loop
-st-at-slice-known3 c = c .before .before .before .before .before .before .before .before .before .before .before .before .before .before .before
-
 abbrev turn-at-slice-known3 : tie.After-slice-known3 Inv-loop μ-loop → tie.In-loop Inv-loop μ-loop
 turn-at-slice-known3 c = c .before .before .before .before .before .before
 
-abbrev st-at-loop : tie.After-loop Inv-loop μ-loop → tie.Start Inv-loop μ-loop
-st-at-loop c = c .before .before .before .before .before .before .before .before .before
+abbrev loop-at-slice-known3 : tie.After-slice-known3 Inv-loop μ-loop → tie.At-loop Inv-loop μ-loop
+loop-at-slice-known3 c = turn-at-slice-known3 c .before
 
 abbrev st-at-in-loop : tie.In-loop Inv-loop μ-loop → tie.Start Inv-loop μ-loop
-st-at-in-loop c = c .before .before .before .before .before .before .before .before .before
+st-at-in-loop c = st-at-slice-known2 (c .before .before)
+
+abbrev st-at-slice-known3 : tie.After-slice-known3 Inv-loop μ-loop → tie.Start Inv-loop μ-loop
+st-at-slice-known3 c = st-at-in-loop (turn-at-slice-known3 c)
+
+abbrev slice-known2-at-loop-end : tie.After-loop Inv-loop μ-loop → tie.After-slice-known2 Inv-loop μ-loop
+slice-known2-at-loop-end c = c .before .before
+
+abbrev st-at-loop : tie.After-loop Inv-loop μ-loop → tie.Start Inv-loop μ-loop
+st-at-loop c = st-at-slice-known2 (slice-known2-at-loop-end c)
 
 -- a row of the turn is within the rows
 within : (c : tie.In-loop Inv-loop μ-loop) → c .before .loop .t * 32 + 32 ≤ length (st-at-in-loop c .args .rows .now)
@@ -62,7 +65,7 @@ returns : tie.Need-returns Inv-loop μ-loop
 returns c =
     let l = c .before .loop in
     let a = st-at-loop c .args in
-    sums-end (l .t) _ _ (a .values .now) (a .rows .now) (l .out) (omega arith) (c .before .before .before .out .given) (l .inv .0)
+    sums-end (l .t) _ _ (a .values .now) (a .rows .now) (l .out) (omega arith) (slice-known2-at-loop-end c .before .out .given) (l .inv .0)
 
 pub row-sums-spec : {M : Type 1} → statement M
 row-sums-spec =
@@ -82,5 +85,5 @@ row-sums-spec =
     (λ c. search needs)
     (λ c. search needs)
     loop-again
-    (λ c. c .before .loop .inv .2 ∙ c .before .before .before .out .given)
+    (λ c. c .before .loop .inv .2 ∙ slice-known2-at-loop-end c .before .out .given)
     returns)

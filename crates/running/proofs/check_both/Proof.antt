@@ -23,6 +23,9 @@ P g = runningIn (g .args .running)
 abbrev st : tie.After-check-record → tie.Start
 st c = c .before
 
+abbrev check-record-at-enum-told : tie.After-enum-told → tie.After-check-record
+check-record-at-enum-told c = c .before .before
+
 pub check-both-spec : {M : Type 1} → statement M
 check-both-spec =
     tie.close
@@ -32,7 +35,7 @@ check-both-spec =
     (λ c. let x = c .before in let k = x .before .before in
     refuses _ (two-sizes (sound (R (st k))) (soundBeside (R (st k)) (P (st k)))) (k .check-record .ensures) (x .size .given .1))
     (λ c. search needs)
-    (λ c κs. let k = c .before .before in
+    (λ c κs. let k = check-record-at-enum-told c in
     sound-facts (R (st k)) (not-no _ (passed (recordLine (R (st k))) (sym (k .check-record .ensures) ∙ c .enum-told .given .1))) .is-legal)
-    (λ c. let t = c .before in let k = t .before .before in
+    (λ c. let t = c .before in let k = check-record-at-enum-told t in
     c .check-running .ensures ∙ goes-on (two-sizes (sound (R (st k))) (soundBeside (R (st k)) (P (st k)))) (k .check-record .ensures) (t .enum-told .given .1)))

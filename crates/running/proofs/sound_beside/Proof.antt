@@ -25,8 +25,14 @@ st c = c .before .before .before .before .before .before
 abbrev at-on : tie.Else2 → tie.Else1
 at-on c = c .before .before
 
+abbrev else2-at-fresh2 : tie.After-fresh2 → tie.Else2
+else2-at-fresh2 c = c .before .before
+
+abbrev else2-at-helpers2 : tie.After-helpers2 → tie.Else2
+else2-at-helpers2 c = else2-at-fresh2 (c .before)
+
 abbrev at-few : tie.After-check-arrays → tie.Else2
-at-few c = c .before .before .before .before .before
+at-few c = else2-at-helpers2 (c .before .before)
 
 abbrev st-few : tie.Else2 → tie.Start
 st-few c = st (at-on c .before)
@@ -82,10 +88,10 @@ sound-beside-spec =
     (λ c. let g = st (c .before) in none-runs (R g) (P g) (not-true _ (c .if1 .taken)))
     (λ c. let o = c .before .before in let g = st (o .before) in many-fresh (R g) (P g) (on o) (g .pre) (fresh-long g) (c .if2 .taken))
     (λ c. sym (marks-long (st-few (c .before))))
-    (λ c. sym (fresh-long (st-few (c .before .before))))
-    (λ c. sym (helpers-long (st-few (c .before .before .before))))
-    (λ c. sym (stand-ins-long (st-few (c .before .before .before .before))))
-    (λ c κs. let f = c .before .before .before .before in let g = st-few f in
+    (λ c. sym (fresh-long (st-few (else2-at-fresh2 c))))
+    (λ c. sym (helpers-long (st-few (else2-at-helpers2 c))))
+    (λ c. sym (stand-ins-long (st-few (else2-at-helpers2 (c .before)))))
+    (λ c κs. let f = else2-at-helpers2 (c .before) in let g = st-few f in
     record { is-legal = g .pre; few = f .if2 .left; fresh-long = fresh-long g; helpers-long = helpers-long g; stand-ins-long = stand-ins-long g })
     (λ c. search needs)
     (λ c. let k = c .before .before in let f = at-few k in let g = st-few f in

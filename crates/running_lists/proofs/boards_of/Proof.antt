@@ -18,12 +18,18 @@ abbrev μ-loop : tie.MeasureT-loop
 μ-loop bytes boards₀ i₀ boards i = length bytes - i
 
 -- places in the code
+abbrev loop-at-board : tie.After-board Inv-loop μ-loop → tie.At-loop Inv-loop μ-loop
+loop-at-board c = c .before .before .before
+
+abbrev st-at-loop : tie.At-loop Inv-loop μ-loop → tie.Start Inv-loop μ-loop
+st-at-loop c = c .before .before .before
+
 abbrev st : tie.After-board Inv-loop μ-loop → tie.Start Inv-loop μ-loop
-st c = c .before .before .before .before .before .before
+st c = st-at-loop (loop-at-board c)
 
 loop-again : tie.Need-loop-again Inv-loop μ-loop
 loop-again c =
-    let l = c .before .before .before .loop in
+    let l = loop-at-board c .loop in
     let a = st c .args in (
       fill-loop (λ t. getD (a .bytes .now) t 0) (a .boards .now) (l .boards) (l .i) _ (omega arith) (c .board .ensures) (l .inv .0),
       omega arith,
@@ -33,7 +39,7 @@ loop-again c =
 returns : tie.Need-returns Inv-loop μ-loop
 returns c =
     let l = c .before .loop in
-    let a = c .before .before .before .before .args in
+    let a = st-at-loop (c .before) .args in
     let f : ℕ → ℕ = λ t. getD (a .bytes .now) t 0 in
     fill-end f (a .boards .now) (l .boards) (l .i) (length (a .bytes .now)) (omega arith) (l .inv .0)
     ∙ fill-all f (a .boards .now) (length (a .bytes .now)) (omega arith) ∙ tabulate-getD (length (a .bytes .now)) (a .bytes .now) 0 refl

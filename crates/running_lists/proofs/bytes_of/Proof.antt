@@ -18,12 +18,18 @@ abbrev μ-loop : tie.MeasureT-loop
 μ-loop boards bytes₀ m i₀ bytes i = m - i
 
 -- places in the code
+abbrev st-at-loop : tie.At-loop Inv-loop μ-loop → tie.Start Inv-loop μ-loop
+st-at-loop c = c .before .before .before
+
+abbrev loop-at-byte-at : tie.After-byte-at Inv-loop μ-loop → tie.At-loop Inv-loop μ-loop
+loop-at-byte-at c = c .before .before
+
 abbrev st : tie.After-byte-at Inv-loop μ-loop → tie.Start Inv-loop μ-loop
-st c = c .before .before .before .before .before
+st c = st-at-loop (loop-at-byte-at c)
 
 loop-again : tie.Need-loop-again Inv-loop μ-loop
 loop-again c =
-    let l = c .before .before .loop in
+    let l = loop-at-byte-at c .loop in
     let a = st c .args in (
       fill-loop (λ t. getD (a .boards .now) t 0) (a .bytes .now) (l .bytes) (l .i) _ (omega arith) (c .byte-at .ensures) (l .inv .0),
       omega arith,
@@ -33,7 +39,7 @@ loop-again c =
 returns : tie.Need-returns Inv-loop μ-loop
 returns c =
     let l = c .before .loop in
-    let a = c .before .before .before .before .args in
+    let a = st-at-loop (c .before) .args in
     let f : ℕ → ℕ = λ t. getD (a .boards .now) t 0 in
     let m = length (a .bytes .now) in
     fill-end f (a .bytes .now) (l .bytes) (l .i) m (omega arith) (l .inv .0)

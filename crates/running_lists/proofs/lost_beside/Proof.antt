@@ -20,8 +20,11 @@ use Rattle.running_lists.proofs.lost_beside.Tie as tie
 abbrev st : tie.After-standins → tie.Start
 st c = c .before .before .before .before
 
+abbrev then1-at-standins2 : tie.After-standins2 → tie.Then1
+then1-at-standins2 c = c .before .before .before
+
 abbrev at-on : tie.After-names → tie.Then1
-at-on c = c .before .before .before .before
+at-on c = then1-at-standins2 (c .before)
 
 abbrev R : tie.Start → Record
 R g = recordOf (g .args .kept)
@@ -62,14 +65,17 @@ both c t e =
     let g = st (o .before) in
     ap (goes g true) (sym e ∙ named c) ∙ ap (λ (r : Bool). goes g r (among (namedIn (R g .sizes) (P g)) (g .args .board))) (sym (o .if1 .taken))
 
+abbrev standins-at-fresh2 : tie.After-fresh2 → tie.After-standins
+standins-at-fresh2 c = c .before .before
+
 pub lost-beside-spec : {M : Type 1} → statement M
 lost-beside-spec =
     tie.close
     (tie.spec
-    (λ c. sym (fresh-long (st (c .before .before))))
-    (λ c. sym (helpers-long (st (c .before .before .before))))
-    (λ c. sym (stand-ins-long (st (c .before .before .before .before))))
-    (λ c κs. let o = c .before .before .before in let g = st (o .before) in (
+    (λ c. sym (fresh-long (st (standins-at-fresh2 c))))
+    (λ c. sym (helpers-long (st (standins-at-fresh2 (c .before)))))
+    (λ c. sym (stand-ins-long (st (then1-at-standins2 c .before))))
+    (λ c κs. let o = then1-at-standins2 c in let g = st (o .before) in (
       record { is-legal = g .pre .0; few = few o; fresh-long = fresh-long g; helpers-long = helpers-long g; stand-ins-long = stand-ins-long g },
       g .pre .2,
     ))

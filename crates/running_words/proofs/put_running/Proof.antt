@@ -15,14 +15,23 @@ use Rattle.running_words.proofs.put_running.Statement.{statement}
 use Rattle.running_words.proofs.put_running.Tie as tie
 
 -- the places
+abbrev st-at-fresh2 : tie.After-fresh2 → tie.Start
+st-at-fresh2 c = c .before .before .before .before .before .before
+
 abbrev st : tie.After-put-packed-arg → tie.Start
-st c = c .before .before .before .before .before .before .before
+st c = st-at-fresh2 (c .before)
+
+abbrev words-at-helpers2 : tie.After-helpers2 → tie.After-words
+words-at-helpers2 c = c .before .before
 
 abbrev at-first : tie.After-put-packed-arg2 → tie.After-words
-at-first c = c .before .before .before
+at-first c = words-at-helpers2 (c .before)
+
+abbrev words2-at-stand-ins2 : tie.After-stand-ins2 → tie.After-words2
+words2-at-stand-ins2 c = c .before .before
 
 abbrev at-second : tie.After-put-packed-arg3 → tie.After-words2
-at-second c = c .before .before .before
+at-second c = words2-at-stand-ins2 (c .before)
 
 -- the arrays have their lengths
 fresh-long : tie.Need-slice-aggregate-put-packed
@@ -41,24 +50,33 @@ three g = set (set (set (g .args .words .now) 0 (boolByte (g .args .running .run
 all-three : (g : tie.Start) → length (three g) ≡ 71
 all-three g = three-long (g .args .words .now) (boolByte (g .args .running .running)) (g .args .running .count) (g .args .running .carried) (g .pre)
 
+abbrev put-packed-arg-at-words : tie.After-words → tie.After-put-packed-arg
+put-packed-arg-at-words c = c .before .before
+
 abbrev one : tie.After-words → List ℕ
-one c = putMid 3 4 (three (st (c .before .before))) (c .before .put-packed .last .1 .0)
+one c = putMid 3 4 (three (st (put-packed-arg-at-words c))) (c .before .put-packed .last .1 .0)
 
 one-long : (c : tie.After-words) → length (one c) ≡ 71
-one-long c = c .words .given .1 ∙ all-three (st (c .before .before))
+one-long c = c .words .given .1 ∙ all-three (st (put-packed-arg-at-words c))
+
+abbrev put-packed-arg2-at-words2 : tie.After-words2 → tie.After-put-packed-arg2
+put-packed-arg2-at-words2 c = c .before .before
 
 abbrev two : tie.After-words2 → List ℕ
-two c = putMid 7 32 (one (at-first (c .before .before))) (c .before .put-packed2 .last .1 .0)
+two c = putMid 7 32 (one (at-first (put-packed-arg2-at-words2 c))) (c .before .put-packed2 .last .1 .0)
 
 two-long : (c : tie.After-words2) → length (two c) ≡ 71
-two-long c = c .words2 .given .1 ∙ one-long (at-first (c .before .before))
+two-long c = c .words2 .given .1 ∙ one-long (at-first (put-packed-arg2-at-words2 c))
 
 abbrev st-at-second : tie.After-words2 → tie.Start
-st-at-second c = st (at-first (c .before .before) .before .before)
+st-at-second c = st (put-packed-arg-at-words (at-first (put-packed-arg2-at-words2 c)))
+
+abbrev put-packed3-at-slice-known4 : tie.After-slice-known4 → tie.After-put-packed3
+put-packed3-at-slice-known4 c = c .before .before
 
 returns : tie.Need-returns
 returns c =
-    let k = c .before .before in
+    let k = put-packed3-at-slice-known4 c in
     let j = at-second (k .before) .before in
     let i = at-first (j .before) .before in
     let g = st (i .before) in
@@ -79,17 +97,17 @@ put-running-spec =
     fresh-long
     (λ c. search needs)
     (λ c. search needs)
-    (λ c. omega (arith, all-three (c .before .before .before .before .before .before)))
+    (λ c. omega (arith, all-three (st-at-fresh2 c)))
     (λ c κs. let l = three (st c) in omega (arith, fresh-long (c .before), part-long l 3 4 (omega (arith, all-three (st c)))))
     helpers-long
     (λ c. search needs)
     (λ c. search needs)
-    (λ c. omega (arith, one-long (c .before .before)))
+    (λ c. omega (arith, one-long (words-at-helpers2 c)))
     (λ c κs. let l = one (at-first c) in omega (arith, helpers-long (c .before), part-long l 7 32 (omega (arith, one-long (at-first c)))))
     stand-ins-long
     (λ c. search needs)
     (λ c. search needs)
-    (λ c. omega (arith, two-long (c .before .before)))
+    (λ c. omega (arith, two-long (words2-at-stand-ins2 c)))
     (λ c κs. let l = two (at-second c) in omega (arith, stand-ins-long (c .before), part-long l 39 32 (omega (arith, two-long (at-second c)))))
-    (λ c. let k = at-second (c .before .before .before) in c .before .words3 .given .1 ∙ two-long k ∙ sym (st-at-second k .pre))
+    (λ c. let k = at-second (put-packed3-at-slice-known4 c .before) in c .before .words3 .given .1 ∙ two-long k ∙ sym (st-at-second k .pre))
     returns)

@@ -21,9 +21,15 @@ at-third c = c .before .before .before .before
 long : (g : tie.Start) → length (g .args .words .now) ≡ 71
 long g = seventy-one (g .args .words .now) (g .pre)
 
+abbrev fill-bytes3-at-shared-slice-known2 : tie.After-shared-slice-known2 → tie.After-fill-bytes3
+fill-bytes3-at-shared-slice-known2 c = c .before .before
+
+abbrev fill-bytes3-at-shared-slice-known3 : tie.After-shared-slice-known3 → tie.After-fill-bytes3
+fill-bytes3-at-shared-slice-known3 c = fill-bytes3-at-shared-slice-known2 (c .before)
+
 returns : tie.Need-returns
 returns c =
-    let k = c .before .before .before .before in
+    let k = fill-bytes3-at-shared-slice-known3 (c .before) in
     let j = at-third k in
     let i = at-second j in
     let g = at-first i in
@@ -48,7 +54,7 @@ running-of-spec =
     (λ c. omega (arith, long (at-first (at-second (c .before)))))
     (λ c. search needs)
     (λ c κs. search needs)
-    (λ c. omega (arith, long (at-first (at-second (at-third (c .before .before))))))
-    (λ c. omega (arith, long (at-first (at-second (at-third (c .before .before .before))))))
-    (λ c. omega (arith, long (at-first (at-second (at-third (c .before .before .before .before))))))
+    (λ c. omega (arith, long (at-first (at-second (at-third (fill-bytes3-at-shared-slice-known2 c))))))
+    (λ c. omega (arith, long (at-first (at-second (at-third (fill-bytes3-at-shared-slice-known3 c))))))
+    (λ c. omega (arith, long (at-first (at-second (at-third (fill-bytes3-at-shared-slice-known3 (c .before)))))))
     returns)

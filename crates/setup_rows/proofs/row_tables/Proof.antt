@@ -20,11 +20,17 @@ st-rows c = c .before .before .before .before .before
 abbrev st-rows-at : tie.After-rows-at → tie.Start
 st-rows-at c = st-rows (c .before)
 
+abbrev rows-at-at-rows3 : tie.After-rows3 → tie.After-rows-at
+rows-at-at-rows3 c = c .before .before
+
+abbrev rows-at-at-fill-tables-arg2 : tie.After-fill-tables-arg2 → tie.After-rows-at
+rows-at-at-fill-tables-arg2 c = rows-at-at-rows3 (c .before .before)
+
 abbrev st-fill-tables-arg2 : tie.After-fill-tables-arg2 → tie.Start
-st-fill-tables-arg2 c = st-rows-at (c .before .before .before .before)
+st-fill-tables-arg2 c = st-rows-at (rows-at-at-fill-tables-arg2 c)
 
 abbrev rows-at-at-end : tie.After-slice-known2 → tie.After-rows-at
-rows-at-at-end c = c .before .before .before .before .before .before .before
+rows-at-at-end c = rows-at-at-fill-tables-arg2 (c .before .before .before)
 
 abbrev st-end : tie.After-slice-known2 → tie.Start
 st-end c = st-rows-at (rows-at-at-end c)
@@ -63,7 +69,7 @@ part-fill-tables-start : tie.Need-part-fill-tables-start
 part-fill-tables-start c = search needs
 
 part-fill-tables-end : tie.Need-part-fill-tables-end
-part-fill-tables-end c = simp length-append (omega (arith, made-long (c .before .before), st-rows-at (c .before .before) .pre .4))
+part-fill-tables-end c = simp length-append (omega (arith, made-long (rows-at-at-rows3 c), st-rows-at (rows-at-at-rows3 c) .pre .4))
 
 sub-fill-tables-2 : tie.Need-sub-fill-tables-2
 sub-fill-tables-2 c = search needs
@@ -77,7 +83,7 @@ part-fill-tables-end-2 c = search needs
 fill-tables-requires : tie.Need-fill-tables-requires
 fill-tables-requires c κs =
     let g = st-fill-tables-arg2 c in
-    (g .pre .4, simp (length-take, length-append) (omega (arith, made-long (c .before .before .before .before))), part-there (g .args .at) _ (g .args .out .now) (g .pre .5))
+    (g .pre .4, simp (length-take, length-append) (omega (arith, made-long (rows-at-at-fill-tables-arg2 c))), part-there (g .args .at) _ (g .args .out .now) (g .pre .5))
 
 same-length : tie.Need-same-length
 same-length c = search needs

@@ -23,11 +23,14 @@ st-xs c = c .before .before .before .before .before
 abbrev st-points-of : tie.After-points-of → tie.Start
 st-points-of c = st-xs (c .before)
 
+abbrev points-of-at-xs3 : tie.After-xs3 → tie.After-points-of
+points-of-at-xs3 c = c .before .before
+
 abbrev st-seed-rows-arg2 : tie.After-seed-rows-arg2 → tie.Start
-st-seed-rows-arg2 c = st-points-of (c .before .before .before .before)
+st-seed-rows-arg2 c = st-points-of (points-of-at-xs3 (c .before .before))
 
 abbrev points-of-at-end : tie.After-slice-known2 → tie.After-points-of
-points-of-at-end c = c .before .before .before .before .before .before .before
+points-of-at-end c = points-of-at-xs3 (c .before .before .before .before .before)
 
 abbrev st-end : tie.After-slice-known2 → tie.Start
 st-end c = st-points-of (points-of-at-end c)
@@ -60,7 +63,7 @@ part-seed-rows-start : tie.Need-part-seed-rows-start
 part-seed-rows-start c = search needs
 
 part-seed-rows-end : tie.Need-part-seed-rows-end
-part-seed-rows-end c = simp length-append (omega (arith, made-long (c .before .before), st-points-of (c .before .before) .pre .3))
+part-seed-rows-end c = simp length-append (omega (arith, made-long (points-of-at-xs3 c), st-points-of (points-of-at-xs3 c) .pre .3))
 
 seed-rows-requires : tie.Need-seed-rows-requires
 seed-rows-requires c κs =

@@ -19,11 +19,17 @@ st-rows c = c .before .before .before .before .before
 abbrev st-rows-at : tie.After-rows-at → tie.Start
 st-rows-at c = st-rows (c .before)
 
+abbrev rows-at-at-rows3 : tie.After-rows3 → tie.After-rows-at
+rows-at-at-rows3 c = c .before .before
+
+abbrev rows-at-at-top-rows-arg2 : tie.After-top-rows-arg2 → tie.After-rows-at
+rows-at-at-top-rows-arg2 c = rows-at-at-rows3 (c .before .before)
+
 abbrev st-top-rows-arg2 : tie.After-top-rows-arg2 → tie.Start
-st-top-rows-arg2 c = st-rows-at (c .before .before .before .before)
+st-top-rows-arg2 c = st-rows-at (rows-at-at-top-rows-arg2 c)
 
 abbrev rows-at-at-end : tie.After-slice-known2 → tie.After-rows-at
-rows-at-at-end c = c .before .before .before .before .before .before .before
+rows-at-at-end c = rows-at-at-top-rows-arg2 (c .before .before .before)
 
 abbrev st-end : tie.After-slice-known2 → tie.Start
 st-end c = st-rows-at (rows-at-at-end c)
@@ -65,7 +71,7 @@ part-top-rows-start : tie.Need-part-top-rows-start
 part-top-rows-start c = search needs
 
 part-top-rows-end : tie.Need-part-top-rows-end
-part-top-rows-end c = simp length-append (omega (arith, made-long (c .before .before), st-rows-at (c .before .before) .pre .3))
+part-top-rows-end c = simp length-append (omega (arith, made-long (rows-at-at-rows3 c), st-rows-at (rows-at-at-rows3 c) .pre .3))
 
 sub-top-rows-2 : tie.Need-sub-top-rows-2
 sub-top-rows-2 c = search needs
@@ -81,7 +87,7 @@ top-rows-requires c κs =
     let g = st-top-rows-arg2 c in (
       omega (arith, g .pre .3, g .pre .4),
       g .pre .3,
-      simp (length-take, length-append) (omega (arith, made-long (c .before .before .before .before))),
+      simp (length-take, length-append) (omega (arith, made-long (rows-at-at-top-rows-arg2 c))),
       part-there (g .args .at) _ (g .args .out .now) (g .pre .5),
     )
 

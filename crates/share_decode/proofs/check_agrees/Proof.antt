@@ -32,11 +32,14 @@ st-starts c = st-share-len (share-len-at-starts c)
 abbrev starts-at-fill : tie.After-fill → tie.After-starts
 starts-at-fill c = c .before .before .before
 
+abbrev fill-at-places3 : tie.After-places3 → tie.After-fill
+fill-at-places3 c = c .before .before .before
+
 abbrev st-places3 : tie.After-places3 → tie.Start
-st-places3 c = st-starts (starts-at-fill (c .before .before .before))
+st-places3 c = st-starts (starts-at-fill (fill-at-places3 c))
 
 abbrev fill-at-agrees-arg2 : tie.After-agrees-arg2 → tie.After-fill
-fill-at-agrees-arg2 c = c .before .before .before .before .before
+fill-at-agrees-arg2 c = fill-at-places3 (c .before .before)
 
 abbrev starts-at-agrees-arg2 : tie.After-agrees-arg2 → tie.After-starts
 starts-at-agrees-arg2 c = starts-at-fill (fill-at-agrees-arg2 c)
@@ -105,7 +108,7 @@ part-agrees-start : tie.Need-part-agrees-start
 part-agrees-start c = search needs
 
 part-agrees-end : tie.Need-part-agrees-end
-part-agrees-end c = simp length-append (omega (arith, facts (st-places3 c), places-long (starts-at-fill (c .before .before .before))))
+part-agrees-end c = simp length-append (omega (arith, facts (st-places3 c), places-long (starts-at-fill (fill-at-places3 c))))
 
 agrees-requires : tie.Need-agrees-requires
 agrees-requires c κs =

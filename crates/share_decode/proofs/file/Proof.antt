@@ -29,14 +29,20 @@ share-len-at-starts c = c .before .before
 abbrev st-starts : tie.After-starts → tie.Start
 st-starts c = st-share-len (share-len-at-starts c)
 
+abbrev starts-at-places3 : tie.After-places3 → tie.After-starts
+starts-at-places3 c = c .before .before
+
+abbrev starts-at-file-arg2 : tie.After-file-arg2 → tie.After-starts
+starts-at-file-arg2 c = starts-at-places3 (c .before .before)
+
 abbrev share-len-at-file-arg2 : tie.After-file-arg2 → tie.After-share-len
-share-len-at-file-arg2 c = share-len-at-starts (c .before .before .before .before)
+share-len-at-file-arg2 c = share-len-at-starts (starts-at-file-arg2 c)
 
 abbrev st-file-arg2 : tie.After-file-arg2 → tie.Start
 st-file-arg2 c = st-share-len (share-len-at-file-arg2 c)
 
 abbrev starts-at-end : tie.After-slice-known2 → tie.After-starts
-starts-at-end c = c .before .before .before .before .before .before .before
+starts-at-end c = starts-at-file-arg2 (c .before .before .before)
 
 abbrev share-len-at-end : tie.After-slice-known2 → tie.After-share-len
 share-len-at-end c = share-len-at-starts (starts-at-end c)
@@ -86,7 +92,7 @@ part-file-start : tie.Need-part-file-start
 part-file-start c = search needs
 
 part-file-end : tie.Need-part-file-end
-part-file-end c = simp length-append (omega (arith, facts (st-starts (c .before .before)), places-long (c .before .before)))
+part-file-end c = simp length-append (omega (arith, facts (st-starts (starts-at-places3 c)), places-long (starts-at-places3 c)))
 
 file-requires : tie.Need-file-requires
 file-requires c κs =
@@ -94,7 +100,7 @@ file-requires c κs =
     let a = g .args in
     let p = g .pre in
     let k = share-len-at-file-arg2 c in
-    let e = c .before .before .before .before .starts .ensures in
+    let e = starts-at-file-arg2 c .starts .ensures in
     let h : a .sizes .k ≤ 32 = omega (arith, facts g) in
     (p .0, lent-long (a .sizes) (a .stripes) _ _ _ (a .held .now) (as-long k) h (p .3) e, lent-placed (a .sizes) (a .stripes) _ _ _ (a .held .now) (as-long k) h (p .3) e, p .1, p .2, p .4, p .5)
 

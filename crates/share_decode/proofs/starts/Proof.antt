@@ -22,11 +22,15 @@ abbrev μ-loop : tie.MeasureT-loop
 
 -- places in the code
 
+-- the places
+abbrev st-at-turn : tie.In-loop Inv-loop μ-loop → tie.Start Inv-loop μ-loop
+st-at-turn c = c .before .before
+
 -- no place is far
-few : (c : tie.In-loop Inv-loop μ-loop) → (c .before) .loop .t * (c .before .before) .args .share ≤ 32 * 253952
+few : (c : tie.In-loop Inv-loop μ-loop) → (c .before) .loop .t * (st-at-turn c) .args .share ≤ 32 * 253952
 few c =
-    let h : (c .before) .loop .t ≤ 32 = omega (arith, c .loop-test .taken, (c .before .before) .pre .1) in
-    mul-le-mul h ((c .before .before) .pre .0)
+    let h : (c .before) .loop .t ≤ 32 = omega (arith, c .loop-test .taken, (st-at-turn c) .pre .1) in
+    mul-le-mul h (st-at-turn c .pre .0)
 
 loop-holds : tie.Need-loop-holds Inv-loop μ-loop
 loop-holds c = (refl, omega arith, refl)
@@ -35,7 +39,7 @@ mul-out : tie.Need-mul-out Inv-loop μ-loop
 mul-out c = omega (arith, few c)
 
 mul-out-2 : tie.Need-mul-out-2 Inv-loop μ-loop
-mul-out-2 c = omega (arith, c .loop-test .taken, (c .before .before) .pre .1)
+mul-out-2 c = omega (arith, c .loop-test .taken, (st-at-turn c) .pre .1)
 
 slice-write-out : tie.Need-slice-write-out Inv-loop μ-loop
 slice-write-out c = search needs
@@ -49,7 +53,7 @@ loop-less c = search needs
 loop-again : tie.Need-loop-again Inv-loop μ-loop
 loop-again c =
     let l = c .before .loop in
-    let a = c .before .before .args in
+    let a = st-at-turn c .args in
     (fill-loop (λ t. t * a .share) (a .out .now) (l .out) (l .t) _ (omega arith) refl (l .inv .0), omega arith, length-set (l .out) (l .t) _ ∙ l .inv .2)
 
 same-length : tie.Need-same-length Inv-loop μ-loop

@@ -56,8 +56,11 @@ no-size : (c : tie.After-size) → Refuse (c .size .given .0 .0) ≡ answer (st-
 no-size c = let k = c .before .before in refuses _ (whole (st-record k)) (k .check-both .ensures) (c .size .given .1)
 
 -- 2 AREA
+abbrev check-both-at-share-len : tie.After-share-len → tie.After-check-both
+check-both-at-share-len c = c .before .before .before .before
+
 abbrev st-len : tie.After-share-len → tie.Start
-st-len c = st-record (c .before .before .before .before)
+st-len c = st-record (check-both-at-share-len c)
 
 sound-on : (c : tie.After-share-len) → Sound (R (st-len c))
 sound-on c =
@@ -89,7 +92,7 @@ is-area c =
     ∙ ap (λ (v : ℕ). asked (Area when not (eqb (g .args .lent) (R g .sizes .n * (R g .capacity * v))))) (row (at-len c))
 
 on-area : (c : tie.After-share-len) → thens (areas (st-len c)) ≡ answer (st-len c)
-on-area c = let k = c .before .before .before .before in goes-on (whole (st-record k)) (k .check-both .ensures) (cc)
+on-area c = let k = check-both-at-share-len c in goes-on (whole (st-record k)) (k .check-both .ensures) (cc)
 
 pub check-area-spec : {M : Type 1} → statement M
 check-area-spec =

@@ -49,31 +49,40 @@ no-count : (c : tie.After-count) → Refuse (c .count .given .0 .0) ≡ answer (
 no-count c = let k = c .before .before in refuses _ (whole (st-count k)) (is-count k) (c .count .given .1)
 
 -- 5 NODE
+abbrev check-count-at-check-nodes : tie.After-check-nodes → tie.After-check-count
+check-count-at-check-nodes c = c .before .before .before
+
 abbrev st-node : tie.After-check-nodes → tie.Start
-st-node c = st-count (c .before .before .before)
+st-node c = st-count (check-count-at-check-nodes c)
 
 on-node : (c : tie.After-check-nodes) → thens (nodes (st-node c)) ≡ answer (st-node c)
-on-node c = goes-on (whole (st-node c)) (is-count (c .before .before .before)) (c .before .enum-told .given .1)
+on-node c = goes-on (whole (st-node c)) (is-count (check-count-at-check-nodes c)) (c .before .enum-told .given .1)
 
 no-node : (c : tie.After-node) → Refuse (c .node .given .0 .0) ≡ answer (st-node (c .before .before))
 no-node c = let k = c .before .before in refuses _ (on-node k) (k .check-nodes .ensures) (c .node .given .1)
 
 -- 6 REPEAT
+abbrev check-nodes-at-check-repeat : tie.After-check-repeat → tie.After-check-nodes
+check-nodes-at-check-repeat c = c .before .before .before
+
 abbrev st-repeat : tie.After-check-repeat → tie.Start
-st-repeat c = st-node (c .before .before .before)
+st-repeat c = st-node (check-nodes-at-check-repeat c)
 
 on-repeat : (c : tie.After-check-repeat) → thens (repeats (st-repeat c)) ≡ answer (st-repeat c)
-on-repeat c = let k = c .before .before .before in goes-on (on-node k) (k .check-nodes .ensures) (cc)
+on-repeat c = let k = check-nodes-at-check-repeat c in goes-on (on-node k) (k .check-nodes .ensures) (cc)
 
 no-repeat : (c : tie.After-repeat) → Refuse (c .repeat .given .0 .0) ≡ answer (st-repeat (c .before .before))
 no-repeat c = let k = c .before .before in refuses _ (on-repeat k) (k .check-repeat .ensures) (c .repeat .given .1)
 
 -- 9 DOWN
+abbrev check-repeat-at-check-service : tie.After-check-service → tie.After-check-repeat
+check-repeat-at-check-service c = c .before .before .before
+
 abbrev st-down : tie.After-check-service → tie.Start
-st-down c = st-repeat (c .before .before .before)
+st-down c = st-repeat (check-repeat-at-check-service c)
 
 on-down : (c : tie.After-check-service) → thens (downs (st-down c)) ≡ answer (st-down c)
-on-down c = let k = c .before .before .before in goes-on (on-repeat k) (k .check-repeat .ensures) (cc)
+on-down c = let k = check-repeat-at-check-service c in goes-on (on-repeat k) (k .check-repeat .ensures) (cc)
 
 pub check-boards-spec : {M : Type 1} → statement M
 check-boards-spec =

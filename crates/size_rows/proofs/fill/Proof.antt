@@ -29,9 +29,15 @@ abbrev μ-loop : tie.MeasureT-loop
 loop-holds : tie.Need-loop-holds Inv-loop μ-loop
 loop-holds c = (none _ 0, refl, omega arith, omega arith, refl)
 
+abbrev step-at-slice-known2 : tie.After-slice-known2 Inv-loop μ-loop → tie.After-step Inv-loop μ-loop
+step-at-slice-known2 c = c .before .before
+
+abbrev head-at-step-arg : tie.After-step-arg Inv-loop μ-loop → tie.At-loop Inv-loop μ-loop
+head-at-step-arg c = c .before .before
+
 -- where a turn began, and where the call began
 abbrev turn : tie.After-slice-known2 Inv-loop μ-loop → tie.At-loop Inv-loop μ-loop
-turn c = c .before .before .before .before .before
+turn c = head-at-step-arg (step-at-slice-known2 c .before)
 
 abbrev st : tie.At-loop Inv-loop μ-loop → tie.Start Inv-loop μ-loop
 st c = c .before .before
@@ -42,7 +48,7 @@ legal-here c =
     subst LegalPlace (sym (c .loop .inv .1)) (legal-after (s .args .most) (s .pre .0) (c .loop .i) (s .args .place) (s .pre .1))
 
 step-requires : tie.Need-step-requires Inv-loop μ-loop
-step-requires c κs = let k = c .before .before in (legal-here k, omega arith, omega (arith, k .loop .inv .4))
+step-requires c κs = let k = head-at-step-arg c in (legal-here k, omega arith, omega (arith, k .loop .inv .4))
 
 -- there is room for the lines after a turn
 room-more : (c : tie.After-slice-known2 Inv-loop μ-loop)
@@ -58,13 +64,13 @@ room-more c =
 
 -- what is written after a turn
 wrote-more : (c : tie.After-slice-known2 Inv-loop μ-loop)
-    → let k = turn c in let a = st k .args in let w = c .before .before .step in
+    → let k = turn c in let a = st k .args in let w = step-at-slice-known2 c .step in
     Wrote (a .out .now) 0 (rows (met (a .most) (k .loop .i + 1) (a .place))) (w .last .1 .1 .1 .0) (w .result .count)
 wrote-more c =
     let k = turn c in
     let a = st k .args in
     let i = k .loop .i in
-    let w = c .before .before .step in
+    let w = step-at-slice-known2 c .step in
     let e : rows (met (a .most) (i + 1) (a .place)) ≡ rows (met (a .most) i (a .place)) ++ rows (met (a .most) 1 (k .loop .run .place)) =
     rows-next (a .most) i (a .place) ∙ ap (λ p. rows (met (a .most) i (a .place)) ++ rows (met (a .most) 1 p)) (sym (k .loop .inv .1)) in
     subst (λ l. Wrote (a .out .now) 0 l (w .last .1 .1 .1 .0) (w .result .count)) (sym e)
@@ -75,7 +81,7 @@ loop-again c =
     let k = turn c in
     let a = st k .args in
     let i = k .loop .i in
-    let w = c .before .before .step in
+    let w = step-at-slice-known2 c .step in
     let m = line-most (a .most) (k .loop .run .place) (legal-here k) in (
       wrote-more c,
       w .ensures .1 ∙ ap (after (a .most) 1) (k .loop .inv .1) ∙ sym (after-add (a .most) i 1 (a .place)),
@@ -87,7 +93,7 @@ loop-again c =
 returns : tie.Need-returns Inv-loop μ-loop
 returns c =
     let k = c .before .loop in
-    let s = c .before .before .before in
+    let s = st (c .before) in
     let e : k .i ≡ s .args .steps = omega (arith, k .inv .2) in (
       subst (λ i. Wrote (s .args .out .now) 0 (rows (met (s .args .most) i (s .args .place))) (k .out) (k .run .count)) e (k .inv .0),
       subst (λ i. k .run .place ≡ after (s .args .most) i (s .args .place)) e (k .inv .1),

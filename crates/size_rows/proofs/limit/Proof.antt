@@ -26,8 +26,11 @@ abbrev μ-loop : tie.MeasureT-loop
 abbrev turn : tie.After-feed Inv-loop μ-loop → tie.At-loop Inv-loop μ-loop
 turn c = c .before .before .before .before
 
+abbrev st-at-start : tie.After-start Inv-loop μ-loop → tie.Start Inv-loop μ-loop
+st-at-start c = c .before .before
+
 abbrev st : tie.At-loop Inv-loop μ-loop → tie.Start Inv-loop μ-loop
-st c = c .before .before .before
+st c = st-at-start (c .before)
 
 -- what the bytes that are left give, with the byte that was read
 fed-on : (c : tie.After-feed Inv-loop μ-loop)
@@ -46,11 +49,17 @@ fed-on c =
 abbrev heard : tie.After-feed Inv-loop μ-loop → Read → ℕ
 heard c x = let k = turn c in let l = st k .args .input .now in told 0 (λ r. reads 0 [] 33 r (drop (k .loop .t + 1) l) go) (λ v. go v (drop (k .loop .t + 1) l)) x
 
+abbrev read2-at-whole : tie.After-whole Inv-loop μ-loop → tie.After-read2 Inv-loop μ-loop
+read2-at-whole c = c .before .before
+
+abbrev feed-at-read2 : tie.After-read2 Inv-loop μ-loop → tie.After-feed Inv-loop μ-loop
+feed-at-read2 c = c .before .before
+
 whole-read : (c : tie.After-whole Inv-loop μ-loop)
-    → let k = turn (c .before .before .before .before) in let l = st k .args .input .now in c .whole .result ≡ go (c .before .before .read2 .given .0 .0) (drop (k .loop .t + 1) l)
+    → let k = turn (feed-at-read2 (read2-at-whole c)) in let l = st k .args .input .now in c .whole .result ≡ go (read2-at-whole c .read2 .given .0 .0) (drop (k .loop .t + 1) l)
 whole-read c =
-    let k = turn (c .before .before .before .before) in
-    c .whole .ensures ∙ ap (wholeLimit (c .before .before .read2 .given .0 .0)) (sym (length-drop (k .loop .t + 1) (st k .args .input .now)))
+    let k = turn (feed-at-read2 (read2-at-whole c)) in
+    c .whole .ensures ∙ ap (wholeLimit (read2-at-whole c .read2 .given .0 .0)) (sym (length-drop (k .loop .t + 1) (st k .args .input .now)))
 
 at-end : tie.Need-returns-3 Inv-loop μ-loop
 at-end c =
@@ -65,7 +74,7 @@ limit-spec =
     Inv-loop
     μ-loop
     (λ c κs. search needs)
-    (λ c. (omega arith, ap (λ r. reads 0 [] 33 r (c .before .before .args .input .now) go) (c .start .ensures) ∙ limit-reads _))
+    (λ c. (omega arith, ap (λ r. reads 0 [] 33 r (st-at-start c .args .input .now) go) (c .start .ensures) ∙ limit-reads _))
     (λ c. search needs)
     (λ c. omega arith)
     (λ c κs. search needs)
@@ -76,7 +85,7 @@ limit-spec =
     (λ c. search needs)
     (λ c. omega arith)
     (λ c κs. search needs)
-    (λ c. let f = c .before .before .before .before in whole-read c ∙ sym (ap (heard f) (c .before .before .read2 .given .1)) ∙ fed-on f)
+    (λ c. let f = feed-at-read2 (read2-at-whole c) in whole-read c ∙ sym (ap (heard f) (read2-at-whole c .read2 .given .1)) ∙ fed-on f)
     (λ c. search needs)
     (λ c. let f = c .before .before in sym (ap (heard f) (c .enum-told .given .1)) ∙ fed-on f)
     at-end)

@@ -21,14 +21,20 @@ fits : (c : tie.Start) → let a = c .args in Rooms (a .z) (a .at) (length (a .o
 fits c = rooms _ _ _ (legal-facts _ (c .pre .0)) (c .pre .2)
 
 -- past each piece: where the call began, and what is written so far
+abbrev st-at-put-named-arg2 : tie.After-put-named-arg2 → tie.Start
+st-at-put-named-arg2 c = c .before .before .before
+
 abbrev st-n : tie.After-put-named → tie.Start
-st-n c = c .before .before .before .before
+st-n c = st-at-put-named-arg2 (c .before)
 
 by-n : (c : tie.After-put-named) → let a = st-n c .args in Wrote (a .out .now) (a .at) (toN (a .z)) (c .put-named .last .1 .1 .1 .0) (c .put-named .result)
 by-n c = c .put-named .ensures
 
+abbrev put-named-at-put-named-arg4 : tie.After-put-named-arg4 → tie.After-put-named
+put-named-at-put-named-arg4 c = c .before .before .before .before
+
 abbrev at-n : tie.After-put-named2 → tie.After-put-named
-at-n c = c .before .before .before .before .before
+at-n c = put-named-at-put-named-arg4 (c .before)
 
 abbrev st-k : tie.After-put-named2 → tie.Start
 st-k c = st-n (at-n c)
@@ -36,8 +42,11 @@ st-k c = st-n (at-n c)
 by-k : (c : tie.After-put-named2) → let a = st-k c .args in Wrote (a .out .now) (a .at) (toK (a .z)) (c .put-named2 .last .1 .1 .1 .0) (c .put-named2 .result)
 by-k c = then (by-n (at-n c)) (c .put-named2 .ensures) (fits (st-k c) .k)
 
+abbrev put-named2-at-put-named-arg6 : tie.After-put-named-arg6 → tie.After-put-named2
+put-named2-at-put-named-arg6 c = c .before .before .before .before
+
 abbrev at-k : tie.After-put-named3 → tie.After-put-named2
-at-k c = c .before .before .before .before .before
+at-k c = put-named2-at-put-named-arg6 (c .before)
 
 abbrev st-d : tie.After-put-named3 → tie.Start
 st-d c = st-k (at-k c)
@@ -45,8 +54,11 @@ st-d c = st-k (at-k c)
 by-d : (c : tie.After-put-named3) → let a = st-d c .args in Wrote (a .out .now) (a .at) (toD (a .z)) (c .put-named3 .last .1 .1 .1 .0) (c .put-named3 .result)
 by-d c = then (by-k (at-k c)) (c .put-named3 .ensures) (fits (st-d c) .d)
 
+abbrev put-named3-at-put-named-arg8 : tie.After-put-named-arg8 → tie.After-put-named3
+put-named3-at-put-named-arg8 c = c .before .before .before .before
+
 abbrev at-d : tie.After-put-named4 → tie.After-put-named3
-at-d c = c .before .before .before .before .before
+at-d c = put-named3-at-put-named-arg8 (c .before)
 
 abbrev st-r : tie.After-put-named4 → tie.Start
 st-r c = st-d (at-d c)
@@ -110,13 +122,13 @@ put-row-spec =
     tie.close
     (tie.spec
     (λ c. search needs)
-    (λ c κs. fits (c .before .before .before) .n)
+    (λ c κs. fits (st-at-put-named-arg2 c) .n)
     (λ c. search needs)
-    (λ c κs. let p = c .before .before .before .before in room (by-n p) _ (fits (st-n p) .k))
+    (λ c κs. let p = put-named-at-put-named-arg4 c in room (by-n p) _ (fits (st-n p) .k))
     (λ c. search needs)
-    (λ c κs. let p = c .before .before .before .before in room (by-k p) _ (fits (st-k p) .d))
+    (λ c κs. let p = put-named2-at-put-named-arg6 c in room (by-k p) _ (fits (st-k p) .d))
     (λ c. search needs)
-    (λ c κs. let p = c .before .before .before .before in room (by-d p) _ (fits (st-d p) .r))
+    (λ c κs. let p = put-named3-at-put-named-arg8 c in room (by-d p) _ (fits (st-d p) .r))
     (λ c. search needs)
     (λ c κs. search needs)
     (λ c κs. let p = at-r (c .before) in rw (is-share (c .before)) (room (by-r p) _ (fits (st-r p) .share)))

@@ -13,23 +13,32 @@ use borrow.Author.Needs.{needs}
 use Rattle.size_rows.proofs.step.Statement.{statement}
 use Rattle.size_rows.proofs.step.Tie as tie
 
+abbrev put-row-at-slice-known2 : tie.After-slice-known2 → tie.After-put-row
+put-row-at-slice-known2 c = c .before .before
+
 -- where the line is about to be written, and where the call began
 abbrev lent : tie.After-slice-known2 → tie.After-put-row-arg
-lent c = c .before .before .before
+lent c = put-row-at-slice-known2 c .before
+
+abbrev place-at-put-row-arg : tie.After-put-row-arg → tie.After-place
+place-at-put-row-arg c = c .before .before
 
 abbrev st : tie.After-put-row-arg → tie.Start
-st c = c .before .before .before .before .before
+st c = place-at-put-row-arg c .before .before .before
 
 is-legal : (c : tie.After-put-row-arg) → LegalPlace (st c .args .place)
 is-legal c = st c .pre .0
+
+abbrev put-row-at-next : tie.After-next → tie.After-put-row
+put-row-at-next c = put-row-at-slice-known2 (c .before)
 
 returns : tie.Need-returns
 returns c =
     let k = lent (c .before) in
     let a = st k .args in
-    let e = k .before .before .place .given .1 in (
-      subst (λ l. Wrote (a .out .now) (a .at) l (c .before .before .before .put-row .last .1 .1 .0) (c .before .before .before .put-row .result))
-          (sym (ap (λ p. rows (met (a .most) 1 p)) e ∙ one-line (a .most) _)) (c .before .before .before .put-row .ensures),
+    let e = place-at-put-row-arg k .place .given .1 in (
+      subst (λ l. Wrote (a .out .now) (a .at) l (put-row-at-next c .put-row .last .1 .1 .0) (put-row-at-next c .put-row .result))
+          (sym (ap (λ p. rows (met (a .most) 1 p)) e ∙ one-line (a .most) _)) (put-row-at-next c .put-row .ensures),
       c .next .ensures ∙ sym (ap (after (a .most) 1) e),
     )
 
@@ -46,8 +55,8 @@ step-spec =
     tie.close
     (tie.spec
     (λ c. search needs)
-    (λ c κs. (subst LegalPlace (c .before .before .place .given .1) (is-legal c), st c .pre .1, st c .pre .2))
-    (λ c κs. let k = lent c in subst LegalPlace (k .before .before .place .given .1) (is-legal k))
+    (λ c κs. (subst LegalPlace (place-at-put-row-arg c .place .given .1) (is-legal c), st c .pre .1, st c .pre .2))
+    (λ c κs. let k = lent c in subst LegalPlace (place-at-put-row-arg k .place .given .1) (is-legal k))
     (λ c. search needs)
     (λ c. search needs)
     returns

@@ -13,14 +13,20 @@ use Rattle.stand_in.proofs.byte_in.Tie as tie
 abbrev st-own-rows-arg2 : tie.After-own-rows-arg2 → tie.Start
 st-own-rows-arg2 c = c .before .before .before .before .before .before
 
+abbrev g-at-dot-arg : tie.After-dot-arg → tie.After-g
+g-at-dot-arg c = c .before .before
+
+abbrev f-at-dot-arg : tie.After-dot-arg → tie.After-f
+f-at-dot-arg c = g-at-dot-arg c .before .before
+
 abbrev st-dot-arg : tie.After-dot-arg → tie.Start
-st-dot-arg c = st-own-rows-arg2 (c .before .before .before .before .before .before)
+st-dot-arg c = st-own-rows-arg2 (f-at-dot-arg c .before .before)
 
 abbrev st-dot : tie.After-dot → tie.Start
 st-dot c = st-dot-arg (c .before)
 
 abbrev own-rows-dot : tie.After-dot → tie.After-own-rows
-own-rows-dot c = c .before .before .before .before .before .before
+own-rows-dot c = f-at-dot-arg (c .before) .before
 
 -- the rows have 32 bytes
 long-f : (c : tie.Start) → length (c .args .f .now) ≡ 32
@@ -35,7 +41,7 @@ own-rows-requires c κs = let p = st-own-rows-arg2 c .pre in (p .0, p .1, p .2, 
 dot-requires : tie.Need-dot-requires
 dot-requires c κs =
     let s = st-dot-arg c in
-    omega (arith, c .before .before .before .before .f .given, c .before .before .g .given, long-f s, long-g s, s .pre .3)
+    omega (arith, f-at-dot-arg c .f .given, g-at-dot-arg c .g .given, long-f s, long-g s, s .pre .3)
 
 returns : tie.Need-returns
 returns c =

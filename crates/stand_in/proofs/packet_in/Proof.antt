@@ -14,23 +14,29 @@ use Rattle.stand_in.proofs.packet_in.Statement.{statement}
 use Rattle.stand_in.proofs.packet_in.Tie as tie
 
 -- the places
+abbrev shared-slice-known3-at-struct-known : tie.After-struct-known → tie.After-shared-slice-known3
+shared-slice-known3-at-struct-known c = c .before .before .before
+
 abbrev st-struct-known : tie.After-struct-known → tie.Start
-st-struct-known c = c .before .before .before .before .before .before
+st-struct-known c = shared-slice-known3-at-struct-known c .before .before .before
 
 abbrev st-factors-arg : tie.After-factors-from-arg → tie.Start
 st-factors-arg c = st-struct-known (c .before)
 
+abbrev gf-at-second-bytes-arg2 : tie.After-second-bytes-arg2 → tie.After-gf
+gf-at-second-bytes-arg2 c = c .before .before .before
+
 abbrev st-bytes-arg2 : tie.After-second-bytes-arg2 → tie.Start
-st-bytes-arg2 c = st-factors-arg (c .before .before .before .before .before)
+st-bytes-arg2 c = st-factors-arg (gf-at-second-bytes-arg2 c .before .before)
 
 abbrev bytes-end : tie.After-slice-known4 → tie.After-second-bytes
 bytes-end c = c .before .before
 
 abbrev factors-end : tie.After-slice-known4 → tie.After-factors-from
-factors-end c = bytes-end c .before .before .before .before .before
+factors-end c = gf-at-second-bytes-arg2 (bytes-end c .before) .before
 
 abbrev held-end : tie.After-slice-known4 → tie.After-shared-slice-known3
-held-end c = factors-end c .before .before .before .before .before
+held-end c = shared-slice-known3-at-struct-known (factors-end c .before .before)
 
 abbrev st-end : tie.After-slice-known4 → tie.Start
 st-end c = st-bytes-arg2 (bytes-end c .before)
@@ -54,7 +60,7 @@ second-bytes-requires c κs =
       omega (arith, f .some-read, f .read-helpers),
       omega (arith, f .some-fresh),
       p .7 ∙ ap (λ (m : ℕ). a .stripes * m) (sym α′),
-      omega (arith, c .before .before .before .gf .given, p .10),
+      omega (arith, gf-at-second-bytes-arg2 c .gf .given, p .10),
       omega (arith, f .enough, f .few),
       omega (arith, f .enough, f .few),
       p .8,

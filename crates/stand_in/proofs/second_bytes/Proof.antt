@@ -21,17 +21,23 @@ abbrev μ-loop : tie.MeasureT-loop
 μ-loop d w gf stripes held out₀ a s₀ out s = stripes - s
 
 -- the places
+abbrev st-at-loop : tie.At-loop Inv-loop μ-loop → tie.Start Inv-loop μ-loop
+st-at-loop c = c .before .before .before .before
+
 abbrev st-turn : tie.In-loop Inv-loop μ-loop → tie.Start Inv-loop μ-loop
-st-turn c = c .before .before .before .before .before
+st-turn c = st-at-loop (c .before)
+
+abbrev loop-at-second-byte-arg : tie.After-second-byte-arg Inv-loop μ-loop → tie.At-loop Inv-loop μ-loop
+loop-at-second-byte-arg c = c .before .before
 
 abbrev st-byte-arg : tie.After-second-byte-arg Inv-loop μ-loop → tie.Start Inv-loop μ-loop
-st-byte-arg c = st-turn (c .before)
+st-byte-arg c = st-at-loop (loop-at-second-byte-arg c)
 
 abbrev st-byte : tie.After-second-byte Inv-loop μ-loop → tie.Start Inv-loop μ-loop
 st-byte c = st-byte-arg (c .before)
 
 abbrev st-loop : tie.After-loop Inv-loop μ-loop → tie.Start Inv-loop μ-loop
-st-loop c = c .before .before .before .before .before
+st-loop c = st-at-loop (c .before)
 
 -- where the bytes of a turn's stripe end
 stripe-end : (c : tie.In-loop Inv-loop μ-loop) → let a = st-turn c .args in c .before .loop .s * (a .w + a .d - 1) + (a .w + a .d - 1) ≤ a .stripes * (a .w + a .d - 1)
@@ -41,14 +47,14 @@ second-byte-requires : tie.Need-second-byte-requires Inv-loop μ-loop
 second-byte-requires c κs =
     let a = st-byte-arg c .args in
     let p = st-byte-arg c .pre in
-    let l = c .before .before .loop in
+    let l = loop-at-second-byte-arg c .loop in
     let n : l .s * (a .w + a .d - 1) + (a .w + a .d - 1) ≤ length (a .held .now) = omega (arith, stripe-end (c .before)) in
     (p .0, p .1, ap length (part-piece (a .w + a .d - 1) (l .s) (a .held .now)) ∙ length-piece (a .w + a .d - 1) (l .s) (a .held .now) n, p .3, p .4, p .5)
 
 loop-again : tie.Need-loop-again Inv-loop μ-loop
 loop-again c =
     let a = st-byte c .args in
-    let l = c .before .before .before .loop in
+    let l = loop-at-second-byte-arg (c .before) .loop in
     let f : List ℕ → ℕ = λ w. dotOf (a .gf .now) (take 1 w ++ drop (a .w) w) in (
       fill-loop (λ s. f (piece (a .w + a .d - 1) s (a .held .now))) (a .out .now) (l .out) (l .s) _ (omega arith)
           (c .second-byte .ensures ∙ ap f (part-piece (a .w + a .d - 1) (l .s) (a .held .now))) (l .inv .0),

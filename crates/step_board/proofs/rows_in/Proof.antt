@@ -18,23 +18,23 @@ use Rattle.step_board.proofs.rows_in.Tie as tie
 abbrev st-partners : tie.After-partners-arg → tie.Start
 st-partners c = c .before .before .before .before .before .before .before .before .before
 
-abbrev st-rows : tie.After-board-rows-arg3 → tie.Start
-st-rows c = st-partners (c .before .before .before .before .before .before .before)
-
-abbrev partners-rows : tie.After-board-rows-arg3 → tie.After-partners
-partners-rows c = c .before .before .before .before .before .before
-
 abbrev boards-rows : tie.After-board-rows-arg3 → tie.After-boards
 boards-rows c = c .before .before .before .before .before
 
-abbrev st-end : tie.After-slice-known6 → tie.Start
-st-end c = st-rows (c .before .before .before .before .before)
+abbrev partners-rows : tie.After-board-rows-arg3 → tie.After-partners
+partners-rows c = boards-rows c .before
 
-abbrev partners-end : tie.After-slice-known6 → tie.After-partners
-partners-end c = partners-rows (c .before .before .before .before .before)
+abbrev st-rows : tie.After-board-rows-arg3 → tie.Start
+st-rows c = st-partners (partners-rows c .before)
 
 abbrev rows-end : tie.After-slice-known6 → tie.After-board-rows
 rows-end c = c .before .before .before .before
+
+abbrev st-end : tie.After-slice-known6 → tie.Start
+st-end c = st-rows (rows-end c .before)
+
+abbrev partners-end : tie.After-slice-known6 → tie.After-partners
+partners-end c = partners-rows (rows-end c .before)
 
 partners-requires : tie.Need-partners-requires
 partners-requires c κs = let p = st-partners c .pre in (omega (arith, p .3), omega (arith, p .2), omega (arith, p .3), p .7)

@@ -19,41 +19,44 @@ use Rattle.step_board.proofs.share_in.Statement.{statement}
 use Rattle.step_board.proofs.share_in.Tie as tie
 
 -- the places
+abbrev shared-slice-known8-at-slice-known2 : tie.After-slice-known2 → tie.After-shared-slice-known8
+shared-slice-known8-at-slice-known2 c = c .before .before
+
 abbrev st-vectors : tie.After-slice-known2 → tie.Start
-st-vectors c = c .before .before .before .before .before .before .before .before .before .before
+st-vectors c = shared-slice-known8-at-slice-known2 c .before .before .before .before .before .before .before .before
 
 abbrev st-rows : tie.After-rows-of-arg → tie.Start
 st-rows c = st-vectors (c .before .before)
 
-abbrev st-work : tie.After-share-work-arg2 → tie.Start
-st-work c = st-rows (c .before .before .before .before .before .before)
-
-abbrev vectors-work : tie.After-share-work-arg2 → tie.After-whole-vectors
-vectors-work c = c .before .before .before .before .before .before .before
-
 abbrev rows-work : tie.After-share-work-arg2 → tie.After-rows
 rows-work c = c .before .before .before .before
 
-abbrev st-end : tie.After-slice-known4 → tie.Start
-st-end c = st-work (c .before .before .before)
+abbrev vectors-work : tie.After-share-work-arg2 → tie.After-whole-vectors
+vectors-work c = rows-work c .before .before .before
+
+abbrev st-work : tie.After-share-work-arg2 → tie.Start
+st-work c = st-vectors (vectors-work c .before)
 
 abbrev work-end : tie.After-slice-known4 → tie.After-share-work
 work-end c = c .before .before
 
+abbrev st-end : tie.After-slice-known4 → tie.Start
+st-end c = st-work (work-end c .before)
+
 abbrev rows-of-end : tie.After-slice-known4 → tie.After-rows-of
-rows-of-end c = c .before .before .before .before .before .before .before .before
+rows-of-end c = rows-work (work-end c .before) .before
 
 abbrev vectors-end : tie.After-slice-known4 → tie.After-whole-vectors
-vectors-end c = vectors-work (c .before .before .before)
-
-abbrev packets-end : tie.After-slice-known4 → tie.After-shared-slice-known6
-packets-end c = c .before .before .before .before .before .before .before .before .before .before .before .before .before .before .before
-
-abbrev stood-end : tie.After-slice-known4 → tie.After-shared-slice-known7
-stood-end c = c .before .before .before .before .before .before .before .before .before .before .before .before .before .before
+vectors-end c = vectors-work (work-end c .before)
 
 abbrev exchanges-end : tie.After-slice-known4 → tie.After-shared-slice-known8
-exchanges-end c = c .before .before .before .before .before .before .before .before .before .before .before .before .before
+exchanges-end c = shared-slice-known8-at-slice-known2 (vectors-end c .before)
+
+abbrev stood-end : tie.After-slice-known4 → tie.After-shared-slice-known7
+stood-end c = exchanges-end c .before
+
+abbrev packets-end : tie.After-slice-known4 → tie.After-shared-slice-known6
+packets-end c = stood-end c .before
 
 facts : (c : tie.Start) → Legal (c .args .sizes)
 facts c = legal-facts _ (c .pre .0)

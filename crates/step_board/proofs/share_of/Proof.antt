@@ -29,9 +29,6 @@ st-m c = st-known (c .before)
 abbrev st-m2 : tie.After-struct-known3 → tie.Start
 st-m2 c = st-m (c .before)
 
-abbrev st-1 : tie.After-struct-known3 → tie.Start
-st-1 c = st-m (c .before)
-
 abbrev st-2 : tie.After-share-in-arg → tie.Start
 st-2 c = st-m2 (c .before)
 
@@ -48,7 +45,7 @@ abbrev in-end : tie.After-slice-known2 → tie.After-share-in
 in-end c = c .before .before .before
 
 abbrev st-end : tie.After-slice-known2 → tie.Start
-st-end c = st-arg (c .before .before .before .before)
+st-end c = st-arg (in-end c .before)
 
 facts : (c : tie.Start) → Legal (c .args .sizes)
 facts c = legal-facts _ (c .pre .0)
@@ -94,7 +91,8 @@ share-in-requires : tie.Need-share-in-requires
 share-in-requires c κs =
     let p = st-arg c .pre in
     let f = facts (st-arg c) in
-    (p .0, p .1, p .2, p .3, p .4, p .5, p .6, p .7, p .8, p .9, p .10, longs (st-arg c) .0, longs (st-arg c) .1, longs (st-arg c) .2, simp (length-take, length-drop) (omega (arith, f .enough, f .few)), p .12)
+    let n = longs (st-arg c) in
+    (p .0, p .1, p .2, p .3, p .4, p .5, p .6, p .7, p .8, p .9, p .10, n .0, n .1, n .2, simp (length-take, length-drop) (omega (arith, f .enough, f .few)), p .12)
 
 returns : tie.Need-returns
 returns c =
@@ -110,7 +108,8 @@ returns c =
     ∙ ap₂ (λ (x y : List ℕ). finishedShare z (a .points .now) (a .stripes) (getD (a .fresh .now) (a .a) 0) (a .helpers .now) x partners
     (y ++ take (third + u - third) (drop third (a .packets .now))))
     (part-piece w (a .a) (a .packets .now)) (part-behind (t * w) v (a .a) (a .packets .now))
-    ∙ ap (λ (y : List ℕ). finishedShare z (a .points .now) (a .stripes) (getD (a .fresh .now) (a .a) 0) (a .helpers .now) (piece w (a .a) (a .packets .now)) partners (piece v (a .a) (drop (t * w) (a .packets .now)) ++ y))
+    ∙ ap (λ (y : List ℕ). finishedShare z (a .points .now) (a .stripes) (getD (a .fresh .now) (a .a) 0) (a .helpers .now) (piece w (a .a) (a .packets .now)) partners
+    (piece v (a .a) (drop (t * w) (a .packets .now)) ++ y))
     (part-behind (t * w + t * v) ((t - 1) * a .stripes) (a .a) (a .packets .now))
 
 pub share-of-spec : {M : Type 1} → statement M
@@ -139,7 +138,7 @@ share-of-spec =
     (λ c. let f = facts (st-m2 c) in omega (arith, f .enough, f .few))
     (λ c. search needs)
     (λ c. search needs)
-    (λ c. let n = ends (st-1 c) in omega (arith, n .first))
+    (λ c. let n = ends (st-m2 c) in omega (arith, n .first))
     (λ c. search needs)
     (λ c. search needs)
     (λ c. let n = ends (st-2 c) in omega (arith, n .second))

@@ -10,23 +10,29 @@ use Rattle.step_bytes.proofs.gather.Tie as tie
 abbrev st-received : tie.After-received-arg → tie.Start
 st-received c = c .before .before .before .before .before .before
 
+abbrev received-at-sent-bytes-arg : tie.After-sent-bytes-arg → tie.After-received
+received-at-sent-bytes-arg c = c .before .before .before
+
 abbrev st-sent : tie.After-sent-bytes-arg → tie.Start
-st-sent c = st-received (c .before .before .before .before)
+st-sent c = st-received (received-at-sent-bytes-arg c .before)
+
+abbrev sent-bytes-at-sent-bytes-arg2 : tie.After-sent-bytes-arg2 → tie.After-sent-bytes
+sent-bytes-at-sent-bytes-arg2 c = c .before .before .before
 
 abbrev st-sent2 : tie.After-sent-bytes-arg2 → tie.Start
-st-sent2 c = st-sent (c .before .before .before .before)
+st-sent2 c = st-sent (sent-bytes-at-sent-bytes-arg2 c .before)
 
 abbrev sent2-end : tie.After-slice-known4 → tie.After-sent-bytes2
 sent2-end c = c .before .before
 
 abbrev sent-end : tie.After-slice-known4 → tie.After-sent-bytes
-sent-end c = c .before .before .before .before .before .before
+sent-end c = sent-bytes-at-sent-bytes-arg2 (sent2-end c .before)
 
 abbrev received-end : tie.After-slice-known4 → tie.After-received
-received-end c = c .before .before .before .before .before .before .before .before .before .before
+received-end c = received-at-sent-bytes-arg (sent-end c .before)
 
 abbrev st-end : tie.After-slice-known4 → tie.Start
-st-end c = st-sent2 (c .before .before .before)
+st-end c = st-sent2 (sent2-end c .before)
 
 received-requires : tie.Need-received-requires
 received-requires c κs =

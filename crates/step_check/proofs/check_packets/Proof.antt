@@ -49,12 +49,18 @@ t-is g on =
     let h = fit-fresh (R g .sizes) (P g .count) (ready-on g .stated .is-legal) (few-on g on) in
     length-take-le (P g .count) (P g .fresh) (omega (arith, h, fresh-long g))
 
+abbrev st-at-else1 : tie.Else1 → tie.Start
+st-at-else1 c = c .before .before
+
 -- the places
 abbrev st : tie.Else1 → tie.Start
-st c = c .before .before
+st c = st-at-else1 c
+
+abbrev else1-at-stripe-count : tie.After-stripe-count → tie.Else1
+else1-at-stripe-count c = c .before .before
 
 abbrev at-on : tie.After-stripe-count → tie.Else1
-at-on c = c .before .before
+at-on c = else1-at-stripe-count c
 
 abbrev st-count : tie.After-stripe-count → tie.Start
 st-count c = st (at-on c)
@@ -62,7 +68,10 @@ st-count c = st (at-on c)
 abbrev at-count : tie.After-share-len → tie.After-stripe-count
 at-count c = c .before .before
 
-off : (c : tie.Then1) → P (c .before .before) .running ≡ false
+abbrev st-at-then1 : tie.Then1 → tie.Start
+st-at-then1 c = c .before .before
+
+off : (c : tie.Then1) → P (st-at-then1 c) .running ≡ false
 off c = not-true _ (c .if1 .taken)
 
 on : (c : tie.Else1) → P (st c) .running ≡ true
@@ -98,7 +107,7 @@ pub check-packets-spec : {M : Type 1} → statement M
 check-packets-spec =
     tie.close
     (tie.spec
-    (λ c. let g = c .before .before in
+    (λ c. let g = st-at-then1 c in
     sym (ap (λ (r : Bool). line (g .args .lent) r (packetsLen (R g) (length (freshOf (P g))))) (off c)))
     (λ c κs. ready-on (st (c .before)) .stated)
     (λ c. omega (arith, all-few (c .before)))

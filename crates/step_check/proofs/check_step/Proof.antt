@@ -66,15 +66,21 @@ whole g =
 abbrev st-area : tie.After-check-area → tie.Start
 st-area c = c .before
 
-no-area : (c : tie.After-area) → Refuse (c .area .given .0 .0) ≡ answer (st-area (c .before .before))
-no-area c = let k = c .before .before in refuses _ (whole (st-area k)) (k .check-area .ensures) (c .area .given .1)
+abbrev check-area-at-area : tie.After-area → tie.After-check-area
+check-area-at-area c = c .before .before
 
-lent-on : (c : tie.After-enum-told) → let g = st-area (c .before .before) in Lent (R g) (P g) (g .args .lent)
-lent-on c = area-facts _ _ _ (sym (c .before .before .check-area .ensures) ∙ c .enum-told .given .1)
+no-area : (c : tie.After-area) → Refuse (c .area .given .0 .0) ≡ answer (st-area (check-area-at-area c))
+no-area c = let k = check-area-at-area c in refuses _ (whole (st-area k)) (k .check-area .ensures) (c .area .given .1)
+
+abbrev check-area-at-enum-told : tie.After-enum-told → tie.After-check-area
+check-area-at-enum-told c = c .before .before
+
+lent-on : (c : tie.After-enum-told) → let g = st-area (check-area-at-enum-told c) in Lent (R g) (P g) (g .args .lent)
+lent-on c = area-facts _ _ _ (sym (check-area-at-enum-told c .check-area .ensures) ∙ c .enum-told .given .1)
 
 -- 2 AREA, the packets
 abbrev at-area : tie.After-check-packets → tie.After-check-area
-at-area c = c .before .before .before
+at-area c = check-area-at-enum-told (c .before)
 
 abbrev st-packets : tie.After-check-packets → tie.Start
 st-packets c = st-area (at-area c)
@@ -82,8 +88,11 @@ st-packets c = st-area (at-area c)
 on-packets : (c : tie.After-check-packets) → thens (packets (st-packets c)) ≡ answer (st-packets c)
 on-packets c = goes-on (whole (st-packets c)) (at-area c .check-area .ensures) (cc)
 
-no-packets : (c : tie.After-packet) → Refuse (c .packet .given .0 .0) ≡ answer (st-packets (c .before .before))
-no-packets c = let k = c .before .before in refuses _ (on-packets k) (k .check-packets .ensures) (c .packet .given .1)
+abbrev check-packets-at-packet : tie.After-packet → tie.After-check-packets
+check-packets-at-packet c = c .before .before
+
+no-packets : (c : tie.After-packet) → Refuse (c .packet .given .0 .0) ≡ answer (st-packets (check-packets-at-packet c))
+no-packets c = let k = check-packets-at-packet c in refuses _ (on-packets k) (k .check-packets .ensures) (c .packet .given .1)
 
 -- 8 EMPTY
 abbrev at-packets : tie.After-check-written → tie.After-check-packets
@@ -95,8 +104,11 @@ st-empty c = st-packets (at-packets c)
 on-empty : (c : tie.After-check-written) → thens (empties (st-empty c)) ≡ answer (st-empty c)
 on-empty c = goes-on (on-packets (at-packets c)) (at-packets c .check-packets .ensures) (cc)
 
-no-empty : (c : tie.After-empty) → Refuse (c .empty .given .0 .0) ≡ answer (st-empty (c .before .before))
-no-empty c = let k = c .before .before in refuses _ (on-empty k) (k .check-written .ensures) (c .empty .given .1)
+abbrev check-written-at-empty : tie.After-empty → tie.After-check-written
+check-written-at-empty c = c .before .before
+
+no-empty : (c : tie.After-empty) → Refuse (c .empty .given .0 .0) ≡ answer (st-empty (check-written-at-empty c))
+no-empty c = let k = check-written-at-empty c in refuses _ (on-empty k) (k .check-written .ensures) (c .empty .given .1)
 
 -- 17 IDLE
 abbrev at-empty : tie.After-check-idle → tie.After-check-written

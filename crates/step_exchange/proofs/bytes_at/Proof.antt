@@ -32,8 +32,11 @@ st-struct-known c = st-slice-known (c .before)
 abbrev st-loop : tie.At-loop Inv-loop μ-loop → tie.Start Inv-loop μ-loop
 st-loop c = st-struct-known (c .before)
 
+abbrev turn-at-exchange-byte-arg : tie.After-exchange-byte-arg Inv-loop μ-loop → tie.In-loop Inv-loop μ-loop
+turn-at-exchange-byte-arg c = c .before .before
+
 abbrev loop-arg : tie.After-exchange-byte-arg Inv-loop μ-loop → tie.At-loop Inv-loop μ-loop
-loop-arg c = c .before .before .before
+loop-arg c = turn-at-exchange-byte-arg c .before
 
 abbrev loop-byte : tie.After-exchange-byte Inv-loop μ-loop → tie.At-loop Inv-loop μ-loop
 loop-byte c = loop-arg (c .before)
@@ -57,14 +60,14 @@ exchange-byte-requires c κs =
     let p = s .pre in
     let w : ℕ = a .sizes .d * (2 * a .stripes) in
     let n : length (take w (drop (a .from) (a .packets .now))) ≡ w = simp (length-take, length-drop) (omega (arith, p .3, p .4)) in
-    (p .0, p .1, omega (arith, c .before .before .loop-test .taken), p .2, ap length (heard (loop-arg c)) ∙ n)
+    (p .0, p .1, omega (arith, turn-at-exchange-byte-arg c .loop-test .taken), p .2, ap length (heard (loop-arg c)) ∙ n)
 
 loop-again : tie.Need-loop-again Inv-loop μ-loop
 loop-again c =
     let s = st-loop (loop-byte c) in
     let a = s .args in
     let l = loop-byte c .loop in
-    let t = c .before .before .before .loop-test .taken in
+    let t = turn-at-exchange-byte-arg (c .before) .loop-test .taken in
     let f : List ℕ → ℕ → ℕ = λ q s. dotOf (a .ff .now) (received (a .sizes) (a .stripes) 0 s q) in (
       put-more (a .packets .now) (l .packets) (a .at) (l .s) _ (f (take (a .sizes .d * (2 * a .stripes)) (drop (a .from) (a .packets .now)))) (omega (arith, s .pre .4, t)) (l .inv .0)
           (c .exchange-byte .ensures ∙ ap (λ (q : List ℕ). f q (l .s)) (heard (loop-byte c))),

@@ -18,8 +18,11 @@ use Rattle.step_exchange.proofs.exchange_in.Tie as tie
 abbrev st-factors-arg : tie.After-factors-arg → tie.Start
 st-factors-arg c = c .before .before .before .before .before .before
 
+abbrev ff-at-bytes-at-arg2 : tie.After-bytes-at-arg2 → tie.After-ff
+ff-at-bytes-at-arg2 c = c .before .before .before
+
 abbrev factors-bytes-arg2 : tie.After-bytes-at-arg2 → tie.After-factors
-factors-bytes-arg2 c = c .before .before .before .before
+factors-bytes-arg2 c = ff-at-bytes-at-arg2 c .before
 
 abbrev st-bytes-arg2 : tie.After-bytes-at-arg2 → tie.Start
 st-bytes-arg2 c = st-factors-arg (factors-bytes-arg2 c .before)
@@ -50,7 +53,7 @@ bytes-at-requires : tie.Need-bytes-at-requires
 bytes-at-requires c κs =
     let p = st-bytes-arg2 c .pre in
     let f = facts (st-bytes-arg2 c) in
-    (omega (arith, f .enough, f .few), omega (arith, c .before .before .before .ff .given, p .12), p .4, p .9, p .10)
+    (omega (arith, f .enough, f .few), omega (arith, ff-at-bytes-at-arg2 c .ff .given, p .12), p .4, p .9, p .10)
 
 returns : tie.Need-returns
 returns c =

@@ -7,8 +7,11 @@ use Rattle.step_finish.proofs.finish_shares.Statement.{statement}
 use Rattle.step_finish.proofs.finish_shares.Tie as tie
 
 -- the places
+abbrev fill-inverses-at-finish-all-arg : tie.After-finish-all-arg → tie.After-fill-inverses
+fill-inverses-at-finish-all-arg c = c .before .before .before
+
 abbrev st-arg : tie.After-finish-all-arg → tie.Start
-st-arg c = c .before .before .before .before .before .before .before .before .before .before .before
+st-arg c = fill-inverses-at-finish-all-arg c .before .before .before .before .before .before .before .before
 
 abbrev all-end : tie.After-slice-known2 → tie.After-finish-all
 all-end c = c .before .before
@@ -16,7 +19,7 @@ all-end c = c .before .before
 finish-all-requires : tie.Need-finish-all-requires
 finish-all-requires c κs =
     let p = st-arg c .pre in
-    (p .0, p .1, p .2, c .before .before .before .fill-inverses .ensures, p .3, p .4, p .5, p .6, p .7)
+    (p .0, p .1, p .2, fill-inverses-at-finish-all-arg c .fill-inverses .ensures, p .3, p .4, p .5, p .6, p .7)
 
 returns : tie.Need-returns
 returns c =

@@ -30,14 +30,20 @@ st-past c = st-known (c .before)
 abbrev st-arg : tie.After-exchange-at-arg → tie.Start
 st-arg c = st-past (c .before)
 
+abbrev past-at-shared-slice-known5 : tie.After-shared-slice-known5 → tie.After-past
+past-at-shared-slice-known5 c = c .before .before
+
 abbrev st-known5 : tie.After-shared-slice-known5 → tie.Start
-st-known5 c = st-arg (c .before)
+st-known5 c = st-past (past-at-shared-slice-known5 c)
 
 abbrev past-arg2 : tie.After-exchange-at-arg2 → tie.After-past
-past-arg2 c = c .before .before .before
+past-arg2 c = past-at-shared-slice-known5 (c .before)
+
+abbrev exchange-at-at-slice-known2 : tie.After-slice-known2 → tie.After-exchange-at
+exchange-at-at-slice-known2 c = c .before .before
 
 abbrev past-end : tie.After-slice-known2 → tie.After-past
-past-end c = past-arg2 (c .before .before .before)
+past-end c = past-arg2 (exchange-at-at-slice-known2 c .before)
 
 abbrev t : tie.Start → ℕ
 t c = length (c .args .fresh .now)
@@ -106,7 +112,7 @@ returns c =
     let i : ℕ = getD (a .fresh .now) (a .p / (t s - 1)) 0 in
     let w : ℕ = a .sizes .d * (2 * a .stripes) in
     let x : ℕ → List ℕ = λ b. exchangePacket (a .sizes) (a .points .now) (a .stripes) (piece (a .sizes .d) b (a .helpers .now)) (piece w b (a .packets .now)) i in
-    c .before .before .exchange-at .ensures
+    exchange-at-at-slice-known2 c .exchange-at .ensures
     ∙ ap (λ (hs : List ℕ). put (a .packets .now) (a .at) (exchangePacket (a .sizes) (a .points .now) (a .stripes) hs (take w (drop (b * w) (a .packets .now))) i))
     (part-piece (a .sizes .d) b (a .helpers .now))
     ∙ ap (λ (m : ℕ). put (a .packets .now) (a .at) (x m)) (past-end c .past .ensures)
@@ -129,7 +135,7 @@ carry-exchange-spec =
     (λ c. search needs)
     (λ c. omega (arith, run c, own c))
     (λ c. omega (arith, heard (st-arg c) .0, sender (c .before)))
-    (λ c. omega (arith, heard (st-known5 c) .0, sender (c .before .before)))
+    (λ c. omega (arith, heard (st-known5 c) .0, sender (past-at-shared-slice-known5 c)))
     exchange-at-requires
     (λ c. search needs)
     returns)

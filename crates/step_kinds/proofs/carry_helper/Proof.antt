@@ -23,8 +23,11 @@ st-known7 c = st-known6 (c .before)
 abbrev st-arg : tie.After-helper-at-arg → tie.Start
 st-arg c = st-known7 (c .before)
 
+abbrev helper-at-at-slice-known2 : tie.After-slice-known2 → tie.After-helper-at
+helper-at-at-slice-known2 c = c .before .before
+
 abbrev st-end : tie.After-slice-known2 → tie.Start
-st-end c = st-arg (c .before .before .before)
+st-end c = st-arg (helper-at-at-slice-known2 c .before)
 
 -- the fresh board that is served
 served : (c : tie.Start) → let a = c .args in a .p / a .sizes .d < length (a .fresh .now)
@@ -51,7 +54,7 @@ helper-at-requires c κs =
 
 returns : tie.Need-returns
 unfolding helperAt
-returns c = c .before .before .helper-at .ensures
+returns c = helper-at-at-slice-known2 c .helper-at .ensures
 
 pub carry-helper-spec : {M : Type 1} → statement M
 carry-helper-spec =

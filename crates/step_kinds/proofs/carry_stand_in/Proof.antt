@@ -23,8 +23,11 @@ st-known7 c = st-known6 (c .before)
 abbrev st-arg : tie.After-stand-in-at-arg → tie.Start
 st-arg c = st-known7 (c .before)
 
+abbrev stand-in-at-at-slice-known2 : tie.After-slice-known2 → tie.After-stand-in-at
+stand-in-at-at-slice-known2 c = c .before .before
+
 abbrev st-end : tie.After-slice-known2 → tie.Start
-st-end c = st-arg (c .before .before .before)
+st-end c = st-arg (stand-in-at-at-slice-known2 c .before)
 
 -- the fresh board that is served
 served : (c : tie.Start) → let a = c .args in a .p / (a .sizes .r - length (a .fresh .now)) < length (a .fresh .now)
@@ -51,7 +54,7 @@ stand-in-at-requires c κs =
 
 returns : tie.Need-returns
 unfolding standInAt
-returns c = c .before .before .stand-in-at .ensures
+returns c = stand-in-at-at-slice-known2 c .stand-in-at .ensures
 
 pub carry-stand-in-spec : {M : Type 1} → statement M
 carry-stand-in-spec =

@@ -50,12 +50,15 @@ few c = few-packets (c .args .sizes) (legal-facts _ (c .pre .0)) (length (c .arg
 number : (c : tie.In-loop Inv-loop μ-loop) → c .before .loop .q < length (st-turn c .args .fresh .now) * (st-turn c .args .sizes .d + st-turn c .args .sizes .r - 1)
 number c = omega (arith, c .loop-test .taken, st-turn c .pre .8)
 
-place-is : (c : tie.After-place Inv-loop μ-loop) → let a = st-turn (c .before) .args in
-    c .place .result ≡ placeAt (a .sizes) (a .stripes) (length (a .fresh .now)) (c .before .before .loop .q)
+abbrev loop-at-place : tie.After-place Inv-loop μ-loop → tie.At-loop Inv-loop μ-loop
+loop-at-place c = c .before .before
+
+place-is : (c : tie.After-place Inv-loop μ-loop) → let a = st-loop (loop-at-place c) .args in
+    c .place .result ≡ placeAt (a .sizes) (a .stripes) (length (a .fresh .now)) (loop-at-place c .loop .q)
 place-is c =
-    let a = st-turn (c .before) .args in
-    let q = c .before .before .loop .q in
-    c .place .ensures ∙ ap (λ (x : ℕ). (q + min q x) * a .stripes) (st-turn (c .before) .pre .4 .helper-count)
+    let a = st-loop (loop-at-place c) .args in
+    let q = loop-at-place c .loop .q in
+    c .place .ensures ∙ ap (λ (x : ℕ). (q + min q x) * a .stripes) (st-loop (loop-at-place c) .pre .4 .helper-count)
 
 place-requires : tie.Need-place-requires Inv-loop μ-loop
 place-requires c κs =
@@ -66,7 +69,7 @@ place-requires c κs =
 carry-packet-requires : tie.Need-carry-packet-requires Inv-loop μ-loop
 carry-packet-requires c κs =
     let p = st-turn (turn-arg c) .pre in
-    let l = turn-arg c .before .loop in
+    let l = loop-at-place (place-arg c) .loop in
     (p .0, p .1, p .2, p .3, p .4, p .5, p .6, p .7, number (turn-arg c), place-is (place-arg c), l .inv .2 ∙ p .9)
 
 loop-again : tie.Need-loop-again Inv-loop μ-loop

@@ -93,9 +93,12 @@ later-room c =
     let z = a .sizes in
     omega (arith, s .pre .10, place c, later-fits (a .stripes) (length (a .fresh .now)) (z .d) (z .r) (a .q) (facts s .some-fresh) (s .pre .8))
 
+abbrev else1-at-carry-stand-in-arg : tie.After-carry-stand-in-arg → tie.Else1
+else1-at-carry-stand-in-arg c = c .before .before
+
 carry-stand-in-requires : tie.Need-carry-stand-in-requires
 carry-stand-in-requires c κs =
-    let s = st-else (c .before .before) in
+    let s = st-else (else1-at-carry-stand-in-arg c) in
     let a = s .args in
     let p = s .pre in (
       p .0,
@@ -108,7 +111,7 @@ carry-stand-in-requires c κs =
       stand-ins-served (a .sizes) (a .fresh .now) (a .helpers .now) (a .standins .now) (p .4),
       p .7,
       c .before .if2 .taken,
-      later-room (c .before .before),
+      later-room (else1-at-carry-stand-in-arg c),
     )
 
 returns-2 : tie.Need-returns-2
@@ -162,8 +165,8 @@ returns-3 c =
     let a = s .args in
     exchange-end c .carry-exchange .ensures
     ∙ ap (put (a .packets .now) (a .at))
-    (packet-third (a .sizes) (a .points .now) (a .capacity) (a .stripes) (a .fresh .now) (a .helpers .now) (a .standins .now) (a .area .now) (a .q) (length (a .helpers .now)) (length (a .standins .now))
-    (a .packets .now) (s .pre .4 .helper-count) (s .pre .4 .stand-in-count) (omega (arith, t .before .if1 .left)) (omega (arith, t .if2 .left)))
+    (packet-third (a .sizes) (a .points .now) (a .capacity) (a .stripes) (a .fresh .now) (a .helpers .now) (a .standins .now) (a .area .now) (a .q)
+    (length (a .helpers .now)) (length (a .standins .now)) (a .packets .now) (s .pre .4 .helper-count) (s .pre .4 .stand-in-count) (omega (arith, t .before .if1 .left)) (omega (arith, t .if2 .left)))
 
 pub carry-packet-spec : {M : Type 1} → statement M
 carry-packet-spec =

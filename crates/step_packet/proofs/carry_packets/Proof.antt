@@ -7,8 +7,11 @@ use Rattle.step_packet.proofs.carry_packets.Statement.{statement}
 use Rattle.step_packet.proofs.carry_packets.Tie as tie
 
 -- the places
+abbrev fill-inverses-at-carry-all-arg : tie.After-carry-all-arg → tie.After-fill-inverses
+fill-inverses-at-carry-all-arg c = c .before .before .before
+
 abbrev st-arg : tie.After-carry-all-arg → tie.Start
-st-arg c = c .before .before .before .before .before .before .before .before .before .before .before
+st-arg c = fill-inverses-at-carry-all-arg c .before .before .before .before .before .before .before .before
 
 abbrev carry-end : tie.After-slice-known2 → tie.After-carry-all
 carry-end c = c .before .before
@@ -16,7 +19,7 @@ carry-end c = c .before .before
 carry-all-requires : tie.Need-carry-all-requires
 carry-all-requires c κs =
     let p = st-arg c .pre in
-    (p .0, p .1, p .2, c .before .before .before .fill-inverses .ensures, p .3, p .4, p .5, p .6, p .7, p .8)
+    (p .0, p .1, p .2, fill-inverses-at-carry-all-arg c .fill-inverses .ensures, p .3, p .4, p .5, p .6, p .7, p .8)
 
 returns : tie.Need-returns
 returns c =

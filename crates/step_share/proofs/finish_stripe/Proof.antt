@@ -24,16 +24,16 @@ abbrev g-finish : tie.After-finish-arg5 → tie.After-g
 g-finish c = c .before .before .before .before .before .before
 
 abbrev st-finish : tie.After-finish-arg5 → tie.Start
-st-finish c = st-row-sums (c .before .before .before .before .before .before .before .before)
+st-finish c = st-row-sums (g-finish c .before .before)
 
 abbrev finish-end : tie.After-slice-known8 → tie.After-finish
 finish-end c = c .before .before .before .before .before .before
 
 abbrev row-sums-end : tie.After-slice-known8 → tie.After-row-sums
-row-sums-end c = c .before .before .before .before .before .before .before .before .before .before .before .before .before .before
+row-sums-end c = g-finish (finish-end c .before) .before
 
 abbrev st-end : tie.After-slice-known8 → tie.Start
-st-end c = st-finish (c .before .before .before .before .before .before .before)
+st-end c = st-finish (finish-end c .before)
 
 facts : (c : tie.Start) → Legal (c .args .sizes)
 facts c = legal-facts _ (c .pre .0)

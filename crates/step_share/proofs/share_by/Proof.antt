@@ -43,38 +43,44 @@ st-turn c = st-loop (c .before)
 abbrev turn-hear : tie.After-hear-arg2 Inv-loop μ-loop → tie.In-loop Inv-loop μ-loop
 turn-hear c = c .before .before
 
+abbrev got-at-finish-stripe-arg4 : tie.After-finish-stripe-arg4 Inv-loop μ-loop → tie.After-got Inv-loop μ-loop
+got-at-finish-stripe-arg4 c = c .before .before .before .before .before
+
+abbrev firsts-at-got : tie.After-got Inv-loop μ-loop → tie.After-firsts Inv-loop μ-loop
+firsts-at-got c = c .before .before
+
 abbrev turn-part : tie.After-finish-stripe-arg4 Inv-loop μ-loop → tie.In-loop Inv-loop μ-loop
-turn-part c = turn-hear (c .before .before .before .before .before .before .before .before .before)
+turn-part c = turn-hear (firsts-at-got (got-at-finish-stripe-arg4 c) .before .before)
 
 abbrev turn-finish : tie.After-finish-stripe-arg5 Inv-loop μ-loop → tie.In-loop Inv-loop μ-loop
 turn-finish c = turn-part (c .before)
 
-abbrev firsts-finish : tie.After-finish-stripe-arg5 Inv-loop μ-loop → tie.After-firsts Inv-loop μ-loop
-firsts-finish c = c .before .before .before .before .before .before .before .before
-
 abbrev got-finish : tie.After-finish-stripe-arg5 Inv-loop μ-loop → tie.After-got Inv-loop μ-loop
-got-finish c = c .before .before .before .before .before .before
+got-finish c = got-at-finish-stripe-arg4 (c .before)
 
-abbrev finish-end : tie.After-slice-known11 Inv-loop μ-loop → tie.After-finish-stripe Inv-loop μ-loop
-finish-end c = c .before .before .before .before .before .before .before .before
-
-abbrev hear-end : tie.After-slice-known11 Inv-loop μ-loop → tie.After-hear Inv-loop μ-loop
-hear-end c = c .before .before .before .before .before .before .before .before .before .before .before .before .before .before .before .before .before .before
-
-abbrev turn-end : tie.After-slice-known11 Inv-loop μ-loop → tie.In-loop Inv-loop μ-loop
-turn-end c = turn-finish (c .before .before .before .before .before .before .before .before .before)
-
-abbrev got2-end : tie.After-slice-known11 Inv-loop μ-loop → tie.After-got2 Inv-loop μ-loop
-got2-end c = c .before .before .before .before .before .before .before
-
-abbrev g-end : tie.After-slice-known11 Inv-loop μ-loop → tie.After-g Inv-loop μ-loop
-g-end c = c .before .before .before .before .before
-
-abbrev f-end : tie.After-slice-known11 Inv-loop μ-loop → tie.After-f Inv-loop μ-loop
-f-end c = c .before .before .before
+abbrev firsts-finish : tie.After-finish-stripe-arg5 Inv-loop μ-loop → tie.After-firsts Inv-loop μ-loop
+firsts-finish c = firsts-at-got (got-finish c)
 
 abbrev out-end : tie.After-slice-known11 Inv-loop μ-loop → tie.After-out Inv-loop μ-loop
 out-end c = c .before
+
+abbrev f-end : tie.After-slice-known11 Inv-loop μ-loop → tie.After-f Inv-loop μ-loop
+f-end c = out-end c .before .before
+
+abbrev g-end : tie.After-slice-known11 Inv-loop μ-loop → tie.After-g Inv-loop μ-loop
+g-end c = f-end c .before .before
+
+abbrev got2-end : tie.After-slice-known11 Inv-loop μ-loop → tie.After-got2 Inv-loop μ-loop
+got2-end c = g-end c .before .before
+
+abbrev finish-end : tie.After-slice-known11 Inv-loop μ-loop → tie.After-finish-stripe Inv-loop μ-loop
+finish-end c = got2-end c .before
+
+abbrev hear-end : tie.After-slice-known11 Inv-loop μ-loop → tie.After-hear Inv-loop μ-loop
+hear-end c = firsts-finish (finish-end c .before) .before
+
+abbrev turn-end : tie.After-slice-known11 Inv-loop μ-loop → tie.In-loop Inv-loop μ-loop
+turn-end c = turn-finish (finish-end c .before)
 
 facts : (c : tie.Start Inv-loop μ-loop) → Legal (c .args .sizes)
 facts c = legal-facts _ (c .pre .0)

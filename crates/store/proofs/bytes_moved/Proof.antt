@@ -21,13 +21,17 @@ few-bytes g =
     let w : 2 * g .args .sizes .d + g .args .sizes .r - 1 ≤ 96 = omega (arith, legal-on g .enough, legal-on g .few) in
     mul-le-mul (few-fresh g) w
 
+-- the places
+abbrev st-at-struct-known2 : tie.After-struct-known2 → tie.Start
+st-at-struct-known2 c = c .before .before
+
 pub bytes-moved-spec : {M : Type 1} → statement M
 bytes-moved-spec =
     tie.close
     (tie.spec
     (λ c. omega (arith, few-fresh c))
     (λ c. let f = legal-on (c .before) in omega (arith, f .enough, f .few))
-    (λ c. let f = legal-on (c .before .before) in omega (arith, f .enough, f .few))
-    (λ c. omega (arith, legal-on (c .before .before) .some-fresh))
-    (λ c. omega (arith, few-bytes (c .before .before)))
+    (λ c. let f = legal-on (st-at-struct-known2 c) in omega (arith, f .enough, f .few))
+    (λ c. omega (arith, legal-on (st-at-struct-known2 c) .some-fresh))
+    (λ c. omega (arith, few-bytes (st-at-struct-known2 c)))
     (λ c. search needs))

@@ -15,8 +15,11 @@ use Rattle.store.proofs.edit_boards.Tie as tie
 abbrev st : tie.After-marks → tie.Start
 st c = c .before .before .before .before .before .before .before
 
+abbrev marks-at-marks2 : tie.After-marks2 → tie.After-marks
+marks-at-marks2 c = c .before .before
+
 abbrev at-marks : tie.After-edit-shares-arg → tie.After-marks
-at-marks c = c .before .before .before
+at-marks c = marks-at-marks2 (c .before)
 
 -- what the kernel asks
 readable-on : (g : tie.Start) → Readable (recordOf (g .args .kept)) (length (g .args .area .now)) (g .args .boards .now)
@@ -58,7 +61,7 @@ edit-boards-spec =
     tie.close
     (tie.spec
     (λ c. sym (ready-on (st (c .before)) .points-taken .long))
-    (λ c. sym (marks-long (st (c .before .before))))
+    (λ c. sym (marks-long (st (marks-at-marks2 c))))
     shares-ask
     (λ c. search needs)
     edited)

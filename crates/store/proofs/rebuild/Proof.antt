@@ -16,8 +16,11 @@ st c = c .before .before .before .before .before .before
 abbrev at-filled : tie.After-stripe-count → tie.After-fill-inverses
 at-filled c = c .before .before
 
+abbrev points-at-fill-inverses : tie.After-fill-inverses → tie.After-points
+points-at-fill-inverses c = c .before .before
+
 abbrev at-points : tie.After-stripe-count → tie.After-points
-at-points c = at-filled c .before .before
+at-points c = points-at-fill-inverses (at-filled c)
 
 abbrev at-count : tie.After-repair-shares-arg → tie.After-stripe-count
 at-count c = c .before .before .before
@@ -80,7 +83,7 @@ rebuild-spec =
     (tie.spec
     (λ c. search needs)
     (λ c κs. search needs)
-    (λ c κs. asks (st (c .before .before .before)) .is-ready .stated)
+    (λ c κs. asks (st (points-at-fill-inverses (c .before))) .is-ready .stated)
     (λ c. sym (asks (st (at-points (c .before))) .is-ready .points-taken .long))
     (λ c. search needs)
     shares-ask

@@ -20,11 +20,15 @@ abbrev μ-loop : tie.MeasureT-loop
 loop-holds : tie.Need-loop-holds Inv-loop μ-loop
 loop-holds c = refl
 
+-- the places
+abbrev turn-at-mark-of : tie.After-mark-of Inv-loop μ-loop → tie.In-loop Inv-loop μ-loop
+turn-at-mark-of c = c .before .before
+
 loop-again : tie.Need-loop-again Inv-loop μ-loop
-loop-again c = every-next _ _ _ (c .before .before .before .loop-test .taken) (sym (c .before .mark-of .ensures) ∙ c .if1 .taken) ∙ c .before .before .before .before .loop .inv
+loop-again c = every-next _ _ _ (turn-at-mark-of (c .before) .loop-test .taken) (sym (c .before .mark-of .ensures) ∙ c .if1 .taken) ∙ turn-at-mark-of (c .before) .before .loop .inv
 
 returns : tie.Need-returns Inv-loop μ-loop
-returns c = sym (every-no _ _ _ (c .before .before .before .loop-test .taken) (sym (c .before .mark-of .ensures) ∙ c .if1 .left)) ∙ c .before .before .before .before .loop .inv
+returns c = sym (every-no _ _ _ (turn-at-mark-of (c .before) .loop-test .taken) (sym (c .before .mark-of .ensures) ∙ c .if1 .left)) ∙ turn-at-mark-of (c .before) .before .loop .inv
 
 returns-2 : tie.Need-returns-2 Inv-loop μ-loop
 returns-2 c = sym (ap (every _) (drop-of-length-le _ (c .loop-test .left))) ∙ c .before .loop .inv

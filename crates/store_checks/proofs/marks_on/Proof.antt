@@ -19,19 +19,23 @@ Inv-loop boards marks₀ t₀ marks t = (turnOn (drop t boards) marks ≡ turnOn
 abbrev μ-loop : tie.MeasureT-loop
 μ-loop boards marks₀ t₀ marks t = length boards - t
 
+-- the places
+abbrev loop-at-shared-slice-known : tie.After-shared-slice-known Inv-loop μ-loop → tie.At-loop Inv-loop μ-loop
+loop-at-shared-slice-known c = c .before .before
+
 -- a board of the list has a mark
 marked : tie.Need-slice-write-marks Inv-loop μ-loop
 marked c =
-    let g = c .before .before .before in
+    let g = loop-at-shared-slice-known c .before in
     let a = g .args in
-    let l = c .before .before .loop in
+    let l = loop-at-shared-slice-known c .loop in
     let n = length (a .marks .now) in
     omega (arith, all-at (λ x. x < n) 0 (a .boards .now) (below-all n (a .boards .now) (g .pre)) (l .t) (c .before .loop-test .taken), l .inv .2)
 
 one-more : tie.Need-loop-again Inv-loop μ-loop
 one-more c =
-    let a = c .before .before .before .args in
-    let l = c .before .before .loop in
+    let a = loop-at-shared-slice-known c .before .args in
+    let l = loop-at-shared-slice-known c .loop in
     (turn-next (a .boards .now) (l .marks) (l .t) (c .before .loop-test .taken) ∙ l .inv .0, omega arith, length-set (l .marks) _ _ ∙ l .inv .2)
 
 all-on : tie.Need-returns Inv-loop μ-loop

@@ -16,14 +16,23 @@ use Rattle.store_checks.proofs.sound_in.Statement.{statement}
 use Rattle.store_checks.proofs.sound_in.Tie as tie
 
 -- the places, by the tests that are passed
+abbrev st-at-points2 : tie.After-points2 → tie.Start
+st-at-points2 c = c .before .before .before .before
+
 abbrev st : tie.After-points-taken → tie.Start
-st c = c .before .before .before .before .before
+st c = st-at-points2 (c .before)
+
+abbrev else1-at-else2 : tie.Else2 → tie.Else1
+else1-at-else2 c = c .before .before
 
 abbrev at-capacity : tie.Else2 → tie.After-points-taken
-at-capacity c = c .before .before .before
+at-capacity c = else1-at-else2 c .before
+
+abbrev else2-at-stripe-len : tie.After-stripe-len → tie.Else2
+else2-at-stripe-len c = c .before .before .before
 
 abbrev at-stripes : tie.After-stripe-len → tie.Else2
-at-stripes c = c .before .before .before
+at-stripes c = else2-at-stripe-len c
 
 abbrev at-points : tie.After-stripe-len → tie.After-points-taken
 at-points c = at-capacity (at-stripes c)
@@ -77,10 +86,10 @@ sound-in-spec =
     tie.close
     (tie.spec
     (λ c. search needs)
-    (λ c κs. c .before .before .before .before .pre)
+    (λ c κs. st-at-points2 c .pre)
     (λ c. let k = c .before in not-pointed (R k) (st k .pre) (ap not (sym (k .points-taken .ensures)) ∙ c .if1 .taken))
     (λ c. no-room _ (sized-on (c .before .before)) (c .if2 .taken))
-    (λ c. let k = c .before .before in much-room _ (sized-on (k .before .before)) (k .if2 .left) (c .if3 .taken))
+    (λ c. let k = c .before .before in much-room _ (sized-on (else1-at-else2 k)) (k .if2 .left) (c .if3 .taken))
     (λ c κs. search needs)
     (λ c. let k = roomy-on (c .before) in omega (arith, few _ (c .before .stripe-len .result) _ (k .high) (stripe (c .before)) (B-most _ (legal-facts _ (k .sized .is-legal)))))
     (λ c. let k = c .before .before .before in long _ (roomy-on k) (omega (arith, room k, c .if4 .taken)))

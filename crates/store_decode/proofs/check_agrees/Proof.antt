@@ -33,8 +33,11 @@ share-len-at-places c = c .before .before
 abbrev st-places : tie.After-places → tie.Start
 st-places c = st-share-len (share-len-at-places c)
 
+abbrev places-at-starts3 : tie.After-starts3 → tie.After-places
+places-at-starts3 c = c .before .before
+
 abbrev places-at-agrees-arg : tie.After-agrees-arg → tie.After-places
-places-at-agrees-arg c = c .before .before .before
+places-at-agrees-arg c = places-at-starts3 (c .before)
 
 abbrev share-len-at-agrees-arg : tie.After-agrees-arg → tie.After-share-len
 share-len-at-agrees-arg c = share-len-at-places (places-at-agrees-arg c)
@@ -109,7 +112,7 @@ part-agrees-start : tie.Need-part-agrees-start
 part-agrees-start c = search needs
 
 part-agrees-end : tie.Need-part-agrees-end
-part-agrees-end c = simp length-append (omega (arith, facts (st-places (c .before .before)), starts-long (c .before .before)))
+part-agrees-end c = simp length-append (omega (arith, facts (st-places (places-at-starts3 c)), starts-long (places-at-starts3 c)))
 
 agrees-requires : tie.Need-agrees-requires
 agrees-requires c κs =

@@ -33,14 +33,20 @@ share-len-at-places c = c .before .before
 abbrev st-places : tie.After-places → tie.Start
 st-places c = st-share-len (share-len-at-places c)
 
+abbrev places-at-starts3 : tie.After-starts3 → tie.After-places
+places-at-starts3 c = c .before .before
+
+abbrev places-at-file-arg2 : tie.After-file-arg2 → tie.After-places
+places-at-file-arg2 c = places-at-starts3 (c .before .before)
+
 abbrev share-len-at-file-arg2 : tie.After-file-arg2 → tie.After-share-len
-share-len-at-file-arg2 c = share-len-at-places (c .before .before .before .before)
+share-len-at-file-arg2 c = share-len-at-places (places-at-file-arg2 c)
 
 abbrev st-file-arg2 : tie.After-file-arg2 → tie.Start
 st-file-arg2 c = st-share-len (share-len-at-file-arg2 c)
 
 abbrev places-at-end : tie.After-slice-known2 → tie.After-places
-places-at-end c = c .before .before .before .before .before .before .before
+places-at-end c = places-at-file-arg2 (c .before .before .before)
 
 abbrev share-len-at-end : tie.After-slice-known2 → tie.After-share-len
 share-len-at-end c = share-len-at-places (places-at-end c)
@@ -97,7 +103,7 @@ part-file-start : tie.Need-part-file-start
 part-file-start c = search needs
 
 part-file-end : tie.Need-part-file-end
-part-file-end c = simp length-append (omega (arith, facts (st-places (c .before .before)), starts-long (c .before .before)))
+part-file-end c = simp length-append (omega (arith, facts (st-places (places-at-starts3 c)), starts-long (places-at-starts3 c)))
 
 file-requires : tie.Need-file-requires
 file-requires c κs =
@@ -105,7 +111,7 @@ file-requires c κs =
     let a = g .args in
     let p = g .pre in
     let k = share-len-at-file-arg2 c in
-    let e = c .before .before .before .before .places .ensures in (
+    let e = places-at-file-arg2 c .places .ensures in (
       p .0,
       lent-long (a .sizes) (a .capacity) (a .len) (a .stripes) _ (a .boards .now) (a .area .now) _ _ (p .0 .known) (p .0 .counted) (p .4) (p .1) (p .3) (as-long k) e,
       lent-placed (a .sizes) (a .capacity) (a .len) (a .stripes) _ (a .boards .now) (a .area .now) _ _ (p .0 .known) (p .0 .counted) (p .4) (p .1) (p .3) (as-long k) e,

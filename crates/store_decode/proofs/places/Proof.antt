@@ -24,10 +24,14 @@ abbrev μ-loop : tie.MeasureT-loop
 
 -- places in the code
 
+-- the places
+abbrev st-at-turn : tie.In-loop Inv-loop μ-loop → tie.Start Inv-loop μ-loop
+st-at-turn c = c .before .before
+
 -- no place is far
-few : (c : tie.In-loop Inv-loop μ-loop) → getD ((c .before .before) .args .boards .now) ((c .before) .loop .t) 0 * (c .before .before) .args .part ≤ 32 * 253952
+few : (c : tie.In-loop Inv-loop μ-loop) → getD (st-at-turn c .args .boards .now) ((c .before) .loop .t) 0 * (st-at-turn c) .args .part ≤ 32 * 253952
 few c =
-    let g = (c .before .before) in
+    let g = (st-at-turn c) in
     let h = all-at (λ b. b < 32) 0 (g .args .boards .now) (below-all 32 (g .args .boards .now) (g .pre .0)) ((c .before) .loop .t) (c .loop-test .taken) in
     let l : getD (g .args .boards .now) ((c .before) .loop .t) 0 ≤ 32 = omega (arith, h) in
     mul-le-mul l (g .pre .1)
@@ -36,7 +40,7 @@ loop-holds : tie.Need-loop-holds Inv-loop μ-loop
 loop-holds c = (refl, omega arith, refl)
 
 mul-out : tie.Need-mul-out Inv-loop μ-loop
-mul-out c = omega (arith, c .loop-test .taken, (c .before .before) .pre .2)
+mul-out c = omega (arith, c .loop-test .taken, (st-at-turn c) .pre .2)
 
 shared-slice-read-out : tie.Need-shared-slice-read-out Inv-loop μ-loop
 shared-slice-read-out c = search needs
@@ -45,7 +49,7 @@ mul-out-2 : tie.Need-mul-out-2 Inv-loop μ-loop
 mul-out-2 c = omega (arith, few (c .before))
 
 mul-out-3 : tie.Need-mul-out-3 Inv-loop μ-loop
-mul-out-3 c = omega (arith, (c .before) .loop-test .taken, (c .before .before .before) .pre .2)
+mul-out-3 c = omega (arith, (c .before) .loop-test .taken, (st-at-turn (c .before)) .pre .2)
 
 slice-write-out : tie.Need-slice-write-out Inv-loop μ-loop
 slice-write-out c = omega arith
@@ -59,7 +63,7 @@ loop-less c = search needs
 loop-again : tie.Need-loop-again Inv-loop μ-loop
 loop-again c =
     let l = c .before .before .loop in
-    let a = c .before .before .before .args in (
+    let a = st-at-turn (c .before) .args in (
       fill-loop (λ t. getD (a .boards .now) t 0 * a .part) (a .out .now) (l .out) (l .t) _ (omega arith) refl (l .inv .0),
       omega arith,
       length-set (l .out) (l .t) _ ∙ l .inv .2,

@@ -37,11 +37,17 @@ st-a c = c .before .before .before .before .before .before
 abbrev st-1 : tie.After-boards-of → tie.Start
 st-1 c = st-a (c .before .before)
 
+abbrev boards-of-at-helpers2 : tie.After-helpers2 → tie.After-boards-of
+boards-of-at-helpers2 c = c .before .before
+
 abbrev at-1 : tie.After-b → tie.After-boards-of
-at-1 c = c .before .before .before
+at-1 c = boards-of-at-helpers2 (c .before)
+
+abbrev boards-of2-at-standins2 : tie.After-standins2 → tie.After-boards-of2
+boards-of2-at-standins2 c = c .before .before
 
 abbrev at-2 : tie.After-c → tie.After-boards-of2
-at-2 c = c .before .before .before
+at-2 c = boards-of2-at-standins2 (c .before)
 
 abbrev at-3 : tie.After-struct-known → tie.After-boards-of3
 at-3 c = c .before .before
@@ -91,10 +97,10 @@ step-spec =
     (λ c. sym (fresh-long (st-a c)))
     (λ c. search needs)
     (λ c κs. sym (fresh-long (st-a (c .before))))
-    (λ c. sym (helpers-long (st-1 (c .before .before))))
+    (λ c. sym (helpers-long (st-1 (boards-of-at-helpers2 c))))
     (λ c. search needs)
     (λ c κs. sym (helpers-long (st-1 (at-1 c))))
-    (λ c. sym (stand-ins-long (st-1 (at-1 (c .before .before .before)))))
+    (λ c. sym (stand-ins-long (st-1 (at-1 (boards-of2-at-standins2 c .before)))))
     (λ c. search needs)
     (λ c κs. sym (stand-ins-long (st-1 (at-1 (at-2 c .before)))))
     (λ c. omega (arith, lists (at-3 c) .helpers-fit))
@@ -107,6 +113,6 @@ step-spec =
     (λ c. let l = lists (at-b3 c) in omega (arith, l .stand-ins-fit, l .stand-ins-long))
     (λ c. let k = at-c3 c in let l = lists k in taken _ (I k) (omega (arith, l .stand-ins-fit, l .stand-ins-long)))
     (λ c κs. let l = lists (at-c3 (c .before .before)) in (l .is-going, l .is-listing))
-    (λ c. search needs)
-    (λ c. search needs)
+    (λ c. c .before .before .before .area .given)
+    (λ c. c .before .packets .given)
     (λ c. search needs))

@@ -98,11 +98,11 @@ step-by-spec =
     carry-on-requires
     (λ c. let t = then-end c in let g = st (t .before) in omega (arith, allowed t, few g, some-left g))
     (λ c. search needs)
-    (λ c. search needs)
+    (λ c. c .before .packets .given)
     returns
     carry-on-requires-2
     finish-requires
     (λ c κs. search needs)
-    (λ c. search needs)
-    (λ c. search needs)
+    (λ c. c .before .before .area .given)
+    (λ c. at-packets (at-finish c .before) .packets2 .given)
     returns-2)

@@ -24,20 +24,26 @@ abbrev μ-loop : tie.MeasureT-loop
 μ-loop sizes part at values area₀ n w i₀ area i = n - i
 
 -- places in the code
+abbrev st-at-struct-known : tie.After-struct-known Inv-loop μ-loop → tie.Start Inv-loop μ-loop
+st-at-struct-known c = c .before .before .before
+
+abbrev st-at-struct-known2 : tie.After-struct-known2 Inv-loop μ-loop → tie.Start Inv-loop μ-loop
+st-at-struct-known2 c = st-at-struct-known (c .before)
+
 abbrev st : tie.In-loop Inv-loop μ-loop → tie.Start Inv-loop μ-loop
-st c = c .before .before .before .before .before .before
+st c = st-at-struct-known2 (c .before .before)
 
 abbrev st-2 : tie.After-keep-arg Inv-loop μ-loop → tie.Start Inv-loop μ-loop
-st-2 c = c .before .before .before .before .before .before .before
+st-2 c = st (c .before)
 
 abbrev at-loop : tie.After-slice-known2 Inv-loop μ-loop → tie.At-loop Inv-loop μ-loop
 at-loop c = c .before .before .before .before .before
 
 abbrev st-3 : tie.After-slice-known2 Inv-loop μ-loop → tie.Start Inv-loop μ-loop
-st-3 c = (at-loop c) .before .before .before .before .before
+st-3 c = st-at-struct-known2 (at-loop c .before)
 
 abbrev st-4 : tie.After-loop Inv-loop μ-loop → tie.Start Inv-loop μ-loop
-st-4 c = c .before .before .before .before .before .before
+st-4 c = st-at-struct-known2 (c .before .before)
 
 -- where the part of a turn's board ends
 end : (c : tie.In-loop Inv-loop μ-loop)
@@ -48,13 +54,13 @@ end c =
     area-few (s .args .sizes .n) (s .args .part) (c .before .loop .i) (f .few) (s .pre .1) (omega (arith, c .loop-test .taken, f .read-helpers, f .enough))
 
 mul-w : tie.Need-mul-w Inv-loop μ-loop
-mul-w c = omega (arith, legal-facts _ (c .before .before .before .pre .0))
+mul-w c = omega (arith, legal-facts _ (st-at-struct-known c .pre .0))
 
 add-w : tie.Need-add-w Inv-loop μ-loop
-add-w c = omega (arith, legal-facts _ (c .before .before .before .before .pre .0))
+add-w c = omega (arith, legal-facts _ (st-at-struct-known2 c .pre .0))
 
 sub-w : tie.Need-sub-w Inv-loop μ-loop
-sub-w c = omega (arith, legal-facts _ (c .before .before .before .before .pre .0))
+sub-w c = omega (arith, legal-facts _ (st-at-struct-known2 c .pre .0))
 
 loop-holds : tie.Need-loop-holds Inv-loop μ-loop
 loop-holds c = (refl, omega arith, refl)

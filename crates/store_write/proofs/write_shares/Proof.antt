@@ -16,8 +16,11 @@ use Rattle.store_write.proofs.write_shares.Statement.{statement}
 use Rattle.store_write.proofs.write_shares.Tie as tie
 
 -- places in the code
+abbrev st-at-struct-known : tie.After-struct-known → tie.Start
+st-at-struct-known c = c .before .before .before .before
+
 abbrev st : tie.After-struct-known2 → tie.Start
-st c = c .before .before .before .before .before
+st c = st-at-struct-known (c .before)
 
 abbrev st-2 : tie.After-struct-known3 → tie.Start
 st-2 c = st (c .before)
@@ -25,14 +28,20 @@ st-2 c = st (c .before)
 abbrev st-3 : tie.After-tables → tie.Start
 st-3 c = st-2 (c .before)
 
+abbrev fill-powers-at-write-stripes-arg : tie.After-write-stripes-arg → tie.After-fill-powers
+fill-powers-at-write-stripes-arg c = c .before .before .before .before .before
+
 abbrev st-4 : tie.After-write-stripes-arg → tie.Start
-st-4 c = st-3 (c .before .before .before .before .before .before)
+st-4 c = st-3 (fill-powers-at-write-stripes-arg c .before)
+
+abbrev write-stripes-at-slice-known2 : tie.After-slice-known2 → tie.After-write-stripes
+write-stripes-at-slice-known2 c = c .before .before .before .before
 
 abbrev fill-powers : tie.After-slice-known2 → tie.After-fill-powers
-fill-powers c = c .before .before .before .before .before .before .before .before .before .before
+fill-powers c = fill-powers-at-write-stripes-arg (write-stripes-at-slice-known2 c .before)
 
 abbrev st-5 : tie.After-slice-known2 → tie.Start
-st-5 c = (fill-powers c) .before .before .before .before .before .before .before .before
+st-5 c = st-4 (write-stripes-at-slice-known2 c .before)
 
 -- a board's part is at most 4,096 stripes of 62 bytes
 part-most : (a c : ℕ) → c ≤ 4096 → a ≤ 62 → c * a ≤ 253952
@@ -41,7 +50,7 @@ part-most a c h k =
     omega arith
 
 mul-part : tie.Need-mul-part
-mul-part c = omega (arith, legal-facts _ (c .before .before .before .before .pre .0))
+mul-part c = omega (arith, legal-facts _ (st-at-struct-known c .pre .0))
 
 add-part : tie.Need-add-part
 add-part c = omega (arith, legal-facts _ ((st c) .pre .0))
@@ -97,7 +106,7 @@ returns c =
     let z = a .sizes in
     let xs = a .points .now in
     let t = powers-tabled xs _ _ (z .d + z .r) (s .pre .2) ((fill-powers c) .fill-powers .ensures) in
-    shares-put (recordOf z [] (a .capacity) true 0 []) z xs (a .file .now) (a .area .now) _ (a .count) (s .pre .3) (c .before .before .before .before .write-stripes .ensures xs (s .pre .2) t)
+    shares-put (recordOf z [] (a .capacity) true 0 []) z xs (a .file .now) (a .area .now) _ (a .count) (s .pre .3) (write-stripes-at-slice-known2 c .write-stripes .ensures xs (s .pre .2) t)
 
 pub write-shares-spec : {M : Type 1} → statement M
 write-shares-spec =

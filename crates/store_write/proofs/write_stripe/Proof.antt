@@ -18,20 +18,26 @@ st c = c .before .before .before .before .before .before
 abbrev st-2 : tie.After-struct-known2 → tie.Start
 st-2 c = st (c .before)
 
+abbrev rows-at-column-values-arg2 : tie.After-column-values-arg2 → tie.After-rows
+rows-at-column-values-arg2 c = c .before .before .before
+
 abbrev st-3 : tie.After-column-values-arg2 → tie.Start
-st-3 c = st-2 (c .before .before .before .before .before .before)
+st-3 c = st-2 (rows-at-column-values-arg2 c .before .before .before)
+
+abbrev values-at-put-boards-arg2 : tie.After-put-boards-arg2 → tie.After-values
+values-at-put-boards-arg2 c = c .before .before .before
 
 abbrev st-4 : tie.After-put-boards-arg2 → tie.Start
-st-4 c = st-3 (c .before .before .before .before .before)
+st-4 c = st-3 (values-at-put-boards-arg2 c .before .before)
 
 abbrev column-values : tie.After-slice-known6 → tie.After-column-values
-column-values c = c .before .before .before .before .before .before .before
+column-values c = values-at-put-boards-arg2 (c .before .before .before) .before
 
 abbrev stripe-rows : tie.After-slice-known6 → tie.After-stripe-rows
-stripe-rows c = (column-values c) .before .before .before .before .before
+stripe-rows c = rows-at-column-values-arg2 (column-values c .before) .before
 
 abbrev st-5 : tie.After-slice-known6 → tie.Start
-st-5 c = (stripe-rows c) .before .before .before .before .before .before .before .before .before
+st-5 c = st-3 (column-values c .before)
 
 mul-at : tie.Need-mul-at
 mul-at c = omega (arith, legal-facts _ ((st c) .pre .0))
@@ -55,7 +61,7 @@ column-values-requires c κs =
       omega (arith, f .enough, f .few),
       f .few,
       omega (arith, f .enough, f .few, s .pre .1),
-      omega (arith, f .some-fresh, f .enough, f .few, s .pre .5, c .before .before .before .rows .given),
+      omega (arith, f .some-fresh, f .enough, f .few, s .pre .5, rows-at-column-values-arg2 c .rows .given),
       omega (arith, f .few, s .pre .6),
     )
 
@@ -63,7 +69,7 @@ put-boards-requires : tie.Need-put-boards-requires
 put-boards-requires c κs =
     let s = st-4 c in
     let f = legal-facts _ (s .pre .0) in
-    (s .pre .0, s .pre .2, omega (arith, s .pre .4), omega (arith, f .few, s .pre .6, c .before .before .before .values .given), s .pre .7)
+    (s .pre .0, s .pre .2, omega (arith, s .pre .4), omega (arith, f .few, s .pre .6, values-at-put-boards-arg2 c .values .given), s .pre .7)
 
 same-length : tie.Need-same-length
 same-length c = search needs

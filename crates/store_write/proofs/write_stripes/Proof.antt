@@ -30,23 +30,26 @@ abbrev μ-loop : tie.MeasureT-loop
 abbrev st : tie.After-slice-known3 Inv-loop μ-loop → tie.Start Inv-loop μ-loop
 st c = c .before .before .before .before .before
 
+abbrev turn-at-write-stripe-arg3 : tie.After-write-stripe-arg3 Inv-loop μ-loop → tie.In-loop Inv-loop μ-loop
+turn-at-write-stripe-arg3 c = c .before .before .before
+
 abbrev st-2 : tie.After-write-stripe-arg3 Inv-loop μ-loop → tie.Start Inv-loop μ-loop
-st-2 c = c .before .before .before .before .before .before .before .before .before .before
+st-2 c = st (turn-at-write-stripe-arg3 c .before .before)
 
 abbrev write-stripe : tie.After-slice-known6 Inv-loop μ-loop → tie.After-write-stripe Inv-loop μ-loop
 write-stripe c = c .before .before .before .before .before .before
 
 abbrev in-loop : tie.After-slice-known6 Inv-loop μ-loop → tie.In-loop Inv-loop μ-loop
-in-loop c = (write-stripe c) .before .before .before .before
+in-loop c = turn-at-write-stripe-arg3 (write-stripe c .before)
 
 abbrev at-loop : tie.After-slice-known6 Inv-loop μ-loop → tie.At-loop Inv-loop μ-loop
 at-loop c = (in-loop c) .before
 
 abbrev st-3 : tie.After-slice-known6 Inv-loop μ-loop → tie.Start Inv-loop μ-loop
-st-3 c = (at-loop c) .before .before .before .before .before .before
+st-3 c = st-2 (write-stripe c .before)
 
 abbrev st-4 : tie.After-loop Inv-loop μ-loop → tie.Start Inv-loop μ-loop
-st-4 c = c .before .before .before .before .before .before .before
+st-4 c = st (c .before .before)
 
 loop-holds : tie.Need-loop-holds Inv-loop μ-loop
 loop-holds c =
@@ -58,8 +61,8 @@ write-stripe-requires : tie.Need-write-stripe-requires Inv-loop μ-loop
 write-stripe-requires c κs =
     let s = st-2 c in
     let a = s .args in
-    let l = c .before .before .before .before .loop in
-    let e = row-fits (l .s) (a .count) (α (a .sizes)) (c .before .before .before .loop-test .taken) in
+    let l = turn-at-write-stripe-arg3 c .before .loop in
+    let e = row-fits (l .s) (a .count) (α (a .sizes)) (turn-at-write-stripe-arg3 c .loop-test .taken) in
     (s .pre .0, s .pre .1, s .pre .2, omega arith, omega (arith, e, s .pre .4), l .inv .2, l .inv .3, l .inv .4 ∙ s .pre .7)
 
 add-s : tie.Need-add-s Inv-loop μ-loop

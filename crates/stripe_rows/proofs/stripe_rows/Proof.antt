@@ -16,28 +16,40 @@ use Rattle.stripe_rows.proofs.stripe_rows.Statement.{statement}
 use Rattle.stripe_rows.proofs.stripe_rows.Tie as tie
 
 -- places in the code
+abbrev pad-at-coefficients3 : tie.After-coefficients3 → tie.After-pad
+pad-at-coefficients3 c = c .before .before
+
+abbrev pad-at-row-values-arg2 : tie.After-row-values-arg2 → tie.After-pad
+pad-at-row-values-arg2 c = pad-at-coefficients3 (c .before .before)
+
+abbrev stripe-len-at-pad : tie.After-pad → tie.After-stripe-len
+stripe-len-at-pad c = c .before .before
+
 abbrev stripe-len : tie.After-row-values-arg2 → tie.After-stripe-len
-stripe-len c = c .before .before .before .before .before .before
+stripe-len c = stripe-len-at-pad (pad-at-row-values-arg2 c)
+
+abbrev st-at-stripe-len : tie.After-stripe-len → tie.Start
+st-at-stripe-len c = c .before .before .before .before
 
 abbrev st : tie.After-row-values-arg2 → tie.Start
-st c = (stripe-len c) .before .before .before .before
+st c = st-at-stripe-len (stripe-len c)
 
 abbrev pad : tie.After-slice-known2 → tie.After-pad
-pad c = c .before .before .before .before .before .before .before
+pad c = pad-at-row-values-arg2 (c .before .before .before)
 
 abbrev stripe-len-2 : tie.After-slice-known2 → tie.After-stripe-len
-stripe-len-2 c = (pad c) .before .before
+stripe-len-2 c = stripe-len-at-pad (pad c)
 
 abbrev st-2 : tie.After-slice-known2 → tie.Start
-st-2 c = (stripe-len-2 c) .before .before .before .before
+st-2 c = st-at-stripe-len (stripe-len-2 c)
 
 -- the length of a stripe, and where stripe s starts
-long : (c : tie.After-stripe-len) → c .stripe-len .result ≡ B (c .before .before .before .before .args .sizes)
-long c = let s = c .before .before .before .before in stripe-long (s .args .sizes) _ (s .pre .0) (c .stripe-len .ensures)
+long : (c : tie.After-stripe-len) → c .stripe-len .result ≡ B (st-at-stripe-len c .args .sizes)
+long c = let s = st-at-stripe-len c in stripe-long (s .args .sizes) _ (s .pre .0) (c .stripe-len .ensures)
 
-start : (c : tie.After-stripe-len) → (c .before .before .before .before .args .s * c .stripe-len .result ≤ 4096 * 992) × (c .stripe-len .result ≤ 992)
+start : (c : tie.After-stripe-len) → (st-at-stripe-len c .args .s * c .stripe-len .result ≤ 4096 * 992) × (c .stripe-len .result ≤ 992)
 start c =
-    let s = c .before .before .before .before in
+    let s = st-at-stripe-len c in
     let f = legal-facts _ (s .pre .0) in
     (stripe-start (s .args .sizes) (s .args .s) (c .stripe-len .result) f (long c) (omega arith), omega (arith, long c, B-most _ f))
 
@@ -66,14 +78,14 @@ part-row-values-start : tie.Need-part-row-values-start
 part-row-values-start c = search needs
 
 part-row-values-end : tie.Need-part-row-values-end
-part-row-values-end c = cut-holds _ _ _ _ (start (c .before .before .before .before) .1) (c .before .before .pad .ensures)
+part-row-values-end c = cut-holds _ _ _ _ (start (stripe-len-at-pad (pad-at-coefficients3 c)) .1) (pad-at-coefficients3 c .pad .ensures)
 
 row-values-requires : tie.Need-row-values-requires
 row-values-requires c κs =
     let s = st c in
     let a = s .args in
     let k = long ((stripe-len c)) in
-    let e = cut-stripe (a .sizes) (a .file .now) _ _ (a .s) _ k (start ((stripe-len c)) .1) (c .before .before .before .before .pad .ensures) in
+    let e = cut-stripe (a .sizes) (a .file .now) _ _ (a .s) _ k (start ((stripe-len c)) .1) (pad-at-row-values-arg2 c .pad .ensures) in
     (s .pre .0, s .pre .1, ap length e ∙ length-stripe (a .sizes) (a .file .now) (a .s), s .pre .3)
 
 same-length : tie.Need-same-length

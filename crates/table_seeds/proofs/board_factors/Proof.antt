@@ -23,20 +23,26 @@ abbrev μ-loop : tie.MeasureT-loop
 μ-loop c b rows out₀ n m o₀ out o = m - o
 
 -- places in the code
+abbrev loop-at-column-arg : tie.After-column-arg Inv-loop μ-loop → tie.At-loop Inv-loop μ-loop
+loop-at-column-arg c = c .before .before
+
+abbrev st-at-loop : tie.At-loop Inv-loop μ-loop → tie.Start Inv-loop μ-loop
+st-at-loop c = c .before .before .before
+
 abbrev start-from-after-column-arg : tie.After-column-arg Inv-loop μ-loop → tie.Start Inv-loop μ-loop
-start-from-after-column-arg c = c .before .before .before .before .before
-
-abbrev start-from-after-slice-known2 : tie.After-slice-known2 Inv-loop μ-loop → tie.Start Inv-loop μ-loop
-start-from-after-slice-known2 c = c .before .before .before .before .before .before .before .before
-
-abbrev at-loop-from-after-slice-known2 : tie.After-slice-known2 Inv-loop μ-loop → tie.At-loop Inv-loop μ-loop
-at-loop-from-after-slice-known2 c = c .before .before .before .before .before
+start-from-after-column-arg c = st-at-loop (loop-at-column-arg c)
 
 abbrev in-loop-from-after-slice-known2 : tie.After-slice-known2 Inv-loop μ-loop → tie.In-loop Inv-loop μ-loop
 in-loop-from-after-slice-known2 c = c .before .before .before .before
 
+abbrev at-loop-from-after-slice-known2 : tie.After-slice-known2 Inv-loop μ-loop → tie.At-loop Inv-loop μ-loop
+at-loop-from-after-slice-known2 c = in-loop-from-after-slice-known2 c .before
+
+abbrev start-from-after-slice-known2 : tie.After-slice-known2 Inv-loop μ-loop → tie.Start Inv-loop μ-loop
+start-from-after-slice-known2 c = st-at-loop (at-loop-from-after-slice-known2 c)
+
 abbrev start-from-after-loop : tie.After-loop Inv-loop μ-loop → tie.Start Inv-loop μ-loop
-start-from-after-loop c = c .before .before .before .before
+start-from-after-loop c = st-at-loop (c .before)
 
 -- how long the row of a turn is
 long : (c : tie.In-loop Inv-loop μ-loop) → let l = (c .before) .loop in length (take (l .o * 32 + 32 - l .o * 32) (drop (l .o * 32) (l .out))) ≡ 32
@@ -76,7 +82,7 @@ column-requires : tie.Need-column-requires Inv-loop μ-loop
 column-requires c κs =
     let a = (start-from-after-column-arg c) .args in
     let e = long (c .before) in
-    let h : (a .b + (a .c + (c .before .before) .loop .o)) % a .sizes .n < a .sizes .n = mod-lt (a .b + (a .c + (c .before .before) .loop .o)) (omega arith) in
+    let h : (a .b + (a .c + (loop-at-column-arg c) .loop .o)) % a .sizes .n < a .sizes .n = mod-lt (a .b + (a .c + (loop-at-column-arg c) .loop .o)) (omega arith) in
     (omega arith, omega arith, omega arith, omega arith)
 
 add-o : tie.Need-add-o Inv-loop μ-loop

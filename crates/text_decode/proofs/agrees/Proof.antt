@@ -23,8 +23,11 @@ share-len-at-starts c = c .before .before
 abbrev st-starts : tie.After-starts2 → tie.Start
 st-starts c = st-share-len (share-len-at-starts c)
 
+abbrev starts2-at-starts4 : tie.After-starts4 → tie.After-starts2
+starts2-at-starts4 c = c .before .before
+
 abbrev starts-at-held : tie.After-held → tie.After-starts2
-starts-at-held c = c .before .before .before .before
+starts-at-held c = starts2-at-starts4 (c .before .before)
 
 -- the sizes are legal
 facts : (c : tie.Start) → Legal (c .args .sizes)
@@ -67,7 +70,7 @@ part-stripes-agree-start : tie.Need-part-stripes-agree-start
 part-stripes-agree-start c = search needs
 
 part-stripes-agree-end : tie.Need-part-stripes-agree-end
-part-stripes-agree-end c = simp length-append (omega (arith, facts (st-starts (c .before .before)), places-long (c .before .before)))
+part-stripes-agree-end c = simp length-append (omega (arith, facts (st-starts (starts2-at-starts4 c)), places-long (starts2-at-starts4 c)))
 
 sub-stripes-agree-2 : tie.Need-sub-stripes-agree-2
 sub-stripes-agree-2 c = search needs
@@ -76,7 +79,7 @@ part-held-start : tie.Need-part-held-start
 part-held-start c = search needs
 
 part-held-end : tie.Need-part-held-end
-part-held-end c = omega (arith, few (share-len-at-starts (c .before .before .before)))
+part-held-end c = omega (arith, few (share-len-at-starts (starts2-at-starts4 (c .before))))
 
 stripes-agree-requires : tie.Need-stripes-agree-requires
 stripes-agree-requires c κs =

@@ -24,8 +24,11 @@ share-len-at-starts c = c .before .before
 abbrev st-starts : tie.After-starts2 → tie.Start
 st-starts c = st-share-len (share-len-at-starts c)
 
+abbrev starts2-at-starts4 : tie.After-starts4 → tie.After-starts2
+starts2-at-starts4 c = c .before .before
+
 abbrev starts-at-call : tie.After-stripes-file-arg2 → tie.After-starts2
-starts-at-call c = c .before .before .before .before .before
+starts-at-call c = starts2-at-starts4 (c .before .before .before)
 
 abbrev call-at-end : tie.After-slice-known2 → tie.After-stripes-file
 call-at-end c = c .before .before .before
@@ -75,7 +78,7 @@ part-stripes-file-start : tie.Need-part-stripes-file-start
 part-stripes-file-start c = search needs
 
 part-stripes-file-end : tie.Need-part-stripes-file-end
-part-stripes-file-end c = simp length-append (omega (arith, facts (st-starts (c .before .before)), places-long (c .before .before)))
+part-stripes-file-end c = simp length-append (omega (arith, facts (st-starts (starts2-at-starts4 c)), places-long (starts2-at-starts4 c)))
 
 sub-stripes-file-2 : tie.Need-sub-stripes-file-2
 sub-stripes-file-2 c = search needs
@@ -84,7 +87,7 @@ part-held-start : tie.Need-part-held-start
 part-held-start c = search needs
 
 part-held-end : tie.Need-part-held-end
-part-held-end c = omega (arith, few (share-len-at-starts (c .before .before .before)))
+part-held-end c = omega (arith, few (share-len-at-starts (starts2-at-starts4 (c .before))))
 
 sub-stripes-file-3 : tie.Need-sub-stripes-file-3
 sub-stripes-file-3 c = search needs

@@ -34,8 +34,11 @@ st-share-len c = c .before .before .before .before .before .before .before .befo
 abbrev st-loop : tie.At-loop Inv-loop μ-loop → tie.Start Inv-loop μ-loop
 st-loop c = st-share-len (c .before)
 
+abbrev share-len-at-turn : tie.In-loop Inv-loop μ-loop → tie.After-share-len Inv-loop μ-loop
+share-len-at-turn c = c .before .before
+
 abbrev st-turn : tie.In-loop Inv-loop μ-loop → tie.Start Inv-loop μ-loop
-st-turn c = st-loop (c .before)
+st-turn c = st-share-len (share-len-at-turn c)
 
 abbrev part-at-agrees : tie.After-stripe-agrees Inv-loop μ-loop → tie.After-part-from Inv-loop μ-loop
 part-at-agrees c = c .before .before
@@ -64,16 +67,16 @@ row : (c : tie.After-share-len Inv-loop μ-loop) → c .share-len .result ≡ α
 row c = c .share-len .ensures ∙ ap (λ b. pick b (α (st-share-len c .args .sizes)) 0) (st-share-len c .pre .0 .sized)
 
 -- a stripe starts in the file
-start : (c : tie.In-loop Inv-loop μ-loop) → c .before .loop .s * c .before .before .before .stripe-len .result < st-turn c .args .len
+start : (c : tie.In-loop Inv-loop μ-loop) → c .before .loop .s * share-len-at-turn c .before .stripe-len .result < st-turn c .args .len
 start c =
     let g = st-turn c in
-    starts-inside (g .args .sizes) (facts g) (g .args .len) (g .args .stripes) (c .before .loop .s) _ (g .pre .3) (whole (c .before .before)) (c .loop-test .taken)
+    starts-inside (g .args .sizes) (facts g) (g .args .len) (g .args .stripes) (c .before .loop .s) _ (g .pre .3) (whole (share-len-at-turn c)) (c .loop-test .taken)
 
 -- and its pairs are not far behind the places
-few : (c : tie.In-loop Inv-loop μ-loop) → c .before .loop .s * c .before .before .share-len .result ≤ 253952
+few : (c : tie.In-loop Inv-loop μ-loop) → c .before .loop .s * share-len-at-turn c .share-len .result ≤ 253952
 few c =
     let g = st-turn c in
-    share-few (g .args .sizes) (c .before .loop .s) (c .before .before .share-len .result) (facts g) (omega (arith, g .pre .2, c .loop-test .taken)) (row (c .before .before))
+    share-few (g .args .sizes) (c .before .loop .s) (share-len-at-turn c .share-len .result) (facts g) (omega (arith, g .pre .2, c .loop-test .taken)) (row (share-len-at-turn c))
 
 -- the tests
 abbrev tests : tie.Start Inv-loop μ-loop → ℕ → Bool
@@ -91,7 +94,7 @@ test-is c =
     let t = part-at-agrees c .before in
     let a = st-turn t .args in
     turn-reads (a .sizes) (a .points .now) (a .len) (a .boards .now) (a .text .now) (a .places .now) (t .before .loop .s) _ _ (part-at-agrees c .part-from .result)
-    (whole (t .before .before)) (row (t .before .before)) (part-at-agrees c .part-from .ensures) (c .stripe-agrees .result) (c .stripe-agrees .ensures)
+    (whole (share-len-at-turn t)) (row (share-len-at-turn t)) (part-at-agrees c .part-from .ensures) (c .stripe-agrees .result) (c .stripe-agrees .ensures)
 
 stripe-len-requires : tie.Need-stripe-len-requires Inv-loop μ-loop
 stripe-len-requires c κs = search needs
@@ -118,7 +121,7 @@ stripe-agrees-requires : tie.Need-stripe-agrees-requires Inv-loop μ-loop
 stripe-agrees-requires c κs =
     let f = c .before in
     let t = f .before in
-    let n = t .before .before in
+    let n = share-len-at-turn t in
     let g = st-turn t in
     let a = g .args in
     let s = t .before .loop .s in

@@ -32,8 +32,11 @@ st-share-len c = c .before .before .before .before .before .before .before .befo
 abbrev st-loop : tie.At-loop Inv-loop μ-loop → tie.Start Inv-loop μ-loop
 st-loop c = st-share-len (c .before)
 
+abbrev share-len-at-turn : tie.In-loop Inv-loop μ-loop → tie.After-share-len Inv-loop μ-loop
+share-len-at-turn c = c .before .before
+
 abbrev st-turn : tie.In-loop Inv-loop μ-loop → tie.Start Inv-loop μ-loop
-st-turn c = st-loop (c .before)
+st-turn c = st-share-len (share-len-at-turn c)
 
 abbrev call-at-end : tie.After-slice-known4 Inv-loop μ-loop → tie.After-stripe-file Inv-loop μ-loop
 call-at-end c = c .before .before .before .before
@@ -57,24 +60,24 @@ fits : (c : tie.Start Inv-loop μ-loop) → length (c .args .out .now) < 1844674
 fits c = c .good .1 .1 .1 .1 .1 .1 .1 .1 .1 .0 .0
 
 -- a stripe starts in the file
-start : (c : tie.In-loop Inv-loop μ-loop) → c .before .loop .s * c .before .before .before .stripe-len .result < length (st-turn c .args .out .now)
+start : (c : tie.In-loop Inv-loop μ-loop) → c .before .loop .s * share-len-at-turn c .before .stripe-len .result < length (st-turn c .args .out .now)
 start c =
     let g = st-turn c in
-    starts-inside (g .args .sizes) (facts g) _ (g .args .stripes) (c .before .loop .s) _ (g .pre .3) (whole (c .before .before)) (c .loop-test .taken)
+    starts-inside (g .args .sizes) (facts g) _ (g .args .stripes) (c .before .loop .s) _ (g .pre .3) (whole (share-len-at-turn c)) (c .loop-test .taken)
 
 -- and ends in it
 ends : (c : tie.After-part-from Inv-loop μ-loop)
-    → c .before .before .loop .s * c .before .before .before .before .stripe-len .result + c .part-from .result ≤ length (st-turn (c .before) .args .out .now)
+    → c .before .before .loop .s * share-len-at-turn (c .before) .before .stripe-len .result + c .part-from .result ≤ length (st-turn (c .before) .args .out .now)
 ends c =
     let t = c .before in
     let g = st-turn t in
-    turn-ends (g .args .sizes) (facts g) _ (g .args .stripes) (g .pre .3) (t .before .loop .s) _ (c .part-from .result) (t .loop-test .taken) (whole (t .before .before)) (c .part-from .ensures)
+    turn-ends (g .args .sizes) (facts g) _ (g .args .stripes) (g .pre .3) (t .before .loop .s) _ (c .part-from .result) (t .loop-test .taken) (whole (share-len-at-turn t)) (c .part-from .ensures)
 
 -- its pairs are not far behind the places
-few : (c : tie.In-loop Inv-loop μ-loop) → c .before .loop .s * c .before .before .share-len .result ≤ 253952
+few : (c : tie.In-loop Inv-loop μ-loop) → c .before .loop .s * share-len-at-turn c .share-len .result ≤ 253952
 few c =
     let g = st-turn c in
-    share-few (g .args .sizes) (c .before .loop .s) (c .before .before .share-len .result) (facts g) (omega (arith, g .pre .2, c .loop-test .taken)) (row (c .before .before))
+    share-few (g .args .sizes) (c .before .loop .s) (share-len-at-turn c .share-len .result) (facts g) (omega (arith, g .pre .2, c .loop-test .taken)) (row (share-len-at-turn c))
 
 stripe-len-requires : tie.Need-stripe-len-requires Inv-loop μ-loop
 stripe-len-requires c κs = search needs
@@ -115,7 +118,7 @@ stripe-file-requires : tie.Need-stripe-file-requires Inv-loop μ-loop
 stripe-file-requires c κs =
     let f = c .before .before in
     let t = f .before in
-    let n = t .before .before in
+    let n = share-len-at-turn t in
     let g = st-turn t in
     let a = g .args in
     let l = t .before .loop in
@@ -141,7 +144,7 @@ loop-again : tie.Need-loop-again Inv-loop μ-loop
 loop-again c =
     let f = part-at-end c in
     let t = f .before in
-    let n = t .before .before in
+    let n = share-len-at-turn t in
     let g = st-turn t in
     let a = g .args in
     let l = t .before .loop in

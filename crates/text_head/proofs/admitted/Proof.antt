@@ -18,8 +18,12 @@ use Rattle.text_head.proofs.admitted.Tie as tie
 is-legal : (c : tie.Else1) → legal (c .before .before .args .sizes) ≡ true
 is-legal c = sym (c .before .legal .ensures) ∙ not-false _ (c .if1 .left)
 
+-- the places
+abbrev st-at-stripe-len : tie.After-stripe-len → tie.Start
+st-at-stripe-len c = c .before .before .before
+
 -- B of legal sizes
-stripe : (c : tie.After-stripe-len) → c .stripe-len .result ≡ B (c .before .before .before .args .sizes)
+stripe : (c : tie.After-stripe-len) → c .stripe-len .result ≡ B (st-at-stripe-len c .args .sizes)
 stripe c = c .stripe-len .ensures ∙ yes _ _ _ (is-legal (c .before))
 
 returns : tie.Need-returns
@@ -27,13 +31,13 @@ unfolding admitted
 returns c = let e = sym (c .before .legal .ensures) ∙ not-true _ (c .if1 .taken) in sym (rw e)
 
 mul-if2 : tie.Need-mul-if2
-mul-if2 c = record { fits = omega (arith, stripe c, B-most (c .before .before .before .args .sizes) (legal-facts _ (is-legal (c .before)))) }
+mul-if2 c = record { fits = omega (arith, stripe c, B-most (st-at-stripe-len c .args .sizes) (legal-facts _ (is-legal (c .before)))) }
 
 returns-2 : tie.Need-returns-2
 unfolding admitted
 returns-2 c =
     let k = c .before in
-    let a = k .before .before .before .args in
+    let a = st-at-stripe-len k .args in
     let far : 4096 * B (a .sizes) < a .length = omega (arith, stripe k, c .if2 .taken) in
     sym (rw (is-legal (k .before), lt-leb (a .length) (4096 * B (a .sizes)) far))
 
@@ -45,7 +49,7 @@ returns-3 : tie.Need-returns-3
 unfolding admitted
 returns-3 c =
     let k = c .before .before in
-    let a = k .before .before .before .args in
+    let a = st-at-stripe-len k .args in
     let near : a .length ≤ 4096 * B (a .sizes) = omega (arith, stripe k, c .before .if2 .left) in
     sym (rw (is-legal (k .before), le-leb (a .length) (4096 * B (a .sizes)) near) (sym (last (ltb (a .node) (a .sizes .n)))))
 

@@ -71,11 +71,14 @@ stripe-count-requires c κs =
     let h = legal-admitted (x .sizes) (x .node) (x .length) (ok e) in
     record { is-legal = h .0; not-long = h .1 }
 
+abbrev points-at-at-share-len : tie.After-share-len → tie.After-points-at
+points-at-at-share-len c = c .before .before .before .before
+
 -- the share's bytes
-count-is : (c : tie.After-share-len) → let x = s (at-six (at-else (c .before .before .before .before) .before)) in
+count-is : (c : tie.After-share-len) → let x = s (at-six (at-else (points-at-at-share-len c) .before)) in
     (c .before .stripe-count .result ≡ stripes (x .sizes) (x .length)) × (c .share-len .result ≡ α (x .sizes)) × (c .share-len .result ≤ 62)
 count-is c =
-    let e = at-else (c .before .before .before .before) in
+    let e = at-else (points-at-at-share-len c) in
     let x = s (at-six (e .before)) in
     let h = legal-admitted (x .sizes) (x .node) (x .length) (ok e) in
     let f = legal-facts (x .sizes) (h .0) in
@@ -91,7 +94,7 @@ returns-4 : tie.Need-returns-4
 returns-4 c =
     let l = c .before in
     let n = l .before in
-    let p = n .before .before .before .before in
+    let p = points-at-at-share-len n in
     let e = at-else p in
     let d = e .before in
     let k = at-six d in

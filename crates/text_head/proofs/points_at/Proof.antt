@@ -23,16 +23,20 @@ returns c =
     let a = c .before .before .before .args in
     c .unsaid .ensures ∙ sym (if-ne (getD (a .text .now) (a .at) 0) 0x70 _ _ (none-there (a .text .now) (a .at) (c .before .if1 .taken)))
 
+-- the places
+abbrev st-at-shared-slice-known2 : tie.After-shared-slice-known2 → tie.Start
+st-at-shared-slice-known2 c = c .before .before .before
+
 returns-2 : tie.Need-returns-2
 unfolding pointedAt
 returns-2 c =
-    let a = c .before .before .before .before .before .args in
+    let a = st-at-shared-slice-known2 (c .before .before) .args in
     c .said-at .ensures ∙ sym (if-eq (getD (a .text .now) (a .at) 0) 0x70 _ _ (c .before .if2 .taken))
 
 returns-3 : tie.Need-returns-3
 unfolding pointedAt
 returns-3 c =
-    let a = c .before .before .before .before .before .args in
+    let a = st-at-shared-slice-known2 (c .before .before) .args in
     c .unsaid2 .ensures ∙ sym (if-ne (getD (a .text .now) (a .at) 0) 0x70 _ _ (c .before .if2 .left))
 
 pub points-at-spec : {M : Type 1} → statement M

@@ -56,28 +56,34 @@ returns c =
     let e = ap (λ (t : Told). t .ok) (sym (k .pairs-from .ensures)) ∙ not-true _ (c .before .if1 .taken) in
     c .unpointed .ensures ∙ no-line (st k .args .sizes) (xs k) (line k) e
 
-there : (c : tie.Else1) → line (c .before .before) .ok ≡ true
-there c = let k = c .before .before in ap (λ (t : Told). t .ok) (sym (k .pairs-from .ensures)) ∙ not-false _ (c .if1 .left)
+abbrev pairs-from-at-else1 : tie.Else1 → tie.After-pairs-from
+pairs-from-at-else1 c = c .before .before
+
+there : (c : tie.Else1) → line (pairs-from-at-else1 c) .ok ≡ true
+there c = let k = pairs-from-at-else1 c in ap (λ (t : Told). t .ok) (sym (k .pairs-from .ensures)) ∙ not-false _ (c .if1 .left)
 
 filled-requires : tie.Need-filled-requires
 filled-requires c κs =
-    let k = c .before .before in
+    let k = pairs-from-at-else1 c in
     let a = st k .args in
     let t = line-told (a .text .now) (a .at) 0 (a .sizes .n) in
     let v = ap (λ (t : Told). t .value) (k .pairs-from .ensures) in
     (few (st k), omega (arith, t .within (there c), t .ends (there c), v))
 
 -- the 32 points
-points-are : (c : tie.After-filled) → c .filled .result ≡ fit 32 (xs (c .before .before .before))
+points-are : (c : tie.After-filled) → c .filled .result ≡ fit 32 (xs (pairs-from-at-else1 (c .before)))
 points-are c =
-    let k = c .before .before .before in
+    let k = pairs-from-at-else1 (c .before) in
     let a = st k .args in
     c .filled .ensures ∙ ap (λ (t : Told). fit 32 (bytesAt (a .text .now) (t .value) (a .sizes .n))) (k .pairs-from .ensures)
 
-tested : (c : tie.After-tellable) → let k = c .before .before .before .before .before in c .tellable .result ≡ tellable (st k .args .sizes) (xs k)
+abbrev filled-at-tellable : tie.After-tellable → tie.After-filled
+filled-at-tellable c = c .before .before
+
+tested : (c : tie.After-tellable) → let k = pairs-from-at-else1 (filled-at-tellable c .before) in c .tellable .result ≡ tellable (st k .args .sizes) (xs k)
 tested c =
-    let f = c .before .before in
-    let k = f .before .before .before in
+    let f = filled-at-tellable c in
+    let k = pairs-from-at-else1 (f .before) in
     let a = st k .args in
     c .tellable .ensures
     ∙ ap (λ (l : List ℕ). alls (pointed (a .sizes) l ∷ not (inOrder (take (a .sizes .n) l)) ∷ [])) (points-are f)
@@ -86,16 +92,16 @@ tested c =
 returns-2 : tie.Need-returns-2
 returns-2 c =
     let t = c .before .before in
-    let e = t .before .before .before in
-    let k = e .before .before in
+    let e = filled-at-tellable t .before in
+    let k = pairs-from-at-else1 e in
     c .unpointed2 .ensures ∙ no-points (st k .args .sizes) (xs k) (line k) (there e) (sym (tested t) ∙ not-true _ (c .before .if2 .taken))
 
 returns-3 : tie.Need-returns-3
 returns-3 c =
     let t = c .before in
-    let f = t .before .before in
+    let f = filled-at-tellable t in
     let e = f .before in
-    let k = e .before .before in
+    let k = pairs-from-at-else1 e in
     ap (λ (l : List ℕ). record { ok = true; points = l; next = k .pairs-from .result .next }) (points-are f)
     ∙ ap (λ (l : Told). record { ok = true; points = fit 32 (xs k); next = l .next }) (k .pairs-from .ensures)
     ∙ some-points (st k .args .sizes) (xs k) (line k) (there e) (sym (tested t) ∙ not-false _ (c .if2 .left))

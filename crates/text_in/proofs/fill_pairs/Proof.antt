@@ -22,9 +22,12 @@ abbrev μ-loop : tie.MeasureT-loop
 abbrev st : tie.At-loop Inv-loop μ-loop → tie.Start Inv-loop μ-loop
 st c = c .before .before .before
 
+abbrev loop-at-nibble : tie.After-nibble Inv-loop μ-loop → tie.At-loop Inv-loop μ-loop
+loop-at-nibble c = c .before .before .before .before
+
 -- the loop's place, behind both digits
 abbrev at : tie.After-nibble2 Inv-loop μ-loop → tie.At-loop Inv-loop μ-loop
-at c = c .before .before .before .before .before
+at c = loop-at-nibble (c .before)
 
 high-low : (c : tie.After-nibble2 Inv-loop μ-loop) → nibble (getD (st (at c) .args .text .now) (st (at c) .args .at + 2 * at c .loop .j) 0) < 16
 high-low c = nibble-low (getD (st (at c) .args .text .now) (st (at c) .args .at + 2 * at c .loop .j) 0)
@@ -74,8 +77,7 @@ mul-out c = record {
   fits = omega (
     arith,
     c .nibble .ensures,
-    nibble-low (getD (st
-        (c .before .before .before .before) .args .text .now) (st (c .before .before .before .before) .args .at + 2 * c .before .before .before .before .loop .j) 0),
+    nibble-low (getD (st (loop-at-nibble c) .args .text .now) (st (loop-at-nibble c) .args .at + 2 * loop-at-nibble c .loop .j) 0),
   );
 }
 

@@ -37,22 +37,25 @@ is-line text at which = line-laws .byte-by-byte (lost text) (nameOf which) most 
 loop-holds : tie.Need-loop-holds Inv-loop μ-loop
 loop-holds c = let a = c .before .before .args in ap (λ (r : Reader). reading (a .text .now) (a .which) r (a .at)) (c .start .ensures)
 
+abbrev turn-at-feed-line : tie.After-feed-line Inv-loop μ-loop → tie.In-loop Inv-loop μ-loop
+turn-at-feed-line c = c .before .before
+
 loop-again : tie.Need-loop-again Inv-loop μ-loop
 loop-again c =
     let f = c .before .before .before in
-    let l = f .before .before .before in
+    let l = turn-at-feed-line f .before in
     let a = st l .args in
-    more (lost (a .text .now)) (nameOf (a .which)) most (a .text .now) (l .loop .i) (l .loop .line) (numberTold (a .text .now)) (f .before .before .loop-test .taken)
+    more (lost (a .text .now)) (nameOf (a .which)) most (a .text .now) (l .loop .i) (l .loop .line) (numberTold (a .text .now)) (turn-at-feed-line f .loop-test .taken)
     (sym (f .feed-line .ensures) ∙ c .before .next .given .1)
     ∙ l .loop .inv
 
 returns : tie.Need-returns Inv-loop μ-loop
 returns c =
     let f = c .before .before .before in
-    let l = f .before .before .before in
+    let l = turn-at-feed-line f .before in
     let a = st l .args in
     let t = a .text .now in
-    let inside : l .loop .i < length t = f .before .before .loop-test .taken in
+    let inside : l .loop .i < length t = turn-at-feed-line f .loop-test .taken in
     let left = length-drop (l .loop .i + 1) t in
     let place : l .loop .i + 1 ≡ length t - length (drop (l .loop .i + 1) t) = omega (arith, inside, left) in
     ap (λ (n : ℕ). record { ok = true; value = c .before .v .given .0 .0; next = n }) place
@@ -63,12 +66,12 @@ returns c =
 returns-2 : tie.Need-returns-2 Inv-loop μ-loop
 returns-2 c =
     let f = c .before .before .before in
-    let l = f .before .before .before in
+    let l = turn-at-feed-line f .before in
     let a = st l .args in
     let t = a .text .now in
     c .lost .ensures
     ∙ sym (malformed (lost t) (nameOf (a .which)) most t (l .loop .i) (l .loop .line) (numberTold t)
-    (f .before .before .loop-test .taken) (sym (f .feed-line .ensures) ∙ c .before .enum-told .given .1))
+    (turn-at-feed-line f .loop-test .taken) (sym (f .feed-line .ensures) ∙ c .before .enum-told .given .1))
     ∙ l .loop .inv
     ∙ is-line t (a .at) (a .which)
 

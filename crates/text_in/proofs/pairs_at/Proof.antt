@@ -31,11 +31,20 @@ abbrev μ-loop : tie.MeasureT-loop
 abbrev st : tie.At-loop Inv-loop μ-loop → tie.Start Inv-loop μ-loop
 st c = c .before .before
 
+abbrev turn-at-else1 : tie.Else1 Inv-loop μ-loop → tie.In-loop Inv-loop μ-loop
+turn-at-else1 c = c .before .before
+
+abbrev loop-at-else1 : tie.Else1 Inv-loop μ-loop → tie.At-loop Inv-loop μ-loop
+loop-at-else1 c = turn-at-else1 c .before
+
 -- the two digits
-high : (c : tie.Else1 Inv-loop μ-loop) → let l = c .before .before .before in hexadecimal (getD (st l .args .text .now) (l .loop .i) 0) ≡ true
+high : (c : tie.Else1 Inv-loop μ-loop) → let l = loop-at-else1 c in hexadecimal (getD (st l .args .text .now) (l .loop .i) 0) ≡ true
 high c = sym (c .before .digit-at .ensures) ∙ not-false _ (c .if1 .left)
 
-low : (c : tie.Else2 Inv-loop μ-loop) → let l = c .before .before .before .before .before in hexadecimal (getD (st l .args .text .now) (l .loop .i + 1) 0) ≡ true
+abbrev else1-at-else2 : tie.Else2 Inv-loop μ-loop → tie.Else1 Inv-loop μ-loop
+else1-at-else2 c = c .before .before
+
+low : (c : tie.Else2 Inv-loop μ-loop) → let l = loop-at-else1 (else1-at-else2 c) in hexadecimal (getD (st l .args .text .now) (l .loop .i + 1) 0) ≡ true
 low c = sym (c .before .digit-at2 .ensures) ∙ not-false _ (c .if2 .left)
 
 loop-holds : tie.Need-loop-holds Inv-loop μ-loop
@@ -54,7 +63,7 @@ returns c =
 
 add-digit-at : tie.Need-add-digit-at Inv-loop μ-loop
 add-digit-at c =
-    let l = c .before .before .before in
+    let l = loop-at-else1 c in
     let a = st l in
     record { fits = omega (arith, digit-within (a .args .text .now) (l .loop .i) (high c)) }
 
@@ -63,24 +72,24 @@ unfolding pairsAt
 returns-2 c =
     let d = c .before .before in
     let e = d .before in
-    let l = e .before .before .before in
+    let l = loop-at-else1 e in
     let a = st l .args in
     c .lost2 .ensures
     ∙ sym (low-none (lost (a .text .now)) (a .text .now) (l .loop .i) (l .loop .left) (told (a .at) (a .count))
-    (e .before .before .loop-test .taken) (high e) (sym (d .digit-at2 .ensures) ∙ not-true _ (c .before .if2 .taken)))
+    (turn-at-else1 e .loop-test .taken) (high e) (sym (d .digit-at2 .ensures) ∙ not-true _ (c .before .if2 .taken)))
     ∙ l .loop .inv .2
 
 add-i : tie.Need-add-i Inv-loop μ-loop
 add-i c =
-    let l = c .before .before .before .before .before in
+    let l = loop-at-else1 (else1-at-else2 c) in
     record { fits = omega (arith, digit-within (st l .args .text .now) (l .loop .i + 1) (low c)) }
 
 loop-again : tie.Need-loop-again Inv-loop μ-loop
 loop-again c =
-    let e = c .before .before in
-    let l = e .before .before .before in
+    let e = else1-at-else2 c in
+    let l = loop-at-else1 e in
     let a = st l .args in
-    let t = e .before .before .loop-test .taken in (
+    let t = turn-at-else1 e .loop-test .taken in (
       omega (arith, l .loop .inv .0),
       omega (arith, l .loop .inv .0, l .loop .inv .1, t),
       pair-more (lost (a .text .now)) (a .text .now) (l .loop .i) (l .loop .left) (told (a .at) (a .count)) t (high e) (low c) ∙ l .loop .inv .2,

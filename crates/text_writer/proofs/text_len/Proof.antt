@@ -36,8 +36,11 @@ small c =
     }
 
 -- where the call began
+abbrev st-at-decimal-len2 : tie.After-decimal-len2 → tie.Start
+st-at-decimal-len2 c = c .before .before .before
+
 abbrev st : tie.After-decimal-len4 → tie.Start
-st c = c .before .before .before .before .before
+st c = st-at-decimal-len2 (c .before .before)
 
 abbrev st-points : tie.After-points-len → tie.Start
 st-points c = let at = c .before .before in st at
@@ -45,8 +48,11 @@ st-points c = let at = c .before .before in st at
 abbrev st-node : tie.After-decimal-len5 → tie.Start
 st-node c = st-points (c .before)
 
+abbrev points-len-at-decimal-len6 : tie.After-decimal-len6 → tie.After-points-len
+points-len-at-decimal-len6 c = c .before .before
+
 abbrev st-length : tie.After-decimal-len6 → tie.Start
-st-length c = st-node (c .before)
+st-length c = st-points (points-len-at-decimal-len6 c)
 
 -- the points of n boards
 lent : (c : tie.Start) → length (take (c .args .sizes .n) (c .args .points .now)) ≡ c .args .sizes .n
@@ -65,7 +71,7 @@ line c =
 returns : tie.Need-returns
 returns c share e =
     let a = st-length c .args in
-    let l = line (c .before .before) .0 in
+    let l = line (points-len-at-decimal-len6 c) .0 in
     omega (arith, length-text (a .sizes) (a .points .now) (a .total) (a .node) share)
 
 pub text-len-spec : {M : Type 1} → statement M
@@ -74,9 +80,9 @@ text-len-spec =
     (tie.spec
     (λ c κs. search needs)
     (λ c κs. search needs)
-    (λ c. let s = small (c .before .before .before) in omega arith)
+    (λ c. let s = small (st-at-decimal-len2 c) in omega arith)
     (λ c κs. search needs)
-    (λ c. let s = small (c .before .before .before .before) in omega arith)
+    (λ c. let s = small (st-at-decimal-len2 (c .before)) in omega arith)
     (λ c κs. search needs)
     (λ c. let s = small (st c) in omega arith)
     (λ c. sym (lent (st (c .before))))
@@ -86,7 +92,7 @@ text-len-spec =
     (λ c. let s = small (st-node c) in omega arith)
     (λ c κs. search needs)
     (λ c. let s = small (st-length c) in omega arith)
-    (λ c. let s = small (st-length c) in let l = line (c .before .before) .1 in omega arith)
+    (λ c. let s = small (st-length c) in let l = line (points-len-at-decimal-len6 c) .1 in omega arith)
     (λ c. search needs)
-    (λ c. let s = small (st-length c) in let l = line (c .before .before) .1 in omega arith)
+    (λ c. let s = small (st-length c) in let l = line (points-len-at-decimal-len6 c) .1 in omega arith)
     returns)

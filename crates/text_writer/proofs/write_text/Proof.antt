@@ -18,14 +18,20 @@ fits : (c : tie.Start) → let a = c .args in Rooms (a .sizes) (a .points .now) 
 fits c = let a = c .args in rooms (a .sizes) (a .points .now) (a .total) (a .node) (a .share .now) _ (c .pre .has-room)
 
 -- past each line: where the call began, and what is written so far
+abbrev st-at-put-line-arg2 : tie.After-put-line-arg2 → tie.Start
+st-at-put-line-arg2 c = c .before .before .before .before .before
+
 abbrev st-n : tie.After-put-line → tie.Start
-st-n c = c .before .before .before .before .before .before
+st-n c = st-at-put-line-arg2 (c .before)
 
 by-n : (c : tie.After-put-line) → let a = st-n c .args in Wrote (a .out .now) 0 (toN (a .sizes)) (c .put-line .last .1 .1 .1 .0) (c .put-line .result)
 by-n c = c .put-line .ensures
 
+abbrev put-line-at-put-line-arg4 : tie.After-put-line-arg4 → tie.After-put-line
+put-line-at-put-line-arg4 c = c .before .before .before .before
+
 abbrev at-n : tie.After-put-line2 → tie.After-put-line
-at-n c = c .before .before .before .before .before
+at-n c = put-line-at-put-line-arg4 (c .before)
 
 abbrev st-k : tie.After-put-line2 → tie.Start
 st-k c = st-n (at-n c)
@@ -33,8 +39,11 @@ st-k c = st-n (at-n c)
 by-k : (c : tie.After-put-line2) → let a = st-k c .args in Wrote (a .out .now) 0 (toK (a .sizes)) (c .put-line2 .last .1 .1 .1 .0) (c .put-line2 .result)
 by-k c = then (by-n (at-n c)) (c .put-line2 .ensures) (fits (st-k c) .k)
 
+abbrev put-line2-at-put-line-arg6 : tie.After-put-line-arg6 → tie.After-put-line2
+put-line2-at-put-line-arg6 c = c .before .before .before .before
+
 abbrev at-k : tie.After-put-line3 → tie.After-put-line2
-at-k c = c .before .before .before .before .before
+at-k c = put-line2-at-put-line-arg6 (c .before)
 
 abbrev st-d : tie.After-put-line3 → tie.Start
 st-d c = st-k (at-k c)
@@ -42,8 +51,11 @@ st-d c = st-k (at-k c)
 by-d : (c : tie.After-put-line3) → let a = st-d c .args in Wrote (a .out .now) 0 (toD (a .sizes)) (c .put-line3 .last .1 .1 .1 .0) (c .put-line3 .result)
 by-d c = then (by-k (at-k c)) (c .put-line3 .ensures) (fits (st-d c) .d)
 
+abbrev put-line3-at-put-line-arg8 : tie.After-put-line-arg8 → tie.After-put-line3
+put-line3-at-put-line-arg8 c = c .before .before .before .before
+
 abbrev at-d : tie.After-put-line4 → tie.After-put-line3
-at-d c = c .before .before .before .before .before
+at-d c = put-line3-at-put-line-arg8 (c .before)
 
 abbrev st-r : tie.After-put-line4 → tie.Start
 st-r c = st-d (at-d c)
@@ -51,8 +63,11 @@ st-r c = st-d (at-d c)
 by-r : (c : tie.After-put-line4) → let a = st-r c .args in Wrote (a .out .now) 0 (toR (a .sizes)) (c .put-line4 .last .1 .1 .1 .0) (c .put-line4 .result)
 by-r c = then (by-d (at-d c)) (c .put-line4 .ensures) (fits (st-r c) .r)
 
+abbrev put-line4-at-put-line-arg10 : tie.After-put-line-arg10 → tie.After-put-line4
+put-line4-at-put-line-arg10 c = c .before .before .before .before
+
 abbrev at-r : tie.After-put-line5 → tie.After-put-line4
-at-r c = c .before .before .before .before .before
+at-r c = put-line4-at-put-line-arg10 (c .before)
 
 abbrev st-node : tie.After-put-line5 → tie.Start
 st-node c = st-r (at-r c)
@@ -60,8 +75,11 @@ st-node c = st-r (at-r c)
 by-node : (c : tie.After-put-line5) → let a = st-node c .args in Wrote (a .out .now) 0 (toNode (a .sizes) (a .node)) (c .put-line5 .last .1 .1 .1 .0) (c .put-line5 .result)
 by-node c = then (by-r (at-r c)) (c .put-line5 .ensures) (fits (st-node c) .node-too)
 
+abbrev put-line5-at-put-line-arg12 : tie.After-put-line-arg12 → tie.After-put-line5
+put-line5-at-put-line-arg12 c = c .before .before .before .before
+
 abbrev at-node : tie.After-put-line6 → tie.After-put-line5
-at-node c = c .before .before .before .before .before
+at-node c = put-line5-at-put-line-arg12 (c .before)
 
 abbrev st-length : tie.After-put-line6 → tie.Start
 st-length c = st-node (at-node c)
@@ -69,8 +87,11 @@ st-length c = st-node (at-node c)
 by-length : (c : tie.After-put-line6) → let a = st-length c .args in Wrote (a .out .now) 0 (toLength (a .sizes) (a .total) (a .node)) (c .put-line6 .last .1 .1 .1 .0) (c .put-line6 .result)
 by-length c = then (by-node (at-node c)) (c .put-line6 .ensures) (fits (st-length c) .length-too)
 
+abbrev put-line6-at-put-points-arg : tie.After-put-points-arg → tie.After-put-line6
+put-line6-at-put-points-arg c = c .before .before .before
+
 abbrev at-length : tie.After-put-points → tie.After-put-line6
-at-length c = c .before .before .before .before .before
+at-length c = put-line6-at-put-points-arg (c .before .before)
 
 abbrev st-points : tie.After-put-points → tie.Start
 st-points c = st-length (at-length c)
@@ -87,8 +108,11 @@ by-points : (c : tie.After-put-points)
     → let a = st-points c .args in Wrote (a .out .now) 0 (toPoints (a .sizes) (a .points .now) (a .total) (a .node)) (c .put-points .last .1 .1 .0) (c .put-points .result)
 by-points c = let g = st-points c in then (by-length (at-length c)) (said-line g (c .put-points .ensures)) (fits g .points-too)
 
+abbrev put-points-at-put-pairs-line-arg2 : tie.After-put-pairs-line-arg2 → tie.After-put-points
+put-points-at-put-pairs-line-arg2 c = c .before .before .before .before
+
 abbrev at-points : tie.After-put-pairs-line → tie.After-put-points
-at-points c = c .before .before .before .before .before
+at-points c = put-points-at-put-pairs-line-arg2 (c .before)
 
 abbrev st-data : tie.After-put-pairs-line → tie.Start
 st-data c = st-points (at-points c)
@@ -107,20 +131,20 @@ write-text-spec =
     tie.close
     (tie.spec
     (λ c. search needs)
-    (λ c κs. fits (c .before .before .before .before .before) .n)
+    (λ c κs. fits (st-at-put-line-arg2 c) .n)
     (λ c. search needs)
-    (λ c κs. let p = c .before .before .before .before in room (by-n p) _ (fits (st-n p) .k))
+    (λ c κs. let p = put-line-at-put-line-arg4 c in room (by-n p) _ (fits (st-n p) .k))
     (λ c. search needs)
-    (λ c κs. let p = c .before .before .before .before in room (by-k p) _ (fits (st-k p) .d))
+    (λ c κs. let p = put-line2-at-put-line-arg6 c in room (by-k p) _ (fits (st-k p) .d))
     (λ c. search needs)
-    (λ c κs. let p = c .before .before .before .before in room (by-d p) _ (fits (st-d p) .r))
+    (λ c κs. let p = put-line3-at-put-line-arg8 c in room (by-d p) _ (fits (st-d p) .r))
     (λ c. search needs)
-    (λ c κs. let p = c .before .before .before .before in room (by-r p) _ (fits (st-r p) .node-too))
+    (λ c κs. let p = put-line4-at-put-line-arg10 c in room (by-r p) _ (fits (st-r p) .node-too))
     (λ c. search needs)
-    (λ c κs. let p = c .before .before .before .before in room (by-node p) _ (fits (st-node p) .length-too))
-    (λ c. sym (length-take-le _ _ (st-length (c .before .before .before) .pre .has-points)))
-    (λ c κs. let p = c .before .before .before .before in let g = st-length p in rw (line g) (room (by-length p) _ (fits g .points-too)))
+    (λ c κs. let p = put-line5-at-put-line-arg12 c in room (by-node p) _ (fits (st-node p) .length-too))
+    (λ c. sym (length-take-le _ _ (st-length (put-line6-at-put-points-arg c) .pre .has-points)))
+    (λ c κs. let p = put-line6-at-put-points-arg (c .before) in let g = st-length p in rw (line g) (room (by-length p) _ (fits g .points-too)))
     (λ c. search needs)
-    (λ c κs. let p = c .before .before .before .before in room (by-points p) _ (fits (st-points p) .data-too))
+    (λ c κs. let p = put-points-at-put-pairs-line-arg2 c in room (by-points p) _ (fits (st-points p) .data-too))
     (λ c. let p = c .before .before in same-room (by-data p) (fits (st-data p) .data-too))
     returns)

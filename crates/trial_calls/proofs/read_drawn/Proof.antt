@@ -24,16 +24,20 @@ drawn-is : (z : Sizes) (len first : ℕ) → z .k ≤ 32 → len ≤ 16384
 drawn-is z len first h l =
     ap₂ {C = Call} (λ (m : ℕ) (output : List ℕ). read (counted (z .n) first m) output) (sym (length-front (z .k) 32 h)) (take-zeros len 16384 l)
 
+-- the places
+abbrev st-at-out : tie.After-out → tie.Start
+st-at-out c = c .before .before .before
+
 read-into-requires : tie.Need-read-into-requires
 read-into-requires c κs =
-    let s = c .before .before .before in
+    let s = st-at-out c in
     let f = legal-facts (s .args .sizes) (s .pre .0) in
     (omega (arith, f .enough, f .some-fresh), s .pre .2, omega (arith, length-front (s .args .sizes .k) 32 (few s), few s))
 
 returns : tie.Need-returns
 returns c =
     let r = c .before .before in
-    let s = r .before .before .before .before in
+    let s = st-at-out (r .before) in
     let a = s .args in
     subst (λ (call : Call). Acts (stateIn (a .kept) (a .running) (a .area .now)) call (r .read-into .result) (a .area .now))
     (drawn-is (a .sizes) (a .len) (a .first) (few s) (s .pre .1)) (r .read-into .ensures)
@@ -45,6 +49,6 @@ read-drawn-spec =
     (λ c. few (c .before))
     (λ c. let s = c .before .before in length-front (s .args .sizes .k) 32 (few s))
     (λ c. search needs)
-    (λ c. let s = c .before .before .before in length-front (s .args .len) 16384 (s .pre .1))
+    (λ c. let s = st-at-out c in length-front (s .args .len) 16384 (s .pre .1))
     read-into-requires
     returns)

@@ -15,9 +15,13 @@ few-fresh c = let f = legal-facts (c .args .sizes) (c .pre .0) in omega (arith, 
 few : (c : tie.Start) → c .args .sizes .r * c .args .sizes .d ≤ 256
 few c = let f = legal-facts (c .args .sizes) (c .pre .0) in few-helpers (c .args .sizes .r) (c .args .sizes .d) (omega (arith, f .few, f .enough))
 
+-- the places
+abbrev st-at-struct-known : tie.After-struct-known → tie.Start
+st-at-struct-known c = c .before .before
+
 repair-into-requires : tie.Need-repair-into-requires
 repair-into-requires c κs =
-    let s = c .before .before .before .before .before in
+    let s = st-at-struct-known (c .before .before .before) in
     record {
       is-legal = s .pre .0;
       low = s .pre .1;
@@ -29,11 +33,11 @@ pub repair-drawn-spec : {M : Type 1} → statement M
 repair-drawn-spec =
     tie.close
     (tie.spec
-    (λ c. record { fits = omega (arith, few (c .before .before)) })
-    (λ c. few-fresh (c .before .before))
-    (λ c. let s = c .before .before .before in length-front (s .args .sizes .r) 32 (few-fresh s))
-    (λ c. few (c .before .before .before))
-    (λ c. let s = c .before .before .before .before in length-front (s .args .sizes .r * s .args .sizes .d) 256 (few s))
+    (λ c. record { fits = omega (arith, few (st-at-struct-known c)) })
+    (λ c. few-fresh (st-at-struct-known c))
+    (λ c. let s = st-at-struct-known (c .before) in length-front (s .args .sizes .r) 32 (few-fresh s))
+    (λ c. few (st-at-struct-known (c .before)))
+    (λ c. let s = st-at-struct-known (c .before .before) in length-front (s .args .sizes .r * s .args .sizes .d) 256 (few s))
     repair-into-requires
     (λ c. search needs)
     (λ c. search needs))

@@ -20,21 +20,27 @@ use Rattle.trial_calls.proofs.repair_into.Tie as tie
 abbrev helped : tie.After-repair → tie.After-repeat-on
 helped c = c .before .before .before .before .before .before .before
 
+abbrev count-on-at-repeat-on-arg : tie.After-repeat-on-arg → tie.After-count-on
+count-on-at-repeat-on-arg c = c .before .before .before .before
+
 abbrev freshened : tie.After-repeat-on → tie.After-count-on
-freshened c = c .before .before .before .before .before
+freshened c = count-on-at-repeat-on-arg (c .before)
+
+abbrev st-at-count-on-arg : tie.After-count-on-arg → tie.Start
+st-at-count-on-arg c = c .before .before .before .before
 
 abbrev st : tie.After-count-on → tie.Start
-st c = c .before .before .before .before .before
+st c = st-at-count-on-arg (c .before)
 
 count-on-requires : tie.Need-count-on-requires
 count-on-requires c κs =
-    let s = c .before .before .before .before in
+    let s = st-at-count-on-arg c in
     let f = legal-facts (s .args .sizes) (s .pre .is-legal) in
     (omega (arith, f .enough, f .some-fresh), omega (arith, s .pre .low), omega (arith, s .pre .fresh-long, f .enough, f .few))
 
 repeat-on-requires : tie.Need-repeat-on-requires
 repeat-on-requires c κs =
-    let s = st (c .before .before .before .before) in
+    let s = st (count-on-at-repeat-on-arg c) in
     let f = legal-facts (s .args .sizes) (s .pre .is-legal) in
     (omega (arith, f .enough, f .some-fresh), omega (arith, s .pre .low, f .enough, f .few), omega (arith, f .enough, f .few), omega (arith, f .enough, f .few), s .pre .helpers-long)
 

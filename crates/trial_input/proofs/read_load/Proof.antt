@@ -31,11 +31,14 @@ given text e = pick (e .ok) (ends (numbersIn (e .numbers)) (drop (e .next) text)
 is-given : (c : tie.After-numbers-at) → loaded (st c .args .input .now) ≡ given (st c .args .input .now) (c .numbers-at .result)
 is-given c = let text = st c .args .input .now in loaded-by text ∙ ap (given text) (sym (c .numbers-at .ensures))
 
+abbrev numbers-at-at-else1 : tie.Else1 → tie.After-numbers-at
+numbers-at-at-else1 c = c .before .before
+
 -- where the lines stand
-stands : (c : tie.Else1) → let k = c .before .before in
+stands : (c : tie.Else1) → let k = numbers-at-at-else1 c in
     loaded (st k .args .input .now) ≡ ends (numbersIn (k .numbers-at .result .numbers)) (drop (k .numbers-at .result .next) (st k .args .input .now))
 stands c =
-    let k = c .before .before in
+    let k = numbers-at-at-else1 c in
     let text = st k .args .input .now in
     let e = k .numbers-at .result in
     is-given k ∙ yes (e .ok) (ends (numbersIn (e .numbers)) (drop (e .next) text)) none (not-false (e .ok) (c .if1 .left))
@@ -50,7 +53,7 @@ returns c =
 returns-2 : tie.Need-returns-2
 returns-2 c =
     let f = c .before .before in
-    let k = f .before .before in
+    let k = numbers-at-at-else1 f in
     let text = st k .args .input .now in
     let e = k .numbers-at .result in
     sym (stands f ∙ ends-behind (numbersIn (e .numbers)) (drop (e .next) text) (omega (arith, length-drop (e .next) text, c .if2 .taken)))
@@ -72,15 +75,18 @@ returns-3 c =
 is-taken : (c : tie.Else3) → taken (numbersIn (lined (c .before) .before .before .numbers-at .result .numbers)) ≡ true
 is-taken c = sym (c .before .within .ensures) ∙ not-false _ (c .if3 .left)
 
+abbrev else3-at-struct-known3 : tie.After-struct-known3 → tie.Else3
+else3-at-struct-known3 c = c .before .before
+
 cast-seed : tie.Need-cast-t8
-cast-seed c = let s = small _ (is-taken (c .before .before)) in record { fits = s .seed }
+cast-seed c = let s = small _ (is-taken (else3-at-struct-known3 c)) in record { fits = s .seed }
 
 cast-calls : tie.Need-cast-t9
-cast-calls c = let s = small _ (is-taken (c .before .before .before)) in record { fits = s .calls }
+cast-calls c = let s = small _ (is-taken (else3-at-struct-known3 (c .before))) in record { fits = s .calls }
 
 returns-4 : tie.Need-returns-4
 returns-4 c =
-    let t = c .before .before .before in
+    let t = else3-at-struct-known3 (c .before) in
     let w = t .before in
     let f = lined w in
     let k = f .before .before in

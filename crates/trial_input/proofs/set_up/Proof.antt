@@ -28,20 +28,23 @@ returns c =
     let a = st k .args in
     sym (refused-none (a .sizes) (a .capacity) _ (sym (check-is k) ∙ c .enum-told .given .1))
 
+abbrev check-set-up-at-enum-told2 : tie.After-enum-told2 → tie.After-check-set-up
+check-set-up-at-enum-told2 c = c .before .before
+
 -- where it passed
-pass : (c : tie.After-enum-told2) → let a = st (c .before .before) .args in setUpCheck (a .sizes) (a .capacity) ≡ Pass
-pass c = sym (check-is (c .before .before)) ∙ c .enum-told2 .given .1
+pass : (c : tie.After-enum-told2) → let a = st (check-set-up-at-enum-told2 c) .args in setUpCheck (a .sizes) (a .capacity) ≡ Pass
+pass c = sym (check-is (check-set-up-at-enum-told2 c)) ∙ c .enum-told2 .given .1
 
 area-len-requires : tie.Need-area-len-requires
 area-len-requires c κs =
-    let a = st (c .before .before) .args in
+    let a = st (check-set-up-at-enum-told2 c) .args in
     let s = passed-sound (a .sizes) (a .capacity) (pass c) in
     record { is-legal = s .is-legal; few = s .cap-high }
 
 returns-2 : tie.Need-returns-2
 returns-2 c =
     let k = c .before in
-    let a = st (k .before .before) .args in
+    let a = st (check-set-up-at-enum-told2 k) .args in
     ap (λ (m : ℕ). leb m 32768) (c .area-len .ensures) ∙ passed-area (a .sizes) (a .capacity) (pass k)
 
 pub set-up-spec : {M : Type 1} → statement M

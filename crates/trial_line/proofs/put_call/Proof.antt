@@ -25,8 +25,11 @@ opened c = c .before .before .before
 abbrev refused : tie.After-put-decimal → tie.After-refusal
 refused c = c .before .before
 
+abbrev put-decimal-at-put-moved-arg : tie.After-put-moved-arg → tie.After-put-decimal
+put-decimal-at-put-moved-arg c = c .before .before .before .before
+
 abbrev answered : tie.After-put-moved → tie.After-put-decimal
-answered c = c .before .before .before .before .before
+answered c = put-decimal-at-put-moved-arg (c .before)
 
 -- the beginning and the refusal
 abbrev toRefusal : ℕ → ℕ → List ℕ
@@ -50,7 +53,7 @@ put-decimal-requires c κs =
 
 put-moved-requires : tie.Need-put-moved-requires
 put-moved-requires c κs =
-    let d = c .before .before .before .before in
+    let d = put-decimal-at-put-moved-arg c in
     let x = refused d in
     let s = st (opened x) in
     let w = by-refusal d in

@@ -24,8 +24,11 @@ toMoved v = name ++ decimal v
 abbrev st : tie.After-put-bytes → tie.Start
 st c = c .before .before .before .before
 
+abbrev put-bytes-at-put-decimal-arg : tie.After-put-decimal-arg → tie.After-put-bytes
+put-bytes-at-put-decimal-arg c = c .before .before .before
+
 abbrev named : tie.After-put-decimal → tie.After-put-bytes
-named c = c .before .before .before .before
+named c = put-bytes-at-put-decimal-arg (c .before)
 
 fits : (c : tie.Start) → c .args .at + length (movedEnd (c .args .moved)) ≤ length (c .args .line .now)
 fits c = omega (arith, moved-most (c .args .moved) (c .fits .moved .fits), c .pre .0, c .pre .1)
@@ -36,22 +39,25 @@ by-moved c = let s = st (named c) in then (named c .put-bytes .ensures) (c .put-
 
 put-decimal-requires : tie.Need-put-decimal-requires
 put-decimal-requires c κs =
-    let p = c .before .before .before in
+    let p = put-bytes-at-put-decimal-arg c in
     room (p .put-bytes .ensures) (decimal (st p .args .moved)) (less (toMoved (st p .args .moved)) (0x0A ∷ []) _ _ (fits (st p)))
 
+abbrev put-decimal-at-slice-known3 : tie.After-slice-known3 → tie.After-put-decimal
+put-decimal-at-slice-known3 c = c .before .before
+
 slice-write-line : tie.Need-slice-write-line
-slice-write-line c = let d = c .before .before in omega (arith, room (by-moved d) (0x0A ∷ []) (fits (st (named d))))
+slice-write-line c = let d = put-decimal-at-slice-known3 c in omega (arith, room (by-moved d) (0x0A ∷ []) (fits (st (named d))))
 
 returns : tie.Need-returns
-returns c = let d = c .before .before in more (by-moved d) 0x0A (fits (st (named d)))
+returns c = let d = put-decimal-at-slice-known3 c in more (by-moved d) 0x0A (fits (st (named d)))
 
 add-result : tie.Need-add-result
 add-result c =
-    let s = st (named (c .before .before)) in
+    let s = st (named (put-decimal-at-slice-known3 c)) in
     omega (arith, returns c .ends, fits s, s .pre .1)
 
 same-length : tie.Need-same-length
-same-length c = same-room (returns c) (fits (st (named (c .before .before))))
+same-length c = same-room (returns c) (fits (st (named (put-decimal-at-slice-known3 c))))
 
 pub put-moved-spec : {M : Type 1} → statement M
 put-moved-spec =

@@ -21,13 +21,17 @@ second r a b t e h k = k ∙ last b ∙ sym (ap (λ (x : Bool). alls (x ∷ b �
     last true = refl
     last false = refl
 
+-- the places
+abbrev st-at-is-record : tie.After-is-record → tie.Start
+st-at-is-record c = c .before .before .before
+
 pub are-records-spec : {M : Type 1} → statement M
 are-records-spec =
     tie.close
     (tie.spec
     (λ c κs. search needs)
-    (λ c. let k = c .before in let g = k .before .before .before .args in
+    (λ c. let k = c .before in let g = st-at-is-record k .args in
     first-off (k .is-record .result) (isRecord (g .words .now)) (isRepair (g .beside .now)) (k .is-record .ensures) (c .if1 .taken))
     (λ c κs. search needs)
-    (λ c. let e = c .before in let k = e .before in let g = k .before .before .before .args in
+    (λ c. let e = c .before in let k = e .before in let g = st-at-is-record k .args in
     second (k .is-record .result) (isRecord (g .words .now)) (isRepair (g .beside .now)) (c .is-repair .result) (k .is-record .ensures) (e .if1 .left) (c .is-repair .ensures)))

@@ -20,6 +20,12 @@ at-r c = c .before .before .before .before
 twelve : (g : tie.Start) → length (g .args .words .now) ≡ 12
 twelve g = words-facts (g .args .words .now) (g .pre) .twelve
 
+abbrev marks2-at-shared-slice-known3 : tie.After-shared-slice-known3 → tie.After-marks2
+marks2-at-shared-slice-known3 c = c .before .before
+
+abbrev shared-slice-known6-at-shared-slice-known8 : tie.After-shared-slice-known8 → tie.After-shared-slice-known6
+shared-slice-known6-at-shared-slice-known8 c = c .before .before
+
 pub kept-of-spec : {M : Type 1} → statement M
 kept-of-spec =
     tie.close
@@ -28,12 +34,12 @@ kept-of-spec =
     (λ c. search needs)
     (λ c κs. search needs)
     (λ c κs. twelve (st c))
-    (λ c. omega (arith, twelve (st (c .before .before))))
-    (λ c. omega (arith, twelve (st (c .before .before .before))))
-    (λ c. omega (arith, twelve (st (c .before .before .before .before))))
+    (λ c. omega (arith, twelve (st (marks2-at-shared-slice-known3 c))))
+    (λ c. omega (arith, twelve (st (marks2-at-shared-slice-known3 (c .before)))))
+    (λ c. omega (arith, twelve (st (marks2-at-shared-slice-known3 (c .before .before)))))
     (λ c. omega (arith, twelve (st (at-r c .before))))
     (λ c. omega (arith, twelve (st (at-r (c .before) .before))))
-    (λ c. omega (arith, twelve (st (at-r (c .before .before) .before))))
-    (λ c. omega (arith, twelve (st (at-r (c .before .before .before) .before))))
-    (λ c. let p = at-r (c .before .before .before) in let m = p .before in
+    (λ c. omega (arith, twelve (st (at-r (shared-slice-known6-at-shared-slice-known8 c) .before))))
+    (λ c. omega (arith, twelve (st (at-r (shared-slice-known6-at-shared-slice-known8 (c .before)) .before))))
+    (λ c. let p = at-r (shared-slice-known6-at-shared-slice-known8 (c .before)) in let m = p .before in
     told (st m .args .words .now) _ _ (m .before .fill-marks .ensures) (p .points-of .ensures)))

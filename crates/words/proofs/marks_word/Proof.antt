@@ -19,21 +19,25 @@ abbrev μ-loop : tie.MeasureT-loop
 loop-holds : tie.Need-loop-holds Inv-loop μ-loop
 loop-holds c = (sym (ap fromBits (drop-of-length-le (c .args .marks .now) {i = length (c .args .marks .now)} (omega arith))), omega arith)
 
+-- the places
+abbrev st-at-turn : tie.In-loop Inv-loop μ-loop → tie.Start Inv-loop μ-loop
+st-at-turn c = c .before .before
+
 -- the number so far is small
-few : (c : tie.In-loop Inv-loop μ-loop) → fromBits (drop (c .before .loop .i) (c .before .before .args .marks .now)) < 4294967296
-few c = rest-few (c .before .before .args .marks .now) (c .before .loop .i) (c .before .before .pre)
+few : (c : tie.In-loop Inv-loop μ-loop) → fromBits (drop (c .before .loop .i) (st-at-turn c .args .marks .now)) < 4294967296
+few c = rest-few (st-at-turn c .args .marks .now) (c .before .loop .i) (st-at-turn c .pre)
 
 loop-again : tie.Need-loop-again Inv-loop μ-loop
 loop-again c =
     let t = c .before .before in
     let l = t .before .loop in
-    (word-on (t .before .before .args .marks .now) (l .i) (l .word) (t .loop-test .taken) (l .inv .1) (c .if1 .taken) (l .inv .0), omega arith)
+    (word-on (st-at-turn t .args .marks .now) (l .i) (l .word) (t .loop-test .taken) (l .inv .1) (c .if1 .taken) (l .inv .0), omega arith)
 
 loop-again-2 : tie.Need-loop-again-2 Inv-loop μ-loop
 loop-again-2 c =
     let t = c .before .before in
     let l = t .before .loop in
-    (word-off (t .before .before .args .marks .now) (l .i) (l .word) (t .loop-test .taken) (l .inv .1) (c .if1 .left) (l .inv .0), omega arith)
+    (word-off (st-at-turn t .args .marks .now) (l .i) (l .word) (t .loop-test .taken) (l .inv .1) (c .if1 .left) (l .inv .0), omega arith)
 
 returns : tie.Need-returns Inv-loop μ-loop
 returns c =

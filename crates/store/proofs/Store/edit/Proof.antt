@@ -25,12 +25,18 @@ st c = c .before .before .before .before .before
 abbrev at-check : tie.After-enum-told → tie.After-check-edit
 at-check c = c .before .before
 
+abbrev fill-tables-at-tables3 : tie.After-tables3 → tie.After-fill-tables
+fill-tables-at-tables3 c = c .before .before .before
+
 abbrev at-filled : tie.After-check-agrees → tie.After-fill-tables
-at-filled c = c .before .before .before .before
+at-filled c = fill-tables-at-tables3 (c .before)
+
+abbrev enum-told-at-fill-tables : tie.After-fill-tables → tie.After-enum-told
+enum-told-at-fill-tables c = c .before .before
 
 -- from where DISAGREE was asked to where the first check had passed
 abbrev told : tie.After-check-agrees → tie.After-enum-told
-told c = at-filled c .before .before
+told c = enum-told-at-fill-tables (at-filled c)
 
 abbrev at-agrees : tie.After-enum-told2 → tie.After-check-agrees
 at-agrees c = c .before .before
@@ -57,10 +63,13 @@ passed c =
     let a = st k .args in
     edit-passes (R k) (P k) (a .area .now) (a .offset) (a .bytes .now) (a .boards .now) (k .check-edit .ensures) (t .enum-told .given .1) (at-agrees c .check-agrees .ensures) (c .enum-told2 .given .1)
 
+abbrev enum-told2-at-edit-boards-arg : tie.After-edit-boards-arg → tie.After-enum-told2
+enum-told2-at-edit-boards-arg c = c .before .before
+
 edit-done : tie.Need-returns-3
 edit-done c =
     let w = c .before .before in
-    let q = w .before .before .before in
+    let q = enum-told2-at-edit-boards-arg (w .before) in
     let k = at-check (told (at-agrees q)) in
     let a = st k .args in
     edit-works (R k) (P k) (a .area .now) (a .offset) (a .bytes .now) (a .boards .now) _ (passed q) (w .edit-boards .ensures)
@@ -74,19 +83,25 @@ alone c =
     let a = st k .args in
     edit-alone (R k) (P k) (a .area .now) (a .offset) (a .bytes .now) (a .boards .now) (passed c)
 
+abbrev check-edit-at-x : tie.After-x → tie.After-check-edit
+check-edit-at-x c = c .before .before
+
 edit-refused : (c : tie.After-x)
-    → let k = c .before .before in let a = st k .args in
+    → let k = check-edit-at-x c in let a = st k .args in
     turnedDown (R k) (P k) (a .area .now) [] [] (c .x .given .0 .0) ≡ editBoth (R k) (P k) (a .area .now) (a .offset) (a .bytes .now) (a .boards .now)
 edit-refused c =
-    let k = c .before .before in
+    let k = check-edit-at-x c in
     let a = st k .args in
     edit-refuses (R k) (P k) (a .area .now) (a .offset) (a .bytes .now) (a .boards .now) (k .check-edit .ensures) (c .x .given .1)
 
+abbrev check-agrees-at-disagree : tie.After-disagree → tie.After-check-agrees
+check-agrees-at-disagree c = c .before .before
+
 edit-disagreed : (c : tie.After-disagree)
-    → let k = at-check (told (c .before .before)) in let a = st k .args in
+    → let k = at-check (told (check-agrees-at-disagree c)) in let a = st k .args in
     turnedDown (R k) (P k) (a .area .now) [] [] (c .disagree .given .0 .0) ≡ editBoth (R k) (P k) (a .area .now) (a .offset) (a .bytes .now) (a .boards .now)
 edit-disagreed c =
-    let n = c .before .before in
+    let n = check-agrees-at-disagree c in
     let t = told n in
     let k = at-check t in
     let a = st k .args in
@@ -104,13 +119,13 @@ edit-spec =
     (λ c. search needs)
     (λ c κs. (read-asked _ _ _ (asks (c .before)), search needs))
     (λ c. search needs)
-    (λ c κs. let w = c .before .before .before in (asks (w .before .before), w .fill-tables .ensures))
+    (λ c κs. let w = fill-tables-at-tables3 c in (asks (enum-told-at-fill-tables w), w .fill-tables .ensures))
     (λ c. search needs)
     (λ c κs. search needs)
     (λ c. search needs)
     (λ c. c .refuse2 .ensures _ [] [] ∙ edit-disagreed (c .before .before))
     (λ c. search needs)
     (λ c. search needs)
-    (λ c κs. let q = c .before .before in (alone q, at-filled (at-agrees q) .fill-tables .ensures))
+    (λ c κs. let q = enum-told2-at-edit-boards-arg c in (alone q, at-filled (at-agrees q) .fill-tables .ensures))
     (λ c. search needs)
     edit-done)

@@ -34,14 +34,17 @@ at-told c = c .before .before
 abbrev at-built : tie.After-marks2 → tie.After-rebuild
 at-built c = c .before .before .before .before
 
+abbrev check-repair-at-enum-told : tie.After-enum-told → tie.After-check-repair
+check-repair-at-enum-told c = c .before .before
+
 -- what the check told
 passed : (c : tie.After-enum-told)
-    → let k = c .before .before in let a = st k .args in checked (R k) (P k) (a .area .now) (a .fresh .now) (a .helpers .now) (a .standins .now) ≡ Pass
-passed c = sym (c .before .before .check-repair .ensures) ∙ c .enum-told .given .1
+    → let k = check-repair-at-enum-told c in let a = st k .args in checked (R k) (P k) (a .area .now) (a .fresh .now) (a .helpers .now) (a .standins .now) ≡ Pass
+passed c = sym (check-repair-at-enum-told c .check-repair .ensures) ∙ c .enum-told .given .1
 
-asks : (c : tie.After-enum-told) → let k = c .before .before in let a = st k .args in Repairable (R k) (length (a .area .now)) (a .fresh .now) (a .helpers .now) (a .standins .now)
+asks : (c : tie.After-enum-told) → let k = check-repair-at-enum-told c in let a = st k .args in Repairable (R k) (length (a .area .now)) (a .fresh .now) (a .helpers .now) (a .standins .now)
 asks c =
-    let k = c .before .before in
+    let k = check-repair-at-enum-told c in
     let a = st k .args in
     repair-asks (R k) (P k) (a .area .now) (a .fresh .now) (a .helpers .now) (a .standins .now) (passed c)
 
@@ -52,7 +55,7 @@ marks-long g = search needs
 marks-ask : tie.Need-marks-on-requires
 marks-ask c κs =
     let t = at-told (at-built c) in
-    let k = t .before .before in
+    let k = check-repair-at-enum-told t in
     let f = asks t in
     below-more (R k .sizes .n) (length (R k .marks)) (st k .args .fresh .now) (omega (arith, marks-long (st k), legal-facts _ (f .is-ready .stated .is-legal) .few)) (f .fresh-known)
 
@@ -61,16 +64,19 @@ repair-done c =
     let m = c .before in
     let w = at-built (m .before) in
     let t = at-told w in
-    let k = t .before .before in
+    let k = check-repair-at-enum-told t in
     let a = st k .args in
     repair-works (R k) (P k) (a .area .now) (a .fresh .now) (a .helpers .now) (a .standins .now) _ _ _ (passed t)
     (w .rebuild .ensures .0) (m .marks-on .ensures) (w .rebuild .ensures .1)
 
+abbrev check-repair-at-x : tie.After-x → tie.After-check-repair
+check-repair-at-x c = c .before .before
+
 repair-refused : (c : tie.After-x)
-    → let k = c .before .before in let a = st k .args in
+    → let k = check-repair-at-x c in let a = st k .args in
     turnedDown (R k) (P k) (a .area .now) [] [] (c .x .given .0 .0) ≡ repairBoth (R k) (P k) (a .area .now) (a .fresh .now) (a .helpers .now) (a .standins .now)
 repair-refused c =
-    let k = c .before .before in
+    let k = check-repair-at-x c in
     let a = st k .args in
     repair-refuses (R k) (P k) (a .area .now) (a .fresh .now) (a .helpers .now) (a .standins .now) (k .check-repair .ensures) (c .x .given .1)
 
@@ -83,9 +89,9 @@ repair-spec =
     (λ c κs. search needs)
     (λ c. c .refuse .ensures _ [] [] ∙ repair-refused (c .before .before))
     (λ c. search needs)
-    (λ c κs. let t = c .before in let k = t .before .before in let a = st k .args in
+    (λ c κs. let t = c .before in let k = check-repair-at-enum-told t in let a = st k .args in
     repair-alone (R k) (P k) (a .area .now) (a .fresh .now) (a .helpers .now) (a .standins .now) (passed t))
-    (λ c. sym (marks-long (st (at-told (at-built c) .before .before))))
+    (λ c. sym (marks-long (st (check-repair-at-enum-told (at-told (at-built c))))))
     marks-ask
     (λ c. search needs)
     repair-done)

@@ -14,11 +14,14 @@ use Rattle.store.proofs.Store.set_up.Tie as tie
 abbrev st : tie.After-check-set-up → tie.Start
 st c = c .before
 
+abbrev check-set-up-at-x : tie.After-x → tie.After-check-set-up
+check-set-up-at-x c = c .before .before
+
 set-up-refused : (c : tie.After-x)
-    → let a = st (c .before .before) .args in
+    → let a = st (check-set-up-at-x c) .args in
     turnedDown (recordIn (a .self)) (runningIn (a .running)) [] [] [] (c .x .given .0 .0) ≡ setUpBoth (recordIn (a .self)) (runningIn (a .running)) (a .sizes) (a .points) (a .capacity)
 set-up-refused c =
-    let k = c .before .before in
+    let k = check-set-up-at-x c in
     let a = st k .args in
     set-up-refuses (recordIn (a .self)) (runningIn (a .running)) (a .sizes) (a .points) (a .capacity) (k .check-set-up .ensures) (c .x .given .1)
 

@@ -30,21 +30,24 @@ R c = recordIn (st c .args .self)
 abbrev P : tie.After-check-repair → Running
 P c = runningIn (st c .args .running)
 
+abbrev check-repair-at-enum-told : tie.After-enum-told → tie.After-check-repair
+check-repair-at-enum-told c = c .before .before
+
 -- what the check told
 passed : (c : tie.After-enum-told)
-    → let k = c .before .before in let a = st k .args in checked (R k) (P k) (a .area .now) (a .fresh .now) (a .helpers .now) (a .standins .now) ≡ Pass
-passed c = sym (c .before .before .check-repair .ensures) ∙ c .enum-told .given .1
+    → let k = check-repair-at-enum-told c in let a = st k .args in checked (R k) (P k) (a .area .now) (a .fresh .now) (a .helpers .now) (a .standins .now) ≡ Pass
+passed c = sym (check-repair-at-enum-told c .check-repair .ensures) ∙ c .enum-told .given .1
 
-asks : (c : tie.After-enum-told) → let k = c .before .before in let a = st k .args in Repairable (R k) (length (a .area .now)) (a .fresh .now) (a .helpers .now) (a .standins .now)
+asks : (c : tie.After-enum-told) → let k = check-repair-at-enum-told c in let a = st k .args in Repairable (R k) (length (a .area .now)) (a .fresh .now) (a .helpers .now) (a .standins .now)
 asks c =
-    let k = c .before .before in
+    let k = check-repair-at-enum-told c in
     let a = st k .args in
     repair-asks (R k) (P k) (a .area .now) (a .fresh .now) (a .helpers .now) (a .standins .now) (passed c)
 
 -- all boards named are bytes
 bytes-ask : tie.Need-started-requires
 bytes-ask c κs =
-    let k = c .before .before in
+    let k = check-repair-at-enum-told c in
     let f = asks c in
     let n = R k .sizes .n in
     let few : n ≤ 256 = omega (arith, legal-facts _ (f .is-ready .stated .is-legal) .few) in
@@ -54,18 +57,21 @@ bytes-ask c κs =
       below-more n 256 (a .standins .now) few (f .stand-ins-known),
     )
 
+abbrev check-repair-at-x : tie.After-x → tie.After-check-repair
+check-repair-at-x c = c .before .before
+
 start-refused : (c : tie.After-x)
-    → let k = c .before .before in let a = st k .args in
+    → let k = check-repair-at-x c in let a = st k .args in
     turnedDown (R k) (P k) (a .area .now) [] [] (c .x .given .0 .0) ≡ startCall (R k) (P k) (a .area .now) (a .fresh .now) (a .helpers .now) (a .standins .now)
 start-refused c =
-    let k = c .before .before in
+    let k = check-repair-at-x c in
     let a = st k .args in
     start-refuses (R k) (P k) (a .area .now) (a .fresh .now) (a .helpers .now) (a .standins .now) (k .check-repair .ensures) (c .x .given .1)
 
 start-done : tie.Need-returns-2
 start-done c =
     let t = c .before in
-    let k = t .before .before in
+    let k = check-repair-at-enum-told t in
     let a = st k .args in
     start-works (R k) (P k) (a .area .now) (a .fresh .now) (a .helpers .now) (a .standins .now) _ (passed t) (c .started .ensures)
 

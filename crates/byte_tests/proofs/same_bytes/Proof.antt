@@ -1,4 +1,4 @@
--- `text_scan::same_bytes` meets its contract. The loop's invariant: the test of what is left is the test of the whole.
+-- `byte_tests::same_bytes` meets its contract. The loop's invariant: the test of what is left is the test of the whole.
 -- Assumes nothing.
 use mathlib.Core.Path.{_≡_, refl, sym, _∙_}
 use mathlib.Core.List.{List}
@@ -7,9 +7,9 @@ use native.Mathlib.Omega.{arith}
 use lib.ListN.{length, drop}
 use borrow.Author.Needs.{needs}
 use Rattle.lists.specs.Tests.{same}
-use Rattle.text_scan.proofs.Compared.{same-lengths, same-no, same-next, same-ends}
-use Rattle.text_scan.proofs.same_bytes.Statement.{statement}
-use Rattle.text_scan.proofs.same_bytes.Tie as tie
+use Rattle.byte_tests.proofs.Compared.{same-lengths, same-no, same-next, same-ends}
+use Rattle.byte_tests.proofs.same_bytes.Statement.{statement}
+use Rattle.byte_tests.proofs.same_bytes.Tie as tie
 
 abbrev Inv-loop : tie.InvT-loop
 Inv-loop a b i₀ i = same (drop i a) (drop i b) ≡ same a b

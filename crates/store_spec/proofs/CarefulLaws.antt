@@ -1,0 +1,122 @@
+-- A careful read over any area: the file is given, with the odd board's number or none, just where all the boards but at most one hold its shares.
+-- Assumes nothing.
+use Prim.Native.Nat.{ℕ, _+_, _≤_}
+use mathlib.Core.Path.{_≡_, refl, sym, _∙_, ap, subst}
+use mathlib.Core.Bool.{not}
+use mathlib.Core.Logic.{_↔_}
+use mathlib.Core.List.{List}
+use mathlib.Core.Option.{Option, some, none}
+use native.Mathlib.Omega.{arith}
+use lib.ListN.{length}
+use borrow.Author.Tests.{eqb-true, leb-true, ltb-false}
+use Rattle.lists.specs.Lists.{over, Bytes}
+use Rattle.lists.specs.Tests.{pick, given}
+use Rattle.lists.proofs.Tests.{not-no, alls-hold, true-false}
+use Rattle.sizes.specs.Refusals.{storeOrder}
+use Rattle.sizes.specs.declared.Check.{Check}
+use Rattle.sizes.specs.declared.Check.the-variants.{Refuse, Pass}
+use Rattle.sizes.specs.declared.Refusal.the-variants.{Size, Area, Count, Node, Repeat, Short, Empty, Down, Disagree}
+use Rattle.sizes.proofs.Orders.{Only, only-off, only-first}
+use Rattle.mbcr.specs.Demand2.{Named}
+use Rattle.board_spec.proofs.Demand1.{written}
+use Rattle.board_spec.specs.Calls.{fileOf}
+use Rattle.store_spec.specs.Calls.{StoreOutcome, accepted, refused, settle}
+use Rattle.store_spec.specs.Careful.{agreeing, odd, oddReport, carefulFile, carefulLines, carefulDone, carefulCall}
+use Rattle.store_spec.specs.Record.{Record}
+use Rattle.store_spec.specs.Both.{carefulBoth}
+use Rattle.store_spec.specs.CarefulLaws.{OddTold, CarefulLaws}
+use Rattle.store_spec.proofs.AloneLaws.{alone-is, alone-laws}
+use Rattle.store_spec.proofs.Careful.{agreeing-is, report-tells, tells-report, tells-few, few-odd, many-agree, two-never, one-shows, careful-found, careful-finds, careful-none}
+use Rattle.store_spec.proofs.Records.{Cares, careTests, Sound, sound-facts}
+
+-- the outcome of a careful read that found this file, or none
+abbrev outcome : Record → List ℕ → List ℕ → Option (List ℕ) → List ℕ → StoreOutcome
+outcome s area boards (some file) output = accepted (oddReport (odd s area file boards)) s area (over file output)
+outcome s area boards none output = refused s area output Disagree
+
+found : (s : Record) (area boards output : List ℕ) (o : Option (List ℕ))
+    → settle (pick (not (given o)) (Refuse Disagree) Pass) (refused s area output)
+    (accepted (oddReport (odd s area (fileOf o) boards)) s area (over (fileOf o) output))
+    ≡ outcome s area boards o output
+found s area boards output (some file) = refl
+found s area boards output none = refl
+
+-- no line but DISAGREE holds
+module _ (s : Record) (area boards output : List ℕ) (ba : Bytes area)
+    (h : Only (carefulLines s area boards output) Disagree storeOrder) where
+  facts : Cares s (length area) boards output
+  unfolding carefulLines
+  facts =
+      let off = only-off (carefulLines s area boards output) Disagree storeOrder h in
+      let c = alls-hold (careTests s boards) (not-no _ (off Count refl refl)) in
+      record {
+        is-sound = not-no _ (off Size refl refl);
+        area-is = eqb-true _ _ (not-no _ (off Area refl refl));
+        is-written = not-no _ (off Empty refl refl);
+        enough = leb-true _ _ (c .0);
+        count = eqb-true _ _ (c .1 .0);
+        named-below = not-no _ (off Node refl refl);
+        all-different = not-no _ (off Repeat refl refl);
+        all-up = not-no _ (off Down refl refl);
+        room = ltb-false _ _ (off Short refl refl);
+      }
+
+  call-is : (o : Option (List ℕ)) → carefulFile s area boards ≡ o → carefulCall s area boards output ≡ outcome s area boards o output
+  unfolding carefulLines carefulCall
+  call-is o e =
+      ap (λ (c : Check). settle c (refused s area output) (carefulDone s area boards output))
+      (only-first (carefulLines s area boards output) Disagree storeOrder refl h)
+      ∙ found s area boards output (carefulFile s area boards) ∙ ap (λ (o : Option (List ℕ)). outcome s area boards o output) e
+
+  g : Sound s
+  g = sound-facts s (facts .is-sound)
+
+  named : Named (s .sizes) (s .sizes .k + 2) boards
+  named = (facts .count, facts .named-below, facts .all-different)
+
+  gives : (file : List ℕ) → length file ≡ s .length → Bytes file → (v : ℕ)
+      → (carefulCall s area boards output ≡ accepted v s area (over file output)) ↔ OddTold s area file boards v
+  gives file l bf v = (there (carefulFile s area boards) refl, back)
+    where
+      there : (o : Option (List ℕ)) → carefulFile s area boards ≡ o
+          → carefulCall s area boards output ≡ accepted v s area (over file output) → OddTold s area file boards v
+      there none e q = absurd (omega (arith, ap (λ (o : StoreOutcome). o .answer .refusal) (sym (call-is none e) ∙ q)))
+      there (some f) e q =
+          let p = careful-found s area g (facts .area-is) boards named ba f e in
+          let k : accepted (oddReport (odd s area f boards)) s area (over f output) ≡ accepted v s area (over file output) = sym (call-is (some f) e) ∙ q in
+          let same : f ≡ file = written f file output (p .0 ∙ sym l) (ap (λ (o : StoreOutcome). o .output) k) in
+          let r : oddReport (odd s area f boards) ≡ v = ap (λ (o : StoreOutcome). o .answer .reported) k in
+          subst (λ (x : List ℕ). OddTold s area x boards v) same
+          (subst (λ (x : ℕ). OddTold s area f boards x) r (report-tells s area f boards (few-odd s area f (s .sizes .k) boards (facts .count) (p .2))))
+
+      back : OddTold s area file boards v → carefulCall s area boards output ≡ accepted v s area (over file output)
+      back t =
+          let q = many-agree s area file (s .sizes .k) boards (facts .count) (tells-few s area file boards (facts .all-different) v t) in
+          call-is (some file) (careful-finds s area g (facts .area-is) boards named ba file l bf q)
+          ∙ ap (λ (x : ℕ). accepted x s area (over file output)) (sym (tells-report s area file boards (facts .all-different) v t))
+
+  refuses : (carefulCall s area boards output ≡ refused s area output Disagree)
+      ↔ ((file : List ℕ) → length file ≡ s .length → Bytes file → s .sizes .k + 1 ≤ length (agreeing s area file boards) → ⊥)
+  refuses = (
+    (λ q file l bf a. there (carefulFile s area boards) refl q file (careful-finds s area g (facts .area-is) boards named ba file l bf a)),
+    (λ f. call-is none (careful-none s area g (facts .area-is) boards named ba f)),
+  )
+    where
+      there : (o : Option (List ℕ)) → carefulFile s area boards ≡ o
+          → carefulCall s area boards output ≡ refused s area output Disagree → (file : List ℕ) → carefulFile s area boards ≡ some file → ⊥
+      there none e q file k = true-false (ap given (sym e ∙ k)) refl
+      there (some f) e q file k = absurd (omega (arith, ap (λ (o : StoreOutcome). o .answer .refusal) (sym (call-is (some f) e) ∙ q)))
+
+pub careful-laws : CarefulLaws
+careful-laws = record {
+  agreeing-is = λ s area file boards i. agreeing-is s area file boards i;
+  at-least = λ s area file boards c d. (
+    (λ q. (oddReport (odd s area file boards), report-tells s area file boards (few-odd s area file (s .sizes .k) boards c q))),
+    (λ p. many-agree s area file (s .sizes .k) boards c (tells-few s area file boards d (p .0) (p .1))),
+  );
+  tells-one = λ s area file boards d v v′ t t′. tells-report s area file boards d v t ∙ sym (tells-report s area file boards d v′ t′);
+  two-never = λ s area boards file file′ ok m named. two-never s area (sound-facts s ok) m boards named file file′;
+  one-shows = λ s area boards file i ok m named l b e n a file′. one-shows s area (sound-facts s ok) m boards named file l b i e n a file′;
+  same-beside = λ s p area boards output h. alone-is p (carefulCall s area boards output) (carefulBoth s p area boards output) (alone-laws .careful-alone s p area boards output h);
+  careful-exact = λ s area boards output ba h. (gives s area boards output ba h, refuses s area boards output ba h);
+}

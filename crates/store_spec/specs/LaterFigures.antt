@@ -1,0 +1,72 @@
+-- Figures of a careful read (request A.11) over the definitions. proofs/LaterFigures.antt has `later-figures`.
+-- Assumes nothing.
+use mathlib.Core.Path.{_≡_}
+use mathlib.Core.Bool.{Bool, true, false}
+use mathlib.Core.List.{List, [], _∷_, _++_, map}
+use Prim.Native.Nat.{ℕ}
+use lib.ListN.{take, replicate, set}
+use Rattle.sizes.specs.declared.Sizes.{Sizes}
+use Rattle.mbcr.specs.Share.{standard}
+use Rattle.store_spec.specs.Record.{Record, newRecord}
+use Rattle.store_spec.specs.Calls.{StoreOutcome}
+use Rattle.store_spec.specs.Careful.{carefulCall}
+use Rattle.store_spec.specs.Running.{idle}
+use Rattle.store_spec.specs.Ledger.{write, lose, careful, call, Reply, replies}
+use Rattle.store_spec.specs.FurtherFigures.{gives, two}
+
+abbrev answers : List StoreOutcome → List ℕ
+answers os = map (λ o. o .answer .refusal) os
+
+-- an accepted call's reply
+abbrev says : ℕ → List ℕ → Reply
+says v output = record { answer = record { refusal = 0; reported = v }; output = output }
+
+-- n=4, k=1, d=1, r=2: three of four boards in a careful read
+abbrev four : Sizes
+four = record { n = 4; k = 1; d = 1; r = 2 }
+
+abbrev at : Sizes → List ℕ → ℕ → List Bool → Record
+at z xs length on = record { sizes = z; points = xs; capacity = 1; written = true; length = length; marks = take 32 (on ++ replicate 32 false) }
+
+abbrev held : Record
+held = at four (standard four) 3 (replicate 4 true)
+
+-- the file 01 02 03
+abbrev area : List ℕ
+area = 0x01 ∷ 0x00 ∷ 0x09 ∷ 0x00 ∷ 0x09 ∷ 0x08 ∷ 0x09 ∷ 0x08 ∷ 0x01 ∷ 0x08 ∷ 0x01 ∷ 0x00 ∷ []
+
+-- any bytes
+abbrev any : List ℕ
+any = 0x10 ∷ 0x20 ∷ 0x30 ∷ 0x41 ∷ 0x52 ∷ 0x63 ∷ 0x07 ∷ 0x80 ∷ 0x09 ∷ 0xA0 ∷ 0xB1 ∷ 0xC2 ∷ []
+
+pub record LaterFigures : Type 0 where
+  -- no board is odd; board 3 is, by one byte; board 0 is; then two are: DISAGREE, and the output stays
+  pub careful-none : carefulCall held area (3 ∷ 0 ∷ 1 ∷ []) (replicate 4 0xEE) ≡ gives 0 0 held area (0x01 ∷ 0x02 ∷ 0x03 ∷ 0xEE ∷ [])
+  pub careful-odd : carefulCall held (set area 11 0x01) (3 ∷ 0 ∷ 1 ∷ []) (replicate 4 0xEE) ≡ gives 0 4 held (set area 11 0x01) (0x01 ∷ 0x02 ∷ 0x03 ∷ 0xEE ∷ [])
+  pub careful-first : carefulCall held (set area 0 0x00) (3 ∷ 0 ∷ 1 ∷ []) (replicate 3 0xEE) ≡ gives 0 1 held (set area 0 0x00) (0x01 ∷ 0x02 ∷ 0x03 ∷ [])
+  pub careful-two : carefulCall held (set (set area 0 0x00) 11 0x01) (3 ∷ 0 ∷ 1 ∷ []) (replicate 3 0xEE)
+      ≡ gives 10 0 held (set (set area 0 0x00) 11 0x01) (replicate 3 0xEE)
+  -- a list in which board 3, in service, answers a wrong byte from the first careful read on: it is told as odd, then again after another call, and
+  -- the file is the answer each time
+  pub worn-list : replies (record { kept = newRecord four (standard four) 1; running = idle; area = replicate 12 0; packets = [] })
+      (record { area = replicate 12 0; event = call (write (0x01 ∷ 0x02 ∷ 0x03 ∷ [])) }
+      ∷ record { area = set area 11 0x01; event = call (careful (3 ∷ 0 ∷ 1 ∷ []) (replicate 3 0)) }
+      ∷ record { area = set area 11 0x01; event = call (lose 2) }
+      ∷ record { area = set area 11 0x01; event = call (careful (1 ∷ 3 ∷ 0 ∷ []) (replicate 3 0)) }
+      ∷ [])
+      ≡ says 0 [] ∷ says 4 (0x01 ∷ 0x02 ∷ 0x03 ∷ []) ∷ says 0 [] ∷ says 4 (0x01 ∷ 0x02 ∷ 0x03 ∷ []) ∷ []
+  -- "Where k + 2 exceeds n, COUNT", whatever the list; then each refusal
+  pub careful-refusals : answers
+      (carefulCall (at two (standard two) 2 (true ∷ true ∷ [])) (replicate 4 0) (0 ∷ []) []
+      ∷ carefulCall (at two (standard two) 2 (true ∷ true ∷ [])) (replicate 4 0) (0 ∷ 1 ∷ 2 ∷ []) []
+      ∷ carefulCall (at four (standard four) 4 []) [] [] []
+      ∷ carefulCall held [] [] []
+      ∷ carefulCall (newRecord four (standard four) 1) area [] []
+      ∷ carefulCall held area (0 ∷ []) []
+      ∷ carefulCall held area (0 ∷ 1 ∷ 4 ∷ []) []
+      ∷ carefulCall held area (0 ∷ 1 ∷ 0 ∷ []) []
+      ∷ carefulCall (at four (standard four) 3 (true ∷ true ∷ [])) area (0 ∷ 1 ∷ 2 ∷ []) []
+      ∷ carefulCall held any (0 ∷ 1 ∷ 2 ∷ []) []
+      ∷ carefulCall held any (0 ∷ 1 ∷ 2 ∷ []) (replicate 3 0)
+      ∷ [])
+      ≡ 4 ∷ 4 ∷ 1 ∷ 2 ∷ 8 ∷ 4 ∷ 5 ∷ 6 ∷ 9 ∷ 7 ∷ 10 ∷ []
