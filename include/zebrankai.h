@@ -261,16 +261,19 @@ uint64_t zbk_read(uint64_t *record, size_t record_words, uint64_t *repair, size_
 /* Reads the file from k + 2 boards of which one may answer wrong bytes, as a worn board does that is still in service: the file of which at least k + 1
  * of them hold their shares goes to the first bytes of out; the rest of out stays. Reports 0 where all of them hold theirs; else the number of the odd
  * board, the one that does not, plus 1, so that 1 is board 0. ZBK_DISAGREE just where there is no such file; there are never two. Shares count whole, all
- * stripes and the padding of the last, so that two boards that are wrong in different stripes are not mended stripe by stripe. ZBK_COUNT also where k + 2
- * is above n, whatever the list. What records and area say does not change: the odd board keeps its bytes and stays in service; lose it, and rebuild it. */
+ * stripes and the padding of the last, so that two boards that are wrong in different stripes are not mended stripe by stripe. Which board
+ * is odd is told for certain where one alone is wrong: two that are wrong may fit k - 1 others, and then another file is given, and a right board named.
+ * ZBK_COUNT also where k + 2 is above n, whatever the list. What records and area say does not change: the odd board keeps its bytes and stays in service; lose it, and rebuild it. */
 uint64_t zbk_read_careful(uint64_t *record, size_t record_words, uint64_t *repair, size_t repair_words, const uint8_t *area, size_t area_len,
                           const size_t *boards, size_t boards_count, uint8_t *out, size_t out_len);
 
 /* Puts `bytes` in the place of as many bytes of the file, from byte `offset` on: the file that reads give is from then on the edited one. Its length
  * stays; ZBK_RANGE where offset and bytes_len together are more than that. The old bytes are those that the k boards in service in `boards` hold, of
  * which all stripes are looked at, as by a read. Every board in service, whether it was read or not, is changed by its share of the difference of old
- * and new bytes, and only in stripes that the edit reaches: a board that held its share holds that of the edited file, and one that held wrong bytes
- * stays wrong. Boards out of service keep their bytes. No bytes at all, at an offset up to the file's length, are accepted and change nothing, where
+ * and new bytes, and only in stripes that the edit reaches. Where the k boards in `boards` hold their shares of the file, a board that held its
+ * share holds that of the edited file, and one that held wrong bytes stays wrong. Where one of the k is wrong and it does not show (see zbk_read), every
+ * board is changed by a wrong difference, and no later read shows it, careful or not: read carefully first, and edit by boards that agreed. Boards out of
+ * service keep their bytes. No bytes at all, at an offset up to the file's length, are accepted and change nothing, where
  * the boards pass the same checks. What the records say does not change. */
 uint64_t zbk_edit(uint64_t *record, size_t record_words, uint64_t *repair, size_t repair_words, uint8_t *area, size_t area_len, size_t offset,
                   const uint8_t *bytes, size_t bytes_len, const size_t *boards, size_t boards_count);

@@ -415,8 +415,9 @@ impl Record {
     /// hold, of which all stripes are looked at, as by a [`read`](Record::read): [`Refusal::Disagree`] where they fit no file.
     ///
     /// Every board in service, read or not, is changed by its share of the difference of old and new bytes, and only in stripes that the edit
-    /// reaches: a board that held its share holds that of the edited file, and one that held wrong bytes stays wrong. Boards out of service keep their
-    /// bytes. No bytes at all, at an offset up to the file's length, are accepted and change nothing, where the boards pass the same checks.
+    /// reaches. Where the k boards read hold their shares of the file, a board that held its share holds that of the edited file, and one that held
+    /// wrong bytes stays wrong. Where one of the k is wrong and it does not show, every board is changed by a wrong difference, and no later read shows
+    /// it, careful or not: read carefully first, and edit by boards that agreed. Boards out of service keep their bytes. No bytes at all, at an offset up to the file's length, are accepted and change nothing, where the boards pass the same checks.
     ///
     /// ```
     /// use zebrankai::{Points, Record, Refusal, Sizes};

@@ -44,7 +44,7 @@ pub enum Refusal {
     Empty = 8,
     /// A named board is out of service.
     Down = 9,
-    /// The shares belong to no file of this length; of a careful read, all but one of them belong to none. It is no guard against altered bytes: k
+    /// The shares belong to no file of this length; of a careful read, no k + 1 of them belong to one. It is no guard against altered bytes: k
     /// boards show that they fit together, not that none is altered ([`Record::read`](crate::Record::read)).
     Disagree = 10,
     /// The text is none that [`share_text`](crate::board::share_text) writes.

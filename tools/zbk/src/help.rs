@@ -59,8 +59,9 @@ after another; a folder stands for its texts board-0.txt and so on.
 
 What texts show of each other, which is said when it is done: k texts show that
 they fit together, not that none was altered. Among k + 1 one that is wrong
-always shows. Of k + 2 or more it is named, and the file is that of the others;
-with more than one wrong, it is DISAGREE.
+always shows. Of k + 2 or more it is named, and the file is that of the others.
+With more than one wrong it is DISAGREE, unless k + 1 of them fit another file:
+then that is the file, and a right one is named.
 
 Refused, in this order:
   TEXT (12)      bytes that are no text: line and place, what was expected there
