@@ -252,8 +252,8 @@ uint64_t zbk_repair(uint64_t *record, size_t record_words, uint64_t *repair, siz
 /* Reads the file from k boards into the first bytes of out; the rest of out stays. What records and area say does not change.
  *
  * What boards show of altered bytes in service. k boards show that they fit together, not that none is altered: only the values that two of them share are
- * compared, and a wrong byte on one of them often gives another file, accepted. Among k + 1 boards one that is wrong always shows: two reads of k of
- * them that leave out different boards do not then both give the same file. Among k + 2 it is named, and the file is given all the same:
+ * compared, and a wrong byte on one of them often gives another file, accepted. Among k + 1 boards one that is wrong always shows: no file has the
+ * shares of them all, so that two reads of k of them that leave out different boards do not both give the same file. Among k + 2 it is named, and the file is given all the same:
  * zbk_read_careful. */
 uint64_t zbk_read(uint64_t *record, size_t record_words, uint64_t *repair, size_t repair_words, const uint8_t *area, size_t area_len,
                   const size_t *boards, size_t boards_count, uint8_t *out, size_t out_len);

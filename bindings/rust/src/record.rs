@@ -333,8 +333,8 @@ impl Record {
     /// Reads the file from k boards into the first [`length`](Record::length) bytes of `out`; the rest of `out` stays.
     ///
     /// k boards show that they fit together, not that none is altered: only the values that two of them share are compared, and a wrong byte on one
-    /// of them often gives another file, which is accepted. Among k + 1 boards one that is wrong always shows: two reads of k of them that leave out
-    /// different boards do not then both give the same file. Among k + 2 it is named, and the file is given all the same, by
+    /// of them often gives another file, which is accepted. Among k + 1 boards one that is wrong always shows: no file has the shares of them
+    /// all, so that two reads of k of them that leave out different boards do not both give the same file. Among k + 2 it is named, and the file is given all the same, by
     /// [`read_careful`](Record::read_careful).
     pub fn read(&self, area: &[u8], boards: &[usize], out: &mut [u8]) -> Result<(), Refusal> {
         // the call is lent a copy, since a read hands on both records as they came
