@@ -26,6 +26,8 @@ later-figures = record {
   careful-odd = refl;
   careful-first = refl;
   careful-two = refl;
+  careful-by-four = refl;
+  careful-wrong-alike = refl;
   worn-list = refl;
   careful-refusals = refl;
 }

@@ -242,6 +242,17 @@ again-other w b (call (step allowance packets)) h = absurd (h allowance packets 
 again-other w b (call (careful boards output)) h = refl
 again-other w b (powerFails p) h = refl
 
+bare-other : (e : Event) → ((allowance : ℕ) (packets : List ℕ) → e ≢ call (step allowance packets)) → bare e ≡ e
+bare-other (call (write file)) h = refl
+bare-other (call (lose board)) h = refl
+bare-other (call (repair fresh helpers standIns)) h = refl
+bare-other (call (read boards output)) h = refl
+bare-other (call (edit offset bytes boards)) h = refl
+bare-other (call (start fresh helpers standIns)) h = refl
+bare-other (call (step allowance packets)) h = absurd (h allowance packets refl)
+bare-other (call (careful boards output)) h = refl
+bare-other (powerFails p) h = refl
+
 pub premises : Premises
 premises = record {
   all-allowed = λ old p z xs c area es h i. all-allowed (begun old p z xs c area) (openBook z xs c (length area)) es h i;
@@ -260,6 +271,8 @@ premises = record {
   again-free = λ w b allowance packets e. ap (λ (t : Bool). call (step allowance (pick t packets (w .packets)))) e;
   again-left = λ w b allowance packets e. ap (λ (t : Bool). call (step allowance (pick t packets (w .packets)))) e;
   again-other = again-other;
+  bare-step = λ allowance packets. refl;
+  bare-other = bare-other;
   unaltered-none = λ w b. refl;
   unaltered-more = λ w b e es. refl;
   wrong-free = wrong-free;

@@ -32,7 +32,7 @@ use Rattle.store_spec.specs.BothCalls.{storeLines, storeDone}
 use Rattle.store_spec.specs.Demand3.{begun, events}
 use Rattle.store_spec.specs.Ledger.{Call, write, lose, repair, read, edit, start, step, careful, Event, call, powerFails, Book, Repairing, during, State, Step, Tells, Fair, Unaltered}
 use Rattle.store_spec.specs.Ledger.{act, lent, next, bookNext, enter, outputOf, packetsOfCall, openBook, bookLength, bookRecord, carriedBy, final, bookFinal}
-use Rattle.store_spec.specs.Premises.{filesOf}
+use Rattle.store_spec.specs.Premises.{filesOf, files, IdleGiven}
 use Rattle.store_spec.specs.CarefulLaws.{OddTold, OfBytes, AnyBytes, AskedWorn, WornPremises, Worn, WornClaim}
 use Rattle.store_spec.proofs.Agree.{every-same}
 use Rattle.store_spec.proofs.Beside.{both-pass}
@@ -311,9 +311,25 @@ asked m t l h = record {
   idle-given = λ given e. subst OfBytes e h;
 }
 
+its-bytes : (e : Event) (es : List Event) → All Bytes (files (e ∷ es)) → IdleGiven (e ∷ es) → OfBytes e × All Bytes (files es) × IdleGiven es
+its-bytes (call (write file)) es h i = ((h .0, tt), h .1, i)
+its-bytes (call (lose board)) es h i = (tt, h, i)
+its-bytes (call (repair fresh helpers standIns)) es h i = (tt, h, i)
+its-bytes (call (read boards output)) es h i = (tt, h, i)
+its-bytes (call (edit offset bytes boards)) es h i = ((h .0, tt), h .1, i)
+its-bytes (call (start fresh helpers standIns)) es h i = (tt, h, i)
+its-bytes (call (step allowance packets)) es h i = (tt, h, i)
+its-bytes (call (careful boards output)) es h i = (tt, h, i)
+its-bytes (powerFails p) es h i = (i .0, h, i .1)
+
+all-asked : (m : ℕ) (ts : List Step) → All (λ t. length (t .area) ≡ m) ts → All Bytes (files (events ts)) → IdleGiven (events ts) → AnyBytes m ts
+all-asked m [] l h i = tt
+all-asked m (t ∷ ts) l h i = let p = its-bytes (t .event) (events ts) h i in (l .0, p .0, all-asked m ts (l .1) (p .1) (p .2))
+
 pub worn-premises : WornPremises
 worn-premises = record {
   none-asked = λ m. tt;
+  all-asked = all-asked;
   more-asked = λ m t ts. ((λ a. (asked m t (a .0) (a .1), a .2)), (λ a. (a .0 .as-long, of-bytes m (t .area) (t .event) (a .0), a .1)));
 }
 

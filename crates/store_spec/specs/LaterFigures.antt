@@ -4,15 +4,16 @@ use mathlib.Core.Path.{_≡_}
 use mathlib.Core.Bool.{Bool, true, false}
 use mathlib.Core.List.{List, [], _∷_, _++_, map}
 use Prim.Native.Nat.{ℕ}
-use lib.ListN.{take, replicate, set}
+use lib.ListN.{take, drop, replicate, set}
 use Rattle.sizes.specs.declared.Sizes.{Sizes}
-use Rattle.mbcr.specs.Share.{standard}
+use Rattle.mbcr.specs.Share.{standard, share}
 use Rattle.store_spec.specs.Record.{Record, newRecord}
 use Rattle.store_spec.specs.Calls.{StoreOutcome}
 use Rattle.store_spec.specs.Careful.{carefulCall}
 use Rattle.store_spec.specs.Running.{idle}
 use Rattle.store_spec.specs.Ledger.{write, lose, careful, call, Reply, replies}
 use Rattle.store_spec.specs.FurtherFigures.{gives, two}
+use Rattle.store_spec.specs.FurtherFigures as further
 
 abbrev answers : List StoreOutcome → List ℕ
 answers os = map (λ o. o .answer .refusal) os
@@ -35,6 +36,9 @@ held = at four (standard four) 3 (replicate 4 true)
 abbrev area : List ℕ
 area = 0x01 ∷ 0x00 ∷ 0x09 ∷ 0x00 ∷ 0x09 ∷ 0x08 ∷ 0x09 ∷ 0x08 ∷ 0x01 ∷ 0x08 ∷ 0x01 ∷ 0x00 ∷ []
 
+abbrev other : List ℕ
+other = share four (standard four) (0x04 ∷ 0x05 ∷ 0x06 ∷ []) 0 ++ share four (standard four) (0x04 ∷ 0x05 ∷ 0x06 ∷ []) 1 ++ drop 6 area
+
 -- any bytes
 abbrev any : List ℕ
 any = 0x10 ∷ 0x20 ∷ 0x30 ∷ 0x41 ∷ 0x52 ∷ 0x63 ∷ 0x07 ∷ 0x80 ∷ 0x09 ∷ 0xA0 ∷ 0xB1 ∷ 0xC2 ∷ []
@@ -46,6 +50,11 @@ pub record LaterFigures : Type 0 where
   pub careful-first : carefulCall held (set area 0 0x00) (3 ∷ 0 ∷ 1 ∷ []) (replicate 3 0xEE) ≡ gives 0 1 held (set area 0 0x00) (0x01 ∷ 0x02 ∷ 0x03 ∷ [])
   pub careful-two : carefulCall held (set (set area 0 0x00) 11 0x01) (3 ∷ 0 ∷ 1 ∷ []) (replicate 3 0xEE)
       ≡ gives 10 0 held (set (set area 0 0x00) 11 0x01) (replicate 3 0xEE)
+  -- boards 0 and 1 are wrong alike: they hold their shares of the file 04 05 06, which is the answer, and board 3, which is right, is told as odd
+  pub careful-wrong-alike : carefulCall held other (3 ∷ 0 ∷ 1 ∷ []) (replicate 3 0xEE) ≡ gives 0 4 held other (0x04 ∷ 0x05 ∷ 0x06 ∷ [])
+  -- k = 2: board 4 is odd, by one byte
+  pub careful-by-four : carefulCall further.written (set further.area 33 0x05) (4 ∷ 0 ∷ 3 ∷ 1 ∷ []) (replicate 12 0xEE)
+      ≡ gives 0 5 further.written (set further.area 33 0x05) further.fiveFile
   -- a list in which board 3, in service, answers a wrong byte from the first careful read on: it is told as odd, then again after another call, and
   -- the file is the answer each time
   pub worn-list : replies (record { kept = newRecord four (standard four) 1; running = idle; area = replicate 12 0; packets = [] })

@@ -100,6 +100,8 @@ pub record Premises : Type 0 where
   pub fair-bytes : (b : Book) (old : List ℕ) (c : Call) → Fair b old c → All Bytes (filesOf c)
   -- these steps are of these events, but for the packet areas lent
   pub same-events : (w : State) (b : Book) (es : List Event) → map bare (events (unaltered w b es)) ≡ map bare es
+  pub bare-step : (allowance : ℕ) (packets : List ℕ) → bare (call (step allowance packets)) ≡ call (step allowance [])
+  pub bare-other : (e : Event) → ((allowance : ℕ) (packets : List ℕ) → e ≢ call (step allowance packets)) → bare e ≡ e
   -- and every longer list: nothing but this is asked of an entry that stands before an allowed list, whatever was altered in boards out of service
   pub none-allowed : (w : State) (b : Book) → Allowed w b []
   pub more-allowed : (w : State) (b : Book) (t : Step) (ts : List Step)
