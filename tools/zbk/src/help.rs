@@ -11,6 +11,7 @@ zbk: share texts of a file on shelf boards, by the proved archive
   zbk gather TEXT.. [-o FILE]    the file from k texts
   zbk rebuild DIR --fresh 2,5    the texts of fresh boards from those of others
   zbk look TEXT..                what texts are, and how far others make sense
+  zbk explain NUMBER|NAME..      what a refusal means, who acts, what to do
   zbk share FILE --boards 8 --read 4 --helpers 6 --fresh 2 --board 3
                                  the text of one board
   zbk sizes N                    all legal sizes with at most N boards
@@ -106,6 +107,17 @@ readable.
 
 @COMMON";
 
+const EXPLAIN: &str = "\
+zbk explain NUMBER|NAME..
+
+Says of each refusal what it means, who acts - the installer, the calling
+program or service staff - and what to do: 'zbk explain 10', 'zbk explain
+DISAGREE'. A name may be in small letters, or as in the C header. The words are
+those of docs/REFUSALS.md. Exit code 2 where no refusal has the number or name;
+0 is none, and 11 is not used.
+
+@COMMON";
+
 const SHARE: &str = "\
 zbk share FILE --boards N --read K --helpers D --fresh R --board I
           [--points POINTS] [-o TEXT] [--force]
@@ -176,6 +188,7 @@ fn of(command: &str) -> Option<&'static str> {
         "gather" => GATHER,
         "rebuild" => REBUILD,
         "look" => LOOK,
+        "explain" => EXPLAIN,
         "share" => SHARE,
         "sizes" => SIZE_LINES,
         "print" => PRINT,

@@ -5,6 +5,7 @@
 
 mod agree;
 mod args;
+mod explain;
 mod files;
 mod gather;
 mod help;
@@ -23,11 +24,12 @@ use trouble::{Outcome, Trouble};
 
 type Command = fn(&Words) -> Outcome;
 
-const COMMANDS: [(Takes, Command); 8] = [
+const COMMANDS: [(Takes, Command); 9] = [
     (spread::SPREAD, spread::spread),
     (gather::GATHER, gather::gather),
     (rebuild::REBUILD, rebuild::rebuild),
     (gather::LOOK, gather::look),
+    (explain::EXPLAIN, explain::explain),
     (spread::SHARE, spread::share),
     (spread::SIZES, spread::sizes),
     (spread::PRINT, spread::print),
