@@ -1,5 +1,5 @@
 #!/bin/sh
-# All that stands on the archive: the C header and the C example, the Rust bindings, the demo, ./install, and the unrelated coder, which runs the
+# All that stands on the archive: the C header, the helpers for C and the C example, the Rust bindings, the demo, ./install, and the unrelated coder, which runs the
 # figures of document 01 and random calls through the archive, small ones and at real sizes, and must report no mismatch, and must report one that
 # is made on purpose. Proves and builds the archive first; ZBK_ARCHIVE names another one to use instead, seen from the top folder. One line for each
 # step; ends with exit code 1 where a step fails.
@@ -46,6 +46,8 @@ fi
 
 # the header against the archive: names, parameters, constants, and each call from C and from C++
 sh tests/header.sh || { echo "FAIL the header"; exit 1; }
+# the helpers for C against the archive, over all sizes
+sh tests/util.sh || { echo "FAIL the helpers for C"; exit 1; }
 
 step "the Rust bindings' tests" cargo test --offline --quiet -j1 --manifest-path bindings/rust/Cargo.toml
 step "the demo compiles" cargo build --offline --quiet --release -j1 --manifest-path bindings/rust/Cargo.toml --example demo

@@ -43,12 +43,13 @@ fi
 # install WORDS: in the folder work; what it says is in out and said
 install() { (cd "$work" && "$top/install" "$@" >"$own/out" 2>"$own/said"); }
 
-# checked PREFIX WHAT: three files, as they must be, and a program by the two lines
+# checked PREFIX WHAT: four files, as they must be, and a program by the two lines, and with the helpers
 checked() {
     (cd "$1" && find . -type f -o -type l | LC_ALL=C sort) >"$own/files"
-    printf '%s\n' ./include/zebrankai.h ./lib/libzebrankai.a ./lib/pkgconfig/zebrankai.pc | diff - "$own/files" || fail "$2: other files"
+    printf '%s\n' ./include/zebrankai.h ./include/zebrankai_util.h ./lib/libzebrankai.a ./lib/pkgconfig/zebrankai.pc | diff - "$own/files" || fail "$2: other files"
     [ -z "$(find "$1" -type f ! -perm 644)" ] || fail "$2: a file that not everybody can read"
     cmp include/zebrankai.h "$1/include/zebrankai.h" || fail "$2: another header"
+    cmp include/zebrankai_util.h "$1/include/zebrankai_util.h" || fail "$2: other helpers"
     cmp target/staticlib/libzebrankai.a "$1/lib/libzebrankai.a" || fail "$2: another archive"
     grep -qxF "prefix=$1" "$1/lib/pkgconfig/zebrankai.pc" || fail "$2: another prefix in the file of pkg-config"
     include=$(sed -n 's/^    \(#include .*\)/\1/p' "$own/out")
@@ -59,6 +60,20 @@ checked() {
     { printf '%s\n' "$include" && sed '/^#include "zebrankai\.h"$/d' examples/c/shelf.c; } >"$own/use/program.c"
     (cd "$own/use" && sh -c "$cc") || fail "$2: the program does not compile by: $cc"
     "$own/use/program" >"$own/use/out" || fail "$2: the program does not run"
+    grep -qF '<zebrankai_util.h>' "$own/out" || fail "$2: the helpers are not named"
+    cat >"$own/use/program.c" <<'PROGRAM'
+#include <stdio.h>
+#include <zebrankai_util.h>
+static uint8_t area[ZBK_AREA_LEN(5, 2, 3, 2, 4)], points[ZBK_MAX_BOARDS];
+int main(void) {
+    uint64_t record[ZBK_RECORD_WORDS], repair[ZBK_REPAIR_WORDS];
+    zbk_standard_points(points, 5);
+    puts(zbk_refusal_name(zbk_refusal(zbk_set_up(record, ZBK_RECORD_WORDS, repair, ZBK_REPAIR_WORDS, 5, 2, 3, 2, points, sizeof points, 4))));
+    return sizeof area != zbk_record_area_len(record);
+}
+PROGRAM
+    (cd "$own/use" && sh -c "$cc") || fail "$2: a program with the helpers does not compile by: $cc"
+    [ "$("$own/use/program")" = ACCEPTED ] || fail "$2: the program with the helpers does not run"
     echo "ok installed and used: $2"
 }
 
@@ -127,9 +142,11 @@ if [ "$(id -u)" != 0 ]; then
     refuses 1 "cannot write in $work/locked" locked/below
     rmdir "$work/locked"
 fi
-mkdir -p "$work/full/lib/libzebrankai.a"
-refuses 1 "$work/full/lib/libzebrankai.a is a folder" full
-rm -r "$work/full"
+for file in include/zebrankai_util.h lib/libzebrankai.a; do
+    mkdir -p "$work/full/$file"
+    refuses 1 "$work/full/$file is a folder" full
+    rm -r "$work/full"
+done
 
 # where the archive is not proved, nothing is written: a copy, with a prover that proves nothing
 mkdir -p "$own/copy/tests" "$own/prover"

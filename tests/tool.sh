@@ -77,7 +77,7 @@ for again in help -h --help; do
     whole "$own/out" "$own/help"
 done
 try 0 --version
-for command in spread gather rebuild look share sizes print trial; do
+for command in spread gather rebuild look explain share sizes print trial; do
     try 0 "$command" --help
     out "zbk $command"
     [ ! -s "$own/said" ] || fail "$what: it said something"
@@ -131,6 +131,28 @@ try 2 gather "$(printf 'b\377ck')"
 said 'not in UTF-8; use a pipe, with -'
 try 2 sizes
 try 2 print stock
+is . stock
+
+# ---- explain: the words of docs/REFUSALS.md
+sh "$top/tests/refusals.sh" tool "$zbk" >"$own/said" || fail "zbk explain"
+passed=$((passed + 64))
+try 0 explain 10 serving
+out '10 DISAGREE'
+out '14 SERVING'
+[ ! -s "$own/said" ] || fail "$what: it said something"
+try 2 explain
+said 'which refusal? Name it by number or name'
+try 2 explain 0
+said '0 is no refusal: the call was accepted'
+try 2 explain 11
+said '11 is not used: no call answers it'
+for word in 18 255 256 266 99999999999999999999 POINTS ZBK_ zbk_1 -10 '' 1x; do
+    try 2 explain -- "$word"
+    said "no refusal $word"
+done
+try 2 explain 10 18
+said "'zbk explain --help'"
+try 2 explain --force 10
 is . stock
 
 # ---- spread
