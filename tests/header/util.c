@@ -326,7 +326,7 @@ static int rebuilt(const struct zbk_lists *lists, unsigned chosen, const size_t 
     answers(__LINE__, zbk_step(RECORDS, area, area_len, packets, packets_len, 0), ZBK_ACCEPTED);
     answers(__LINE__, zbk_step(RECORDS, area, area_len, packets, packets_len - 1, 0), ZBK_AREA);
     answers(__LINE__, zbk_step(RECORDS, area, area_len, packets, packets_len + 1, 0), ZBK_AREA);
-    altered_words(2);
+    altered_words(1);
     if (!whole) {
         memset(repair, 0, sizeof repair);
         return 1;
@@ -397,7 +397,7 @@ static void store(int thorough) {
     answers(__LINE__, zbk_choose_lost(record, &lists), ZBK_COUNT);
     board_level_is_taken(length, thorough);
 
-    for (size_t turn = 0; turn < 4; turn++) {
+    for (size_t turn = 0; turn < 3; turn++) {
         /* of each size one pattern is rebuilt, of some all of them */
         const int whole = turn == 0 || thorough;
         uint64_t marks = zbk_count_in_service(record) == n ? all_marks() : record[ZBK_WORD_MARKS];
@@ -412,7 +412,7 @@ static void store(int thorough) {
         reads(length, thorough);
 
         /* fresh boards as a person may name them, right or not */
-        for (size_t again = 0; again < 3; again++) {
+        for (size_t again = 0; again < 2; again++) {
             count = drawn(8) == 0 ? drawn(r + 3) : 1 + drawn(r);
             for (size_t i = 0, board = 0; i < count; i++) {
                 while (board < n && (marks >> board & 1) != 0) board++;
@@ -430,7 +430,9 @@ static void store(int thorough) {
             const unsigned chosen = zbk_choose_lost(record, &lists);
             equal(__LINE__, chosen, lost == 0 ? ZBK_COUNT : on < d ? ZBK_DOWN : ZBK_ACCEPTED, "zbk_choose_lost");
             if (!rebuilt(&lists, chosen, fresh, lost, whole)) break;
-            if (whole) equal(__LINE__, zbk_count_in_service(record), on + lost, "boards that came into service");
+            if (!whole) break;
+            equal(__LINE__, zbk_count_in_service(record), on + lost, "boards that came into service");
+            if (zbk_count_in_service(record) == on) break;
         } while (thorough);
         if (thorough && zbk_count_in_service(record) == n) {
             record_says(__LINE__, capacity, 1, length, all_marks());

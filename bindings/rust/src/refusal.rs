@@ -112,7 +112,6 @@ impl Refusal {
 }
 
 /// Name, number and [`sentence`](Refusal::sentence): what it means. Who acts is [`who`](Refusal::who), what to do [`remedy`](Refusal::remedy).
-
 impl fmt::Display for Refusal {
     fn fmt(&self, to: &mut fmt::Formatter) -> fmt::Result {
         write!(to, "{} ({}): {}", self.name(), self.number(), self.sentence())
