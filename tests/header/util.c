@@ -267,7 +267,17 @@ static void altered_words(size_t turns) {
         zbk_choose_lost(words, &lists);
         check(__LINE__, lists.fresh_count <= ZBK_MAX_BOARDS && lists.helpers_count <= ZBK_LIST_ROOM && lists.stand_ins_count <= ZBK_LIST_ROOM, "long lists");
         check(__LINE__, zbk_repair_left(words, beside) <= zbk_repair_packets(words, beside), "more packets are left than there are");
-        zbk_repair_packets_len(words, beside);
+        /* and what they cannot say they do not */
+        for (size_t board = words[ZBK_WORD_N] < 70 ? words[ZBK_WORD_N] : 70; board < 70; board++)
+            check(__LINE__, !zbk_in_service(words, board), "a board from n up is in service");
+        check(__LINE__, zbk_record_has_file(words) == (words[ZBK_WORD_WRITTEN] == 1), "zbk_record_has_file of any word");
+        check(__LINE__, zbk_repair_running(beside) == (beside[ZBK_REPAIR_RUNNING] == 1), "zbk_repair_running of any word");
+        if (!zbk_repair_running(beside)) {
+            check(__LINE__, zbk_repair_count(beside) == 0 && zbk_repair_carried(beside) == 0, "boards or packets of no repair");
+            check(__LINE__, zbk_repair_packets(words, beside) == 0 && zbk_repair_packets_len(words, beside) == 0, "packets of no repair");
+        }
+        if (beside[ZBK_REPAIR_COUNT] > words[ZBK_WORD_R] || !zbk_legal(words[ZBK_WORD_N], words[ZBK_WORD_K], words[ZBK_WORD_D], words[ZBK_WORD_R]))
+            check(__LINE__, zbk_repair_packets(words, beside) == 0 && zbk_repair_packets_len(words, beside) == 0, "packets of no such repair");
     }
 }
 
