@@ -474,9 +474,10 @@ static inline const char *zbk_refusal_remedy(unsigned number) {
         return "Nothing.";
     case ZBK_SIZE:
         return "Check the sizes (1 <= k <= d, r >= 1, d + r <= n <= 32), the capacity and the points (n different bytes, then 00). Where they "
-               "are as they were at set-up, the record was altered, or is not the one that was kept with this area: go on with the second "
-               "record and area, if two are kept in turn, else set the store up and write the file anew. After a power failure give the calls "
-               "an idle repair record. A program lends 12 words for a record, 71 for that of a repair, 6 for a text's head and 32 points.";
+               "are as they were at set-up, the record was altered, or the repair record does not belong beside it: give an idle repair "
+               "record, as after every power failure. Where it is SIZE still, go on with the second record and area, if two are kept in turn, "
+               "else set the store up and write the file anew. A program lends 12 words for a record, 71 for that of a repair, 6 for a text's "
+               "head and 32 points.";
     case ZBK_AREA:
         return "Check whether sizes or capacity were changed since set-up. The area has n x capacity x (2d + r - 1) bytes, the packet area of "
                "a repair stripes x t x (2d + r - 1); a share has 2d + r - 1 bytes for each stripe, a helper packet 2, an exchange packet 1. "
@@ -487,7 +488,7 @@ static inline const char *zbk_refusal_remedy(unsigned number) {
     case ZBK_COUNT:
         return "Name just k boards for a read or an edit, and just k + 2 for a careful read; where k + 2 is above n no careful read is "
                "possible. For a repair or a start name t fresh boards, 1 to r, and for each of them d helpers and r - t stand-ins; at board "
-               "level d helpers and r - 1 partners. Gather just k texts.";
+               "level d helpers and r - 1 partners. Gather just k texts; zbk gather takes more.";
     case ZBK_NODE:
         return "Name boards 0 to n - 1: the first board is 0, not 1.";
     case ZBK_REPEAT:
@@ -496,21 +497,22 @@ static inline const char *zbk_refusal_remedy(unsigned number) {
                "one that works and the one that receives among them. Of two texts of one board gather one.";
     case ZBK_SHORT:
         return "Lend an output with room for all that the call writes: for a read or a careful read the file's length, for a share 2d + r - 1 "
-               "bytes for each stripe, for a text twice as many and 200 more, for a file from texts half as many bytes as the texts have.";
+               "bytes for each stripe, for a helper packet 2, for an exchange packet 1, for a share's text twice as many as the share and 200 "
+               "more, for a file from texts half as many as the texts have.";
     case ZBK_EMPTY:
         return "Write a file first. Where one was written, the store was set up anew since then, or this is not the record that was kept with "
                "the area: go on with the one that was.";
     case ZBK_DOWN:
         return "Name boards that are in service: k for a read or an edit, k + 2 for a careful read, d + r - t for a repair of t boards. Where "
                "too few are for a repair, rebuild more boards in one, up to r: it then needs fewer others. Where fewer than d are, no repair "
-               "is possible: change the boards, read the file from k that are in service, and write it anew. A board comes into service by a "
-               "repair or a write alone.";
+               "is possible: change the boards, and where k are in service, read the file from them and write it anew. A board comes into "
+               "service by a repair or a write alone.";
     case ZBK_DISAGREE:
         return "Order nothing by this file before a read of it is trusted again. Bytes of a board were altered, a write or an edit was cut "
-               "off, or record and area do not belong together. Do a careful read of k + 2 boards: where one of them is wrong it gives the "
-               "file and names that board, which is then taken out of service and rebuilt. Where that is DISAGREE too, two or more of them "
-               "are wrong: try others, or write the file anew. That k boards do not disagree does not show that none is altered. Of texts "
-               "name k + 2 or more to zbk gather, which names one that is wrong.";
+               "off, record and area do not belong together, or at board level the length is another file's. Do a careful read of k + 2 "
+               "boards: where just one of them is wrong it gives the file and names that board, which is then taken out of service and "
+               "rebuilt. Where that is DISAGREE too, two or more of them are wrong: try others, or write the file anew. That k boards do not "
+               "disagree does not show that none is altered. Of texts name k + 2 or more to zbk gather, which names one that is wrong.";
     case ZBK_TEXT:
         return "Copy the text again, whole and unaltered: small letters, no blanks, no empty line, no line broken in two, each line ended by "
                "one line feed, nothing behind the last. zbk look says up to which line and place it makes sense, and what was expected there.";
