@@ -23,8 +23,8 @@
 /* ---- lengths
  *
  * As constants, for arrays, and as functions. All are in bytes but ZBK_STRIPES, and 0 where the sizes are not legal, the capacity is not 1 to 4,096
- * stripes or the file has more than 4,096 stripes: an array of such a length does not compile. ZBK_STRIPES alone counts on. The arguments of the
- * macros are numbers from 0 up, and are worked out more than once. */
+ * stripes or the file has more than 4,096 stripes: standard C has no array of such a length. ZBK_STRIPES alone counts on. The arguments of the macros
+ * are numbers from 0 up, and are worked out more than once. */
 
 /* 1 where the calls take these sizes, else 0. */
 #define ZBK_LEGAL(n, k, d, r)                                                                                                                         \
