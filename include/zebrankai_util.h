@@ -250,9 +250,9 @@ struct zbk_lists {
 };
 
 /* The lists for a repair of these fresh boards: for each of them the first d boards in service as helpers, the next r - t as stand-ins. Gives
- * ZBK_ACCEPTED; else the refusal that zbk_repair would give whatever helpers and stand-ins were named, and all counts are then 0: ZBK_SIZE where
- * zbk_record_sound is 0, ZBK_EMPTY, ZBK_COUNT, ZBK_NODE, ZBK_REPEAT, ZBK_SERVING as it says them, and ZBK_DOWN where fewer than d + r - t boards are in
- * service. More fresh boards, up to r, need fewer others. Area and repair record are not looked at: while a repair is running a call is ZBK_BUSY. */
+ * ZBK_ACCEPTED; else why zbk_repair takes these fresh boards with no lists at all, and all counts are then 0: ZBK_SIZE where zbk_record_sound is 0,
+ * ZBK_EMPTY, ZBK_COUNT, ZBK_NODE, ZBK_REPEAT, ZBK_SERVING as it says them, and ZBK_DOWN where fewer than d + r - t boards are in service. More fresh
+ * boards, up to r, need fewer others. Area and repair record are not looked at: while a repair is running a call is ZBK_BUSY. */
 static inline unsigned zbk_choose_repair(const uint64_t record[ZBK_RECORD_WORDS], const size_t *fresh, size_t fresh_count, struct zbk_lists *lists) {
     const struct zbk_sizes sizes = zbk_record_sizes(record);
     size_t on[ZBK_MAX_BOARDS];

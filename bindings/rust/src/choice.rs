@@ -138,7 +138,7 @@ impl Record {
     ///
     /// # Errors
     ///
-    /// What [`repair`](Record::repair) would refuse whatever helpers and stand-ins were named: [`Refusal::Size`], [`Refusal::Empty`], [`Refusal::Count`],
+    /// Why [`repair`](Record::repair) takes these fresh boards with no lists at all: [`Refusal::Size`], [`Refusal::Empty`], [`Refusal::Count`],
     /// [`Refusal::Node`], [`Refusal::Repeat`], [`Refusal::Serving`] as it says them, and [`Refusal::Down`] where fewer than d + r − t boards are in service.
     /// More fresh boards, up to r, need fewer others.
     pub fn choose_repair(&self, fresh: &[usize]) -> Result<Lists, Refusal> {
