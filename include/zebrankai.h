@@ -7,7 +7,8 @@
  * Sizes:   n boards, numbered 0 to n - 1; k read; d helpers; at most r fresh boards. Legal: 1 <= k <= d, r >= 1, d + r <= n <= 32.
  * Points:  a byte for each board, at which its share is worked out. A list of points has 32 bytes: the first n are the boards', all different,
  *          the rest 00. Board i has the point i on present robots (zbk_standard_points), i + 1 on robots of the first series
- *          (zbk_first_series_points). All boards of a file have shares at the same points.
+ *          (zbk_first_series_points). All boards of a file have shares at the same points. A store's points change by zbk_move alone; a
+ *          board-level call on bytes of a store is given the points that its record has at the time (from ZBK_WORD_POINTS on).
  * Share:   2d + r - 1 bytes for each stripe.          Stripe: carries k(2d + r - k) bytes of the file.
  * Stripes: S, the least number of stripes that hold the file's length.
  *
@@ -15,7 +16,7 @@
  * - It ends on all input, made-up records and lists included, with its result or with one refusal.
  * - It answers one number. zbk_refusal(answer) is 0 where the call was accepted, else the refusal's number. zbk_value(answer) is what an
  *   accepted call reports: the bytes written by a board-level call, the bytes of a text that make sense by zbk_text_prefix, the bytes moved by a
- *   repair, the packets carried by a step, the odd board's number plus 1 by a careful read, else 0.
+ *   repair or a move, the packets carried by a step, the odd board's number plus 1 by a careful read, else 0.
  *   zbk_trial_file alone answers no such number: it refuses nothing, and gives a state.
  * - After a refusal no word of a record and no byte of any buffer has changed.
  * - It keeps nothing between calls and allocates nothing.
@@ -74,13 +75,13 @@ enum zbk_refusal_number {
     ZBK_COUNT = 4,
     /* A board number is n or more. */
     ZBK_NODE = 5,
-    /* A board is named twice where each must be another one, or two texts to gather are of one board. */
+    /* A board is named twice where each must be another one, two texts to gather are of one board, or the new point of a move is some board's. */
     ZBK_REPEAT = 6,
     /* The output is shorter than what is to be written. */
     ZBK_SHORT = 7,
-    /* A repair, a read, a careful read, an edit, a start or a step before any file was written. */
+    /* A repair, a read, a careful read, an edit, a start, a step or a move before any file was written. */
     ZBK_EMPTY = 8,
-    /* A board to read from, a helper or a stand-in is out of service. */
+    /* A board to read from, a helper or a stand-in is out of service, or any board, for a move. */
     ZBK_DOWN = 9,
     /* No file of this length has these shares; of a careful read, none has all of them but one. No guard against altered bytes: k boards show that they
      * fit together, not that none is altered, and often another file has them (zbk_read says what k, k + 1 and k + 2 boards show). */
@@ -191,7 +192,8 @@ uint64_t zbk_finished_share(size_t n, size_t k, size_t d, size_t r, const uint8_
                             uint8_t *out, size_t out_len);
 
 /* A share as text: seven lines, the sizes, the board, the length and the share in hexadecimal, and before the share a line with the points of
- * the n boards where they are not 0 to n - 1 in order: two bytes for each byte of the share and at most 200 more. */
+ * the n boards where they are not 0 to n - 1 in order: two bytes for each byte of the share and at most 200 more. Of a board in a store give the points
+ * that the record has at the time: a move changes them. */
 uint64_t zbk_share_text(size_t n, size_t k, size_t d, size_t r, const uint8_t *points, size_t points_len, size_t length, size_t node,
                         const uint8_t *share, size_t share_len, uint8_t *out, size_t out_len);
 
@@ -224,11 +226,11 @@ uint64_t zbk_text_prefix(const uint8_t *text, size_t text_len);
  * - Inside the step that carries the last packet, and inside zbk_repair, only bytes of fresh boards change in the area, and these are out of service by
  *   the record that was kept before the call (what a call does before it comes back is how it is made, and not among what is proved). So lend the
  *   calls a copy of the record, and keep the new one once the call has come back; a set-up, too.
- * - A write or an edit changes boards in service. Where power cuts one, some boards are changed and others not, and no call is promised anything of such
+ * - A write, an edit or a move changes boards in service. Where power cuts one, some boards are changed and others not, and no call is promised anything of such
  *   an area: a read may give a file that nobody wrote. Keep a second record and area, and use the two in turn. */
 
 /* A new store with no file: where it is accepted all twelve words and all 71 are written, and what they were before does not matter. The record keeps
- * the points; the other calls take them from it. No repair is running then. */
+ * the points; the other calls take them from it, and zbk_move alone changes one. No repair is running then. */
 uint64_t zbk_set_up(uint64_t *record, size_t record_words, uint64_t *repair, size_t repair_words, size_t n, size_t k, size_t d, size_t r,
                     const uint8_t *points, size_t points_len, size_t capacity);
 
@@ -280,8 +282,8 @@ uint64_t zbk_edit(uint64_t *record, size_t record_words, uint64_t *repair, size_
 
 /* Repair a packet at a time, while the bus is shared. A start takes the lists of zbk_repair, refuses what that refuses, and carries nothing; steps
  * carry the packets, t * (d + r - 1) in all, as many in each as the caller allows. Until the last one the fresh boards are out of service and no step
- * changes the record or the area. Reads go on meanwhile, careful ones too, and losses; a write, an edit, a repair and a start are ZBK_BUSY. Stepped to
- * its end, with no bytes altered of boards in service and of packets carried, it leaves what zbk_repair would leave in the place of its last step. */
+ * changes the record or the area. Reads go on meanwhile, careful ones too, and losses; a write, an edit, a repair, a start and a move are ZBK_BUSY.
+ * Stepped to its end, with no bytes altered of boards in service and of packets carried, it leaves what zbk_repair would leave in the place of its last step. */
 
 /* Starts a repair: writes the repair record. The area is asked for its length alone. */
 uint64_t zbk_start(uint64_t *record, size_t record_words, uint64_t *repair, size_t repair_words, const uint8_t *area, size_t area_len,
@@ -297,6 +299,27 @@ uint64_t zbk_start(uint64_t *record, size_t record_words, uint64_t *repair, size
  * into service, and the repair has ended. ZBK_IDLE where none is running; the length of `packets` is not looked at then. */
 uint64_t zbk_step(uint64_t *record, size_t record_words, uint64_t *repair, size_t repair_words, uint8_t *area, size_t area_len,
                   uint8_t *packets, size_t packets_len, size_t allowance);
+
+/* Moves a board to a new point, with the robot running: reads, edits, losses and repairs go on between moves as ever. All n boards are in service and
+ * stay so. The board is rebuilt at its new point as in a repair of it alone, from its d helpers and r - 1 partners, which send what stand-ins send; no
+ * byte that it held is read. Every other board works out afresh, from what it holds and without the bus, the values that it keeps at the moved board's
+ * point. A board that held its share of the file holds that at the new points; one that held wrong bytes, not the moved one, stays wrong, and as a helper or
+ * partner it may make the moved one wrong too, as in a repair: move after careful reads that together take in every board and find none odd. A wrong board
+ * that is moved by right helpers and partners is right. Only the first S stripes change. The record has the new point from then on; nothing else changes
+ * in it. Reports the bytes moved between boards, S * (2d + r - 1).
+ *
+ * The lists are those of a repair of one board: `helpers` has d numbers, `partners` r - 1, none where r is 1; all are different, and none is the board.
+ * ZBK_REPEAT also where the new point is some board's, its own included; the 00 that a record keeps from n up is no board's. ZBK_DOWN where any board is
+ * out of service, named or not: after a loss, repair first. ZBK_BUSY while a repair is running.
+ *
+ * From the first series to the present one: moved in turn, board 0 to 0, board 1 to 1, up to board n - 1, each new point is free when its turn comes,
+ * and behind the last move, if each board held its share before it, the first S stripes of the boards are what a fresh write of the file at 0 to n - 1
+ * puts there. Nothing is open between two moves: behind a power failure there the points in the record tell how far the turn is. Record and area belong
+ * together: a record from before a move with the area behind it is no store. Texts of shares follow the record's points: behind
+ * the last move they have no line of points. A text that was printed before a move stays good with its own line of points, together with texts of the
+ * same points: print all that are to be gathered between the same two moves, else they are ZBK_MIXED. */
+uint64_t zbk_move(uint64_t *record, size_t record_words, uint64_t *repair, size_t repair_words, uint8_t *area, size_t area_len, size_t board,
+                  uint8_t point, const size_t *helpers, size_t helpers_count, const size_t *partners, size_t partners_count);
 
 /* The trial file: bytes to try things with. The same seed gives the same bytes on every machine, and whoever sees some of them can tell the rest. */
 

@@ -47,7 +47,7 @@ run() {
         exit 1
     fi
     # a coder that is wrong may also break off
-    "$work/cargo/release/coder" --calls 20000 --first >"$work/log" 2>&1 || true
+    "$work/cargo/release/coder" --calls 25000 --first >"$work/log" 2>&1 || true
 }
 
 # reported EDIT: the coder reports a mismatch

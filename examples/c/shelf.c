@@ -7,7 +7,11 @@
  * Three of its shares are also written as texts, as before boards are pulled for the workshop, and loaded again: one for its share, all three for
  * the file. Then two boards are rebuilt while the arm works, three packets at a time with reads in between; power fails in the middle, the file is
  * still there, and the repair is started anew. A worn board answers a wrong byte: a careful read of five boards gives the file all the same and names
- * the board, which is rebuilt. At last a carton is loaded: one pack count, four bytes of the file, is changed by an edit, and read back from other boards.
+ * the board, which is rebuilt. Then a carton is loaded: one pack count, four bytes of the file, is changed by an edit, and read back from other boards.
+ *
+ * At last the robot of the first series is carried to the present points while it runs: its boards are moved one after another, with a read behind each
+ * move; in between the count is changed back, and a board is lost and rebuilt. Its boards then hold what a fresh write puts there, and a text has no line of
+ * points.
  *
  * Build, from the top folder:  cc -std=c11 -Iinclude examples/c/shelf.c target/staticlib/libzebrankai.a -o shelf
  */
@@ -227,6 +231,67 @@ static int load_carton(uint64_t *record, uint64_t *repair, uint8_t *area, uint8_
     return same;
 }
 
+/* Moves a board to the point of a present robot, its own number: the four boards that follow it help, and the next one is its partner. */
+static uint64_t move_board(uint64_t *record, uint64_t *repair, uint8_t *area, size_t board) {
+    size_t others[D + R - 1];
+    for (size_t t = 0; t < D + R - 1; t++) others[t] = (board + t + 1) % N;
+    return zbk_move(RECORDS, area, AREA, board, (uint8_t)board, others, D, others + D, R - 1);
+}
+
+/* The points that a record has. */
+static void points_of(const uint64_t *record, uint8_t *points) {
+    for (size_t i = 0; i < ZBK_MAX_BOARDS; i++) points[i] = (uint8_t)(record[ZBK_WORD_POINTS + i / 8] >> 8 * (i % 8));
+}
+
+/* Carries a robot of the first series, with the carton loaded, to the present points. Gives whether every read gave the file, the bytes moved were those
+ * of a repair of one board each time, and the boards, the record and a text are at last those of a present robot on which the file was written. */
+static int carry_over(uint64_t *record, uint64_t *repair, uint8_t *area, uint8_t *out, size_t length) {
+    static uint8_t anew[AREA];
+    const size_t tellers[K] = {6, 1, 3}, lost[1] = {4}, helpers[D] = {0, 1, 2, 3}, stand_ins[R - 1] = {5};
+    const size_t offset = (size_t)(strstr(stock, "120 ") - stock);
+    char file[sizeof stock];
+    memcpy(file, stock, sizeof stock);
+    memcpy(file + offset, "144 ", 4);
+    int same = 1;
+    for (size_t board = 0; board < N; board++) {
+        if (board == 2) {
+            memcpy(file + offset, "120 ", 4);
+            accepted("edit between moves", zbk_edit(RECORDS, area, AREA, offset, (const uint8_t *)file + offset, 4, tellers, K));
+            printf("the count edited back\n");
+        }
+        if (board == 4) {
+            accepted("lose", zbk_lose(RECORDS, lost[0]));
+            spoil(area, lost[0]);
+            refused("a move with a board out of service", move_board(record, repair, area, board), ZBK_DOWN);
+            accepted("repair between moves", zbk_repair(RECORDS, area, AREA, lost, 1, helpers, D, stand_ins, R - 1));
+            printf("board %zu lost and rebuilt\n", lost[0]);
+        }
+        same &= accepted("move", move_board(record, repair, area, board)) == stripes_of(length) * SHARE;
+        refused("a move to its own point", move_board(record, repair, area, board), ZBK_REPEAT);
+        const size_t readers[K] = {board, (board + 1) % N, (board + 3) % N};
+        memset(out, 0, length);
+        accepted("read between moves", zbk_read(RECORDS, area, AREA, readers, K, out, length));
+        same &= memcmp(out, file, length) == 0;
+        printf("board %zu moved to %zu, read from boards %zu, %zu and %zu: %s\n", board, board, readers[0], readers[1], readers[2],
+               same ? "the file as it must be" : "ANOTHER FILE");
+    }
+
+    /* as written anew at the present points */
+    uint64_t due[ZBK_RECORD_WORDS] = {0}, idle[ZBK_REPAIR_WORDS] = {0};
+    uint8_t points[ZBK_MAX_BOARDS];
+    zbk_standard_points(points, N);
+    accepted("set up", zbk_set_up(due, ZBK_RECORD_WORDS, idle, ZBK_REPAIR_WORDS, N, K, D, R, points, ZBK_MAX_BOARDS, CAPACITY));
+    accepted("write", zbk_write(due, ZBK_RECORD_WORDS, idle, ZBK_REPAIR_WORDS, anew, AREA, (const uint8_t *)stock, length));
+    same &= memcmp(record, due, sizeof due) == 0;
+    for (size_t board = 0; board < N; board++) {
+        const size_t start = board * CAPACITY * SHARE;
+        same &= memcmp(area + start, anew + start, stripes_of(length) * SHARE) == 0;
+    }
+    printf("all boards moved: %s\n", same ? "as written anew at the present points" : "NOT AS WRITTEN ANEW");
+    points_of(record, points);
+    return same & !print_text(record, points, area, 4);
+}
+
 /* The stock file on one robot, over an area and an output that are lent; gives whether all was as it must be. */
 static int robot(const uint8_t *points, uint8_t *area, uint8_t *out, size_t length) {
     uint64_t record[ZBK_RECORD_WORDS] = {0}, repair[ZBK_REPAIR_WORDS] = {0};
@@ -264,6 +329,7 @@ static int robot(const uint8_t *points, uint8_t *area, uint8_t *out, size_t leng
     if (!swap_while_working(record, repair, area, out, length)) return 0;
     if (!swap_worn(record, repair, area, out, length)) return 0;
     if (!load_carton(record, repair, area, out, length)) return 0;
+    if (points[0] != 0 && !carry_over(record, repair, area, out, length)) return 0;
     const uint64_t board_moved = stripes_of(length) * (2 * D + R - 1);
     return same && said && moved_for_one == board_moved && moved == R * board_moved;
 }

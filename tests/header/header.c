@@ -1,5 +1,5 @@
 /*
- * header.c: include/zebrankai.h held to the archive, in C11 and in C++11. Each constant is held to its number, written out here; each of the nineteen
+ * header.c: include/zebrankai.h held to the archive, in C11 and in C++11. Each constant is held to its number, written out here; each of the twenty
  * calls is made with arguments that differ, and its whole answer, every word and every byte that it was lent, and those behind, are held to what must
  * stand there; and each refusal is brought about and held to its name.
  *
@@ -671,6 +671,8 @@ static void meanwhile(uint64_t *record, uint64_t *repair, uint8_t *area, uint8_t
     answers(__LINE__, zbk_edit(record, ZBK_RECORD_WORDS, repair, ZBK_REPAIR_WORDS, area, AREA, STOCK, file, 1, beyond, 1), ZBK_BUSY);
     answers(__LINE__, zbk_repair(record, ZBK_RECORD_WORDS, repair, ZBK_REPAIR_WORDS, area, AREA, beyond, 1, beyond, 1, beyond, 1), ZBK_BUSY);
     answers(__LINE__, start(record, repair, area), ZBK_BUSY);
+    answers(__LINE__, zbk_move(record, ZBK_RECORD_WORDS, repair, ZBK_REPAIR_WORDS, area, AREA, 2, 0x3F, eight_helpers, 4, two_stand_ins, 2), ZBK_BUSY);
+    answers(__LINE__, zbk_move(record, ZBK_RECORD_WORDS, repair, ZBK_REPAIR_WORDS, area, AREA, 9, 0x2A, beyond, 1, beyond, 1), ZBK_BUSY);
     answers(__LINE__, zbk_lose(record, ZBK_RECORD_WORDS, repair, ZBK_REPAIR_WORDS, 9), ZBK_NODE);
     answers(__LINE__, zbk_step(record, ZBK_RECORD_WORDS, repair, ZBK_REPAIR_WORDS, area, AREA, packets, 59, 1), ZBK_AREA);
     answers(__LINE__, zbk_step(record, ZBK_RECORD_WORDS, repair, ZBK_REPAIR_WORDS, area, AREA, packets, 61, 1), ZBK_AREA);
@@ -696,6 +698,7 @@ static void meanwhile(uint64_t *record, uint64_t *repair, uint8_t *area, uint8_t
         refused(__LINE__, zbk_read(other, ZBK_RECORD_WORDS, words, ZBK_REPAIR_WORDS, area, AREA, two, 2, out, STOCK), ZBK_SIZE);
         refused(__LINE__, zbk_read_careful(other, ZBK_RECORD_WORDS, words, ZBK_REPAIR_WORDS, area, AREA, four, 4, out, STOCK), ZBK_SIZE);
         answers(__LINE__, zbk_lose(other, ZBK_RECORD_WORDS, words, ZBK_REPAIR_WORDS, 0), ZBK_SIZE);
+        answers(__LINE__, zbk_move(other, ZBK_RECORD_WORDS, words, ZBK_REPAIR_WORDS, area, AREA, 2, 0x3F, eight_helpers, 4, two_stand_ins, 2), ZBK_SIZE);
     }
 }
 
@@ -796,6 +799,152 @@ static void limits(void) {
     record_is(__LINE__, record, &due);
 }
 
+/* ---- moves */
+
+/* stock once board 3 has moved from 1D to 3F */
+enum { BYTE_3 = 0x3F };
+static const char *const moved_shares[9] = {
+    "84a88bf26b708af0437c2476665d305d23750077e37c8c2243381bfab261", "73921610ac4ab43f321662dde92abbddcf0d480665953b5a21021a2dfe0c",
+    "fd63a48e2460498848ef20a6056a5646f4f916e6dd7312694a52e10efca3", "914125ba665d7c8a6c5d1c9838d5a09d77dd81f0a0c1ba99813261520d3f",
+    "e60602218f20166a9b5f08b00d291c6a06de0a8833486b73c0930c6c5ea1", "c798fb8875b7ef69297de736200b0e9de656adad17342c9fcc53a325da7b",
+    "db542c0b6ef85d016b8a29970b01578af0dab823061eadfe61913ff9581b", "3ab8e20b43285ff79cb40870971f1bd388e488cfe152019e6ec0a140031a",
+    "714310043e767db212495e2d7e3e60c1ad9624f4f3a03fcf61007bb0a9e1"};
+static const char moved_text[] = "n=9\nk=2\nd=4\nr=3\nnode=6\nlength=39\npoints=2a00ff3f800753c409\n"
+                                 "data=db542c0b6ef85d016b8a29970b01578af0dab823061eadfe61913ff9581b\n";
+
+/* A move of a store of stock that is refused: nothing changed. */
+static void move_refused(int line, uint64_t *record, uint64_t *repair, uint8_t *area, size_t board, uint8_t point, const size_t *helpers, size_t helpers_count,
+                         const size_t *partners, size_t partners_count, uint64_t number) {
+    uint64_t words[ZBK_RECORD_WORDS + 2], repair_words[ZBK_REPAIR_WORDS + 2];
+    uint8_t kept[AREA + 16];
+    memcpy(words, record, sizeof words);
+    memcpy(repair_words, repair, sizeof repair_words);
+    memcpy(kept, area, sizeof kept);
+    answers(line, zbk_move(record, ZBK_RECORD_WORDS, repair, ZBK_REPAIR_WORDS, area, AREA, board, point, helpers, helpers_count, partners, partners_count), number);
+    check(line, memcmp(words, record, sizeof words) == 0, "a refusal changed the record");
+    check(line, memcmp(repair_words, repair, sizeof repair_words) == 0, "a refusal changed the repair");
+    check(line, memcmp(kept, area, sizeof kept) == 0, "a refusal changed the area");
+}
+
+/* Board 3 of stock to another byte and back, with any bytes on it; what is refused of a move; and texts of both points. */
+static void moves(void) {
+    uint64_t record[ZBK_RECORD_WORDS + 2], repair[ZBK_REPAIR_WORDS + 2];
+    uint8_t area[AREA + 16], area_due[AREA + 16], points[ZBK_MAX_BOARDS], share[STOCK_SHARE];
+    const size_t helpers[5] = {8, 0, 5, 6, 2}, partners[3] = {7, 1, 4}, beyond[4] = {8, 0, 9, 8}, itself[4] = {8, 0, 5, 3}, twice[2] = {7, 6}, none[1] = {0};
+    struct due due = {9, 2, 4, 3, CAPACITY, 1, STOCK, 0x1FF, {0xC45307801DFF002A, 0x09, 0, 0}};
+    memset(area, BLANK, sizeof area);
+    memset(area_due, BLANK, sizeof area_due);
+    made_up(record, repair);
+    answers(__LINE__, zbk_set_up(record, ZBK_RECORD_WORDS, repair, ZBK_REPAIR_WORDS, 9, 2, 4, 3, odd, 32, CAPACITY), 0);
+    move_refused(__LINE__, record, repair, area, 9, 0x1D, beyond, 3, none, 0, ZBK_EMPTY);
+    answers(__LINE__, zbk_write(record, ZBK_RECORD_WORDS, repair, ZBK_REPAIR_WORDS, area, AREA, (const uint8_t *)stock, STOCK), 0);
+
+    answers(__LINE__, zbk_move(record, ZBK_RECORD_WORDS - 1, repair, ZBK_REPAIR_WORDS, area, AREA - 1, 9, 0x1D, beyond, 3, none, 0), ZBK_SIZE);
+    answers(__LINE__, zbk_move(record, ZBK_RECORD_WORDS, repair, ZBK_REPAIR_WORDS + 1, area, AREA - 1, 9, 0x1D, beyond, 3, none, 0), ZBK_SIZE);
+    answers(__LINE__, zbk_move(record, ZBK_RECORD_WORDS, repair, ZBK_REPAIR_WORDS, area, AREA - 1, 9, 0x1D, beyond, 3, none, 0), ZBK_AREA);
+    move_refused(__LINE__, record, repair, area, 9, 0x1D, beyond, 3, partners, 2, ZBK_COUNT);
+    move_refused(__LINE__, record, repair, area, 9, 0x1D, helpers, 5, partners, 2, ZBK_COUNT);
+    move_refused(__LINE__, record, repair, area, 9, 0x1D, beyond, 4, partners, 1, ZBK_COUNT);
+    move_refused(__LINE__, record, repair, area, 9, 0x1D, beyond, 4, partners, 3, ZBK_COUNT);
+    move_refused(__LINE__, record, repair, area, 9, 0x1D, helpers, 4, partners, 2, ZBK_NODE);
+    move_refused(__LINE__, record, repair, area, 3, 0x1D, beyond, 4, partners, 2, ZBK_NODE);
+    move_refused(__LINE__, record, repair, area, SIZE_MAX, BYTE_3, helpers, 4, partners, 2, ZBK_NODE);
+    move_refused(__LINE__, record, repair, area, 3, BYTE_3, itself, 4, partners, 2, ZBK_REPEAT);
+    move_refused(__LINE__, record, repair, area, 7, BYTE_3, helpers, 4, partners, 2, ZBK_REPEAT);
+    move_refused(__LINE__, record, repair, area, 3, BYTE_3, helpers, 4, twice, 2, ZBK_REPEAT);
+    /* each board's byte, its own too: 00 is that of board 1 */
+    for (size_t board = 0; board < 9; board++) move_refused(__LINE__, record, repair, area, 3, odd[board], helpers, 4, partners, 2, ZBK_REPEAT);
+    /* each board out of service, named or not; a board's byte comes before it */
+    for (size_t board = 0; board < 9; board++) {
+        record[ZBK_WORD_MARKS] = 0x1FF & ~((uint64_t)1 << board);
+        move_refused(__LINE__, record, repair, area, 3, BYTE_3, helpers, 4, partners, 2, ZBK_DOWN);
+        move_refused(__LINE__, record, repair, area, 3, 0x09, helpers, 4, partners, 2, ZBK_REPEAT);
+    }
+    record[ZBK_WORD_MARKS] = 0x1FF;
+
+    /* 3 stripes x 10 bytes are moved, whatever board 3 held */
+    memset(area + 3 * BOARD, SPOILT, STOCK_SHARE);
+    for (size_t board = 0; board < 9; board++) from_pairs(moved_shares[board], area_due + board * BOARD);
+    answers(__LINE__, zbk_move(record, ZBK_RECORD_WORDS, repair, ZBK_REPAIR_WORDS, area, AREA, 3, BYTE_3, helpers, 4, partners, 2), 30 << 8);
+    due.points[0] = 0xC45307803FFF002A;
+    record_is(__LINE__, record, &due);
+    repair_is(__LINE__, repair, &none_running);
+    bytes_are(__LINE__, "another area after a move", area, area_due, sizeof area, 0, sizeof area);
+    move_refused(__LINE__, record, repair, area, 3, BYTE_3, helpers, 4, partners, 2, ZBK_REPEAT);
+    careful(__LINE__, record, repair, area, helpers, 0);
+    memcpy(points, odd, sizeof points);
+    points[3] = BYTE_3;
+    wrote_text(__LINE__, zbk_share_text(9, 2, 4, 3, points, 32, STOCK, 6, area + 6 * BOARD, STOCK_SHARE, out, ROOM), moved_text);
+    /* texts of one time are good together, and those of two are not */
+    char both[2 * sizeof moved_text];
+    const size_t length = strlen(stock_text);
+    memcpy(both, other_stock_text, length);
+    memcpy(both + length, stock_text, length);
+    wrote(__LINE__, zbk_gather((const uint8_t *)both, 2 * length, out, STOCK), (const uint8_t *)stock, STOCK);
+    memcpy(both + length, moved_text, length);
+    refused(__LINE__, zbk_gather((const uint8_t *)both, 2 * length, out, STOCK), ZBK_MIXED);
+
+    /* back, by other boards */
+    const size_t others[4] = {1, 4, 2, 7}, two[2] = {6, 8};
+    for (size_t board = 0; board < 9; board++) from_pairs(stock_shares[board], area_due + board * BOARD);
+    answers(__LINE__, zbk_move(record, ZBK_RECORD_WORDS, repair, ZBK_REPAIR_WORDS, area, AREA, 3, 0x1D, others, 4, two, 2), 30 << 8);
+    due.points[0] = 0xC45307801DFF002A;
+    record_is(__LINE__, record, &due);
+    bytes_are(__LINE__, "another area after a move back", area, area_due, sizeof area, 0, sizeof area);
+
+    /* a wrong byte on helper 8, the value of its f at board 3's point, and one behind all shares: it makes the moved board wrong, and stays behind the shares */
+    from_pairs(stock_shares[8], share);
+    area[8 * BOARD + 4] ^= 1;
+    area[AREA - 1] = SPOILT;
+    answers(__LINE__, zbk_move(record, ZBK_RECORD_WORDS, repair, ZBK_REPAIR_WORDS, area, AREA, 3, BYTE_3, helpers, 4, partners, 2), 30 << 8);
+    for (size_t board = 0; board < 8; board++) {
+        from_pairs(moved_shares[board], area_due + board * BOARD);
+        const int alike = memcmp(area + board * BOARD, area_due + board * BOARD, BOARD) == 0;
+        check(__LINE__, alike == (board != 3), "a wrong byte on a helper");
+    }
+    check(__LINE__, memcmp(area + 8 * BOARD, share, 4) == 0 && memcmp(area + 8 * BOARD + 5, share + 5, STOCK_SHARE - 5) != 0 && area[AREA - 1] == SPOILT,
+          "what a helper with a wrong byte keeps");
+}
+
+/* A robot of the first series with a square: board 0 to 0, board 1 to 1, up to board 4; the boards then hold M7 to M11, and a text has no line of points. */
+static void first_series(void) {
+    uint64_t record[ZBK_RECORD_WORDS + 2], repair[ZBK_REPAIR_WORDS + 2];
+    uint8_t area[35 + 5], area_due[35 + 5], points[ZBK_MAX_BOARDS], given[ZBK_MAX_BOARDS];
+    struct due due = {5, 2, 3, 2, 1, 1, 12, 0x1F, {0x0504030201, 0, 0, 0}};
+    memset(area, BLANK, sizeof area);
+    memset(area_due, BLANK, sizeof area_due);
+    made_up(record, repair);
+    zbk_first_series_points(points, 5);
+    answers(__LINE__, zbk_set_up(record, ZBK_RECORD_WORDS, repair, ZBK_REPAIR_WORDS, 5, 2, 3, 2, points, 32, 1), 0);
+    answers(__LINE__, zbk_write(record, ZBK_RECORD_WORDS, repair, ZBK_REPAIR_WORDS, area, 35, square, 12), 0);
+    wrote_text(__LINE__, zbk_share_text(5, 2, 3, 2, points, 32, 12, 1, area + 7, 7, out, ROOM),
+               "n=5\nk=2\nd=3\nr=2\nnode=1\nlength=12\npoints=0102030405\ndata=080c1014040a20\n");
+    for (size_t board = 0; board < 5; board++) {
+        size_t others[4];
+        for (size_t t = 0; t < 4; t++) others[t] = (board + t + 1) % 5;
+        /* 00, which the numbers from 5 up keep, is no board's when board 0 goes there */
+        answers(__LINE__, zbk_move(record, ZBK_RECORD_WORDS, repair, ZBK_REPAIR_WORDS, area, 35, board, (uint8_t)board, others, 3, others + 3, 1), 7 << 8);
+        due.points[0] -= (uint64_t)1 << 8 * board;
+        record_is(__LINE__, record, &due);
+        answers(__LINE__, zbk_read(record, ZBK_RECORD_WORDS, repair, ZBK_REPAIR_WORDS, area, 35, others + 2, 2, out, 12), 0);
+        bytes_are(__LINE__, "another output of a read between moves", out, square, 12, BLANK, ROOM);
+        memset(out, BLANK, ROOM);
+    }
+    for (size_t board = 0; board < 5; board++) from_pairs(square_shares[board], area_due + 7 * board);
+    bytes_are(__LINE__, "another area after all moves", area, area_due, sizeof area, 0, sizeof area);
+    for (size_t i = 0; i < ZBK_MAX_BOARDS; i++) given[i] = (uint8_t)(record[ZBK_WORD_POINTS + i / 8] >> 8 * (i % 8));
+    wrote_text(__LINE__, zbk_share_text(5, 2, 3, 2, given, 32, 12, 1, area + 7, 7, out, ROOM), square_text);
+
+    /* a file of no bytes: nothing is put, the point still changes, and 0 is reported */
+    const size_t helpers[3] = {4, 0, 3}, partner[1] = {2};
+    answers(__LINE__, zbk_write(record, ZBK_RECORD_WORDS, repair, ZBK_REPAIR_WORDS, area, 35, square, 0), 0);
+    answers(__LINE__, zbk_move(record, ZBK_RECORD_WORDS, repair, ZBK_REPAIR_WORDS, area, 35, 1, 0xFF, helpers, 3, partner, 1), 0);
+    due.length = 0;
+    due.points[0] = 0x040302FF00;
+    record_is(__LINE__, record, &due);
+    bytes_are(__LINE__, "a move of no bytes changed the area", area, area_due, sizeof area, 0, sizeof area);
+}
+
 /* ---- what the header has itself: answers taken apart, and points */
 
 static void answers_apart(void) {
@@ -845,6 +994,8 @@ int main(void) {
     starts();
     steps();
     power_fails();
+    moves();
+    first_series();
     both_lost(points);
     limits();
     printf("header: %u checks, %u failed\n", checks, failed);

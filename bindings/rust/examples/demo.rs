@@ -3,10 +3,13 @@
 //! rewrite, and read back from other boards than those that told the old one. Two more boards are rebuilt while the arm works, three packets at a time
 //! with reads in between; power fails in the middle, and the repair is started anew. A board answers a wrong byte: a read of four boards takes it, and a
 //! careful read of six gives the right file and names the board, which is swapped. Then the first file on a robot of the first series, whose boards have
-//! other points: two boards are lost and rebuilt, one of them is printed as text, and the file is read back. Prints what happens, board by board, and
-//! how many bytes the bus carried.
+//! other points: two boards are lost and rebuilt, one of them is printed as text, and the file is read back. This robot is carried to the present points
+//! while it runs: its boards are moved one after another, with a read behind each move; in between a pack count is changed, and a board is lost and rebuilt.
+//! At last the boards hold what a fresh write would put there, and a text has no line of points. Prints what happens, board by board, and how many
+//! bytes the bus carried.
 
 use std::error::Error;
+use std::ops::Range;
 use zebrankai::{board, Points, Record, Sizes};
 
 /// Eight boards; any four give the file back; each fresh board hears six helpers; up to two are rebuilt together.
@@ -104,7 +107,32 @@ fn main() -> Result<(), Box<dyn Error>> {
     shelf.print_text(3)?;
 
     println!("\n24. The file is read from boards 3, 4, 6 and 1.\n");
-    shelf.read(&[3, 4, 6, 1], file)
+    shelf.read(&[3, 4, 6, 1], file)?;
+
+    println!("\n25. This robot gets the points of present ones while it runs: boards are moved from i + 1 to i, one after another. Boards 0");
+    println!("    to 2 are; the file is read behind each move, also from the moved board.\n");
+    shelf.move_boards(0..3, file)?;
+
+    println!("\n26. A carton of 24 boxes of ibuprofen is loaded, \" 17 \" becomes \" 41 \", by what boards 0, 1, 5 and 7 tell.\n");
+    let edited = shelf.edit(" 17 ", " 41 ", &[0, 1, 5, 7])?;
+
+    println!("\n27. Board 6 fails and is swapped for a new one. Until it is rebuilt no board can be moved.\n");
+    shelf.fail(&[6])?;
+    shelf.move_refused(3)?;
+    shelf.rebuild(28, &[6])?;
+
+    println!("\n29. The other boards are moved, 3 to 7.\n");
+    shelf.move_boards(3..SIZES.n, edited.as_bytes())?;
+
+    println!("\n30. The boards hold what a fresh write of the file puts on a present robot, and the record is that of one.\n");
+    shelf.is_as_written(edited.as_bytes())?;
+    shelf.print_boards();
+
+    println!("\n31. Board 3 is printed as text once more. There is no line of points: they are 0 to 7.\n");
+    shelf.print_text(3)?;
+
+    println!("\n32. The file is read from boards 3, 4, 6 and 1.\n");
+    shelf.read(&[3, 4, 6, 1], edited.as_bytes())
 }
 
 fn print_lines(text: &str) {
@@ -321,6 +349,59 @@ impl Shelf {
         println!("    this way the bus carries {} % of that.\n", (100 * moved).div_ceil(whole));
         self.print_boards();
         Ok(())
+    }
+
+    /// The lists for a board alone: the first of the others is its partner, the next d help.
+    fn others(board: usize) -> (Vec<usize>, Vec<usize>) {
+        let others: Vec<usize> = (0..SIZES.n).filter(|&other| other != board).collect();
+        let (partners, others) = others.split_at(SIZES.r - 1);
+        (others[..SIZES.d].to_vec(), partners.to_vec())
+    }
+
+    /// Moves boards to the points of present robots, and reads the file behind each move from the board and the next three.
+    fn move_boards(&mut self, boards: Range<usize>, file: &[u8]) -> Result<(), Box<dyn Error>> {
+        for board in boards {
+            let (helpers, partners) = Shelf::others(board);
+            let was = self.record.points().of_boards(SIZES.n)[board];
+            let moved = self.record.move_board(&mut self.area, board, board as u8, &helpers, &partners)?;
+            let readers: Vec<usize> = (0..SIZES.k).map(|t| (board + t) % SIZES.n).collect();
+            let mut read = vec![0; self.record.length()];
+            self.record.read(&self.area, &readers, &mut read)?;
+            if read != file {
+                return Err("the file that was read behind a move is another one".into());
+            }
+            println!(
+                "    board {board} moved from {was:02x} to {board:02x}, {moved} bytes carried; read from boards {}: all {} bytes are right",
+                listed(&readers, ", "),
+                read.len()
+            );
+        }
+        Ok(())
+    }
+
+    /// A move that is refused, and why.
+    fn move_refused(&mut self, board: usize) -> Result<(), Box<dyn Error>> {
+        let (helpers, partners) = Shelf::others(board);
+        match self.record.move_board(&mut self.area, board, board as u8, &helpers, &partners) {
+            Ok(_) => Err("a board was moved with another one out of service".into()),
+            Err(refusal) => {
+                println!("    a move of board {board}: {refusal}");
+                Ok(())
+            }
+        }
+    }
+
+    /// Holds the record and the boards to those of a store newly set up at the present points, once the file is written.
+    fn is_as_written(&self, file: &[u8]) -> Result<(), Box<dyn Error>> {
+        let anew = Shelf::write(Points::standard(SIZES.n), file)?;
+        let shares = |shelf: &Shelf| -> Vec<Vec<u8>> {
+            let boards = shelf.area.chunks(CAPACITY * SIZES.share_len());
+            boards.map(|bytes| bytes[..shelf.share_len()].to_vec()).collect()
+        };
+        match anew.record == self.record && shares(&anew) == shares(self) {
+            true => Ok(()),
+            false => Err("the moved boards hold other bytes than a fresh write gives".into()),
+        }
     }
 
     /// A board's share as text, the last line cut.

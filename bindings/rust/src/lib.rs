@@ -4,9 +4,10 @@
 //! say.
 //!
 //! [`Record`] is the store: set up, write, lose, repair, read, edit over an area that the caller lends, a careful read of k + 2 boards of which one may
-//! be worn, by [`Record::read_careful`], and a repair a packet at a time, by [`Record::start`] and [`Record::step`]. The functions of [`board`] are the calls that single boards make, with no record. Each board has a point,
-//! at which its share is worked out: [`Points::standard`] on present robots, [`Points::first_series`] on robots of the first series; the record
-//! keeps them. Every call answers with its result or with one [`Refusal`], and after a refusal nothing has changed: no word of the record, no byte
+//! be worn, by [`Record::read_careful`], and a repair a packet at a time, by [`Record::start`] and [`Record::step`]. The functions of [`board`] are the
+//! calls that single boards make, with no record. Each board has a point, at which its share is worked out: [`Points::standard`] on present robots,
+//! [`Points::first_series`] on robots of the first series; the record keeps them, and [`Record::move_board`] carries a robot from these to those while it
+//! runs. Every call answers with its result or with one [`Refusal`], and after a refusal nothing has changed: no word of the record, no byte
 //! of a lent buffer. [`trial_file`] draws the same file from one number everywhere, and refuses nothing.
 //!
 //! ```

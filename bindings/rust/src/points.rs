@@ -3,7 +3,8 @@
 use crate::MAX_BOARDS;
 
 /// A point for each board, at which its share is worked out. Of 32 bytes the first n are the boards', all different, and the rest 00. The calls
-/// refuse others with [`Refusal::Size`](crate::Refusal::Size). All boards of a file have shares at the same points.
+/// refuse others with [`Refusal::Size`](crate::Refusal::Size). All boards of a file have shares at the same points; those of a store change by
+/// [`Record::move_board`](crate::Record::move_board) alone.
 ///
 /// ```
 /// use zebrankai::Points;

@@ -105,6 +105,20 @@ extern "C" {
         packets_len: usize,
         allowance: usize,
     ) -> u64;
+    fn zbk_move(
+        record: *mut u64,
+        record_words: usize,
+        repair: *mut u64,
+        repair_words: usize,
+        area: *mut u8,
+        area_len: usize,
+        board: usize,
+        point: u8,
+        helpers: *const usize,
+        helpers_count: usize,
+        partners: *const usize,
+        partners_count: usize,
+    ) -> u64;
 }
 
 /// The words of a record.
@@ -130,8 +144,9 @@ const POINTS: usize = 8;
 ///   started anew.
 /// - Inside the step that carries the last packet, and inside [`repair`](Record::repair), only bytes of fresh boards change in the area, and these are out
 ///   of service by the words that were kept before the call: keep the new ones once the call has come back.
-/// - [`write`](Record::write) and [`edit`](Record::edit) change boards in service. Where power cuts one, some boards are changed and others not, and no
-///   call is promised anything of such an area: a read may give a file that nobody wrote. Keep a second record and area, and use the two in turn.
+/// - [`write`](Record::write), [`edit`](Record::edit) and [`move_board`](Record::move_board) change boards in service. Where power cuts one, some boards
+///   are changed and others not, and no call is promised anything of such an area: a read may give a file that nobody wrote. Keep a second record and
+///   area, and use the two in turn.
 ///
 /// # Clones
 ///
@@ -224,7 +239,7 @@ impl Record {
         Sizes { n, k, d, r }
     }
 
-    /// The points of the boards.
+    /// The points of the boards: those given at set-up, but for boards that were [moved](Record::move_board) since.
     pub fn points(&self) -> Points {
         let mut bytes = [0; MAX_BOARDS];
         for (bytes, word) in bytes.chunks_mut(8).zip(&self.words[POINTS..]) {
@@ -463,7 +478,8 @@ impl Record {
 
     /// Starts a repair, to be carried a packet at a time while the bus is shared: takes the lists of [`repair`](Record::repair), refuses what that
     /// refuses, and carries nothing. [`step`](Record::step) carries its packets, t × (d + r − 1) in all. Until the last one the fresh boards are out of
-    /// service and nothing else changes. Reads go on meanwhile, careful ones too, and losses; a write, an edit, a repair and a start are [`Refusal::Busy`].
+    /// service and nothing else changes. Reads go on meanwhile, careful ones too, and losses; a write, an edit, a repair, a start and a move are
+    /// [`Refusal::Busy`].
     ///
     /// ```
     /// use zebrankai::{Points, Record, Refusal, Sizes};
@@ -543,6 +559,81 @@ impl Record {
                 packets.as_mut_ptr(),
                 packets.len(),
                 allowance,
+            )
+        })
+    }
+
+    /// Moves a board to a new point, with the robot running: reads, edits, losses and repairs go on between moves as ever. All n boards are in service
+    /// and stay so. The board is rebuilt at its new point as in a [`repair`](Record::repair) of it alone, from its d helpers and r − 1 partners, which send
+    /// what stand-ins send; no byte that it held is read. Every other board works out afresh, from what it holds and without the bus, the values that it
+    /// keeps at the moved board's point. A board that held its share of the file holds that at the new points; one that held wrong bytes, not the moved one,
+    /// stays wrong, and as a helper or partner it may make the moved one wrong too, as in a repair: move after careful reads that together take in every board
+    /// and find none odd. A wrong board that is moved by right helpers and partners is right. Only the stripes of the file change, and of the record the one
+    /// point. Answers the bytes moved between boards, 2d + r − 1 for each stripe.
+    ///
+    /// `helpers` has d numbers, `partners` r − 1, none where r is 1; all are different, and none is the board. [`Refusal::Repeat`] also where the new point
+    /// is some board's, its own included; the 00 that a record keeps from n up is no board's. [`Refusal::Down`] where any board is out of service, named or
+    /// not: after a loss, repair first. [`Refusal::Busy`] while a repair is running.
+    ///
+    /// So a robot of the first series gets the present points: moved in turn, board 0 to 0, board 1 to 1, up to board n − 1, each new point is free when its
+    /// turn comes, and behind the last move, if each board held its share before it, the boards hold in the stripes of the file what a fresh write puts there.
+    /// Nothing is open between two moves: behind a power failure there [`points`](Record::points) tells how far the turn is. Record and area belong together: a
+    /// record from before a move with the area behind it is no store. Texts of shares follow the record's points: behind the last move they have no line of
+    /// points. A text that was printed before a move stays good with its own line of points, together with texts of the same points: print all that are to be
+    /// gathered between the same two moves, else they are [`Refusal::Mixed`].
+    ///
+    /// ```
+    /// use zebrankai::{Points, Record, Refusal, Sizes};
+    ///
+    /// let sizes = Sizes { n: 5, k: 2, d: 3, r: 2 };
+    /// let stock = b"bandages: 7 packs\n";
+    /// let mut area = vec![0; sizes.area_len(4)];
+    /// let mut record = Record::set_up(sizes, Points::first_series(5), 4)?;
+    /// record.write(&mut area, stock)?;
+    ///
+    /// let mut file = vec![0; record.length()];
+    /// for board in 0..5 {
+    ///     let others: Vec<usize> = (1..5).map(|t| (board + t) % 5).collect();
+    ///     let moved = record.move_board(&mut area, board, board as u8, &others[..3], &others[3..])?;
+    ///     assert_eq!(moved, sizes.stripes(stock.len()) * sizes.share_len());
+    ///     // the robot goes on
+    ///     record.read(&area, &[board, others[2]], &mut file)?;
+    ///     assert_eq!(file, stock);
+    /// }
+    /// assert_eq!(record.points(), Points::standard(5));
+    ///
+    /// // as written anew at these points
+    /// let mut anew = vec![0; sizes.area_len(4)];
+    /// let mut present = Record::set_up(sizes, Points::standard(5), 4)?;
+    /// present.write(&mut anew, stock)?;
+    /// assert_eq!((&record, &area), (&present, &anew));
+    ///
+    /// assert_eq!(record.move_board(&mut area, 2, 4, &[0, 1, 3], &[4]), Err(Refusal::Repeat));
+    /// # Ok::<(), Refusal>(())
+    /// ```
+    pub fn move_board(
+        &mut self,
+        area: &mut [u8],
+        board: usize,
+        point: u8,
+        helpers: &[usize],
+        partners: &[usize],
+    ) -> Result<usize, Refusal> {
+        let Record { words, repair } = self;
+        result(unsafe {
+            zbk_move(
+                words.as_mut_ptr(),
+                words.len(),
+                repair.as_mut_ptr(),
+                repair.len(),
+                area.as_mut_ptr(),
+                area.len(),
+                board,
+                point,
+                helpers.as_ptr(),
+                helpers.len(),
+                partners.as_ptr(),
+                partners.len(),
             )
         })
     }

@@ -36,13 +36,13 @@ pub enum Refusal {
     Count = 4,
     /// A board number is n or more.
     Node = 5,
-    /// A board is named twice.
+    /// A board is named twice, or the new point of a move is some board's.
     Repeat = 6,
     /// The output is too short.
     Short = 7,
     /// No file was written yet.
     Empty = 8,
-    /// A named board is out of service.
+    /// A named board is out of service, or any board, for a move.
     Down = 9,
     /// The shares belong to no file of this length; of a careful read, no k + 1 of them belong to one. It is no guard against altered bytes: k
     /// boards show that they fit together, not that none is altered ([`Record::read`](crate::Record::read)).
@@ -133,13 +133,14 @@ impl Refusal {
             }
             Refusal::Node => "A board number is n or more.",
             Refusal::Repeat => {
-                "A board is named twice where each must be another one, or two texts to gather are of one board."
+                "A board is named twice where each must be another one, two texts to gather are of one board, or the new point \
+                 of a move is some board's."
             }
             Refusal::Short => "The output is shorter than what is to be written.",
             Refusal::Empty => {
-                "A repair, a read, a careful read, an edit, a start or a step before any file was written."
+                "A repair, a read, a careful read, an edit, a start, a step or a move before any file was written."
             }
-            Refusal::Down => "A board to read from, a helper or a stand-in is out of service.",
+            Refusal::Down => "A board to read from, a helper or a stand-in is out of service, or any board, for a move.",
             Refusal::Disagree => {
                 "No file of this length has these shares; of a careful read, none has all of them but one."
             }

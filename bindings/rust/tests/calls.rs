@@ -713,6 +713,145 @@ fn a_careful_read_of_few_boards_and_of_no_bytes() {
     assert_eq!(record.words()[7], 0b111);
 }
 
+/// Which four boards follow a board of five: three helpers and a partner.
+fn senders(board: usize) -> [usize; 4] {
+    std::array::from_fn(|t| (board + t + 1) % 5)
+}
+
+#[test]
+fn boards_of_the_first_series_are_moved_to_the_present_points() {
+    let (mut record, mut area) = written(first());
+    let mut out = [0xEE; 12];
+    for board in 0..5 {
+        let others = senders(board);
+        // no byte of the moved board is read
+        area[7 * board..][..7].fill(0x77);
+        assert_eq!(record.move_board(&mut area, board, board as u8, &others[..3], &others[3..]), Ok(7));
+        let moved: Vec<u8> = (0..5).map(|other| other + u8::from(usize::from(other) > board)).collect();
+        assert_eq!(record.points(), points(&moved));
+        for boards in [[board, others[0]], [others[1], others[3]]] {
+            assert_eq!((record.read(&area, &boards, &mut out), out), (Ok(()), FILE));
+        }
+    }
+    // M7 to M11, and the record of a fresh write
+    assert_eq!(area, SHARES.concat());
+    assert_eq!((record.clone(), area.clone()), written(present()));
+    // and back, the last board first
+    for board in (0..5).rev() {
+        let others = senders(board);
+        assert_eq!(record.move_board(&mut area, board, board as u8 + 1, &others[1..], &others[..1]), Ok(7));
+    }
+    assert_eq!((record, area), written(first()));
+}
+
+#[test]
+fn between_moves_boards_are_lost_rebuilt_and_edited() {
+    let (mut record, mut area) = written(first());
+    record.move_board(&mut area, 0, 0, &[1, 2, 3], &[4]).unwrap();
+    record.edit(&mut area, 11, &[2], &[4, 0]).unwrap();
+    record.lose(3).unwrap();
+    area[21..28].fill(0xEE);
+    let before = (record.clone(), area.clone());
+    assert_eq!(record.move_board(&mut area, 1, 1, &[0, 2, 4], &[3]), Err(Refusal::Down));
+    assert_eq!((&record, &area), (&before.0, &before.1));
+    assert_eq!(record.repair(&mut area, &[3], &[0, 1, 2], &[4]), Ok(7));
+    for board in 1..5 {
+        let others = senders(board);
+        record.move_board(&mut area, board, board as u8, &others[..3], &others[3..]).unwrap();
+    }
+    let (mut anew, mut there) = written(present());
+    anew.write(&mut there, &[0, 0, 0, 0, 0, 0, 0, 0, 0, 0, 0, 2]).unwrap();
+    assert_eq!((record, area), (anew, there));
+}
+
+#[test]
+fn a_move_reaches_the_stripes_of_the_file_alone() {
+    let mut area = vec![0xEE; FIVE.area_len(3)];
+    let mut record = Record::set_up(FIVE, present(), 3).unwrap();
+    record.write(&mut area, &FILE).unwrap();
+    assert_eq!(record.move_board(&mut area, 2, 0xFF, &[0, 1, 3], &[4]), Ok(7));
+    for board in area.chunks(21) {
+        assert_eq!(board[7..], [0xEE; 14]);
+    }
+    // of no bytes: the point changes, and nothing else
+    record.write(&mut area, &[]).unwrap();
+    let before = area.clone();
+    assert_eq!(record.move_board(&mut area, 2, 0x80, &[0, 1, 3], &[4]), Ok(0));
+    assert_eq!((record.points(), area), (points(&[0, 1, 0x80, 3, 4]), before));
+}
+
+#[test]
+fn a_worn_helper_makes_the_moved_board_wrong_and_a_careful_read_tells() {
+    let (mut record, mut area) = written(first());
+    // of board 4, which helps, a byte is another one; board 3, which is moved, gets wrong bytes by it
+    area[28] ^= 1;
+    assert_eq!(record.move_board(&mut area, 3, 9, &[0, 2, 4], &[1]), Ok(7));
+    let mut out = [0xEE; 12];
+    assert_eq!((record.read_careful(&area, &[0, 1, 2, 4], &mut out), out), (Ok(Some(4)), FILE));
+    assert_eq!((record.read_careful(&area, &[0, 1, 2, 3], &mut out), out), (Ok(Some(3)), FILE));
+    assert_eq!(record.read_careful(&area, &[0, 1, 3, 4], &mut out), Err(Refusal::Disagree));
+}
+
+#[test]
+fn a_move_is_refused_by_the_first_line_that_holds() {
+    let (mut record, mut area) = written(first());
+    let mut refusal = |record: &mut Record, length: usize, board, point, helpers: &[usize], partners: &[usize]| {
+        let before = (record.clone(), area.clone());
+        let refused = record.move_board(&mut area[..length], board, point, helpers, partners).unwrap_err();
+        assert_eq!((&*record, &area), (&before.0, &before.1));
+        refused
+    };
+    let mut no_record = Record::from_words([9; 12]);
+    let mut empty = Record::set_up(FIVE, first(), 1).unwrap();
+    assert_eq!(refusal(&mut no_record, 34, 9, 1, &[1], &[]), Refusal::Size);
+    assert_eq!(refusal(&mut empty, 34, 9, 1, &[1], &[]), Refusal::Area);
+    assert_eq!(refusal(&mut empty, 35, 9, 1, &[1], &[]), Refusal::Empty);
+    for (helpers, partners) in
+        [(&[1, 9][..], &[4][..]), (&[1, 2, 3, 9], &[4]), (&[1, 2, 9], &[]), (&[1, 2, 9], &[4, 4])]
+    {
+        assert_eq!(refusal(&mut record, 35, 0, 1, helpers, partners), Refusal::Count);
+    }
+    record.lose(3).unwrap();
+    for (board, helpers, partners) in [(5, [1, 1, 2], [4]), (0, [1, 1, 5], [4]), (0, [1, 1, 2], [usize::MAX])] {
+        assert_eq!(refusal(&mut record, 35, board, 1, &helpers, &partners), Refusal::Node);
+    }
+    for (board, helpers, partners) in
+        [(0, [0, 1, 2], [4]), (0, [1, 2, 3], [0]), (0, [1, 2, 3], [3]), (0, [1, 2, 1], [4])]
+    {
+        assert_eq!(refusal(&mut record, 35, board, 9, &helpers, &partners), Refusal::Repeat);
+    }
+    // the byte of each board, its own too; 00 is kept from 5 up, and is no board's
+    for point in 1..=5 {
+        assert_eq!(refusal(&mut record, 35, 0, point, &[1, 2, 3], &[4]), Refusal::Repeat);
+    }
+    for point in [0, 6, 0xFF] {
+        assert_eq!(refusal(&mut record, 35, 0, point, &[1, 2, 3], &[4]), Refusal::Down);
+        // board 3 is out of service, whoever is named: here itself
+        assert_eq!(refusal(&mut record, 35, 3, point, &[1, 2, 0], &[4]), Refusal::Down);
+    }
+    record.repair(&mut area, &[3], &[0, 1, 2], &[4]).unwrap();
+    assert_eq!(record.move_board(&mut area, 0, 0, &[1, 2, 3], &[4]), Ok(7));
+}
+
+#[test]
+fn a_move_with_no_partners() {
+    // r = 1, and d + r = n: every other board helps
+    let sizes = Sizes { n: 4, k: 2, d: 3, r: 1 };
+    let file = [0x51, 0x52, 0x53, 0x54, 0x55, 0x56, 0x57, 0x58, 0x59];
+    let mut area = vec![0; sizes.area_len(1)];
+    let mut record = Record::set_up(sizes, Points::first_series(4), 1).unwrap();
+    record.write(&mut area, &file).unwrap();
+    assert_eq!(record.move_board(&mut area, 0, 0, &[1, 2, 3], &[0]), Err(Refusal::Count));
+    for board in 0..4 {
+        let helpers: Vec<usize> = (0..4).filter(|&other| other != board).collect();
+        assert_eq!(record.move_board(&mut area, board, board as u8, &helpers, &[]), Ok(6));
+    }
+    let mut anew = vec![0; sizes.area_len(1)];
+    let mut present = Record::set_up(sizes, Points::standard(4), 1).unwrap();
+    present.write(&mut anew, &file).unwrap();
+    assert_eq!((record, area), (present, anew));
+}
+
 /// M12's packets for boards 0 and 1, in the order carried: of helpers 2, 3, 4 for each, then what board 1 sends board 0 and board 0 board 1.
 const CARRIED: [u8; 14] = [0, 0, 0, 0, 0, 0, 0x04, 0x02, 0x05, 0x03, 0x10, 0x04, 0, 0];
 const FIRST_CARRIED: [u8; 14] = [5, 3, 0x10, 4, 0x11, 5, 0x0A, 0x0C, 0x20, 0x10, 0x22, 0x14, 2, 4];
@@ -828,6 +967,8 @@ fn while_a_repair_runs_reads_and_losses_go_on() {
     assert_eq!(record.start(&area[1..], &[9], &[], &[]), Err(Refusal::Area));
     assert_eq!(record.step(&mut area, &mut packets[1..], 1), Err(Refusal::Area));
     assert_eq!(record.step(&mut area[1..], &mut packets, 1), Err(Refusal::Area));
+    assert_eq!(record.move_board(&mut area, 2, 9, &[0, 1, 3], &[4]), Err(Refusal::Busy));
+    assert_eq!(record.move_board(&mut area, 9, 1, &[], &[]), Err(Refusal::Busy));
     assert_eq!(record.lose(5), Err(Refusal::Node));
     // a careful read, of boards that are in service: only three of five are
     assert_eq!(record.read_careful(&area, &[2, 3, 4, 0], &mut [0; 12]), Err(Refusal::Down));

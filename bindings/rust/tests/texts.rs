@@ -1,7 +1,7 @@
 //! Texts read and gathered (request A.1), and how far they make sense (request A.14), on figures of document 01, at present points and at those of the
 //! first series.
 
-use zebrankai::{board, Points, Refusal, Sizes};
+use zebrankai::{board, Points, Record, Refusal, Sizes};
 
 /// n = 5, k = 2, d = 3, r = 2: shares of 7 bytes, stripes of 12.
 const FIVE: Sizes = Sizes { n: 5, k: 2, d: 3, r: 2 };
@@ -35,6 +35,40 @@ fn a_text_gives_what_was_written_to_it() {
             // half as many bytes as the text has are enough
             assert!(board::read_text(&text, &mut vec![0; text.len() / 2]).is_ok());
         }
+    }
+}
+
+#[test]
+fn texts_follow_the_points_of_a_record() {
+    let mut area = vec![0xEE; FIVE.area_len(3)];
+    let mut record = Record::set_up(FIVE, Points::first_series(5), 3).unwrap();
+    record.write(&mut area, &file()).unwrap();
+    // of a board in the store, as it is
+    let printed = |record: &Record, area: &[u8], node: usize| {
+        let mut text = vec![0; FIVE.text_room(30)];
+        let share = &area[21 * node..][..21];
+        let written = board::share_text(FIVE, record.points(), 30, node, share, &mut text).unwrap();
+        text.truncate(written);
+        text
+    };
+    let mut out = vec![0; 30];
+    let before: Vec<Vec<u8>> = (0..5).map(|node| printed(&record, &area, node)).collect();
+    for board in 0..5 {
+        let others: Vec<usize> = (1..5).map(|t| (board + t) % 5).collect();
+        record.move_board(&mut area, board, board as u8, &others[..3], &others[3..]).unwrap();
+        let two = [printed(&record, &area, board), printed(&record, &area, others[1])];
+        assert_eq!((board::gather(&two.concat(), &mut out), &out), (Ok(30), &file()));
+        // with a text from before it does not go together, and those from before still do
+        let mixed = [&two[0][..], &before[others[1]]].concat();
+        assert_eq!(board::gather(&mixed, &mut out), Err(Refusal::Mixed));
+        let old = [&before[board][..], &before[others[1]]].concat();
+        assert_eq!((board::gather(&old, &mut out), &out), (Ok(30), &file()));
+    }
+    for (node, before) in before.iter().enumerate() {
+        let now = printed(&record, &area, node);
+        assert_eq!(now, text(FIVE, Points::standard(5), node, &file()));
+        let has_points = |text: &[u8]| text.windows(7).any(|part| part == b"points=");
+        assert_eq!((has_points(before), has_points(&now)), (true, false));
     }
 }
 

@@ -15,6 +15,7 @@ use Rattle.sizes.specs.Sizing.{legal, B, stripes}
 use Rattle.mbcr.specs.Share.{pointed, stripe, grid, F, neighbours, symbols, kept, share, shares}
 use Rattle.mbcr.specs.Rebuild.{seconds, standInPacket, received, exchanged, ownF, ownG, helperPair, helperPacket, gFrom, exchangePacket, fFrom, finishedStripe, finishedShare}
 use Rattle.mbcr.specs.Read.{through, bColumn, cRow, aColumn, decodedStripe, decodedFile, readFile}
+use Rattle.mbcr.specs.Afresh.{keptAfresh, shareAfresh}
 use Rattle.store_spec.specs.Record.{sound}
 use Rattle.store_spec.specs.Packets.{helperPackets, standInPackets, exchangePackets, partnerPackets, repairPackets, freshShare}
 use Rattle.store_spec.specs.Lying.{helpersLying, partnersLying, exchangesMade, shareLying, packetsNow}
@@ -22,8 +23,9 @@ use Rattle.store_spec.specs.Calls.{writeLines, loseLines, listLines, repairLine
 use Rattle.store_spec.specs.Careful.{carefulFile, carefulLines}
 use Rattle.store_spec.specs.Running.{Running, soundBeside}
 use Rattle.store_spec.specs.Both.{writeLinesBoth, loseLinesBoth, repairLinesBoth, readLinesBoth, carefulLinesBoth, stepLines}
-use Rattle.store_spec.specs.Both.{setUpBoth, writeBoth, loseBoth, repairBoth, readBoth, carefulBoth, startCall, stepCall}
+use Rattle.store_spec.specs.Both.{setUpBoth, writeBoth, loseBoth, repairBoth, readBoth, carefulBoth, startCall, stepCall, moveLinesBoth, moveBoth}
 use Rattle.store_spec.specs.MarkLaws.{Arrays}
+use Rattle.store_spec.specs.Move.{afresh, afreshArea, movePackets, movedShare, moveLines}
 use Rattle.store_spec.specs.Ledger.{Book, Event, call, powerFails, Step, act, openBook, repairAsked, bookLines, accept, enter, bookNext}
 use Rattle.store_spec.proofs.Tested.{agrees, agree, fairlyEvent, fair-event}
 use Rattle.text_spec.specs.Texts.{admitted, somePoints, textAt, readText}
@@ -99,8 +101,8 @@ unfolding piece put pointed seconds add product reduce mul squares inverse legal
     exchanged ownF ownG helperPair helperPacket standInPacket gFrom exchangePacket fFrom finishedStripe finishedShare through bColumn cRow aColumn
     decodedStripe decodedFile readFile sound helperPackets standInPackets exchangePackets partnerPackets repairPackets freshShare writeLines loseLines listLines repairLines
     readLines helpersLying partnersLying exchangesMade shareLying packetsNow soundBeside writeLinesBoth loseLinesBoth repairLinesBoth readLinesBoth stepLines setUpBoth
-    carefulFile carefulLines carefulLinesBoth carefulBoth writeBoth loseBoth repairBoth readBoth startCall stepCall isRecord isRepair zbkSetUp act repairAsked bookLines accept enter
-    admitted somePoints textAt readText readTextLines readTextCall zbkReadText
+    carefulFile carefulLines carefulLinesBoth carefulBoth keptAfresh shareAfresh afresh afreshArea movePackets movedShare moveLines moveLinesBoth moveBoth writeBoth loseBoth
+    repairBoth readBoth startCall stepCall isRecord isRepair zbkSetUp act repairAsked bookLines accept enter admitted somePoints textAt readText readTextLines readTextCall zbkReadText
 archive-figures = record {
   read-text = refl;
   read-text-refused = refl;
@@ -114,6 +116,8 @@ archive-figures = record {
   no-repairs = refl;
   disagrees = refl;
   careful-reads = refl;
+  moves = refl;
+  moves-refused = refl;
   calls-say = refl;
   ledger-says = refl;
   allowed = allow (firstHeld any beside four points 1 blank steps) (openBook four points 1 12) steps refl;

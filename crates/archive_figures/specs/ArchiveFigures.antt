@@ -10,7 +10,7 @@ use Prim.Native.Nat.{ℕ}
 use lib.ListN.{take, set, replicate}
 use Rattle.sizes.specs.declared.Sizes.{Sizes}
 use Rattle.store_spec.specs.Running.{Running}
-use Rattle.store_spec.specs.Ledger.{Call, write, lose, repair, read, start, step, careful, call, powerFails, Step, openBook, bookReplies}
+use Rattle.store_spec.specs.Ledger.{Call, write, lose, repair, read, start, step, careful, move, call, powerFails, Step, openBook, bookReplies}
 use Rattle.store_spec.specs.Demand3.{events}
 use Rattle.archive_spec.specs.Archive.{sizesOf}
 use Rattle.archive_spec.specs.Lent.{Lent, zbkSetUp, zbk}
@@ -232,6 +232,23 @@ pub record ArchiveFigures : Type 0 where
       ∷ after 768 15 gives (set area 7 0x00) (1 ∷ 2 ∷ 3 ∷ 0x55 ∷ []) []
       ∷ after 10 15 gives (set (set area 7 0x00) 0 0x00) (replicate 4 0x55) []
       ∷ []
+  -- board 2 moves from 80 to 07, helper 0, partner 3: 3 bytes, which is 3 × 256, its new point among the words, and one byte afresh on each board that keeps a value
+  -- at it; then its own point, another board's, a board out of service, and a repair that runs: REPEAT, REPEAT, DOWN, BUSY
+  pub moves : zbk (words4 15) gives area (move 2 0x07 (0 ∷ []) (3 ∷ []))
+      ≡ record {
+        answer = 768;
+        words = 4 ∷ 1 ∷ 1 ∷ 2 ∷ 1 ∷ 1 ∷ 3 ∷ 15 ∷ 0x1D070005 ∷ 0 ∷ 0 ∷ 0 ∷ [];
+        repair = gives;
+        area = 0x38 ∷ 0x01 ∷ 0x30 ∷ 0x01 ∷ 0x30 ∷ 0xEF ∷ 0x30 ∷ 0xEF ∷ 0x38 ∷ 0xEF ∷ 0x38 ∷ 0x01 ∷ [];
+        output = [];
+        packets = [];
+      }
+  pub moves-refused : zbk (words4 15) gives area (move 2 0x80 (0 ∷ []) (3 ∷ []))
+      ∷ zbk (words4 15) gives area (move 2 0x1D (0 ∷ []) (3 ∷ []))
+      ∷ zbk (words4 13) gives area (move 2 0x07 (0 ∷ []) (3 ∷ []))
+      ∷ zbk (words4 12) (runs 1) area (move 2 0x07 (0 ∷ []) (3 ∷ []))
+      ∷ []
+      ≡ after 6 15 gives area [] [] ∷ after 6 15 gives area [] [] ∷ after 9 13 gives area [] [] ∷ after 16 12 (runs 1) area [] [] ∷ []
   -- what is compared: the calls' words and outputs, and the ledger's
   pub calls-say : map told (lents (firstHeld any beside four points 1 blank steps) steps) ≡ answers
   pub ledger-says : map inWord (bookReplies (openBook four points 1 12) (events steps)) ≡ answers

@@ -25,7 +25,7 @@ use Rattle.store_spec.specs.Running.{Running, idle, freshOf, packetCount}
 use Rattle.store_spec.specs.Calls.{accepted, recordLine}
 use Rattle.store_spec.specs.Both.{Outcome, beside, leftOf, stepLast, stepOn, stepDone, setUpBoth}
 use Rattle.store_spec.specs.BothCalls.{storeLines, storeDone}
-use Rattle.store_spec.specs.Ledger.{Call, write, lose, repair, read, edit, start, step, careful, act, outputOf, packetsOfCall}
+use Rattle.store_spec.specs.Ledger.{Call, write, lose, repair, read, edit, start, step, careful, move, act, outputOf, packetsOfCall}
 use Rattle.store_spec.proofs.BothCalls.{both-calls}
 use Rattle.text_spec.specs.Texts.{ShareTold, textOf, readText}
 use Rattle.text_spec.specs.Laws.{Writable}
@@ -245,6 +245,8 @@ archive-demand-1 = record {
   edit-none = λ ws ps area offset bytes boards. none ws ps area (edit offset bytes boards);
   start-none = λ ws ps area fresh helpers standIns. none ws ps area (start fresh helpers standIns);
   step-none = λ ws ps area allowance packets. none ws ps area (step allowance packets);
+  move-ends = λ ws ps area board point helpers partners h k. lent-ends ws ps area (move board point helpers partners) _ h k refl;
+  move-none = λ ws ps area board point helpers partners. none ws ps area (move board point helpers partners);
   careful-none = λ ws ps area boards output. none ws ps area (careful boards output);
   read-exact = read-exact;
   careful-exact = careful-exact;

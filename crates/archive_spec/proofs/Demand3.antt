@@ -1,6 +1,6 @@
 -- Demand 3 of the archive: a list of its calls is a list of the definitions' calls, with both records in words.
 -- Assumes nothing.
-use Prim.Native.Nat.{ℕ, _+_, _*_, _%_, _≤_}
+use Prim.Native.Nat.{ℕ, _+_, _*_, _%_, _≤_, _<_}
 use mathlib.Core.Path.{_≡_, refl, sym, ap, ap₂, subst, _∙_}
 use mathlib.Core.Bool.{Bool, true, false}
 use mathlib.Core.List.{List, [], _∷_, _++_, map}
@@ -32,7 +32,7 @@ use Rattle.store_spec.specs.Running.{Running, idle}
 use Rattle.store_spec.specs.Both.{Outcome, repairLinesBoth, setUpBoth, repairBoth, stepCall}
 use Rattle.store_spec.specs.BothCalls.{storeLines, storeDone}
 use Rattle.store_spec.specs.MarkLaws.{Arrays}
-use Rattle.store_spec.specs.Ledger.{Call, write, lose, repair, read, edit, start, step, careful, Event, call, powerFails, Book, State, Step}
+use Rattle.store_spec.specs.Ledger.{Call, write, lose, repair, read, edit, start, step, careful, move, Event, call, powerFails, Book, State, Step}
 use Rattle.store_spec.specs.Ledger.{Altered, FairEvent, Allowed, packetsAfter, act, lent, next, replies, final, outputOf, packetsOfCall, openBook, bookNext}
 use Rattle.store_spec.specs.Ledger.{told as toldBy}
 use Rattle.store_spec.specs.Demand3.{Intact, Demand3, WholeStep, begun, events}
@@ -106,28 +106,31 @@ left-same before w (start fresh helpers standIns) = refl
 left-same before w (step allowance packets) =
     ap (λ (n : ℕ). pick (eqb n 0) (act w (step allowance packets) .packets) before) (answer-word w (step allowance packets))
 left-same before w (careful boards output) = refl
+left-same before w (move board point helpers partners) = refl
 
-still-whole : (w : State) (c : Call) → Whole (w .kept) → Whole (act w c .handed)
-still-whole w c f =
-    let e = mark-laws .points-stay w c in
-    record {
-      marks = mark-laws .full-marks w c (f .marks);
-      points = ap length e ∙ f .points;
-      points-bytes = subst Bytes (sym e) (f .points-bytes);
-    }
+-- a new point is a byte
+abbrev pub BytePoint : Event → Type 0
+BytePoint e = (board point : ℕ) (helpers partners : List ℕ) → e ≡ call (move board point helpers partners) → point < 256
 
-following : (h : Held) (w : State) → Tells h w → (t : Step) (e : Event) → GivenWords e → Tells (heldNext h (t .area) e) (next (lent w t) e)
-following h w k t (call c) g =
+pub still-whole : (w : State) (c : Call) → BytePoint (call c) → Whole (w .kept) → Whole (act w c .handed)
+still-whole w c b f = record {
+  marks = mark-laws .full-marks w c (f .marks);
+  points = mark-laws .full-points w c ∙ f .points;
+  points-bytes = mark-laws .byte-points w c (λ board point helpers partners e. b board point helpers partners (ap call e)) (f .points-bytes);
+}
+
+following : (h : Held) (w : State) → Tells h w → (t : Step) (e : Event) → BytePoint e → GivenWords e → Tells (heldNext h (t .area) e) (next (lent w t) e)
+following h w k t (call c) b g =
     let o = one h w k t c in
     record {
       words-are = ap (λ (x : Lent). x .words) o;
       repair-are = ap (λ (x : Lent). x .repair) o;
       area-is = ap (λ (x : Lent). x .area) o;
       packets-are = ap₂ (λ (l : List ℕ) (x : Lent). packetsLeft l c x) (k .packets-are) o ∙ left-same (w .packets) (lent w t) c;
-      whole = still-whole (lent w t) c (k .whole);
+      whole = still-whole (lent w t) c b (k .whole);
       arrays = mark-laws .arrays-stay (lent w t) c (k .arrays);
     }
-following h w k t (powerFails p) g = record { words-are = k .words-are; repair-are = refl; area-is = refl; packets-are = refl; whole = k .whole; arrays = g }
+following h w k t (powerFails p) b g = record { words-are = k .words-are; repair-are = refl; area-is = refl; packets-are = refl; whole = k .whole; arrays = g }
 
 -- ---- lists
 
@@ -142,48 +145,53 @@ state-is h w k =
     ap₂ {C = State} (λ (s : Record) (q : Running). record { kept = s; running = q; area = h .area; packets = h .packets }) (back h w k) (repair-back h w k)
     ∙ ap₂ {C = State} (λ (x y : List ℕ). record { kept = w .kept; running = w .running; area = x; packets = y }) (k .area-is) (k .packets-are)
 
+-- what is fair is of bytes, and so is a new point
+fair-of : (b : Book) (old : List ℕ) (e : Event) → FairEvent b old e → OfBytes e
+fair-of b old (call c) f = premises .fair-bytes b old c f
+fair-of b old (powerFails p) f = f
+
+pub byte-point : (e : Event) → OfBytes e → BytePoint e
+byte-point e f board point helpers partners q = subst OfBytes q f .0 .0
+
+-- of each event: what it has is of bytes, and a record given is one that words can tell
+abbrev pub Fit : Event → Type 0
+Fit e = OfBytes e × GivenWords e
+
 allowed : (steps : List Step) (h : Held) (w : State) (b : Book) → Tells h w → AllowedLents h b steps → Allowed w b steps
 allowed [] h w b k a = tt
 allowed (t ∷ ts) h w b k a = (
   subst (λ (l : List ℕ). Altered b (w .kept) l (t .area)) (k .area-is) (subst (λ (s : Record). Altered b s (h .area) (t .area)) (back h w k) (a .0)),
   subst (λ (l : List ℕ). FairEvent b l (t .event)) (k .packets-are) (a .1),
-  allowed ts (heldNext h (t .area) (t .event)) (next (lent w t) (t .event)) (bookNext b (t .event)) (following h w k t (t .event) (a .2)) (a .3),
+  allowed ts (heldNext h (t .area) (t .event)) (next (lent w t) (t .event)) (bookNext b (t .event))
+      (following h w k t (t .event) (byte-point (t .event) (fair-of b (h .packets) (t .event) (a .1))) (a .2)) (a .3),
 )
 
 told-same : (h : Held) (w : State) → Tells h w → (t : Step) (e : Event) → map told (lentAt h (t .area) e) ≡ map inWord (toldBy (lent w t) e)
 told-same h w k t (call c) = ap (λ (o : Lent). told o ∷ []) (one h w k t c)
 told-same h w k t (powerFails p) = refl
 
--- of each event: what it has is of bytes, and a record given is one that words can tell
-abbrev pub Fit : Event → Type 0
-Fit e = OfBytes e × GivenWords e
-
 allowed-fit : (steps : List Step) (h : Held) (b : Book) → AllowedLents h b steps → All Fit (events steps)
 allowed-fit [] h b a = tt
-allowed-fit (t ∷ ts) h b a = ((fair-of (t .event) (a .1), a .2), allowed-fit ts (heldNext h (t .area) (t .event)) (bookNext b (t .event)) (a .3))
-  where
-    fair-of : (e : Event) → FairEvent b (h .packets) e → OfBytes e
-    fair-of (call c) f = premises .fair-bytes b (h .packets) c f
-    fair-of (powerFails p) f = f
+allowed-fit (t ∷ ts) h b a = ((fair-of b (h .packets) (t .event) (a .1), a .2), allowed-fit ts (heldNext h (t .area) (t .event)) (bookNext b (t .event)) (a .3))
 
 answers : (steps : List Step) (h : Held) (w : State) → Tells h w → All Fit (events steps) → map told (lents h steps) ≡ map inWord (replies w steps)
 answers [] h w k a = refl
 answers (t ∷ ts) h w k a =
     map-append told (lentAt h (t .area) (t .event)) (lents (heldNext h (t .area) (t .event)) ts)
     ∙ ap₂ {C = List Told} (λ (x y : List Told). x ++ y) (told-same h w k t (t .event))
-    (answers ts (heldNext h (t .area) (t .event)) (next (lent w t) (t .event)) (following h w k t (t .event) (a .0 .1)) (a .1))
+    (answers ts (heldNext h (t .area) (t .event)) (next (lent w t) (t .event)) (following h w k t (t .event) (byte-point (t .event) (a .0 .0)) (a .0 .1)) (a .1))
     ∙ sym (map-append inWord (toldBy (lent w t) (t .event)) (replies (next (lent w t) (t .event)) ts))
 
 pub ends : (steps : List Step) (h : Held) (w : State) → Tells h w → All Fit (events steps) → Tells (lastHeld h steps) (final w steps)
 ends [] h w k a = k
-ends (t ∷ ts) h w k a = ends ts (heldNext h (t .area) (t .event)) (next (lent w t) (t .event)) (following h w k t (t .event) (a .0 .1)) (a .1)
+ends (t ∷ ts) h w k a = ends ts (heldNext h (t .area) (t .event)) (next (lent w t) (t .event)) (following h w k t (t .event) (byte-point (t .event) (a .0 .0)) (a .0 .1)) (a .1)
 
 -- from any words that tell both records, whatever is altered
-goes-as : (steps : List Step) (h : Held) (w : State) → Tells h w → All (λ t. GivenWords (t .event)) steps
+goes-as : (steps : List Step) (h : Held) (w : State) → Tells h w → All (λ t. GivenWords (t .event)) steps → All (λ t. BytePoint (t .event)) steps
     → Tells (lastHeld h steps) (final w steps) × (map told (lents h steps) ≡ map inWord (replies w steps))
-goes-as [] h w k g = (k, refl)
-goes-as (t ∷ ts) h w k g =
-    let r = goes-as ts (heldNext h (t .area) (t .event)) (next (lent w t) (t .event)) (following h w k t (t .event) (g .0)) (g .1) in (
+goes-as [] h w k g b = (k, refl)
+goes-as (t ∷ ts) h w k g b =
+    let r = goes-as ts (heldNext h (t .area) (t .event)) (next (lent w t) (t .event)) (following h w k t (t .event) (b .0) (g .0)) (g .1) (b .1) in (
       r .0,
       map-append told (lentAt h (t .area) (t .event)) (lents (heldNext h (t .area) (t .event)) ts)
           ∙ ap₂ {C = List Told} (λ (x y : List Told). x ++ y) (told-same h w k t (t .event)) (r .1)
@@ -191,9 +199,10 @@ goes-as (t ∷ ts) h w k g =
     )
 
 pub final-is : (h : Held) (steps : List Step) → isRecord (h .words) ≡ true → isRepair (h .repair) ≡ true → All (λ t. GivenWords (t .event)) steps
+    → All (λ t. BytePoint (t .event)) steps
     → (isRecord (lastHeld h steps .words) ≡ true) × (isRepair (lastHeld h steps .repair) ≡ true) × (heldState (lastHeld h steps) ≡ final (heldState h) steps)
     × (map told (lents h steps) ≡ map inWord (replies (heldState h) steps))
-final-is h steps a b g =
+final-is h steps a b g bytes =
     let k : Tells h (heldState h) = record {
       words-are = sym (word-laws .words-back (h .words) a);
       repair-are = sym (repair-words .words-back (h .repair) b);
@@ -202,7 +211,7 @@ final-is h steps a b g =
       whole = word-laws .is-whole (h .words) a;
       arrays = repair-words .is-arrays (h .repair) b;
     } in
-    let r = goes-as steps h (heldState h) k g in
+    let r = goes-as steps h (heldState h) k g bytes in
     let w = final (heldState h) steps in (
       ap isRecord (r .0 .words-are) ∙ word-laws .are-words (w .kept) (r .0 .whole),
       ap isRepair (r .0 .repair-are) ∙ repair-words .are-words (w .running) (r .0 .arrays),
@@ -372,13 +381,13 @@ archive-demand-3 = runs
 -- ---- repairs
 
 -- a word that is a multiple of 256 is of an accepted call
-small : (w : State) (c : Call) (v : ℕ) → wordOf (act w c .answer) ≡ 256 * v → act w c .answer .refusal ≡ 0
+pub small : (w : State) (c : Call) (v : ℕ) → wordOf (act w c .answer) ≡ 256 * v → act w c .answer .refusal ≡ 0
 small w c v h = sym (answer-word w c) ∙ ap (λ (n : ℕ). n % 256) h ∙ none v
   where
     none : (v : ℕ) → (256 * v) % 256 ≡ 0
     none v = omega (arith, mod-lt (256 * v) {m = 256} (omega arith))
 
-none-refused : (v : ℕ) → 0 + 256 * v ≡ 256 * v
+pub none-refused : (v : ℕ) → 0 + 256 * v ≡ 256 * v
 none-refused v = omega arith
 
 -- with none running
@@ -447,6 +456,7 @@ given-again w b (call (edit offset bytes boards)) g = tt
 given-again w b (call (start fresh helpers standIns)) g = tt
 given-again w b (call (step allowance packets)) g = tt
 given-again w b (call (careful boards output)) g = tt
+given-again w b (call (move board point helpers partners)) g = tt
 given-again w b (powerFails p) g = g
 
 all-allowed : (h : Held) (b : Book) (es : List Event) → All Bytes (files es) → IdleGiven es → All GivenWords es → AllowedLents h b (unalteredLents h b es)

@@ -26,7 +26,7 @@ use Rattle.store_spec.specs.Record.{Record, newRecord}
 use Rattle.store_spec.specs.Running.{Running, idle, namedIn}
 use Rattle.store_spec.specs.Both.{Outcome, setUpBoth}
 use Rattle.store_spec.specs.BothCalls.{storeLines, storeDone}
-use Rattle.store_spec.specs.Ledger.{Call, write, lose, repair, read, edit, start, careful, State, act, outputOf, packetsOfCall}
+use Rattle.store_spec.specs.Ledger.{Call, write, lose, repair, read, edit, start, careful, move, State, act, outputOf, packetsOfCall}
 use Rattle.store_spec.proofs.BothCalls.{by, act-is}
 use Rattle.store_spec.proofs.Follows.{act-any}
 use Rattle.store_spec.proofs.MarkLaws.{mark-laws}
@@ -232,6 +232,7 @@ archive-laws = record {
   start-leaves = start-leaves;
   careful-beside = λ ws ps area boards output. beside-stays ws ps area (careful boards output) refl;
   careful-leaves = careful-leaves;
+  move-beside = λ ws ps area board point helpers partners. beside-stays ws ps area (move board point helpers partners) refl;
   share-leaves = share-leaves;
   file-leaves = file-leaves;
   helper-leaves = helper-leaves;

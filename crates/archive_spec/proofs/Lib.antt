@@ -9,4 +9,5 @@ pub mod Exact
 pub mod Demand1
 pub mod Demand3
 pub mod Worn
+pub mod Moved
 pub mod ListLaws

@@ -10,7 +10,7 @@ use borrow.Author.Tests.{eq-eqb, ne-eqb}
 use Rattle.lists.specs.Tests.{pick}
 use Rattle.store_spec.specs.Running.{Running}
 use Rattle.store_spec.specs.MarkLaws.{Arrays}
-use Rattle.store_spec.specs.Ledger.{Call, write, lose, repair, read, edit, start, step, careful, Event, call, powerFails, Book, Step, bookNext}
+use Rattle.store_spec.specs.Ledger.{Call, write, lose, repair, read, edit, start, step, careful, move, Event, call, powerFails, Book, Step, bookNext}
 use Rattle.store_spec.specs.Premises.{Asked}
 use Rattle.store_spec.proofs.Premises.{asked-is, fair-is, premises}
 use Rattle.record_words.specs.Words.{recordFrom}
@@ -49,6 +49,7 @@ refused-leave h area (step allowance packets) e =
     let o = zbk (h .words) (h .repair) area (step allowance packets) in
     ap (λ (t : Bool). pick t (o .packets) (h .packets)) (ne-eqb (o .answer % 256) 0 e)
 refused-leave h area (careful boards output) e = refl
+refused-leave h area (move board point helpers partners) e = refl
 
 others-leave : (h : Held) (area : List ℕ) (c : Call) → ((allowance : ℕ) (packets : List ℕ) → c ≢ step allowance packets) → heldNext h area (call c) .packets ≡ h .packets
 others-leave h area (write file) e = refl
@@ -59,6 +60,7 @@ others-leave h area (edit offset bytes boards) e = refl
 others-leave h area (start fresh helpers standIns) e = refl
 others-leave h area (step allowance packets) e = absurd (e allowance packets refl)
 others-leave h area (careful boards output) e = refl
+others-leave h area (move board point helpers partners) e = refl
 
 -- ---- one event more
 

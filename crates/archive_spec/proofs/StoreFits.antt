@@ -1,4 +1,4 @@
--- What the store's calls report is small: a repair the bytes moved, a step at most t(d + r − 1) packets, a careful read at most n, every other call 0.
+-- What the store's calls report is small: a repair and a move the bytes moved, a step at most t(d + r − 1) packets, a careful read at most n, every other call 0.
 -- Assumes nothing.
 use Prim.Native.Nat.{ℕ, suc, _+_, _*_, _-_, _≤_, _<_}
 use mathlib.Core.Path.{_≡_, refl, sym, subst}
@@ -26,16 +26,18 @@ use Rattle.store_spec.specs.Record.{Record, newRecord, sound, stripeCount}
 use Rattle.store_spec.specs.Running.{Running, freshOf, helpersOf, standInsOf, packetCount, soundBeside}
 use Rattle.store_spec.specs.Packets.{standInsEach, total, repairPackets}
 use Rattle.store_spec.specs.Calls.{recordLine, listLines, repairLines}
-use Rattle.store_spec.specs.Both.{Outcome, repairLinesBoth, carefulLinesBoth, stepLines, leftOf, stepLast, stepOn, setUpBoth}
+use Rattle.store_spec.specs.Both.{Outcome, repairLinesBoth, carefulLinesBoth, stepLines, leftOf, stepLast, stepOn, setUpBoth, moveLinesBoth}
 use Rattle.store_spec.specs.Careful.{odd, oddReport, carefulFile, carefulLines}
 use Rattle.store_spec.specs.BothCalls.{storeLines, storeDone}
-use Rattle.store_spec.specs.Ledger.{Call, write, lose, repair, read, edit, start, step, careful, State, act, outputOf, packetsOfCall}
+use Rattle.store_spec.specs.Ledger.{Call, write, lose, repair, read, edit, start, step, careful, move, State, act, outputOf, packetsOfCall}
+use Rattle.store_spec.specs.Move.{movePackets, moveLines}
 use Rattle.store_spec.proofs.BothCalls.{by, act-is}
 use Rattle.store_spec.proofs.Beside.{alone, alone-busy, sound-beside}
 use Rattle.store_spec.proofs.Careful.{odd-named}
-use Rattle.store_spec.proofs.Records.{sound-facts, repair-facts, careful-facts}
+use Rattle.store_spec.proofs.Records.{sound-facts, repair-facts, careful-facts, move-facts}
 use Rattle.store_spec.proofs.Real.{code-lengths}
 use Rattle.store_spec.proofs.Repair.{moved-is}
+use Rattle.store_spec.proofs.Move.{total-is}
 use Rattle.archive_spec.proofs.Bounds.{Fits}
 
 -- a refusal reports nothing, so only what a call does counts
@@ -43,6 +45,10 @@ settled-few : (s : Record) (p : Running) (area output packets : List ℕ) (done 
     → Fits (by s p area output packets done t .answer .reported)
 settled-few s p area output packets done Pass h = h refl
 settled-few s p area output packets done (Refuse x) h = omega arith
+
+-- the stripes of a sound record are few
+few-stripes : (s : Record) → s .capacity ≤ 4096 → stripeCount s ≤ s .capacity → stripeCount s ≤ 4096
+few-stripes s h k = omega arith
 
 -- the bytes that a repair moves
 few-moved : (s : Record) (area fresh helpers standIns : List ℕ) → first storeOrder (repairLines s (length area) fresh helpers standIns) ≡ Pass
@@ -58,9 +64,6 @@ few-moved s area fresh helpers standIns pass =
     let b : stripeCount s * t ≤ 131072 = omega (arith, a, f .few-fresh, l .enough, l .few) in
     let c : stripeCount s * t * (2 * s .sizes .d + s .sizes .r - 1) ≤ 131072 * 62 = mul-le-mul b (α-most (s .sizes) l) in
     omega (arith, e, c)
-  where
-    few-stripes : (s : Record) → s .capacity ≤ 4096 → stripeCount s ≤ s .capacity → stripeCount s ≤ 4096
-    few-stripes s h k = omega arith
 
 repair-few : (s : Record) (p : Running) (area fresh helpers standIns : List ℕ) → first storeOrder (repairLinesBoth s p (length area) fresh helpers standIns) ≡ Pass
     → Fits (total (repairPackets s area fresh helpers standIns))
@@ -113,6 +116,19 @@ careful-few s p area boards output h =
     go (inl e) m a = omega (arith, e)
     go (inr q) m a = omega (arith, m, q .1, all-among (λ i. i < s .sizes .n) boards (q .0) a (q .2))
 
+-- the bytes that a move reports: those of a repair of one board
+move-few : (s : Record) (p : Running) (area : List ℕ) (board point : ℕ) (helpers partners : List ℕ)
+    → first storeOrder (moveLinesBoth s p (length area) board point helpers partners) ≡ Pass → Fits (total (movePackets s area board point helpers partners))
+unfolding moveLinesBoth moveLines
+move-few s p area board point helpers partners h =
+    let f = move-facts s (length area) board point helpers partners
+    (alone-busy s p (p .running) (drop 1 (moveLines s (length area) board point helpers partners)) refl h .0) in
+    let g = sound-facts s (f .is-sound) in
+    let l = legal-facts (s .sizes) (g .is-legal) in
+    let few : stripeCount s ≤ 4096 = few-stripes s (g .cap-high) (stripes-least (s .sizes) l (s .length) (s .capacity) (g .fits)) in
+    let c : stripeCount s * (2 * s .sizes .d + s .sizes .r - 1) ≤ 4096 * 62 = mul-le-mul few (α-most (s .sizes) l) in
+    omega (arith, total-is s area board point helpers partners f, c)
+
 done-few : (s : Record) (p : Running) (area : List ℕ) (c : Call) → first storeOrder (storeLines s p area c) ≡ Pass → Fits (storeDone s p area c .answer .reported)
 unfolding storeLines storeDone
 done-few s p area (write file) h = omega arith
@@ -124,6 +140,7 @@ done-few s p area (start fresh helpers standIns) h = omega arith
 done-few s p area (step allowance packets) h =
     few-carried s p area packets allowance (most-packets s p (length area) (length packets) h) (leb (leftOf s p area packets) allowance) refl
 done-few s p area (careful boards output) h = careful-few s p area boards output h
+done-few s p area (move board point helpers partners) h = move-few s p area board point helpers partners h
 
 pub store-fits : (w : State) (c : Call) → Fits (act w c .answer .reported)
 store-fits w c =

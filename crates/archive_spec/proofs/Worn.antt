@@ -36,7 +36,7 @@ same-book [] b = (refl, refl)
 same-book (call c ∷ es) b =
     let s = ledger-laws .stay b c in
     let r = same-book es (bookNext b (call c)) in
-    (r .0 ∙ s .0, r .1 ∙ s .3)
+    (r .0 ∙ s .0, r .1 ∙ s .2)
 same-book (powerFails p ∷ es) b = same-book es (bookNext b (powerFails p))
 
 module _ (ws ps : List ℕ) (z : Sizes) (xs : List ℕ) (c : ℕ) (area : List ℕ) (steps : List Step) (e : zbkSetUp ws ps z xs c .answer ≡ 0)

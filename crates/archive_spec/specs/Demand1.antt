@@ -1,4 +1,4 @@
--- Demand 1 of the archive, and the reader's exactness, for every words, area, list and text: what each of the eighteen calls answers, and every word and
+-- Demand 1 of the archive, and the reader's exactness, for every words, area, list and text: what each of the nineteen calls answers, and every word and
 -- byte that it was lent, are those of the definitions of document 01, over the records that the words tell; where they do not tell both it is SIZE, and
 -- nothing changes. proofs/Demand1.antt has `archive-demand-1 : ArchiveCalls`.
 -- Assumes nothing.
@@ -29,8 +29,9 @@ use Rattle.store_spec.specs.Edit.{editDone}
 use Rattle.store_spec.specs.Careful.{agreeing, odd, carefulFile, oddReport, carefulDone}
 use Rattle.store_spec.specs.CarefulLaws.{OddTold}
 use Rattle.store_spec.specs.Running.{idle, runningBy, freshOf, packetCount}
-use Rattle.store_spec.specs.Both.{Outcome, beside, lostBeside, writeLinesBoth, loseLinesBoth, repairLinesBoth, readLinesBoth, editLinesBoth, carefulLinesBoth, stepLines, stepDone}
-use Rattle.store_spec.specs.Ledger.{write, lose, repair, read, edit, start, step, careful}
+use Rattle.store_spec.specs.Both.{Outcome, beside, lostBeside, writeLinesBoth, loseLinesBoth, repairLinesBoth, readLinesBoth, editLinesBoth, carefulLinesBoth, stepLines, stepDone, moveLinesBoth}
+use Rattle.store_spec.specs.Ledger.{write, lose, repair, read, edit, start, step, careful, move}
+use Rattle.store_spec.specs.Move.{movePackets, moveDone}
 use Rattle.text_spec.specs.Texts.{ShareTold, textOf, readText, textsOf}
 use Rattle.text_spec.specs.Laws.{Writable}
 use Rattle.text_spec.specs.Calls.{toldOf, readTextLines, textsTold, gathered, gatherLines, gatherCall}
@@ -125,6 +126,11 @@ pub record ArchiveCalls : Type 0 where
       → LentEnds (carefulLinesBoth (recordFrom ws) (repairFrom ps) area boards output) ws ps area output []
       (oddReport (odd (recordFrom ws) area (fileOf (carefulFile (recordFrom ws) area boards)) boards))
       (beside (repairFrom ps) (carefulDone (recordFrom ws) area boards output)) (zbk ws ps area (careful boards output))
+  -- request A.10: a move reports the summed length of its packets
+  pub move-ends : (ws ps area : List ℕ) (board point : ℕ) (helpers partners : List ℕ) → isRecord ws ≡ true → isRepair ps ≡ true
+      → LentEnds (moveLinesBoth (recordFrom ws) (repairFrom ps) (length area) board point helpers partners) ws ps area [] []
+      (total (movePackets (recordFrom ws) area board point helpers partners))
+      (beside (repairFrom ps) (moveDone (recordFrom ws) area board point helpers partners)) (zbk ws ps area (move board point helpers partners))
   -- ---- and on words that do not tell both
   pub set-up-none : (ws ps : List ℕ) (z : Sizes) (xs : List ℕ) (c : ℕ) → (length ws ≢ 12) ⊎ (length ps ≢ 71)
       → Unchanged (zbkSetUp ws ps z xs c) ws ps [] [] []
@@ -140,6 +146,8 @@ pub record ArchiveCalls : Type 0 where
   pub step-none : (ws ps area : List ℕ) (allowance : ℕ) (packets : List ℕ) → Neither ws ps
       → Unchanged (zbk ws ps area (step allowance packets)) ws ps area [] packets
   pub careful-none : (ws ps area boards output : List ℕ) → Neither ws ps → Unchanged (zbk ws ps area (careful boards output)) ws ps area output []
+  pub move-none : (ws ps area : List ℕ) (board point : ℕ) (helpers partners : List ℕ) → Neither ws ps
+      → Unchanged (zbk ws ps area (move board point helpers partners)) ws ps area [] []
   -- ---- a read over any bytes, where no line but DISAGREE holds: it gives f exactly when f has length L and the k boards hold its shares, and answers 10
   -- with every byte of the output as it came exactly when there is no such file
   pub read-exact : (ws ps area boards output : List ℕ) → isRecord ws ≡ true → isRepair ps ≡ true → Bytes area

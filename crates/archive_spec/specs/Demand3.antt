@@ -20,7 +20,7 @@ use Rattle.store_spec.specs.Record.{held}
 use Rattle.store_spec.specs.Packets.{contents, total, repairPackets, freshShare}
 use Rattle.store_spec.specs.Running.{packetsLen}
 use Rattle.store_spec.specs.MarkLaws.{Arrays}
-use Rattle.store_spec.specs.Ledger.{Call, write, lose, repair, read, edit, start, step, careful, Event, call, powerFails, Reply, Book, Repairing, State, Step}
+use Rattle.store_spec.specs.Ledger.{Call, write, lose, repair, read, edit, start, step, careful, move, Event, call, powerFails, Reply, Book, Repairing, State, Step}
 use Rattle.store_spec.specs.Ledger.{Altered, Unaltered, FairEvent, openBook, bookLength, bookNext, bookReplies, bookFinal}
 use Rattle.store_spec.specs.Demand3.{Intact, Repaired, events}
 use Rattle.store_spec.specs.Premises.{files, IdleGiven, lentAgain, bare}
@@ -48,6 +48,7 @@ packetsLeft before (edit offset bytes boards) o = before
 packetsLeft before (start fresh helpers standIns) o = before
 packetsLeft before (step allowance packets) o = pick (eqb (o .answer % 256) 0) (o .packets) before
 packetsLeft before (careful boards output) o = before
+packetsLeft before (move board point helpers partners) o = before
 
 -- a call on the words held, and the area as it was altered before it; after a power failure the words of the record given are held, and no packets
 abbrev pub heldNext : Held → List ℕ → Event → Held
@@ -76,7 +77,7 @@ GivenWords (call c) = Unit
 GivenWords (powerFails p) = Arrays p
 
 -- each area is the one that the last call left, altered at most in bytes of boards out of service by the book, in the record that the words tell; files, bytes of
--- an edit, packet areas and records given are as demand 3 asks
+-- an edit, new points, packet areas and records given are as demand 3 asks
 abbrev pub AllowedLents : Held → Book → List Step → Type 0
 AllowedLents h b [] = Unit
 AllowedLents h b (t ∷ ts) =
@@ -179,8 +180,8 @@ unalteredLents h b (e ∷ es) =
     let again = lentAgain (heldState h) b e in
     record { area = h .area; event = again } ∷ unalteredLents (heldNext h (h .area) again) (bookNext b again) es
 
--- a set-up is accepted over any twelve and any 71 words exactly where sizes and capacity are legal and the points are taken, and every list of calls whose files are of
--- bytes is allowed, with nothing altered
+-- a set-up is accepted over any twelve and any 71 words exactly where sizes and capacity are legal and the points are taken, and every list of calls whose files and
+-- new points are of bytes is allowed, with nothing altered
 pub record ArchivePremises : Type 0 where
   pub set-up-accepted : (ws ps : List ℕ) (z : Sizes) (xs : List ℕ) (c : ℕ)
       → (zbkSetUp ws ps z xs c .answer ≡ 0) ↔ ((length ws ≡ 12) × (length ps ≡ 71) × (legal z ≡ true) × (pointed z xs ≡ true) × (1 ≤ c) × (c ≤ maxStripes))

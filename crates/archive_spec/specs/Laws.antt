@@ -1,4 +1,4 @@
--- "On a refusal no word and no byte changes", for all eighteen calls. An answer that is no multiple of 256 is a refusal.
+-- "On a refusal no word and no byte changes", for all nineteen calls. An answer that is no multiple of 256 is a refusal.
 -- proofs/Laws.antt has `archive-laws : ArchiveLaws`.
 -- Assumes nothing.
 use mathlib.Core.Path.{_≡_}
@@ -12,7 +12,7 @@ use Rattle.sizes.specs.Refusals.{said}
 use Rattle.board_spec.specs.Calls.{BoardOutcome, shareCall, fileCall, helperCall, exchangeCall, finishedCall, textCall}
 use Rattle.store_spec.specs.Running.{idle}
 use Rattle.store_spec.specs.Both.{Outcome}
-use Rattle.store_spec.specs.Ledger.{Call, write, lose, repair, read, edit, start, careful, act, outputOf, packetsOfCall}
+use Rattle.store_spec.specs.Ledger.{Call, write, lose, repair, read, edit, start, careful, move, act, outputOf, packetsOfCall}
 use Rattle.text_spec.specs.Calls.{gatherCall}
 use Rattle.prefix_spec.specs.Prefix.{longest}
 use Rattle.answer_word.specs.Answers.{wordOf}
@@ -51,7 +51,7 @@ pub record ArchiveLaws : Type 0 where
       → AsStore (zbk ws ps area call) (act (record { kept = recordFrom ws; running = repairFrom ps; area = area; packets = left }) call)
   pub no-record : (ws ps area : List ℕ) (call : Call) → (isRecord ws ≡ false) ⊎ (isRepair ps ≡ false)
       → zbk ws ps area call ≡ record { answer = 1; words = ws; repair = ps; area = area; output = outputOf call; packets = packetsOfCall call }
-  -- request A.8: a write, a repair, a read, a careful one and an edit leave the repair's words as they came, whatever they answer; losing leaves them or
+  -- request A.8: a write, a repair, a read, a careful one, an edit and a move leave the repair's words as they came, whatever they answer; losing leaves them or
   -- those of no repair; a start leaves the record's words and the area, and so does a careful read (A.11): the odd board stays in service, and its bytes
   pub write-beside : (ws ps area file : List ℕ) → zbk ws ps area (write file) .repair ≡ ps
   pub repair-beside : (ws ps area fresh helpers standIns : List ℕ) → zbk ws ps area (repair fresh helpers standIns) .repair ≡ ps
@@ -64,6 +64,7 @@ pub record ArchiveLaws : Type 0 where
   pub careful-beside : (ws ps area boards output : List ℕ) → zbk ws ps area (careful boards output) .repair ≡ ps
   pub careful-leaves : (ws ps area boards output : List ℕ)
       → (zbk ws ps area (careful boards output) .words ≡ ws) × (zbk ws ps area (careful boards output) .area ≡ area)
+  pub move-beside : (ws ps area : List ℕ) (board point : ℕ) (helpers partners : List ℕ) → zbk ws ps area (move board point helpers partners) .repair ≡ ps
   pub share-leaves : (z : Sizes) (xs : List ℕ) (node : ℕ) (file out : List ℕ) → Leaves (shareCall z xs node file out) out
   pub file-leaves : (z : Sizes) (xs : List ℕ) (L : ℕ) (boards shares out : List ℕ) → Leaves (fileCall z xs L boards shares out) out
   pub helper-leaves : (z : Sizes) (xs : List ℕ) (L helper receiver : ℕ) (share out : List ℕ) → Leaves (helperCall z xs L helper receiver share out) out

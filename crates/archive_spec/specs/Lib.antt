@@ -5,4 +5,5 @@ pub mod Laws
 pub mod Demand1
 pub mod Demand3
 pub mod Worn
+pub mod Moved
 pub mod ListLaws

@@ -5,13 +5,13 @@ use mathlib.Core.Path.{_≡_}
 use mathlib.Core.Bool.{true}
 use mathlib.Core.Logic.{_≢_, _↔_}
 use mathlib.Core.List.{List, [], _∷_, _++_, map}
-use Prim.Native.Nat.{ℕ, _+_, _*_, _%_}
+use Prim.Native.Nat.{ℕ, _+_, _*_, _%_, _<_}
 use lib.ListN.{length, getD}
 use Rattle.lists.specs.Lists.{All}
 use Rattle.sizes.specs.declared.Sizes.{Sizes}
 use Rattle.store_spec.specs.Running.{Running}
 use Rattle.store_spec.specs.MarkLaws.{Arrays}
-use Rattle.store_spec.specs.Ledger.{Call, step, call, powerFails, Reply, Book, Step, FairEvent, replies, final, openBook, bookNext, bookFinal}
+use Rattle.store_spec.specs.Ledger.{Call, step, move, call, powerFails, Reply, Book, Step, FairEvent, replies, final, openBook, bookNext, bookFinal}
 use Rattle.store_spec.specs.Demand3.{events}
 use Rattle.store_spec.specs.Premises.{Asked}
 use Rattle.record_words.specs.Words.{isRecord, recordFrom}
@@ -50,11 +50,12 @@ pub record LentLaws : Type 0 where
       (firstHeld ws ps z xs c area steps ≡ h) × (ran ws ps z xs c area steps ≡ lents h steps) × (endHeld ws ps z xs c area steps ≡ lastHeld h steps)
       × (endBook ws ps z xs c area steps ≡ bookFinal (openBook z xs c (length area)) (events steps))
   pub state-is : (h : Held) → heldState h ≡ record { kept = recordFrom (h .words); running = repairFrom (h .repair); area = h .area; packets = h .packets }
-  -- from any words that tell both records, and over any bytes, calls and power failures go as the definitions' list goes on the records that the words tell: the words at
-  -- the end tell the records where that ends, with the same areas, and every answer and output is its reply. So what is said of such lists (store_spec, Stepped.antt: Power,
+  -- from any words that tell both records, and over any bytes, with bytes as new points, calls and power failures go as the definitions' list goes on the records that the
+  -- words tell: the words at the end tell the records where that ends, with the same areas, and every answer and output is its reply. So what is said of such lists (store_spec, Stepped.antt: Power,
   -- Stepped) holds of the C calls
   pub final-is : (h : Held) (steps : List Step) → isRecord (h .words) ≡ true → isRepair (h .repair) ≡ true
       → All (λ t. GivenWords (t .event)) steps
+      → All (λ t. (board point : ℕ) (helpers partners : List ℕ) → t .event ≡ call (move board point helpers partners) → point < 256) steps
       → (isRecord (lastHeld h steps .words) ≡ true) × (isRepair (lastHeld h steps .repair) ≡ true) × (heldState (lastHeld h steps) ≡ final (heldState h) steps)
       × (map told (lents h steps) ≡ map inWord (replies (heldState h) steps))
   -- compared are the whole word and all bytes of the output

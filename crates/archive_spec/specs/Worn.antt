@@ -36,7 +36,8 @@ module _ (ws ps : List ℕ) (z : Sizes) (xs : List ℕ) (c : ℕ) (area : List �
         → zbk (h .words) (h .repair) now (careful boards output)
         ≡ record { answer = 256 * v; words = h .words; repair = h .repair; area = now; output = over (fileOf (b .file)) output; packets = [] }
 
--- each call is lent as many bytes as the set-up's area has, files and bytes of an edit are of bytes, and after a power failure the words of an idle record are given
+-- each call is lent as many bytes as the set-up's area has, files, bytes of an edit and new points are of bytes, and after a power failure the words of an idle record
+-- are given
 abbrev pub ArchiveWorn : Type 0
 ArchiveWorn =
     (ws ps : List ℕ) (z : Sizes) (xs : List ℕ) (c : ℕ) (area : List ℕ) (steps : List Step)

@@ -5,7 +5,7 @@ ghost use mathlib.Core.List.{List, []};
 ghost use Prim.Native.Nat.{ℕ, _<_};
 ghost use lib.ListN.{length};
 ghost use Rattle.sizes.specs.Refusals.{said};
-ghost use Rattle.store_spec.specs.Ledger.{write, lose, repair, read, careful, edit, start, step};
+ghost use Rattle.store_spec.specs.Ledger.{write, lose, repair, read, careful, edit, move, start, step};
 ghost use Rattle.record.specs.Records.{runningIn};
 ghost use Rattle.store.specs.Handing.{recordIn};
 ghost use Rattle.answer_word.specs.Answers.{wordOf};
@@ -178,6 +178,29 @@ pub fn edit(
     };
     let running = running_words::running_of(ps);
     let handed = store.edit(running, area, offset, bytes, boards);
+    hand_on(handed, ws, ps)
+}
+
+// Moves a board to a new point, from d helpers and r − 1 partners.
+pub fn move_board(
+    ws: &mut [u64],
+    ps: &mut [u64],
+    area: &mut [u8],
+    board: usize,
+    point: u8,
+    helpers: &[usize],
+    partners: &[usize],
+) -> u64
+    ensures { λ w. ⌜ record { answer = w; words = now (ws .exit); repair = now (ps .exit); area = now (area .exit); output = []; packets = [] } ≡ zbk (now (ws .entry)) (now (ps .entry)) (now (area .entry)) (move board point (now (helpers .entry)) (now (partners .entry))) ⌝ }
+{
+    if !words::are_records(ws, ps) {
+        return SIZE;
+    }
+    let store = Store {
+        record: words::kept_of(ws),
+    };
+    let running = running_words::running_of(ps);
+    let handed = store.move_board(running, area, board, point, helpers, partners);
     hand_on(handed, ws, ps)
 }
 

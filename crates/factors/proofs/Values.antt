@@ -23,7 +23,7 @@ use Rattle.lagrange.proofs.Lagrange.{lagrange}
 use Rattle.row_dots.proofs.Rows.{sum-same, sum-cut, fit-zeros, changed}
 use Rattle.lagrange_rows.specs.Steps.{lagrangeRows}
 use Rattle.lagrange_rows.proofs.Weights.{lagrange-at}
-use Rattle.factors.specs.Steps.{factorsAt, dotOf}
+use Rattle.factors.specs.Steps.{factorsFor, factorsAt, dotOf}
 
 -- ---- boards modulo n
 
@@ -73,22 +73,32 @@ dot-value xs vs fs y l bx bv dx lf w =
     (λ t k. ap (λ (a : ℕ). mul a (getD vs t 0)) (w t k) ∙ mul-comm (weight xs t y) (getD vs t 0))
     ∙ sym (lagrange .value xs vs y l bx bv (distinct-different xs dx))
 
-length-factors : (pts boards : List ℕ) (i : ℕ) → length (factorsAt pts boards i) ≡ length boards
-unfolding factorsAt
-length-factors pts boards i = length-tabulate (length boards) (λ t. weight (points pts boards) t (point pts i))
+length-factors : (pts boards : List ℕ) (y : ℕ) → length (factorsFor pts boards y) ≡ length boards
+unfolding factorsFor
+length-factors pts boards y = length-tabulate (length boards) (λ t. weight (points pts boards) t y)
 
-factor-at : (pts boards : List ℕ) (i t : ℕ) → t < length boards → getD (factorsAt pts boards i) t 0 ≡ weight (points pts boards) t (point pts i)
-unfolding factorsAt
-factor-at pts boards i t h = tabulate-at (length boards) (λ t. weight (points pts boards) t (point pts i)) 0 t h
+factor-at : (pts boards : List ℕ) (y t : ℕ) → t < length boards → getD (factorsFor pts boards y) t 0 ≡ weight (points pts boards) t y
+unfolding factorsFor
+factor-at pts boards y t h = tabulate-at (length boards) (λ t. weight (points pts boards) t y) 0 t h
 
--- by the factors of boards, filled up with 00
+-- by the factors of boards for a byte, filled up with 00
+pub factors-for : (pts boards vs fs : List ℕ) (y L : ℕ) → fs ≡ fit L (factorsFor pts boards y) → length boards ≤ L → length boards ≡ length vs
+    → Bytes (points pts boards) → Distinct (points pts boards) → Bytes vs → dotOf fs vs ≡ eval (interpolate (points pts boards) vs) y
+factors-for pts boards vs fs y L ef h l bx dx bv =
+    let n : length (points pts boards) ≡ length boards = length-points pts boards in
+    let m : length fs ≡ L = ap length ef ∙ length-fit L (factorsFor pts boards y) in
+    dot-value (points pts boards) vs fs y (n ∙ l) bx bv dx (omega arith)
+    (λ t k. ap (λ (q : List ℕ). getD q t 0) ef ∙ fit-at L (factorsFor pts boards y) t (omega arith) ∙ factor-at pts boards y t (omega arith))
+
+-- the point of a board is one
+pub factors-at : (pts boards : List ℕ) (i : ℕ) → factorsAt pts boards i ≡ factorsFor pts boards (point pts i)
+unfolding factorsAt factorsFor
+factors-at pts boards i = refl
+
 pub factors-value : (pts boards vs fs : List ℕ) (i L : ℕ) → fs ≡ fit L (factorsAt pts boards i) → length boards ≤ L → length boards ≡ length vs
     → Bytes (points pts boards) → Distinct (points pts boards) → Bytes vs → dotOf fs vs ≡ eval (interpolate (points pts boards) vs) (point pts i)
 factors-value pts boards vs fs i L ef h l bx dx bv =
-    let n : length (points pts boards) ≡ length boards = length-points pts boards in
-    let m : length fs ≡ L = ap length ef ∙ length-fit L (factorsAt pts boards i) in
-    dot-value (points pts boards) vs fs (point pts i) (n ∙ l) bx bv dx (omega arith)
-    (λ t k. ap (λ (q : List ℕ). getD q t 0) ef ∙ fit-at L (factorsAt pts boards i) t (omega arith) ∙ factor-at pts boards i t (omega arith))
+    factors-for pts boards vs fs (point pts i) L (ef ∙ ap (fit L) (factors-at pts boards i)) h l bx dx bv
 
 -- of boards that were listed
 pub near-made : (pts near out : List ℕ) (n j i m k L : ℕ) → near ≡ tabulate k (λ t. (j + t) % n) → k ≡ m → out ≡ fit L (factorsAt pts near i)

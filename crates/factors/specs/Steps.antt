@@ -9,6 +9,10 @@ use Rattle.polynomial.specs.Polynomial.{sum}
 use Rattle.mbcr.specs.Share.{point, points}
 use Rattle.lagrange.specs.Steps.{weight}
 
+-- the factors of boards for the byte y
+unfoldable pub factorsFor : List ℕ → List ℕ → ℕ → List ℕ
+factorsFor pts boards y = tabulate (length boards) (λ t. weight (points pts boards) t y)
+
 -- the factors of boards for the point of board i
 unfoldable pub factorsAt : List ℕ → List ℕ → ℕ → List ℕ
 factorsAt pts boards i = tabulate (length boards) (λ t. weight (points pts boards) t (point pts i))

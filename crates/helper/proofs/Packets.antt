@@ -18,8 +18,8 @@ use Rattle.polynomial.specs.Polynomial.{eval, interpolate, sum}
 use Rattle.mbcr.specs.Share.{DifferentPoints, point, points, neighbours}
 use Rattle.mbcr.specs.Rebuild.{ownF, ownG, helperPair, helperPacket}
 use Rattle.mbcr.proofs.Points.{length-neighbours, neighbours-boards, points-bytes, points-distinct}
-use Rattle.factors.specs.Steps.{factorsAt, dotOf}
-use Rattle.factors.proofs.Values.{dot-row, factors-value}
+use Rattle.factors.specs.Steps.{factorsFor, factorsAt, dotOf}
+use Rattle.factors.proofs.Values.{dot-row, factors-for, factors-at}
 use Rattle.helper.specs.Steps.{pairBy}
 
 pub pair-made : (d w a b : ℕ) (ff gf held f f₀ g g₀ : List ℕ) → f₀ ≡ tabulate 32 (λ j. 0) → g₀ ≡ tabulate 32 (λ j. 0) → f ≡ take w held ++ drop w f₀
@@ -40,6 +40,35 @@ pairs-made f S s out₀ out e h = h ∙ ap₂ {C = List ℕ} (λ (a b : ℕ). jo
 
 -- ---- by the definition
 
+module _ (z : Sizes) (pts : List ℕ) (legal : Legal z) (apart : DifferentPoints z pts) (j : ℕ) (hj : j < z .n) where
+  open Sizes z using (n, d, r)
+
+  -- the factors of the board and the m − 1 after it for a byte
+  abbrev pub nearFor : ℕ → ℕ → ℕ → List ℕ
+  nearFor y L m = fit L (factorsFor pts (tabulate m (λ t. (j + t) % n)) y)
+
+  value : (y m L : ℕ) (fs vs : List ℕ) → m ≤ n → m ≤ L → length vs ≡ m → Bytes vs → fs ≡ nearFor y L m
+      → dotOf fs vs ≡ eval (interpolate (points pts (neighbours z j m)) vs) y
+  unfolding neighbours
+  value y m L fs vs h l e b ef =
+      let bs = neighbours-boards z j m hj h in
+      let n = length-neighbours z j m in
+      factors-for pts (tabulate m (λ t. (j + t) % z .n)) vs fs y L ef (omega arith) (n ∙ sym e)
+      (points-bytes z pts apart _ bs) (points-distinct z pts apart _ bs) b
+
+  -- f and g at a byte, from the bytes of a stripe
+  pub pair-for : (y fl gl : ℕ) (ff gf held : List ℕ) → d + r ≤ fl → d ≤ gl → ff ≡ nearFor y fl (d + r) → gf ≡ nearFor y gl d → length held ≡ α z → Bytes held
+      → pairBy (d + r) ff gf held ≡ eval (ownF z pts j held) y ∷ eval (ownG z pts j held) y ∷ []
+  unfolding pairBy ownF ownG
+  pair-for y fl gl ff gf held hf hg ef eg l b =
+      let α′ = α-parts z legal in
+      let few = legal .some-read in
+      let known = legal .read-helpers in
+      ap₂ {C = List ℕ} (λ (x y : ℕ). x ∷ y ∷ [])
+      (value y (d + r) fl ff (take (d + r) held) (legal .enough) hf (simp length-take (omega arith)) (take-alls (λ a. a < 256) (d + r) held b) ef)
+      (value y d gl gf (take 1 held ++ drop (d + r) held) (omega (arith, legal .enough)) hg (simp (length-append, length-take, length-drop) (omega arith))
+      (append-all (λ a. a < 256) (take 1 held) (drop (d + r) held) (take-alls (λ a. a < 256) 1 held b) (drop-alls (λ a. a < 256) (d + r) held b)) eg)
+
 module _ (z : Sizes) (pts : List ℕ) (legal : Legal z) (apart : DifferentPoints z pts) (j i : ℕ) (hj : j < z .n) where
   open Sizes z using (n, d, r)
 
@@ -47,27 +76,12 @@ module _ (z : Sizes) (pts : List ℕ) (legal : Legal z) (apart : DifferentPoints
   abbrev near : ℕ → ℕ → List ℕ
   near L m = fit L (factorsAt pts (tabulate m (λ t. (j + t) % n)) i)
 
-  value : (m L : ℕ) (fs vs : List ℕ) → m ≤ n → m ≤ L → length vs ≡ m → Bytes vs → fs ≡ near L m
-      → dotOf fs vs ≡ eval (interpolate (points pts (neighbours z j m)) vs) (point pts i)
-  unfolding neighbours
-  value m L fs vs h l e b ef =
-      let bs = neighbours-boards z j m hj h in
-      let n = length-neighbours z j m in
-      factors-value pts (tabulate m (λ t. (j + t) % z .n)) vs fs i L ef (omega arith) (n ∙ sym e)
-      (points-bytes z pts apart _ bs) (points-distinct z pts apart _ bs) b
-
   -- from the bytes of a stripe
   pub pair-is : (fl gl : ℕ) (ff gf held : List ℕ) → d + r ≤ fl → d ≤ gl → ff ≡ near fl (d + r) → gf ≡ near gl d → length held ≡ α z → Bytes held
       → pairBy (d + r) ff gf held ≡ helperPair z pts j i held
-  unfolding pairBy helperPair ownF ownG
+  unfolding helperPair
   pair-is fl gl ff gf held hf hg ef eg l b =
-      let α′ = α-parts z legal in
-      let few = legal .some-read in
-      let known = legal .read-helpers in
-      ap₂ {C = List ℕ} (λ (x y : ℕ). x ∷ y ∷ [])
-      (value (d + r) fl ff (take (d + r) held) (legal .enough) hf (simp length-take (omega arith)) (take-alls (λ a. a < 256) (d + r) held b) ef)
-      (value d gl gf (take 1 held ++ drop (d + r) held) (omega (arith, legal .enough)) hg (simp (length-append, length-take, length-drop) (omega arith))
-      (append-all (λ a. a < 256) (take 1 held) (drop (d + r) held) (take-alls (λ a. a < 256) 1 held b) (drop-alls (λ a. a < 256) (d + r) held b)) eg)
+      pair-for z pts legal apart j hj (point pts i) fl gl ff gf held hf hg (ef ∙ ap (fit fl) (factors-at pts _ i)) (eg ∙ ap (fit gl) (factors-at pts _ i)) l b
 
   pub packet-is : (S fl gl : ℕ) (ff gf held : List ℕ) → d + r ≤ fl → d ≤ gl → ff ≡ near fl (d + r) → gf ≡ near gl d → length held ≡ S * α z → Bytes held
       → join S (λ s. pairBy (d + r) ff gf (piece (d + r + d - 1) s held)) ≡ helperPacket z pts S j i held

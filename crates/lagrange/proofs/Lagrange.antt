@@ -109,7 +109,7 @@ no-divisors a b n la l e =
     law : (a c b : ℕ) → mul (mul a c) b ≡ mul c (mul a b)
     law a c b = simp ring
 
-differences-byte : (ys : List ℕ) (y : ℕ) → differences ys y < 256
+pub differences-byte : (ys : List ℕ) (y : ℕ) → differences ys y < 256
 differences-byte [] y = omega arith
 differences-byte (x ∷ ys) y = mul-lt (add y x) (differences ys y)
 

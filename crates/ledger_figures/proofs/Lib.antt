@@ -1,2 +1,3 @@
 pub mod LedgerFigures
 pub mod StepFigures
+pub mod MixFigures

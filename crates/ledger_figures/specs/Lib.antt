@@ -1,3 +1,4 @@
 pub mod LedgerFigures
 pub mod RepairFigures
 pub mod StepFigures
+pub mod MixFigures

@@ -8,5 +8,8 @@ pub mod Places
 pub mod Linear
 pub mod Demand2
 pub mod Own
+pub mod AfreshLaws
+pub mod Patched
 pub mod Tight
 pub mod PointLaws
+pub mod TurnLaws

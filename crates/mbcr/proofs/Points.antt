@@ -35,7 +35,7 @@ wrapped : (n a : ℕ) → n ≤ a → a < n + n → a % n ≡ a - n
 wrapped n a h l = mod-eq-sub-mod h ∙ mod-eq-of-lt (omega arith)
 
 -- two of n consecutive numbers differ modulo n
-turned-apart : (n i t u : ℕ) → i < n → t < u → u < n → (i + u) % n ≢ (i + t) % n
+pub turned-apart : (n i t u : ℕ) → i < n → t < u → u < n → (i + u) % n ≢ (i + t) % n
 turned-apart n i t u hi ht hu e = go (decLt (i + u) n) (decLt (i + t) n)
   where
     go : Dec (i + u < n) → Dec (i + t < n) → ⊥

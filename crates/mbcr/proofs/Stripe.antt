@@ -56,13 +56,13 @@ module _ (z : Sizes) (xs : List ℕ) (legal : Legal z) where
   length-symbols i f g =
       simp (length-append, length-map, length-drop, length-neighbours) (α-parts z legal)
 
-  symbols-f : (i : ℕ) (f g : ℕ → ℕ) → take (d + r) (symbols z xs i f g) ≡ map f (points xs (neighbours z i (d + r)))
+  pub symbols-f : (i : ℕ) (f g : ℕ → ℕ) → take (d + r) (symbols z xs i f g) ≡ map f (points xs (neighbours z i (d + r)))
   unfolding symbols
   symbols-f i f g =
       take-at (map f (points xs (neighbours z i (d + r)))) (map g (points xs (drop 1 (neighbours z i d)))) (d + r)
       (simp (length-map, length-neighbours))
 
-  symbols-g : (i : ℕ) (f g : ℕ → ℕ) → i < n → f (point xs i) ≡ g (point xs i) → take 1 (symbols z xs i f g) ++ drop (d + r) (symbols z xs i f g)
+  pub symbols-g : (i : ℕ) (f g : ℕ → ℕ) → i < n → f (point xs i) ≡ g (point xs i) → take 1 (symbols z xs i f g) ++ drop (d + r) (symbols z xs i f g)
       ≡ map g (points xs (neighbours z i d))
   unfolding symbols
   symbols-g i f g h e =

@@ -2,5 +2,8 @@ pub mod Share
 pub mod Rebuild
 pub mod Read
 pub mod Demand2
+pub mod Afresh
+pub mod AfreshLaws
 pub mod Tight
 pub mod PointLaws
+pub mod TurnLaws

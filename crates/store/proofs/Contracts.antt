@@ -9,7 +9,7 @@ use denote.Ref.{now}
 use denote.Triple.Clauses.{AtExit}
 use borrow.Fn.Kinds.{Dens, endedOf}
 use Rattle.store_spec.specs.Both.{setUpBoth}
-use Rattle.store_spec.specs.Ledger.{write, lose, repair, read, careful, edit, start, step, act}
+use Rattle.store_spec.specs.Ledger.{write, lose, repair, read, careful, edit, move, start, step, act}
 use Rattle.record.specs.declared.Running.{Running}
 use Rattle.record.specs.Records.{runningIn}
 use Rattle.store.specs.declared.Store.{Store}
@@ -30,6 +30,8 @@ use Rattle.store.proofs.Store.read_careful.Reads as carefuls
 use Rattle.store.proofs.Store.read_careful.Kinds as careful-kinds
 use Rattle.store.proofs.Store.edit.Reads as edits
 use Rattle.store.proofs.Store.edit.Kinds as edit-kinds
+use Rattle.store.proofs.Store.move_board.Reads as moves
+use Rattle.store.proofs.Store.move_board.Kinds as move-kinds
 use Rattle.store.proofs.Store.start.Reads as starts
 use Rattle.store.proofs.Store.start.Kinds as start-kinds
 use Rattle.store.proofs.Store.step.Reads as steps
@@ -85,6 +87,14 @@ pub edit-meets : (κs : Lfts 3) (a : Dens κs edit-kinds.ps) (r : Handed) (e : A
     → Meets (on (a .0) (a .1 .0)) (now (a .1 .1 .0)) (edit (a .1 .1 .1 .0) (now (a .1 .1 .1 .1 .0)) (now (a .1 .1 .1 .1 .1 .0))) (gaveBack r (now (e .1 .1 .0)) [] []))
 unfolding act
 edit-meets κs a r e = (tt, λ h. h)
+
+pub move-meets : (κs : Lfts 3) (a : Dens κs move-kinds.ps) (r : Handed) (e : AtExit (endedOf 3 move-kinds.ps move-kinds.r) κs)
+    → moves.Asked κs a
+    × (moves.Learnt κs a r e
+    → let b = a .1 .1 .1 in
+    Meets (on (a .0) (a .1 .0)) (now (a .1 .1 .0)) (move (b .0) (b .1 .0) (now (b .1 .1 .0)) (now (b .1 .1 .1 .0))) (gaveBack r (now (e .1 .1 .0)) [] []))
+unfolding act
+move-meets κs a r e = (tt, λ h. h)
 
 pub start-meets : (κs : Lfts 4) (a : Dens κs start-kinds.ps) (r : Handed) (e : AtExit (endedOf 4 start-kinds.ps start-kinds.r) κs)
     → starts.Asked κs a

@@ -5,9 +5,10 @@ use Rattle.store_spec.specs.Both.{Outcome}
 use Rattle.store_spec.specs.Ledger.{act}
 use Rattle.store_spec.proofs.Demand3.{accepted-both}
 use Rattle.store_spec.proofs.Follows.{follows, follows-worn}
+use Rattle.store_spec.proofs.MoveLaws.{move-laws}
 use Rattle.record.specs.Records.{runningIn}
 use Rattle.store.specs.Handing.{recordIn}
-use Rattle.store.specs.Demand3.{Records, keptIn, besideIn, handedOn, CodeDemand3, CodeWorn}
+use Rattle.store.specs.Demand3.{Records, keptIn, besideIn, handedOn, CodeDemand3, CodeWorn, CodeMoved}
 
 pub code-demand-3 : CodeDemand3
 unfolding act
@@ -25,3 +26,16 @@ pub code-worn : CodeWorn
 code-worn old p z xs c new made taken area steps run ok r =
     follows-worn Records keptIn besideIn (recordIn old) (runningIn p) z xs c (handedOn new) (ap (λ (o : Outcome). o .handed) made)
     (ap (λ (o : Outcome). o .running) made) (ap (λ (o : Outcome). o .answer .refusal) (sym made) ∙ taken) area steps run ok r
+
+pub code-moved : CodeMoved
+unfolding act
+code-moved x any board point helpers partners g m k byte =
+    let ok = ap (λ (o : Outcome). o .answer .refusal) (sym m) ∙ k in
+    let alone = move-laws .taken-beside (keptIn x) (besideIn x) any board point helpers partners .0 ok in
+    let q = m ∙ move-laws .same-beside (keptIn x) (besideIn x) any board point helpers partners ok in (
+      move-laws .moved (keptIn x) any board point helpers partners byte (alone .0),
+      ap (λ (o : Outcome). o .handed) q,
+      ap (λ (o : Outcome). o .area) q,
+      ap (λ (o : Outcome). o .running) q,
+      alone .1,
+    )

@@ -4,6 +4,7 @@ pub mod ReadCall
 pub mod CarefulCall
 pub mod RepairCall
 pub mod EditCall
+pub mod MoveCall
 pub mod StepCall
 pub mod Demand3
 pub mod Gives

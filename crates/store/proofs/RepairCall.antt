@@ -31,23 +31,6 @@ use Rattle.repair_seam.proofs.Repaired.{namedOf, runOf, repaired}
 use Rattle.store.specs.Handing.{turnedDown}
 use Rattle.store.proofs.Settled.{refused-by, done-by}
 
--- no fresh board names a board twice, in the list of all that are named
-pub runs-named : (s : Record) (m : ℕ) (fresh helpers standIns : List ℕ) → Repairable s m fresh helpers standIns
-    → DifferentRuns (runOf s fresh) fresh (namedOf s fresh helpers standIns)
-runs-named s m fresh helpers standIns f = record { each = λ a h. ap different (piece-join (length fresh) (runOf s fresh) _ named-run a h) ∙ f .runs-different a h }
-  where
-    d : ℕ
-    d = s .sizes .d
-
-    e : ℕ
-    e = standInsEach s fresh
-
-    named-run : (b : ℕ) → b < length fresh → length (piece d b helpers ++ piece e b standIns) ≡ runOf s fresh
-    named-run b h =
-        length-append (piece d b helpers) (piece e b standIns)
-        ∙ ap₂ _+_ (length-piece d b helpers (omega (arith, f .helper-count, row-fits b (length fresh) d h)))
-        (length-piece e b standIns (omega (arith, f .stand-in-count, row-fits b (length fresh) e h)))
-
 -- the work alone, of a repair that passes
 module _ (s : Record) (area fresh helpers standIns : List ℕ) where
   abbrev alone : Check

@@ -1,19 +1,22 @@
 -- Demand 3 of the code: what holds of any list of events of the methods, by the crate store_spec's `Follows`. A run is what the calls gave back, each by its method's
 -- contract on the records that the last one handed on, and after a power failure the records that the calls after it are given.
--- proofs/Demand3.antt has `code-demand-3 : CodeDemand3` and, of request A.11, `code-worn : CodeWorn`.
+-- proofs/Demand3.antt has `code-demand-3 : CodeDemand3`, of request A.11 `code-worn : CodeWorn` and of A.10 `code-moved : CodeMoved`.
 -- Assumes nothing.
 use mathlib.Core.Path.{_≡_}
+use mathlib.Core.Bool.{false}
 use mathlib.Core.List.{List, []}
-use Prim.Native.Nat.{ℕ}
-use lib.ListN.{length}
+use Prim.Native.Nat.{ℕ, _<_}
+use lib.ListN.{length, set}
 use Rattle.sizes.specs.declared.Sizes.{Sizes}
 use Rattle.sizes.specs.Refusals.{said}
 use Rattle.store_spec.specs.Record.{Record}
 use Rattle.store_spec.specs.Running as spec
 use Rattle.store_spec.specs.Both.{setUpBoth}
-use Rattle.store_spec.specs.Ledger.{Call, repair, call, Step, State, Reply, Allowed, openBook, bookReplies, bookFinal}
+use Rattle.store_spec.specs.Ledger.{Call, repair, move, call, Step, State, Reply, Allowed, openBook, bookReplies, bookFinal}
 use Rattle.store_spec.specs.Demand3.{Intact, Repaired, begun, events}
 use Rattle.store_spec.specs.CarefulLaws.{AnyBytes, Worn}
+use Rattle.store_spec.specs.Move.{moveCall}
+use Rattle.store_spec.specs.MoveLaws.{Moved}
 use Rattle.store_spec.specs.Follows as follow
 use Rattle.record.specs.declared.Running.{Running}
 use Rattle.record.specs.Records.{runningIn}
@@ -75,3 +78,14 @@ CodeWorn =
     → outcomeBoth new [] [] [] ≡ setUpBoth (recordIn old) (runningIn p) z xs c → said (new .answer) .refusal ≡ 0
     → (area : List ℕ) (steps : List Step) (run : List (follow.Moment Records)) → AnyBytes (length area) steps → Run (handedOn new) steps run
     → Worn (ending (handedOn new) area steps run) (bookFinal (openBook z xs c (length area)) (events steps))
+
+-- request A.10: in each accepted move of the method, in a run or not and over any bytes, the board gets the packets and every board holds what MoveLaws says, in the
+-- area and the record that the method leaves; and no repair ran
+abbrev pub CodeMoved : Type 0
+CodeMoved =
+    (x : Records) (any : List ℕ) (board point : ℕ) (helpers partners : List ℕ) (g : follow.Given Records)
+    → Meets x any (move board point helpers partners) g → g .answer .refusal ≡ 0 → point < 256
+    → Moved (keptIn x) any board point helpers partners (set (keptIn x .points) board point)
+    × (keptIn (g .handed) ≡ moveCall (keptIn x) any board point helpers partners .handed)
+    × (g .area ≡ moveCall (keptIn x) any board point helpers partners .area)
+    × (besideIn (g .handed) ≡ besideIn x) × (besideIn x .running ≡ false)

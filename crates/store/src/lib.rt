@@ -13,7 +13,8 @@ ghost use Rattle.line_checks.specs.Steps.{asked};
 ghost use Rattle.store_spec.specs.Packets.{repairPackets, total};
 ghost use Rattle.store_spec.specs.Calls.{repairLines, readLines, fileHeld, repairDone, readDone};
 ghost use Rattle.store_spec.specs.Edit.{editLines, editDone};
-ghost use Rattle.store_spec.specs.Both.{setUpBoth, writeBoth, loseBoth, repairBoth, readBoth, carefulBoth, editBoth, startCall, stepCall};
+ghost use Rattle.store_spec.specs.Move.{movePackets, moveLines, moveDone};
+ghost use Rattle.store_spec.specs.Both.{setUpBoth, writeBoth, loseBoth, repairBoth, readBoth, carefulBoth, editBoth, moveBoth, startCall, stepCall};
 ghost use Rattle.store_checks.specs.Steps.{Bounded};
 ghost use Rattle.decode_stripe.specs.Steps.{Asked};
 ghost use Rattle.decode_setup.specs.Steps.{Made};
@@ -89,6 +90,25 @@ fn rebuild(
         area,
     );
     bytes_moved(sizes, fresh.len(), stripes)
+}
+
+// Moves a board to a new point in the area, and answers the bytes that are moved.
+fn move_one(
+    kept: Kept,
+    board: usize,
+    point: u8,
+    helpers: &[usize],
+    partners: &[usize],
+    area: &mut [u8],
+) -> usize
+    requires { ⌜ first storeOrder (moveLines (recordOf kept) (length (now area)) board point (now helpers) (now partners)) ≡ Pass ⌝ }
+    ensures { λ r. ⌜ r ≡ total (movePackets (recordOf kept) (now (area .entry)) board point (now (helpers .entry)) (now (partners .entry))) ⌝ }
+    ensures { λ _. ⌜ now (area .exit) ≡ moveDone (recordOf kept) (now (area .entry)) board point (now (helpers .entry)) (now (partners .entry)) .area ⌝ }
+{
+    let sizes = kept.sizes;
+    let stripes = checks::stripe_count(sizes, kept.length);
+    store_move::move_share(kept, stripes, board, point, helpers, partners, area);
+    bytes_moved(sizes, 1, stripes)
 }
 
 // The tables to read from k boards.
@@ -349,6 +369,41 @@ impl Store {
             store: self,
             running: running,
             answer: Answer::Done(0),
+        }
+    }
+
+    // Moves a board to a new point: every other board works out its kept values afresh, and the board gets the share that the packets of its d
+    // helpers and its r − 1 partners give there. Answers the bytes that are moved.
+    pub fn move_board(
+        self,
+        running: Running,
+        area: &mut [u8],
+        board: usize,
+        point: u8,
+        helpers: &[usize],
+        partners: &[usize],
+    ) -> Handed
+        ensures { λ r. ⌜ outcomeBoth r (now (area .exit)) [] [] ≡ moveBoth (recordIn self) (runningIn running) (now (area .entry)) board point (now (helpers .entry)) (now (partners .entry)) ⌝ }
+    {
+        let kept = self.record;
+        if let Check::Refuse(x) = move_check::check_move(
+            kept,
+            running,
+            area.len(),
+            board,
+            point,
+            helpers,
+            partners,
+        ) {
+            return refuse(self, running, x);
+        }
+        let moved = move_one(kept, board, point, helpers, partners, area);
+        let mut next = kept;
+        next.points[board] = point;
+        Handed {
+            store: Store { record: next },
+            running: running,
+            answer: Answer::Done(moved),
         }
     }
 

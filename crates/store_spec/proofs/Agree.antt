@@ -20,10 +20,11 @@ use Rattle.sizes.proofs.Alike.{here, past, Alike, _and_, end, further, size, di
 use Rattle.store_spec.specs.Calls.{writeLines, loseLines, listLines, repairLines, readLines}
 use Rattle.store_spec.specs.Edit.{editLines}
 use Rattle.store_spec.specs.Careful.{carefulLines}
+use Rattle.store_spec.specs.Move.{moveLines}
 use Rattle.store_spec.specs.Running.{Running, freshOf, packetsLen, soundBeside}
-use Rattle.store_spec.specs.Both.{writeLinesBoth, loseLinesBoth, repairLinesBoth, readLinesBoth, editLinesBoth, carefulLinesBoth, stepLines}
+use Rattle.store_spec.specs.Both.{writeLinesBoth, loseLinesBoth, repairLinesBoth, readLinesBoth, editLinesBoth, carefulLinesBoth, moveLinesBoth, stepLines}
 use Rattle.store_spec.specs.BothCalls.{storeLines}
-use Rattle.store_spec.specs.Ledger.{Call, write, lose, repair, read, edit, start, step, careful, Book, Repairing, during, bookRecord, bookLength, bookLines, repairAsked}
+use Rattle.store_spec.specs.Ledger.{Call, write, lose, repair, read, edit, start, step, careful, move, Book, Repairing, during, bookRecord, bookLength, bookLines, repairAsked}
 use Rattle.store_spec.specs.Packets.{hearNamed}
 use Rattle.store_spec.specs.Record.{Record, sound, areaLen, inService}
 use Rattle.store_spec.proofs.Marks.{mark-at}
@@ -61,6 +62,14 @@ one-below n x = go (ltb x n)
   where
     go : (t : Bool) → pick t true false ≡ t
     go true = refl
+    go false = refl
+
+-- a board and two lists
+pub node-same : (n x : ℕ) (ys ws : List ℕ) → below n (x ∷ (ys ++ ws)) ≡ alls (ltb x n ∷ below n ys ∷ below n ws ∷ [])
+node-same n x ys ws = go (ltb x n)
+  where
+    go : (t : Bool) → pick t (below n (ys ++ ws)) false ≡ alls (t ∷ below n ys ∷ below n ws ∷ [])
+    go true = both-below n ys ws
     go false = refl
 
 -- board by board, a mark is on just where the board is in service
@@ -150,7 +159,7 @@ module _ (b : Book) (area : List ℕ) (ok : legal (b .sizes) ≡ true) (low : Al
         and end))
 
     pub alike : (call : Call) → Alike (storeLines (bookRecord b) p area call) (bookLines b call)
-    unfolding storeLines writeLinesBoth loseLinesBoth readLinesBoth editLinesBoth carefulLinesBoth stepLines writeLines loseLines readLines editLines carefulLines bookLines
+    unfolding storeLines writeLinesBoth loseLinesBoth readLinesBoth editLinesBoth carefulLinesBoth moveLinesBoth stepLines writeLines loseLines readLines editLines carefulLines moveLines bookLines
     alike (write file) = size (further runs (past refl (past refl here)) (ap not area-is and refl and end))
     alike (lose board) = size (ap not (one-below (b .sizes .n) board) and end)
     alike (repair fresh helpers standIns) = asked fresh helpers standIns
@@ -192,12 +201,22 @@ module _ (b : Book) (area : List ℕ) (ok : legal (b .sizes) ≡ true) (low : Al
         and ap not (every-same (inService (bookRecord b)) (among (b .service)) boards serves)
         and refl
         and disagree end)
+    alike (move board point helpers partners) =
+        size
+        (further runs (past refl (past refl here))
+        (ap not area-is
+        and refl
+        and refl
+        and ap not (node-same (b .sizes .n) board helpers partners)
+        and refl
+        and ap not (every-same (inService (bookRecord b)) (among (b .service)) (tabulate (b .sizes .n) (λ i. i)) serves)
+        and end))
 
 -- SIZE is off in both
 pub size-same : (b : Book) (p : Running) (area : List ℕ) → not (alls (sound (bookRecord b) ∷ soundBeside (bookRecord b) p ∷ [])) ≡ false → (call : Call)
     → appliesIn (storeLines (bookRecord b) p area call) Size ≡ appliesIn (bookLines b call) Size
-unfolding storeLines writeLinesBoth loseLinesBoth repairLinesBoth readLinesBoth editLinesBoth carefulLinesBoth stepLines writeLines loseLines listLines
-    repairLines readLines editLines carefulLines bookLines repairAsked
+unfolding storeLines writeLinesBoth loseLinesBoth repairLinesBoth readLinesBoth editLinesBoth carefulLinesBoth moveLinesBoth stepLines writeLines loseLines
+    listLines repairLines readLines editLines carefulLines moveLines bookLines repairAsked
 size-same b p area h (write file) = h
 size-same b p area h (lose board) = h
 size-same b p area h (repair fresh helpers standIns) = h
@@ -206,3 +225,4 @@ size-same b p area h (edit offset bytes boards) = h
 size-same b p area h (start fresh helpers standIns) = h
 size-same b p area h (step allowance packets) = h
 size-same b p area h (careful boards output) = h
+size-same b p area h (move board point helpers partners) = h

@@ -30,8 +30,9 @@ use Rattle.store_spec.specs.Edit.{editLines, editDone, editCall}
 use Rattle.store_spec.specs.Careful.{carefulLines, carefulDone, carefulCall}
 use Rattle.store_spec.specs.Running.{Running, idle, runningBy, freshOf, helpersOf, standInsOf, soundBeside}
 use Rattle.store_spec.specs.Both.{Outcome, beside, bothLine, writeLinesBoth, loseLinesBoth, repairLinesBoth, readLinesBoth, editLinesBoth, carefulLinesBoth, lostBeside}
-use Rattle.store_spec.specs.Both.{setUpBoth, writeBoth, loseBoth, repairBoth, readBoth, editBoth, carefulBoth, startCall}
+use Rattle.store_spec.specs.Both.{setUpBoth, writeBoth, loseBoth, repairBoth, readBoth, editBoth, carefulBoth, startCall, moveLinesBoth, moveBoth}
 use Rattle.store_spec.specs.AloneLaws.{AsAlone, StartedBy, AloneLaws}
+use Rattle.store_spec.specs.Move.{moveLines, moveDone, moveCall}
 use Rattle.store_spec.proofs.Beside.{alone-busy, fresh-back, helpers-back, stand-ins-back, sound-beside, lists-taken, lists-pass}
 use Rattle.store_spec.proofs.Records.{sound-facts, countTests}
 use Rattle.store_spec.proofs.Demand1.{demand-1}
@@ -177,6 +178,15 @@ edit-alone s p area offset bytes boards e =
     subst (λ (t : Check). AsAlone p (sole s p p area [] done k) (both s p p area [] done t))
     (sym (idle-first s p (drop 1 (editLines s area offset bytes boards)) e refl)) (same-either s p area [] done k)
 
+move-alone : (s : Record) (p : Running) (area : List ℕ) (board point : ℕ) (helpers partners : List ℕ) → p .running ≡ false
+    → AsAlone p (moveCall s area board point helpers partners) (moveBoth s p area board point helpers partners)
+unfolding moveCall moveBoth moveLinesBoth moveLines
+move-alone s p area board point helpers partners e =
+    let k : Check = first storeOrder (moveLines s (length area) board point helpers partners) in
+    let done : StoreOutcome = moveDone s area board point helpers partners in
+    subst (λ (t : Check). AsAlone p (sole s p p area [] done k) (both s p p area [] done t))
+    (sym (idle-first s p (drop 1 (moveLines s (length area) board point helpers partners)) e refl)) (same-either s p area [] done k)
+
 started-by : (s : Record) (p : Running) (area fresh helpers standIns : List ℕ) → startCall s p area fresh helpers standIns .answer .refusal ≡ 0
     → StartedBy s area fresh helpers standIns (startCall s p area fresh helpers standIns)
 unfolding startCall repairLinesBoth repairLines listLines
@@ -275,6 +285,7 @@ alone-laws = record {
   write-alone = write-alone;
   repair-alone = repair-alone;
   edit-alone = edit-alone;
+  move-alone = move-alone;
   idle-sound = idle-sound;
   start-would = start-would;
   none-beside = none-beside;

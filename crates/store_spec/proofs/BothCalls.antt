@@ -17,7 +17,7 @@ use Rattle.sizes.specs.declared.Sizes.{Sizes}
 use Rattle.sizes.specs.declared.Check.{Check}
 use Rattle.sizes.specs.declared.Answer.the-variants.{Refused}
 use Rattle.sizes.specs.Refusals.{said, Line, appliesIn, first, storeOrder}
-use Rattle.sizes.proofs.Lines.{one-or-none, refuse-first, clear-first, first-clear, says-not, says-itself, says-differ, says-less, says-no-file}
+use Rattle.sizes.proofs.Lines.{one-or-none, refuse-first, clear-first, first-clear, says-not, says-itself, says-differ, says-less, says-two, says-no-file}
 use Rattle.sizes.proofs.Alike.{alike-at}
 use Rattle.board_spec.proofs.Claims.{EachSays, _and_, end, lines-say, says-either}
 use Rattle.store_spec.specs.Record.{Record, newRecord}
@@ -25,14 +25,14 @@ use Rattle.store_spec.specs.Running.{Running, idle, runningBy, freshOf, 
 use Rattle.store_spec.specs.Calls.{settle, accepted, recordLine, writeLines, loseLines, listLines, repairLines, readLines}
 use Rattle.store_spec.specs.Edit.{editLines}
 use Rattle.store_spec.specs.Careful.{carefulLines}
-use Rattle.store_spec.specs.Both.{Outcome, beside, writeLinesBoth, loseLinesBoth, repairLinesBoth}
-use Rattle.store_spec.specs.Both.{readLinesBoth, editLinesBoth, carefulLinesBoth, stepLines, leftOf, stepLast, stepOn, setUpBoth}
-use Rattle.store_spec.specs.Both.{writeBoth, loseBoth, repairBoth, readBoth, editBoth, carefulBoth, startCall, stepCall}
+use Rattle.store_spec.specs.Move.{moveLines}
+use Rattle.store_spec.specs.Both.{Outcome, beside, writeLinesBoth, loseLinesBoth, repairLinesBoth, readLinesBoth, editLinesBoth, carefulLinesBoth, moveLinesBoth, stepLines}
+use Rattle.store_spec.specs.Both.{leftOf, stepLast, stepOn, setUpBoth, writeBoth, loseBoth, repairBoth, readBoth, editBoth, carefulBoth, moveBoth, startCall, stepCall}
 use Rattle.store_spec.specs.BothCalls.{BothEnds, storeLines, storeDone, storeClaims, BothCalls}
-use Rattle.store_spec.specs.Ledger.{Call, write, lose, repair, read, edit, start, step, careful, Book, Repairing, during, carriedBy, bookRunning, State, act, outputOf, packetsOfCall}
+use Rattle.store_spec.specs.Ledger.{Call, write, lose, repair, read, edit, start, step, careful, move, Book, Repairing, during, carriedBy, bookRunning, State, act, outputOf, packetsOfCall}
 use Rattle.store_spec.proofs.Agree.{Tallies, alike}
 use Rattle.store_spec.proofs.Beside.{sound-beside}
-use Rattle.store_spec.proofs.Demand1.{list-each, says-both}
+use Rattle.store_spec.proofs.Demand1.{list-each, says-both, says-repeat, says-down}
 use Rattle.store_spec.proofs.Step.{settle-pass}
 
 -- ---- a call by its lines
@@ -45,7 +45,7 @@ module _ (s : Record) (p : Running) (area output packets : List ℕ) (done : Out
 pub act-is : (w : State) (c : Call)
     → act w c ≡ by (w .kept) (w .running) (w .area) (outputOf c) (packetsOfCall c) (storeDone (w .kept) (w .running) (w .area) c)
     (first storeOrder (storeLines (w .kept) (w .running) (w .area) c))
-unfolding act storeLines storeDone writeBoth loseBoth repairBoth readBoth editBoth startCall stepCall carefulBoth
+unfolding act storeLines storeDone writeBoth loseBoth repairBoth readBoth editBoth startCall stepCall carefulBoth moveBoth
 act-is w (write file) = refl
 act-is w (lose board) = refl
 act-is w (repair fresh helpers standIns) = refl
@@ -54,6 +54,7 @@ act-is w (edit offset bytes boards) = refl
 act-is w (start fresh helpers standIns) = refl
 act-is w (step allowance packets) = refl
 act-is w (careful boards output) = refl
+act-is w (move board point helpers partners) = refl
 
 -- what is done is accepted
 pub done-accepted : (s : Record) (p : Running) (area : List ℕ) (c : Call) → storeDone s p area c .answer .refusal ≡ 0
@@ -70,6 +71,7 @@ done-accepted s p area (step allowance packets) = go (leb (leftOf s p area packe
     go true = refl
     go false = refl
 done-accepted s p area (careful boards output) = refl
+done-accepted s p area (move board point helpers partners) = refl
 
 ends : (lines : List Line) (s : Record) (p : Running) (area output packets : List ℕ) (done : Outcome) → done .answer .refusal ≡ 0
     → BothEnds lines s p area output packets done (by s p area output packets done (first storeOrder lines))
@@ -122,7 +124,8 @@ says-lengths m a mp l r = (there, back)
         go false = refl
 
 lines-hold : (s : Record) (p : Running) (area : List ℕ) (c : Call) → EachSays (storeLines s p area c) (storeClaims s p area c)
-unfolding storeLines writeLinesBoth loseLinesBoth repairLinesBoth readLinesBoth editLinesBoth carefulLinesBoth stepLines writeLines loseLines repairLines readLines editLines carefulLines
+unfolding storeLines writeLinesBoth loseLinesBoth repairLinesBoth readLinesBoth editLinesBoth carefulLinesBoth moveLinesBoth stepLines writeLines loseLines repairLines readLines editLines carefulLines
+    moveLines
 lines-hold s p area (write file) = says-either _ _ and says-itself _ and says-differ _ _ and says-less _ _ and end
 lines-hold s p area (lose board) = says-either _ _ and says-not _ and end
 lines-hold s p area (repair fresh helpers standIns) =
@@ -163,6 +166,16 @@ lines-hold s p area (careful boards output) =
     and says-not _
     and says-less _ _
     and says-no-file _
+    and end
+lines-hold s p area (move board point helpers partners) =
+    says-either _ _
+    and says-itself _
+    and says-differ _ _
+    and says-not _
+    and says-two _ _ _ _
+    and says-not _
+    and says-repeat _ _
+    and says-down _ _
     and end
 
 -- ---- records of a repair

@@ -8,7 +8,7 @@ use mathlib.Core.List.{List, [], _∷_, _++_}
 use native.Mathlib.Omega.{arith}
 use lib.ListN.{length, drop, take, getD}
 use lib.Dec.{leb, eqb}
-use borrow.Author.Tests.{leb-true, le-leb, lt-ltb, eqb-true, eq-eqb, not-true}
+use borrow.Author.Tests.{leb-true, le-leb, lt-ltb, eqb-true, eq-eqb, not-true, ltb-true}
 use Rattle.lists.specs.Lists.{piece, All, tabulate}
 use Rattle.lists.specs.Tests.{pick, among, alls, different, apart, every}
 use Rattle.lists.proofs.Alls.{all-left}
@@ -22,7 +22,7 @@ use Rattle.sizes.specs.declared.Check.the-variants.{Pass, Refuse}
 use Rattle.sizes.specs.declared.Refusal.{Refusal}
 use Rattle.sizes.specs.declared.Sizes.{Sizes}
 use Rattle.sizes.proofs.Legal.{legal-facts}
-use Rattle.sizes.proofs.Lines.{one-or-none, refuse-first, clear-first, says-not, says-differ, says-less, says-no-file}
+use Rattle.sizes.proofs.Lines.{one-or-none, refuse-first, clear-first, says-not, says-differ, says-less, says-no-file, says-two}
 use Rattle.mbcr.specs.Share.{pointed, share, stripe, kept}
 use Rattle.mbcr.proofs.Repair.{length-kept}
 use Rattle.store_spec.specs.Calls.{StoreOutcome, settle, accepted, refused, recordLine, setUpCall, writeLines, writeDone, writeCall, loseLines, loseDone, loseCall}
@@ -32,9 +32,10 @@ use Rattle.board_spec.specs.Claims.{LinesSay}
 use Rattle.board_spec.proofs.Claims.{EachSays, _and_, end, lines-say}
 use Rattle.store_spec.specs.Edit.{editLines, editDone, editCall}
 use Rattle.store_spec.specs.Careful.{carefulFile, carefulLines, carefulDone, carefulCall}
-use Rattle.store_spec.specs.Demand1.{StoreEnds, Stays, StoreCalls, writeClaims, loseClaims, listClaims, repairClaims, readClaims, editClaims, carefulClaims}
+use Rattle.store_spec.specs.Demand1.{StoreEnds, Stays, StoreCalls, writeClaims, loseClaims, listClaims, repairClaims, readClaims, editClaims, carefulClaims, moveClaims}
 use Rattle.store_spec.specs.Packets.{freshShare, hearNamed, standInsEach}
 use Rattle.store_spec.specs.Record.{Record, newRecord, sound, inService, stripeCount, held, writtenRecord, usedLen, partLen}
+use Rattle.store_spec.specs.Move.{moveLines, moveDone, moveCall}
 use Rattle.store_spec.proofs.Area.{held-stripe, length-shares, byte-stays, shares-same}
 use Rattle.store_spec.proofs.Careful.{odd-named}
 use Rattle.store_spec.proofs.Demand3.{set-up-sound, set-up-taken, passes}
@@ -91,6 +92,12 @@ careful-ends : (s : Record) (area boards output : List ℕ)
     → StoreEnds (carefulLines s area boards output) s area output (carefulDone s area boards output) (carefulCall s area boards output)
 unfolding carefulCall
 careful-ends s area boards output = ends _ s area output _ refl
+
+move-ends : (s : Record) (area : List ℕ) (board point : ℕ) (helpers partners : List ℕ)
+    → StoreEnds (moveLines s (length area) board point helpers partners) s area [] (moveDone s area board point helpers partners)
+    (moveCall s area board point helpers partners)
+unfolding moveCall
+move-ends s area board point helpers partners = ends _ s area [] _ refl
 
 -- ---- records
 
@@ -381,6 +388,52 @@ careful-reports s area boards output =
     either (λ o. ((o .answer .reported ≡ 0) ⊎ ((i : ℕ) × (o .answer .reported ≡ suc i) × (among boards i ≡ true))) × (o .area ≡ area))
     (first storeOrder (carefulLines s area boards output)) s area output _ (λ x. (inl refl, refl)) (odd-named s area (fileOf (carefulFile s area boards)) boards, refl)
 
+move-output : (s : Record) (area : List ℕ) (board point : ℕ) (helpers partners : List ℕ) → moveCall s area board point helpers partners .output ≡ []
+unfolding moveCall
+move-output s area board point helpers partners =
+    either (λ o. o .output ≡ []) (first storeOrder (moveLines s (length area) board point helpers partners)) s area [] _ (λ x. refl) refl
+
+-- a new byte that some board has
+pub says-repeat : (a b : Bool) → (not (alls (a ∷ not b ∷ [])) ≡ true) ↔ ((a ≡ false) ⊎ (b ≡ true))
+says-repeat true true = (λ e. inr refl, λ e. refl)
+says-repeat true false = (λ e. absurd (true-false e refl), no)
+  where
+    no : (true ≡ false) ⊎ (false ≡ true) → not (alls (true ∷ not false ∷ [])) ≡ true
+    no (inl e) = absurd (true-false refl e)
+    no (inr e) = absurd (true-false e refl)
+says-repeat false b = (λ e. inl refl, λ e. refl)
+
+-- DOWN by some board that is out of service
+pub says-down : (p : ℕ → Bool) (n : ℕ) → (not (every p (tabulate n (λ i. i))) ≡ true) ↔ ((i : ℕ) × (i < n) × (p i ≡ false))
+says-down p n = (
+  (λ e. let q = found (tabulate n (λ i. i)) e in (q .0, ltb-true (q .0) n (sym (among-first n (q .0)) ∙ q .1), q .2)),
+  (λ q. says-not (every p (tabulate n (λ i. i))) .1 (is-false (every p (tabulate n (λ i. i)))
+      (λ e. true-false (all-among (λ i. p i ≡ true) (tabulate n (λ i. i)) (q .0) (every-all p (tabulate n (λ i. i)) e) (among-first n (q .0) ∙ lt-ltb (q .0) n (q .1))) (q .2)))),
+)
+  where
+    found : (l : List ℕ) → not (every p l) ≡ true → (i : ℕ) × (among l i ≡ true) × (p i ≡ false)
+    found [] e = absurd (true-false e refl)
+    found (x ∷ l) e = go (p x) refl e (found l)
+      where
+        go : (t : Bool) → p x ≡ t → not (pick t (every p l) false) ≡ true
+            → (not (every p l) ≡ true → (i : ℕ) × (among l i ≡ true) × (p i ≡ false)) → (i : ℕ) × (among (x ∷ l) i ≡ true) × (p i ≡ false)
+        go false q k ih = (x, among-head x l, q)
+        go true q k ih = let r = ih k in (r .0, among-tail x (r .0) l (r .1), r .2)
+
+move-lines : (s : Record) (m board point : ℕ) (helpers partners : List ℕ)
+    → LinesSay (moveLines s m board point helpers partners) (moveClaims s m board point helpers partners)
+unfolding moveLines
+move-lines s m board point helpers partners =
+    lines-say (moveLines s m board point helpers partners) (moveClaims s m board point helpers partners)
+    (says-not _
+    and says-differ _ _
+    and says-not _
+    and says-two _ _ _ _
+    and says-not _
+    and says-repeat _ _
+    and says-down _ _
+    and end)
+
 pub demand-1 : StoreCalls
 demand-1 = record {
   accepted-is = λ v s area output. refl;
@@ -391,6 +444,7 @@ demand-1 = record {
   read-reports = read-reports;
   edit-reports = edit-reports;
   careful-reports = careful-reports;
+  move-output = move-output;
   new-is = λ z xs c. refl;
   in-service-is = λ s i. refl;
   written-is = λ s L. refl;
@@ -403,6 +457,7 @@ demand-1 = record {
   read-lines = read-lines;
   edit-lines = edit-lines;
   careful-lines = careful-lines;
+  move-lines = move-lines;
   set-up-ends = set-up-ends;
   write-ends = write-ends;
   lose-ends = lose-ends;
@@ -410,6 +465,7 @@ demand-1 = record {
   read-ends = read-ends;
   edit-ends = edit-ends;
   careful-ends = careful-ends;
+  move-ends = move-ends;
   set-up-accepted = set-up-accepted;
   sound-is = λ s. (sound-there s, sound-back s);
   held-place = held-place;

@@ -31,9 +31,9 @@ use Rattle.store_spec.specs.Running.{Running, idle, runningBy, packetsLe
 use Rattle.store_spec.specs.Both.{Outcome, beside, repairLinesBoth, repairBoth, readBoth, setUpBoth}
 use Rattle.store_spec.specs.Demand3.{Repaired, events, WholeStep, Intact, begun, Demand3Claim, Demand3At, Demand3Standard, Demand3FirstSeries}
 use Rattle.store_spec.specs.Ledger.{State, Book, Repairing, Step, Event, call, powerFails, replies, bookReplies, final, bookFinal, Call, Fair, FairEvent, act, bookRecord, Tells, carriedBy}
-use Rattle.store_spec.specs.Ledger.{Reply, replyOf, packetsAfter, told, bookTold, next, bookNext, lent, enter}
-use Rattle.store_spec.specs.Ledger.{Altered, Unaltered, Allowed, bookLength, openBook, write, lose, repair, read, edit}
-use Rattle.store_spec.specs.Ledger.{start, step, careful}
+use Rattle.store_spec.specs.Ledger.{Reply, replyOf, packetsAfter, told, bookTold, next, bookNext, lent, enter, Altered, Unaltered, Allowed, bookLength, openBook}
+use Rattle.store_spec.specs.Ledger.{write, lose, repair, read, edit}
+use Rattle.store_spec.specs.Ledger.{start, step, careful, move}
 use Rattle.store_spec.specs.Packets.{helperPackets, standInPackets, exchangePackets, hearHelpers, hearPartners, standInsEach, partnerPackets, freshShare, repairPackets}
 use Rattle.store_spec.specs.Record.{Record, allOff, held, usedLen, sound, newRecord}
 use Rattle.store_spec.proofs.Area.{shares-same}
@@ -50,6 +50,7 @@ use Rattle.store_spec.proofs.StepRead.{read-good, read-gives}
 use Rattle.store_spec.proofs.StepRepair.{repair-good}
 use Rattle.store_spec.proofs.StepEdit.{edit-good}
 use Rattle.store_spec.proofs.StepCareful.{careful-good}
+use Rattle.store_spec.proofs.StepMove.{move-good}
 use Rattle.store_spec.proofs.StepCarry.{inv-going, altered-runs, start-good, step-good, all-is, ls, lent-lies}
 
 -- a call that answers no refusal has passed its lines
@@ -137,6 +138,7 @@ module _ (laws : AllLaws) where
   one-call b area packets v g p tells (start fresh helpers standIns) ok = start-good laws b area v packets g p tells fresh helpers standIns
   one-call b area packets v g p tells (step allowance lent) ok = step-good laws b area v packets g p tells allowance lent ok
   one-call b area packets v g p tells (careful boards output) ok = careful-good laws b area v packets g p tells boards output
+  one-call b area packets v g p tells (move board point helpers partners) ok = move-good laws b area v packets g p tells board point helpers partners ok
 
   -- one event of a state that is the book's
   pub one : (w : State) (b : Book) (h : Between w b) (e : Event) → FairEvent b (w .packets) e → (told w e ≡ bookTold b e) × Between (next w e) (bookNext b e)

@@ -1,14 +1,14 @@
 -- What a call changes in the ledger's book.
 -- Assumes nothing.
 use Prim.Native.Nat.{ℕ, _+_, _-_, _*_, _≤_, _<_}
-use mathlib.Core.Path.{_≡_, refl, _∙_, ap}
+use mathlib.Core.Path.{_≡_, refl, sym, _∙_, ap}
 use mathlib.Core.Bool.{Bool, true, false, not}
 use mathlib.Core.List.{List, [], _∷_, _++_}
 use mathlib.Core.Option.{Option, some, none}
 use native.Mathlib.Omega.{arith}
 use lib.Dec.{ltb, eqb, leb}
-use lib.ListN.{length}
-use borrow.Author.Tests.{le-leb, lt-leb}
+use lib.ListN.{length, set}
+use borrow.Author.Tests.{le-leb, lt-leb, ne-eqb}
 use Rattle.lists.specs.Tests.{pick, among, alls, given}
 use Rattle.lists.proofs.Tests.{true-false, not-no}
 use Rattle.lists.specs.Lists.{put}
@@ -18,16 +18,29 @@ use Rattle.sizes.specs.declared.Check.the-variants.{Pass, Refuse}
 use Rattle.sizes.specs.declared.Answer.the-variants.{Done, Refused}
 use Rattle.sizes.specs.declared.Refusal.the-variants.{Area, Empty, Idle}
 use Rattle.sizes.specs.Sizing.{α, stripes}
-use Rattle.sizes.specs.Refusals.{said, _when_, first, storeOrder}
+use Rattle.sizes.specs.Refusals.{said, _when_, first, storeOrder, number}
 use Rattle.sizes.specs.declared.Refusal.the-variants.{Busy, Idle}
+use Rattle.sizes.specs.declared.Refusal.{Refusal}
 use Rattle.sizes.proofs.Orders.{clear-off}
 use Rattle.sizes.proofs.Laws.{number-low}
 use Rattle.board_spec.specs.Calls.{fileOf}
 use Rattle.store_spec.specs.Calls.{settle}
-use Rattle.store_spec.specs.Ledger.{Call, write, lose, repair, read, edit, start, step, careful, Book, Repairing, during, keptOn, ended, goesOn, repairAsked, Entry, outputOf, replied}
-use Rattle.store_spec.specs.Ledger.{bookLength, bookLines, accept, enter}
-use Rattle.store_spec.specs.LedgerLaws.{Accepted, LedgerLaws}
+use Rattle.store_spec.specs.Ledger.{Call, write, lose, repair, read, edit, start, step, careful, move, Book, Repairing, during, keptOn, ended, goesOn, repairAsked, Entry, outputOf, replied}
+use Rattle.store_spec.specs.Ledger.{bookLength, bookLines, accept, enter, pointedBook}
+use Rattle.store_spec.specs.LedgerLaws.{Accepted, newPoint, setPoints, LedgerLaws}
 use Rattle.store_spec.proofs.Marks.{among-first}
+
+-- a refused call moves no board
+pub no-point : (call : Call) (x : Refusal) → newPoint call (said (Refused x)) ≡ []
+no-point (write file) x = refl
+no-point (lose board) x = refl
+no-point (repair fresh helpers standIns) x = refl
+no-point (read boards output) x = refl
+no-point (edit offset bytes boards) x = refl
+no-point (start fresh helpers standIns) x = refl
+no-point (step allowance packets) x = refl
+no-point (careful boards output) x = refl
+no-point (move board point helpers partners) x = rw (ne-eqb (number x) 0 (λ e. omega (arith, number-low x))) refl
 
 -- a call is accepted, and then the entry is the accepted one, or it is refused
 module _ (b : Book) (output : List ℕ) (done : Entry) where
@@ -42,10 +55,15 @@ module _ (b : Book) (output : List ℕ) (done : Entry) where
   by-refused Pass e h = absurd (h e)
   by-refused (Refuse x) e h = (refl, refl)
 
-  by-stay : (t : Check) → (done .book .sizes ≡ b .sizes) × (done .book .points ≡ b .points) × (done .book .capacity ≡ b .capacity) × (done .book .areaLength ≡ b .areaLength)
-      → (by t .book .sizes ≡ b .sizes) × (by t .book .points ≡ b .points) × (by t .book .capacity ≡ b .capacity) × (by t .book .areaLength ≡ b .areaLength)
+  by-stay : (t : Check) → (done .book .sizes ≡ b .sizes) × (done .book .capacity ≡ b .capacity) × (done .book .areaLength ≡ b .areaLength)
+      → (by t .book .sizes ≡ b .sizes) × (by t .book .capacity ≡ b .capacity) × (by t .book .areaLength ≡ b .areaLength)
   by-stay Pass h = h
-  by-stay (Refuse x) h = (refl, refl, refl, refl)
+  by-stay (Refuse x) h = (refl, refl, refl)
+
+  by-points : (t : Check) (call : Call) → done .book .points ≡ setPoints (b .points) (newPoint call (done .reply .answer))
+      → by t .book .points ≡ setPoints (b .points) (newPoint call (by t .reply .answer))
+  by-points Pass call h = h
+  by-points (Refuse x) call h = ap (setPoints (b .points)) (sym (no-point call x))
 
   by-same : (t : Check) → done .book ≡ b → by t .book ≡ b
   by-same Pass e = e
@@ -69,30 +87,52 @@ accepts b (step allowance packets) = go (b .repairing)
         by true = refl
         by false = refl
 accepts b (careful boards output) = refl
+accepts b (move board point helpers partners) = refl
 
 done-stay : (b : Book) (call : Call)
-    → (accept b call .book .sizes ≡ b .sizes) × (accept b call .book .points ≡ b .points)
-    × (accept b call .book .capacity ≡ b .capacity) × (accept b call .book .areaLength ≡ b .areaLength)
+    → (accept b call .book .sizes ≡ b .sizes) × (accept b call .book .capacity ≡ b .capacity) × (accept b call .book .areaLength ≡ b .areaLength)
 unfolding accept
-done-stay b (write file) = (refl, refl, refl, refl)
-done-stay b (lose board) = (refl, refl, refl, refl)
-done-stay b (repair fresh helpers standIns) = (refl, refl, refl, refl)
-done-stay b (read boards output) = (refl, refl, refl, refl)
-done-stay b (edit offset bytes boards) = (refl, refl, refl, refl)
-done-stay b (start fresh helpers standIns) = (refl, refl, refl, refl)
+done-stay b (write file) = (refl, refl, refl)
+done-stay b (lose board) = (refl, refl, refl)
+done-stay b (repair fresh helpers standIns) = (refl, refl, refl)
+done-stay b (read boards output) = (refl, refl, refl)
+done-stay b (edit offset bytes boards) = (refl, refl, refl)
+done-stay b (start fresh helpers standIns) = (refl, refl, refl)
 done-stay b (step allowance packets) = go (b .repairing)
   where
     go : (o : Option Repairing)
         → let e = during o (replied (said (Done 0)) [] b) (λ r. pick (leb (r .left) allowance) (ended b r) (goesOn b r allowance)) in
-        (e .book .sizes ≡ b .sizes) × (e .book .points ≡ b .points) × (e .book .capacity ≡ b .capacity) × (e .book .areaLength ≡ b .areaLength)
-    go none = (refl, refl, refl, refl)
+        (e .book .sizes ≡ b .sizes) × (e .book .capacity ≡ b .capacity) × (e .book .areaLength ≡ b .areaLength)
+    go none = (refl, refl, refl)
     go (some r) = by (leb (r .left) allowance)
       where
         by : (t : Bool) → let e = pick t (ended b r) (goesOn b r allowance) in
-            (e .book .sizes ≡ b .sizes) × (e .book .points ≡ b .points) × (e .book .capacity ≡ b .capacity) × (e .book .areaLength ≡ b .areaLength)
-        by true = (refl, refl, refl, refl)
-        by false = (refl, refl, refl, refl)
-done-stay b (careful boards output) = (refl, refl, refl, refl)
+            (e .book .sizes ≡ b .sizes) × (e .book .capacity ≡ b .capacity) × (e .book .areaLength ≡ b .areaLength)
+        by true = (refl, refl, refl)
+        by false = (refl, refl, refl)
+done-stay b (careful boards output) = (refl, refl, refl)
+done-stay b (move board point helpers partners) = (refl, refl, refl)
+
+done-points : (b : Book) (call : Call) → accept b call .book .points ≡ setPoints (b .points) (newPoint call (accept b call .reply .answer))
+unfolding accept
+done-points b (write file) = refl
+done-points b (lose board) = refl
+done-points b (repair fresh helpers standIns) = refl
+done-points b (read boards output) = refl
+done-points b (edit offset bytes boards) = refl
+done-points b (start fresh helpers standIns) = refl
+done-points b (step allowance packets) = go (b .repairing)
+  where
+    go : (o : Option Repairing)
+        → during o (replied (said (Done 0)) [] b) (λ r. pick (leb (r .left) allowance) (ended b r) (goesOn b r allowance)) .book .points ≡ b .points
+    go none = refl
+    go (some r) = by (leb (r .left) allowance)
+      where
+        by : (t : Bool) → pick t (ended b r) (goesOn b r allowance) .book .points ≡ b .points
+        by true = refl
+        by false = refl
+done-points b (careful boards output) = refl
+done-points b (move board point helpers partners) = refl
 
 is-done : (b : Book) (call : Call) → Accepted b call → enter b call ≡ accept b call
 unfolding enter
@@ -103,9 +143,13 @@ unfolding enter
 refused b call h = by-refused b (outputOf call) (accept b call) (first storeOrder (bookLines b call)) (accepts b call) h
 
 stay : (b : Book) (call : Call)
-    → (enter b call .book .sizes ≡ b .sizes) × (enter b call .book .points ≡ b .points) × (enter b call .book .capacity ≡ b .capacity) × (enter b call .book .areaLength ≡ b .areaLength)
+    → (enter b call .book .sizes ≡ b .sizes) × (enter b call .book .capacity ≡ b .capacity) × (enter b call .book .areaLength ≡ b .areaLength)
 unfolding enter
 stay b call = by-stay b (outputOf call) (accept b call) (first storeOrder (bookLines b call)) (done-stay b call)
+
+points-are : (b : Book) (call : Call) → enter b call .book .points ≡ setPoints (b .points) (newPoint call (enter b call .reply .answer))
+unfolding enter
+points-are b call = by-points b (outputOf call) (accept b call) (first storeOrder (bookLines b call)) call (done-points b call)
 
 writes : (b : Book) (file : List ℕ) → Accepted b (write file)
     → (enter b (write file) .book .file ≡ some file) × ((i : ℕ) → among (enter b (write file) .book .service) i ≡ ltb i (b .sizes .n))
@@ -184,6 +228,16 @@ starts b fresh helpers standIns e =
       ap (λ (y : Entry). y .book .service) d,
     )
 
+moves : (b : Book) (board point : ℕ) (helpers partners : List ℕ) → Accepted b (move board point helpers partners)
+    → (b .repairing ≡ none)
+    × (enter b (move board point helpers partners) .reply .answer .reported ≡ stripes (b .sizes) (bookLength b) * (2 * b .sizes .d + b .sizes .r - 1))
+    × (enter b (move board point helpers partners) .book ≡ pointedBook b (set (b .points) board point))
+unfolding accept bookLines
+moves b board point helpers partners e =
+    let off = clear-off (bookLines b (move board point helpers partners)) storeOrder (taken b (move board point helpers partners) e) in
+    let d = is-done b (move board point helpers partners) e in
+    (none-there (b .repairing) (off Busy refl), ap (λ (y : Entry). y .reply .answer .reported) d, ap (λ (y : Entry). y .book) d)
+
 module _ (b : Book) (r : Repairing) (allowance : ℕ) (packets : List ℕ) (q : b .repairing ≡ some r) (e : Accepted b (step allowance packets)) where
   stepped : (t : Bool) → leb (r .left) allowance ≡ t → enter b (step allowance packets) ≡ pick t (ended b r) (goesOn b r allowance)
   unfolding accept
@@ -236,6 +290,8 @@ pub ledger-laws : LedgerLaws
 ledger-laws = record {
   refused = refused;
   stay = stay;
+  points-are = points-are;
+  moves = moves;
   writes = writes;
   loses = loses;
   repairs = repairs;

@@ -20,6 +20,8 @@ pub mod Those
 pub mod Held
 pub mod Careful
 pub mod StepCareful
+pub mod Move
+pub mod StepMove
 pub mod StepCarry
 pub mod Whole
 pub mod Demand3
@@ -30,6 +32,7 @@ pub mod ListLaws
 pub mod MarkLaws
 pub mod Exact
 pub mod CarefulLaws
+pub mod MoveLaws
 pub mod Demand1
 pub mod BothCalls
 pub mod AloneLaws

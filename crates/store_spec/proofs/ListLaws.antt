@@ -8,7 +8,7 @@ use Prim.Native.Nat.{ℕ}
 use borrow.Author.Tests.{eq-eqb, ne-eqb}
 use Rattle.lists.specs.Tests.{pick}
 use Rattle.lists.proofs.Pieces.{map-append}
-use Rattle.store_spec.specs.Ledger.{Call, write, lose, repair, read, edit, start, step, careful, Event, call, Reply, Book, State, Step, act, lent, next, told, bookNext, bookTold}
+use Rattle.store_spec.specs.Ledger.{Call, write, lose, repair, read, edit, start, step, careful, move, Event, call, Reply, Book, State, Step, act, lent, next, told, bookNext, bookTold}
 use Rattle.store_spec.specs.Ledger.{replies, final, bookReplies, bookFinal}
 use Rattle.store_spec.specs.ListLaws.{ListLaws}
 
@@ -49,6 +49,7 @@ refused-leave w (start fresh helpers standIns) e = refl
 refused-leave w (step allowance packets) e =
     ap (λ (t : Bool). pick t (act w (step allowance packets) .packets) (w .packets)) (ne-eqb (act w (step allowance packets) .answer .refusal) 0 e)
 refused-leave w (careful boards output) e = refl
+refused-leave w (move board point helpers partners) e = refl
 
 others-leave : (w : State) (c : Call) → ((allowance : ℕ) (packets : List ℕ) → c ≢ step allowance packets) → next w (call c) .packets ≡ w .packets
 others-leave w (write file) e = refl
@@ -59,6 +60,7 @@ others-leave w (edit offset bytes boards) e = refl
 others-leave w (start fresh helpers standIns) e = refl
 others-leave w (step allowance packets) e = absurd (e allowance packets refl)
 others-leave w (careful boards output) e = refl
+others-leave w (move board point helpers partners) e = refl
 
 pub list-laws : ListLaws
 unfolding act
@@ -71,6 +73,7 @@ list-laws = record {
   starts = λ w fresh helpers standIns. refl;
   steps = λ w allowance packets. refl;
   careful-reads = λ w boards output. refl;
+  moves = λ w board point helpers partners. refl;
   lents = λ w t. refl;
   lefts = λ w c. (refl, refl, refl);
   replies-are = λ o. (refl, refl);

@@ -1,38 +1,42 @@
 -- What an accepted call changes in the store's record.
 -- Assumes nothing.
-use Prim.Native.Nat.{ℕ, _<_, _≤_}
+use Prim.Native.Nat.{ℕ, zero, suc, _<_}
 use mathlib.Core.Path.{_≡_, refl, sym, _∙_, ap, subst}
 use mathlib.Core.Bool.{Bool, true, false}
 use mathlib.Core.List.{List, [], _∷_, _++_}
 use native.Mathlib.Omega.{arith}
 use lib.Dec.{leb, ltb, eqb}
-use lib.ListN.{length, length-set, drop, getD, set, List·getD-eq-default}
+use lib.ListN.{length, length-set, drop, getD, set}
 use lib.Seq.{getD-set-same, getD-set-other}
-use borrow.Author.Tests.{eqb-true, eqb-false, ltb-true, ltb-false}
+use borrow.Author.Tests.{eqb-true, eqb-false}
 use Rattle.lists.specs.Tests.{pick, alls, among}
 use Rattle.lists.proofs.Pieces.{tabulate-at}
 use Rattle.sizes.specs.declared.Check.{Check}
 use Rattle.sizes.specs.declared.Check.the-variants.{Pass, Refuse}
 use Rattle.sizes.specs.Sizing.{maxBoards}
-use Rattle.sizes.specs.Refusals.{first, storeOrder}
+use Rattle.sizes.specs.Refusals.{Said, first, storeOrder}
 use Rattle.sizes.proofs.Laws.{number-low}
 use Rattle.store_spec.specs.Record.{Record, inService, turnOn}
 use Rattle.store_spec.specs.Calls.{StoreOutcome, settle, refused, writeLines, writeDone, writeCall, loseLines, loseDone, loseCall, listLines, repairLines, repairDone, repairCall}
 use Rattle.store_spec.specs.Calls.{readLines, readDone, readCall}
 use Rattle.store_spec.specs.Edit.{editLines, editDone, editCall}
 use Rattle.store_spec.specs.Careful.{carefulLines, carefulDone, carefulCall}
+use Rattle.store_spec.specs.Move.{moveLines, moveDone, moveCall}
 use Rattle.store_spec.specs.Running.{Running, idle, runningBy, freshOf, namedIn}
 use Rattle.store_spec.specs.Both.{Outcome, repairLinesBoth, leftOf, stepLast, stepOn}
 use Rattle.store_spec.proofs.Beside.{alone-busy}
 use Rattle.store_spec.proofs.Records.{repair-facts, sound-facts}
 use Rattle.sizes.proofs.Legal.{legal-facts}
-use Rattle.lists.specs.Lists.{Bytes}
+use Rattle.lists.specs.Lists.{All, Bytes}
 use Rattle.lists.proofs.Alls.{all-imp, all-left, all-right, zeros-bytes}
 use Rattle.lists.proofs.Boards.{below-all}
 use Rattle.lists.proofs.Pieces.{length-fit, fit-bytes}
 use Rattle.store_spec.specs.BothCalls.{storeLines, storeDone}
 use Rattle.store_spec.proofs.BothCalls.{by, act-is, done-accepted}
-use Rattle.store_spec.specs.Ledger.{Call, write, lose, repair, read, edit, start, step, careful, State, act, outputOf, packetsOfCall}
+use Rattle.store_spec.specs.Ledger.{Call, write, lose, repair, read, edit, start, step, careful, move, State, act, outputOf, packetsOfCall}
+use Rattle.store_spec.specs.LedgerLaws.{newPoint, setPoints}
+use Rattle.store_spec.proofs.LedgerLaws.{no-point}
+use Rattle.store_spec.proofs.Marks.{off}
 use Rattle.store_spec.specs.MarkLaws.{Arrays, MarkLaws}
 
 -- a call that is accepted has done its work
@@ -42,19 +46,6 @@ by-done Pass s area output done e = refl
 by-done (Refuse x) s area output done e = absurd (omega (arith, number-low x))
 
 -- ---- a mark is set
-
-pub off : (marks : List Bool) (b i : ℕ) → getD (set marks b false) i false ≡ pick (eqb b i) false (getD marks i false)
-off marks b i = go (eqb b i) refl
-  where
-    at-end : (t : Bool) → ltb b (length marks) ≡ t → getD (set marks b false) b false ≡ false
-    at-end true e = getD-set-same marks b false false (ltb-true b (length marks) e)
-    at-end false e =
-        let h : length marks ≤ b = ltb-false b (length marks) e in
-        List·getD-eq-default (set marks b false) false {n = b} (omega (arith, h, length-set marks b false))
-
-    go : (t : Bool) → eqb b i ≡ t → getD (set marks b false) i false ≡ pick t false (getD marks i false)
-    go true e = ap (λ (x : ℕ). getD (set marks b false) x false) (sym (eqb-true b i e)) ∙ at-end (ltb b (length marks)) refl
-    go false e = getD-set-other marks b i false false (λ q. eqb-false b i e (sym q))
 
 on : (marks : List Bool) (b i : ℕ) → i < length marks → getD (set marks b true) i false ≡ pick (eqb b i) true (getD marks i false)
 on marks b i h = go (eqb b i) refl
@@ -110,6 +101,12 @@ module _ (s : Record) (area : List ℕ) where
   unfolding carefulCall
   did-careful boards output = same (first storeOrder (carefulLines s area boards output)) output (carefulDone s area boards output) refl
 
+  did-move : (board point : ℕ) (helpers partners : List ℕ) → moveCall s area board point helpers partners .answer .refusal ≡ 0
+      → moveCall s area board point helpers partners ≡ moveDone s area board point helpers partners
+  unfolding moveCall
+  did-move board point helpers partners e =
+      by-done (first storeOrder (moveLines s (length area) board point helpers partners)) s area [] (moveDone s area board point helpers partners) e
+
 -- ---- whatever the call, with both records
 
 length-on : (boards : List ℕ) (marks : List Bool) → length (turnOn boards marks) ≡ length marks
@@ -126,9 +123,10 @@ module _ (s : Record) (p : Running) (area output packets : List ℕ) (done : Out
   full Pass e d = d
   full (Refuse x) e d = e
 
-  points-by : (t : Check) → done .handed .points ≡ s .points → by s p area output packets done t .handed .points ≡ s .points
-  points-by Pass d = d
-  points-by (Refuse x) d = refl
+  points-by : (c : Call) (t : Check) → done .handed .points ≡ setPoints (s .points) (newPoint c (done .answer))
+      → by s p area output packets done t .handed .points ≡ setPoints (s .points) (newPoint c (by s p area output packets done t .answer))
+  points-by c Pass d = d
+  points-by c (Refuse x) d = ap (setPoints (s .points)) (sym (no-point c x))
 
 done-full : (s : Record) (p : Running) (area : List ℕ) (c : Call) → length (s .marks) ≡ maxBoards → length (storeDone s p area c .handed .marks) ≡ maxBoards
 unfolding storeDone
@@ -144,8 +142,9 @@ done-full s p area (step allowance packets) e = go (leb (leftOf s p area packets
     go true = length-on (freshOf p) (s .marks) ∙ e
     go false = e
 done-full s p area (careful boards output) e = e
+done-full s p area (move board point helpers partners) e = e
 
-done-points : (s : Record) (p : Running) (area : List ℕ) (c : Call) → storeDone s p area c .handed .points ≡ s .points
+done-points : (s : Record) (p : Running) (area : List ℕ) (c : Call) → storeDone s p area c .handed .points ≡ setPoints (s .points) (newPoint c (storeDone s p area c .answer))
 unfolding storeDone
 done-points s p area (write file) = refl
 done-points s p area (lose board) = refl
@@ -159,6 +158,7 @@ done-points s p area (step allowance packets) = go (leb (leftOf s p area packets
     go true = refl
     go false = refl
 done-points s p area (careful boards output) = refl
+done-points s p area (move board point helpers partners) = refl
 
 refused-keeps : (w : State) (c : Call) → (act w c .answer .refusal ≡ 0 → ⊥)
     → act w c ≡ record { answer = act w c .answer; handed = w .kept; running = w .running; area = w .area; output = outputOf c; packets = packetsOfCall c }
@@ -176,11 +176,42 @@ full-marks w c e =
     ∙ full (w .kept) (w .running) (w .area) (outputOf c) (packetsOfCall c) (storeDone (w .kept) (w .running) (w .area) c)
     (first storeOrder (storeLines (w .kept) (w .running) (w .area) c)) e (done-full (w .kept) (w .running) (w .area) c e)
 
-points-stay : (w : State) (c : Call) → act w c .handed .points ≡ w .kept .points
-points-stay w c =
-    ap (λ (o : Outcome). o .handed .points) (act-is w c)
-    ∙ points-by (w .kept) (w .running) (w .area) (outputOf c) (packetsOfCall c) (storeDone (w .kept) (w .running) (w .area) c)
-    (first storeOrder (storeLines (w .kept) (w .running) (w .area) c)) (done-points (w .kept) (w .running) (w .area) c)
+points-are : (w : State) (c : Call) → act w c .handed .points ≡ setPoints (w .kept .points) (newPoint c (act w c .answer))
+points-are w c =
+    subst (λ (o : Outcome). o .handed .points ≡ setPoints (w .kept .points) (newPoint c (o .answer))) (sym (act-is w c))
+    (points-by (w .kept) (w .running) (w .area) (outputOf c) (packetsOfCall c) (storeDone (w .kept) (w .running) (w .area) c) c
+    (first storeOrder (storeLines (w .kept) (w .running) (w .area) c))
+    (done-points (w .kept) (w .running) (w .area) c))
+
+-- points that are moved
+length-points : (xs : List ℕ) (ps : List (ℕ × ℕ)) → length (setPoints xs ps) ≡ length xs
+length-points xs [] = refl
+length-points xs (p ∷ ps) = length-points (set xs (p .0) (p .1)) ps ∙ length-set xs (p .0) (p .1)
+
+points-bytes : (xs : List ℕ) (ps : List (ℕ × ℕ)) → Bytes xs → All (λ p. p .1 < 256) ps → Bytes (setPoints xs ps)
+points-bytes xs [] b h = b
+points-bytes xs (p ∷ ps) b h = points-bytes (set xs (p .0) (p .1)) ps (set-bytes xs (p .0) (p .1) b (h .0)) (h .1)
+  where
+    set-bytes : (xs : List ℕ) (i x : ℕ) → Bytes xs → x < 256 → Bytes (set xs i x)
+    set-bytes [] i x b h = tt
+    set-bytes (y ∷ xs) zero x b h = (h, b .1)
+    set-bytes (y ∷ xs) (suc i) x b h = (b .0, set-bytes xs i x (b .1) h)
+
+fair-point : (c : Call) (a : Said) → ((board point : ℕ) (helpers partners : List ℕ) → c ≡ move board point helpers partners → point < 256)
+    → All {A = ℕ × ℕ} (λ p. p .1 < 256) (newPoint c a)
+fair-point (write file) a f = tt
+fair-point (lose board) a f = tt
+fair-point (repair fresh helpers standIns) a f = tt
+fair-point (read boards output) a f = tt
+fair-point (edit offset bytes boards) a f = tt
+fair-point (start fresh helpers standIns) a f = tt
+fair-point (step allowance packets) a f = tt
+fair-point (careful boards output) a f = tt
+fair-point (move board point helpers partners) a f = go (eqb (a .refusal) 0)
+  where
+    go : (t : Bool) → All {A = ℕ × ℕ} (λ p. p .1 < 256) (pick t ((board, point) ∷ []) [])
+    go true = (f board point helpers partners refl, tt)
+    go false = tt
 
 -- the arrays of the record beside
 
@@ -238,6 +269,7 @@ done-arrays s p area (step allowance packets) h a = go (leb (leftOf s p area pac
       stand-ins-bytes = a .stand-ins-bytes;
     }
 done-arrays s p area (careful boards output) h a = a
+done-arrays s p area (move board point helpers partners) h a = a
 
 arrays-stay : (w : State) (c : Call) → Arrays (w .running) → Arrays (act w c .running)
 arrays-stay w c a = subst (λ (o : Outcome). Arrays (o .running)) (sym (act-is w c)) (go (first storeOrder (storeLines (w .kept) (w .running) (w .area) c)) refl)
@@ -251,7 +283,10 @@ pub mark-laws : MarkLaws
 mark-laws = record {
   refused-keeps = refused-keeps;
   full-marks = full-marks;
-  points-stay = points-stay;
+  points-are = points-are;
+  full-points = λ w call. ap length (points-are w call) ∙ length-points (w .kept .points) (newPoint call (act w call .answer));
+  byte-points = λ w call f b. subst Bytes (sym (points-are w call)) (points-bytes (w .kept .points) (newPoint call (act w call .answer)) b (fair-point call (act w call .answer) f));
+  moves = λ s area board point helpers partners e. ap (λ (o : StoreOutcome). o .handed) (did-move s area board point helpers partners e);
   arrays-stay = arrays-stay;
   arrays-idle = arrays-idle;
   writes = λ s area file e.

@@ -6,8 +6,8 @@ use mathlib.Core.Bool.{Bool, true, false, not}
 use mathlib.Core.List.{List, [], _∷_, _++_}
 use native.Mathlib.Omega.{arith}
 use lib.Dec.{ltb, eqb, eqb·zero-suc, eqb·suc-zero, eqb·suc-suc}
-use lib.ListN.{length, drop, getD, set, replicate, List·getD-eq-default}
-use lib.Seq.{getD-drop}
+use lib.ListN.{length, length-set, drop, getD, set, replicate, List·getD-eq-default}
+use lib.Seq.{getD-drop, getD-set-same, getD-set-other}
 use borrow.Author.Tests.{ltb-true, ltb-false, lt-ltb, le-ltb, eqb-true, eqb-false, eq-eqb, ne-eqb}
 use Rattle.lists.specs.Lists.{tabulate, All, without}
 use Rattle.lists.specs.Tests.{among, pick}
@@ -116,3 +116,18 @@ marks-all n = tabulate-ext maxBoards (λ i. ltb i n) (among (tabulate n (λ t. t
 
 pub first-below : (n m : ℕ) → n ≤ m → All (λ x. x < m) (tabulate n (λ t. t))
 first-below n m h = tabulate-all (λ x. x < m) n (λ t. t) (λ t k. omega arith)
+
+-- ---- one mark goes off
+
+pub off : (marks : List Bool) (b i : ℕ) → getD (set marks b false) i false ≡ pick (eqb b i) false (getD marks i false)
+off marks b i = go (eqb b i) refl
+  where
+    at-end : (t : Bool) → ltb b (length marks) ≡ t → getD (set marks b false) b false ≡ false
+    at-end true e = getD-set-same marks b false false (ltb-true b (length marks) e)
+    at-end false e =
+        let h : length marks ≤ b = ltb-false b (length marks) e in
+        List·getD-eq-default (set marks b false) false {n = b} (omega (arith, h, length-set marks b false))
+
+    go : (t : Bool) → eqb b i ≡ t → getD (set marks b false) i false ≡ pick t false (getD marks i false)
+    go true e = ap (λ (x : ℕ). getD (set marks b false) x false) (sym (eqb-true b i e)) ∙ at-end (ltb b (length marks)) refl
+    go false e = getD-set-other marks b i false false (λ q. eqb-false b i e (sym q))

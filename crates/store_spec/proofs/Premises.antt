@@ -18,7 +18,7 @@ use Rattle.sizes.specs.Sizing.{α, stripes}
 use Rattle.store_spec.specs.Record.{Record, part, partLen, stripeCount}
 use Rattle.store_spec.specs.Running.{Running, packetsLen}
 use Rattle.store_spec.specs.Lying.{placeOf}
-use Rattle.store_spec.specs.Ledger.{Call, write, lose, repair, read, edit, start, step, careful, Event, call, powerFails, Book, Repairing, during, bookLength, bookRecord}
+use Rattle.store_spec.specs.Ledger.{Call, write, lose, repair, read, edit, start, step, careful, move, Event, call, powerFails, Book, Repairing, during, bookLength, bookRecord}
 use Rattle.store_spec.specs.Ledger.{carriedBy, State, Step, Altered, Unaltered, Fair, FairEvent, Allowed, lent, next, bookNext, openBook}
 use Rattle.store_spec.specs.Demand3.{begun, events}
 use Rattle.store_spec.specs.Stepped.{IsCall}
@@ -78,6 +78,7 @@ fair w b (call (edit offset bytes boards)) es h i = (h .0, h .1, i)
 fair w b (call (start fresh helpers standIns)) es h i = (tt, h, i)
 fair w b (call (step allowance packets)) es h i = (by-turns b (w .packets) packets, h, i)
 fair w b (call (careful boards output)) es h i = (tt, h, i)
+fair w b (call (move board point helpers partners)) es h i = (h .0 .0, h .1, i)
 fair w b (powerFails p) es h i = (i .0, h, i .1)
 
 pub fair-bytes : (b : Book) (old : List ℕ) (c : Call) → Fair b old c → All Bytes (filesOf c)
@@ -89,6 +90,7 @@ fair-bytes b old (edit offset bytes boards) h = (h, tt)
 fair-bytes b old (start fresh helpers standIns) h = tt
 fair-bytes b old (step allowance packets) h = tt
 fair-bytes b old (careful boards output) h = tt
+fair-bytes b old (move board point helpers partners) h = ((h, tt), tt)
 
 all-allowed : (w : State) (b : Book) (es : List Event) → All Bytes (files es) → IdleGiven es → Allowed w b (unaltered w b es)
 all-allowed w b [] h i = tt
@@ -105,6 +107,7 @@ again-bare w b (call (edit offset bytes boards)) = refl
 again-bare w b (call (start fresh helpers standIns)) = refl
 again-bare w b (call (step allowance packets)) = refl
 again-bare w b (call (careful boards output)) = refl
+again-bare w b (call (move board point helpers partners)) = refl
 again-bare w b (powerFails p) = refl
 
 same-events : (w : State) (b : Book) (es : List Event) → map bare (events (unaltered w b es)) ≡ map bare es
@@ -162,6 +165,7 @@ fair-is w b area (call (edit offset bytes boards)) a = a .edits-bytes offset byt
 fair-is w b area (call (start fresh helpers standIns)) a = tt
 fair-is w b area (call (step allowance packets)) a = a .packets-lent allowance packets refl
 fair-is w b area (call (careful boards output)) a = tt
+fair-is w b area (call (move board point helpers partners)) a = a .moves-byte board point helpers partners refl
 fair-is w b area (powerFails p) a = a .idle-given p refl
 
 pub asked-is : (w : State) (b : Book) (t : Step) → Altered b (w .kept) (w .area) (t .area) → FairEvent b (w .packets) (t .event) → Asked w b t
@@ -170,6 +174,7 @@ asked-is w b t a f = record {
   agrees = altered-is b (w .kept) (w .area) (t .area) .0 a .1;
   writes-bytes = λ file e. subst (FairEvent b (w .packets)) e f;
   edits-bytes = λ offset bytes boards e. subst (FairEvent b (w .packets)) e f;
+  moves-byte = λ board point helpers partners e. subst (FairEvent b (w .packets)) e f;
   packets-lent = λ allowance packets e. subst (FairEvent b (w .packets)) e f;
   idle-given = λ given e. subst (FairEvent b (w .packets)) e f;
 }
@@ -208,16 +213,17 @@ unaltered-is b r old new e l m = (
     same r′ e′ = Option·some-injective r r′ (sym e ∙ e′)
 
 files-other : (e : Event) (es : List Event) → ((file : List ℕ) → e ≢ call (write file)) → ((offset : ℕ) (bytes boards : List ℕ) → e ≢ call (edit offset bytes boards))
-    → files (e ∷ es) ≡ files es
-files-other (call (write file)) es a b = absurd (a file refl)
-files-other (call (lose board)) es a b = refl
-files-other (call (repair fresh helpers standIns)) es a b = refl
-files-other (call (read boards output)) es a b = refl
-files-other (call (edit offset bytes boards)) es a b = absurd (b offset bytes boards refl)
-files-other (call (start fresh helpers standIns)) es a b = refl
-files-other (call (step allowance packets)) es a b = refl
-files-other (call (careful boards output)) es a b = refl
-files-other (powerFails p) es a b = refl
+    → ((board point : ℕ) (helpers partners : List ℕ) → e ≢ call (move board point helpers partners)) → files (e ∷ es) ≡ files es
+files-other (call (write file)) es a b c = absurd (a file refl)
+files-other (call (lose board)) es a b c = refl
+files-other (call (repair fresh helpers standIns)) es a b c = refl
+files-other (call (read boards output)) es a b c = refl
+files-other (call (edit offset bytes boards)) es a b c = absurd (b offset bytes boards refl)
+files-other (call (start fresh helpers standIns)) es a b c = refl
+files-other (call (step allowance packets)) es a b c = refl
+files-other (call (careful boards output)) es a b c = refl
+files-other (call (move board point helpers partners)) es a b c = absurd (c board point helpers partners refl)
+files-other (powerFails p) es a b c = refl
 
 idle-there : (e : Event) (es : List Event) → IdleGiven (e ∷ es) → ((p : Running) → e ≡ powerFails p → p .running ≡ false) × IdleGiven es
 idle-there (call c) es h = ((λ p q. absurd (subst IsCall q tt)), h)
@@ -240,7 +246,26 @@ again-other w b (call (edit offset bytes boards)) h = refl
 again-other w b (call (start fresh helpers standIns)) h = refl
 again-other w b (call (step allowance packets)) h = absurd (h allowance packets refl)
 again-other w b (call (careful boards output)) h = refl
+again-other w b (call (move board point helpers partners)) h = refl
 again-other w b (powerFails p) h = refl
+
+whole-events : (w : State) (b : Book) (es : List Event) → All (λ e. (allowance : ℕ) (packets : List ℕ) → e ≢ call (step allowance packets)) es
+    → events (unaltered w b es) ≡ es
+whole-events w b [] h = refl
+whole-events w b (e ∷ es) h =
+    ap₂ {C = List Event} (λ x r. x ∷ r) (again-other w b e (h .0)) (whole-events (next w (lentAgain w b e)) (bookNext b (lentAgain w b e)) es (h .1))
+
+bare-other : (e : Event) → ((allowance : ℕ) (packets : List ℕ) → e ≢ call (step allowance packets)) → bare e ≡ e
+bare-other (call (write file)) h = refl
+bare-other (call (lose board)) h = refl
+bare-other (call (repair fresh helpers standIns)) h = refl
+bare-other (call (read boards output)) h = refl
+bare-other (call (edit offset bytes boards)) h = refl
+bare-other (call (start fresh helpers standIns)) h = refl
+bare-other (call (step allowance packets)) h = absurd (h allowance packets refl)
+bare-other (call (careful boards output)) h = refl
+bare-other (call (move board point helpers partners)) h = refl
+bare-other (powerFails p) h = refl
 
 pub premises : Premises
 premises = record {
@@ -254,12 +279,16 @@ premises = record {
   files-none = refl;
   files-write = λ file es. refl;
   files-edit = λ offset bytes boards es. refl;
+  files-move = λ board point helpers partners es. refl;
   files-other = files-other;
   idle-none = tt;
   idle-more = λ e es. (idle-there e es, (λ h. idle-back e es (h .0) (h .1)));
   again-free = λ w b allowance packets e. ap (λ (t : Bool). call (step allowance (pick t packets (w .packets)))) e;
   again-left = λ w b allowance packets e. ap (λ (t : Bool). call (step allowance (pick t packets (w .packets)))) e;
   again-other = again-other;
+  whole-events = whole-events;
+  bare-step = λ allowance packets. refl;
+  bare-other = bare-other;
   unaltered-none = λ w b. refl;
   unaltered-more = λ w b e es. refl;
   wrong-free = wrong-free;

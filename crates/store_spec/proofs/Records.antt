@@ -1,14 +1,14 @@
 -- What it says of a record that it is sound, and of a call that no line holds.
 -- Assumes nothing.
-use Prim.Native.Nat.{ℕ, _+_, _*_, _≤_, _<_}
+use Prim.Native.Nat.{ℕ, _+_, _-_, _*_, _≤_, _<_}
 use mathlib.Core.Path.{_≡_, refl, ap}
 use mathlib.Core.Bool.{Bool, true, false, not}
 use mathlib.Core.List.{List, [], _∷_, _++_}
 use native.Mathlib.Nat.{mul-le-mul-right}
 use lib.Dec.{leb, eqb}
-use lib.ListN.{length, drop}
-use borrow.Author.Tests.{leb-true, le-leb, ltb-false, le-ltb, eqb-true, eq-eqb}
-use Rattle.lists.specs.Tests.{pick, alls, below, different, every, apart, given}
+use lib.ListN.{length, take, drop}
+use borrow.Author.Tests.{leb-true, le-leb, ltb-false, le-ltb, eqb-true, eq-eqb, not-true}
+use Rattle.lists.specs.Tests.{pick, alls, below, among, different, every, apart, given}
 use Rattle.lists.proofs.Tests.{alls-hold, hold-alls, not-no}
 use Rattle.lists.proofs.Boards.{below-all}
 use Rattle.sizes.specs.Refusals.{first, storeOrder}
@@ -23,6 +23,7 @@ use Rattle.mbcr.proofs.PointLaws.{pointed-differ}
 use Rattle.store_spec.specs.Calls.{writeLines, loseLines, listLines, repairLines, readLines, fileHeld}
 use Rattle.store_spec.specs.Edit.{editLines}
 use Rattle.store_spec.specs.Careful.{carefulLines, carefulFile}
+use Rattle.store_spec.specs.Move.{allBoards, moveLines}
 use Rattle.store_spec.specs.Packets.{hearNamed, standInsEach}
 use Rattle.store_spec.specs.Record.{Record, allOff, sound, usedLen, partLen, areaLen, inService}
 
@@ -298,4 +299,56 @@ cares-pass s area boards output f g =
     also ap not (f .all-up)
     also le-ltb _ _ (f .room)
     also ap not g
+    also tt)
+
+pub record Moves (s : Record) (m board point : ℕ) (helpers partners : List ℕ) : Type 0 where
+  pub is-sound : sound s ≡ true
+  pub area-is : m ≡ areaLen s
+  pub is-written : s .written ≡ true
+  pub helper-count : length helpers ≡ s .sizes .d
+  pub partner-count : length partners ≡ s .sizes .r - 1
+  pub named-below : below (s .sizes .n) (board ∷ (helpers ++ partners)) ≡ true
+  pub named-different : different (board ∷ (helpers ++ partners)) ≡ true
+  pub point-free : among (take (s .sizes .n) (s .points)) point ≡ false
+  pub all-up : every (inService s) (allBoards s) ≡ true
+
+-- COUNT and REPEAT of a move
+abbrev pub moveCounts : Record → List ℕ → List ℕ → List Bool
+moveCounts s helpers partners = eqb (length helpers) (s .sizes .d) ∷ eqb (length partners) (s .sizes .r - 1) ∷ []
+
+abbrev pub moveRepeats : Record → ℕ → ℕ → List ℕ → List ℕ → List Bool
+moveRepeats s board point helpers partners =
+    different (board ∷ (helpers ++ partners)) ∷ not (among (take (s .sizes .n) (s .points)) point) ∷ []
+
+pub move-facts : (s : Record) (m board point : ℕ) (helpers partners : List ℕ) → first storeOrder (moveLines s m board point helpers partners) ≡ Pass
+    → Moves s m board point helpers partners
+unfolding moveLines
+move-facts s m board point helpers partners h =
+    let off = clear-off (moveLines s m board point helpers partners) storeOrder h in
+    let c = alls-hold (moveCounts s helpers partners) (not-no _ (off Count refl)) in
+    let d = alls-hold (moveRepeats s board point helpers partners) (not-no _ (off Repeat refl)) in
+    record {
+      is-sound = not-no _ (off Size refl);
+      area-is = eqb-true _ _ (not-no _ (off Area refl));
+      is-written = not-no _ (off Empty refl);
+      helper-count = eqb-true _ _ (c .0);
+      partner-count = eqb-true _ _ (c .1 .0);
+      named-below = not-no _ (off Node refl);
+      named-different = d .0;
+      point-free = not-true _ (d .1 .0);
+      all-up = not-no _ (off Down refl);
+    }
+
+pub moves-pass : (s : Record) (m board point : ℕ) (helpers partners : List ℕ) → Moves s m board point helpers partners
+    → first storeOrder (moveLines s m board point helpers partners) ≡ Pass
+unfolding moveLines
+moves-pass s m board point helpers partners f =
+    off-pass (moveLines s m board point helpers partners) storeOrder
+    (ap not (f .is-sound)
+    also ap not (eq-eqb _ _ (f .area-is))
+    also ap not (f .is-written)
+    also ap not (hold-alls (moveCounts s helpers partners) (eq-eqb _ _ (f .helper-count), (eq-eqb _ _ (f .partner-count), tt)))
+    also ap not (f .named-below)
+    also ap not (hold-alls (moveRepeats s board point helpers partners) (f .named-different, (ap not (f .point-free), tt)))
+    also ap not (f .all-up)
     also tt)

@@ -21,6 +21,51 @@ use Rattle.store_spec.proofs.Packets.{receivers-partners, partners-each
 use Rattle.store_spec.proofs.Records.{Repairs}
 use Rattle.store_spec.proofs.Seam.{Laws, Hears, Lengths}
 
+-- ---- the bytes moved, by the lists' lengths alone
+
+-- q other fresh boards and e stand-ins make r − 1 partners
+partners-all : (d r t q : ℕ) → suc q ≡ t → t ≤ r → 2 * d + r - 1 ≡ 2 * d + (r - t + q)
+partners-all d r t q e h = omega arith
+
+sum-one : (d e q S : ℕ) → d * (2 * S) + (e * S + q * S) ≡ S * (2 * d + (e + q))
+sum-one d e q S = omega arith
+
+sum-all : (d e q t S : ℕ) → t * d * (2 * S) + (t * e * S + t * q * S) ≡ S * t * (2 * d + (e + q))
+sum-all d e q t S = omega arith
+
+-- each of some different boards has one fewer others
+others-counted : (fresh : List ℕ) → different fresh ≡ true → All (λ i. suc (length (without i fresh)) ≡ length fresh) fresh
+others-counted fresh once =
+    all-imp (λ i. among fresh i ≡ true) (λ i. suc (length (without i fresh)) ≡ length fresh) (λ i e. length-without i fresh once e) fresh (all-is-among fresh)
+
+module _ (s : Record) (area fresh helpers standIns : List ℕ) (laws : Lengths (s .points) (s .sizes)) (some : 1 ≤ length fresh) (few : length fresh ≤ s .sizes .r)
+    (helper-count : length helpers ≡ length fresh * s .sizes .d) (stand-in-count : length standIns ≡ length fresh * standInsEach s fresh) (once : different fresh ≡ true) where
+  pub total-is : total (repairPackets s area fresh helpers standIns) ≡ stripes (s .sizes) (s .length) * length fresh * (2 * s .sizes .d + s .sizes .r - 1)
+  unfolding repairPackets partnerPackets helperPackets standInPackets exchangePackets
+  total-is =
+      let q : suc (length fresh - 1) ≡ length fresh = omega arith in
+      let x = partners-all (s .sizes .d) (s .sizes .r) (length fresh) (length fresh - 1) q few in
+      let n : length (hearHelpers (s .sizes .d) fresh helpers) ≡ length fresh = length-helpers (s .sizes .d) fresh helpers in
+      let n2 : length (hearHelpers (standInsEach s fresh) fresh standIns) ≡ length fresh = length-helpers (standInsEach s fresh) fresh standIns in
+      let l : length (hearPartners fresh) ≡ length fresh = length-map fresh (λ i. record { receiver = i; senders = without i fresh }) in
+      let p : EachHears (λ i l. length l ≡ length fresh - 1) (hearPartners fresh) =
+      partners-each (λ i l. length l ≡ length fresh - 1) fresh
+      (all-imp (λ i. suc (length (without i fresh)) ≡ length fresh) (λ i. length (without i fresh) ≡ length fresh - 1) (λ i e. omega arith) fresh (others-counted fresh once)) in
+      total-append (helperPackets s area fresh helpers) (partnerPackets s area fresh helpers standIns)
+      ∙ ap (λ (y : ℕ). total (helperPackets s area fresh helpers) + y) (total-append (standInPackets s area fresh standIns) (exchangePackets s area fresh helpers))
+      ∙ rw (
+        total-all _ (2 * stripes (s .sizes) (s .length)) (λ j i2. laws .helper-length _ _ _ _) (hearHelpers (s .sizes .d) fresh helpers) (s .sizes .d)
+            (helpers-count (s .sizes .d) fresh helpers helper-count),
+        total-all _ (stripes (s .sizes) (s .length)) (λ j i2. laws .stand-in-length _ _ _ _) (hearHelpers (standInsEach s fresh) fresh standIns) (standInsEach s fresh)
+            (helpers-count (standInsEach s fresh) fresh standIns stand-in-count),
+        total-all _ (stripes (s .sizes) (s .length)) (λ j i2. laws .exchange-length _ _ _ _) (hearPartners fresh) (length fresh - 1) p,
+        n,
+        n2,
+        l,
+        x,
+      )
+      (sum-all (s .sizes .d) (standInsEach s fresh) (length fresh - 1) (length fresh) (stripes (s .sizes) (s .length)))
+
 module _ (s : Record) (area fresh helpers standIns : List ℕ) (m : ℕ) (laws : Lengths (s .points) (s .sizes)) (f : Repairs s m fresh helpers standIns) where
   -- ---- who hears whom
 
@@ -72,23 +117,13 @@ module _ (s : Record) (area fresh helpers standIns : List ℕ) (m : ℕ) (laws :
   partner-count i e = length-without i fresh (f .fresh-different) e
 
   pub partners-counted : All (λ i. suc (length (without i fresh)) ≡ length fresh) fresh
-  partners-counted = all-imp (λ i. among fresh i ≡ true) (λ i. suc (length (without i fresh)) ≡ length fresh) partner-count fresh (all-is-among fresh)
+  partners-counted = others-counted fresh (f .fresh-different)
 
   pub partners-are : (i : ℕ) → among fresh i ≡ true → partnersOf i ≡ without i fresh
   partners-are i e =
       by-partners (λ j l. l ≡ without j fresh) (all-imp (λ j. among fresh j ≡ true) (λ j. without j fresh ≡ without j fresh) (λ j a. refl) fresh (all-is-among fresh)) i e
 
   -- ---- how much
-
-  -- q other fresh boards and e stand-ins make r − 1 partners
-  partners-all : (d r t q : ℕ) → suc q ≡ t → t ≤ r → 2 * d + r - 1 ≡ 2 * d + (r - t + q)
-  partners-all d r t q e h = omega arith
-
-  sum-one : (d e q S : ℕ) → d * (2 * S) + (e * S + q * S) ≡ S * (2 * d + (e + q))
-  sum-one d e q S = omega arith
-
-  sum-all : (d e q t S : ℕ) → t * d * (2 * S) + (t * e * S + t * q * S) ≡ S * t * (2 * d + (e + q))
-  sum-all d e q t S = omega arith
 
   pub gets : (i : ℕ) → among fresh i ≡ true
       → total (sentTo i (repairPackets s area fresh helpers standIns)) ≡ stripes (s .sizes) (s .length) * (2 * s .sizes .d + s .sizes .r - 1)
@@ -108,31 +143,7 @@ module _ (s : Record) (area fresh helpers standIns : List ℕ) (m : ℕ) (laws :
       ∙ ap (λ (y : ℕ). S * y) (sym x)
 
   pub moved-is : total (repairPackets s area fresh helpers standIns) ≡ stripes (s .sizes) (s .length) * length fresh * (2 * s .sizes .d + s .sizes .r - 1)
-  unfolding repairPackets partnerPackets helperPackets standInPackets exchangePackets
-  moved-is =
-      let some = f .some-fresh in
-      let q : suc (length fresh - 1) ≡ length fresh = omega arith in
-      let x = partners-all (s .sizes .d) (s .sizes .r) (length fresh) (length fresh - 1) q (f .few-fresh) in
-      let n : length (hearHelpers (s .sizes .d) fresh helpers) ≡ length fresh = length-helpers (s .sizes .d) fresh helpers in
-      let n2 : length (hearHelpers (standInsEach s fresh) fresh standIns) ≡ length fresh = length-helpers (standInsEach s fresh) fresh standIns in
-      let l : length (hearPartners fresh) ≡ length fresh = length-map fresh (λ i. record { receiver = i; senders = without i fresh }) in
-      let p : EachHears (λ i l. length l ≡ length fresh - 1) (hearPartners fresh) =
-      partners-each (λ i l. length l ≡ length fresh - 1) fresh
-      (all-imp (λ i. suc (length (without i fresh)) ≡ length fresh) (λ i. length (without i fresh) ≡ length fresh - 1) (λ i e. omega arith) fresh partners-counted) in
-      total-append (helperPackets s area fresh helpers) (partnerPackets s area fresh helpers standIns)
-      ∙ ap (λ (y : ℕ). total (helperPackets s area fresh helpers) + y) (total-append (standInPackets s area fresh standIns) (exchangePackets s area fresh helpers))
-      ∙ rw (
-        total-all _ (2 * stripes (s .sizes) (s .length)) (λ j i2. laws .helper-length _ _ _ _) (hearHelpers (s .sizes .d) fresh helpers) (s .sizes .d)
-            (helpers-count (s .sizes .d) fresh helpers (f .helper-count)),
-        total-all _ (stripes (s .sizes) (s .length)) (λ j i2. laws .stand-in-length _ _ _ _) (hearHelpers (standInsEach s fresh) fresh standIns) (standInsEach s fresh)
-            (helpers-count (standInsEach s fresh) fresh standIns (f .stand-in-count)),
-        total-all _ (stripes (s .sizes) (s .length)) (λ j i2. laws .exchange-length _ _ _ _) (hearPartners fresh) (length fresh - 1) p,
-        n,
-        n2,
-        l,
-        x,
-      )
-      (sum-all (s .sizes .d) (standInsEach s fresh) (length fresh - 1) (length fresh) (stripes (s .sizes) (s .length)))
+  moved-is = total-is s area fresh helpers standIns laws (f .some-fresh) (f .few-fresh) (f .helper-count) (f .stand-in-count) (f .fresh-different)
 
   pub fresh-length : (i : ℕ) → length (freshShare s area fresh helpers standIns i) ≡ stripes (s .sizes) (s .length) * α (s .sizes)
   unfolding freshShare

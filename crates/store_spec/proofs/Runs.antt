@@ -1,16 +1,16 @@
--- Interpolations of a repair, of a read and of a careful one: where no check refuses, no two points of one of them are equal.
+-- Interpolations of a repair, of a read, of a careful one and of a move: where no check refuses, no two points of one of them are equal.
 -- Assumes nothing.
 use Prim.Native.Nat.{ℕ, zero, suc, _-_, _*_, _<_}
 use native.Mathlib.Omega.{arith}
-use mathlib.Core.Path.{_≡_, refl, subst}
+use mathlib.Core.Path.{_≡_, refl, sym, _∙_, subst}
 use mathlib.Core.Bool.{true, false, not}
-use mathlib.Core.Logic.{inl, inr}
+use mathlib.Core.Logic.{_≢_, inl, inr}
 use mathlib.Core.List.{List, [], _∷_, _++_, map, append-assoc}
-use lib.ListN.{length, getD, take, drop}
+use lib.ListN.{length, getD, take, drop, set, replicate, length-replicate}
 use Rattle.lists.specs.Lists.{All, tabulate, concat, piece, without}
 use Rattle.lists.specs.Tests.{different, among}
 use Rattle.lists.proofs.Alls.{all-imp, append-all, take-alls, drop-alls, all-left, all-right}
-use Rattle.lists.proofs.Boards.{below-all, all-below, all-among, getD-among}
+use Rattle.lists.proofs.Boards.{below-all, all-below, all-among, getD-among, all-without, among-without}
 use Rattle.lists.proofs.Pieces.{tabulate-all}
 use Rattle.lists.proofs.Tests.{every-all, all-every}
 use Rattle.sizes.specs.Refusals.{first, storeOrder}
@@ -25,11 +25,15 @@ use Rattle.store_spec.specs.Edit.{editLines}
 use Rattle.store_spec.specs.Careful.{leaving, carefulLines}
 use Rattle.store_spec.specs.Packets.{standInsEach}
 use Rattle.store_spec.specs.Record.{Record}
-use Rattle.store_spec.specs.Runs.{runsOf, repairRuns, carefulRuns, RepairAre, StoreRuns}
+use Rattle.store_spec.specs.Runs.{runsOf, repairRuns, carefulRuns, RepairAre, StoreRuns, afreshRuns}
+use Rattle.store_spec.specs.Move.{movedRecord, afreshArea, moveLines}
 use Rattle.store_spec.proofs.Careful.{first-named}
 use Rattle.store_spec.proofs.Named.{named-boards}
 use Rattle.store_spec.proofs.Packets.{run-different}
-use Rattle.store_spec.proofs.Records.{Sound, Repairs, sound-facts, sound-points, repair-facts, read-facts, edit-facts, careful-facts}
+use Rattle.store_spec.proofs.Records.{Sound, Repairs, sound-facts, sound-points, repair-facts, read-facts, edit-facts, careful-facts, Moves, move-facts}
+use Rattle.store_spec.proofs.Marks.{among-first, first-below}
+use Rattle.store_spec.proofs.Move.{lost, repairs}
+use borrow.Author.Tests.{ne-eqb, lt-ltb}
 
 unequal-all : (xs : List ℕ) (rs : List (List (List ℕ))) → All (λ r. equalPoints xs r ≡ false) rs → equalPoints xs (concat rs) ≡ false
 unequal-all xs [] h = refl
@@ -122,6 +126,28 @@ careful-apart s area boards output h =
     let n = first-named s boards (f .count, f .named-below, f .all-different) t l in
     decode-apart s (take (s .sizes .k) (leaving t boards)) (sound-facts s (f .is-sound)) (boards-of (s .sizes) (take (s .sizes .k) (leaving t boards)) (n .1) (n .2))))
 
+-- of a move: of the other boards at the points before it, and of the repair of the one board at those after it
+others-apart : (s : Record) (board : ℕ) → Sound s → equalPoints (s .points) (afreshRuns (s .sizes) board) ≡ false
+others-apart s board g =
+    let others : List ℕ = without board (tabulate (s .sizes .n) (λ i. i)) in
+    unequal-concat (s .points) (ownRuns (s .sizes)) others
+    (all-imp (λ j. j < s .sizes .n) (λ j. equalPoints (s .points) (ownRuns (s .sizes) j) ≡ false)
+    (own-runs (s .sizes) (s .points) (legal-facts (s .sizes) (g .is-legal)) (sound-points s g)) others
+    (all-without (λ j. j < s .sizes .n) board (tabulate (s .sizes .n) (λ i. i)) (first-below (s .sizes .n) (s .sizes .n) (omega arith))))
+
+move-apart : (s : Record) (m board point : ℕ) (helpers partners : List ℕ) → point < 256
+    → first storeOrder (moveLines s m board point helpers partners) ≡ Pass
+    → (equalPoints (s .points) (afreshRuns (s .sizes) board) ≡ false)
+    × (equalPoints (set (s .points) board point) (repairRuns (movedRecord s board point) (board ∷ []) helpers partners) ≡ false)
+move-apart s m board point helpers partners byte h =
+    let area : List ℕ = replicate m 0 in
+    let f : Moves s (length area) board point helpers partners =
+    subst (λ (x : ℕ). Moves s x board point helpers partners) (sym (length-replicate m 0)) (move-facts s m board point helpers partners h) in (
+      others-apart s board (sound-facts s (f .is-sound)),
+      all-runs (lost s area board point helpers partners f byte) (length (afreshArea s area board point)) (board ∷ []) helpers partners
+          (repairs s area board point helpers partners f byte),
+    )
+
 -- ---- the interpolations of the definitions
 
 -- a group of one place, of all places
@@ -166,6 +192,12 @@ careful-are z boards t h =
     within-self [] runs f = tt
     within-self (r ∷ some) runs f = (f r (inl refl), within-self some runs (λ run k. f run (inr k)))
 
+move-are : (z : Sizes) (board i : ℕ) → i < z .n → i ≢ board → Within (ownRuns z i) (afreshRuns z board)
+move-are z board i h e =
+    own-within z i (afreshRuns z board) (λ run k.
+    in-groups run (ownRuns z) (without board (tabulate (z .n) (λ x. x))) i
+    (among-without board (tabulate (z .n) (λ x. x)) i ∙ rw (ne-eqb board i (λ q. e (sym q))) (among-first (z .n) i ∙ lt-ltb i (z .n) h)) k)
+
 pub store-runs : StoreRuns
 store-runs = record {
   repair-are = repair-are;
@@ -175,4 +207,6 @@ store-runs = record {
   careful-are = careful-are;
   careful-apart = careful-apart;
   careful-any-apart = careful-any-apart;
+  move-are = move-are;
+  move-apart = move-apart;
 }

@@ -39,7 +39,7 @@ use Rattle.store_spec.proofs.BothCalls.{both-calls}
 use Rattle.store_spec.proofs.Carried.{before, wide-both, wide-of, H-wide, T-wide, H-count, T-count, R-count, R-total}
 use Rattle.store_spec.proofs.Demand3.{both-done}
 use Rattle.store_spec.proofs.Laid.{no-hearing, laid-senders, laid-contents, sent-laid, helper-at, partner-at, behind, packet-at, other-at, laid-front}
-use Rattle.store_spec.proofs.MarkLaws.{off}
+use Rattle.store_spec.proofs.Marks.{off}
 use Rattle.store_spec.proofs.Packets.{EachHears, Wide, packet-count, total-append, receivers-helpers, receivers-partners, length-helpers, helpers-count, partners-each, run-length}
 use Rattle.store_spec.proofs.Packets.{senders-append, contents-append}
 use Rattle.store_spec.proofs.Real.{code-lengths}

@@ -32,8 +32,7 @@ use Rattle.store_spec.specs.Ledger.{start, step, Event, call, powerFails
 use Rattle.store_spec.proofs.Beside.{alone-busy, fresh-back, helpers-back, stand-ins-back}
 use Rattle.store_spec.proofs.Carried.{Begins, Lies, R-count, place-is, carried-on}
 use Rattle.store_spec.proofs.Demand3.{both-done}
-use Rattle.store_spec.proofs.MarkLaws.{off}
-use Rattle.store_spec.proofs.Marks.{off-from, on-below}
+use Rattle.store_spec.proofs.Marks.{off, off-from, on-below}
 use Rattle.store_spec.proofs.Real.{code-lengths}
 use Rattle.store_spec.proofs.Records.{Repairs, repair-facts, Sound, sound-facts, facts-sound, used-fits}
 use Rattle.store_spec.proofs.Seam.{Lengths}
@@ -254,6 +253,7 @@ module _ (w : State) (fresh helpers standIns : List ℕ) where
       same-lent (call (start f1 h1 s1)) x = tt
       same-lent (call (step allowance packets)) x = x
       same-lent (call (Rattle.store_spec.specs.Ledger.careful boards output)) x = tt
+      same-lent (call (Rattle.store_spec.specs.Ledger.move board point hs ps)) x = tt
       same-lent (powerFails q) x = tt
 
   -- just after the start

@@ -13,7 +13,7 @@ use Rattle.sizes.specs.Sizing.{α, stripes}
 use Rattle.store_spec.specs.Record.{Record, inService, stripeCount}
 use Rattle.store_spec.specs.Running.{Running, freshOf}
 use Rattle.store_spec.specs.Lying.{placeOf}
-use Rattle.store_spec.specs.Ledger.{write, lose, repair, read, edit, start, step, careful, Event, call, powerFails, State, Step, act, lent, next}
+use Rattle.store_spec.specs.Ledger.{write, lose, repair, read, edit, start, step, careful, move, Event, call, powerFails, State, Step, act, lent, next}
 use Rattle.store_spec.specs.Stepped.{SamePackets, SameLent, IsCall, lostBy, lost, carriedAt, carriedIn, SteppedLists}
 use Rattle.store_spec.proofs.Premises.{parts-agree, begins-alike}
 
@@ -47,6 +47,7 @@ lent-back w (call (edit offset bytes boards)) h = tt
 lent-back w (call (start fresh helpers standIns)) h = tt
 lent-back w (call (step allowance packets)) h = h allowance packets refl
 lent-back w (call (careful boards output)) h = tt
+lent-back w (call (move board point helpers partners)) h = tt
 lent-back w (powerFails p) h = tt
 
 -- ---- an event is a call exactly where it is no power failure
@@ -75,6 +76,7 @@ lost-else w (call (edit offset bytes boards)) h = refl
 lost-else w (call (start fresh helpers standIns)) h = refl
 lost-else w (call (step allowance packets)) h = refl
 lost-else w (call (careful boards output)) h = refl
+lost-else w (call (move board point helpers partners)) h = refl
 lost-else w (powerFails p) h = refl
 
 carried-else : (w : State) (e : Event) → ((allowance : ℕ) (packets : List ℕ) → e ≢ call (step allowance packets)) → carriedAt w e ≡ 0
@@ -86,6 +88,7 @@ carried-else w (call (edit offset bytes boards)) h = refl
 carried-else w (call (start fresh helpers standIns)) h = refl
 carried-else w (call (step allowance packets)) h = absurd (h allowance packets refl)
 carried-else w (call (careful boards output)) h = refl
+carried-else w (call (move board point helpers partners)) h = refl
 carried-else w (powerFails p) h = refl
 
 -- behind what an event lost, and what it carried

@@ -22,10 +22,11 @@ use Rattle.store_spec.specs.Record.{Record, withMarks}
 use Rattle.store_spec.specs.Running.{Running, idle, withCarried, namedIn}
 use Rattle.store_spec.specs.Calls.{writeLines, repairLines}
 use Rattle.store_spec.specs.Edit.{editLines}
-use Rattle.store_spec.specs.Both.{Outcome, bothLine, lostBeside, writeLinesBoth, loseLinesBoth, repairLinesBoth, editLinesBoth, stepLines, leftOf, carriedOn, stepLast, stepOn}
+use Rattle.store_spec.specs.Move.{moveLines}
+use Rattle.store_spec.specs.Both.{Outcome, bothLine, lostBeside, writeLinesBoth, loseLinesBoth, repairLinesBoth, editLinesBoth, moveLinesBoth, stepLines, leftOf, carriedOn, stepLast, stepOn}
 use Rattle.store_spec.specs.BothCalls.{storeLines, storeDone}
 use Rattle.store_spec.specs.Stepped.{lostBy, carriedAt, IsCall}
-use Rattle.store_spec.specs.Ledger.{Call, write, lose, repair, read, edit, start, step, careful, Event, call, powerFails, State, packetsAfter, act, next, outputOf, packetsOfCall}
+use Rattle.store_spec.specs.Ledger.{Call, write, lose, repair, read, edit, start, step, careful, move, Event, call, powerFails, State, packetsAfter, act, next, outputOf, packetsOfCall}
 use Rattle.store_spec.proofs.BothCalls.{by, act-is}
 
 pub data Still (w : State) (e : Event) : Type 0 where
@@ -52,6 +53,7 @@ packets-stay w (edit offset bytes boards) x = refl
 packets-stay w (start fresh helpers standIns) x = refl
 packets-stay w (step allowance packets) x = ap (λ (t : Bool). pick t packets (w .packets)) (ne-eqb (number x) 0 (λ e. omega (arith, e, number-low x)))
 packets-stay w (careful boards output) x = refl
+packets-stay w (move board point helpers partners) x = refl
 
 -- the state after an outcome
 abbrev left : State → Call → Outcome → State
@@ -68,6 +70,7 @@ none-lost w (edit offset bytes boards) x e = refl
 none-lost w (start fresh helpers standIns) x e = refl
 none-lost w (step allowance packets) x e = refl
 none-lost w (careful boards output) x e = refl
+none-lost w (move board point helpers partners) x e = refl
 
 none-carried : (w : State) (c : Call) (x : Refusal) → act w c ≡ refusedAt w c x → carriedAt w (call c) ≡ 0
 none-carried w (write file) x e = refl
@@ -78,6 +81,7 @@ none-carried w (edit offset bytes boards) x e = refl
 none-carried w (start fresh helpers standIns) x e = refl
 none-carried w (step allowance packets) x e = ap (λ (o : Outcome). o .answer .reported) e
 none-carried w (careful boards output) x e = refl
+none-carried w (move board point helpers partners) x e = refl
 
 refused-still : (w : State) (c : Call) (x : Refusal) → act w c ≡ refusedAt w c x → Still w (call c)
 refused-still w c x e =
@@ -107,6 +111,10 @@ module _ (w : State) (r : w .running .running ≡ true) where
   unfolding editLinesBoth editLines
   edit-busy offset bytes boards h = busy s p (drop 1 (editLines s (w .area) offset bytes boards)) r h
 
+  move-busy : (board point : ℕ) (helpers partners : List ℕ) → first storeOrder (moveLinesBoth s p (length (w .area)) board point helpers partners) ≡ Pass → ⊥
+  unfolding moveLinesBoth moveLines
+  move-busy board point helpers partners h = busy s p (drop 1 (moveLines s (length (w .area)) board point helpers partners)) r h
+
   -- a call that is taken
   taken : (c : Call) → first storeOrder (storeLines s p (w .area) c) ≡ Pass → act w c ≡ storeDone s p (w .area) c → next w (call c) .running .running ≡ true → Still w (call c)
   unfolding storeLines storeDone
@@ -132,6 +140,7 @@ module _ (w : State) (r : w .running .running ≡ true) where
       go false q u =
           more allowance packets refl h (leb-false _ _ q) (ap (left w (step allowance packets)) u) refl (ap (λ (o : Outcome). o .answer .reported) u)
   taken (careful boards output) h e k = same (ap (left w (careful boards output)) e) refl refl
+  taken (move board point helpers partners) h e k = absurd (move-busy board point helpers partners h)
 
   pub still : (e : Event) → IsCall e → next w e .running .running ≡ true → Still w e
   still (call c) ic k = go (first storeOrder (storeLines s p (w .area) c)) refl (act-is w c)

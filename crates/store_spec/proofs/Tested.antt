@@ -5,16 +5,16 @@ use mathlib.Core.Path.{_≡_, sym, _∙_, ap}
 use mathlib.Core.Bool.{Bool, true, false, not}
 use mathlib.Core.List.{List, [], _∷_}
 use mathlib.Core.Option.{Option}
-use lib.Dec.{eqb}
+use lib.Dec.{eqb, ltb}
 use lib.ListN.{length, take}
-use borrow.Author.Tests.{eqb-true, not-true}
+use borrow.Author.Tests.{eqb-true, not-true, ltb-true}
 use Rattle.lists.specs.Tests.{pick, every, below, same}
 use Rattle.lists.proofs.Tests.{both, every-all, same-eq}
 use Rattle.lists.proofs.Boards.{all-among, below-all}
 use Rattle.store_spec.specs.Record.{Record, part}
 use Rattle.store_spec.specs.Lying.{placeOf}
-use Rattle.store_spec.specs.Ledger.{Call, write, lose, repair, read, edit, start, step, careful, Event, call, powerFails, Book, Repairing, during, bookRecord, carriedBy, State, Step, Altered}
-use Rattle.store_spec.specs.Ledger.{Fair, FairEvent, Allowed, lent, next, bookNext}
+use Rattle.store_spec.specs.Ledger.{Call, write, lose, repair, read, edit, start, step, careful, move, Event, call, powerFails, Book, Repairing, during, bookRecord, carriedBy, State, Step}
+use Rattle.store_spec.specs.Ledger.{Altered, Fair, FairEvent, Allowed, lent, next, bookNext}
 
 -- a file or an edit is of bytes, and a packet area of the right length has the packets carried as they were left
 abbrev pub fairly : Book → List ℕ → Call → Bool
@@ -28,6 +28,7 @@ fairly b old (step allowance packets) =
     during (b .repairing) true (λ r.
     same (take (placeOf (bookRecord b) (length (r .fresh)) (carriedBy b r)) packets) (take (placeOf (bookRecord b) (length (r .fresh)) (carriedBy b r)) old))
 fairly b old (careful boards output) = true
+fairly b old (move board point helpers partners) = ltb point 256
 
 abbrev pub fairlyEvent : Book → List ℕ → Event → Bool
 fairlyEvent b old (call c) = fairly b old c
@@ -63,6 +64,7 @@ fair b old (step allowance packets) e = λ r q l.
     same-eq _ _ (ap (λ (o : Option Repairing). during o true (λ r.
     same (take (placeOf (bookRecord b) (length (r .fresh)) (carriedBy b r)) packets) (take (placeOf (bookRecord b) (length (r .fresh)) (carriedBy b r)) old))) (sym q) ∙ e)
 fair b old (careful boards output) e = tt
+fair b old (move board point helpers partners) e = ltb-true point 256 e
 
 pub fair-event : (b : Book) (old : List ℕ) (e : Event) → fairlyEvent b old e ≡ true → FairEvent b old e
 fair-event b old (call c) h = fair b old c h

@@ -27,12 +27,12 @@ use Rattle.store_spec.specs.Calls.{accepted}
 use Rattle.store_spec.specs.Careful.{odd, oddReport, carefulFile, carefulLines}
 use Rattle.store_spec.specs.Running.{Running, packetsLen}
 use Rattle.store_spec.specs.Lying.{placeOf}
-use Rattle.store_spec.specs.Both.{Outcome, beside, writeLinesBoth, repairLinesBoth, stepLines, stepLast, stepOn, leftOf, carefulLinesBoth, carefulBoth}
+use Rattle.store_spec.specs.Both.{Outcome, beside, writeLinesBoth, repairLinesBoth, stepLines, stepLast, stepOn, leftOf, carefulLinesBoth, carefulBoth, moveLinesBoth}
 use Rattle.store_spec.specs.BothCalls.{storeLines, storeDone}
 use Rattle.store_spec.specs.Demand3.{begun, events}
-use Rattle.store_spec.specs.Ledger.{Call, write, lose, repair, read, edit, start, step, careful, Event, call, powerFails, Book, Repairing, during, State, Step, Tells, Fair, Unaltered}
+use Rattle.store_spec.specs.Ledger.{Call, write, lose, repair, read, edit, start, step, careful, move, Event, call, powerFails, Book, Repairing, during, State, Step, Tells, Fair, Unaltered}
 use Rattle.store_spec.specs.Ledger.{act, lent, next, bookNext, enter, outputOf, packetsOfCall, openBook, bookLength, bookRecord, carriedBy, final, bookFinal}
-use Rattle.store_spec.specs.Premises.{filesOf}
+use Rattle.store_spec.specs.Premises.{filesOf, files, IdleGiven}
 use Rattle.store_spec.specs.CarefulLaws.{OddTold, OfBytes, AnyBytes, AskedWorn, WornPremises, Worn, WornClaim}
 use Rattle.store_spec.proofs.Agree.{every-same}
 use Rattle.store_spec.proofs.Beside.{both-pass}
@@ -62,6 +62,7 @@ again l (edit offset bytes boards) = edit offset bytes boards
 again l (start fresh helpers standIns) = start fresh helpers standIns
 again l (step allowance packets) = step allowance l
 again l (careful boards output) = careful boards output
+again l (move board point helpers partners) = move board point helpers partners
 
 module _ (s : Record) (p : Running) (a b output packets lent : List ℕ) (done other : Outcome) where
   alike-by : (t : Check) → Alike done other → Alike (by s p a output packets done t) (by s p b output lent other t)
@@ -113,6 +114,11 @@ module _ (s : Record) (p : Running) (a b : List ℕ) (long : length a ≡ length
   alike-at (careful boards output) f =
       alike-kept s p a b output [] [] _ _ (first storeOrder (storeLines s p a (careful boards output)))
       (first storeOrder (storeLines s p b (careful boards output))) (refl, refl) (refl, refl)
+  alike-at (move board point helpers partners) f =
+      subst
+      (λ (m : ℕ). Alike (left a (move board point helpers partners))
+      (by s p b [] [] (storeDone s p b (move board point helpers partners)) (first storeOrder (moveLinesBoth s p m board point helpers partners)))) long
+      (alike-by s p a b [] [] [] _ _ (first storeOrder (moveLinesBoth s p (length a) board point helpers partners)) (refl, refl))
 
 same-handed : (w v : State) → w .kept ≡ v .kept → w .running ≡ v .running → length (w .area) ≡ length (v .area) → (l : List ℕ) (c : Call)
     → ((allowance : ℕ) (packets : List ℕ) → c ≡ step allowance packets → length l ≡ length packets)
@@ -137,6 +143,7 @@ same-entry b l (edit offset bytes boards) f = refl
 same-entry b l (start fresh helpers standIns) f = refl
 same-entry b l (step allowance packets) f = ledger-laws .by-length b allowance l packets (f allowance packets refl)
 same-entry b l (careful boards output) f = refl
+same-entry b l (move board point helpers partners) f = refl
 
 -- ---- the packet area of the second run
 
@@ -250,6 +257,7 @@ fair b old l (edit offset bytes boards) h k = h .0
 fair b old l (start fresh helpers standIns) h k = tt
 fair b old l (step allowance packets) h k = k
 fair b old l (careful boards output) h k = tt
+fair b old l (move board point helpers partners) h k = h .0 .0
 
 -- a worn state, and the second run's beside it
 record Beside (w i : State) (b : Book) : Type 0 where
@@ -279,7 +287,7 @@ one-worn w i b (call c) m ok h =
     )
 
 stays : (b : Book) (e : Event) → bookNext b e .areaLength ≡ b .areaLength
-stays b (call c) = ledger-laws .stay b c .3
+stays b (call c) = ledger-laws .stay b c .2
 stays b (powerFails p) = refl
 
 run : (steps : List Step) (w i : State) (b : Book) → Beside w i b → AnyBytes (b .areaLength) steps → Worn (final w steps) (bookFinal b (events steps))
@@ -301,6 +309,7 @@ of-bytes m area (call (edit offset bytes boards)) a = (a .edits-bytes offset byt
 of-bytes m area (call (start fresh helpers standIns)) a = tt
 of-bytes m area (call (step allowance packets)) a = tt
 of-bytes m area (call (careful boards output)) a = tt
+of-bytes m area (call (move board point helpers partners)) a = ((a .moves-byte board point helpers partners refl, tt), tt)
 of-bytes m area (powerFails p) a = a .idle-given p refl
 
 asked : (m : ℕ) (t : Step) → length (t .area) ≡ m → OfBytes (t .event) → AskedWorn m t
@@ -308,12 +317,30 @@ asked m t l h = record {
   as-long = l;
   writes-bytes = λ file e. subst OfBytes e h .0;
   edits-bytes = λ offset bytes boards e. subst OfBytes e h .0;
+  moves-byte = λ board point helpers partners e. subst OfBytes e h .0 .0;
   idle-given = λ given e. subst OfBytes e h;
 }
+
+its-bytes : (e : Event) (es : List Event) → All Bytes (files (e ∷ es)) → IdleGiven (e ∷ es) → OfBytes e × All Bytes (files es) × IdleGiven es
+its-bytes (call (write file)) es h i = ((h .0, tt), h .1, i)
+its-bytes (call (lose board)) es h i = (tt, h, i)
+its-bytes (call (repair fresh helpers standIns)) es h i = (tt, h, i)
+its-bytes (call (read boards output)) es h i = (tt, h, i)
+its-bytes (call (edit offset bytes boards)) es h i = ((h .0, tt), h .1, i)
+its-bytes (call (start fresh helpers standIns)) es h i = (tt, h, i)
+its-bytes (call (step allowance packets)) es h i = (tt, h, i)
+its-bytes (call (careful boards output)) es h i = (tt, h, i)
+its-bytes (call (move board point helpers partners)) es h i = ((h .0, tt), h .1, i)
+its-bytes (powerFails p) es h i = (i .0, h, i .1)
+
+all-asked : (m : ℕ) (ts : List Step) → All (λ t. length (t .area) ≡ m) ts → All Bytes (files (events ts)) → IdleGiven (events ts) → AnyBytes m ts
+all-asked m [] l h i = tt
+all-asked m (t ∷ ts) l h i = let p = its-bytes (t .event) (events ts) h i in (l .0, p .0, all-asked m ts (l .1) (p .1) (p .2))
 
 pub worn-premises : WornPremises
 worn-premises = record {
   none-asked = λ m. tt;
+  all-asked = all-asked;
   more-asked = λ m t ts. ((λ a. (asked m t (a .0) (a .1), a .2)), (λ a. (a .0 .as-long, of-bytes m (t .area) (t .event) (a .0), a .1)));
 }
 

@@ -1,5 +1,5 @@
 -- Request A.8: the record of a repair by its parts, and the calls with such a record beside: each is the call alone, so that what is said of the calls alone (Demand1,
--- EditLaws, CarefulLaws, MarkLaws) holds of what is called. proofs/AloneLaws.antt has `alone-laws : AloneLaws`.
+-- EditLaws, CarefulLaws, MoveLaws, MarkLaws) holds of what is called. proofs/AloneLaws.antt has `alone-laws : AloneLaws`.
 -- Assumes nothing.
 use mathlib.Core.Path.{_≡_}
 use mathlib.Core.Bool.{true, false}
@@ -17,7 +17,8 @@ use Rattle.store_spec.specs.Calls.{StoreOutcome, setUpCall, writeCall, l
 use Rattle.store_spec.specs.Edit.{editCall}
 use Rattle.store_spec.specs.Careful.{carefulCall}
 use Rattle.store_spec.specs.Running.{Running, idle, runningBy, withCarried, freshOf, helpersOf, standInsOf, namedIn, packetCount, packetsLen, soundBeside}
-use Rattle.store_spec.specs.Both.{Outcome, beside, setUpBoth, writeBoth, lostBeside, loseBoth, repairBoth, readBoth, editBoth, carefulBoth, startCall}
+use Rattle.store_spec.specs.Both.{Outcome, beside, setUpBoth, writeBoth, lostBeside, loseBoth, repairBoth, readBoth, editBoth, carefulBoth, startCall, moveBoth}
+use Rattle.store_spec.specs.Move.{moveCall}
 
 -- the outcome of a call alone, with this record of a repair handed on and no packet area
 pub record AsAlone (p : Running) (a : StoreOutcome) (o : Outcome) : Type 0 where
@@ -56,6 +57,8 @@ pub record AloneLaws : Type 0 where
       → AsAlone p (repairCall s area fresh helpers standIns) (repairBoth s p area fresh helpers standIns)
   pub edit-alone : (s : Record) (p : Running) (area : List ℕ) (offset : ℕ) (bytes boards : List ℕ) → p .running ≡ false
       → AsAlone p (editCall s area offset bytes boards) (editBoth s p area offset bytes boards)
+  pub move-alone : (s : Record) (p : Running) (area : List ℕ) (board point : ℕ) (helpers partners : List ℕ) → p .running ≡ false
+      → AsAlone p (moveCall s area board point helpers partners) (moveBoth s p area board point helpers partners)
   -- a record that is not running is not SIZE, whatever else it has
   pub idle-sound : (s : Record) (p : Running) → p .running ≡ false → soundBeside s p ≡ true
   -- "lists that a start would refuse": beside a sound record of the store a record that runs is not SIZE exactly where a start by its lists, with none running and an

@@ -1,5 +1,5 @@
--- Request A.8, every store call with both records: the store's, and beside it that of a started repair. The calls of Calls.antt, Edit.antt
--- and Careful.antt go on as they were; `start` and `step` are new.
+-- Request A.8, every store call with both records: the store's, and beside it that of a started repair. The calls of Calls.antt, Edit.antt,
+-- Careful.antt and Move.antt go on as they were; `start` and `step` are new.
 -- Assumes nothing.
 use Prim.Native.Nat.{ℕ, _+_, _-_}
 use mathlib.Core.Bool.{true, not}
@@ -17,6 +17,7 @@ use Rattle.store_spec.specs.Lying.{shareLying, carry}
 use Rattle.store_spec.specs.Calls.{StoreOutcome, accepted, settle, recordLine, emptyLine, writeLines, loseLines, repairLines, readLines, writeDone, loseDone, repairDone, readDone}
 use Rattle.store_spec.specs.Edit.{editLines, editDone}
 use Rattle.store_spec.specs.Careful.{carefulLines, carefulDone}
+use Rattle.store_spec.specs.Move.{moveLines, moveDone}
 
 -- what a call answers, the two records that it hands on, and all lent bytes after it
 pub record Outcome : Type 0 where
@@ -37,7 +38,7 @@ beside p o = record { answer = o .answer; handed = o .handed; running = p; area 
 abbrev pub bothLine : Record → Running → Line
 bothLine s p = Size when not (alls (sound s ∷ soundBeside s p ∷ []))
 
--- "16 BUSY, a write, edit, repair or start during a repair"
+-- "16 BUSY, a write, edit, repair or start during a repair"; a move is checked "as in a repair of one board, BUSY included"
 abbrev pub busyLine : Running → Line
 busyLine p = Busy when p .running
 
@@ -69,6 +70,9 @@ editLinesBoth s p area offset bytes boards = linesBoth s p (busyLine p ∷ []) (
 
 unfoldable pub carefulLinesBoth : Record → Running → List ℕ → List ℕ → List ℕ → List Line
 carefulLinesBoth s p area boards output = linesBoth s p [] (carefulLines s area boards output)
+
+unfoldable pub moveLinesBoth : Record → Running → ℕ → ℕ → ℕ → List ℕ → List ℕ → List Line
+moveLinesBoth s p m board point helpers partners = linesBoth s p (busyLine p ∷ []) (moveLines s m board point helpers partners)
 
 -- "with none running its length is not checked"; "17 IDLE, a step with none running". `m` and `mp` are the lengths of the two areas.
 unfoldable pub stepLines : Record → Running → ℕ → ℕ → List Line
@@ -109,6 +113,10 @@ editBoth s p area offset bytes boards =
 unfoldable pub carefulBoth : Record → Running → List ℕ → List ℕ → List ℕ → Outcome
 carefulBoth s p area boards output =
     callBoth s p area output [] (carefulLinesBoth s p area boards output) (beside p (carefulDone s area boards output))
+
+unfoldable pub moveBoth : Record → Running → List ℕ → ℕ → ℕ → List ℕ → List ℕ → Outcome
+moveBoth s p area board point helpers partners =
+    callBoth s p area [] [] (moveLinesBoth s p (length area) board point helpers partners) (beside p (moveDone s area board point helpers partners))
 
 -- a start carries nothing
 unfoldable pub startCall : Record → Running → List ℕ → List ℕ → List ℕ → List ℕ → Outcome

@@ -23,9 +23,11 @@ use Rattle.store_spec.specs.Running.{Running, idle, runningBy, freshOf, 
 use Rattle.store_spec.specs.Calls.{accepted, recordLine, listLines, writeDone, loseDone, repairDone, readDone}
 use Rattle.store_spec.specs.Edit.{editDone}
 use Rattle.store_spec.specs.Careful.{carefulDone}
-use Rattle.store_spec.specs.Both.{Outcome, beside, lostBeside, writeLinesBoth, loseLinesBoth, repairLinesBoth, readLinesBoth, editLinesBoth, carefulLinesBoth, stepLines, stepDone, setUpBoth}
-use Rattle.store_spec.specs.Demand1.{writeClaims, loseClaims, repairClaims, readClaims, editClaims, carefulClaims}
-use Rattle.store_spec.specs.Ledger.{Call, write, lose, repair, read, edit, start, step, careful, Book, Repairing, bookRecord, bookRunning, bookLines, State, act, outputOf, packetsOfCall}
+use Rattle.store_spec.specs.Move.{moveDone}
+use Rattle.store_spec.specs.Both.{Outcome, beside, lostBeside, writeLinesBoth, loseLinesBoth, repairLinesBoth, readLinesBoth, editLinesBoth, carefulLinesBoth, moveLinesBoth, stepLines}
+use Rattle.store_spec.specs.Both.{stepDone, setUpBoth}
+use Rattle.store_spec.specs.Demand1.{writeClaims, loseClaims, repairClaims, readClaims, editClaims, carefulClaims, moveClaims}
+use Rattle.store_spec.specs.Ledger.{Call, write, lose, repair, read, edit, start, step, careful, move, Book, Repairing, bookRecord, bookRunning, bookLines, State, act, outputOf, packetsOfCall}
 
 -- one call: its lines; records and lent bytes as they came; what it does where no line holds; and its outcome
 pub record BothEnds (lines : List Line) (s : Record) (p : Running) (area output packets : List ℕ) (done o : Outcome) : Type 0 where
@@ -47,6 +49,7 @@ storeLines s p area (edit offset bytes boards) = editLinesBoth s p area offset b
 storeLines s p area (start fresh helpers standIns) = repairLinesBoth s p (length area) fresh helpers standIns
 storeLines s p area (step allowance packets) = stepLines s p (length area) (length packets)
 storeLines s p area (careful boards output) = carefulLinesBoth s p area boards output
+storeLines s p area (move board point helpers partners) = moveLinesBoth s p (length area) board point helpers partners
 
 unfoldable pub storeDone : Record → Running → List ℕ → Call → Outcome
 storeDone s p area (write file) = beside p (writeDone s area file)
@@ -57,6 +60,7 @@ storeDone s p area (edit offset bytes boards) = beside p (editDone s area offset
 storeDone s p area (start fresh helpers standIns) = beside (runningBy fresh helpers standIns 0) (accepted 0 s area [])
 storeDone s p area (step allowance packets) = stepDone s p area packets allowance
 storeDone s p area (careful boards output) = beside p (carefulDone s area boards output)
+storeDone s p area (move board point helpers partners) = beside p (moveDone s area board point helpers partners)
 
 -- what the lines of each call say: SIZE by either record, these further claims, and those of the call alone behind its own SIZE
 module _ (s : Record) (p : Running) where
@@ -82,6 +86,7 @@ module _ (s : Record) (p : Running) where
       ∷ Idle means (p .running ≡ false)
       ∷ []
   storeClaims area (careful boards output) = bothClaims [] (carefulClaims s area boards output)
+  storeClaims area (move board point helpers partners) = bothClaims (busyClaim ∷ []) (moveClaims s (length area) board point helpers partners)
 
 pub record BothCalls : Type 0 where
   -- the lines of each call say this, and it has no others

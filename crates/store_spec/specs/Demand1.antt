@@ -26,6 +26,7 @@ use Rattle.store_spec.specs.Calls.{StoreOutcome, accepted, refused, file
 use Rattle.store_spec.specs.Calls.{loseDone, loseCall, repairDone, repairCall, readDone, readCall}
 use Rattle.store_spec.specs.Edit.{editLines, editDone, editCall}
 use Rattle.store_spec.specs.Careful.{carefulFile, carefulLines, carefulDone, carefulCall}
+use Rattle.store_spec.specs.Move.{moveLines, moveDone, moveCall}
 
 -- one call: its lines; record, area and output as they came; what it does where no line holds; and its outcome
 pub record StoreEnds (lines : List Line) (s : Record) (area output : List ℕ) (done o : StoreOutcome) : Type 0 where
@@ -110,6 +111,17 @@ module _ (s : Record) where
       ∷ Disagree means (carefulFile s area boards ≡ none)
       ∷ [])
 
+  -- those of a move: "any board out of service is DOWN. A new byte that is some board's point, its own included, is REPEAT."
+  abbrev pub moveClaims : ℕ → ℕ → ℕ → List ℕ → List ℕ → List Claim
+  moveClaims m board point helpers partners =
+      lentClaims m
+      ++ (Empty means (s .written ≡ false)
+      ∷ Count means ((length helpers ≡ s .sizes .d) × (length partners ≡ s .sizes .r - 1) → ⊥)
+      ∷ Node means (below (s .sizes .n) (board ∷ (helpers ++ partners)) ≡ false)
+      ∷ Repeat means ((different (board ∷ (helpers ++ partners)) ≡ false) ⊎ (among (take (s .sizes .n) (s .points)) point ≡ true))
+      ∷ Down means ((i : ℕ) × (i < s .sizes .n) × (inService s i ≡ false))
+      ∷ [])
+
 pub record StoreCalls : Type 0 where
   -- the lines of each call say this, and it has no others
   pub write-lines : (s : Record) (m : ℕ) (file : List ℕ) → LinesSay (writeLines s m file) (writeClaims s m file)
@@ -123,6 +135,8 @@ pub record StoreCalls : Type 0 where
       → LinesSay (editLines s area offset bytes boards) (editClaims s area offset bytes boards)
   pub careful-lines : (s : Record) (area boards output : List ℕ)
       → LinesSay (carefulLines s area boards output) (carefulClaims s area boards output)
+  pub move-lines : (s : Record) (m board point : ℕ) (helpers partners : List ℕ)
+      → LinesSay (moveLines s m board point helpers partners) (moveClaims s m board point helpers partners)
   pub set-up-ends : (old : Record) (z : Sizes) (xs : List ℕ) (c : ℕ)
       → StoreEnds (recordLine (newRecord z xs c) ∷ []) old [] [] (accepted 0 (newRecord z xs c) [] []) (setUpCall old z xs c)
   pub write-ends : (s : Record) (area file : List ℕ)
@@ -137,12 +151,15 @@ pub record StoreCalls : Type 0 where
       → StoreEnds (editLines s area offset bytes boards) s area [] (editDone s area offset bytes boards) (editCall s area offset bytes boards)
   pub careful-ends : (s : Record) (area boards output : List ℕ)
       → StoreEnds (carefulLines s area boards output) s area output (carefulDone s area boards output) (carefulCall s area boards output)
+  pub move-ends : (s : Record) (area : List ℕ) (board point : ℕ) (helpers partners : List ℕ)
+      → StoreEnds (moveLines s (length area) board point helpers partners) s area [] (moveDone s area board point helpers partners)
+      (moveCall s area board point helpers partners)
   -- an outcome by its parts
   pub accepted-is : (v : ℕ) (s : Record) (area output : List ℕ)
       → accepted v s area output ≡ record { answer = record { refusal = 0; reported = v }; handed = s; area = area; output = output }
   pub refused-is : (s : Record) (area output : List ℕ) (x : Refusal)
       → refused s area output x ≡ record { answer = record { refusal = number x; reported = 0 }; handed = s; area = area; output = output }
-  -- all but a repair and a careful read report 0; losing and reading leave the area, whatever they answer
+  -- all but a repair, a careful read and a move report 0; losing and reading leave the area, whatever they answer
   pub set-up-reports : (old : Record) (z : Sizes) (xs : List ℕ) (c : ℕ) → setUpCall old z xs c .answer .reported ≡ 0
   pub write-reports : (s : Record) (area file : List ℕ) → writeCall s area file .answer .reported ≡ 0
   pub lose-reports : (s : Record) (area : List ℕ) (board : ℕ) → (loseCall s area board .answer .reported ≡ 0) × (loseCall s area board .area ≡ area)
@@ -154,6 +171,8 @@ pub record StoreCalls : Type 0 where
       → ((carefulCall s area boards output .answer .reported ≡ 0)
       ⊎ ((i : ℕ) × (carefulCall s area boards output .answer .reported ≡ suc i) × (among boards i ≡ true)))
       × (carefulCall s area boards output .area ≡ area)
+  -- a move reports what MoveLaws says where it is accepted, and has no output
+  pub move-output : (s : Record) (area : List ℕ) (board point : ℕ) (helpers partners : List ℕ) → moveCall s area board point helpers partners .output ≡ []
   -- when a set-up is accepted
   pub set-up-accepted : (old : Record) (z : Sizes) (xs : List ℕ) (c : ℕ)
       → (setUpCall old z xs c .answer .refusal ≡ 0) ↔ ((legal z ≡ true) × (pointed z xs ≡ true) × (1 ≤ c) × (c ≤ maxStripes))

@@ -1,5 +1,5 @@
 -- Demand 3, whole: one claim over any list of writes, losses, repairs and reads, of edits (request A.6), of starts, steps and power failures (A.8),
--- and of careful reads (A.11).
+-- of careful reads (A.11) and of moves (A.10).
 -- proofs/Demand3.antt has `demand-3 : Demand3Claim`.
 -- Assumes nothing.
 use Prim.Native.Nat.{ℕ, _+_, _-_, _*_, _≤_, _<_}

@@ -1,12 +1,12 @@
 -- Document 01, 'The ledger': a plain book kept beside the store, and lists of calls.
 -- Assumes nothing.
-use Prim.Native.Nat.{ℕ, _+_, _-_, _*_}
+use Prim.Native.Nat.{ℕ, _+_, _-_, _*_, _<_}
 use mathlib.Core.Path.{_≡_}
 use mathlib.Core.Bool.{true, false, not}
 use mathlib.Core.List.{List, [], _∷_, _++_}
 use mathlib.Core.Option.{Option, some, none}
 use lib.Dec.{leb, ltb, eqb}
-use lib.ListN.{length, take}
+use lib.ListN.{length, take, set}
 use Rattle.lists.specs.Tests.{pick, every, alls, below, among, different, apart, given}
 use Rattle.lists.specs.Lists.{Bytes, tabulate, piece, without, put, over}
 use Rattle.sizes.specs.declared.Sizes.{Sizes}
@@ -19,7 +19,7 @@ use Rattle.store_spec.specs.Record.{Record, part}
 use Rattle.store_spec.specs.Calls.{settle}
 use Rattle.store_spec.specs.Running.{Running, idle, runningBy, packetCount, packetsLen}
 use Rattle.store_spec.specs.Lying.{placeOf}
-use Rattle.store_spec.specs.Both.{Outcome, writeBoth, loseBoth, repairBoth, readBoth, editBoth, carefulBoth, startCall, stepCall}
+use Rattle.store_spec.specs.Both.{Outcome, writeBoth, loseBoth, repairBoth, readBoth, editBoth, carefulBoth, moveBoth, startCall, stepCall}
 
 -- "writes, losses, repairs and reads", and from request A.6 on "every store call that a request adds": a call with its arguments other than
 -- record and area. A step's packet area is lent with it; the ledger looks at its length alone.
@@ -32,6 +32,7 @@ pub data Call : Type 0 where
   start : (fresh helpers standIns : List ℕ) → Call
   step : (allowance : ℕ) (packets : List ℕ) → Call
   careful : (boards output : List ℕ) → Call
+  move : (board point : ℕ) (helpers partners : List ℕ) → Call
 
 -- what store and ledger have to agree in: "refused or not, the number, the bytes moved, and all bytes of a read's output after it"
 pub record Reply : Type 0 where
@@ -63,6 +64,10 @@ openBook z xs c m = record { sizes = z; points = xs; capacity = c; areaLength = 
 
 abbrev pub noted : Book → Option (List ℕ) → List ℕ → Book
 noted b file service = record { sizes = b .sizes; points = b .points; capacity = b .capacity; areaLength = b .areaLength; file = file; service = service; repairing = b .repairing }
+
+-- with other points (request A.10)
+abbrev pub pointedBook : Book → List ℕ → Book
+pointedBook b xs = record { sizes = b .sizes; points = xs; capacity = b .capacity; areaLength = b .areaLength; file = b .file; service = b .service; repairing = b .repairing }
 
 -- the same file, with this repair running or none
 abbrev pub going : Book → Option Repairing → List ℕ → Book
@@ -146,6 +151,15 @@ bookLines b (careful boards output) =
     ∷ Down when not (every (among (b .service)) boards)
     ∷ Short when ltb (length output) (bookLength b)
     ∷ []
+bookLines b (move board point helpers partners) =
+    Area when not (eqb (b .areaLength) (b .sizes .n * (b .capacity * α (b .sizes))))
+    ∷ Empty when not (given (b .file))
+    ∷ Busy when given (b .repairing)
+    ∷ Count when not (alls (eqb (length helpers) (b .sizes .d) ∷ eqb (length partners) (b .sizes .r - 1) ∷ []))
+    ∷ Node when not (alls (ltb board (b .sizes .n) ∷ below (b .sizes .n) helpers ∷ below (b .sizes .n) partners ∷ []))
+    ∷ Repeat when not (alls (different (board ∷ (helpers ++ partners)) ∷ not (among (take (b .sizes .n) (b .points)) point) ∷ []))
+    ∷ Down when not (every (among (b .service)) (tabulate (b .sizes .n) (λ i. i)))
+    ∷ []
 
 -- what the ledger replies, and the book after it
 pub record Entry : Type 0 where
@@ -165,6 +179,7 @@ outputOf (edit offset bytes boards) = []
 outputOf (start fresh helpers standIns) = []
 outputOf (step allowance packets) = []
 outputOf (careful boards output) = output
+outputOf (move board point helpers partners) = []
 
 -- the packet area that a call was lent; none but a step's
 abbrev pub packetsOfCall : Call → List ℕ
@@ -176,6 +191,7 @@ packetsOfCall (edit offset bytes boards) = []
 packetsOfCall (start fresh helpers standIns) = []
 packetsOfCall (step allowance packets) = packets
 packetsOfCall (careful boards output) = []
+packetsOfCall (move board point helpers partners) = []
 
 -- "Losing a board named in the repair ends it"
 abbrev pub keptOn : Repairing → ℕ → Option Repairing
@@ -206,6 +222,8 @@ accept b (start fresh helpers standIns) =
     (going b (some (record { fresh = fresh; helpers = helpers; standIns = standIns; left = length fresh * (b .sizes .d + b .sizes .r - 1) })) (b .service))
 accept b (step allowance packets) = during (b .repairing) (replied (said (Done 0)) [] b) (λ r. pick (leb (r .left) allowance) (ended b r) (goesOn b r allowance))
 accept b (careful boards output) = replied (said (Done 0)) (over (fileOf (b .file)) output) b
+accept b (move board point helpers partners) =
+    replied (said (Done (stripes (b .sizes) (bookLength b) * (2 * b .sizes .d + b .sizes .r - 1)))) [] (pointedBook b (set (b .points) board point))
 
 -- "A call is refused with the first number, in the store's order, whose line holds by this book, and then changes nothing"
 unfoldable pub enter : Book → Call → Entry
@@ -246,6 +264,7 @@ act w (edit offset bytes boards) = editBoth (w .kept) (w .running) (w .area) off
 act w (start fresh helpers standIns) = startCall (w .kept) (w .running) (w .area) fresh helpers standIns
 act w (step allowance packets) = stepCall (w .kept) (w .running) (w .area) packets allowance
 act w (careful boards output) = carefulBoth (w .kept) (w .running) (w .area) boards output
+act w (move board point helpers partners) = moveBoth (w .kept) (w .running) (w .area) board point helpers partners
 
 abbrev pub replyOf : Outcome → Reply
 replyOf o = record { answer = o .answer; output = o .output }
@@ -260,6 +279,7 @@ packetsAfter before (edit offset bytes boards) o = before
 packetsAfter before (start fresh helpers standIns) o = before
 packetsAfter before (step allowance packets) o = pick (eqb (o .answer .refusal) 0) (o .packets) before
 packetsAfter before (careful boards output) o = before
+packetsAfter before (move board point helpers partners) o = before
 
 -- ---- lists of calls
 
@@ -307,7 +327,7 @@ Unaltered b old new =
     (r : Repairing) → b .repairing ≡ some r → length new ≡ packetsLen (bookRecord b) (length (r .fresh))
     → take (placeOf (bookRecord b) (length (r .fresh)) (carriedBy b r)) new ≡ take (placeOf (bookRecord b) (length (r .fresh)) (carriedBy b r)) old
 
--- a file to write is of bytes, and so are an edit's; after a power failure the record given is an idle one, whatever else it has
+-- a file to write is of bytes, so are an edit's, and a new point is one; after a power failure the record given is an idle one, whatever else it has
 abbrev pub Fair : Book → List ℕ → Call → Type 0
 Fair b old (write file) = Bytes file
 Fair b old (lose board) = Unit
@@ -317,6 +337,7 @@ Fair b old (edit offset bytes boards) = Bytes bytes
 Fair b old (start fresh helpers standIns) = Unit
 Fair b old (step allowance packets) = Unaltered b old packets
 Fair b old (careful boards output) = Unit
+Fair b old (move board point helpers partners) = point < 256
 
 abbrev pub FairEvent : Book → List ℕ → Event → Type 0
 FairEvent b old (call c) = Fair b old c

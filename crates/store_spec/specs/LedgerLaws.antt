@@ -3,29 +3,63 @@
 -- Assumes nothing.
 use mathlib.Core.Path.{_≡_}
 use mathlib.Core.Bool.{true, false}
-use mathlib.Core.List.{List}
+use mathlib.Core.List.{List, [], _∷_}
 use mathlib.Core.Logic.{_↔_}
 use mathlib.Core.Option.{some, none}
 use Prim.Native.Nat.{ℕ, _+_, _-_, _*_, _≤_, _<_}
 use lib.Dec.{ltb, eqb}
-use lib.ListN.{length}
+use lib.ListN.{length, set}
 use Rattle.lists.specs.Tests.{pick, among, given}
 use Rattle.lists.specs.Lists.{tabulate, put, fit}
 use Rattle.sizes.specs.declared.Sizes.{Sizes}
+use Rattle.sizes.specs.Refusals.{Said}
+use Rattle.sizes.specs.Sizing.{stripes}
 use Rattle.board_spec.specs.Calls.{fileOf}
 use Rattle.store_spec.specs.Running.{Running}
-use Rattle.store_spec.specs.Ledger.{Call, write, lose, repair, read, edit, start, step, careful, Book, Repairing, during, keptOn, outputOf, enter, bookRecord, Tells}
+use Rattle.store_spec.specs.Ledger.{Call, write, lose, repair, read, edit, start, step, careful, move}
+use Rattle.store_spec.specs.Ledger.{Book, Repairing, during, keptOn, outputOf, bookLength, enter, bookRecord, Tells}
 
 abbrev pub Accepted : Book → Call → Type 0
 Accepted b call = enter b call .reply .answer .refusal ≡ 0
 
+-- the board that an accepted call moves, and its new point; none but a move's
+abbrev pub newPoint : Call → Said → List (ℕ × ℕ)
+newPoint (write file) a = []
+newPoint (lose board) a = []
+newPoint (repair fresh helpers standIns) a = []
+newPoint (read boards output) a = []
+newPoint (edit offset bytes boards) a = []
+newPoint (start fresh helpers standIns) a = []
+newPoint (step allowance packets) a = []
+newPoint (careful boards output) a = []
+newPoint (move board point helpers partners) a = pick (eqb (a .refusal) 0) ((board, point) ∷ []) []
+
+-- points of which some are moved, one after another
+abbrev pub setPoints : List ℕ → List (ℕ × ℕ) → List ℕ
+setPoints xs [] = xs
+setPoints xs (p ∷ ps) = setPoints (set xs (p .0) (p .1)) ps
+
 pub record LedgerLaws : Type 0 where
   -- "and then changes nothing"
   pub refused : (b : Book) (call : Call) → (Accepted b call → ⊥) → (enter b call .book ≡ b) × (enter b call .reply .output ≡ outputOf call)
-  -- sizes, points, capacity and the area's length stay
+  -- sizes, capacity and the area's length stay; the points but for an accepted move
   pub stay : (b : Book) (call : Call)
-      → (enter b call .book .sizes ≡ b .sizes) × (enter b call .book .points ≡ b .points) × (enter b call .book .capacity ≡ b .capacity)
-      × (enter b call .book .areaLength ≡ b .areaLength)
+      → (enter b call .book .sizes ≡ b .sizes) × (enter b call .book .capacity ≡ b .capacity) × (enter b call .book .areaLength ≡ b .areaLength)
+  pub points-are : (b : Book) (call : Call) → enter b call .book .points ≡ setPoints (b .points) (newPoint call (enter b call .reply .answer))
+  -- "moves one board to a new byte", where no repair runs: its point and nothing else; "the bytes reported are those of a repair of one board"
+  pub moves : (b : Book) (board point : ℕ) (helpers partners : List ℕ) → Accepted b (move board point helpers partners)
+      → (b .repairing ≡ none)
+      × (enter b (move board point helpers partners) .reply .answer .reported ≡ stripes (b .sizes) (bookLength b) * (2 * b .sizes .d + b .sizes .r - 1))
+      × (enter b (move board point helpers partners) .book
+      ≡ record {
+        sizes = b .sizes;
+        points = set (b .points) board point;
+        capacity = b .capacity;
+        areaLength = b .areaLength;
+        file = b .file;
+        service = b .service;
+        repairing = b .repairing;
+      })
   -- "all n come into service"
   pub writes : (b : Book) (file : List ℕ) → Accepted b (write file)
       → (enter b (write file) .book .file ≡ some file) × ((i : ℕ) → among (enter b (write file) .book .service) i ≡ ltb i (b .sizes .n))

@@ -3,6 +3,7 @@ pub mod Packets
 pub mod Calls
 pub mod Edit
 pub mod Careful
+pub mod Move
 pub mod Running
 pub mod Lying
 pub mod Both
@@ -19,6 +20,7 @@ pub mod LedgerLaws
 pub mod EditLaws
 pub mod ListLaws
 pub mod CarefulLaws
+pub mod MoveLaws
 pub mod MarkLaws
 pub mod FurtherFigures
 pub mod LaterFigures

@@ -7,8 +7,8 @@ use mathlib.Core.Logic.{_≢_}
 use mathlib.Core.List.{List, [], _∷_, _++_}
 use Prim.Native.Nat.{ℕ}
 use Rattle.store_spec.specs.Running.{Running}
-use Rattle.store_spec.specs.Both.{Outcome, writeBoth, loseBoth, repairBoth, readBoth, editBoth, carefulBoth, startCall, stepCall}
-use Rattle.store_spec.specs.Ledger.{Call, write, lose, repair, read, edit, start, step, careful, Event, call, powerFails, Book, State, Step, act, replyOf, lent, next, told, enter}
+use Rattle.store_spec.specs.Both.{Outcome, writeBoth, loseBoth, repairBoth, readBoth, editBoth, carefulBoth, startCall, stepCall, moveBoth}
+use Rattle.store_spec.specs.Ledger.{Call, write, lose, repair, read, edit, start, step, careful, move, Event, call, powerFails, Book, State, Step, act, replyOf, lent, next, told, enter}
 use Rattle.store_spec.specs.Ledger.{bookNext, bookTold, replies, final, bookReplies, bookFinal}
 use Rattle.store_spec.specs.Demand3.{events}
 
@@ -26,6 +26,8 @@ pub record ListLaws : Type 0 where
   pub steps : (w : State) (allowance : ℕ) (packets : List ℕ)
       → act w (step allowance packets) ≡ stepCall (w .kept) (w .running) (w .area) packets allowance
   pub careful-reads : (w : State) (boards output : List ℕ) → act w (careful boards output) ≡ carefulBoth (w .kept) (w .running) (w .area) boards output
+  pub moves : (w : State) (board point : ℕ) (helpers partners : List ℕ)
+      → act w (move board point helpers partners) ≡ moveBoth (w .kept) (w .running) (w .area) board point helpers partners
   -- it is made on the records that were left and the area as it was altered
   pub lents : (w : State) (t : Step) → lent w t ≡ record { kept = w .kept; running = w .running; area = t .area; packets = w .packets }
   -- it leaves the records that it hands on and the area; its reply is its answer and its output

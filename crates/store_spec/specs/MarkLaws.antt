@@ -6,7 +6,7 @@ use mathlib.Core.Bool.{true, false}
 use mathlib.Core.List.{List}
 use Prim.Native.Nat.{ℕ, _<_}
 use lib.Dec.{ltb, eqb}
-use lib.ListN.{length}
+use lib.ListN.{length, set}
 use Rattle.lists.specs.Tests.{pick, among}
 use Rattle.lists.specs.Lists.{Bytes}
 use Rattle.sizes.specs.Sizing.{maxBoards}
@@ -14,8 +14,10 @@ use Rattle.store_spec.specs.Record.{Record, inService}
 use Rattle.store_spec.specs.Calls.{writeCall, loseCall, repairCall, readCall}
 use Rattle.store_spec.specs.Edit.{editCall}
 use Rattle.store_spec.specs.Careful.{carefulCall}
+use Rattle.store_spec.specs.Move.{moveCall}
 use Rattle.store_spec.specs.Running.{Running, idle}
-use Rattle.store_spec.specs.Ledger.{Call, State, act, outputOf, packetsOfCall}
+use Rattle.store_spec.specs.Ledger.{Call, move, State, act, outputOf, packetsOfCall}
+use Rattle.store_spec.specs.LedgerLaws.{newPoint, setPoints}
 
 -- one record has the other's sizes, points and capacity
 abbrev pub SameStore : Record → Record → Type 0
@@ -57,8 +59,16 @@ pub record MarkLaws : Type 0 where
   -- request A.8: so it is with the arrays of the record beside
   pub arrays-stay : (w : State) (call : Call) → Arrays (w .running) → Arrays (act w call .running)
   pub arrays-idle : Arrays idle
-  -- request A.9: the points are those of the set-up, whatever the call
-  pub points-stay : (w : State) (call : Call) → act w call .handed .points ≡ w .kept .points
+  -- request A.9, and A.10: the points are those of the set-up but for the boards that were moved since; 32 of them stay 32, and with new points that are bytes, bytes
+  -- stay bytes
+  pub points-are : (w : State) (call : Call) → act w call .handed .points ≡ setPoints (w .kept .points) (newPoint call (act w call .answer))
+  pub full-points : (w : State) (call : Call) → length (act w call .handed .points) ≡ length (w .kept .points)
+  pub byte-points : (w : State) (call : Call) → ((board point : ℕ) (helpers partners : List ℕ) → call ≡ move board point helpers partners → point < 256)
+      → Bytes (w .kept .points) → Bytes (act w call .handed .points)
+  -- an accepted move changes one point, and nothing else
+  pub moves : (s : Record) (area : List ℕ) (board point : ℕ) (helpers partners : List ℕ) → moveCall s area board point helpers partners .answer .refusal ≡ 0
+      → moveCall s area board point helpers partners .handed
+      ≡ record { sizes = s .sizes; points = set (s .points) board point; capacity = s .capacity; written = s .written; length = s .length; marks = s .marks }
   -- a read hands on the record that it was given, a careful one too: the odd board stays in service
   pub reads : (s : Record) (area boards output : List ℕ) → readCall s area boards output .handed ≡ s
   pub careful-reads : (s : Record) (area boards output : List ℕ) → carefulCall s area boards output .handed ≡ s

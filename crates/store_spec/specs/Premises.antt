@@ -15,7 +15,7 @@ use Rattle.sizes.specs.declared.Sizes.{Sizes}
 use Rattle.sizes.specs.Sizing.{α, stripes}
 use Rattle.store_spec.specs.Record.{Record}
 use Rattle.store_spec.specs.Running.{Running, packetsLen}
-use Rattle.store_spec.specs.Ledger.{Call, write, lose, repair, read, edit, start, step, careful, Event, call, powerFails, Book, Repairing, during, bookLength, bookRecord}
+use Rattle.store_spec.specs.Ledger.{Call, write, lose, repair, read, edit, start, step, careful, move, Event, call, powerFails, Book, Repairing, during, bookLength, bookRecord}
 use Rattle.store_spec.specs.Ledger.{carriedBy, State, Step, Altered, Unaltered, Fair, Allowed, lent, next, bookNext, openBook}
 use Rattle.store_spec.specs.Demand3.{begun, events}
 
@@ -23,7 +23,7 @@ use Rattle.store_spec.specs.Demand3.{begun, events}
 abbrev pub noneCarried : Book → Bool
 noneCarried b = during (b .repairing) true (λ r. eqb (carriedBy b r) 0)
 
--- what is to be of bytes in a list: the files that it writes, and the bytes that it edits
+-- what is to be of bytes in a list: the files that it writes, the bytes that it edits, and the new points that it names, each as a list of one byte
 abbrev pub filesOf : Call → List (List ℕ)
 filesOf (write file) = file ∷ []
 filesOf (lose board) = []
@@ -33,6 +33,7 @@ filesOf (edit offset bytes boards) = bytes ∷ []
 filesOf (start fresh helpers standIns) = []
 filesOf (step allowance packets) = []
 filesOf (careful boards output) = []
+filesOf (move board point helpers partners) = (point ∷ []) ∷ []
 
 abbrev pub files : List Event → List (List ℕ)
 files [] = []
@@ -55,6 +56,7 @@ lentAgain w b (call (edit offset bytes boards)) = call (edit offset bytes boards
 lentAgain w b (call (start fresh helpers standIns)) = call (start fresh helpers standIns)
 lentAgain w b (call (step allowance packets)) = call (step allowance (pick (noneCarried b) packets (w .packets)))
 lentAgain w b (call (careful boards output)) = call (careful boards output)
+lentAgain w b (call (move board point helpers partners)) = call (move board point helpers partners)
 lentAgain w b (powerFails p) = powerFails p
 
 -- the steps of these events with nothing altered between them: each is given the area that the last one left
@@ -70,13 +72,14 @@ AgreeInService b s old new =
     → i * (s .capacity * α (s .sizes)) ≤ p → p < i * (s .capacity * α (s .sizes)) + s .capacity * α (s .sizes)
     → getD new p 0 ≡ getD old p 0
 
--- what is asked of one entry of a list: of the area, of a file to write and of an edit's bytes, of a step's packet area, of the record given after a power
--- failure
+-- what is asked of one entry of a list: of the area, of a file to write, of an edit's bytes and of a new point, of a step's packet area, of the record given
+-- after a power failure
 pub record Asked (w : State) (b : Book) (t : Step) : Type 0 where
   pub as-long : length (t .area) ≡ length (w .area)
   pub agrees : AgreeInService b (w .kept) (w .area) (t .area)
   pub writes-bytes : (file : List ℕ) → t .event ≡ call (write file) → Bytes file
   pub edits-bytes : (offset : ℕ) (bytes boards : List ℕ) → t .event ≡ call (edit offset bytes boards) → Bytes bytes
+  pub moves-byte : (board point : ℕ) (helpers partners : List ℕ) → t .event ≡ call (move board point helpers partners) → point < 256
   pub packets-lent : (allowance : ℕ) (packets : List ℕ) → t .event ≡ call (step allowance packets) → Unaltered b (w .packets) packets
   pub idle-given : (given : Running) → t .event ≡ powerFails given → given .running ≡ false
 
@@ -90,16 +93,21 @@ bare (call (edit offset bytes boards)) = call (edit offset bytes boards)
 bare (call (start fresh helpers standIns)) = call (start fresh helpers standIns)
 bare (call (step allowance packets)) = call (step allowance [])
 bare (call (careful boards output)) = call (careful boards output)
+bare (call (move board point helpers partners)) = call (move board point helpers partners)
 bare (powerFails p) = powerFails p
 
 pub record Premises : Type 0 where
-  -- every list whose files are of bytes is allowed, with nothing altered, after a set-up of any sizes and points over any area
+  -- every list whose files and new points are of bytes is allowed, with nothing altered, after a set-up of any sizes and points over any area
   pub all-allowed : (old : Record) (p : Running) (z : Sizes) (xs : List ℕ) (c : ℕ) (area : List ℕ) (es : List Event) → All Bytes (files es) → IdleGiven es
       → Allowed (begun old p z xs c area) (openBook z xs c (length area)) (unaltered (begun old p z xs c area) (openBook z xs c (length area)) es)
   -- and what is fair is of bytes
   pub fair-bytes : (b : Book) (old : List ℕ) (c : Call) → Fair b old c → All Bytes (filesOf c)
   -- these steps are of these events, but for the packet areas lent
   pub same-events : (w : State) (b : Book) (es : List Event) → map bare (events (unaltered w b es)) ≡ map bare es
+  pub whole-events : (w : State) (b : Book) (es : List Event) → All (λ e. (allowance : ℕ) (packets : List ℕ) → e ≢ call (step allowance packets)) es
+      → events (unaltered w b es) ≡ es
+  pub bare-step : (allowance : ℕ) (packets : List ℕ) → bare (call (step allowance packets)) ≡ call (step allowance [])
+  pub bare-other : (e : Event) → ((allowance : ℕ) (packets : List ℕ) → e ≢ call (step allowance packets)) → bare e ≡ e
   -- and every longer list: nothing but this is asked of an entry that stands before an allowed list, whatever was altered in boards out of service
   pub none-allowed : (w : State) (b : Book) → Allowed w b []
   pub more-allowed : (w : State) (b : Book) (t : Step) (ts : List Step)
@@ -114,8 +122,9 @@ pub record Premises : Type 0 where
   pub files-none : files [] ≡ []
   pub files-write : (file : List ℕ) (es : List Event) → files (call (write file) ∷ es) ≡ file ∷ files es
   pub files-edit : (offset : ℕ) (bytes boards : List ℕ) (es : List Event) → files (call (edit offset bytes boards) ∷ es) ≡ bytes ∷ files es
+  pub files-move : (board point : ℕ) (helpers partners : List ℕ) (es : List Event) → files (call (move board point helpers partners) ∷ es) ≡ (point ∷ []) ∷ files es
   pub files-other : (e : Event) (es : List Event) → ((file : List ℕ) → e ≢ call (write file)) → ((offset : ℕ) (bytes boards : List ℕ) → e ≢ call (edit offset bytes boards))
-      → files (e ∷ es) ≡ files es
+      → ((board point : ℕ) (helpers partners : List ℕ) → e ≢ call (move board point helpers partners)) → files (e ∷ es) ≡ files es
   pub idle-none : IdleGiven []
   pub idle-more : (e : Event) (es : List Event) → IdleGiven (e ∷ es) ↔ (((p : Running) → e ≡ powerFails p → p .running ≡ false) × IdleGiven es)
   pub again-free : (w : State) (b : Book) (allowance : ℕ) (packets : List ℕ) → noneCarried b ≡ true

@@ -3,9 +3,10 @@
 -- Assumes nothing.
 use mathlib.Core.Path.{_≡_}
 use mathlib.Core.Bool.{true, false}
-use mathlib.Core.List.{List, _++_, map}
+use mathlib.Core.Logic.{_≢_}
+use mathlib.Core.List.{List, [], _∷_, _++_, map}
 use Prim.Native.Nat.{ℕ, _-_, _<_}
-use lib.ListN.{length, getD, take}
+use lib.ListN.{length, getD, take, set}
 use Rattle.lists.specs.Tests.{among, different}
 use Rattle.lists.specs.Lists.{All, tabulate, concat, piece, without}
 use Rattle.sizes.specs.declared.Sizes.{Sizes}
@@ -17,6 +18,7 @@ use Rattle.store_spec.specs.Packets.{standInsEach}
 use Rattle.store_spec.specs.Calls.{repairLines, readLines}
 use Rattle.store_spec.specs.Edit.{editLines}
 use Rattle.store_spec.specs.Careful.{leaving, carefulLines}
+use Rattle.store_spec.specs.Move.{movedRecord, moveLines}
 
 -- the boards at whose points a repair interpolates: each helper and each stand-in for its f and g, each fresh board for its own, where its partners are
 -- its stand-ins and the other fresh boards
@@ -40,6 +42,10 @@ pub record RepairAre (s : Record) (fresh helpers standIns : List ℕ) (a : ℕ) 
 abbrev pub carefulRuns : Sizes → List ℕ → List (List ℕ)
 carefulRuns z boards = concat (tabulate (length boards) (λ t. readRuns z (take (z .k) (leaving t boards))))
 
+-- those of a move, at the points before it: each other board for its f and g; at the points after it they are those of a repair of the one board
+abbrev pub afreshRuns : Sizes → ℕ → List (List ℕ)
+afreshRuns z board = concat (map (ownRuns z) (without board (tabulate (z .n) (λ i. i))))
+
 pub record StoreRuns : Type 0 where
   pub repair-are : (s : Record) (fresh helpers standIns : List ℕ) (a : ℕ) → a < length fresh → RepairAre s fresh helpers standIns a
   pub repair-apart : (s : Record) (m : ℕ) (fresh helpers standIns : List ℕ)
@@ -56,3 +62,9 @@ pub record StoreRuns : Type 0 where
   pub careful-any-apart : (s : Record) (area boards output some : List ℕ)
       → first storeOrder (carefulLines s area boards output) ≡ Pass → different some ≡ true → All (λ i. among boards i ≡ true) some
       → equalPoints (s .points) (readRuns (s .sizes) some) ≡ false
+  -- request A.10: every other board's f and g are among those at the points before a move, and neither there nor at the points after it has one two equal points
+  pub move-are : (z : Sizes) (board i : ℕ) → i < z .n → i ≢ board → Within (ownRuns z i) (afreshRuns z board)
+  pub move-apart : (s : Record) (m board point : ℕ) (helpers partners : List ℕ) → point < 256
+      → first storeOrder (moveLines s m board point helpers partners) ≡ Pass
+      → (equalPoints (s .points) (afreshRuns (s .sizes) board) ≡ false)
+      × (equalPoints (set (s .points) board point) (repairRuns (movedRecord s board point) (board ∷ []) helpers partners) ≡ false)

@@ -14,7 +14,7 @@ use Rattle.store_spec.specs.Record.{Record, inService, withMarks, part}
 use Rattle.store_spec.specs.Running.{Running, runningBy, packetCount, packetsLen, freshOf}
 use Rattle.store_spec.specs.Lying.{placeOf}
 use Rattle.store_spec.specs.Demand3.{WholeStep}
-use Rattle.store_spec.specs.Ledger.{write, lose, repair, read, edit, start, step, careful, Event, call, powerFails, State, Step, act, lent, next, final}
+use Rattle.store_spec.specs.Ledger.{write, lose, repair, read, edit, start, step, careful, move, Event, call, powerFails, State, Step, act, lent, next, final}
 
 -- ---- what may not be altered meanwhile
 
@@ -37,6 +37,7 @@ SameLent w (call (edit offset bytes boards)) = Unit
 SameLent w (call (start fresh helpers standIns)) = Unit
 SameLent w (call (step allowance packets)) = SamePackets (w .kept) (w .running) (w .packets) packets
 SameLent w (call (careful boards output)) = Unit
+SameLent w (call (move board point helpers partners)) = Unit
 SameLent w (powerFails p) = Unit
 
 -- along a list: of boards alone, and of packets
@@ -69,6 +70,7 @@ lostBy w (call (edit offset bytes boards)) = []
 lostBy w (call (start fresh helpers standIns)) = []
 lostBy w (call (step allowance packets)) = []
 lostBy w (call (careful boards output)) = []
+lostBy w (call (move board point helpers partners)) = []
 lostBy w (powerFails p) = []
 
 abbrev pub lost : State → List Step → List ℕ
@@ -85,6 +87,7 @@ carriedAt w (call (edit offset bytes boards)) = 0
 carriedAt w (call (start fresh helpers standIns)) = 0
 carriedAt w (call (step allowance packets)) = act w (step allowance packets) .answer .reported
 carriedAt w (call (careful boards output)) = 0
+carriedAt w (call (move board point helpers partners)) = 0
 carriedAt w (powerFails p) = 0
 
 abbrev pub carriedIn : State → List Step → ℕ

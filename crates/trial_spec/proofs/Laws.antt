@@ -24,7 +24,7 @@ use Rattle.store_spec.specs.Record.{Record, newRecord, areaLen}
 use Rattle.store_spec.specs.Calls.{settle, refused, accepted, recordLine, setUpCall, loseCall}
 use Rattle.store_spec.specs.Running.{Running, idle, namedIn}
 use Rattle.store_spec.specs.Both.{Outcome, setUpBoth, lostBeside}
-use Rattle.store_spec.specs.Ledger.{Call, write, lose, repair, read, edit, start, step, careful, Event, call, Reply, Book, Entry, State, Step, Allowed}
+use Rattle.store_spec.specs.Ledger.{Call, write, lose, repair, read, edit, start, step, careful, move, Event, call, Reply, Book, Entry, State, Step, Allowed}
 use Rattle.store_spec.specs.Ledger.{FairEvent, act, replyOf, next, replied, bookLines, accept, enter, bookNext, replies, openBook, bookReplies}
 use Rattle.store_spec.specs.Demand3.{begun, events}
 use Rattle.store_spec.proofs.AloneLaws.{alone-laws}
@@ -96,6 +96,7 @@ left-is w (edit offset bytes boards) h e = absurd h
 left-is w (start fresh helpers standIns) h e = absurd h
 left-is w (step allowance packets) h e = absurd h
 left-is w (careful boards output) h e = absurd h
+left-is w (move board point helpers partners) h e = absurd h
 
 abbrev unaltered : State → List Call → List Step
 unaltered w [] = []
@@ -120,6 +121,7 @@ drawable-fair b old (edit offset bytes boards) h = absurd h
 drawable-fair b old (start fresh helpers standIns) h = absurd h
 drawable-fair b old (step allowance packets) h = absurd h
 drawable-fair b old (careful boards output) h = absurd h
+drawable-fair b old (move board point helpers partners) h = absurd h
 
 unaltered-allowed : (w : State) (b : Book) (cs : List Call) → w .packets ≡ [] → All Drawable cs → Allowed w b (unaltered w cs)
 unaltered-allowed w b [] e h = tt
@@ -151,6 +153,7 @@ stays-idle w (edit offset bytes boards) h e = absurd h
 stays-idle w (start fresh helpers standIns) h e = absurd h
 stays-idle w (step allowance packets) h e = absurd h
 stays-idle w (careful boards output) h e = absurd h
+stays-idle w (move board point helpers partners) h e = absurd h
 
 -- ---- the calls drawn
 
@@ -243,6 +246,7 @@ clear-call b (edit offset bytes boards) = (refl, refl, refl)
 clear-call b (start fresh helpers standIns) = (refl, refl, refl)
 clear-call b (step allowance packets) = (refl, refl, refl)
 clear-call b (careful boards output) = (refl, refl, refl)
+clear-call b (move board point helpers partners) = (refl, refl, refl)
 
 clear-line : (c d : Call) (a r : Said) → word c ≡ word d → a ≡ r → callLine c a ≡ callLine d r
 unfolding callLine
@@ -267,6 +271,7 @@ clear-fair (edit offset bytes boards ∷ cs) h = absurd (h .0)
 clear-fair (start fresh helpers standIns ∷ cs) h = absurd (h .0)
 clear-fair (step allowance packets ∷ cs) h = absurd (h .0)
 clear-fair (careful boards output ∷ cs) h = absurd (h .0)
+clear-fair (move board point helpers partners ∷ cs) h = absurd (h .0)
 
 any-output : (l : Load) → taken l ≡ true → (old : Record) (p : Running) (area : List ℕ) → length area ≡ areaLen (newStore l)
     → (cs : List Call) → map cleared cs ≡ drawnCalls l (l .calls) (l .seed)

@@ -15,7 +15,7 @@ use Rattle.printer.specs.Printer.{refusedLine}
 use Rattle.store_spec.specs.Record.{Record, areaLen}
 use Rattle.store_spec.specs.Running.{Running}
 use Rattle.store_spec.specs.Both.{setUpBoth}
-use Rattle.store_spec.specs.Ledger.{Call, write, lose, repair, read, edit, start, step, careful, call, State, act, openBook, bookReplies}
+use Rattle.store_spec.specs.Ledger.{Call, write, lose, repair, read, edit, start, step, careful, move, call, State, act, openBook, bookReplies}
 use Rattle.store_spec.specs.Demand3.{begun}
 use Rattle.trial_spec.specs.Trial.{Load, newStore, taken, loaded, drawnCalls, printed, storeReplies, trialOver, trialText}
 
@@ -35,6 +35,7 @@ cleared (edit offset bytes boards) = edit offset bytes boards
 cleared (start fresh helpers standIns) = start fresh helpers standIns
 cleared (step allowance packets) = step allowance packets
 cleared (careful boards output) = careful boards output
+cleared (move board point helpers partners) = move board point helpers partners
 
 -- "picks write, lose, repair or read": one of these calls, and the file of a write is of bytes
 abbrev pub Drawable : Call → Type 0
@@ -46,6 +47,7 @@ Drawable (edit offset bytes boards) = ⊥
 Drawable (start fresh helpers standIns) = ⊥
 Drawable (step allowance packets) = ⊥
 Drawable (careful boards output) = ⊥
+Drawable (move board point helpers partners) = ⊥
 
 pub record TrialLaws : Type 0 where
   -- the bytes of the area: C stripes of each of n boards

@@ -18,7 +18,7 @@ use Rattle.store_spec.specs.Record.{Record, newRecord, areaLen}
 use Rattle.store_spec.specs.Calls.{setUpCall}
 use Rattle.store_spec.specs.Running.{Running, idle}
 use Rattle.store_spec.specs.Both.{Outcome}
-use Rattle.store_spec.specs.Ledger.{Call, write, lose, repair, read, edit, start, step, careful, Reply, State, act, replyOf}
+use Rattle.store_spec.specs.Ledger.{Call, write, lose, repair, read, edit, start, step, careful, move, Reply, State, act, replyOf}
 use Rattle.store_spec.specs.Demand3.{begun}
 use Rattle.generator.specs.Generator.{step as stepped, topByte, after, emitted}
 
@@ -99,7 +99,7 @@ drawnCalls l (suc m) state = let d = drawn l state in d .call ∷ drawnCalls l m
 
 -- ---- what it prints
 
--- "that word"; an edit (request A.6), a start and a step (A.8) and a careful read (A.11) are never drawn
+-- "that word"; an edit (request A.6), a start and a step (A.8), a careful read (A.11) and a move (A.10) are never drawn
 abbrev pub word : Call → List ℕ
 word (write file) = 0x77 ∷ 0x72 ∷ 0x69 ∷ 0x74 ∷ 0x65 ∷ []
 word (lose board) = 0x6C ∷ 0x6F ∷ 0x73 ∷ 0x65 ∷ []
@@ -109,6 +109,7 @@ word (edit offset bytes boards) = 0x65 ∷ 0x64 ∷ 0x69 ∷ 0x74 ∷ []
 word (start fresh helpers standIns) = 0x73 ∷ 0x74 ∷ 0x61 ∷ 0x72 ∷ 0x74 ∷ []
 word (step allowance packets) = 0x73 ∷ 0x74 ∷ 0x65 ∷ 0x70 ∷ []
 word (careful boards output) = 0x63 ∷ 0x61 ∷ 0x72 ∷ 0x65 ∷ 0x66 ∷ 0x75 ∷ 0x6C ∷ []
+word (move board point helpers partners) = 0x6D ∷ 0x6F ∷ 0x76 ∷ 0x65 ∷ []
 
 -- "a line op= answer= moved=, separated by single spaces: that word, the refusal or 0, the bytes reported or 0"
 unfoldable pub callLine : Call → Said → List ℕ

@@ -14,7 +14,7 @@ use borrow.Fn.Kinds.{Dens, endedOf}
 use Rattle.sizes.specs.declared.Answer.the-variants.{Done}
 use Rattle.sizes.specs.Refusals.{said}
 use Rattle.board_spec.specs.Calls.{BoardOutcome, shareCall, fileCall, helperCall, exchangeCall, finishedCall, textCall}
-use Rattle.store_spec.specs.Ledger.{write, lose, repair, read, careful, edit, start, step}
+use Rattle.store_spec.specs.Ledger.{write, lose, repair, read, careful, edit, move, start, step}
 use Rattle.text_spec.specs.Calls.{gatherCall}
 use Rattle.prefix_spec.specs.Prefix.{longest}
 use Rattle.generator.specs.Generator.{after, emitted}
@@ -36,6 +36,8 @@ use Rattle.zebrankai.proofs.zbk_read_careful.Reads as carefuls
 use Rattle.zebrankai.proofs.zbk_read_careful.Kinds as careful-kinds
 use Rattle.zebrankai.proofs.zbk_edit.Reads as edits
 use Rattle.zebrankai.proofs.zbk_edit.Kinds as edit-kinds
+use Rattle.zebrankai.proofs.zbk_move.Reads as moves
+use Rattle.zebrankai.proofs.zbk_move.Kinds as move-kinds
 use Rattle.zebrankai.proofs.zbk_start.Reads as starts
 use Rattle.zebrankai.proofs.zbk_start.Kinds as start-kinds
 use Rattle.zebrankai.proofs.zbk_step.Reads as steps
@@ -118,6 +120,14 @@ pub edit-gives : (κs : Lfts 5) (a : Dens κs edit-kinds.ps) (w : ℕ) (e : AtEx
     lent w (now (e .0)) (now (e .1 .0)) (now (e .1 .1 .0)) [] []
     ≡ zbk (now (a .0)) (now (a .1 .0)) (now (b .0)) (edit (b .1 .0) (now (b .1 .1 .0)) (now (b .1 .1 .1 .0))))
 edit-gives κs a w e = (tt, λ h. h)
+
+pub move-gives : (κs : Lfts 5) (a : Dens κs move-kinds.ps) (w : ℕ) (e : AtExit (endedOf 5 move-kinds.ps move-kinds.r) κs)
+    → moves.Asked κs a
+    × (moves.Learnt κs a w e
+    → let b = a .1 .1 in
+    lent w (now (e .0)) (now (e .1 .0)) (now (e .1 .1 .0)) [] []
+    ≡ zbk (now (a .0)) (now (a .1 .0)) (now (b .0)) (move (b .1 .0) (b .1 .1 .0) (now (b .1 .1 .1 .0)) (now (b .1 .1 .1 .1 .0))))
+move-gives κs a w e = (tt, λ h. h)
 
 pub start-gives : (κs : Lfts 6) (a : Dens κs start-kinds.ps) (w : ℕ) (e : AtExit (endedOf 6 start-kinds.ps start-kinds.r) κs)
     → starts.Asked κs a

@@ -17,7 +17,7 @@ ghost use Rattle.sizes.specs.Refusals.{said};
 ghost use Rattle.board_spec.specs.Calls.{shareCall, fileCall, helperCall, exchangeCall, finishedCall, textCall};
 ghost use Rattle.text_spec.specs.Calls.{gatherCall};
 ghost use Rattle.prefix_spec.specs.Prefix.{longest};
-ghost use Rattle.store_spec.specs.Ledger.{write, lose, repair, read, careful, edit, start, step};
+ghost use Rattle.store_spec.specs.Ledger.{write, lose, repair, read, careful, edit, move, start, step};
 ghost use Rattle.answer_word.specs.Answers.{wordOf};
 ghost use Rattle.archive_spec.specs.Archive.{sizesOf};
 ghost use Rattle.archive_spec.specs.Lent.{zbkSetUp, zbk};
@@ -289,6 +289,22 @@ pub extern "C" fn zbk_edit(
     ensures { λ w. ⌜ record { answer = w; words = now (ws .exit); repair = now (ps .exit); area = now (area .exit); output = []; packets = [] } ≡ zbk (now (ws .entry)) (now (ps .entry)) (now (area .entry)) (edit offset (now (bytes .entry)) (now (boards .entry))) ⌝ }
 {
     archive_store::edit(ws, ps, area, offset, bytes, boards)
+}
+
+// Moves a board to a new point, from d helpers and r − 1 partners: every other board works out its kept values afresh. Reports the bytes moved.
+#[no_mangle]
+pub extern "C" fn zbk_move(
+    ws: &mut [u64],
+    ps: &mut [u64],
+    area: &mut [u8],
+    board: usize,
+    point: u8,
+    helpers: &[usize],
+    partners: &[usize],
+) -> u64
+    ensures { λ w. ⌜ record { answer = w; words = now (ws .exit); repair = now (ps .exit); area = now (area .exit); output = []; packets = [] } ≡ zbk (now (ws .entry)) (now (ps .entry)) (now (area .entry)) (move board point (now (helpers .entry)) (now (partners .entry))) ⌝ }
+{
+    archive_store::move_board(ws, ps, area, board, point, helpers, partners)
 }
 
 // Starts a repair by these lists: nothing is carried yet.

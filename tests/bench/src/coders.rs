@@ -12,12 +12,15 @@ pub trait Coder {
     fn read_careful(&mut self, boards: &[usize], area: &[u8], out: &mut [u8]) -> usize;
     /// Bytes in the place of others of the file of so many bytes, by k boards.
     fn edit(&mut self, edit: &Edit, boards: &[usize], area: &mut [u8]);
-    /// Takes boards out of service for the repairs that follow, and for these alone.
+    /// Takes boards out of service for the repairs that follow, or none for moves, and for these alone.
     fn lose(&mut self, boards: &[usize]);
     /// The boards that were lost, with their helpers and stand-ins; the bytes moved. They are lost as before, however often it is called.
     fn repair(&mut self, named: &Named, area: &mut [u8]) -> usize;
     /// The same repair started, and stepped to its end by so many packets at a time; how many were carried. None of a coder that has no steps.
     fn stepped(&mut self, named: &Named, allowance: usize, area: &mut [u8], packets: &mut [u8]) -> Option<usize>;
+    /// Moves the board that is named fresh to a point, with all boards in service, by its helpers and stand-ins; the bytes moved. The next move finds it
+    /// there.
+    fn move_board(&mut self, named: &Named, point: u8, area: &mut [u8]) -> usize;
     /// One board's share of a file.
     fn share(&mut self, node: usize, file: &[u8], out: &mut [u8]);
 }
@@ -46,7 +49,7 @@ pub fn all(sizes: Sizes, stripes: usize) -> [Box<dyn Coder>; 3] {
     [
         Box::new(Archive { lost: record.clone(), record }),
         Box::new(Plain { sizes: plain_sizes, points: points.into(), words, lost: words, repair: [0; REPAIR_WORDS] }),
-        Box::new(Kernels { sizes: plain_sizes, points: points.into(), stripes }),
+        Box::new(Kernels { sizes: plain_sizes, points: points.into(), moved: points.into(), stripes }),
     ]
 }
 
@@ -95,6 +98,11 @@ impl Coder for Archive {
             carried += record.step(area, packets, allowance).expect("a step is accepted");
         }
         Some(carried)
+    }
+
+    fn move_board(&mut self, named: &Named, point: u8, area: &mut [u8]) -> usize {
+        let moved = self.lost.move_board(area, named.fresh[0], point, &named.helpers, &named.stand_ins);
+        moved.expect("a move is accepted")
     }
 
     fn share(&mut self, node: usize, file: &[u8], out: &mut [u8]) {
@@ -155,6 +163,12 @@ impl Coder for Plain {
         Some(carried)
     }
 
+    fn move_board(&mut self, named: &Named, point: u8, area: &mut [u8]) -> usize {
+        let Named { fresh, helpers, stand_ins } = named;
+        plain::moves::move_board(&mut self.lost, &self.repair, area, fresh[0], point, helpers, stand_ins)
+            .expect("a move is accepted")
+    }
+
     fn share(&mut self, node: usize, file: &[u8], out: &mut [u8]) {
         plain::board::share(self.sizes, &self.points, node, file, out).expect("a share is given");
     }
@@ -164,6 +178,8 @@ impl Coder for Plain {
 struct Kernels {
     sizes: plain::Sizes,
     points: plain::Points,
+    /// the points with boards moved
+    moved: plain::Points,
     stripes: usize,
 }
 
@@ -188,7 +204,9 @@ impl Coder for Kernels {
     }
 
     /// It has no record.
-    fn lose(&mut self, _boards: &[usize]) {}
+    fn lose(&mut self, _boards: &[usize]) {
+        self.moved = self.points;
+    }
 
     fn repair(&mut self, named: &Named, area: &mut [u8]) -> usize {
         let Named { fresh, helpers, stand_ins } = named;
@@ -197,6 +215,12 @@ impl Coder for Kernels {
 
     fn stepped(&mut self, _: &Named, _: usize, _: &mut [u8], _: &mut [u8]) -> Option<usize> {
         None
+    }
+
+    fn move_board(&mut self, named: &Named, point: u8, area: &mut [u8]) -> usize {
+        let Named { fresh, helpers, stand_ins } = named;
+        let Kernels { sizes, stripes, .. } = *self;
+        plain_kernels::move_board(sizes, &mut self.moved, stripes, fresh[0], point, helpers, stand_ins, area)
     }
 
     fn share(&mut self, node: usize, file: &[u8], out: &mut [u8]) {

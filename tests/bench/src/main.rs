@@ -1,7 +1,7 @@
 //! The bench: encode (a write to all boards), read (of k boards), repair r (of r boards together), repair 1 (of one board, with r − 1 stand-ins), one
 //! share (the call of a single board), edit 4 (four bytes of the file, one pack count), rewrite (the same without an edit, by a read and a write), careful
-//! (a careful read, of k + 2 boards) and one worn (the same with a byte of one of them altered) through the archive, beside two coders in plain Rust; how
-//! many times a read's time careful reads take; the bytes that repairs move, those of r boards against the cut-set bound; what part of a
+//! (a careful read, of k + 2 boards), one worn (the same with a byte of one of them altered) and move (of one board to another point) through the archive,
+//! beside two coders in plain Rust; how many times a read's time careful reads take, and how many times that of a repair of one board a move takes; the bytes that repairs move, those of r boards against the cut-set bound; what part of a
 //! whole write, and of a read and a write, an edit takes; and how many times a whole repair's time the same repair takes a packet at a time, and in one
 //! step (request A.8), through the archive and by the plain coder.
 //!
@@ -17,7 +17,7 @@
 //! faster.
 //!
 //! The exit code is 1 where coders leave different bytes, or where at the size that A.7 asks for, the first, encode or read takes the archive
-//! more than twice plain's time; 2 where the arguments are wrong. `--quick` measures a fifth as long.
+//! more than twice plain's time, or a move more than twice that of a repair of one board; 2 where the arguments are wrong. `--quick` measures a fifth as long.
 
 mod coders;
 mod turns;
@@ -26,7 +26,9 @@ use std::fs;
 use std::process::ExitCode;
 use std::thread;
 use std::time::Duration;
-use turns::{measure, Measured, Work, CAREFUL, EDIT, EDITED, OPERATIONS, READ, REPAIR, REWRITE, WRITE};
+use turns::{
+    measure, Best, Measured, Work, CAREFUL, EDIT, EDITED, MOVE, OPERATIONS, READ, REPAIR, REPAIR_ONE, REWRITE, WRITE,
+};
 use zebrankai::Sizes;
 
 const TWELVE: Sizes = Sizes { n: 12, k: 6, d: 8, r: 2 };
@@ -57,6 +59,9 @@ const RUNS: [(Sizes, usize); 15] = [
 
 /// How many times plain's time encode and read may take at the size that A.7 asks for.
 const MOST: f64 = 2.0;
+
+/// How many times the time of a repair of one board a move may take there.
+const MOST_OF_REPAIR: f64 = 2.0;
 
 /// How long each run takes; the first one twice as long.
 const TIME: Duration = Duration::from_secs(4);
@@ -96,7 +101,10 @@ fn main() -> ExitCode {
     if !failures.is_empty() {
         return ExitCode::FAILURE;
     }
-    println!("All bytes are alike; encode and read take at most {MOST:.1} times plain's time at the first size.");
+    println!(
+        "All bytes are alike; at the first size encode and read take at most {MOST:.1} times plain's time, and a move at most \
+         {MOST_OF_REPAIR:.1} times that of a repair of one board."
+    );
     ExitCode::SUCCESS
 }
 
@@ -114,7 +122,7 @@ fn title(work: &Work) -> String {
     format!("n={n} k={k} d={d} r={r}, {} bytes ({} {stripes})", work.file.len(), work.stripes)
 }
 
-/// Encode and read, where they take the archive more of plain's time than is allowed.
+/// Encode and read, where they take the archive more of plain's time than is allowed, and a move where it takes more of a repair's.
 fn too_slow(work: &Work, measured: &Measured) -> Vec<String> {
     let [archive, plain, _] = &measured.best;
     let ratio = |operation: usize| archive[operation].as_secs_f64() / plain[operation].as_secs_f64();
@@ -122,7 +130,20 @@ fn too_slow(work: &Work, measured: &Measured) -> Vec<String> {
         let name = OPERATIONS[operation];
         format!("{}: {name} takes {:.2} times plain's time; {MOST:.1} times is allowed", title(work), ratio(operation))
     };
-    (0..2).filter(|&operation| ratio(operation) > MOST).map(told).collect()
+    let mut slow: Vec<String> = (0..2).filter(|&operation| ratio(operation) > MOST).map(told).collect();
+    let of_repair = of(archive, MOVE, REPAIR_ONE);
+    if of_repair > MOST_OF_REPAIR {
+        slow.push(format!(
+            "{}: a move takes {of_repair:.2} times a repair of one board; {MOST_OF_REPAIR:.1} times is allowed",
+            title(work)
+        ));
+    }
+    slow
+}
+
+/// How many times the time of another operation one takes.
+fn of(best: &Best, operation: usize, other: usize) -> f64 {
+    best[operation].as_secs_f64() / best[other].as_secs_f64()
 }
 
 /// One run as a table.
@@ -154,6 +175,7 @@ fn print(work: &Work, measured: &Measured) {
     print_moved(work.sizes, work.file.len(), measured);
     print_edit(measured);
     print_careful(measured);
+    print_move(measured);
     print_steps(work.sizes, measured);
 }
 
@@ -196,6 +218,12 @@ fn print_careful(measured: &Measured) {
         "careful   {:.2} times a read, {:.2} times with one board worn (plain {:.2}, {:.2}; kernels {:.2}, {:.2})",
         sound[0], worn[0], sound[1], worn[1], sound[2], worn[2]
     );
+}
+
+/// The time of a move beside that of a repair of one board: of the archive, of the plain coder and of the kernels' algorithm.
+fn print_move(measured: &Measured) {
+    let [archive, plain, kernels] = [0, 1, 2].map(|coder| of(&measured.best[coder], MOVE, REPAIR_ONE));
+    println!("move      {archive:.2} times a repair of one board (plain {plain:.2}; kernels {kernels:.2})");
 }
 
 /// The bytes moved beside the cut-set bound at the minimum bandwidth point: each fresh board needs at least (2d + r − 1) L / (k(2d + r − k))

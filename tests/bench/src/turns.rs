@@ -5,8 +5,8 @@ use std::time::{Duration, Instant};
 use zebrankai::{trial_file, Sizes};
 
 /// What is measured, in the order of a turn.
-pub const OPERATIONS: [&str; 9] =
-    ["encode", "read", "repair r", "repair 1", "one share", "edit 4", "rewrite", "careful", "one worn"];
+pub const OPERATIONS: [&str; 10] =
+    ["encode", "read", "repair r", "repair 1", "one share", "edit 4", "rewrite", "careful", "one worn", "move"];
 
 /// The places of a write of the whole file, of a read, of an edit, and of a read with a write behind it that does the same.
 pub const WRITE: usize = 0;
@@ -17,6 +17,13 @@ pub const REWRITE: usize = 6;
 /// The places of careful reads of k + 2 boards that hold their shares, and of such a read with a byte altered: of the last stripe of the board that is
 /// named first, where it takes longest to find.
 pub const CAREFUL: [usize; 2] = [7, 8];
+
+/// The places of the repair of one board, and of a move of the same board by the same others.
+pub const REPAIR_ONE: usize = 3;
+pub const MOVE: usize = 9;
+
+/// The points between which that board is moved in turn; the last move of a turn is to the second. Present robots have neither.
+const POINTS: [u8; 2] = [0xFE, 0xFF];
 
 /// How many bytes an edit has: those of one pack count.
 pub const EDITED: usize = 4;
@@ -35,7 +42,8 @@ const FEWEST_TURNS: usize = 4;
 
 /// A file, and the boards that the calls name. In the repair of r boards the first r are fresh, and each hears the d behind them; in that of one the
 /// first is fresh, hears the d behind it, and the r − 1 behind these stand in. The file is read from the last k boards, also by an edit, of four bytes in
-/// its middle, in one stripe; a careful read names the last k + 2; and the one share is the last board's.
+/// its middle, in one stripe; a careful read names the last k + 2; the one share is the last board's; and a move is of the
+/// board that is rebuilt alone, by the same others.
 pub struct Work {
     pub sizes: Sizes,
     pub stripes: usize,
@@ -91,11 +99,15 @@ struct Left {
     share: Vec<u8>,
     edited: Vec<u8>,
     rewritten: Vec<u8>,
+    /// with a board moved, and with it moved back
+    with_moved: Vec<u8>,
+    moved_back: Vec<u8>,
     /// the file by both careful reads, and what they report
     careful: [Vec<u8>; 2],
     odd: [usize; 2],
     moved: usize,
     moved_one: usize,
+    moved_by_a_move: usize,
 }
 
 /// What a stepped repair leaves.
@@ -134,20 +146,26 @@ impl Left {
             repaired_one: area.clone(),
             share,
             edited: area.clone(),
-            rewritten: area,
+            rewritten: area.clone(),
+            with_moved: area.clone(),
+            moved_back: area,
             moved: 0,
             moved_one: 0,
+            moved_by_a_move: 0,
         }
     }
 
     /// Whether the file came back, by careful reads too, of which the second names the altered board, the fresh boards hold what was written, the share is
-    /// the one that was written, and an edit leaves what a write of the edited file does, which is another one.
+    /// the one that was written, an edit leaves what a write of the edited file does, which is another one, and a board that is moved and moved back leaves
+    /// what was written, and moves the bytes of a repair of one.
     fn is_right(&self, work: &Work) -> bool {
         let written = self.written.chunks(self.share.len()).nth(work.node);
         let rebuilt = self.repaired == self.written && self.repaired_one == self.written;
         let edited = self.edited == self.rewritten && self.edited != self.written;
         let careful = self.careful.iter().all(|file| *file == work.file) && self.odd == [0, work.careful[0] + 1];
-        self.read == work.file && careful && rebuilt && written == Some(&self.share[..]) && edited
+        let back = self.with_moved != self.written && self.moved_back == self.written;
+        let moved = back && self.moved_by_a_move == self.moved_one;
+        self.read == work.file && careful && rebuilt && written == Some(&self.share[..]) && edited && moved
     }
 }
 
@@ -219,7 +237,22 @@ fn turn(coder: &mut dyn Coder, work: &Work, left: &mut Left) -> Best {
     left.rewritten.copy_from_slice(&left.written);
     let rewrite = rewrite(coder, work, &mut left.rewritten);
     let [careful, one_worn] = [false, true].map(|worn| read_careful(coder, work, worn, left));
-    [write, read, repair, repair_one, share, edit, rewrite, careful, one_worn]
+    let moved = move_board(coder, work, left);
+    [write, read, repair, repair_one, share, edit, rewrite, careful, one_worn, moved]
+}
+
+/// Moves a board between two points, and, outside of the time, back to its own, which is 00. Its bytes are EE before the first move.
+fn move_board(coder: &mut dyn Coder, work: &Work, left: &mut Left) -> Duration {
+    lose(coder, &work.one, work, &left.written, &mut left.with_moved);
+    coder.lose(&[]);
+    let mut calls = work.calls;
+    let time = timed(work, || {
+        left.moved_by_a_move = coder.move_board(&work.one, POINTS[calls % 2], &mut left.with_moved);
+        calls -= 1;
+    });
+    left.moved_back.copy_from_slice(&left.with_moved);
+    coder.move_board(&work.one, 0, &mut left.moved_back);
+    time
 }
 
 /// A careful read over what was written, or with a byte of it altered.

@@ -1,4 +1,4 @@
-//! The nineteen calls with their arguments: how each is passed to the archive, what of it may be spoilt, how it is shown. And the memory that they
+//! The twenty calls with their arguments: how each is passed to the archive, what of it may be spoilt, how it is shown. And the memory that they
 //! are lent to change.
 
 use crate::code::{self, Sizes};
@@ -115,6 +115,12 @@ pub enum Call {
     Careful {
         boards: Vec<usize>,
     },
+    Move {
+        board: usize,
+        point: u8,
+        helpers: Vec<usize>,
+        partners: Vec<usize>,
+    },
     ReadText {
         text: Vec<u8>,
     },
@@ -130,7 +136,7 @@ pub enum Call {
 }
 
 /// The C names of the calls, in the order of `Call::place`, each with the refusals that it can give.
-pub const CALLS: [(&str, &[u8]); 19] = [
+pub const CALLS: [(&str, &[u8]); 20] = [
     ("zbk_share", &[1, 3, 5, 7]),
     ("zbk_file", &[1, 3, 4, 5, 6, 2, 7, 10]),
     ("zbk_helper_packet", &[1, 3, 5, 6, 2, 7]),
@@ -146,6 +152,7 @@ pub const CALLS: [(&str, &[u8]); 19] = [
     ("zbk_start", &[1, 2, 8, 16, 4, 5, 6, 14, 9]),
     ("zbk_step", &[1, 2, 8, 17]),
     ("zbk_read_careful", &[1, 2, 8, 4, 5, 6, 9, 7, 10]),
+    ("zbk_move", &[1, 2, 8, 16, 4, 5, 6, 9]),
     ("zbk_read_text", &[1, 12, 7]),
     ("zbk_gather", &[12, 13, 4, 6, 7, 10]),
     ("zbk_text_prefix", &[]),
@@ -156,10 +163,10 @@ pub const CALLS: [(&str, &[u8]); 19] = [
 pub const SET_UP: usize = 6;
 
 /// The place in `CALLS` of the first of the three calls that are given texts.
-pub const READ_TEXT: usize = 15;
+pub const READ_TEXT: usize = 16;
 
 /// The place in `CALLS` of the call that draws a file from a seed.
-pub const TRIAL_FILE: usize = 18;
+pub const TRIAL_FILE: usize = 19;
 
 // The archive's names, as include/zebrankai.h declares them (`tests/names`).
 macro_rules! asked {
@@ -209,6 +216,7 @@ impl Call {
             Call::Start { .. } => 12,
             Call::Step { .. } => 13,
             Call::Careful { .. } => 14,
+            Call::Move { .. } => 15,
             Call::ReadText { .. } => READ_TEXT,
             Call::Gather { .. } => READ_TEXT + 1,
             Call::Prefix { .. } => READ_TEXT + 2,
@@ -256,6 +264,9 @@ impl Call {
             Call::Start { fresh, helpers, stand_ins } => zbk_start(record, repair, area, fresh, helpers, stand_ins),
             Call::Step { allowance } => zbk_step(record, repair, area, packets, *allowance),
             Call::Careful { boards } => zbk_read_careful(record, repair, area, boards, out),
+            Call::Move { board, point, helpers, partners } => {
+                zbk_move(record, repair, area, *board, *point, helpers, partners)
+            }
             Call::ReadText { text } => zbk_read_text(text, record, area, out),
             Call::Gather { text } => zbk_gather(text, out),
             Call::Prefix { text } => zbk_text_prefix(text),
@@ -339,6 +350,9 @@ impl Call {
                 Parts { offset: Some(offset), lists: vec![boards], slices: vec![bytes], ..none }
             }
             Call::Step { allowance } => Parts { allowance: Some(allowance), ..none },
+            Call::Move { board, point, helpers, partners } => {
+                Parts { point: Some(point), numbers: vec![board], lists: vec![helpers, partners], ..none }
+            }
             Call::ReadText { text } | Call::Gather { text } | Call::Prefix { text } => {
                 Parts { slices: vec![text], ..none }
             }
@@ -357,6 +371,7 @@ pub struct Parts<'a> {
     pub capacity: Option<&'a mut usize>,
     pub offset: Option<&'a mut usize>,
     pub allowance: Option<&'a mut usize>,
+    pub point: Option<&'a mut u8>,
     pub numbers: Vec<&'a mut usize>,
     pub lists: Vec<&'a mut Vec<usize>>,
     pub slices: Vec<&'a mut Vec<u8>>,
@@ -474,6 +489,9 @@ impl fmt::Display for Call {
                 write!(to, "(offset={offset}, bytes[{}], boards={boards:?}", bytes.len())
             }
             Call::Step { allowance } => write!(to, "(allowance={allowance}"),
+            Call::Move { board, point, helpers, partners } => {
+                write!(to, "(board={board}, point={point:02x}, helpers={helpers:?}, partners={partners:?}")
+            }
             Call::ReadText { text } | Call::Gather { text } | Call::Prefix { text } => {
                 write!(to, "(text={:?}", shown(text))
             }

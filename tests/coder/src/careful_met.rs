@@ -8,7 +8,7 @@ use crate::store::{self, word};
 
 /// What a careful read may be, with what it is answered; one may be several. Each must have been met, and those that are not marked `Small` also with
 /// five boards or more and over 100 stripes.
-const KINDS: [(&str, u8, Where); 52] = [
+const KINDS: [(&str, u8, Where); 54] = [
     ("none odd", ACCEPTED, Where::Any),
     ("none odd, of a file of no bytes", ACCEPTED, Where::Small),
     ("none odd, k = 1", ACCEPTED, Where::Any),
@@ -61,6 +61,8 @@ const KINDS: [(&str, u8, Where); 52] = [
     ("a worn board, then a power failure", ACCEPTED, Where::Any),
     ("a worn board, lost and rebuilt", ACCEPTED, Where::Any),
     ("boards rebuilt by a worn one", DISAGREE, Where::Any),
+    ("a worn board, then a move of another", ACCEPTED, Where::Any),
+    ("a worn board, moved itself", ACCEPTED, Where::Any),
 ];
 
 /// The kinds that only who altered the area can tell.
@@ -87,6 +89,8 @@ pub const EDITED: usize = 48;
 pub const FAILED: usize = 49;
 pub const REBUILT: usize = 50;
 pub const SPREAD: usize = 51;
+pub const OTHER_MOVED: usize = 52;
+pub const ITSELF_MOVED: usize = 53;
 
 /// How many careful reads of each kind were answered as they must be, and how many of them with five boards or more and over 100 stripes.
 #[derive(Default)]

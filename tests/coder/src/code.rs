@@ -90,6 +90,11 @@ pub fn generator(sizes: Sizes, points: &[u8], board: usize) -> Matrix {
     evaluated(sizes, &sizes.places(points, board))
 }
 
+/// The same for all boards.
+pub fn generators(sizes: Sizes, points: &[u8]) -> Vec<Matrix> {
+    (0..sizes.n).map(|board| generator(sizes, points, board)).collect()
+}
+
 /// F's values at places (x, y), for each of them as many bytes as a file has stripes.
 pub fn values(sizes: Sizes, file: &[u8], places: &[(u8, u8)]) -> Vec<Vec<u8>> {
     let values = evaluated(sizes, places).times(&stripes_of(sizes, file));
@@ -196,28 +201,54 @@ fn of(points: &[u8], boards: &[usize]) -> Vec<u8> {
     boards.iter().map(|&board| points[board]).collect()
 }
 
-/// What `helper` sends to `receiver`, from any bytes in the place of its share.
-pub fn helper_packet(sizes: Sizes, points: &[u8], helper: usize, receiver: usize, share: &[u8]) -> Vec<u8> {
+/// The sums of what a board keeps at these points that are values of its own f and g at others: a row for each of f's, then one for each of g's.
+fn own_values(sizes: Sizes, points: &[u8], board: usize, of_f: &[u8], of_g: &[u8]) -> Matrix {
     let Sizes { d, r, .. } = sizes;
-    let kept = sizes.places(points, helper);
+    let kept = sizes.places(points, board);
     let ys: Vec<u8> = kept[..d + r].iter().map(|&(_, y)| y).collect();
     // g's values: byte 0, then the last d − 1
-    let of_g: Vec<usize> = (0..d).map(|t| if t == 0 { 0 } else { d + r + t - 1 }).collect();
-    let xs: Vec<u8> = of_g.iter().map(|&place| kept[place].0).collect();
-    let by_f = factors(&ys, &[points[receiver]]);
-    let by_g = factors(&xs, &[points[receiver]]);
-    // the first byte is F(x_helper, y_receiver), a value of the helper's f; the second is F(x_receiver, y_helper), one of its g
-    let sums = Matrix::new(2, sizes.share_len(), |which, place| match which {
-        0 if place < d + r => by_f.at(0, place),
-        1 => of_g.iter().position(|&p| p == place).map_or(0, |t| by_g.at(0, t)),
-        _ => 0,
-    });
+    let kept_of_g: Vec<usize> = (0..d).map(|t| if t == 0 { 0 } else { d + r + t - 1 }).collect();
+    let xs: Vec<u8> = kept_of_g.iter().map(|&place| kept[place].0).collect();
+    let by_f = factors(&ys, of_f);
+    let by_g = factors(&xs, of_g);
+    Matrix::new(of_f.len() + of_g.len(), sizes.share_len(), |row, place| match row.checked_sub(of_f.len()) {
+        None if place < d + r => by_f.at(row, place),
+        None => 0,
+        Some(row) => kept_of_g.iter().position(|&p| p == place).map_or(0, |t| by_g.at(row, t)),
+    })
+}
+
+/// What a helper sends to a board at a point, from any bytes that it keeps at these points in the place of its share: first F(x_helper, y_receiver), a
+/// value of the helper's f, then F(x_receiver, y_helper), one of its g.
+pub fn packet_to(sizes: Sizes, points: &[u8], helper: usize, receiver: u8, share: &[u8]) -> Vec<u8> {
+    let sums = own_values(sizes, points, helper, &[receiver], &[receiver]);
+    joined(&sums.times(&columns_of(share, sizes.share_len())))
+}
+
+/// What `helper` sends to `receiver`, from any bytes in the place of its share.
+pub fn helper_packet(sizes: Sizes, points: &[u8], helper: usize, receiver: usize, share: &[u8]) -> Vec<u8> {
+    packet_to(sizes, points, helper, points[receiver], share)
+}
+
+/// What a board keeps at other points, its own the same, from any bytes that it keeps at these: all values of its f and g anew.
+pub fn afresh(sizes: Sizes, points: &[u8], others: &[u8], board: usize, share: &[u8]) -> Vec<u8> {
+    assert_eq!(points[board], others[board], "f and g are those of a board at one point");
+    let wanted = sizes.places(others, board);
+    let (of_f, of_g) = wanted.split_at(sizes.d + sizes.r);
+    let of_f: Vec<u8> = of_f.iter().map(|&(_, y)| y).collect();
+    let of_g: Vec<u8> = of_g.iter().map(|&(x, _)| x).collect();
+    let sums = own_values(sizes, points, board, &of_f, &of_g);
     joined(&sums.times(&columns_of(share, sizes.share_len())))
 }
 
 /// What a stand-in sends to `receiver`: "only F(x_i, y_s), the second bytes of its helper packet".
 pub fn stand_in_packet(sizes: Sizes, points: &[u8], stand_in: usize, receiver: usize, share: &[u8]) -> Vec<u8> {
-    helper_packet(sizes, points, stand_in, receiver, share).into_iter().skip(1).step_by(2).collect()
+    seconds_of(helper_packet(sizes, points, stand_in, receiver, share))
+}
+
+/// The second bytes of a helper packet.
+pub fn seconds_of(packet: Vec<u8>) -> Vec<u8> {
+    packet.into_iter().skip(1).step_by(2).collect()
 }
 
 /// The packets of helpers, one after another, as a matrix: a row for each helper, `which` of each pair, a column for each stripe.

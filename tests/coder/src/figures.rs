@@ -1,7 +1,8 @@
 //! The figures of document 01, as literal values: all that are not marked M, through the archive and by the coder itself. Those marked M are
 //! proved; they are run here too, since they also try the coder. Then the same for robots of the first series, whose figures were worked out by
 //! hand, and which points are refused (request A.9 of document 02); and a board rebuilt alone, with a stand-in (request A.3);
-//! edits (request A.6); repairs a packet at a time (request A.8); careful reads (request A.11); and first bytes of trial files (request A.2).
+//! edits (request A.6); repairs a packet at a time (request A.8); careful reads (request A.11); moves of boards (request A.10); and first bytes of trial
+//! files (request A.2).
 
 use crate::call::refusal::{COUNT, DOWN, LONG, NODE, REPEAT, SERVING, SIZE};
 use crate::call::{Call, Lent, Outcome};
@@ -10,8 +11,8 @@ use crate::field::FIELD;
 use crate::points::{filled_up, first_series, standard};
 use crate::trial::{Place, Trial};
 use crate::{
-    board, careful_figures, edit_figures, load, prefix_figures, step_figures, store, stream, stream_cases,
-    text_figures, texts,
+    board, careful_figures, edit_figures, load, move_figures, prefix_figures, step_figures, store, stream,
+    stream_cases, text_figures, texts,
 };
 
 pub fn run(trial: &mut Trial) {
@@ -31,7 +32,11 @@ pub fn run(trial: &mut Trial) {
         careful_figures::padding(trial, &series);
         careful_figures::stripes(trial, &series);
         careful_figures::refusals(trial, &series);
+        move_figures::refusals(trial, &series);
     }
+    move_figures::in_turn(trial, &first(), &present());
+    move_figures::by_a_line(trial);
+    move_figures::free_bytes(trial, &first());
     careful_figures::one_read(trial);
     careful_figures::in_pairs(trial);
     step_figures::in_order(trial);

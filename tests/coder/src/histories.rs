@@ -8,6 +8,7 @@ use crate::code::{self, Sizes};
 use crate::draw;
 use crate::ledger::Book;
 use crate::matrix::Matrix;
+use crate::move_draw;
 use crate::points;
 use crate::random::Random;
 use crate::repairs;
@@ -38,7 +39,7 @@ struct History {
 }
 
 /// What a whole history has had, beside its set-up: accepted calls, bytes altered of boards out of service, and failures of power.
-const PARTS: [&str; 12] = [
+const PARTS: [&str; 13] = [
     "write",
     "loss",
     "repair of r boards",
@@ -51,6 +52,7 @@ const PARTS: [&str; 12] = [
     "bytes altered",
     "power failure",
     "careful read",
+    "move",
 ];
 
 /// The places of some of them.
@@ -59,6 +61,7 @@ const ENDED: usize = 8;
 const ALTERED: usize = 9;
 const FAILED: usize = 10;
 const CAREFUL: usize = 11;
+const MOVED: usize = 12;
 
 pub fn run(trial: &mut Trial, random: &mut Random, sizes: Sizes) {
     let capacity = draw::stripes(random, sizes);
@@ -71,9 +74,10 @@ pub fn run(trial: &mut Trial, random: &mut Random, sizes: Sizes) {
     history.go_on(trial, random, calls, None);
 }
 
-/// A history that has all parts: a file of some length after others, an edit of it, reads, a careful one too, r boards lost and rebuilt, fewer of them lost and rebuilt with
-/// stand-ins, with an edit before each repair, reads, some lost and rebuilt by steps, once more after a power failure, a repair that a loss ends, and then
-/// so many calls as they are drawn. True where it had them all and the archive answered each call as the book.
+/// A history that has all parts: a file of some length after others, an edit of it, reads, a careful one too, r boards lost and rebuilt, a board moved, fewer
+/// of them lost and rebuilt with stand-ins, with an edit before each repair, reads, some lost and rebuilt by steps, once more after a power failure, another
+/// board moved, a repair that a loss ends, and then so many calls as they are drawn. True where it had them all and the archive answered each call as the
+/// book.
 pub fn whole(trial: &mut Trial, random: &mut Random, scene: &Scene, capacity: usize, calls: usize) -> bool {
     let sizes = scene.sizes;
     let area_len = sizes.n * capacity * sizes.share_len();
@@ -90,8 +94,10 @@ pub fn whole(trial: &mut Trial, random: &mut Random, scene: &Scene, capacity: us
         && history.read_any(trial, random)
         && history.read_careful(trial, random)
         && history.rebuild(trial, random, sizes.r)
+        && history.move_any(trial, random)
         && history.rebuild(trial, random, fewer)
         && history.rebuild_by_steps(trial, random, fewer)
+        && history.move_any(trial, random)
         && history.end_by_a_loss(trial, random, &scene.file)
         && history.go_on(trial, random, calls, Some(scene.length()));
     // and of too few boards there is no careful read
@@ -127,7 +133,7 @@ impl History {
             }
             lent = expected.lent;
         }
-        let generators = (0..sizes.n).map(|board| code::generator(sizes, &points, board)).collect();
+        let generators = code::generators(sizes, &points);
         let book = Book::new(sizes, points, capacity, area_len);
         Some(History {
             book,
@@ -186,6 +192,15 @@ impl History {
         let some = random.below(self.book.total(count));
         let stepped = [some, 0, usize::MAX];
         anew && stepped.into_iter().all(|allowance| self.step(trial, random, allowance) && self.read_any(trial, random))
+    }
+
+    /// Moves any board to any byte that is free, edits the file and reads.
+    fn move_any(&mut self, trial: &mut Trial, random: &mut Random) -> bool {
+        self.lent.out.clear();
+        let Book { sizes, ref points, .. } = self.book;
+        let board = random.below(sizes.n);
+        let call = move_draw::of(random, sizes, points, board);
+        self.check(trial, &call) && self.edit_four(trial, random) && self.read_any(trial, random)
     }
 
     /// Loses a board and starts to rebuild it, loses one of those that help, and writes a file.
@@ -287,11 +302,10 @@ impl History {
 
     /// One call, mostly a right one; false where the archive answered otherwise. Where a length is given, most files that are written have it.
     fn next(&mut self, trial: &mut Trial, random: &mut Random, length: Option<usize>) -> bool {
-        let Book { sizes, capacity, .. } = self.book;
-        let (file_len, in_service) = (self.file_len(), self.in_service());
+        let sizes = self.book.sizes;
         let mut call = match &self.book.repairing {
-            Some(repairing) => store_draw::call_meanwhile(random, sizes, capacity, file_len, &in_service, repairing),
-            None => store_draw::next_call(random, sizes, capacity, file_len, &in_service),
+            Some(repairing) => store_draw::call_meanwhile(random, &self.book, repairing),
+            None => store_draw::next_call(random, &self.book),
         };
         if let (Call::Write { file }, Some(length)) = (&mut call, length) {
             if !random.once_in(3) {
@@ -300,6 +314,7 @@ impl History {
         }
         if random.once_in(6) {
             repairs::spoil(random, sizes, &self.in_service(), &mut call);
+            move_draw::spoil(random, sizes, &self.book.points, &mut call);
         }
         if random.once_in(4) {
             // the record and the area are those that the last call left, so only the arguments are spoilt
@@ -315,6 +330,9 @@ impl History {
     fn check(&mut self, trial: &mut Trial, call: &Call) -> bool {
         let (ran, carried) = (self.book.repairing.is_some(), self.book.carried());
         let reply = self.book.enter(call, &self.lent.out, self.lent.packets.len());
+        if let (Call::Move { .. }, 0) = (call, reply.answer & 255) {
+            self.generators = code::generators(self.book.sizes, &self.book.points);
+        }
         let mut after = self.lent.clone();
         after.out = reply.out;
         let length = self.book.file.as_ref().map(Vec::len);
@@ -369,6 +387,7 @@ impl History {
             Call::Edit { .. } if self.book.in_service.len() == self.book.sizes.n => 5,
             Call::Edit { .. } => 6,
             Call::Careful { .. } => CAREFUL,
+            Call::Move { .. } => MOVED,
             _ => 4,
         };
         self.had.insert(part);

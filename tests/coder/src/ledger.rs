@@ -1,6 +1,7 @@
 //! The ledger of document 01: a plain book kept beside the store. It is fed the sizes, the points, the capacity, the area's length and each call's
 //! arguments other than record and area, and never an answer. It keeps the last file accepted and the boards in service; and of a repair that runs
-//! (request A.8 of document 02) its lists and how many packets are left. Of a step's packet area it is fed the length. A power failure is told to it.
+//! (request A.8 of document 02) its lists and how many packets are left. Of a step's packet area it is fed the length. A power failure is told to it. Its
+//! points change by accepted moves (request A.10).
 
 use crate::call::refusal::{AREA, BUSY, COUNT, DOWN, EMPTY, IDLE, LONG, NODE, RANGE, REPEAT, SERVING, SHORT};
 use crate::call::Call;
@@ -101,6 +102,19 @@ impl Book {
                 (DOWN, !serving(boards)),
                 (SHORT, out < self.file_len()),
             ],
+            Call::Move { board, point, helpers, partners } => {
+                let named = [&[*board], &helpers[..], partners].concat();
+                let taken = self.points.iter().take(n).any(|other| other == point);
+                vec![
+                    (AREA, wrong_area),
+                    (EMPTY, self.file.is_none()),
+                    (BUSY, busy),
+                    (COUNT, helpers.len() != d || partners.len() != r - 1),
+                    (NODE, !known(&named)),
+                    (REPEAT, !different(&named) || taken),
+                    (DOWN, self.in_service.len() < n),
+                ]
+            }
             Call::Step { .. } => {
                 // "with none running its length is not checked"
                 let due = self.repairing.as_ref().map(|repairing| self.moved(repairing.lists.fresh.len()));
@@ -112,7 +126,7 @@ impl Book {
         lines.into_iter().find(|(_, holds)| *holds).map(|(number, _)| number)
     }
 
-    fn file_len(&self) -> usize {
+    pub fn file_len(&self) -> usize {
         self.file.as_ref().map_or(0, Vec::len)
     }
 
@@ -180,6 +194,12 @@ impl Book {
                 let file = self.file.as_mut().expect("EMPTY does not hold");
                 file.splice(*offset..offset + bytes.len(), bytes.iter().copied());
                 reply.made = self.in_service.iter().copied().collect();
+            }
+            // every board then has its share at the new points
+            Call::Move { board, point, .. } => {
+                self.points[*board] = *point;
+                reply.answer = (self.moved(1) as u64) << 8;
+                reply.made = (0..self.sizes.n).collect();
             }
             Call::Start { fresh, helpers, stand_ins } => {
                 let (fresh, helpers, stand_ins) = (fresh.clone(), helpers.clone(), stand_ins.clone());

@@ -14,12 +14,13 @@
 //! (request A.7); all of them at points 0 to n − 1, i + 1 and others (request A.9), with repairs of 1 to r boards with stand-ins (request A.3) and edits
 //! (request A.6), these also over areas with wrong bytes in boards that are read or not; and with repairs a packet at a time (request A.8), stepped by
 //! every allowance, over packets and boards that are altered, up to power failures and losses, and beside made-up records; and with careful reads (request
-//! A.11), over areas with no, one, two and all boards altered in every way, and through whole histories of worn boards. Each case draws from its own
-//! seed, made of the run's seed and the case's number: `--only` repeats one case.
+//! A.11), over areas with no, one, two and all boards altered in every way, and through whole histories of worn boards; and with moves of boards to other
+//! points (request A.10), over areas altered in every way, and of robots of the first series as a whole. Each case draws from its own seed, made of the
+//! run's seed and the case's number: `--only` repeats one case.
 //! `--wrong` alters what the archive answers to one call, to show that this is reported. `--first` ends the run at the first case with a mismatch.
 //! `--trace` prints each call before it is made, `--verbose` how often each call gave each refusal, with which points, how often an altered byte was
-//! accepted and refused, how many boards repairs had, where edits stood, how repairs were stepped, what careful reads were of, and what was met at real
-//! sizes. `--multiply` tries all products and quotients through the archive and nothing else. `--products`, `--printer`, `--sizes`, `--trial` and `--load`
+//! accepted and refused, how many boards repairs had, where edits stood, how repairs were stepped, what careful reads and moves were of, and what was met
+//! at real sizes. `--multiply` tries all products and quotients through the archive and nothing else. `--products`, `--printer`, `--sizes`, `--trial` and `--load`
 //! make no call: the first writes all products and inverses of the coder's own field, the second reads standard input and writes what the share printer
 //! or the points printer must write for it, the third writes a line for each legal combination of sizes with at most N boards (request A.12), the fourth
 //! reads standard input and writes what the program `trial` must write for it (request A.2), and the fifth writes one of the inputs that it is tried
@@ -35,8 +36,8 @@
 //! at most 4,000 calls leave them out.
 //!
 //! The last line counts calls and mismatches. The exit code is 1 where there is a mismatch, or where in a run of 40,000 calls or more some
-//! refusal that a call can give was never met, a kind of points, DISAGREE for a kind of altered byte, a kind of repair, of edit, of step or of careful read,
-//! or a call at a kind of real sizes.
+//! refusal that a call can give was never met, a kind of points, DISAGREE for a kind of altered byte, a kind of repair, of edit, of step, of careful
+//! read or of move, or a call at a kind of real sizes.
 
 mod altered;
 mod archive;
@@ -47,6 +48,7 @@ mod careful;
 mod careful_cases;
 mod careful_figures;
 mod careful_met;
+mod carried;
 mod code;
 mod draw;
 mod edit_cases;
@@ -58,6 +60,11 @@ mod histories;
 mod ledger;
 mod load;
 mod matrix;
+mod move_cases;
+mod move_draw;
+mod move_figures;
+mod moves;
+mod moves_met;
 mod points;
 mod prefix;
 mod prefix_cases;
@@ -247,6 +254,8 @@ fn run_case(trial: &mut Trial, case: u64) {
         step_cases::run(trial, &mut random, sizes);
         careful_cases::run(trial, &mut random, sizes);
         worn::run(trial, &mut random, sizes);
+        move_cases::run(trial, &mut random, sizes);
+        carried::run(trial, &mut random, sizes);
         text_cases::run(trial, &mut random, sizes);
         prefix_cases::first(trial, &mut random, sizes);
         stream_cases::first(trial, &mut random);
@@ -256,7 +265,7 @@ fn run_case(trial: &mut Trial, case: u64) {
         return real_cases::run(trial, &mut random, turn);
     }
     let sizes = draw::sizes(&mut random);
-    match random.below(25) {
+    match random.below(27) {
         0..=1 => histories::run(trial, &mut random, sizes),
         2..=9 => store_cases::run(trial, &mut random, sizes),
         10..=11 => tight::run(trial, &mut random, sizes),
@@ -271,6 +280,8 @@ fn run_case(trial: &mut Trial, case: u64) {
         17 => step_cases::run(trial, &mut random, sizes),
         18 => careful_cases::run(trial, &mut random, sizes),
         19 => worn::run(trial, &mut random, sizes),
+        20 => move_cases::run(trial, &mut random, sizes),
+        21 => carried::run(trial, &mut random, sizes),
         _ => board_cases::run(trial, &mut random, sizes),
     }
 }

@@ -43,10 +43,10 @@ impl Matrix {
     pub fn times(&self, other: &Matrix) -> Matrix {
         assert_eq!(self.columns, other.rows, "the matrices do not fit");
         let mut product = Matrix::new(self.rows, other.columns, |_, _| 0);
-        // rows of 00 add nothing: a difference of files has many
+        // rows of 00 add nothing, of which a difference of files has many, and nor do factors 00, of which those of values that are kept have many
         let adding: Vec<usize> = (0..other.rows).filter(|&t| other.row(t).iter().any(|&cell| cell != 0)).collect();
         for i in 0..self.rows {
-            for &t in &adding {
+            for &t in adding.iter().filter(|&&t| self.at(i, t) != 0) {
                 FIELD.add_multiple(product.row_mut(i), self.at(i, t), other.row(t));
             }
         }

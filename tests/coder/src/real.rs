@@ -75,7 +75,8 @@ impl Measure {
             | Call::Edit { .. }
             | Call::Start { .. }
             | Call::Step { .. }
-            | Call::Careful { .. } => {
+            | Call::Careful { .. }
+            | Call::Move { .. } => {
                 let (sizes, _) = store::given(&lent.record)?;
                 let now = lent.record[word::LENGTH] as usize;
                 let length = if let Call::Write { file } = call { file.len() } else { now };
@@ -239,7 +240,7 @@ impl Met {
 const COUNTED: [u8; 2] = [ACCEPTED, DISAGREE];
 
 /// The places in `CALLS` of the calls over a file in a store.
-const OVER_A_STORE: std::ops::RangeInclusive<usize> = 7..=14;
+const OVER_A_STORE: std::ops::RangeInclusive<usize> = 7..=15;
 
 /// Whether a call is about too few bytes for any of CLASSES.
 fn small(call: &Call, lent: &Lent) -> bool {
@@ -251,7 +252,8 @@ fn small(call: &Call, lent: &Lent) -> bool {
         | Call::Edit { .. }
         | Call::Start { .. }
         | Call::Step { .. }
-        | Call::Careful { .. } => lent.area.len() < 500,
+        | Call::Careful { .. }
+        | Call::Move { .. } => lent.area.len() < 500,
         _ => false,
     }
 }

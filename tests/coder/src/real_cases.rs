@@ -4,10 +4,12 @@
 
 use crate::board_cases;
 use crate::careful_cases;
+use crate::carried;
 use crate::code::{Sizes, MAX_STRIPES};
 use crate::draw;
 use crate::edit_cases;
 use crate::histories;
+use crate::move_cases;
 use crate::points;
 use crate::prefix_cases;
 use crate::random::Random;
@@ -166,11 +168,17 @@ pub fn run(trial: &mut Trial, random: &mut Random, turn: u64) {
     let t = fresh_in_turn(random, turn, sizes.r);
     step_cases::over(trial, random, &scene, capacity, t);
     careful_cases::over(trial, random, &scene, capacity);
+    move_cases::over(trial, random, &scene, capacity);
+    // the two robots of real sizes once, others that are not too much work
+    if turn == 0 || turn == 3 || (turn > 3 && work(sizes) * scene.stripes() * sizes.n < WORK) {
+        carried::over(trial, random, sizes, capacity, scene.file.clone());
+    }
     store_cases::over(trial, random, &scene, capacity, calls);
     text_cases::named(trial, random, &scene);
     text_cases::over(trial, random, &scene);
     prefix_cases::of_scene(trial, random, &scene);
     if turn % 4 == 0 {
+        move_cases::long(trial, random);
         prefix_cases::longest(trial, random);
         stream_cases::long(trial, random);
     }

@@ -29,6 +29,7 @@ fn spoil_arguments(random: &mut Random, sizes: Sizes, mut parts: Parts) {
         parts.capacity.is_some(),
         parts.offset.is_some(),
         parts.allowance.is_some(),
+        parts.point.is_some(),
         !parts.numbers.is_empty(),
         !parts.lists.is_empty(),
         !parts.slices.is_empty(),
@@ -48,18 +49,23 @@ fn spoil_arguments(random: &mut Random, sizes: Sizes, mut parts: Parts) {
         3 => *parts.capacity.expect("it is there") = random.pick(&[0, 1, 4096, 4097, 1 << 32, usize::MAX]),
         4 => spoil_offset(random, sizes, parts.offset.expect("it is there")),
         5 => *parts.allowance.expect("it is there") = random.pick(&[0, 1, 3, 255, 256, 1 << 32, 1 << 63, usize::MAX]),
+        // mostly a board's, or 00
         6 => {
+            let (low, any) = (random.below(sizes.n + 2) as u8, random.next() as u8);
+            *parts.point.expect("it is there") = random.pick(&[low, 0, any]);
+        }
+        7 => {
             let place = random.below(parts.numbers.len());
             let named = parts.named();
             let again = random.once_in(3);
             *parts.numbers[place] = if again { random.pick(&named) } else { draw::any_number(random, sizes.n) };
         }
-        7 if parts.lists.len() > 1 && random.once_in(3) => {
+        8 if parts.lists.len() > 1 && random.once_in(3) => {
             let two = random.choose((0..parts.lists.len()).collect(), 2);
             let from = parts.lists[two[0]].clone();
             share_a_board(random, &from, parts.lists[two[1]]);
         }
-        7 => {
+        8 => {
             let place = random.below(parts.lists.len());
             spoil_list(random, sizes.n, parts.lists[place]);
         }

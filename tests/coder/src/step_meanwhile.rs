@@ -4,6 +4,7 @@
 use crate::call::refusal::SIZE;
 use crate::call::{Call, Lent, Outcome};
 use crate::code::Sizes;
+use crate::move_draw;
 use crate::random::Random;
 use crate::running::{self, word, Lists};
 use crate::running_draw;
@@ -53,7 +54,8 @@ impl Stepping<'_> {
 
     /// Calls that are refused while a repair runs, whatever else they are.
     fn refused(&self, random: &mut Random) -> Vec<Call> {
-        let Sizes { n, k, .. } = self.scene.sizes;
+        let sizes = self.scene.sizes;
+        let Sizes { n, k, d, .. } = sizes;
         let Lists { fresh, helpers, stand_ins } = self.lists.clone();
         let length = self.scene.length();
         let room = self.capacity * self.scene.sizes.stripe_len();
@@ -72,6 +74,8 @@ impl Stepping<'_> {
             Call::Edit { offset: length + 1, bytes: random.bytes(1), boards: boards[1..].to_vec() },
             Call::Repair { fresh: fresh.clone(), helpers: helpers.clone(), stand_ins: stand_ins.clone() },
             self.start(),
+            move_draw::draw(random, sizes, &self.scene.points),
+            Call::Move { board: n, point: self.scene.points[0], helpers: helpers[..d - 1].to_vec(), partners: vec![] },
             Call::Start { fresh: vec![n], helpers: helpers[1..].to_vec(), stand_ins: stand_ins.clone() },
             Call::Repair { fresh: [&fresh[..], &fresh[..1]].concat(), helpers, stand_ins },
         ]
@@ -165,9 +169,9 @@ impl Stepping<'_> {
         let mut record = lent.record.clone();
         record[store::word::WRITTEN..=store::word::MARKS].fill(0);
         all.push(Lent { record, ..lent.clone() });
-        let first = random.below(8);
+        let first = random.below(9);
         for (turn, lent) in all.into_iter().enumerate() {
-            let call = self.any_call(random, (first + turn) % 8);
+            let call = self.any_call(random, (first + turn) % 9);
             let packets =
                 if random.once_in(2) { random.bytes(crate::steps::area_len(&self.order)) } else { Vec::new() };
             let lent = Lent { packets, ..lent };
@@ -179,7 +183,7 @@ impl Stepping<'_> {
         Some(())
     }
 
-    /// One of the eight calls that look at the repair's record, mostly with arguments that are right.
+    /// One of the nine calls that look at the repair's record, mostly with arguments that are right.
     fn any_call(&self, random: &mut Random, which: usize) -> Call {
         let k = self.scene.sizes.k;
         let Lists { fresh, helpers, stand_ins } = self.lists.clone();
@@ -192,6 +196,7 @@ impl Stepping<'_> {
             4 => Call::Edit { offset: 0, bytes: Vec::new(), boards },
             5 => self.start(),
             6 => Call::Careful { boards: random.choose(self.in_service.clone(), k + 2) },
+            7 => move_draw::draw(random, self.scene.sizes, &self.scene.points),
             _ => Call::Step { allowance: running_draw::allowance(random, self.order.len()) },
         }
     }

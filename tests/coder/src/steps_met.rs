@@ -10,7 +10,7 @@ use crate::store::{self, Record};
 
 /// What may be met, with what it is answered; a call may be several. Each must have been met, and those that are not marked `Small` also with five
 /// boards or more and over 100 stripes.
-const KINDS: [(&str, u8, Where); 68] = [
+const KINDS: [(&str, u8, Where); 70] = [
     ("a step of 0", ACCEPTED, Where::Any),
     ("a step of 1 packet", ACCEPTED, Where::Any),
     ("a step of 3 packets", ACCEPTED, Where::Any),
@@ -79,6 +79,8 @@ const KINDS: [(&str, u8, Where); 68] = [
     ("words: 2^64 − 1 carried", SIZE, Where::Any),
     ("a careful read meanwhile", ACCEPTED, Where::Any),
     ("a careful read of a fresh board meanwhile", DOWN, Where::Any),
+    ("a move meanwhile", BUSY, Where::Any),
+    ("a move by wrong lists meanwhile", BUSY, Where::Any),
 ];
 
 /// The kinds that only who altered something can tell.
@@ -90,13 +92,14 @@ pub const AFTER_A_LOSS: usize = 25;
 /// The first of those about records that no call hands on, and the first behind them.
 const WORDS: usize = 51;
 const CAREFUL: usize = 66;
+const MOVE: usize = 68;
 
 /// When power fails; told by who lets it.
 pub const FAILURES: [&str; 4] =
     ["before the first packet", "between two packets", "before the last packet", "inside a last step"];
 
 /// The calls that look at a running record, by their places in `CALLS`: each must have found one that no call hands on.
-const LOOKING: std::ops::RangeInclusive<usize> = 7..=14;
+const LOOKING: std::ops::RangeInclusive<usize> = 7..=15;
 
 /// Where a kind is due.
 #[derive(Clone, Copy, PartialEq, Eq)]
@@ -112,7 +115,7 @@ pub struct Met {
     large: Vec<u64>,
     failures: [[u64; 2]; FAILURES.len()],
     /// of each call, how often a record that no call hands on was found
-    looking: [u64; 15],
+    looking: [u64; 16],
 }
 
 /// A call while a repair runs, or by words that say so.
@@ -284,6 +287,7 @@ impl Meanwhile<'_> {
             Call::Edit { offset, .. } => {
                 vec![(37, true), (38, *offset as u64 > self.lent.record[store::word::LENGTH])]
             }
+            Call::Move { helpers, .. } => vec![(MOVE, true), (MOVE + 1, helpers.len() != self.record.sizes.d)],
             Call::Step { allowance } => self.stepped(lists, carried, *allowance),
             _ => Vec::new(),
         }

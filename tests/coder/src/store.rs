@@ -1,11 +1,12 @@
-//! The coder's own model of the nine calls of the store, over any records and any area: what each answers and leaves, refusals in document
-//! 01's order with those of later requests in their places. Start and step stand in `steps`, the careful read in `careful`.
+//! The coder's own model of the ten calls of the store, over any records and any area: what each answers and leaves, refusals in document
+//! 01's order with those of later requests in their places. Start and step stand in `steps`, the careful read in `careful`, the move of a
+//! board in `moves`.
 
 use crate::call::refusal::{AREA, BUSY, COUNT, DISAGREE, DOWN, EMPTY, LONG, NODE, RANGE, REPEAT, SERVING, SHORT, SIZE};
 use crate::call::{Call, Lent, Outcome};
 use crate::code::{self, Sizes, MAX_STRIPES};
 use crate::running::{self, Lists, Told};
-use crate::{careful, points, steps};
+use crate::{careful, moves, points, steps};
 
 /// The places of a record's words.
 pub mod word {
@@ -102,7 +103,7 @@ impl Record {
         self.sizes.n * self.capacity * self.sizes.share_len()
     }
 
-    fn some_down(&self, boards: &[usize]) -> bool {
+    pub fn some_down(&self, boards: &[usize]) -> bool {
         boards.iter().any(|&board| !self.marks[board])
     }
 
@@ -112,7 +113,7 @@ impl Record {
     }
 }
 
-fn has_repeat(list: &[usize]) -> bool {
+pub fn has_repeat(list: &[usize]) -> bool {
     (0..list.len()).any(|i| list[i + 1..].contains(&list[i]))
 }
 
@@ -128,6 +129,7 @@ pub fn expect(call: &Call, lent: &Lent) -> Outcome {
         Call::Start { fresh, helpers, stand_ins } => steps::start(fresh, helpers, stand_ins, lent),
         Call::Step { allowance } => steps::step(*allowance, lent),
         Call::Careful { boards } => careful::read(boards, lent),
+        Call::Move { board, point, helpers, partners } => moves::moved(*board, *point, helpers, partners, lent),
         _ => unreachable!("a board-level call"),
     };
     result.unwrap_or_else(|number| Outcome::refused(number, lent))

@@ -3,6 +3,7 @@
 use crate::call::{Call, Lent};
 use crate::code::Sizes;
 use crate::draw;
+use crate::move_draw;
 use crate::points;
 use crate::random::Random;
 use crate::repairs;
@@ -37,6 +38,7 @@ pub fn over(trial: &mut Trial, random: &mut Random, scene: &Scene, capacity: usi
         let mut call = store_draw::call(random, scene, capacity, &in_service);
         if random.once_in(3) {
             repairs::spoil(random, sizes, &in_service, &mut call);
+            move_draw::spoil(random, sizes, points, &mut call);
         }
         let out = store_draw::output(random, &call, length);
         let (repair, packets) = repair(random, scene, &in_service, &call);

@@ -4,7 +4,8 @@ use crate::call::Call;
 use crate::code::Sizes;
 use crate::draw;
 use crate::edits;
-use crate::ledger::Repairing;
+use crate::ledger::{Book, Repairing};
+use crate::move_draw;
 use crate::random::Random;
 use crate::repairs;
 use crate::running_draw;
@@ -15,7 +16,7 @@ pub fn call(random: &mut Random, scene: &Scene, capacity: usize, in_service: &[u
     let sizes = scene.sizes;
     let all: Vec<usize> = (0..sizes.n).collect();
     let boards = if random.once_in(8) { &all } else { in_service };
-    match random.below(15) {
+    match random.below(17) {
         0 => Call::SetUp { sizes, points: scene.points.clone(), capacity },
         1 => lose(random, sizes),
         2 => write(random, sizes, capacity),
@@ -24,17 +25,21 @@ pub fn call(random: &mut Random, scene: &Scene, capacity: usize, in_service: &[u
         7 => repairs::start(random, sizes, boards),
         8..=9 => Call::Step { allowance: running_draw::allowance(random, sizes.d + sizes.r - 1) },
         10..=11 => careful(random, sizes, boards),
+        12..=13 => move_draw::draw(random, sizes, &scene.points),
         _ => read(random, sizes, boards),
     }
 }
 
 /// The next call of a history: mostly losses, repairs and reads, so that boards are rebuilt from rebuilt boards; writes are few. A board that is lost
 /// is mostly rebuilt before the next one is lost, and boards are mostly lost only as far as those in service can still rebuild them. Half of the
-/// repairs are started, to be stepped. The file that is edited has so many bytes.
-pub fn next_call(random: &mut Random, sizes: Sizes, capacity: usize, length: usize, in_service: &[usize]) -> Call {
+/// repairs are started, to be stepped. Where all boards are in service some are moved.
+pub fn next_call(random: &mut Random, book: &Book) -> Call {
+    let Book { sizes, capacity, ref points, .. } = *book;
+    let length = book.file_len();
+    let in_service: &[usize] = &book.in_service.iter().copied().collect::<Vec<usize>>();
     let lost = sizes.n - in_service.len();
     let all: Vec<usize> = (0..sizes.n).collect();
-    match random.below(27) {
+    match random.below(30) {
         0 => write(random, sizes, capacity),
         1 => repairs::draw(random, sizes, &all),
         2 => read(random, sizes, &all),
@@ -43,6 +48,8 @@ pub fn next_call(random: &mut Random, sizes: Sizes, capacity: usize, length: usi
         24 => Call::Step { allowance: running_draw::allowance(random, 1) },
         25 => careful(random, sizes, &all),
         26 => careful(random, sizes, in_service),
+        27 => move_draw::draw(random, sizes, points),
+        28..=29 if lost == 0 => move_draw::draw(random, sizes, points),
         3..=14 => {
             let can_lose = repairs::possible(sizes, lost + 1) || random.once_in(10);
             if can_lose && (lost == 0 || random.once_in(3)) {
@@ -62,15 +69,11 @@ pub fn next_call(random: &mut Random, sizes: Sizes, capacity: usize, length: usi
 }
 
 /// The next call of a history while a repair runs: mostly steps, reads and losses; some of those that are BUSY.
-pub fn call_meanwhile(
-    random: &mut Random,
-    sizes: Sizes,
-    capacity: usize,
-    length: usize,
-    in_service: &[usize],
-    repairing: &Repairing,
-) -> Call {
-    match random.below(21) {
+pub fn call_meanwhile(random: &mut Random, book: &Book, repairing: &Repairing) -> Call {
+    let Book { sizes, capacity, ref points, .. } = *book;
+    let length = book.file_len();
+    let in_service: &[usize] = &book.in_service.iter().copied().collect::<Vec<usize>>();
+    match random.below(22) {
         0..=8 => Call::Step { allowance: running_draw::allowance(random, repairing.left) },
         9..=11 => read(random, sizes, in_service),
         12 => read(random, sizes, &(0..sizes.n).collect::<Vec<usize>>()),
@@ -80,6 +83,7 @@ pub fn call_meanwhile(
         17 => repairs::start(random, sizes, in_service),
         18 => edits::draw(random, sizes, length, in_service),
         19 => careful(random, sizes, in_service),
+        20 => move_draw::draw(random, sizes, points),
         _ => Call::Step { allowance: 1 },
     }
 }

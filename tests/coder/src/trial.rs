@@ -4,7 +4,9 @@ use crate::altered;
 use crate::archive::{self, Performed};
 use crate::call::{refusal, Call, Lent, Outcome, CALLS, READ_TEXT, SET_UP, TRIAL_FILE};
 use crate::code::Sizes;
-use crate::{careful_met, edits, points, prefix_met, real, repairs, running, steps_met, store, stream_cases, texts};
+use crate::{
+    careful_met, edits, moves_met, points, prefix_met, real, repairs, running, steps_met, store, stream_cases, texts,
+};
 use std::fmt;
 use std::time::{Duration, Instant};
 
@@ -110,6 +112,8 @@ pub struct Trial {
     pub steps: steps_met::Met,
     /// what was met of careful reads
     pub careful: careful_met::Met,
+    /// what was met of moves
+    pub moves: moves_met::Met,
     /// what was met at real sizes
     pub real: real::Met,
     pub place: Place,
@@ -141,6 +145,7 @@ impl Trial {
             edits: Default::default(),
             steps: Default::default(),
             careful: Default::default(),
+            moves: Default::default(),
             real: Default::default(),
             place: Place::Figure(String::new()),
             trace: false,
@@ -173,6 +178,7 @@ impl Trial {
                 self.edits.count(call, lent, expected);
                 self.steps.count(call, lent, expected);
                 self.careful.count(call, lent, expected);
+                self.moves.count(call, lent, expected);
                 self.real.count(call, lent, number);
                 true
             }
@@ -301,6 +307,7 @@ impl Trial {
         missing.extend(self.edits.never());
         missing.extend(self.steps.never());
         missing.extend(self.careful.never());
+        missing.extend(self.moves.never());
         missing.extend(self.real.never());
         missing
     }
@@ -336,6 +343,7 @@ impl Trial {
         self.edits.print();
         self.steps.print();
         self.careful.print();
+        self.moves.print();
         self.real.print();
     }
 }

@@ -10,6 +10,7 @@ use crate::code::{self, Sizes};
 use crate::draw;
 use crate::ledger::Book;
 use crate::matrix::Matrix;
+use crate::move_draw;
 use crate::points;
 use crate::random::Random;
 use crate::repairs;
@@ -47,8 +48,8 @@ pub fn run(trial: &mut Trial, random: &mut Random, sizes: Sizes) {
     whole(trial, random, &scene, capacity, calls);
 }
 
-/// A file written, a board worn and named, an edit, the board lost and rebuilt; another one worn while a repair runs, which power ends; a board rebuilt by the
-/// worn one; and then so many calls as they are drawn.
+/// A file written, a board worn and named, an edit, the board lost and rebuilt; another one worn, a third one moved, and the worn one moved; one worn while a
+/// repair runs, which power ends; a board rebuilt by the worn one; and then so many calls as they are drawn.
 pub fn whole(trial: &mut Trial, random: &mut Random, scene: &Scene, capacity: usize, calls: usize) {
     let Sizes { n, k, .. } = scene.sizes;
     let heavy = scene.sizes.stripe_len().pow(2) * (k + 2) * scene.sizes.share_len() > HEAVY;
@@ -59,6 +60,7 @@ pub fn whole(trial: &mut Trial, random: &mut Random, scene: &Scene, capacity: us
     if n >= k + 2 {
         let alike = worn.through_an_edit(trial, random)
             && !heavy
+            && worn.through_a_move(trial, random)
             && worn.through_a_failure(trial, random)
             && worn.spread(trial, random)
             && worn.write(trial, &scene.file);
@@ -77,7 +79,7 @@ impl Worn {
         let area = random.bytes(sizes.n * capacity * sizes.share_len());
         let record = store::words(sizes, points, capacity, None, &[]);
         let lent = Lent { repair: running_draw::idle(random), ..Lent::idle(record, area, Vec::new()) };
-        let generators = (0..sizes.n).map(|board| code::generator(sizes, points, board)).collect();
+        let generators = code::generators(sizes, points);
         let book = Book::new(sizes, points.clone(), capacity, lent.area.len());
         let mut worn = Worn { book, lent, generators, packets: Vec::new() };
         worn.write(trial, &scene.file).then_some(worn)
@@ -155,7 +157,7 @@ impl Worn {
         alike.then_some(expected)
     }
 
-    /// What an accepted start or step leaves of the packet area.
+    /// What an accepted start or step leaves of the packet area, and what makes the shares behind a move.
     fn follow(&mut self, call: &Call, packets: Vec<u8>) {
         match (call, &self.book.repairing) {
             (Call::Start { .. }, Some(repairing)) => {
@@ -164,6 +166,7 @@ impl Worn {
                 self.packets = vec![0; steps::area_len(&order)];
             }
             (Call::Step { .. }, _) => self.packets = packets,
+            (Call::Move { .. }, _) => self.generators = code::generators(self.book.sizes, &self.book.points),
             _ => {}
         }
     }
@@ -221,6 +224,36 @@ impl Worn {
             self.tell(trial, met::REBUILT, before && answered.as_ref().is_some_and(|outcome| outcome.answer == 0));
             answered.is_some()
         }
+    }
+
+    /// A board is worn; another one is moved by boards that are not, where there are enough of them, and the worn one is named, at the new points. Then it is
+    /// moved itself, by which it holds its share again, since no byte of it is read.
+    fn through_a_move(&mut self, trial: &mut Trial, random: &mut Random) -> bool {
+        let Sizes { n, d, r, .. } = self.book.sizes;
+        let board = random.below(n);
+        self.wear(random, board, true);
+        if d + r < n {
+            let right = random.choose(self.others(&[board]), d + r);
+            let (moved, senders) = right.split_first().expect("d + r boards");
+            let point = move_draw::free(random, self.book.sizes, &self.book.points, *moved);
+            let (helpers, partners) = senders.split_at(d);
+            let call = Call::Move { board: *moved, point, helpers: helpers.to_vec(), partners: partners.to_vec() };
+            self.lent.out.clear();
+            if self.check(trial, &call).is_none() {
+                return false;
+            }
+            let Some(outcome) = self.careful(trial, random, &[board, *moved]) else { return false };
+            self.tell(trial, met::OTHER_MOVED, outcome.answer == (board as u64 + 1) << 8);
+        }
+        let worn = self.wrong(&[board]) == [board];
+        let call = move_draw::of(random, self.book.sizes, &self.book.points, board);
+        self.lent.out.clear();
+        if self.check(trial, &call).is_none() {
+            return false;
+        }
+        let Some(outcome) = self.careful(trial, random, &[board]) else { return false };
+        self.tell(trial, met::ITSELF_MOVED, worn && outcome.answer == 0);
+        true
     }
 
     /// A board lost, and rebuilt by any others.
@@ -357,17 +390,16 @@ impl Worn {
 
     /// One call, mostly a right one; false where the archive answered otherwise.
     fn next(&mut self, trial: &mut Trial, random: &mut Random) -> bool {
-        let Book { sizes, capacity, .. } = self.book;
-        let (length, in_service) = (self.file_len(), self.in_service());
+        let sizes = self.book.sizes;
         let mut call = match &self.book.repairing {
-            Some(repairing) => store_draw::call_meanwhile(random, sizes, capacity, length, &in_service, repairing),
-            None => store_draw::next_call(random, sizes, capacity, length, &in_service),
+            Some(repairing) => store_draw::call_meanwhile(random, &self.book, repairing),
+            None => store_draw::next_call(random, &self.book),
         };
         if random.once_in(6) {
             // the records and the area are those that the last call left
             spoil(random, sizes, &mut call, &mut Lent::default());
         }
-        self.lent.out = store_draw::output(random, &call, length);
+        self.lent.out = store_draw::output(random, &call, self.file_len());
         if let Call::Step { .. } = call {
             self.lend_packets(random);
         }

@@ -58,6 +58,12 @@ macro_rules! archive {
                 record: &mut [u64], repair: &mut [u64], area: &[u8], boards: &[usize], out: &mut [u8],
             );
         });
+        $crate::names!($each moves {
+            move_board as zbk_move(
+                record: &mut [u64], repair: &mut [u64], area: &mut [u8],
+                board: usize, point: u8, helpers: &[usize], partners: &[usize],
+            );
+        });
         $crate::names!($each steps {
             start as zbk_start(
                 record: &mut [u64], repair: &mut [u64], area: &[u8],
@@ -97,6 +103,10 @@ macro_rules! name {
     ($each:ident $plain:tt $name:ident ($($c:tt)*) ($($rust:tt)*) ($($to_c:tt)*) ($($from_c:tt)*), $p:ident: usize, $($rest:tt)*) => {
         $crate::name!($each $plain $name
             ($($c)* $p: usize,) ($($rust)* $p: usize,) ($($to_c)* $p,) ($($from_c)* $p,), $($rest)*);
+    };
+    ($each:ident $plain:tt $name:ident ($($c:tt)*) ($($rust:tt)*) ($($to_c:tt)*) ($($from_c:tt)*), $p:ident: u8, $($rest:tt)*) => {
+        $crate::name!($each $plain $name
+            ($($c)* $p: u8,) ($($rust)* $p: u8,) ($($to_c)* $p,) ($($from_c)* $p,), $($rest)*);
     };
     ($each:ident $plain:tt $name:ident ($($c:tt)*) ($($rust:tt)*) ($($to_c:tt)*) ($($from_c:tt)*), $p:ident: u32, $($rest:tt)*) => {
         $crate::name!($each $plain $name

@@ -13,6 +13,7 @@ pub mod board;
 pub mod careful;
 pub mod field;
 pub mod generator;
+pub mod moves;
 pub mod polynomial;
 pub mod prefix;
 pub mod running;

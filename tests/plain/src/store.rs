@@ -1,5 +1,5 @@
 //! The six calls of the store that do their work at once, over a record of twelve words, that of a started repair (`running`) and an area. A repair
-//! reports the bytes moved, the others 0. A repair a packet at a time stands in `steps`, a careful read in `careful`.
+//! reports the bytes moved, the others 0. A repair a packet at a time stands in `steps`, a careful read in `careful`, a board's move in `moves`.
 
 use crate::board;
 use crate::running::{self, Running};
@@ -11,7 +11,7 @@ pub const WORDS: usize = 12;
 const WRITTEN: usize = 5;
 const LENGTH: usize = 6;
 pub const MARKS: usize = 7;
-const POINTS: usize = 8;
+pub const POINTS: usize = 8;
 
 /// In which of the words of points a board's point stands, and from which bit on.
 fn place(board: usize) -> (usize, usize) {
@@ -25,7 +25,7 @@ fn points_from(words: &[u64]) -> Points {
     })
 }
 
-fn put_points(words: &mut [u64], points: &Points) {
+pub fn put_points(words: &mut [u64], points: &Points) {
     words.fill(0);
     for (board, &point) in points.iter().enumerate() {
         let (word, bit) = place(board);
@@ -98,7 +98,7 @@ impl Record {
         &mut area[board * self.board_len()..][..self.share_len()]
     }
 
-    fn down(&self, boards: &[usize]) -> bool {
+    pub fn down(&self, boards: &[usize]) -> bool {
         boards.iter().any(|&b| self.marks >> b & 1 == 0)
     }
 
@@ -235,8 +235,18 @@ pub fn repair(
     let record = Record::with_area(words, repair, area)?;
     let named = Named { fresh, helpers, stand_ins };
     check_repair(&record, repair, named)?;
-    let Record { sizes, ref points, .. } = record;
+    let moved = rebuild(&record, area, named);
+    for &board in fresh {
+        words[MARKS] |= 1 << board;
+    }
+    Ok(moved)
+}
+
+/// Makes the shares of boards that are rebuilt together: how many bytes they are sent.
+pub fn rebuild(record: &Record, area: &mut [u8], named: Named) -> usize {
+    let Record { sizes, ref points, .. } = *record;
     let Sizes { d, r, .. } = sizes;
+    let fresh = named.fresh;
     let t = fresh.len();
     let stripes = record.stripes();
     let mut packets = vec![0; t * d * 2 * stripes];
@@ -267,10 +277,7 @@ pub fn repair(
         board::finish(sizes, points, board, &gs[a], list(a), received(a), &partners, &sent, out);
         moved += sent.len();
     }
-    for &board in fresh {
-        words[MARKS] |= 1 << board;
-    }
-    Ok(moved)
+    moved
 }
 
 /// Reads the file from k boards.

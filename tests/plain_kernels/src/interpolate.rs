@@ -47,6 +47,16 @@ pub fn lagrange(sizes: Sizes, points: &Points, boards: &[usize]) -> Rows {
     rows
 }
 
+/// The factors by which a polynomial of degree below the number of points has its value at a byte as a sum of those at the points: of Lagrange's
+/// polynomials the values there.
+pub fn factors_at(points: &[u8], at: u8) -> Vec<u8> {
+    let product = |t: usize, y: u8| {
+        let others = points.iter().enumerate().filter(|&(other, _)| other != t);
+        others.fold(1, |product, (_, &x)| multiply(product, y ^ x))
+    };
+    (0..points.len()).map(|t| divide(product(t, at), product(t, points[t]))).collect()
+}
+
 /// For a board that keeps the values of a polynomial at the first `kept` boards from itself on: the factors by which these give its value at each
 /// of the boards behind them, a row for each.
 pub fn missing(sizes: Sizes, points: &Points, board: usize, kept: usize) -> Rows {

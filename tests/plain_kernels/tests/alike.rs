@@ -1,7 +1,7 @@
 //! The plain coder and the kernels' algorithm give the same bytes, over all sizes of few boards and some of many, at points 0 to n − 1, i + 1 and
 //! drawn ones, with true and damaged areas.
 
-use plain::{careful, running, steps, store, Points, Refusal, Sizes};
+use plain::{careful, moves, running, steps, store, Points, Refusal, Sizes};
 
 /// Numbers that differ from call to call.
 struct Numbers(u64);
@@ -161,7 +161,37 @@ fn one(sizes: Sizes, stripes: usize, length: usize, damaged: bool, numbers: &mut
             "a repair at n={n} k={k} d={d} r={r}, {length} bytes, boards {fresh:?} by {helpers:?} and {stand_ins:?}"
         );
     }
+    moved(sizes, &points, (&mut words, &repair), &mut area, stripes, numbers);
     given
+}
+
+/// Some moves one after another, of any boards to bytes that are free.
+fn moved(
+    sizes: Sizes,
+    points: &Points,
+    (words, repair): (&mut [u64], &[u64]),
+    area: &mut [u8],
+    stripes: usize,
+    numbers: &mut Numbers,
+) {
+    let Sizes { n, k, d, r } = sizes;
+    let (mut points, mut other) = (*points, area.to_vec());
+    for _ in 0..3 {
+        let board = numbers.below(n);
+        let others: Vec<usize> = (0..n).filter(|&other| other != board).collect();
+        let named = numbers.choose(&others, d + r - 1);
+        let (helpers, partners) = named.split_at(d);
+        let free: Vec<u8> = (0..=255).filter(|point| !points[..n].contains(point)).collect();
+        let point = free[numbers.below(free.len())];
+        let sent = moves::move_board(words, repair, area, board, point, helpers, partners).expect("a move is accepted");
+        assert_eq!(sent, stripes * (2 * d + r - 1));
+        let also = plain_kernels::move_board(sizes, &mut points, stripes, board, point, helpers, partners, &mut other);
+        assert_eq!(sent, also);
+        assert!(
+            area == other,
+            "a move at n={n} k={k} d={d} r={r}, board {board} to {point} by {helpers:?} and {partners:?}"
+        );
+    }
 }
 
 /// Careful reads of any k + 2 boards, as the area is, and with one, two and three of them altered, in a byte or in all.

@@ -5,7 +5,8 @@ use lib.ListN.{length}
 use borrow.Author.Needs.{needs}
 use Rattle.repair_check.proofs.Repairable.{Repairable}
 use Rattle.record.specs.Records.{recordOf}
-use Rattle.store.proofs.RepairCall.{runs-named, repair-repairable, repair-rebuilds, repair-moves}
+use Rattle.store_move.proofs.Runs.{runs-named}
+use Rattle.store.proofs.RepairCall.{repair-repairable, repair-rebuilds, repair-moves}
 use Rattle.store.proofs.rebuild.Statement.{statement}
 use Rattle.store.proofs.rebuild.Tie as tie
 
