@@ -77,7 +77,7 @@ prove || fail "the made-up crates are not proved: $(cat said)"
 [ "$(control)" -eq 0 ] || fail "control characters where there is no terminal"
 sed 's/[0-9]:[0-9][0-9]/M:SS/; s/^proved 1[012] of/proved 1x of/' said >plain
 cat >expected <<'END'
-proving and building the archive, 13 crates: from nothing about 9 minutes on two cores
+proving and building the archive, 13 crates: from nothing about 12 minutes on two cores
 proved 1x of 13 crates, M:SS so far, less than a minute to go
 the archive is proved and built, 13 crates in M:SS
 END

@@ -55,7 +55,7 @@ mkdir -p target/log
 rm -f "$archive.of" "$log.stop" "$log.chain"
 : >"$log"
 : >"$log.beside"
-say "proving and building the archive, $all crates: from nothing about 9 minutes on two cores"
+say "proving and building the archive, $all crates: from nothing about 12 minutes on two cores"
 
 # proved LOG...: the crates of which a prover said so
 proved() { sed -n 's/^rt: \([A-Za-z0-9_]*\) proved (.*/\1/p' "$@"; }
