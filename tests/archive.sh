@@ -1,5 +1,5 @@
 #!/bin/sh
-# All that stands on the archive: the C header and the C example, the Rust bindings, the demo, ./install, and the unrelated coder, which runs the
+# All that stands on the archive: the C header, the helpers for C and the C example, the Rust bindings, the demo, ./install, and the unrelated coder, which runs the
 # figures of document 01 and random calls through the archive, small ones and at real sizes, and must report no mismatch, and must report one that
 # is made on purpose. Proves and builds the archive first; ZBK_ARCHIVE names another one to use instead, seen from the top folder. One line for each
 # step; ends with exit code 1 where a step fails.
@@ -27,11 +27,7 @@ archive=${ZBK_ARCHIVE:-target/staticlib/libzebrankai.a}
 sh tests/prove_archive.sh || { echo "FAIL the archive: $archive"; exit 1; }
 echo "ok the archive: $archive"
 step "how far the proof is, as it is shown" sh tests/progress.sh
-if [ -z "${ZBK_ARCHIVE:-}" ]; then
-    step "./install, and a C program by its two lines" sh tests/install.sh
-else
-    echo "skipped ./install: it takes the proved archive alone"
-fi
+step "./install, and a C program by its two lines and each other way" sh tests/install.sh
 
 strict='-Wall -Wextra -Werror -Iinclude'
 # shellcheck disable=SC2086 # the options are words
@@ -46,6 +42,8 @@ fi
 
 # the header against the archive: names, parameters, constants, and each call from C and from C++
 sh tests/header.sh || { echo "FAIL the header"; exit 1; }
+# the helpers for C against the archive, over all sizes
+sh tests/util.sh || { echo "FAIL the helpers for C"; exit 1; }
 
 step "the Rust bindings' tests" cargo test --offline --quiet -j1 --manifest-path bindings/rust/Cargo.toml
 step "the demo compiles" cargo build --offline --quiet --release -j1 --manifest-path bindings/rust/Cargo.toml --example demo

@@ -1,38 +1,64 @@
 #!/bin/sh
-# docs/STATEMENTS.md is true to the tree: each file that it names is there, each name that it cites in `file: name` stands in that file, each
-# must-fail edit that it names exists and each edit of the tree is named; the definitions a buyer reads are at most 891 lines, none of them is left
-# out of the table of definitions and laws, and each row of it cites a law. Then that docs/ARCHITECTURE.md is true to crates.txt.
+# docs/STATEMENTS.md and the pages of docs/statements are true to the tree: each file that they name is there, each name that they cite in `file: name`
+# stands in that file, each must-fail edit that they name exists and each edit of the tree is named; the definitions a buyer reads are at most 891
+# lines, none of them is left out of the page of definitions and laws, and each entry of it cites a law. No line of the pages is above 400 characters,
+# no citation is broken over two lines, and each link leads to a page and a heading. Then that docs/ARCHITECTURE.md is true to crates.txt.
 set -eu
 cd "$(dirname "$0")/.."
 page=docs/STATEMENTS.md
+laws=docs/statements/definitions.md
+pages="$page $(ls docs/statements/*.md)"
+work=$(mktemp -d)
+trap 'rm -rf "$work"' EXIT
 bad=0
 complain() { echo "$page: $*"; bad=1; }
 
-# `crate/path: name, name`
-tr '`' '\n' <"$page" | grep -E '^[a-z0-9_]+/(src|specs|proofs)/[^ :]+: ' | sort -u >"${TMPDIR:-/tmp}/cited.$$" || true
-while IFS= read -r line; do
-    file=crates/${line%%: *}
-    if [ ! -f "$file" ]; then complain "no file $file"; continue; fi
-    for name in $(printf '%s' "${line#*: }" | tr ',' ' '); do
-        grep -qwF -- "$name" "$file" || complain "$file has no $name"
-    done
-done <"${TMPDIR:-/tmp}/cited.$$"
-[ -s "${TMPDIR:-/tmp}/cited.$$" ] || complain "it cites nothing"
-rm -f "${TMPDIR:-/tmp}/cited.$$"
+# `crate/path: name, name`, `crate/path` and `edit crate/label`, each on one line; a name stands by itself in the file, not as a part of another. Lengths
+# are in bytes, which are no fewer than the characters
+LC_ALL=C awk -v edits="$work/named" '
+    BEGIN { inside = "A-Za-z0-9_\200-\377-" }
+    function complain(text) { print FILENAME ":" FNR ": " text; bad = 1 }
+    # what is in a file, with a blank before and behind; nothing where there is none
+    function within(file,   all) {
+        if (!(file in text)) {
+            RS = "\001"; all = ""
+            text[file] = (getline all <file) >= 0 ? " " all " " : ""
+            close(file); RS = "\n"
+        }
+        return text[file]
+    }
+    function cited(span,   file, at, n, i, name) {
+        at = index(span, ": ")
+        file = "crates/" (at ? substr(span, 1, at - 1) : span)
+        if (within(file) == "") { complain("no file " file); return }
+        n = at ? split(substr(span, at + 2), name, /[ ,]+/) : 0
+        for (i = 1; i <= n; i++) if (!((file, name[i]) in stands)) {
+            if (name[i] ~ "^[" inside "]+$" && within(file) ~ "[^" inside "]" name[i] "[^" inside "]") stands[file, name[i]]
+            else complain(file " has no " name[i])
+        }
+        many += n
+    }
+    length($0) > 400 { complain("a line of " length($0) " characters") }
+    {
+        n = split($0, span, "`")
+        if (n && n % 2 == 0) complain("a citation is broken over two lines")
+        for (i = 2; i <= n; i += 2) {
+            if (span[i] ~ /^[a-z0-9_]+\/(src|specs|proofs)\/[^ :]+(: .*)?$/) cited(span[i])
+            if (span[i] ~ /^edit /) print substr(span[i], 6) >edits
+        }
+    }
+    END { if (!many) complain("the pages cite nothing"); exit bad }' $pages || bad=1
 
 # `edit crate/label`
-for e in $(tr '`' '\n' <"$page" | sed -n 's/^edit \([a-z0-9_]*\/[a-z0-9_]*\)$/\1/p' | sort -u); do
-    [ -f "crates/${e%/*}/must-fail/${e#*/}.edit" ] || complain "no edit $e"
-done
-for f in crates/*/must-fail/*.edit; do
-    c=${f#crates/}
-    e=${c%%/*}/$(basename "$f" .edit)
-    grep -qF "\`edit $e\`" "$page" || complain "the edit $e is not named"
-done
+touch "$work/named"
+LC_ALL=C sort -u -o "$work/named" "$work/named"
+ls crates/*/must-fail/*.edit | sed 's,^crates/\([^/]*\)/must-fail/\(.*\)\.edit$,\1/\2,' | LC_ALL=C sort >"$work/edits"
+for e in $(LC_ALL=C comm -23 "$work/named" "$work/edits"); do complain "no edit $e"; done
+for e in $(LC_ALL=C comm -13 "$work/named" "$work/edits"); do complain "the edit $e is not named"; done
 
 # the prover takes one line of an edit's text, and passes over any other: a text of several lines would change something else, or nothing
-for f in crates/*/must-fail/*.edit crates/*/neutral/*.edit; do
-    ! grep -v -e '^file: ' -e '^old: ' -e '^new:' -e '^#' -e '^$' "$f" >/dev/null || complain "$f has a line that the prover passes over"
+for f in $(grep -lv -e '^file: ' -e '^old: ' -e '^new:' -e '^#' -e '^$' crates/*/must-fail/*.edit crates/*/neutral/*.edit); do
+    complain "$f has a line that the prover passes over"
 done
 
 # the text that an edit replaces stands in its file, and there once
@@ -41,7 +67,7 @@ awk '
     /^file: / { path = "crates/" part[2] "/" substr($0, 7) }
     /^old: / {
         old = substr($0, 6)
-        if (!(path in text)) { text[path] = ""; while ((getline line <path) > 0) text[path] = text[path] line "\n"; close(path) }
+        if (!(path in text)) { RS = "\001"; text[path] = ""; getline text[path] <path; close(path); RS = "\n" }
         rest = text[path]; count = 0
         while ((at = index(rest, old)) > 0) { count++; rest = substr(rest, at + length(old)) }
         if (count != 1) { print FILENAME ": " path " has its text " count " times"; bad = 1 }
@@ -62,26 +88,61 @@ archive='crates/answer_word/specs/Answers.antt crates/record_words/specs/Words.a
 # failures (request A.8) add to the ledger, 16 for what careful reads (request A.11) add and 19 for what moves (request A.10) add
 requests='crates/size_list/specs/Combinations.antt:45 crates/text_spec/specs/Texts.antt:63 crates/text_spec/specs/Calls.antt:49 crates/prefix_spec/specs/Prefix.antt:56 crates/generator/specs/Generator.antt:10 crates/trial_spec/specs/Trial.antt:85 crates/store_spec/specs/Edit.antt:26 crates/store_spec/specs/Running.antt:38 crates/store_spec/specs/Lying.antt:34 crates/store_spec/specs/Both.antt:85 crates/store_spec/specs/Careful.antt:45 crates/store_spec/specs/Move.antt:32 crates/mbcr/specs/Afresh.antt:5'
 later=$(for f in $requests; do echo "${f%:*}"; done)
-for f in $tables $claims $inner $archive $later; do definitions=$(printf '%s\n' $definitions | grep -vxF "$f"); done
+printf '%s\n' $tables $claims $inner $archive $later | LC_ALL=C sort -u >"$work/others"
+definitions=$(printf '%s\n' $definitions | LC_ALL=C sort | LC_ALL=C comm -23 - "$work/others")
 for f in $inner; do
-    crate=${f#crates/} name=$(basename "$f" .antt)
-    ! grep -l "·${crate%%/*}.*specs\.$name\." $(ls crates/board_*/specs/*.antt crates/store_spec/specs/*.antt crates/mbcr/specs/*.antt crates/text_spec/specs/*.antt crates/prefix_spec/specs/*.antt crates/generator/specs/*.antt crates/trial_spec/specs/*.antt \
-        crates/record_words/specs/*.antt crates/store/specs/*.antt crates/archive_spec/specs/*.antt | grep -v '/Steps.antt$') >/dev/null 2>&1 \
-        || complain "a definition rests on the inner $f"
-done
-# the table of definitions and laws: each definition stands in the first column of a row, and each row's second column cites a file of laws
-table=$(sed -n '/^## Definitions and the laws that hold them/,$p' "$page" | grep '^| `')
-named=$(printf '%s\n' "$table" | awk -F'|' '{ print $2 }' | tr '`' '\n' | grep -E '^[a-z0-9_]+/specs/' | sed 's/: /, /; s/$/,/')
-for f in $definitions $archive $later; do
-    for name in $(sed -nE 's/^ *(abbrev pub|unfoldable pub|pub record|pub data) ([^ :{(]+).*/\2/p' "$f"); do
-        printf '%s\n' "$named" | grep -F "${f#crates/}, " | grep -qF -- " $name," || complain "no law is named for $name of $f"
-    done
-done
-printf '%s\n' "$table" | awk -F'|' '$3 !~ /`[a-z0-9_]+\/specs\/[A-Za-z]*(Laws|BothCalls|Stepped|Follows|Demand[0-9]|Premises|Gives|Runs|Stripes|Tight)\.antt: / { print $2 }' | while IFS= read -r row; do
-    echo "$page: no law in the row of$row"
-done | tee "${TMPDIR:-/tmp}/rows.$$"
-[ ! -s "${TMPDIR:-/tmp}/rows.$$" ] || bad=1
-rm -f "${TMPDIR:-/tmp}/rows.$$"
+    crate=${f#crates/} name=${f##*/}
+    echo "·${crate%%/*}.*specs\.${name%.antt}\."
+done >"$work/inner"
+if grep -f "$work/inner" $(ls crates/board_*/specs/*.antt crates/store_spec/specs/*.antt crates/mbcr/specs/*.antt crates/text_spec/specs/*.antt crates/prefix_spec/specs/*.antt crates/generator/specs/*.antt crates/trial_spec/specs/*.antt \
+    crates/record_words/specs/*.antt crates/store/specs/*.antt crates/archive_spec/specs/*.antt | grep -v '/Steps.antt$'); then
+    complain "a definition rests on an inner one"
+fi
+# the page of definitions and laws: each definition stands at the head of an entry, and the laws of each entry cite a file of laws
+LC_ALL=C awk -v laws="$laws" '
+    function ended() { if (entry != "" && !law) { print laws ": no law in the entry of " entry; bad = 1 }; entry = ""; law = 0 }
+    FILENAME == laws {
+        if (/^- /) { ended(); entry = substr($0, 3); part = "names" }
+        else if (/^  - /) part = /^  - laws: / ? "laws" : "rest"
+        else if (!/^  /) part = ""
+        n = split($0, span, "`")
+        for (i = 2; i <= n; i += 2) {
+            if (part == "names" && match(span[i], /^[a-z0-9_]+\/specs\/[^ :]+: /)) {
+                m = split(substr(span[i], RLENGTH + 1), name, /[ ,]+/)
+                for (j = 1; j <= m; j++) named["crates/" substr(span[i], 1, RLENGTH - 2), name[j]]
+            }
+            if (part == "laws" && span[i] ~ /^[a-z0-9_]+\/specs\/[A-Za-z]*(Laws|BothCalls|Stepped|Follows|Demand[0-9]|Premises|Gives|Runs|Stripes|Tight)\.antt: /) law = 1
+        }
+        next
+    }
+    match($0, /^ *(abbrev pub|unfoldable pub|pub record|pub data) [^ :{(]+/) {
+        n = split(substr($0, 1, RLENGTH), name, " ")
+        if (!((FILENAME, name[n]) in named)) { print laws ": no law is named for " name[n] " of " FILENAME; bad = 1 }
+    }
+    END { ended(); exit bad }' "$laws" $definitions $archive $later || bad=1
+
+# links: [words](page), [words](page#heading); each page is linked from the first
+LC_ALL=C awk '
+    function plain(title) { title = tolower(title); gsub(/[^a-z0-9_ -]/, "", title); gsub(/ /, "-", title); return title }
+    /^#+ / { title = $0; sub(/^#+ /, "", title); heading[FILENAME "#" plain(title)] }
+    FNR == 1 { there[FILENAME] }
+    {
+        while (match($0, /\]\([^)]*\)/)) {
+            to = substr($0, RSTART + 2, RLENGTH - 3); $0 = substr($0, RSTART + RLENGTH)
+            folder = FILENAME; sub(/[^\/]*$/, "", folder)
+            while (sub(/^\.\.\//, "", to)) sub(/[^\/]*\/$/, "", folder)
+            link[++links] = folder to; from[links] = FILENAME
+        }
+    }
+    END {
+        for (i = 1; i <= links; i++) {
+            to = link[i]; at = index(to, "#")
+            if (at ? !(to in heading) : !(to in there)) { print from[i] ": a link leads nowhere: " to; bad = 1 }
+            if (from[i] == first) linked[at ? substr(to, 1, at - 1) : to]
+        }
+        for (p in there) if (p != first && !(p in linked)) { print first ": no link to " p; bad = 1 }
+        exit bad
+    }' first="$page" $pages || bad=1
 
 d=$(lines $definitions) c=$(lines $claims) t=$(lines $tables) i=$(lines $inner) a=$(lines $archive)
 echo "definitions: $d lines, theorem statements: $c lines, tables of figures: $t lines, inner definitions: $i lines, the archive: $a lines"

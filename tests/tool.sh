@@ -35,10 +35,12 @@ try() {
     what="zbk $*"
     status=0
     "$zbk" "$@" >"$own/out" 2>"$own/said" || status=$?
+    # how far it is, which a busy machine brings about, is no part of what it says, but where that is tried
+    [ -n "${slow:-}" ] || sed -i '/^zbk: .*, [0-9]* of [0-9]* done$/d' "$own/said"
     [ "$status" -eq "$due" ] || fail "$what: exit code $status, not $due"
     # errors are on standard error, and only there
     if [ "$due" -eq 2 ] && [ -s "$own/out" ]; then fail "$what: it wrote to standard output"; fi
-    if [ "$due" -ne 0 ] && [ "${1:-}" != look ] && [ ! -s "$own/said" ]; then fail "$what: it said nothing"; fi
+    if [ "$due" -ne 0 ] && [ "${1:-}" != look ] && [ "${1:-}" != check ] && [ ! -s "$own/said" ]; then fail "$what: it said nothing"; fi
     passed=$((passed + 1))
 }
 # said TEXT: this stands in what was said; out TEXT: in what was written
@@ -68,7 +70,7 @@ sizes='--boards 8 --read 4 --helpers 6 --fresh 2'
 # ---- help and words that make no sense
 try 0 --help
 out 'zbk rebuild DIR --fresh 2,5'
-out 'name is not in UTF-8 goes through such a pipe: zbk gather - <NAME'
+out 'zbk check TEXT..'
 try 0 -h
 try 0 help
 mv "$own/out" "$own/help"
@@ -77,7 +79,12 @@ for again in help -h --help; do
     whole "$own/out" "$own/help"
 done
 try 0 --version
-for command in spread gather rebuild look share sizes print trial; do
+out "zbk $(sed -n 's/^version = "\(.*\)"$/\1/p' "$top/tools/zbk/Cargo.toml")"
+mv "$own/out" "$own/help"
+try 0 -V
+whole "$own/out" "$own/help"
+commands='spread gather check rebuild look tidy explain sizes share print trial'
+for command in $commands; do
     try 0 "$command" --help
     out "zbk $command"
     [ ! -s "$own/said" ] || fail "$what: it said something"
@@ -127,10 +134,44 @@ try 2 rebuild '' --fresh 2
 said "the folder's name is empty"
 try 2 rebuild shelf
 said '--fresh is missing'
-try 2 gather "$(printf 'b\377ck')"
-said 'not in UTF-8; use a pipe, with -'
+try 2 "$(printf 'b\377ck')"
+said 'no command b\xFFck'
+try 2 spread stock shelf -n 8 -k 4 -d 6 -r "$(printf '\377')"
+said '\xFF: not in UTF-8, and no name of a file'
+try 2 --completion
+said 'for which shell? There is one for bash'
 try 2 sizes
+try 2 check
+said "'zbk check --help'"
+try 2 tidy
+try 2 tidy stock -o tidied --folder new
+said '--output or --folder, not both'
+try 2 sizes 8 -n 8 -k 4 -d 6 -r 2
+try 2 sizes -n 8 -k 4 -d 6
+said '--fresh is missing'
 try 2 print stock
+is . stock
+
+# ---- explain: the words of docs/REFUSALS.md
+sh "$top/tests/refusals.sh" tool "$zbk" >"$own/said" || fail "zbk explain"
+passed=$((passed + 64))
+try 0 explain 10 serving
+out '10 DISAGREE'
+out '14 SERVING'
+[ ! -s "$own/said" ] || fail "$what: it said something"
+try 2 explain
+said 'which refusal? Name it by number or name'
+try 2 explain 0
+said '0 is no refusal: the call was accepted'
+try 2 explain 11
+said '11 is not used: no call answers it'
+for word in 18 255 256 266 99999999999999999999 POINTS ZBK_ zbk_1 -10 '' 1x; do
+    try 2 explain -- "$word"
+    said "no refusal $word"
+done
+try 2 explain 10 18
+said "'zbk explain --help'"
+try 2 explain --force 10
 is . stock
 
 # ---- spread
@@ -166,18 +207,18 @@ try 0 spread stock new/joined --boards=8 --read=4 --helpers=6 --fresh=2 -q
 [ ! -s "$own/out" ] || fail "$what: it reported"
 diff -r new/deep new/joined >&2 || fail "$what: other texts"
 
-# ---- the session of the README, line by line
+# ---- the session of docs/TOOL.md, line by line
 mkdir session
 cp stock session
 # shellcheck disable=SC2016 # the marks are the page's
-sed -n '/A session, with a file/,/^`zbk look`/s/^    //p' "$top/README.md" >"$own/due"
-grep -q '^\$ zbk' "$own/due" || fail "the README has no session"
+sed -n '/A session, with a file/,/^`zbk look`/s/^    //p' "$top/docs/TOOL.md" >"$own/due"
+grep -q '^\$ zbk' "$own/due" || fail "docs/TOOL.md has no session"
 grep '^\$ ' "$own/due" | while IFS= read -r line; do
     printf '%s\n' "$line"
     (cd session && PATH=$(dirname "$zbk"):$PATH && export PATH && sh -c "${line#??}" 2>&1) || true
 done >"$own/session"
-diff "$own/due" "$own/session" >&2 || fail "the README's session is another one"
-cmp -s session/back stock || fail "the README's session gives another file"
+diff "$own/due" "$own/session" >&2 || fail "the session of docs/TOOL.md is another one"
+cmp -s session/back stock || fail "the session of docs/TOOL.md gives another file"
 passed=$((passed + 1))
 
 # ---- gather: from every four boards, in rising and in falling order
@@ -227,14 +268,15 @@ said '--output wants a value'
 # more than four: all agree, which is said, but not into the file, and not where it is to be quiet
 try 0 gather kept
 whole "$own/out" stock
-said 'zbk: 8 texts agree; one that is wrong would show'
+said "zbk: 8 texts agree; one that is wrong would show; $(wc -c <stock) bytes from boards 0 to 7"
 try 0 gather kept/board-2.txt kept/board-1.txt kept/board-3.txt kept/board-4.txt kept/board-7.txt
 whole "$own/out" stock
-said 'zbk: 5 texts agree; one that is wrong would show'
+said "zbk: 5 texts agree; one that is wrong would show; $(wc -c <stock) bytes from boards 1, 2, 3, 4 and 7"
 # just four: none is left to check them
 try 0 gather kept/board-2.txt kept/board-1.txt kept/board-3.txt kept/board-4.txt
 whole "$own/out" stock
-said 'zbk: from 4 texts, and none is left to check them: one more would show whether one of them is wrong, two more which'
+said 'zbk: 4 texts fit together, and none is left to check them: one more would show whether one of them is wrong, two more which; '
+said "which; $(wc -c <stock) bytes from boards 1 to 4"
 for texts in kept 'kept/board-2.txt kept/board-1.txt kept/board-3.txt kept/board-4.txt'; do
     # shellcheck disable=SC2086
     try 0 gather $texts --quiet
@@ -265,6 +307,7 @@ damaged() {
     try 1 gather broken kept/board-1.txt kept/board-3.txt kept/board-4.txt -o none
     said "TEXT (12): of 4 texts given, one is no text"
     said "broken: line $2, place $3: expected $4"
+    said "'zbk "
     try 1 look broken
     out "not readable: line $2, place $3: expected $4"
     [ ! -e none ] || fail "$what: it wrote a file"
@@ -329,6 +372,7 @@ try 1 gather broken shattered kept/board-1.txt kept/board-4.txt kept/board-5.txt
 said 'of 6 texts given, 2 are no texts'
 said 'broken: line 3'
 said 'shattered: line 2'
+said "  copy such a text again, whole, from where it was written; 'zbk look' says how far it makes sense"
 said 'the other 4 are enough, since k = 4'
 # four others that are of two boards, or of two files, are not enough
 try 1 gather broken kept/board-1.txt kept/board-1.txt kept/board-3.txt kept/board-3.txt -o none
@@ -389,7 +433,8 @@ said 'DISAGREE (10): no file has the shares of boards 2, 1, 3 and 4'
 said 'with two texts more it can be told which'
 # the first byte of board 2's share is seen by board 1 alone of these
 try 1 gather altered kept/board-1.txt kept/board-3.txt kept/board-4.txt kept/board-7.txt -o none
-said 'DISAGREE (10): one of the texts of boards 2, 1, 3, 4 and 7 is wrong: they agree if one of these is left out; with a text more it can be told which'
+said 'DISAGREE (10): no file has the shares of boards 2, 1, 3, 4 and 7: if one alone is wrong, it is one of these; '
+said 'one of these; with a text more it can be told which'
 # of six or more it is named, wherever it stands, and the file is that of the others; board 0 too
 cp kept/board-0.txt altered0
 alter altered0
@@ -402,16 +447,18 @@ for order in 'altered kept/board-1.txt kept/board-3.txt kept/board-4.txt kept/bo
     try 0 gather $order
     whole "$own/out" stock
     # shellcheck disable=SC2086
-    said "zbk: altered is not as it was written; the other $(($(set -- $order && echo $#) - 1)) texts agree, and gave the file"
+    said "zbk: altered does not fit the other $(($(set -- $order && echo $#) - 1)) texts, which agree: if one text alone is wrong, it is this one; "
+    said "this one; $(wc -c <stock) bytes from boards "
     # shellcheck disable=SC2086
     try 0 gather $order --quiet -o odd
     whole odd stock
-    said 'zbk: altered is not as it was written'
+    said 'zbk: altered does not fit the other'
     rm odd
 done
 try 0 gather kept/board-1.txt altered0 kept/board-3.txt kept/board-4.txt kept/board-7.txt kept/board-2.txt
 whole "$own/out" stock
-said 'zbk: altered0 is not as it was written; the other 5 texts agree, and gave the file'
+said 'zbk: altered0 does not fit the other 5 texts, which agree: if one text alone is wrong, it is this one; '
+said "this one; $(wc -c <stock) bytes from boards 1, 2, 3, 4 and 7"
 # each digit of a share: five texts show it, six name it; four show it at some digits only, and else give another file
 share=$(sed -n 's/^data=//p' kept/board-2.txt | cut -c 1-26)
 shown=0 missed=0
@@ -423,7 +470,7 @@ for place in $(seq ${#share}); do
     said 'DISAGREE (10): '
     try 0 gather kept/board-1.txt digit kept/board-3.txt kept/board-4.txt kept/board-7.txt kept/board-6.txt
     whole "$own/out" stock
-    said 'zbk: digit is not as it was written'
+    said 'zbk: digit does not fit the other 5 texts, which agree'
     if "$zbk" gather digit kept/board-1.txt kept/board-3.txt kept/board-4.txt >"$own/out" 2>"$own/said"; then
         missed=$((missed + 1))
         said 'none is left to check them'
@@ -446,11 +493,11 @@ said 'do not agree, whichever one of them is left out'
 try 0 spread stock three -n 3 -k 2 -d 2 -r 1
 alter three/board-0.txt
 try 1 gather three -o none
-said 'DISAGREE (10): one of the texts of boards 0 to 2 is wrong: they agree if one of these is left out'
+said 'DISAGREE (10): no file has the shares of boards 0 to 2: if one alone is wrong, it is one of these'
 unsaid 'it can be told which'
 try 0 gather three/board-1.txt three/board-2.txt
 whole "$own/out" stock
-said 'zbk: from 2 texts, and none is left to check them'
+said 'zbk: 2 texts fit together, and none is left to check them'
 unsaid 'would show'
 # of just k texts one at fault shows at some places of its share, as at its second byte here
 sed -e 's/^\(data=..\)f/\10/' -e t -e 's/^\(data=..\)./\1f/' three/board-1.txt >second
@@ -463,7 +510,7 @@ unsaid 'it can be told which'
 try 0 look kept
 out 'text              board  n  k  d  r  points  length  stripes  share'
 out "kept/board-7.txt      7  8  4  6  2  0 to 7    $(wc -c <stock)      $((pairs / 13))   $pairs"
-out 'boards 0 to 7 of one file, as far as they say: 4 are enough'
+out "boards 0 to 7 of one file, as far as they say: 4 are enough; 'zbk check' sees whether they agree"
 try 0 look first/board-0.txt first/board-5.txt
 out '1 to 8'
 out 'boards 0 and 5 of one file: 2 more of its 8 boards are needed'
@@ -562,8 +609,508 @@ said 'TEXT (12): of 9 texts given, one is no text'
 said 'huge: it is longer than all texts of a file'
 rm huge
 
-# ---- rebuild
+# ---- check: whether texts agree
+# stripes of 13 bytes, 26 digits: wrong TEXT STRIPE DIGIT: this digit of a stripe is another one
 stripes=$((pairs / 13))
+wrong() {
+    before=$(($2 * 26 + $3))
+    digit=$(sed -n "s/^data=.\{$before\}\(.\).*/\1/p" "$1" | tr 0123456789abcdef 123456789abcdef0)
+    sed "s/^\(data=.\{$before\}\)./\1$digit/" "$1" >"$own/altered"
+    cat "$own/altered" >"$1"
+}
+# just LINE..: just these lines are written
+just() {
+    printf '%s\n' "$@" | diff - "$own/out" >&2 || fail "$what: it wrote something else"
+    [ ! -s "$own/said" ] || fail "$what: it said something"
+}
+try 0 check kept
+just '8 texts agree; one that is wrong would show; boards 0 to 7'
+try 0 check kept/board-3.txt kept/board-1.txt kept/board-0.txt kept/board-7.txt
+just '4 texts fit together, and none is left to check them: one more would show whether one of them is wrong, two more which; boards 0, 1, 3 and 7'
+try 1 check kept/board-3.txt kept/board-1.txt
+just '2 texts of boards 1 and 3 fit each other two by two; k = 4 are needed to say more, 2 more'
+cat kept/board-?.txt >all
+"$zbk" check - <all >"$own/out" 2>"$own/said" || fail 'check -'
+just '8 texts agree; one that is wrong would show; boards 0 to 7'
+for texts in '0 kept' '1 kept/board-0.txt' '1 kept altered'; do
+    # shellcheck disable=SC2086
+    try ${texts%% *} check ${texts#* } --quiet
+    [ ! -s "$own/out" ] || fail "$what: it wrote something"
+    [ ! -s "$own/said" ] || fail "$what: it said something"
+done
+# two are wrong, each in a stripe of its own, and one of them in the last, which is not full: each is named
+rm -rf worn
+cp -r kept worn
+wrong worn/board-2.txt 5 9
+wrong worn/board-5.txt 9 15
+wrong worn/board-5.txt 10 0
+wrong worn/board-5.txt 11 25
+wrong worn/board-5.txt $((stripes - 1)) 3
+try 1 check worn
+out '8 texts of boards 0 to 7 do not agree'
+out 'stripe by stripe, if at most 2 of the 8 are wrong in each:'
+out "  worn/board-2.txt is wrong in 1 of $stripes: stripe 5"
+out "  worn/board-5.txt is wrong in 4 of $stripes: stripes 9 to 11 and $((stripes - 1))"
+[ "$(grep -c 'is wrong in [0-9]' "$own/out")" -eq 2 ] || fail "$what: it named others"
+out 'two by two, in how many stripes they do not fit:'
+# six tell one in each stripe, five show that something is wrong, and where
+try 1 check worn/board-[0-5].txt
+out 'stripe by stripe, if at most 1 of the 6 is wrong in each:'
+out "  worn/board-2.txt is wrong in 1 of $stripes: stripe 5"
+out "  worn/board-5.txt is wrong in 4 of $stripes: stripes 9 to 11 and $((stripes - 1))"
+try 1 check worn/board-[0-4].txt
+out 'not all are right in stripe 5; 6 texts can tell'
+if grep -q 'is wrong in' "$own/out"; then fail "$what: it named one"; fi
+# two in one stripe: eight tell both, seven neither
+wrong worn/board-5.txt 5 0
+try 1 check worn
+out "  worn/board-2.txt is wrong in 1 of $stripes: stripe 5"
+out "  worn/board-5.txt is wrong in 5 of $stripes: stripes 5, 9 to 11 and $((stripes - 1))"
+try 1 check worn/board-[0-6].txt
+out 'it cannot be told which are wrong in stripe 5'
+out "  worn/board-5.txt is wrong in 4 of $stripes: stripes 9 to 11 and $((stripes - 1))"
+if grep -q 'board-2.txt is wrong' "$own/out"; then fail "$what: it named one that it cannot know"; fi
+# each digit of a stripe: six texts name the one, in its stripe
+for place in $(seq 0 25); do
+    cp kept/board-2.txt digit
+    wrong digit 7 "$place"
+    try 1 check digit kept/board-1.txt kept/board-3.txt kept/board-4.txt kept/board-6.txt kept/board-7.txt
+    out "  digit is wrong in 1 of $stripes: stripe 7"
+    [ "$(grep -c 'is wrong in [0-9]' "$own/out")" -eq 1 ] || fail "$what: it named others"
+done
+# texts of two robots fall into their groups, however many there are of each; gather says it too
+tr 'a-y' 'b-z' <stock >stock2
+try 0 spread stock2 second-robot -n 8 -k 4 -d 6 -r 2
+groups='two by two they fall into groups'
+for of_second in '3 6' '1 3 6' '0 1 4 5'; do
+    rm -rf mingled
+    cp -r kept mingled
+    of_first=
+    names=
+    for board in 0 1 2 3 4 5 6 7; do
+        case " $of_second " in
+        *" $board "*)
+            cp second-robot/board-$board.txt mingled
+            names="$names; mingled/board-$board.txt"
+            ;;
+        *) of_first="$of_first; mingled/board-$board.txt" ;;
+        esac
+    done
+    try 1 check mingled
+    out "$groups; none of one fits any of another:"
+    out "  fit each other: ${of_first#; }"
+    out "  fit each other: ${names#; }"
+    try 1 gather mingled -o none
+    said 'DISAGREE (10): the texts of boards 0 to 7 do not agree, whichever one of them is left out'
+    said "; $groups, as texts of several files do"
+    said "  fit each other: ${of_first#; }"
+    said "  fit each other: ${names#; }"
+done
+of_first=first/board-2.txt
+# also fewer than k of each, and where no two fit
+try 1 check mingled/board-0.txt mingled/board-2.txt mingled/board-1.txt
+out '3 texts of boards 0 to 2 do not agree'
+out '  fit each other: mingled/board-0.txt; mingled/board-1.txt'
+out '  fits none: mingled/board-2.txt'
+awk 'BEGIN { srand(1) } { gsub(/[0-9]/, "7"); print }' stock >stock3
+try 0 spread stock3 third-robot -n 8 -k 4 -d 6 -r 2
+try 1 check kept/board-0.txt second-robot/board-1.txt third-robot/board-2.txt
+out '  fits none: third-robot/board-2.txt'
+# with k = 2 two texts fit just where these two give a file, whichever digit is another one
+try 0 spread stock five -n 5 -k 2 -d 3 -r 2
+fitting=0 apart=0
+for place in $(seq 0 13); do
+    cp five/board-0.txt digit
+    digit=$(sed -n "s/^data=.\{$place\}\(.\).*/\1/p" digit | tr 0123456789abcdef 123456789abcdef0)
+    sed "s/^\(data=.\{$place\}\)./\1$digit/" five/board-0.txt >digit
+    row=0
+    for board in 1 2 3 4; do
+        if "$zbk" gather digit five/board-$board.txt >"$own/out" 2>"$own/said"; then
+            row=$row,0
+            fitting=$((fitting + 1))
+        else
+            row=$row,1
+            apart=$((apart + 1))
+        fi
+    done
+    try 1 check digit five/board-[1-4].txt --json
+    out "{\"text\":\"digit\",\"board\":0,\"wrong_stripes\":[0],\"misfit_stripes\":[$row]}"
+done
+[ "$fitting" -gt 3 ] || fail "a wrong digit that one other text does not show: $fitting times"
+[ "$apart" -gt 3 ] || fail "a wrong digit that one other text shows: $apart times"
+# two of one board: the same one is told, another one does not fit
+try 0 check kept kept/board-3.txt
+out '8 texts agree'
+out '  kept/board-3.txt is the same as kept/board-3.txt'
+try 1 check kept second-robot/board-3.txt
+out '9 texts of boards 0 to 7 do not agree'
+out '  fits none: second-robot/board-3.txt'
+out '  second-robot/board-3.txt is wrong in'
+# bytes that are no text, files that cannot be read, and texts of several files
+sed 's/$/\r/' kept/board-2.txt >broken
+try 1 check kept/board-[0134].txt broken absent
+out 'broken is not readable: line 1, place 4: expected a digit or the end of the line, found a carriage return (byte 0D)'
+out "    'zbk tidy' makes it a text: 7 line ends made a line feed"
+out 'absent is not readable: no such file'
+# where tidying does not help, what does is said; not of a file that is not there
+if grep -q 'copy such a text again' "$own/out"; then fail "$what: it asks for another copy"; fi
+head -n 7 kept/board-2.txt | head -c 200 >cut
+try 1 check kept/board-[0134].txt cut
+out 'cut is not readable: line 7, place '
+out 'copy such a text again, whole, from where it was written'
+rm cut
+out '4 texts fit together'
+try 1 check kept wider/board-0.txt
+out 'the texts are of 2 files'
+out "n=8 k=4 d=6 r=2 points 0 to 7 length=$(wc -c <stock):"
+out '8 texts agree; one that is wrong would show; boards 0 to 7'
+out '1 text of board 0; k = 4 are needed to say more, 3 more'
+# where there are no k + 2 boards
+try 1 check three
+out "not all are right in stripe 0"
+if grep -q 'can tell' "$own/out"; then fail "$what: it asked for more texts than there are boards"; fi
+# as JSON
+try 0 check three/board-1.txt three/board-2.txt --json
+just "{\"agree\":true,\"files\":[{\"agree\":true,\"enough\":true,\"checked\":false,\"n\":3,\"k\":2,\"d\":2,\"r\":1,\"points\":[0,1,2],\
+\"length\":$(wc -c <stock),\"stripes\":$((($(wc -c <stock) + 5) / 6)),\
+\"texts\":[{\"text\":\"three/board-1.txt\",\"board\":1,\"wrong_stripes\":[],\"misfit_stripes\":[0,0]},\
+{\"text\":\"three/board-2.txt\",\"board\":2,\"wrong_stripes\":[],\"misfit_stripes\":[0,0]}],\
+\"copies\":[],\"groups\":[[0,1]],\"told_if_wrong_at_most\":0,\"untold_stripes\":[]}],\"unreadable\":[]}"
+try 1 check worn broken --json
+out '{"agree":false,"files":[{"agree":false,"enough":true,"checked":false,"n":8,'
+out "{\"text\":\"worn/board-5.txt\",\"board\":5,\"wrong_stripes\":[5,9,10,11,$((stripes - 1))],"
+out '"groups":null,"told_if_wrong_at_most":2,"untold_stripes":[]}],'
+out '"unreadable":[{"text":"broken","why":"line 1, place 4: '
+out '"tidy":"7 line ends made a line feed"}]}'
+try 0 look kept/board-3.txt --json
+just "[{\"text\":\"kept/board-3.txt\",\"readable\":true,\"board\":3,\"n\":8,\"k\":4,\"d\":6,\"r\":2,\"points\":[0,1,2,3,4,5,6,7],\
+\"length\":$(wc -c <stock),\"stripes\":$stripes,\"share\":$pairs}]"
+try 1 look broken absent --json
+out '[{"text":"broken","readable":false,"why":"line 1, place 4: '
+out '"sense":"it makes sense up to line 1, place 3: \"n=8\"; then comes \"\\r\"","tidy":"7 line ends made a line feed"},'
+out '{"text":"absent","readable":false,"why":"no such file or directory","sense":null,"tidy":null}]'
+if command -v python3 >/dev/null; then
+    for words in 'check worn broken' 'look worn broken absent' 'sizes 3' 'sizes -n 8 -k 4 -d 6 -r 2 --length 9'; do
+        # shellcheck disable=SC2086
+        "$zbk" $words --json 2>/dev/null | python3 -m json.tool >/dev/null 2>"$own/said" || fail "zbk $words --json: no JSON"
+    done
+else
+    echo "skipped a reader of JSON: python3 is not on this machine"
+fi
+passed=$((passed + 2))
+
+# ---- tidy: what mail, editors and other machines do to texts is undone, and said; no digit is altered
+# tidied SAID FILE: `untidy` is refused with the remedy, and tidied to FILE
+tidied() {
+    try 1 gather untidy kept/board-1.txt kept/board-3.txt kept/board-4.txt -o none
+    said 'TEXT (12): of 4 texts given, one is no text'
+    said "    'zbk tidy' makes it a text: $1"
+    unsaid 'copy such a text again'
+    try 1 look untidy
+    out "        'zbk tidy' makes it a text: $1"
+    rm -f tidied
+    try 0 tidy untidy -o tidied
+    said "zbk: untidy: $1"
+    whole tidied "$2"
+    "$zbk" tidy - <untidy >"$own/out" 2>"$own/said" || fail "tidy -"
+    whole "$own/out" "$2"
+    passed=$((passed + 1))
+}
+# wide: as UTF-16, the lower byte first
+wide() { tr '\n' '#' | sed 's/./&\x00/g' | tr '#' '\n'; }
+text=kept/board-2.txt
+sed 's/$/\r/' $text >untidy
+tidied '7 line ends made a line feed' $text
+tr '\n' '\r' <$text >untidy
+tidied '7 line ends made a line feed' $text
+{ printf '\357\273\277' && cat $text; } >untidy
+tidied 'byte order mark left out' $text
+{ printf '\377\376' && wide <$text; } >untidy
+tidied 'UTF-16 made single bytes; byte order mark left out' $text
+wide <$text >untidy
+tidied 'UTF-16 made single bytes' $text
+{ printf '\376\377\000' && wide <$text | head -c -1; } >untidy
+tidied 'UTF-16 made single bytes; byte order mark left out' $text
+sed 's/$/  /; s/^n=/ n =\t/' $text >untidy
+tidied '17 blanks left out' $text
+sed 's/$/\n/' $text >untidy
+tidied '7 empty lines left out' $text
+tr '[:lower:]' '[:upper:]' <$text >untidy
+tidied "$(tr -cd '[:upper:]' <untidy | wc -c | tr -d ' ') capitals made small" $text
+fold -w 76 $text >untidy
+tidied "$(($(wc -l <untidy) - 7)) broken lines joined" $text
+sed '/^points=/s/0304/03\n04/' $of_first >untidy
+tidied '1 broken line joined' $of_first
+head -c -1 $text >untidy
+tidied 'line feed put behind the last line' $text
+sed 's/^\(data=..\)/\1 /' $text >untidy
+tidied '1 blank left out' $text
+# all at once, and several texts in a file
+cat $text kept/board-6.txt >several
+{ printf '\377\376' && fold -w 60 several | tr '[:lower:]' '[:upper:]' | sed 's/$/ \r/' | wide; } >untidy
+rm -f tidied
+try 0 tidy untidy -o tidied
+whole tidied several
+said 'UTF-16 made single bytes; byte order mark left out; '
+# one that is tidy already stays as it is
+try 0 tidy $text
+whole "$own/out" $text
+said "zbk: $text: tidy already"
+try 0 tidy $text -q
+[ ! -s "$own/said" ] || fail "$what: it said something"
+# no digit of a count is joined, cut or made: refused, with the place, and nothing is written; tidy is no remedy then
+rm -f tidied
+for edit in 's/^length=\(.\)/length=\1 /' 's/^length=\(.\)/length=\1\n/' 's/^n=8/n=08/' 's/^n=8/n=/' 's/^node=2/node=Z/' \
+    's/^data=./data=O/' 's/^data=./data=/' 's/^data=./data=-/' '2d' 's/^k=4/k:4/' 's/^d=6/d=6,/' 's/^length=/len gth=/'; do
+    sed "$edit" $text | sed 's/$/\r/' >untidy
+    try 1 tidy untidy -o tidied
+    said 'TEXT (12): nothing is written'
+    said 'untidy, as tidied: line '
+    said 'copy it again from where it was written'
+    try 1 gather untidy kept/board-1.txt kept/board-3.txt kept/board-4.txt -o none
+    unsaid 'zbk tidy'
+    [ ! -e tidied ] || fail "$what: it wrote a file"
+done
+sed 's/^length=\(.\)/length=\1 /' $text >untidy
+try 1 tidy untidy
+said "untidy, as tidied: line 6, place 9: expected a digit or the end of the line, found ' '"
+[ ! -s "$own/out" ] || fail "$what: it wrote something"
+printf '\303\251' | cat - $text >untidy
+try 1 tidy untidy
+# all or none
+sed 's/$/\r/' $text >crlf
+try 1 tidy crlf untidy -o tidied
+try 1 tidy crlf untidy --folder tidied
+[ ! -e tidied ] || fail "$what: it wrote something"
+try 1 tidy crlf -o $text
+said "$text is there already; --force replaces it"
+# a whole folder, into another one: each under its board's name
+mkdir mail
+for board in 0 1 2 3 4 5 6 7; do fold -w 70 kept/board-$board.txt | sed 's/$/\r/' >"mail/BOARD-$board.TXT"; done
+try 1 gather mail -o none
+said 'TEXT (12): of 8 texts given, 8 are no texts'
+try 0 tidy mail --folder tidied
+# shellcheck disable=SC2086
+is tidied $eight
+diff -r tidied kept >&2 || fail "$what: other texts"
+try 1 tidy mail --folder tidied
+said 'tidied/board-0.txt is there already; --force replaces it'
+try 0 tidy mail --folder tidied --force
+try 1 tidy mail crlf --folder twice
+said 'REPEAT (6): two texts are of board 2: mail/BOARD-2.TXT; crlf'
+[ ! -e twice ] || fail "$what: a folder was made"
+# in rebuild too the remedy is named
+cp mail/BOARD-2.TXT tidied/board-2.txt
+rm tidied/board-7.txt
+try 0 spread stock nine -n 9 -k 4 -d 6 -r 2
+sed 's/$/\r/' nine/board-2.txt >"$own/altered"
+cp "$own/altered" nine/board-2.txt
+try 0 rebuild nine --fresh 8 --force
+said 'nine/board-2.txt is not used: line 1, place 4'
+said "    'zbk tidy' makes it a text: 7 line ends made a line feed"
+rm -r tidied mail nine
+
+# ---- names: in any case, as copies are named, of any bytes; what is passed over in a folder is named
+mkdir names
+cp kept/board-0.txt names/BOARD-0.TXT
+cp kept/board-1.txt 'names/Board-1 (1).txt'
+cp kept/board-2.txt kept/board-5.txt names
+cp kept/board-2.txt 'names/board-2 (3).txt'
+cp kept/board-3.txt names/board-03.txt
+cp kept/board-4.txt "names/$(printf 'board-4\377.txt')"
+echo note >names/notes.md
+echo note >names/.hidden
+try 0 gather names -o named
+whole named stock
+said 'zbk: passed over in names, not named as board-0.txt and so on: board-03.txt; board-4\xFF.txt; notes.md'
+said 'zbk: passed over: names/board-2 (3).txt is the same as names/board-2.txt'
+unsaid 'hidden'
+said 'from boards 0, 1, 2 and 5'
+try 0 gather names -o named -f -q
+[ ! -s "$own/said" ] || fail "$what: it said something"
+try 0 look names
+out 'names/BOARD-0.TXT          0  8'
+out 'names/Board-1 (1).txt      1  8'
+said 'zbk: passed over in names'
+for command in check tidy; do
+    try 0 $command names
+    said 'notes.md'
+done
+for number in 1 2 3 4 5 6 7 8 9; do : >names/note-$number; done
+try 0 check names
+said 'note-1; note-2; note-3; note-4; note-5; note-6; and 4 more'
+rm names/note*
+# a copy that is another text is not passed over
+cp second-robot/board-2.txt 'names/board-2 (3).txt'
+try 1 gather names -o none
+said "REPEAT (6): two texts are of board 2: names/board-2.txt; names/board-2 (3).txt; 'zbk check' says which fits the others"
+try 1 check names
+out '  fits none: names/board-2 (3).txt'
+# rebuild replaces a text under the name that it has, and names what it does not use
+rm -rf names
+cp -r kept names
+mv names/board-6.txt names/BOARD-6.TXT
+mv names/board-7.txt names/BOARD-7.TXT
+cp names/board-1.txt 'names/board-1 (1).txt'
+try 1 rebuild names --fresh 7
+said 'names/BOARD-7.TXT is there already; --force replaces it'
+echo other >names/BOARD-7.TXT
+cp kept/board-7.txt 'names/board-7 (1).txt'
+try 0 rebuild names --fresh 7 --force --json
+said 'names/board-1 (1).txt is not used: a copy of names/board-1.txt'
+said 'names/board-7 (1).txt is not used: a text of board 7, which is rebuilt; move it away'
+whole names/BOARD-7.TXT kept/board-7.txt
+[ "$(cat "$own/out")" = "{\"rebuilt\":[{\"board\":7,\"text\":\"names/BOARD-7.TXT\",\"helpers\":[0,1,2,3,4,5],\"stand_ins\":[6],\
+\"exchanges\":[]}],\"stripes\":$stripes,\"bytes_over_bus\":$((stripes * 13)),\
+\"unused\":[{\"text\":\"names/board-7 (1).txt\",\"why\":\"a text of board 7, which is rebuilt; move it away\"},\
+{\"text\":\"names/board-1 (1).txt\",\"why\":\"a copy of names/board-1.txt\"}]}" ] || fail "$what: other JSON"
+try 0 rebuild names --fresh 7,1 --force
+whole names/board-1.txt kept/board-1.txt
+cp second-robot/board-2.txt 'names/board-2 (1).txt'
+try 1 rebuild names --fresh 7 --force
+said 'REPEAT (6): two texts are of board 2: names/board-2.txt; names/board-2 (1).txt'
+# spread says which it does not replace
+try 0 spread stock names -n 8 -k 4 -d 6 -r 2 --force
+said 'names also has texts under other names, which are not replaced: names/board-1 (1).txt; names/board-2 (1).txt; names/BOARD-6.TXT; '
+said '; names/BOARD-7.TXT; names/board-7 (1).txt'
+rm -rf names
+# any bytes: a file, a folder, an output, joined to its option and not
+odd_name=$(printf 'b\377ck')
+cp kept/board-1.txt "$odd_name"
+try 0 gather "$odd_name" kept/board-2.txt kept/board-3.txt kept/board-4.txt -o "out$odd_name"
+whole "out$odd_name" stock
+for joined in "-oj$odd_name" "--output=j$odd_name"; do
+    try 0 gather "$odd_name" kept/board-2.txt kept/board-3.txt kept/board-4.txt "$joined" -f
+    whole "j$odd_name" stock
+done
+try 1 gather "$odd_name" kept/board-2.txt kept/board-3.txt kept/board-4.txt -o "out$odd_name"
+said 'outb\xFFck is there already'
+try 0 look "$odd_name"
+out 'b\xFFck'
+try 0 spread "out$odd_name" "dir$odd_name" -n 8 -k 4 -d 6 -r 2
+out '8 texts in dirb\xFFck; any 4'
+diff -r "dir$odd_name" kept >&2 || fail "$what: other texts"
+try 0 rebuild "dir$odd_name" --fresh 3,4 -f
+try 0 check "dir$odd_name"
+try 1 gather "absent$odd_name"
+said 'cannot read absentb\xFFck: no such file'
+# what a terminal would obey is not said as it is
+escape=$(printf 'a\033[2Jb')
+try 1 gather "$escape"
+said 'cannot read a\u{1b}[2Jb: no such file'
+rm -rf "$odd_name" "out$odd_name" "j$odd_name" "dir$odd_name"
+
+# ---- raw bytes do not go to a terminal
+printf 'plain text, \303\251\n' >plain
+{ printf '\033[2J' && head -c 100 /dev/zero; } >raw
+try 0 spread plain plain.d -n 2 -k 1 -d 1 -r 1
+try 0 spread raw raw.d -n 2 -k 1 -d 1 -r 1
+if command -v script >/dev/null && script -qec true /dev/null >/dev/null 2>&1 </dev/null; then
+    # at_terminal STATUS WORDS: the tool with a terminal as standard output; both outputs are in out
+    at_terminal() {
+        what="zbk $2, at a terminal"
+        status=0
+        script -qec "'$zbk' $2" /dev/null >"$own/out" 2>"$own/said" </dev/null || status=$?
+        [ $status -eq "$1" ] || fail "$what: exit code $status, not $1"
+        passed=$((passed + 1))
+    }
+    at_terminal 1 'gather raw.d'
+    out 'zbk: standard output is a terminal, and these bytes are not plain text: name a file with -o, use a pipe, or give --force'
+    if grep -q "$(printf '\033')" "$own/out"; then fail "$what: raw bytes"; fi
+    at_terminal 0 'gather raw.d --force'
+    grep -q "$(printf '\033')" "$own/out" || fail "$what: no bytes"
+    at_terminal 0 'gather raw.d -o raw.back'
+    whole raw.back raw
+    at_terminal 0 'gather plain.d'
+    out "$(printf 'plain text, \303\251')"
+    at_terminal 1 'trial --file 1 9'
+    out 'zbk: standard output is a terminal'
+    at_terminal 0 'trial --file 1 9 --force'
+    at_terminal 0 'trial --file 1 0'
+else
+    echo "skipped a terminal: script is not on this machine"
+fi
+try 0 gather raw.d
+whole "$own/out" raw
+rm -r plain plain.d raw.d
+
+# ---- the manual page and the completion name every command and every option
+try 0 --man
+sed 's/\\-/-/g; s/\\f[BIR]//g; s/\\e/\\/g' "$own/out" >page
+mv "$own/out" zbk.1
+try 0 --completion bash
+mv "$own/out" completion
+for command in $commands; do
+    sed -n "/^\.SS $command\$/,/^\.SS /p" page >section
+    sed -n "s/^    $command) options='\(.*\)' ;;\$/\1/p" completion | tr ' ' '\n' >case
+    "$zbk" "$command" --help >"$own/help"
+    grep -oE '^  (-., |    )--[a-z-]+' "$own/help" | grep -oE -- '--?[a-zA-Z-]+' | sort -u >options
+    [ "$(wc -l <options)" -ge 4 ] || fail "the help of $command: too few options"
+    while read -r option; do
+        grep -qE -- "^(-., )?$option( |\$)|^$option, " section || fail "the manual page has no $option of $command"
+        grep -qxF -- "$option" case || fail "the completion has no $option of $command"
+    done <options
+    grep -qF "zbk $command" section || fail "the manual page has no usage of $command"
+done
+if command -v groff >/dev/null; then
+    groff -man -Tascii -ww zbk.1 >page 2>"$own/said" || fail 'groff'
+    [ ! -s "$own/said" ] || fail 'groff: the manual page'
+    grep -q 'zbk - share texts' page || fail 'groff: the page has no name'
+else
+    echo "skipped groff: it is not on this machine"
+fi
+if command -v bash >/dev/null; then
+    # offered WORDS..: what is offered for the last
+    offered() {
+        bash -c '. ./completion; COMP_WORDS=("$@"); COMP_CWORD=$(($# - 1)); _zbk; printf "%s\n" "${COMPREPLY[@]}"' bash "$@" >"$own/out" 2>"$own/said"
+    }
+    what='the completion'
+    offered zbk ga
+    just gather
+    offered zbk --v
+    just --version
+    offered zbk gather --o
+    just --output
+    offered zbk rebuild shelf --fresh 2 --s
+    just --stand-ins
+    offered zbk help ti
+    just tidy
+    offered zbk gather boa
+    just ''
+else
+    echo "skipped completion: bash is not on this machine"
+fi
+passed=$((passed + 8))
+
+# ---- sizes: what they cost
+try 0 sizes -n 8 -k 4 -d 6 -r 2 --length 6516
+cat >"$own/due" <<'LINES'
+sizes         n=8 k=4 d=6 r=2
+a stripe      40 bytes of the file, 13 on each board
+longest file  163840 bytes, 4096 stripes
+may be lost   4 of 8 boards, and the file is read; with 6 left, boards are rebuilt
+careful read  6 boards name one that is wrong
+storage       2.60 times the file; the least for these n and k is 2.00
+one rebuilt   0.33 of the file over the bus, from 6 helpers and 1 other
+together      0.65 of the file over the bus for 2 boards; 1.25 where one fetches the file for all
+this file     length 6516, stripes 163, share 2119, text at most 4438, helper packet 326, exchange packet 163, area 16952, bus for a board 2119
+LINES
+whole "$own/out" "$own/due"
+try 0 sizes -n 32 -k 16 -d 24 -r 8 --json
+out '{"n":32,"k":16,"d":24,"r":8,"share":55,"stripe":640,"longest":2621440,"may_be_lost":16,"careful_read":18,"storage":2.75,'
+out ',"storage_least":2,"bus_one":0.0859,"bus_together":0.6875,"bus_together_fetched":1.4375}'
+try 0 sizes -n 3 -k 2 -d 2 -r 1 --json --length 0
+out '"careful_read":null,'
+out '"file":{"length":0,"stripes":0,"share":0,"text_at_most":200,"helper_packet":0,"exchange_packet":0,"area":12,"bus_for_a_board":0}}'
+try 0 sizes 2 --json
+just '[{"n":2,"k":1,"d":1,"r":1,"share":2,"stripe":2}]'
+try 1 sizes -n 8 -k 4 -d 6 -r 3
+said 'SIZE (1): 6 helpers and 3 fresh boards are more than 8 boards'
+try 1 sizes -n 2 -k 1 -d 1 -r 1 --length 8193
+said 'LONG (3): 8193 bytes; the longest file for these sizes has 8192'
+
+# ---- rebuild
+head -c 9 kept/board-2.txt >broken
 cp -r kept robot
 rm robot/board-2.txt robot/board-5.txt
 try 0 rebuild robot --fresh 2,5
@@ -687,10 +1234,11 @@ try 0 spread stock lone -n 5 -k 1 -d 1 -r 1
 rm lone/board-4.txt
 alter lone/board-0.txt
 try 1 rebuild lone --fresh 4
-said 'DISAGREE (10): lone/board-0.txt disagrees with all others, which agree: name it with --fresh, or move it away'
+said 'DISAGREE (10): lone/board-0.txt does not fit the other 3 texts, which agree: if one text alone is wrong, it is this one; '
+said 'this one; name it with --fresh, or move it away'
 is lone board-0.txt board-1.txt board-2.txt board-3.txt
 cp altered6 robot/board-6.txt
-refused 'DISAGREE (10): robot/board-6.txt disagrees with all others, which agree: name it with --fresh, or move it away' --fresh 2
+refused 'DISAGREE (10): robot/board-6.txt does not fit the other 6 texts, which agree: if one text alone is wrong, it is this one; ' --fresh 2
 cp others/board-6.txt robot/board-6.txt
 refused 'MIXED (13)' --fresh 2
 
@@ -761,8 +1309,10 @@ mkfifo slow/board-0.txt
     exec cat slow/board-0.txt >"$own/slow"
 ) &
 reader=$!
+slow=yes
 # shellcheck disable=SC2086
 try 0 spread stock slow $sizes
+slow=
 said 'zbk: shares worked out, 8 of 8 done'
 wait $reader
 reader=
@@ -911,13 +1461,56 @@ for force in --quiet --force; do
     [ "$(readlink dangling)" = nowhere ] || fail "$what: the link is another one"
     [ ! -e nowhere ] || fail "$what: it wrote a file"
 done
-# a temporary name that is there, as a tool that was stopped leaves it, does not matter and is left alone
+# what an interrupted run left is removed by the next one, and no other file: here a pipe that nobody reads holds a run up, which is then ended
 mkdir stopped
-what='gather beside a temporary name'
-sh -c 'echo mine >stopped/.zbk-$$-0 && exec "$1" gather kept -o stopped/back' sh "$zbk" >"$own/out" 2>"$own/said" || fail "$what: exit code $?"
+mkfifo stopped/board-3.txt
+# shellcheck disable=SC2086
+"$zbk" spread stock stopped $sizes --quiet 2>"$own/said" &
+reader=$!
+tries=0
+until [ "$(find stopped -name '.zbk-*' | wc -l)" -eq 3 ] || [ $tries -eq 100 ]; do
+    sleep 0.1
+    tries=$((tries + 1))
+done
+kill -KILL $reader
+wait $reader 2>/dev/null || true
+reader=
+what='spread that is ended'
+[ "$(find stopped -name '.zbk-*' | wc -l)" -eq 3 ] || fail "$what: it left other files than it must for this test"
+rm stopped/board-3.txt
+echo mine >stopped/.zbk-notes
+echo mine >stopped/.zbk-1-2-x
+mkdir stopped/.zbk-0-1-2
+# those of earlier versions, and of other machines, where they are old
+echo old >stopped/.zbk-123-0
+echo old >stopped/.zbk-0-123-1
+touch -d '2 hours ago' stopped/.zbk-123-0 stopped/.zbk-0-123-1
+echo young >stopped/.zbk-123-1
+echo young >stopped/.zbk-0-123-0
+# that of a tool that runs
+mkfifo "$own/held"
+"$zbk" look - <"$own/held" >"$own/slow" 2>&1 &
+reader=$!
+exec 3>"$own/held"
+machine=$(tr -d - </proc/sys/kernel/random/boot_id | cut -c 1-8)
+until [ "$(cat /proc/$reader/comm)" = zbk ]; do sleep 0.1; done
+echo running >"stopped/.zbk-$machine-$reader-0"
+try 0 gather kept -o stopped/back
 whole stopped/back stock
-[ "$(cat stopped/.zbk-*)" = mine ] || fail "$what: the temporary name is not as it was"
-rm stopped/.zbk-*
+said 'zbk: removed 5 files that an interrupted run left in '
+is stopped back .zbk-notes .zbk-1-2-x .zbk-0-1-2 .zbk-123-1 .zbk-0-123-0 ".zbk-$machine-$reader-0"
+exec 3>&-
+wait $reader || true
+try 0 trial --file 1 5 -o stopped/drawn
+said 'zbk: removed 1 file that an interrupted run left in '
+is stopped back drawn .zbk-notes .zbk-1-2-x .zbk-0-1-2 .zbk-123-1 .zbk-0-123-0
+reader=
+# one with this process's own number is none that it has begun
+sh -c 'echo mine >"stopped/.zbk-$2-$$-0" && exec "$1" gather kept -o stopped/again' sh "$zbk" "$machine" >"$own/out" 2>"$own/said" ||
+    fail "$what: exit code $?"
+said 'zbk: removed 1 file that an interrupted run left in '
+whole stopped/again stock
+rm -r stopped
 passed=$((passed + 1))
 # no temporary file is left anywhere
 [ -z "$(find . -name '.*zbk*')" ] || fail "a temporary file is left"

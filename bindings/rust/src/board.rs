@@ -109,6 +109,10 @@ extern "C" {
 // slice is never null; and `out` is lent to this call alone, so it overlaps nothing else.
 
 /// The share of board `node` of a file.
+///
+/// # Errors
+///
+/// [`Refusal::Size`], [`Refusal::Long`], [`Refusal::Node`] or [`Refusal::Short`], the first that holds; `out` is then as it was.
 pub fn share(sizes: Sizes, points: Points, node: usize, file: &[u8], out: &mut [u8]) -> Result<usize, Refusal> {
     let Sizes { n, k, d, r } = sizes;
     let points = points.bytes();
@@ -130,6 +134,11 @@ pub fn share(sizes: Sizes, points: Points, node: usize, file: &[u8], out: &mut [
 }
 
 /// The file of `length` bytes that k boards' shares give; refused with [`Refusal::Disagree`] where no file of that length has them.
+///
+/// # Errors
+///
+/// [`Refusal::Size`], [`Refusal::Long`], [`Refusal::Count`], [`Refusal::Node`], [`Refusal::Repeat`], [`Refusal::Area`], [`Refusal::Short`] or
+/// [`Refusal::Disagree`], the first that holds; `out` is then as it was.
 pub fn file(
     sizes: Sizes,
     points: Points,
@@ -160,6 +169,11 @@ pub fn file(
 }
 
 /// What `helper` sends to the fresh board `receiver`, from its own share.
+///
+/// # Errors
+///
+/// [`Refusal::Size`], [`Refusal::Long`], [`Refusal::Node`], [`Refusal::Repeat`], [`Refusal::Area`] or [`Refusal::Short`], the first that holds;
+/// `out` is then as it was.
 pub fn helper_packet(
     sizes: Sizes,
     points: Points,
@@ -191,6 +205,11 @@ pub fn helper_packet(
 }
 
 /// What the fresh board `board` sends to the fresh board `receiver`, from the packets of its d helpers.
+///
+/// # Errors
+///
+/// [`Refusal::Size`], [`Refusal::Long`], [`Refusal::Count`], [`Refusal::Node`], [`Refusal::Repeat`], [`Refusal::Area`] or [`Refusal::Short`], the
+/// first that holds; `out` is then as it was.
 #[allow(clippy::too_many_arguments)]
 pub fn exchange_packet(
     sizes: Sizes,
@@ -227,6 +246,11 @@ pub fn exchange_packet(
 
 /// The share of the fresh board `board`, from the packets of its d helpers and of its r − 1 partners. A partner is another fresh board, which sends
 /// its exchange packet, or a stand-in, which sends the second byte of each pair of its helper packet.
+///
+/// # Errors
+///
+/// [`Refusal::Size`], [`Refusal::Long`], [`Refusal::Count`], [`Refusal::Node`], [`Refusal::Repeat`], [`Refusal::Area`] or [`Refusal::Short`], the
+/// first that holds; `out` is then as it was.
 #[allow(clippy::too_many_arguments)]
 pub fn finished_share(
     sizes: Sizes,
@@ -267,6 +291,10 @@ pub fn finished_share(
 
 /// A share as text: seven lines, the sizes, the board, the length and the share in hexadecimal, and before the share a line with the points of the
 /// n boards where they are not 0 to n − 1 in order. [`Sizes::text_room`] bytes are enough.
+///
+/// # Errors
+///
+/// [`Refusal::Size`], [`Refusal::Long`], [`Refusal::Node`], [`Refusal::Area`] or [`Refusal::Short`], the first that holds; `out` is then as it was.
 pub fn share_text(
     sizes: Sizes,
     points: Points,

@@ -7,7 +7,8 @@
 //! be worn, by [`Record::read_careful`], and a repair a packet at a time, by [`Record::start`] and [`Record::step`]. The functions of [`board`] are the
 //! calls that single boards make, with no record. Each board has a point, at which its share is worked out: [`Points::standard`] on present robots,
 //! [`Points::first_series`] on robots of the first series; the record keeps them, and [`Record::move_board`] carries a robot from these to those while it
-//! runs. Every call answers with its result or with one [`Refusal`], and after a refusal nothing has changed: no word of the record, no byte
+//! runs. [`Record::choose_read`] and [`Record::choose_lost`] choose boards by the marks, [`Record::to_bytes`] keeps the record. Every call answers with
+//! its result or with one [`Refusal`], and after a refusal nothing has changed: no word of the record, no byte
 //! of a lent buffer. [`trial_file`] draws the same file from one number everywhere, and refuses nothing.
 //!
 //! ```
@@ -39,18 +40,25 @@
 //! # Ok::<(), Refusal>(())
 //! ```
 //!
+//! The crate needs no standard library and no heap; the lengths, what a record says, the boards that it chooses and the words of refusals are worked out
+//! in this crate, and are not proved.
+//!
 //! The archive is linked by `build.rs`: `target/staticlib/libzebrankai.a` of this repository, which `rt staticlib zebrankai` makes, or the
 //! file that the environment variable `ZBK_ARCHIVE` names.
+#![no_std]
 #![warn(missing_docs)]
 
 pub mod board;
+mod choice;
 mod points;
 mod record;
 mod refusal;
 mod sizes;
 mod text;
 mod trial;
+mod words;
 
+pub use choice::{Boards, Lists, RECORD_BYTES, REPAIR_BYTES};
 pub use points::Points;
 pub use record::{Record, RECORD_WORDS, REPAIR_WORDS};
 pub use refusal::Refusal;

@@ -132,7 +132,7 @@ const POINTS: usize = 8;
 
 /// The record of a store: its sizes, its boards' points, its capacity, whether a file was written and how long it is, and which boards are in service;
 /// and beside it that of a repair that was started. It belongs to one area of [`Sizes::area_len`] bytes, in which the boards stand one after another;
-/// give each call the area as the last call left it. A record can be kept as its [`words`](Record::words).
+/// give each call the area as the last call left it. A record can be kept as its [`words`](Record::words), or as [bytes](Record::to_bytes).
 ///
 /// # Power
 ///
@@ -175,6 +175,10 @@ pub struct Record {
 impl Record {
     /// A new store with no file and no board in service. The record keeps the points of its boards. `capacity` is the number of stripes that each
     /// board has room for, 1 to 4,096.
+    ///
+    /// # Errors
+    ///
+    /// [`Refusal::Size`] where sizes, points or capacity are not legal.
     pub fn set_up(sizes: Sizes, points: Points, capacity: usize) -> Result<Record, Refusal> {
         let mut record = Record::from_words([0; RECORD_WORDS]);
         let Sizes { n, k, d, r } = sizes;
@@ -200,17 +204,20 @@ impl Record {
 
     /// A record of words that were kept, as after a power failure: no repair is running. Any words are taken; the calls refuse those that no call hands
     /// out, with [`Refusal::Size`].
+    #[must_use]
     pub fn from_words(words: [u64; RECORD_WORDS]) -> Record {
         Record { words, repair: [0; REPAIR_WORDS] }
     }
 
     /// The same record with the words of a started repair that were kept beside its own. Any words are taken; the calls refuse those of a running repair
     /// that no call hands out beside this record, with [`Refusal::Size`].
+    #[must_use]
     pub fn with_repair_words(self, repair: [u64; REPAIR_WORDS]) -> Record {
         Record { repair, ..self }
     }
 
     /// A record of eight words that were kept before records held points: it goes on with the words of the standard points behind them.
+    #[must_use]
     pub fn from_eight_words(words: [u64; 8]) -> Record {
         let points = Points::standard(words[0] as usize);
         let mut all = [0; RECORD_WORDS];
@@ -223,23 +230,27 @@ impl Record {
 
     /// The words: n, k, d, r, capacity, written (0 or 1), length, marks (bit i for board i), and four words with the points of eight boards each,
     /// the lowest byte first.
+    #[must_use]
     pub fn words(&self) -> [u64; RECORD_WORDS] {
         self.words
     }
 
     /// The words of the started repair: 1 where it is running, else 0; then, as far as one is running, its count of fresh boards, the packets carried, and
     /// the boards as bytes, eight in a word, the lowest first: four words of fresh boards, 32 of helpers, 32 of stand-ins.
+    #[must_use]
     pub fn repair_words(&self) -> [u64; REPAIR_WORDS] {
         self.repair
     }
 
     /// The sizes of the store.
+    #[must_use]
     pub fn sizes(&self) -> Sizes {
         let [n, k, d, r, ..] = self.words.map(|word| word as usize);
         Sizes { n, k, d, r }
     }
 
     /// The points of the boards: those given at set-up, but for boards that were [moved](Record::move_board) since.
+    #[must_use]
     pub fn points(&self) -> Points {
         let mut bytes = [0; MAX_BOARDS];
         for (bytes, word) in bytes.chunks_mut(8).zip(&self.words[POINTS..]) {
@@ -249,32 +260,38 @@ impl Record {
     }
 
     /// The stripes that each board has room for.
+    #[must_use]
     pub fn capacity(&self) -> usize {
         self.words[4] as usize
     }
 
     /// Whether a file was written.
+    #[must_use]
     pub fn has_file(&self) -> bool {
         self.words[5] == 1
     }
 
     /// The length of the last file written; 0 where there is none.
+    #[must_use]
     pub fn length(&self) -> usize {
         self.words[6] as usize
     }
 
     /// Whether a board is in service. No board from n up is, nor one from 32 up, whatever words that no call hands out say of it.
+    #[must_use]
     pub fn in_service(&self, board: usize) -> bool {
         board < self.sizes().n.min(MAX_BOARDS) && self.words[7] >> board & 1 == 1
     }
 
     /// Whether a repair is running: started, and not yet stepped to its end.
+    #[must_use]
     pub fn is_repairing(&self) -> bool {
         self.repair[0] == 1
     }
 
     /// Bytes of the packet area of the repair that is running, t × (2d + r − 1) for each stripe; 0 where none is. A number that is too great for
     /// `usize`, as only made-up words have it, is cut to the greatest.
+    #[must_use]
     pub fn packets_len(&self) -> usize {
         if !self.is_repairing() {
             return 0;
@@ -290,6 +307,10 @@ impl Record {
     }
 
     /// Writes a file: every board gets its share and comes into service.
+    ///
+    /// # Errors
+    ///
+    /// [`Refusal::Size`], [`Refusal::Area`], [`Refusal::Long`] or [`Refusal::Busy`], the first that holds; record and area are then as they were.
     pub fn write(&mut self, area: &mut [u8], file: &[u8]) -> Result<(), Refusal> {
         let Record { words, repair } = self;
         result(unsafe {
@@ -309,6 +330,10 @@ impl Record {
 
     /// Takes a board out of service. Where a repair is running that names the board, fresh, helper or stand-in, that repair has ended, and its fresh
     /// boards stay out of service; the loss of another board does not touch it.
+    ///
+    /// # Errors
+    ///
+    /// [`Refusal::Size`] or [`Refusal::Node`], the first that holds; the record is then as it was.
     pub fn lose(&mut self, board: usize) -> Result<(), Refusal> {
         let Record { words, repair } = self;
         result(unsafe { zbk_lose(words.as_mut_ptr(), words.len(), repair.as_mut_ptr(), repair.len(), board) }).map(drop)
@@ -319,6 +344,11 @@ impl Record {
     /// stand-in sends half of what a helper sends. The helpers and stand-ins of one fresh board are all different, and no fresh board is among
     /// those of any; a helper of one may stand in for another. All fresh boards come into service; answers the bytes moved between boards,
     /// t × (2d + r − 1) for each stripe.
+    ///
+    /// # Errors
+    ///
+    /// [`Refusal::Size`], [`Refusal::Area`], [`Refusal::Empty`], [`Refusal::Busy`], [`Refusal::Count`], [`Refusal::Node`], [`Refusal::Repeat`],
+    /// [`Refusal::Serving`] or [`Refusal::Down`], the first that holds; record and area are then as they were.
     pub fn repair(
         &mut self,
         area: &mut [u8],
@@ -351,6 +381,11 @@ impl Record {
     /// of them often gives another file, which is accepted. Among k + 1 boards one that is wrong always shows: no file has the shares of them
     /// all, so that two reads of k of them that leave out different boards do not both give the same file. Among k + 2 it is named, and the file is given all the same, by
     /// [`read_careful`](Record::read_careful).
+    ///
+    /// # Errors
+    ///
+    /// [`Refusal::Size`], [`Refusal::Area`], [`Refusal::Empty`], [`Refusal::Count`], [`Refusal::Node`], [`Refusal::Repeat`], [`Refusal::Down`],
+    /// [`Refusal::Short`] or [`Refusal::Disagree`], the first that holds; `out` is then as it was.
     pub fn read(&self, area: &[u8], boards: &[usize], out: &mut [u8]) -> Result<(), Refusal> {
         // the call is lent a copy, since a read hands on both records as they came
         let Record { mut words, mut repair } = self.clone();
@@ -404,6 +439,12 @@ impl Record {
     /// assert_eq!(file, stock);
     /// # Ok::<(), Refusal>(())
     /// ```
+    ///
+    /// # Errors
+    ///
+    /// As of [`read`](Record::read), for k + 2 boards: [`Refusal::Size`], [`Refusal::Area`], [`Refusal::Empty`], [`Refusal::Count`],
+    /// [`Refusal::Node`], [`Refusal::Repeat`], [`Refusal::Down`], [`Refusal::Short`] or [`Refusal::Disagree`], the first that holds; `out` is then as
+    /// it was.
     pub fn read_careful(&self, area: &[u8], boards: &[usize], out: &mut [u8]) -> Result<Option<usize>, Refusal> {
         // copies, as in a read
         let Record { mut words, mut repair } = self.clone();
@@ -456,6 +497,11 @@ impl Record {
     /// assert_eq!(record.edit(&mut area, 9, &41u32.to_le_bytes(), &[0, 3]), Err(Refusal::Range));
     /// # Ok::<(), Refusal>(())
     /// ```
+    ///
+    /// # Errors
+    ///
+    /// [`Refusal::Size`], [`Refusal::Area`], [`Refusal::Empty`], [`Refusal::Busy`], [`Refusal::Range`], [`Refusal::Count`], [`Refusal::Node`],
+    /// [`Refusal::Repeat`], [`Refusal::Down`] or [`Refusal::Disagree`], the first that holds; the area is then as it was.
     pub fn edit(&mut self, area: &mut [u8], offset: usize, bytes: &[u8], boards: &[usize]) -> Result<(), Refusal> {
         let Record { words, repair } = self;
         result(unsafe {
@@ -509,6 +555,11 @@ impl Record {
     /// assert_eq!(record.step(&mut area, &mut packets, 3), Err(Refusal::Idle));
     /// # Ok::<(), Refusal>(())
     /// ```
+    ///
+    /// # Errors
+    ///
+    /// As of [`repair`](Record::repair): [`Refusal::Size`], [`Refusal::Area`], [`Refusal::Empty`], [`Refusal::Busy`], [`Refusal::Count`],
+    /// [`Refusal::Node`], [`Refusal::Repeat`], [`Refusal::Serving`] or [`Refusal::Down`], the first that holds; the record is then as it was.
     pub fn start(
         &mut self,
         area: &[u8],
@@ -546,6 +597,11 @@ impl Record {
     /// the board holds then, an exchange by its sender's helper packets as they lie there. With the last packet each fresh board gets the share that the
     /// packets lying there make, all come into service, and the repair has ended: with no bytes altered of boards in service and of packets carried, the
     /// store is as [`repair`](Record::repair) would leave it in the place of this step.
+    ///
+    /// # Errors
+    ///
+    /// [`Refusal::Size`], [`Refusal::Area`], [`Refusal::Empty`] or [`Refusal::Idle`], the first that holds; record and both areas are then as they
+    /// were.
     pub fn step(&mut self, area: &mut [u8], packets: &mut [u8], allowance: usize) -> Result<usize, Refusal> {
         let Record { words, repair } = self;
         result(unsafe {
@@ -611,6 +667,11 @@ impl Record {
     /// assert_eq!(record.move_board(&mut area, 2, 4, &[0, 1, 3], &[4]), Err(Refusal::Repeat));
     /// # Ok::<(), Refusal>(())
     /// ```
+    ///
+    /// # Errors
+    ///
+    /// [`Refusal::Size`], [`Refusal::Area`], [`Refusal::Empty`], [`Refusal::Busy`], [`Refusal::Count`], [`Refusal::Node`], [`Refusal::Repeat`] or
+    /// [`Refusal::Down`], the first that holds; record and area are then as they were.
     pub fn move_board(
         &mut self,
         area: &mut [u8],

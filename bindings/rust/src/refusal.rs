@@ -1,10 +1,13 @@
 //! The refusals, and what an answer of the archive says.
 
-use std::error::Error;
-use std::fmt;
+use core::error::Error;
+use core::fmt;
 
 /// Why a call was refused. Where several hold, the first is given: of the store in the order 1, 2, 3, 8, 16, 17, 15, 4, 5, 6, 14, 9, 7, 10, at
 /// board level in the order 12, 1, 3, 13, 4, 5, 6, 2, 7, 10. 11 is not used: no call answers it.
+///
+/// Its words, [`name`](Refusal::name), [`sentence`](Refusal::sentence), [`who`](Refusal::who) and [`remedy`](Refusal::remedy), are those of
+/// docs/REFUSALS.md.
 ///
 /// Later calls bring further refusals, so a `match` on it needs an arm for the others:
 ///
@@ -83,77 +86,32 @@ impl Refusal {
     ];
 
     /// The refusal with a number; none where no refusal has it.
+    #[must_use]
     pub fn from_number(number: u8) -> Option<Refusal> {
         Refusal::ALL.iter().copied().find(|refusal| refusal.number() == number)
     }
 
+    /// The refusal with a name, in capital or small letters; none where no refusal has it.
+    ///
+    /// ```
+    /// use zebrankai::Refusal;
+    ///
+    /// assert_eq!(Refusal::from_name("disagree"), Some(Refusal::Disagree));
+    /// assert_eq!(Refusal::from_name("POINTS"), None);
+    /// ```
+    #[must_use]
+    pub fn from_name(name: &str) -> Option<Refusal> {
+        Refusal::ALL.iter().copied().find(|refusal| refusal.name().eq_ignore_ascii_case(name))
+    }
+
     /// The refusal's number.
-    pub fn number(self) -> u8 {
+    #[must_use]
+    pub const fn number(self) -> u8 {
         self as u8
-    }
-
-    /// The refusal's name.
-    pub fn name(self) -> &'static str {
-        match self {
-            Refusal::Size => "SIZE",
-            Refusal::Area => "AREA",
-            Refusal::Long => "LONG",
-            Refusal::Count => "COUNT",
-            Refusal::Node => "NODE",
-            Refusal::Repeat => "REPEAT",
-            Refusal::Short => "SHORT",
-            Refusal::Empty => "EMPTY",
-            Refusal::Down => "DOWN",
-            Refusal::Disagree => "DISAGREE",
-            Refusal::Text => "TEXT",
-            Refusal::Mixed => "MIXED",
-            Refusal::Serving => "SERVING",
-            Refusal::Range => "RANGE",
-            Refusal::Busy => "BUSY",
-            Refusal::Idle => "IDLE",
-        }
-    }
-
-    /// What it means, in one plain sentence.
-    pub fn sentence(self) -> &'static str {
-        match self {
-            Refusal::Size => {
-                "The sizes are not legal, the capacity is not 1 to 4,096 stripes, the record is one that no call hands out, \
-                 the points repeat, or one from n up is not 00; or a repair is running by a repair record that no call hands \
-                 out beside this record."
-            }
-            Refusal::Area => {
-                "The area, the packet area of a repair that is running, or a slice of shares or packets, has another length \
-                 than the sizes give."
-            }
-            Refusal::Long => "The file is longer than the store's capacity, or than 4,096 stripes at board level.",
-            Refusal::Count => {
-                "A list has the wrong number of boards, not k + 2 of them for a careful read, or k + 2 is above n; there are \
-                 not 1 to r fresh boards; or the texts to gather are not k."
-            }
-            Refusal::Node => "A board number is n or more.",
-            Refusal::Repeat => {
-                "A board is named twice where each must be another one, two texts to gather are of one board, or the new point \
-                 of a move is some board's."
-            }
-            Refusal::Short => "The output is shorter than what is to be written.",
-            Refusal::Empty => {
-                "A repair, a read, a careful read, an edit, a start, a step or a move before any file was written."
-            }
-            Refusal::Down => "A board to read from, a helper or a stand-in is out of service, or any board, for a move.",
-            Refusal::Disagree => {
-                "No file of this length has these shares; of a careful read, none has all of them but one."
-            }
-            Refusal::Text => "The text is none that zbk_share_text writes.",
-            Refusal::Mixed => "The texts differ in sizes, points or length.",
-            Refusal::Serving => "A fresh board is in service.",
-            Refusal::Range => "The edit goes beyond the end of the file.",
-            Refusal::Busy => "A repair is running.",
-            Refusal::Idle => "No repair is running.",
-        }
     }
 }
 
+/// Name, number and [`sentence`](Refusal::sentence): what it means. Who acts is [`who`](Refusal::who), what to do [`remedy`](Refusal::remedy).
 impl fmt::Display for Refusal {
     fn fmt(&self, to: &mut fmt::Formatter) -> fmt::Result {
         write!(to, "{} ({}): {}", self.name(), self.number(), self.sentence())

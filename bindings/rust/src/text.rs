@@ -51,6 +51,10 @@ pub struct TextRead {
 /// assert_eq!((read.node, read.length, read.written, share), (0, 2, 2, [5, 6]));
 /// # Ok::<(), Refusal>(())
 /// ```
+///
+/// # Errors
+///
+/// [`Refusal::Text`] where the bytes are no text, then [`Refusal::Short`]; `out` is then as it was.
 pub fn read_text(text: &[u8], out: &mut [u8]) -> Result<TextRead, Refusal> {
     let mut head = [0; HEAD_WORDS];
     let mut points = [0; MAX_BOARDS];
@@ -71,9 +75,13 @@ pub fn read_text(text: &[u8], out: &mut [u8]) -> Result<TextRead, Refusal> {
 }
 
 /// The file of k texts that stand one after another in `text`, in any order and with nothing between them; answers its length. Half as many bytes
-/// as the texts have are always enough for `out`. Refused with [`Refusal::Text`] where some bytes are no text, then with [`Refusal::Mixed`] where
-/// two differ in sizes, points or length, then with [`Refusal::Count`] where they are not k; no text at all is that, too. Then Repeat, Short and
-/// Disagree, in this order.
+/// as the texts have are always enough for `out`.
+///
+/// # Errors
+///
+/// The first that holds: [`Refusal::Text`] where some bytes are no text, [`Refusal::Mixed`] where two texts differ in sizes, points or length,
+/// [`Refusal::Count`] where they are not k, as where there is no text at all, [`Refusal::Repeat`], [`Refusal::Short`], [`Refusal::Disagree`]; `out` is then
+/// as it was.
 pub fn gather(text: &[u8], out: &mut [u8]) -> Result<usize, Refusal> {
     result(unsafe { zbk_gather(text.as_ptr(), text.len(), out.as_mut_ptr(), out.len()) })
 }
@@ -92,6 +100,7 @@ pub fn gather(text: &[u8], out: &mut [u8]) -> Result<usize, Refusal> {
 /// // cut short
 /// assert_eq!(board::text_prefix(b"n=5\nk=2\nd="), 10);
 /// ```
+#[must_use]
 pub fn text_prefix(text: &[u8]) -> usize {
     result(unsafe { zbk_text_prefix(text.as_ptr(), text.len()) }).expect("the archive refuses no text here")
 }

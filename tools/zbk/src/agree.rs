@@ -1,16 +1,15 @@
-//! Whether texts of one file agree. k of them give a file, and show no more than that they fit together. Among k + 1 one that is wrong always shows. Of k + 2
-//! or more the archive's careful read gives the file that all but at most one of them have, and names that one.
+//! Whether texts of one file agree. k of them give a file, and show no more than that they fit together. Among k + 1 one that is wrong always
+//! shows. Of k + 2 or more the archive's careful read gives the file that all but at most one of them have, and names that one.
 
+use crate::pairs::Pairs;
+use crate::part::{parts, Texts};
 use crate::progress::Progress;
-use crate::texts::{Read, Text};
+use crate::texts::{names_of, Read};
 use crate::trouble::{boards, count, refused, unforeseen, Outcome};
-use zebrankai::{board, Record, Refusal, Sizes};
+use zebrankai::{Refusal, Sizes};
 
-/// Texts that are alike, of different boards, k or more.
-type Texts<'a> = [(&'a Text, &'a Read)];
-
-/// What texts show.
-enum Shown {
+/// What texts show: k or more, alike, of different boards.
+pub enum Shown {
     /// all have shares of this file
     Agree(Vec<u8>),
     /// all but the one at this place have; only k + 2 texts or more show it
@@ -18,60 +17,34 @@ enum Shown {
     Disagree,
 }
 
-/// The file of k texts, by the archive.
-fn gather(texts: &Texts) -> Result<Vec<u8>, Refusal> {
-    let joined: Vec<u8> = texts.iter().flat_map(|(text, _)| text.bytes.iter().copied()).collect();
-    let mut file = vec![0; texts[0].1.length];
-    let length = board::gather(&joined, &mut file)?;
-    file.truncate(length);
-    Ok(file)
-}
+/// So many stripes are looked at in one call, so that how far it is can be told.
+const BLOCK: usize = 128;
 
-/// The file of k + 2 texts, by the archive's careful read of a store in which their boards are in service and hold their shares; and the odd board.
-fn careful(texts: &Texts) -> Result<(Vec<u8>, Option<usize>), Refusal> {
-    let Read { sizes, points, length, .. } = *texts[0].1;
-    let share_len = sizes.stripes(length) * sizes.share_len();
-    // a store has room for a stripe at least, also for a file of no bytes
-    let capacity = sizes.stripes(length).max(1);
-    let mut area = vec![0; sizes.area_len(capacity)];
-    let mut words = Record::set_up(sizes, points, capacity)?.words();
-    // a file of this length was written, and of its boards those are in service that have a text
-    (words[5], words[6]) = (1, length as u64);
-    for (_, read) in texts {
-        words[7] |= 1 << read.node;
-        area[read.node * capacity * sizes.share_len()..][..share_len].copy_from_slice(&read.share);
-    }
-    let named: Vec<usize> = texts.iter().map(|(_, read)| read.node).collect();
-    let mut file = vec![0; length];
-    let odd = Record::from_words(words).read_careful(&area, &named, &mut file)?;
-    Ok((file, odd))
-}
-
-/// Whether a text has its board's share of a file.
-fn holds(read: &Read, file: &[u8]) -> Result<bool, Refusal> {
-    let mut share = vec![0; read.share.len()];
-    board::share(read.sizes, read.points, read.node, file, &mut share)?;
-    Ok(share == read.share)
-}
-
-/// What texts show. `step` is called for each text. Of more than k + 2 the first so many say the file: where all but one of all texts have shares of a
-/// file, all but one of these have.
-fn shown(texts: &Texts, step: impl Fn()) -> Result<Shown, Refusal> {
-    let k = texts[0].1.sizes.k;
+/// What texts show. `step` is called with the stripes that were looked at. Of more than k + 2 the first so many say the file: where all but one
+/// of all texts have shares of a file, all but one of these have. Whole shares count: a text that is wrong in one part is the odd one in all.
+fn shown(texts: &Texts, step: impl Fn(usize)) -> Result<Shown, Refusal> {
+    let Read { sizes, length, .. } = *texts[0].1;
+    let k = sizes.k;
     let first = if texts.len() < k + 2 { k } else { k + 2 };
-    let given = if first == k { gather(&texts[..k]).map(|file| (file, None)) } else { careful(&texts[..first]) };
-    let (file, odd) = match given {
-        Err(Refusal::Disagree) => return Ok(Shown::Disagree),
-        given => given?,
-    };
-    let mut wrong: Vec<usize> = (0..first).filter(|&place| Some(texts[place].1.node) == odd).collect();
-    (0..first).for_each(|_| step());
-    for (place, (_, read)) in texts.iter().enumerate().skip(first) {
-        if !holds(read, &file)? {
-            wrong.push(place);
+    let (mut file, mut wrong) = (Vec::new(), Vec::new());
+    for part in parts(sizes, length, BLOCK) {
+        let given =
+            if first == k { part.file(&texts[..k]).map(|file| (file, None)) } else { part.careful(&texts[..first]) };
+        let (bytes, odd) = match given {
+            Err(Refusal::Disagree) => return Ok(Shown::Disagree),
+            given => given?,
+        };
+        wrong.extend((0..first).filter(|&place| Some(texts[place].1.node) == odd));
+        for (place, (_, read)) in texts.iter().enumerate().skip(first) {
+            if !part.holds(read, &bytes)? {
+                wrong.push(place);
+            }
         }
-        step();
+        file.extend(bytes);
+        step(part.count);
     }
+    wrong.sort_unstable();
+    wrong.dedup();
     Ok(match wrong[..] {
         [] => Shown::Agree(file),
         [place] if first == k + 2 => Shown::Odd(file, place),
@@ -86,16 +59,44 @@ fn suspects<'a>(texts: &Texts<'a>, quiet: bool) -> Result<Vec<&'a str>, Refusal>
     for leave in 0..texts.len() {
         let rest: Vec<_> =
             texts.iter().enumerate().filter(|(place, _)| *place != leave).map(|(_, text)| *text).collect();
-        if let Shown::Agree(_) = shown(&rest, || ())? {
+        if let Shown::Agree(_) = shown(&rest, |_| ())? {
             found.push(texts[leave].0.name.as_str());
         }
-        progress.step();
+        progress.step(1);
     }
     Ok(found)
 }
 
-/// Texts that disagree, and no single one of k + 2 or more is at fault: the refusal that says which do, as far as it can be told; `advice` is what to do
-/// with one at fault.
+/// The one text that does not fit the others: what is known of it. That it alone is wrong is not.
+fn odd_words(name: &str, others: usize, fit: &str) -> String {
+    format!(
+        "{name} does not fit the other {}, which {fit}: if one text alone is wrong, it is this one",
+        count(others, "text")
+    )
+}
+
+/// The groups into which texts fall two by two, in words; or where to find more.
+fn groups_words(texts: &Texts, quiet: bool) -> Result<String, Refusal> {
+    let Some(groups) = Pairs::told(texts, quiet)?.groups().filter(|groups| groups.len() > 1) else {
+        return Ok("; 'zbk check' says which do not fit, and in which stripes".to_string());
+    };
+    if groups.len() == texts.len() {
+        return Ok("; no two of them fit each other".to_string());
+    }
+    let mut said = "; two by two they fall into groups, as texts of several files do".to_string();
+    for group in groups {
+        let group: Vec<_> = group.into_iter().map(|place| texts[place]).collect();
+        said.push_str(&format!(
+            "\n  {}: {}",
+            if group.len() > 1 { "fit each other" } else { "fits none" },
+            names_of(&group)
+        ));
+    }
+    Ok(said)
+}
+
+/// Texts that disagree, and no single one of k + 2 or more is at fault: the refusal that says which do, as far as it can be told; `advice` is
+/// what to do with one at fault.
 fn disagree<T>(texts: &Texts, advice: &str, quiet: bool) -> Outcome<T> {
     let Sizes { n, k, .. } = texts[0].1.sizes;
     let named = boards(&texts.iter().map(|(_, read)| read.node).collect::<Vec<_>>());
@@ -105,35 +106,39 @@ fn disagree<T>(texts: &Texts, advice: &str, quiet: bool) -> Outcome<T> {
         let more = format!("at least one of them is not as it was written{told}\n  {}", names.join("\n  "));
         return refused(Refusal::Disagree, format!("no file has the shares of {named}: {more}"));
     }
+    let none = || -> Outcome<String> {
+        let groups = groups_words(texts, quiet).map_err(unforeseen)?;
+        Ok(format!("the texts of {named} do not agree, whichever one of them is left out{groups}"))
+    };
     if texts.len() > k + 1 {
-        let what = format!("the texts of {named} do not agree, whichever one of them is left out");
-        return refused(Refusal::Disagree, what);
+        return refused(Refusal::Disagree, none()?);
     }
     let told = if k + 2 <= n { "; with a text more it can be told which" } else { "" };
     let what = match &suspects(texts, quiet).map_err(unforeseen)?[..] {
-        [] => format!("the texts of {named} do not agree, whichever one of them is left out"),
-        [name] => format!("{name} disagrees with all others, which agree: {advice}"),
+        [] => none()?,
+        // k texts show no more than that they fit together
+        [name] => format!("{}; {advice}", odd_words(name, k, "fit together")),
         names => {
-            let left_out = format!("they agree if one of these is left out{told}\n  {}", names.join("\n  "));
-            format!("one of the texts of {named} is wrong: {left_out}")
+            let left_out = format!("if one alone is wrong, it is one of these{told}\n  {}", names.join("\n  "));
+            format!("no file has the shares of {named}: {left_out}")
         }
     };
     refused(Refusal::Disagree, what)
 }
 
 /// What texts show, with a word on how far it is.
-fn looked_at(texts: &Texts, quiet: bool) -> Outcome<Shown> {
-    let progress = Progress::new("texts gathered", texts.len(), quiet);
-    shown(texts, || progress.step()).map_err(unforeseen)
+pub fn looked_at(texts: &Texts, what: &'static str, quiet: bool) -> Result<Shown, Refusal> {
+    let progress = Progress::new(what, texts[0].1.sizes.stripes(texts[0].1.length), quiet);
+    shown(texts, |stripes| progress.step(stripes))
 }
 
 /// Sees that all texts agree; else the refusal says which do not, as far as it can be told. `advice` is what to do with one at fault.
 pub fn all(texts: &Texts, advice: &str, quiet: bool) -> Outcome {
-    match looked_at(texts, quiet)? {
+    match looked_at(texts, "stripes checked", quiet).map_err(unforeseen)? {
         Shown::Agree(_) => Ok(()),
         Shown::Odd(_, place) => {
-            let what = format!("{} disagrees with all others, which agree: {advice}", texts[place].0.name);
-            refused(Refusal::Disagree, what)
+            let odd = odd_words(&texts[place].0.name, texts.len() - 1, "agree");
+            refused(Refusal::Disagree, format!("{odd}; {advice}"))
         }
         Shown::Disagree => disagree(texts, advice, quiet),
     }
@@ -148,26 +153,71 @@ pub struct Gathered {
     pub odd: bool,
 }
 
+/// What so many texts that agree show.
+pub fn agree_words(texts: usize, Sizes { n, k, .. }: Sizes) -> String {
+    let all = count(texts, "text");
+    if texts > k {
+        return format!("{all} agree; one that is wrong would show");
+    }
+    let more = if k + 2 <= n { ": one more would show whether one of them is wrong, two more which" } else { "" };
+    format!("{all} fit together, and none is left to check them{more}")
+}
+
 /// The file that all texts agree on, or all but one of k + 2 or more; else the refusal that says which do not.
 pub fn gathered(texts: &Texts, quiet: bool) -> Outcome<Gathered> {
-    let Sizes { n, k, .. } = texts[0].1.sizes;
-    match looked_at(texts, quiet)? {
+    let from = |length: usize, leave: Option<usize>| {
+        let used = texts.iter().enumerate().filter(|(place, _)| Some(*place) != leave).map(|(_, (_, read))| read.node);
+        let mut used: Vec<usize> = used.collect();
+        used.sort_unstable();
+        format!("{} from {}", count(length, "byte"), boards(&used))
+    };
+    match looked_at(texts, "stripes gathered", quiet).map_err(unforeseen)? {
         Shown::Agree(file) => {
-            let shown = match texts.len() {
-                all if all == k && k + 2 <= n => {
-                    let more = "one more would show whether one of them is wrong, two more which";
-                    format!("from {}, and none is left to check them: {more}", count(all, "text"))
-                }
-                all if all == k => format!("from {}, and none is left to check them", count(all, "text")),
-                all => format!("{} agree; one that is wrong would show", count(all, "text")),
-            };
+            let shown = format!("{}; {}", agree_words(texts.len(), texts[0].1.sizes), from(file.len(), None));
             Ok(Gathered { file, shown, odd: false })
         }
         Shown::Odd(file, place) => {
-            let (name, others) = (&texts[place].0.name, count(texts.len() - 1, "text"));
-            let shown = format!("{name} is not as it was written; the other {others} agree, and gave the file");
+            let odd = odd_words(&texts[place].0.name, texts.len() - 1, "agree");
+            let shown = format!("{odd}; {}", from(file.len(), Some(place)));
             Ok(Gathered { file, shown, odd: true })
         }
         Shown::Disagree => disagree(texts, "leave it out", quiet),
+    }
+}
+
+#[cfg(test)]
+mod tests {
+    use super::{shown, Shown, BLOCK};
+    use crate::texts::{readable, texts_of};
+    use std::cell::Cell;
+    use std::ffi::OsStr;
+    use zebrankai::{board, trial_file, Points, Sizes};
+
+    /// How far it is moves on while a file is gathered, up to all of its stripes; the file is the same in parts and in one.
+    #[test]
+    fn the_progress_moves() {
+        let sizes = Sizes { n: 5, k: 2, d: 3, r: 2 };
+        let (points, length) = (Points::standard(5), 3 * BLOCK * sizes.stripe_len() - 5);
+        let mut file = vec![0; length];
+        trial_file(1, &mut file);
+        let mut all = Vec::new();
+        for node in 0..5 {
+            let mut share = vec![0; sizes.whole_share_len(length)];
+            board::share(sizes, points, node, &file, &mut share).unwrap();
+            let mut text = vec![0; sizes.text_room(length)];
+            let written = board::share_text(sizes, points, length, node, &share, &mut text).unwrap();
+            all.extend_from_slice(&text[..written]);
+        }
+        let texts = texts_of(OsStr::new("all"), &all, false);
+        let texts = readable(&texts).unwrap_or_default();
+        for count in 2..=5 {
+            let (steps, stripes) = (Cell::new(0), Cell::new(0));
+            let step = |more| {
+                steps.set(steps.get() + 1);
+                stripes.set(stripes.get() + more);
+            };
+            assert!(matches!(shown(&texts[..count], step), Ok(Shown::Agree(gathered)) if gathered == file));
+            assert_eq!((steps.get(), stripes.get()), (3, sizes.stripes(length)));
+        }
     }
 }

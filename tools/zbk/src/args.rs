@@ -1,7 +1,10 @@
 //! The words of the command line: options with values, options without, and the rest.
 
+use crate::files::shown;
 use crate::help;
 use crate::trouble::{Outcome, Trouble};
+use std::ffi::{OsStr, OsString};
+use std::os::unix::ffi::OsStrExt;
 use zebrankai::{Points, Sizes, MAX_BOARDS};
 
 /// What a command takes: its name, its options with a value and those without. `--help` and `--quiet` are every command's.
@@ -11,16 +14,16 @@ pub struct Takes {
     pub plain: &'static [&'static str],
 }
 
-/// The words of one command.
+/// The words of one command. Names of files may be any bytes.
 pub struct Words {
     pub command: &'static str,
-    values: Vec<(&'static str, String)>,
-    plain: Vec<&'static str>,
-    pub rest: Vec<String>,
+    values: Vec<(&'static str, OsString)>,
+    without: Vec<&'static str>,
+    pub rest: Vec<OsString>,
 }
 
 /// Short names of options.
-const SHORT: [(&str, &str); 9] = [
+pub const SHORT: [(&str, &str); 9] = [
     ("-n", "--boards"),
     ("-k", "--read"),
     ("-d", "--helpers"),
@@ -33,33 +36,34 @@ const SHORT: [(&str, &str); 9] = [
 ];
 
 /// The long name of an option, and the value that is joined to it: --boards=8, -n8.
-fn name_and_value(word: &str) -> (&str, Option<String>) {
-    let long = |name: &str| SHORT.iter().find(|(short, _)| *short == name).map(|(_, long)| *long);
-    match (word.split_once('='), word.split_at_checked(2)) {
-        (Some((name, value)), _) if name.starts_with("--") => (name, Some(value.to_string())),
-        (_, Some((name, value))) if !value.is_empty() && long(name).is_some() => {
-            (long(name).unwrap_or(word), Some(value.to_string()))
-        }
-        _ => (long(word).unwrap_or(word), None),
+fn name_and_value(word: &OsStr) -> (String, Option<OsString>) {
+    let long = |name: &[u8]| SHORT.iter().find(|(short, _)| short.as_bytes() == name).map(|(_, long)| long.to_string());
+    let bytes = word.as_bytes();
+    let joined = |from: usize| Some(OsStr::from_bytes(&bytes[from..]).to_os_string());
+    let equals = bytes.iter().position(|&byte| byte == b'=').filter(|_| bytes.starts_with(b"--"));
+    match (equals, bytes.get(..2).and_then(long)) {
+        (Some(at), _) => (String::from_utf8_lossy(&bytes[..at]).into_owned(), joined(at + 1)),
+        (None, Some(name)) if bytes.len() > 2 => (name, joined(2)),
+        (None, Some(name)) => (name, None),
+        (None, None) => (word.to_string_lossy().into_owned(), None),
     }
 }
 
 impl Words {
     /// Reads the words behind a command's name; none where it was asked for help, which is then printed.
-    pub fn read(takes: &Takes, words: &[String]) -> Outcome<Option<Words>> {
+    pub fn read(takes: &Takes, words: &[OsString]) -> Outcome<Option<Words>> {
         let command = takes.command;
-        let mut read = Words { command, values: Vec::new(), plain: Vec::new(), rest: Vec::new() };
+        let mut read = Words { command, values: Vec::new(), without: Vec::new(), rest: Vec::new() };
         let mut words = words.iter();
         while let Some(word) = words.next() {
             if word == "--" {
                 read.rest.extend(words.by_ref().cloned());
-            } else if !word.starts_with('-') || word == "-" {
+            } else if !is_option(word) {
                 read.rest.push(word.clone());
             } else {
                 let (name, joined) = name_and_value(word);
                 if let Some(&option) = takes.valued.iter().find(|option| **option == name) {
-                    let value =
-                        joined.or_else(|| words.next().filter(|word| !word.starts_with('-') || *word == "-").cloned());
+                    let value = joined.or_else(|| words.next().filter(|word| !is_option(word)).cloned());
                     let value = value.filter(|value| !value.is_empty());
                     let value = value.ok_or_else(|| read.wrong(format!("{option} wants a value")))?;
                     read.values.push((option, value));
@@ -71,9 +75,9 @@ impl Words {
                 } else if let Some(&option) =
                     [&["--quiet"], takes.plain].concat().iter().find(|option| **option == name)
                 {
-                    read.plain.push(option);
+                    read.without.push(option);
                 } else {
-                    return Err(read.wrong(format!("no option {word}")));
+                    return Err(read.wrong(format!("no option {}", shown(word))));
                 }
             }
         }
@@ -86,17 +90,34 @@ impl Words {
     }
 
     pub fn has(&self, option: &str) -> bool {
-        self.plain.contains(&option)
+        self.without.contains(&option)
     }
 
-    /// All values of an option, in the order given.
-    pub fn all(&self, option: &str) -> Vec<&str> {
-        self.values.iter().filter(|(name, _)| *name == option).map(|(_, value)| value.as_str()).collect()
+    /// A word that is no name of a file.
+    pub fn plain<'a>(&self, word: &'a OsStr) -> Outcome<&'a str> {
+        word.to_str().ok_or_else(|| self.wrong(format!("{}: not in UTF-8, and no name of a file", shown(word))))
     }
 
-    /// The value of an option that may be given once.
+    /// Whether an option with a value is given.
+    pub fn given(&self, option: &str) -> bool {
+        self.values.iter().any(|(name, _)| *name == option)
+    }
+
+    /// All values of an option that are no names of files, in the order given.
+    pub fn all(&self, option: &str) -> Outcome<Vec<&str>> {
+        self.values.iter().filter(|(name, _)| *name == option).map(|(_, value)| self.plain(value)).collect()
+    }
+
+    /// The value of an option that may be given once, and is no name of a file.
     pub fn value(&self, option: &str) -> Outcome<Option<&str>> {
-        match self.all(option)[..] {
+        self.name(option)?.map(|value| self.plain(value)).transpose()
+    }
+
+    /// The name of a file that an option has, which may be given once.
+    pub fn name(&self, option: &str) -> Outcome<Option<&OsStr>> {
+        let values: Vec<&OsStr> =
+            self.values.iter().filter(|(name, _)| *name == option).map(|(_, value)| value.as_os_str()).collect();
+        match values[..] {
             [] => Ok(None),
             [value] => Ok(Some(value)),
             _ => Err(self.wrong(format!("{option} is given twice"))),
@@ -148,6 +169,11 @@ impl Words {
             }),
         }
     }
+}
+
+/// Whether a word is an option; - is a pipe.
+fn is_option(word: &OsStr) -> bool {
+    word.as_bytes().starts_with(b"-") && word != "-"
 }
 
 /// The bytes of n pairs, 00 behind them.

@@ -1,9 +1,11 @@
 //! Files read whole, and written whole or not at all: to a temporary name in the same folder, then renamed.
 
+use crate::leftover;
 use crate::trouble::{failed, Outcome, Trouble};
+use std::ffi::OsStr;
 use std::fs::{self, File, OpenOptions};
-use std::io::{self, ErrorKind, Read, Write};
-use std::path::{Path, PathBuf};
+use std::io::{self, ErrorKind, IsTerminal, Read, Write};
+use std::path::PathBuf;
 
 /// Standard input's name.
 pub const PIPE: &str = "-";
@@ -21,13 +23,13 @@ impl From<Unread> for Trouble {
 }
 
 impl Unread {
-    pub fn folder(name: &str, why: impl Into<String>) -> Unread {
-        Unread { what: format!("the folder {name}"), why: why.into() }
+    pub fn folder(name: &OsStr, why: impl Into<String>) -> Unread {
+        Unread { what: format!("the folder {}", shown(name)), why: why.into() }
     }
 }
 
 /// The bytes of a file, or of standard input; not more than `most`, and one that says that there are more.
-pub fn read(name: &str, most: usize) -> Result<Vec<u8>, Unread> {
+pub fn read(name: &OsStr, most: usize) -> Result<Vec<u8>, Unread> {
     let mut bytes = Vec::new();
     let limit = most as u64 + 1;
     let done = if name == PIPE {
@@ -37,17 +39,27 @@ pub fn read(name: &str, most: usize) -> Result<Vec<u8>, Unread> {
     };
     match done {
         Ok(_) => Ok(bytes),
-        Err(error) => Err(Unread { what: shown(name).to_string(), why: words(&error) }),
+        Err(error) => Err(Unread { what: shown(name), why: words(&error) }),
     }
 }
 
-/// A file's name as it is said.
-pub fn shown(name: &str) -> &str {
+/// A file's name as it is said: bytes that are no characters, and characters that a terminal obeys, are escaped, as \xFF and \u{1b}.
+pub fn shown(name: &OsStr) -> String {
     if name == PIPE {
-        "standard input"
-    } else {
-        name
+        return "standard input".to_string();
     }
+    let mut said = String::new();
+    for part in name.as_encoded_bytes().utf8_chunks() {
+        for character in part.valid().chars() {
+            match character {
+                '\\' => said.push_str("\\\\"),
+                _ if character.is_control() => said.extend(character.escape_default()),
+                _ => said.push(character),
+            }
+        }
+        said.extend(part.invalid().iter().map(|byte| format!("\\x{byte:02X}")));
+    }
+    said
 }
 
 /// An error without the machine's number for it.
@@ -66,43 +78,28 @@ pub fn print(bytes: &[u8]) -> Outcome {
     }
 }
 
+/// Whether bytes are no text that a terminal only shows.
+pub fn is_binary(bytes: &[u8]) -> bool {
+    match std::str::from_utf8(bytes) {
+        Ok(text) => text.chars().any(|character| character.is_control() && !matches!(character, '\n' | '\t')),
+        Err(_) => true,
+    }
+}
+
+/// Sees that raw bytes may go to standard output: not to a terminal, which would obey them, unless that is wanted.
+pub fn raw_allowed(force: bool) -> Outcome {
+    if !force && io::stdout().is_terminal() {
+        let instead = "name a file with -o, use a pipe, or give --force";
+        return failed(format!("standard output is a terminal, and these bytes are not plain text: {instead}"));
+    }
+    Ok(())
+}
+
 /// Writes a report of what is done to standard output; where nobody reads it, it is done all the same.
 pub fn report(lines: &str) -> Outcome {
     match print(lines.as_bytes()) {
         Err(Trouble::Told) => Ok(()),
         other => other,
-    }
-}
-
-/// A folder that is made where it is missing. What was made goes again where it stays empty.
-pub struct Folder {
-    made: Vec<PathBuf>,
-}
-
-impl Folder {
-    pub fn make(name: &str) -> Outcome<Folder> {
-        let mut folder = Folder { made: Vec::new() };
-        let path: PathBuf = Path::new(name).components().collect();
-        let missing: Vec<&Path> =
-            path.ancestors().take_while(|path| !path.as_os_str().is_empty() && !path.is_dir()).collect();
-        for path in missing.into_iter().rev() {
-            match fs::create_dir(path) {
-                Ok(()) => folder.made.push(path.to_path_buf()),
-                // it came there meanwhile
-                Err(_) if path.is_dir() => {}
-                Err(error) => return failed(format!("cannot make the folder {name}: {}", words(&error))),
-            }
-        }
-        Ok(folder)
-    }
-}
-
-impl Drop for Folder {
-    fn drop(&mut self) {
-        // one that is not empty stays
-        for path in self.made.iter().rev() {
-            let _ = fs::remove_dir(path);
-        }
     }
 }
 
@@ -117,15 +114,16 @@ pub struct Target {
 
 impl Target {
     /// Sees whether a file may be written: not where one is there, unless that is wanted.
-    pub fn new(name: &str, force: bool) -> Outcome<Target> {
-        let path = fs::canonicalize(name).unwrap_or_else(|_| PathBuf::from(name));
+    pub fn new(asked: &OsStr, force: bool) -> Outcome<Target> {
+        let name = shown(asked);
+        let path = fs::canonicalize(asked).unwrap_or_else(|_| PathBuf::from(asked));
         let found = fs::metadata(&path);
         if let Err(error) = &found {
             if error.kind() != ErrorKind::NotFound {
                 return failed(format!("cannot write {name}: {}", words(error)));
             }
         }
-        if found.is_err() && fs::symlink_metadata(name).is_ok() {
+        if found.is_err() && fs::symlink_metadata(asked).is_ok() {
             return failed(format!("cannot write {name}: it is a link that leads nowhere"));
         }
         let there = found.is_ok();
@@ -136,7 +134,7 @@ impl Target {
         if file && !force {
             return failed(format!("{name} is there already; --force replaces it"));
         }
-        Ok(Target { asked: name.to_string(), path, special: there && !file, there })
+        Ok(Target { asked: name, path, special: there && !file, there })
     }
 
     fn cannot(&self, error: io::Error) -> Trouble {
@@ -145,7 +143,7 @@ impl Target {
 
     /// The temporary name beside it.
     fn beside(&self, again: usize) -> PathBuf {
-        self.path.with_file_name(format!(".zbk-{}-{again}", std::process::id()))
+        self.path.with_file_name(leftover::temporary(again))
     }
 }
 
@@ -157,7 +155,7 @@ struct Written<'a> {
 
 impl<'a> Written<'a> {
     fn new(target: &'a Target, fill: impl FnOnce(&mut File) -> io::Result<()>) -> Outcome<Written<'a>> {
-        // one that is there is of another target, or was left by a tool that was stopped
+        // one that is there is of another target
         let create =
             |beside: PathBuf| OpenOptions::new().write(true).create_new(true).open(&beside).map(|file| (file, beside));
         let mut created = create(target.beside(0));
@@ -201,6 +199,8 @@ impl Drop for Written<'_> {
 
 /// Writes files, each whole or not at all; none is put in its place before all are written.
 pub fn write_all(files: &[(Target, Vec<u8>)]) -> Outcome {
+    let plain = files.iter().filter(|(target, _)| !target.special);
+    leftover::remove(plain.map(|(target, _)| target.path.as_path()));
     let mut written = Vec::new();
     for (target, bytes) in files {
         if target.special {
@@ -217,25 +217,32 @@ pub fn write_parts(target: &Target, fill: impl FnOnce(&mut File) -> io::Result<(
     if target.special {
         return File::create(&target.path).and_then(|mut file| fill(&mut file)).map_err(|error| target.cannot(error));
     }
+    leftover::remove([target.path.as_path()]);
     Written::new(target, fill)?.put()
 }
 
-/// The name of a board's text in a folder.
-pub fn board_file(folder: &str, board: usize) -> String {
-    Path::new(folder).join(format!("board-{board}.txt")).to_string_lossy().into_owned()
-}
+#[cfg(test)]
+mod tests {
+    use super::{is_binary, shown};
+    use std::ffi::OsStr;
+    use std::os::unix::ffi::OsStrExt;
 
-/// The boards whose texts a folder has, by the files' names, in order.
-pub fn boards_in(folder: &str) -> Result<Vec<usize>, Unread> {
-    let cannot = |error: io::Error| Unread::folder(folder, words(&error));
-    let mut boards = Vec::new();
-    for entry in fs::read_dir(folder).map_err(cannot)? {
-        let name = entry.map_err(cannot)?.file_name().to_string_lossy().into_owned();
-        let number = name.strip_prefix("board-").and_then(|rest| rest.strip_suffix(".txt"));
-        // numbers as they are written, without a sign or leading zeros
-        let board = number.and_then(|digits| digits.parse::<usize>().ok().filter(|board| board.to_string() == digits));
-        boards.extend(board);
+    #[test]
+    fn names_as_they_are_said() {
+        let said = |name: &[u8]| shown(OsStr::from_bytes(name));
+        assert_eq!(said(b"-"), "standard input");
+        assert_eq!(said("stock, \u{e9}tag\u{e8}re 2".as_bytes()), "stock, \u{e9}tag\u{e8}re 2");
+        assert_eq!(said(b"b\xffck"), "b\\xFFck");
+        assert_eq!(said(b"a\x1b[2Jb\n\\"), "a\\u{1b}[2Jb\\n\\\\");
     }
-    boards.sort_unstable();
-    Ok(boards)
+
+    #[test]
+    fn bytes_that_a_terminal_obeys() {
+        for text in ["", "plain\n\ttext \u{e9}\n"] {
+            assert!(!is_binary(text.as_bytes()), "{text:?}");
+        }
+        for bytes in [&b"\xff"[..], b"a\x1b[2J", b"\0", b"a\rb", b"\xc2\x9b", b"\x7f"] {
+            assert!(is_binary(bytes), "{bytes:?}");
+        }
+    }
 }

@@ -32,9 +32,9 @@ impl Progress {
         Progress { done, teller }
     }
 
-    /// One more step is done.
-    pub fn step(&self) {
-        self.done.fetch_add(1, Ordering::Relaxed);
+    /// So many more steps are done.
+    pub fn step(&self, more: usize) {
+        self.done.fetch_add(more, Ordering::Relaxed);
     }
 }
 

@@ -2,56 +2,85 @@
 
 use crate::agree;
 use crate::args::{Takes, Words};
-use crate::files::{self, board_file, Target};
+use crate::files::{self, shown, Target};
+use crate::folder::{board_file, Listing};
+use crate::json::{object, Value};
 use crate::progress::Progress;
 use crate::spread;
-use crate::texts::{self, Read, Text, Unreadable};
+use crate::texts::{self, Read, Text};
 use crate::trouble::{boards, count, given, list, refused, say, unforeseen, Outcome, Trouble};
+use std::ffi::{OsStr, OsString};
 use zebrankai::{board, Points, Refusal, Sizes};
 
 pub const REBUILD: Takes =
-    Takes { command: "rebuild", valued: &["--fresh", "--helpers", "--stand-ins"], plain: &["--force"] };
+    Takes { command: "rebuild", valued: &["--fresh", "--helpers", "--stand-ins"], plain: &["--force", "--json"] };
 
-/// The texts of boards that are not fresh, as a folder has them.
+/// The texts of boards that are not fresh, as a folder has them, and the names under which fresh boards' texts are written.
 struct Shelf {
     texts: Vec<Text>,
+    targets: Vec<OsString>,
+    /// what is not used, and why
+    unused: Vec<(String, String)>,
+}
+
+/// Why the texts of a file are not those of a board; none where it is one, and the board's.
+fn unfit(found: &[Text], board: usize) -> Option<String> {
+    match (found, &found[0].read) {
+        ([_, _, ..], _) => Some("more than one text".to_string()),
+        (_, Err(unreadable)) => Some(unreadable.why.clone() + &unreadable.remedy()),
+        (_, Ok(read)) if read.node != board => Some(format!("it is the text of board {}", read.node)),
+        _ => None,
+    }
 }
 
 impl Shelf {
-    /// The texts of a folder but those of fresh boards, which are not looked at. One that is no text, or of another board than its name says, is
-    /// left out; why is told.
-    fn load(folder: &str, fresh: &[usize]) -> Outcome<Shelf> {
-        let mut shelf = Shelf { texts: Vec::new() };
-        for board in files::boards_in(folder)?.into_iter().filter(|board| !fresh.contains(board)) {
-            let name = board_file(folder, board);
-            let mut found = match texts::load_file(&name) {
-                Ok(found) => found,
-                Err(unread) => {
-                    say(format!("{name} is not used: {}", unread.why));
-                    continue;
-                }
-            };
-            let why = match (&found[..], &found[0].read) {
-                ([_, _, ..], _) => Some("more than one text".to_string()),
-                (_, Err(Unreadable { why, .. })) => Some(why.clone()),
-                (_, Ok(read)) if read.node != board => Some(format!("it is the text of board {}", read.node)),
-                _ => None,
-            };
-            match why {
-                Some(why) => say(format!("{name} is not used: {why}")),
-                None => shelf.texts.append(&mut found),
-            }
+    /// The texts of a folder but those of fresh boards, which are not looked at. One that is no text, of another board than its name says, or a
+    /// copy, is left out; why is told.
+    fn load(folder: &OsStr, fresh: &[usize], quiet: bool) -> Outcome<Shelf> {
+        let listing = Listing::of(folder)?;
+        if !quiet {
+            listing.tell_passed(folder);
+        }
+        let mut shelf = Shelf { texts: Vec::new(), targets: Vec::new(), unused: Vec::new() };
+        for &board in fresh {
+            let mut there = listing.texts.iter().filter(|(other, _)| *other == board).map(|(_, name)| name);
+            // a text that is there under another name is the one that is replaced
+            shelf.targets.push(there.next().cloned().unwrap_or_else(|| board_file(folder, board)));
+            let others =
+                there.map(|name| (shown(name), format!("a text of board {board}, which is rebuilt; move it away")));
+            shelf.unused.extend(others);
+        }
+        for (board, name) in listing.texts.iter().filter(|(board, _)| !fresh.contains(board)) {
+            shelf.add(*board, name);
+        }
+        for (name, why) in &shelf.unused {
+            say(format!("{name} is not used: {why}"));
         }
         if shelf.texts.is_empty() {
-            return refused(Refusal::Down, format!("{folder} has no text of a board that is not fresh"));
+            return refused(Refusal::Down, format!("{} has no text of a board that is not fresh", shown(folder)));
         }
         Ok(shelf)
+    }
+
+    /// Adds the text of a board, or why it is not used.
+    fn add(&mut self, board: usize, name: &OsStr) {
+        let mut found = match texts::load_file(name) {
+            Ok(found) => found,
+            Err(unread) => return self.unused.push((shown(name), unread.why)),
+        };
+        let copy =
+            self.texts.iter().find(|text| text.bytes == found[0].bytes).map(|text| format!("a copy of {}", text.name));
+        match unfit(&found, board).or(copy) {
+            Some(why) => self.unused.push((shown(name), why)),
+            None => self.texts.append(&mut found),
+        }
     }
 
     /// All texts, which are of one file as far as they say.
     fn all(&self) -> Outcome<Vec<(&Text, &Read)>> {
         let readable = texts::readable(&self.texts)?;
         texts::alike(&readable)?;
+        texts::different(&readable)?;
         Ok(readable)
     }
 }
@@ -66,7 +95,7 @@ struct Plan {
 /// The lists that an option gives: one for all fresh boards, or one for each.
 fn lists(words: &Words, option: &str, fresh: usize) -> Outcome<Option<Vec<Vec<usize>>>> {
     let given: Vec<Vec<usize>> =
-        words.all(option).into_iter().map(|value| words.list(option, value)).collect::<Outcome<_>>()?;
+        words.all(option)?.into_iter().map(|value| words.list(option, value)).collect::<Outcome<_>>()?;
     match given.len() {
         0 => Ok(None),
         1 => Ok(Some(vec![given[0].clone(); fresh])),
@@ -210,7 +239,7 @@ impl Bus<'_> {
         let mut heard = Vec::new();
         for plan in plans {
             heard.push(self.helpers_send(plan)?);
-            progress.step();
+            progress.step(1);
         }
         let mut texts = Vec::new();
         for (plan, packets) in plans.iter().zip(&heard) {
@@ -224,7 +253,7 @@ impl Bus<'_> {
             let helpers = &plan.helpers;
             board::finished_share(sizes, points, length, plan.board, helpers, packets, &partners, &sent, &mut share)?;
             texts.push(spread::text(sizes, points, length, plan.board, &share)?);
-            progress.step();
+            progress.step(1);
         }
         Ok(texts)
     }
@@ -239,46 +268,75 @@ pub fn rebuild(words: &Words) -> Outcome {
     };
     let fresh = words.value("--fresh")?.ok_or_else(|| words.wrong("--fresh is missing: which boards?"))?;
     let fresh = words.list("--fresh", fresh)?;
-    let shelf = Shelf::load(folder, &fresh)?;
+    let quiet = words.has("--quiet");
+    let shelf = Shelf::load(folder, &fresh, quiet)?;
     let all = shelf.all()?;
     let (sizes, points, length) = all[0].1.of_file();
     let have: Vec<usize> = all.iter().map(|(_, read)| read.node).collect();
     let plans = plans(words, &fresh, sizes, &have)?;
-    let targets: Vec<Target> = fresh
-        .iter()
-        .map(|&board| Target::new(&board_file(folder, board), words.has("--force")))
-        .collect::<Outcome<_>>()?;
+    let targets: Vec<Target> =
+        shelf.targets.iter().map(|name| Target::new(name, words.has("--force"))).collect::<Outcome<_>>()?;
 
     // packets of a text that is not as it was written would spoil what is rebuilt; where d = k those that send may not show it, the others do
-    agree::all(&all, "name it with --fresh, or move it away", words.has("--quiet"))?;
+    agree::all(&all, "name it with --fresh, or move it away", quiet)?;
     let sends =
         |board: usize| plans.iter().any(|plan| plan.helpers.contains(&board) || plan.stand_ins.contains(&board));
     let senders: Vec<(&Text, &Read)> = all.into_iter().filter(|(_, read)| sends(read.node)).collect();
     let reads = senders.iter().map(|(_, read)| *read).collect();
     let mut bus = Bus { sizes, points, length, senders: reads, carried: 0 };
-    let progress = Progress::new("steps of the rebuilding", 2 * plans.len(), words.has("--quiet"));
+    let progress = Progress::new("steps of the rebuilding", 2 * plans.len(), quiet);
     let rebuilt = bus.rebuilt(&plans, &progress).map_err(unforeseen)?;
     let (stripes, t, each) = (sizes.stripes(length), plans.len(), sizes.share_len());
     if bus.carried != stripes * t * each {
         return Err(Trouble::Failed(format!("{} bytes were carried, and {} are due", bus.carried, stripes * t * each)));
     }
     files::write_all(&targets.into_iter().zip(rebuilt).collect::<Vec<_>>())?;
-    if words.has("--quiet") {
-        return Ok(());
+    if words.has("--json") {
+        files::report(&json(&plans, &shelf, bus.carried, stripes).line())
+    } else if quiet {
+        Ok(())
+    } else {
+        files::report(&report(&plans, bus.carried, stripes, each))
     }
+}
+
+/// The other fresh boards, with which one exchanges packets.
+fn exchanges(plans: &[Plan], plan: &Plan) -> Vec<usize> {
+    plans.iter().map(|other| other.board).filter(|&board| board != plan.board).collect()
+}
+
+/// Who sent what, in words.
+fn report(plans: &[Plan], carried: usize, stripes: usize, each: usize) -> String {
     let mut said = String::new();
-    for plan in &plans {
+    for plan in plans {
         said.push_str(&format!("board {} rebuilt: helpers {}", plan.board, list(&plan.helpers)));
-        let others: Vec<usize> = fresh.iter().copied().filter(|&board| board != plan.board).collect();
-        for (what, from) in [("stand-ins", &plan.stand_ins), ("exchanges with", &others)] {
+        for (what, from) in [("stand-ins", &plan.stand_ins), ("exchanges with", &exchanges(plans, plan))] {
             if !from.is_empty() {
                 said.push_str(&format!("; {what} {}", list(from)));
             }
         }
         said.push('\n');
     }
-    let carried = bus.carried;
-    let (stripes, t) = (count(stripes, "stripe"), count(t, "board"));
+    let (stripes, t) = (count(stripes, "stripe"), count(plans.len(), "board"));
     said.push_str(&format!("{carried} bytes over the bus: {stripes} x {t} x {each} bytes\n"));
-    files::report(&said)
+    said
+}
+
+fn json(plans: &[Plan], shelf: &Shelf, carried: usize, stripes: usize) -> Value {
+    let plan = |(plan, name): (&Plan, &OsString)| {
+        object([
+            ("board", plan.board.into()),
+            ("text", (&shown(name)).into()),
+            ("helpers", (&plan.helpers).into()),
+            ("stand_ins", (&plan.stand_ins).into()),
+            ("exchanges", (&exchanges(plans, plan)).into()),
+        ])
+    };
+    let unused = |(name, why): &(String, String)| object([("text", name.into()), ("why", why.into())]);
+    object([
+        ("rebuilt", Value::List(plans.iter().zip(&shelf.targets).map(plan).collect())),
+        ("stripes", stripes.into()),
+        ("bytes_over_bus", carried.into()),
+        ("unused", Value::List(shelf.unused.iter().map(unused).collect())),
+    ])
 }

@@ -1,9 +1,11 @@
-//! `zbk spread`: a file's shares as texts, one for each board. `zbk share`: one of them. `zbk sizes` and `zbk print`: what the printers write.
+//! `zbk spread`: a file's shares as texts, one for each board. `zbk share`: one of them. `zbk print`: what the printers write.
 
 use crate::args::{pairs_of, Takes, Words};
-use crate::files::{self, board_file, Folder, Target, PIPE};
+use crate::files::{self, shown, Target, PIPE};
+use crate::folder::{board_file, Folder, Listing};
 use crate::progress::Progress;
 use crate::trouble::{boards, given, refused, say, unforeseen, Outcome, Trouble};
+use std::ffi::OsStr;
 use std::fs;
 use zebrankai::{board, Points, Refusal, Sizes, MAX_BOARDS, MAX_STRIPES};
 
@@ -14,7 +16,6 @@ pub const SHARE: Takes = Takes {
     valued: &["--boards", "--read", "--helpers", "--fresh", "--points", "--board", "--output"],
     plain: &["--force"],
 };
-pub const SIZES: Takes = Takes { command: "sizes", valued: &[], plain: &[] };
 pub const PRINT: Takes = Takes { command: "print", valued: &[], plain: &["--points-line"] };
 
 /// A file and the sizes and points to spread it by.
@@ -42,7 +43,7 @@ pub fn broken_rule(sizes: Sizes) -> String {
 
 impl File {
     /// The file that is named, by the options; refused as the calls would refuse it.
-    fn load(words: &Words, name: &str) -> Outcome<File> {
+    fn load(words: &Words, name: &OsStr) -> Outcome<File> {
         let sizes = words.sizes()?;
         if !sizes.is_legal() {
             return refused(Refusal::Size, broken_rule(sizes));
@@ -62,7 +63,7 @@ impl File {
                 Refusal::Long,
                 format!(
                     "{} has {length}; the longest file for these sizes has {longest}, {MAX_STRIPES} stripes of {} bytes",
-                    files::shown(name),
+                    shown(name),
                     sizes.stripe_len()
                 ),
             );
@@ -105,27 +106,44 @@ pub fn spread(words: &Words) -> Outcome {
     let mut texts = Vec::new();
     for board in 0..n {
         texts.push(file.text(board).map_err(unforeseen)?);
-        progress.step();
+        progress.step(1);
     }
     if folder == PIPE {
         return files::print(&texts.concat());
     }
     files::write_all(&targets.into_iter().zip(texts).collect::<Vec<_>>())?;
-    let more: Vec<usize> = files::boards_in(folder)?.into_iter().filter(|&board| board >= n).collect();
-    if !more.is_empty() {
-        say(format!("{folder} also has texts of another file: {}", boards(&more)));
-    }
+    others_there(folder, n)?;
     if words.has("--quiet") {
         return Ok(());
     }
-    files::report(&format!("{n} texts in {folder}; any {k} of them give the {} bytes back\n", file.bytes.len()))
+    let (folder, length) = (shown(folder), file.bytes.len());
+    files::report(&format!("{n} texts in {folder}; any {k} of them give the {length} bytes back\n"))
+}
+
+/// Says which texts a folder has beside those that were written: of boards that the file has not, and under other names.
+fn others_there(folder: &OsStr, n: usize) -> Outcome {
+    let texts = Listing::of(folder)?.texts;
+    let more: Vec<usize> = texts.iter().map(|(board, _)| *board).filter(|&board| board >= n).collect();
+    if !more.is_empty() {
+        say(format!("{} also has texts of another file: {}", shown(folder), boards(&more)));
+    }
+    let named = texts.iter().filter(|(board, name)| *board < n && *name != board_file(folder, *board));
+    let named: Vec<String> = named.map(|(_, name)| shown(name)).collect();
+    if !named.is_empty() {
+        say(format!(
+            "{} also has texts under other names, which are not replaced: {}",
+            shown(folder),
+            named.join("; ")
+        ));
+    }
+    Ok(())
 }
 
 pub fn share(words: &Words) -> Outcome {
     let [name] = &words.rest[..] else { return Err(words.wrong("name a file")) };
     let node = words.number("--board")?;
-    let output = words.value("--output")?.unwrap_or(PIPE);
-    let target = if output == PIPE { None } else { Some(Target::new(output, words.has("--force"))?) };
+    let output = words.name("--output")?.filter(|output| *output != PIPE);
+    let target = output.map(|output| Target::new(output, words.has("--force"))).transpose()?;
     let text = File::load(words, name).and_then(|file| match file.text(node) {
         Err(Refusal::Node) => {
             refused(Refusal::Node, format!("board {}, but there are boards 0 to {}", given(node), file.sizes.n - 1))
@@ -147,30 +165,6 @@ pub fn answered(trouble: Trouble) -> Outcome {
     Err(trouble)
 }
 
-pub fn sizes(words: &Words) -> Outcome {
-    let [limit] = &words.rest[..] else { return Err(words.wrong("name the most boards, 2 to 32")) };
-    let most = limit.parse::<usize>().ok().filter(|most| most.to_string() == *limit && (2..=MAX_BOARDS).contains(most));
-    let Some(most) = most else {
-        return answered(Trouble::Refused(Refusal::Size, format!("the most boards are 2 to 32, not {limit}")));
-    };
-    let mut lines = String::new();
-    for n in 2..=most {
-        for k in 1..n {
-            for d in k..n {
-                for r in 1..=n - d {
-                    let sizes = Sizes { n, k, d, r };
-                    lines.push_str(&format!(
-                        "n={n} k={k} d={d} r={r} share={} stripe={}\n",
-                        sizes.share_len(),
-                        sizes.stripe_len()
-                    ));
-                }
-            }
-        }
-    }
-    files::print(lines.as_bytes())
-}
-
 /// The most bytes of a file that the printers take.
 const PRINTED: usize = 16_384;
 
@@ -181,7 +175,7 @@ pub fn print(words: &Words) -> Outcome {
     if !words.rest.is_empty() {
         return Err(words.wrong("it reads standard input, and takes no names"));
     }
-    let input = files::read(PIPE, INPUT)?;
+    let input = files::read(OsStr::new(PIPE), INPUT)?;
     match printed(&input, words.has("--points-line")) {
         Ok(text) => files::print(&text),
         Err(Refusal::Size) => {

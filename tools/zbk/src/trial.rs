@@ -4,6 +4,7 @@ use crate::args::{Takes, Words};
 use crate::files::{self, Target, PIPE};
 use crate::spread::{answered, broken_rule, decimal};
 use crate::trouble::{count, given, refused, unforeseen, Outcome, Trouble};
+use std::ffi::OsStr;
 use std::io::Write;
 use zebrankai::{trial_file, Points, Record, Refusal, Sizes, MAX_STRIPES};
 
@@ -163,15 +164,15 @@ pub fn trial(words: &Words) -> Outcome {
     if words.has("--file") {
         return file(words);
     }
-    if words.has("--force") || words.value("--output")?.is_some() {
+    if words.has("--force") || words.given("--output") {
         return Err(words.wrong("--output and --force are for --file"));
     }
     let [seed] = &words.rest[..] else { return Err(words.wrong("name a seed, or - for the lines of a load")) };
     let load = if seed == PIPE {
-        if NUMBERS.iter().any(|option| !words.all(option).is_empty()) {
+        if NUMBERS.iter().any(|option| words.given(option)) {
             return Err(words.wrong("the lines of standard input say all numbers"));
         }
-        match Load::read(&files::read(PIPE, INPUT)?) {
+        match Load::read(&files::read(OsStr::new(PIPE), INPUT)?) {
             Some(load) => load,
             None => {
                 let what = format!("the input is not just the lines {}, each with a number", NAMES.join(", "));
@@ -179,7 +180,7 @@ pub fn trial(words: &Words) -> Outcome {
             }
         }
     } else {
-        Load::of(words, words.number_of("SEED", seed)?)?
+        Load::of(words, words.number_of("SEED", words.plain(seed)?)?)?
     };
     let mut run = match Run::new(&load) {
         Ok(run) => run,
@@ -198,16 +199,17 @@ pub fn trial(words: &Words) -> Outcome {
 
 /// The trial file of a seed, to standard output or to a file.
 fn file(words: &Words) -> Outcome {
-    if words.has("--lines") || NUMBERS.iter().any(|option| !words.all(option).is_empty()) {
+    if words.has("--lines") || NUMBERS.iter().any(|option| words.given(option)) {
         return Err(words.wrong("--file takes a seed and a length, and no numbers of a load"));
     }
     let [seed, length] = &words.rest[..] else { return Err(words.wrong("--file: name a seed and a length")) };
+    let (seed, length) = (words.plain(seed)?, words.plain(length)?);
     let (seed, length) = (words.number_of("SEED", seed)?, words.number_of("LENGTH", length)?);
-    let output = words.value("--output")?.unwrap_or(PIPE);
     let state = state(seed)?;
-    if output == PIPE {
+    let Some(output) = words.name("--output")?.filter(|output| *output != PIPE) else {
+        files::raw_allowed(words.has("--force") || length == 0)?;
         return draw(state, length, files::print);
-    }
+    };
     let target = Target::new(output, words.has("--force"))?;
     files::write_parts(&target, |file| draw(state, length, |part| file.write_all(part)))
 }

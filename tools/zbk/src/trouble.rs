@@ -86,6 +86,32 @@ pub fn list(numbers: &[usize]) -> String {
     said
 }
 
+/// Rising numbers in words, those one after another taken together: 5, 9 to 12 and 40; of many such runs the first eight.
+pub fn ranges(numbers: &[usize]) -> String {
+    let mut runs: Vec<(usize, usize)> = Vec::new();
+    for &number in numbers {
+        match runs.last_mut() {
+            Some((_, last)) if *last + 1 == number => *last = number,
+            _ => runs.push((number, number)),
+        }
+    }
+    let words = |&(first, last): &(usize, usize)| match last - first {
+        0 => first.to_string(),
+        1 => format!("{first}, {last}"),
+        _ => format!("{first} to {last}"),
+    };
+    let shown: Vec<String> = runs.iter().take(RUNS).map(words).collect();
+    let told: usize = runs.iter().take(RUNS).map(|(first, last)| last + 1 - first).sum();
+    match &shown[..] {
+        _ if told < numbers.len() => format!("{} and {} more", shown.join(", "), numbers.len() - told),
+        [before @ .., last] if !before.is_empty() => format!("{} and {last}", before.join(", ")),
+        _ => shown.concat(),
+    }
+}
+
+/// So many runs of numbers are told.
+const RUNS: usize = 8;
+
 /// Boards in words: board 3, boards 1, 2 and 5, no board.
 pub fn boards(numbers: &[usize]) -> String {
     match numbers {
@@ -98,4 +124,23 @@ pub fn boards(numbers: &[usize]) -> String {
 /// A count with its noun: 1 text, 2 texts.
 pub fn count(number: usize, noun: &str) -> String {
     format!("{number} {noun}{}", if number == 1 { "" } else { "s" })
+}
+
+#[cfg(test)]
+mod tests {
+    use super::ranges;
+
+    #[test]
+    fn numbers_in_words() {
+        for (numbers, due) in [
+            (&[][..], ""),
+            (&[5], "5"),
+            (&[5, 6], "5, 6"),
+            (&[5, 9], "5 and 9"),
+            (&[5, 9, 10, 11, 12, 40], "5, 9 to 12 and 40"),
+            (&[0, 2, 4, 6, 8, 10, 12, 14, 16, 18, 19], "0, 2, 4, 6, 8, 10, 12, 14 and 3 more"),
+        ] {
+            assert_eq!(ranges(numbers), due);
+        }
+    }
 }
