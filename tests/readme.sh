@@ -1,8 +1,8 @@
 #!/bin/sh
 # sh tests/readme.sh PREFIX: the two programs of README.md, cut out of it as they are printed. The C program is built by its own line from what lies below
 # PREFIX, the Rust program with the dependency that README.md names; both print what it says. Also that it has at most 2,500 words, that its links lead to
-# files and to headings that are there, and that its table has the fourteen requests. Where ZBK_ARCHIVE names another archive than the proved one, the
-# Rust program links that.
+# files and to headings that are there, that its table has the fourteen requests, and that the proved programs print what docs/PROGRAMS.md says. Where
+# ZBK_ARCHIVE names another archive than the proved one, the Rust program links that.
 set -eu
 cd "$(dirname "$0")/.."
 top=$PWD
@@ -38,6 +38,17 @@ grep -qF "$top/bindings/rust" "$own/rust/Cargo.toml" || fail "the dependency is 
 (cd "$own/rust" && RUSTFLAGS='-D warnings' CARGO_TARGET_DIR=$own/cargo cargo run --offline --quiet -j1 >"$own/said") || fail "the Rust program does not compile or run"
 diff "$own/due" "$own/said" || fail "the Rust program prints something else"
 echo "ok both programs of README.md print what it says"
+
+# the proved programs print what docs/PROGRAMS.md says, where they are built
+if [ -x target/bin/share_printer ] && [ -x target/bin/points_printer ] && [ -x target/bin/size_printer ] && [ -x target/bin/trial ]; then
+    sed -n 's/^    //p' docs/PROGRAMS.md >"$own/due"
+    grep -c '^\$ ' "$own/due" | grep -qx 4 || fail "docs/PROGRAMS.md has not four calls"
+    sed -n 's/^\$ //p' "$own/due" | while IFS= read -r line; do printf '$ %s\n' "$line" && sh -c "$line"; done >"$own/said"
+    diff "$own/due" "$own/said" || fail "a program prints something else than docs/PROGRAMS.md"
+    echo "ok the programs print what docs/PROGRAMS.md says"
+else
+    echo "skipped: the programs of docs/PROGRAMS.md are not built"
+fi
 
 # no word that was to be filled in
 ! grep -nE '\b(TODO|TBD|XXX|[A-Z]*TIME[A-Z]*|PLACEHOLDER)\b' "$page" || fail "a word that was to be filled in"
