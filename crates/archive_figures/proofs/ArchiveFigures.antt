@@ -18,16 +18,17 @@ use Rattle.mbcr.specs.Read.{through, bColumn, cRow, aColumn, decodedStripe, dec
 use Rattle.mbcr.specs.Afresh.{keptAfresh, shareAfresh}
 use Rattle.store_spec.specs.Record.{sound}
 use Rattle.store_spec.specs.Packets.{helperPackets, standInPackets, exchangePackets, partnerPackets, repairPackets, freshShare}
-use Rattle.store_spec.specs.Lying.{helpersLying, partnersLying, exchangesMade, shareLying, packetsNow}
+use Rattle.beside_spec.specs.Lying.{helpersLying, partnersLying, exchangesMade, shareLying, packetsNow}
 use Rattle.store_spec.specs.Calls.{writeLines, loseLines, listLines, repairLines, readLines}
 use Rattle.store_spec.specs.Careful.{carefulFile, carefulLines}
-use Rattle.store_spec.specs.Running.{Running, soundBeside}
-use Rattle.store_spec.specs.Both.{writeLinesBoth, loseLinesBoth, repairLinesBoth, readLinesBoth, carefulLinesBoth, stepLines}
-use Rattle.store_spec.specs.Both.{setUpBoth, writeBoth, loseBoth, repairBoth, readBoth, carefulBoth, startCall, stepCall, moveLinesBoth, moveBoth}
-use Rattle.store_spec.specs.MarkLaws.{Arrays}
+use Rattle.beside_spec.specs.Running.{Running, soundBeside}
+use Rattle.beside_spec.specs.Both.{writeLinesBoth, loseLinesBoth, repairLinesBoth, readLinesBoth, carefulLinesBoth, stepLines}
+use Rattle.beside_spec.specs.Both.{setUpBoth, writeBoth, loseBoth, repairBoth, readBoth, carefulBoth, startCall, stepCall, moveLinesBoth, moveBoth}
+use Rattle.beside_spec.specs.HandedLaws.{Arrays}
 use Rattle.store_spec.specs.Move.{afresh, afreshArea, movePackets, movedShare, moveLines}
-use Rattle.store_spec.specs.Ledger.{Book, Event, call, powerFails, Step, act, openBook, repairAsked, bookLines, accept, enter, bookNext}
-use Rattle.store_spec.proofs.Tested.{agrees, agree, fairlyEvent, fair-event}
+use Rattle.ledger_spec.specs.Ledger.{Book, Event, call, powerFails, Step, openBook, repairAsked, bookLines, accept, enter, bookNext}
+use Rattle.beside_spec.specs.Acting.{act}
+use Rattle.ledger_spec.proofs.Tested.{agrees, agree, fairlyEvent, fair-event}
 use Rattle.text_spec.specs.Texts.{admitted, somePoints, textAt, readText}
 use Rattle.text_spec.specs.Calls.{readTextLines, readTextCall}
 use Rattle.record_words.specs.Words.{isRecord, recordFrom}

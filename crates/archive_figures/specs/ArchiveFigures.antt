@@ -9,9 +9,10 @@ use mathlib.Core.Option.{some, none}
 use Prim.Native.Nat.{ℕ}
 use lib.ListN.{take, set, replicate}
 use Rattle.sizes.specs.declared.Sizes.{Sizes}
-use Rattle.store_spec.specs.Running.{Running}
-use Rattle.store_spec.specs.Ledger.{Call, write, lose, repair, read, start, step, careful, move, call, powerFails, Step, openBook, bookReplies}
-use Rattle.store_spec.specs.Demand3.{events}
+use Rattle.beside_spec.specs.Running.{Running}
+use Rattle.beside_spec.specs.Acting.{Call, write, lose, repair, read, start, step, careful, move}
+use Rattle.ledger_spec.specs.Ledger.{call, powerFails, Step, openBook, bookReplies}
+use Rattle.ledger_spec.specs.Demand3.{events}
 use Rattle.archive_spec.specs.Archive.{sizesOf}
 use Rattle.archive_spec.specs.Lent.{Lent, zbkSetUp, zbk}
 use Rattle.archive_spec.specs.Texts.{TextLent, zbkReadText}

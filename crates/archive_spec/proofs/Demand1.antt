@@ -21,12 +21,12 @@ use Rattle.board_spec.specs.Calls.{BoardOutcome}
 use Rattle.board_spec.specs.Demand1.{BoardEnds}
 use Rattle.board_spec.proofs.Demand1 as at-board
 use Rattle.store_spec.specs.Record.{Record, newRecord}
-use Rattle.store_spec.specs.Running.{Running, idle, freshOf, packetCount}
+use Rattle.beside_spec.specs.Running.{Running, idle, freshOf, packetCount}
 use Rattle.store_spec.specs.Calls.{accepted, recordLine}
-use Rattle.store_spec.specs.Both.{Outcome, beside, leftOf, stepLast, stepOn, stepDone, setUpBoth}
-use Rattle.store_spec.specs.BothCalls.{storeLines, storeDone}
-use Rattle.store_spec.specs.Ledger.{Call, write, lose, repair, read, edit, start, step, careful, move, act, outputOf, packetsOfCall}
-use Rattle.store_spec.proofs.BothCalls.{both-calls}
+use Rattle.beside_spec.specs.Both.{Outcome, beside, leftOf, stepLast, stepOn, stepDone, setUpBoth}
+use Rattle.beside_spec.specs.BothCalls.{storeLines, storeDone}
+use Rattle.beside_spec.specs.Acting.{Call, write, lose, repair, read, edit, start, step, careful, move, act, outputOf, packetsOfCall}
+use Rattle.beside_spec.proofs.BothCalls.{both-calls}
 use Rattle.text_spec.specs.Texts.{ShareTold, textOf, readText}
 use Rattle.text_spec.specs.Laws.{Writable}
 use Rattle.text_spec.specs.Calls.{ReadOutcome, toldOf, readTextLines, readTextCall}

@@ -28,24 +28,27 @@ use Rattle.mbcr.proofs.PointLaws.{pointed-facts}
 use Rattle.board_spec.specs.Calls.{fileOf}
 use Rattle.store_spec.specs.Record.{Record, newRecord}
 use Rattle.store_spec.specs.Packets.{total, repairPackets}
-use Rattle.store_spec.specs.Running.{Running, idle}
-use Rattle.store_spec.specs.Both.{Outcome, repairLinesBoth, setUpBoth, repairBoth, stepCall}
-use Rattle.store_spec.specs.BothCalls.{storeLines, storeDone}
-use Rattle.store_spec.specs.MarkLaws.{Arrays}
-use Rattle.store_spec.specs.Ledger.{Call, write, lose, repair, read, edit, start, step, careful, move, Event, call, powerFails, Book, State, Step}
-use Rattle.store_spec.specs.Ledger.{Altered, FairEvent, Allowed, packetsAfter, act, lent, next, replies, final, outputOf, packetsOfCall, openBook, bookNext}
-use Rattle.store_spec.specs.Ledger.{told as toldBy}
-use Rattle.store_spec.specs.Demand3.{Intact, Demand3, WholeStep, begun, events}
-use Rattle.store_spec.specs.Premises.{files, IdleGiven, lentAgain, bare}
-use Rattle.store_spec.specs.CarefulLaws.{OfBytes}
-use Rattle.store_spec.proofs.AloneLaws.{alone-laws}
-use Rattle.store_spec.proofs.BothCalls.{by, act-is, done-accepted}
+use Rattle.beside_spec.specs.Running.{Running, idle}
+use Rattle.beside_spec.specs.Both.{Outcome, repairLinesBoth, setUpBoth, repairBoth, stepCall}
+use Rattle.beside_spec.specs.BothCalls.{storeLines, storeDone}
+use Rattle.beside_spec.specs.HandedLaws.{Arrays}
+use Rattle.beside_spec.specs.Acting.{Call, write, lose, repair, read, edit, start, step, careful, move, State}
+use Rattle.ledger_spec.specs.Ledger.{Event, call, powerFails, Book, Step}
+use Rattle.ledger_spec.specs.Ledger.{Altered, FairEvent, Allowed, packetsAfter, lent, next, replies, final, openBook, bookNext}
+use Rattle.beside_spec.specs.Acting.{act, outputOf, packetsOfCall}
+use Rattle.ledger_spec.specs.Ledger.{told as toldBy}
+use Rattle.ledger_spec.specs.Demand3.{Intact, Demand3, WholeStep, begun, events}
+use Rattle.list_spec.specs.Premises.{files, IdleGiven, lentAgain, bare}
+use Rattle.list_spec.specs.WornLaws.{OfBytes}
+use Rattle.beside_spec.proofs.AloneLaws.{alone-laws}
+use Rattle.beside_spec.proofs.BothCalls.{by, act-is, done-accepted}
 use Rattle.store_spec.proofs.Demand1.{demand-1}
-use Rattle.store_spec.proofs.Demand3.{demand-3, set-up-done, set-up-both, both-done, accepted-both}
+use Rattle.ledger_spec.proofs.Demand3.{demand-3}
+use Rattle.beside_spec.proofs.Beside.{set-up-done, set-up-both, both-done, accepted-both}
 use Rattle.store_spec.proofs.Records.{sound-facts}
-use Rattle.store_spec.proofs.Follows.{act-any}
-use Rattle.store_spec.proofs.MarkLaws.{mark-laws}
-use Rattle.store_spec.proofs.Premises.{as-it-was, fair, again-bare, premises}
+use Rattle.list_spec.proofs.Follows.{act-any}
+use Rattle.beside_spec.proofs.HandedLaws.{handed-laws}
+use Rattle.list_spec.proofs.Premises.{as-it-was, fair, again-bare, premises}
 use Rattle.answer_word.specs.Answers.{wordOf}
 use Rattle.answer_word.proofs.Laws.{answer-laws}
 use Rattle.record_words.specs.Words.{isRecord, recordFrom, wordsOf}
@@ -114,9 +117,9 @@ BytePoint e = (board point : ℕ) (helpers partners : List ℕ) → e ≡ call (
 
 pub still-whole : (w : State) (c : Call) → BytePoint (call c) → Whole (w .kept) → Whole (act w c .handed)
 still-whole w c b f = record {
-  marks = mark-laws .full-marks w c (f .marks);
-  points = mark-laws .full-points w c ∙ f .points;
-  points-bytes = mark-laws .byte-points w c (λ board point helpers partners e. b board point helpers partners (ap call e)) (f .points-bytes);
+  marks = handed-laws .full-marks w c (f .marks);
+  points = handed-laws .full-points w c ∙ f .points;
+  points-bytes = handed-laws .byte-points w c (λ board point helpers partners e. b board point helpers partners (ap call e)) (f .points-bytes);
 }
 
 following : (h : Held) (w : State) → Tells h w → (t : Step) (e : Event) → BytePoint e → GivenWords e → Tells (heldNext h (t .area) e) (next (lent w t) e)
@@ -128,7 +131,7 @@ following h w k t (call c) b g =
       area-is = ap (λ (x : Lent). x .area) o;
       packets-are = ap₂ (λ (l : List ℕ) (x : Lent). packetsLeft l c x) (k .packets-are) o ∙ left-same (w .packets) (lent w t) c;
       whole = still-whole (lent w t) c b (k .whole);
-      arrays = mark-laws .arrays-stay (lent w t) c (k .arrays);
+      arrays = handed-laws .arrays-stay (lent w t) c (k .arrays);
     }
 following h w k t (powerFails p) b g = record { words-are = k .words-are; repair-are = refl; area-is = refl; packets-are = refl; whole = k .whole; arrays = g }
 
@@ -262,7 +265,7 @@ module _ (ws ps : List ℕ) (z : Sizes) (xs : List ℕ) (c : ℕ) where
       subst Whole (sym (ap (λ (o : Outcome). o .handed) (set-up-done (newRecord z xs c) idle z xs c ok))) (record { marks = refl; points = f .long; points-bytes = f .bytes })
 
   arrays-made : made .answer .refusal ≡ 0 → Arrays (made .running)
-  arrays-made ok = subst Arrays (sym (ap (λ (o : Outcome). o .running) (set-up-done (newRecord z xs c) idle z xs c ok))) (mark-laws .arrays-idle)
+  arrays-made ok = subst Arrays (sym (ap (λ (o : Outcome). o .running) (set-up-done (newRecord z xs c) idle z xs c ok))) (handed-laws .arrays-idle)
 
 -- ---- a step to the end
 
@@ -275,10 +278,10 @@ module _ (h : Held) (is : isRecord (h .words) ≡ true) (so : isRepair (h .repai
 
   -- 71 words 0 tell no repair
   zeros-are : isRepair (replicate 71 0) ≡ true
-  zeros-are = subst (λ (l : List ℕ). isRepair l ≡ true) (repair-words .idle-words) (repair-words .are-words idle (mark-laws .arrays-idle))
+  zeros-are = subst (λ (l : List ℕ). isRepair l ≡ true) (repair-words .idle-words) (repair-words .are-words idle (handed-laws .arrays-idle))
 
   zeros-tell : repairFrom (replicate 71 0) ≡ idle
-  zeros-tell = ap repairFrom (sym (repair-words .idle-words)) ∙ repair-words .repair-back idle (mark-laws .arrays-idle)
+  zeros-tell = ap repairFrom (sym (repair-words .idle-words)) ∙ repair-words .repair-back idle (handed-laws .arrays-idle)
 
   stepped : (now packets : List ℕ) (allowance : ℕ) → zbk (h .words) (h .repair) now (step allowance packets) ≡ inWords (stepCall s p now packets allowance)
   unfolding act

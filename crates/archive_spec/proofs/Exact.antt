@@ -17,13 +17,13 @@ use Rattle.sizes.specs.declared.Answer.the-variants.{Refused}
 use Rattle.sizes.specs.Refusals.{number, Said, said, Line, _when_, appliesIn, first, storeOrder}
 use Rattle.mbcr.specs.Share.{share}
 use Rattle.store_spec.specs.Record.{Record, sound, held}
-use Rattle.store_spec.specs.Running.{Running, soundBeside}
+use Rattle.beside_spec.specs.Running.{Running, soundBeside}
 use Rattle.store_spec.specs.Calls.{StoreOutcome, settle, refused, recordLine, readLines, readDone, readCall}
 use Rattle.store_spec.specs.Careful.{agreeing, carefulLines, carefulDone, carefulCall}
 use Rattle.store_spec.specs.CarefulLaws.{OddTold}
-use Rattle.store_spec.specs.Both.{Outcome, beside, bothLine, readLinesBoth, readBoth, carefulLinesBoth, carefulBoth}
-use Rattle.store_spec.specs.Ledger.{Call, read, careful, act, outputOf, packetsOfCall}
-use Rattle.store_spec.proofs.AloneLaws.{alone-is, alone-laws}
+use Rattle.beside_spec.specs.Both.{Outcome, beside, bothLine, readLinesBoth, readBoth, carefulLinesBoth, carefulBoth}
+use Rattle.beside_spec.specs.Acting.{Call, read, careful, act, outputOf, packetsOfCall}
+use Rattle.beside_spec.proofs.AloneLaws.{alone-is, alone-laws}
 use Rattle.store_spec.proofs.CarefulLaws.{careful-laws}
 use Rattle.store_spec.proofs.Demand1.{demand-1}
 use Rattle.store_spec.proofs.MarkLaws.{mark-laws}

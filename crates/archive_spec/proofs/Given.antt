@@ -21,8 +21,8 @@ use Rattle.mbcr.proofs.PointLaws.{pointed-facts}
 use Rattle.board_spec.specs.Calls.{BoardOutcome, shareLines, shareCall, fileLines, fileCall, helperLines, helperCall}
 use Rattle.board_spec.specs.Calls.{exchangeLines, exchangeCall, finishedLines, finishedCall, textLines, textCall}
 use Rattle.store_spec.specs.Record.{Record, newRecord, allOff, sound}
-use Rattle.store_spec.specs.Running.{Running}
-use Rattle.store_spec.specs.Both.{setUpBoth}
+use Rattle.beside_spec.specs.Running.{Running}
+use Rattle.beside_spec.specs.Both.{setUpBoth}
 use Rattle.point_array.specs.Steps.{arrayOf}
 
 -- sizes and points that SIZE refuses

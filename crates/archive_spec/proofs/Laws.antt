@@ -23,13 +23,13 @@ use Rattle.board_spec.specs.Calls.{settled, fileOf, shareLines, shareCall, file
 use Rattle.board_spec.specs.Calls.{exchangeLines, exchangeCall, finishedLines, finishedCall, textLines, textCall}
 use Rattle.board_spec.specs.Text.{shareText}
 use Rattle.store_spec.specs.Record.{Record, newRecord}
-use Rattle.store_spec.specs.Running.{Running, idle, namedIn}
-use Rattle.store_spec.specs.Both.{Outcome, setUpBoth}
-use Rattle.store_spec.specs.BothCalls.{storeLines, storeDone}
-use Rattle.store_spec.specs.Ledger.{Call, write, lose, repair, read, edit, start, careful, move, State, act, outputOf, packetsOfCall}
-use Rattle.store_spec.proofs.BothCalls.{by, act-is}
-use Rattle.store_spec.proofs.Follows.{act-any}
-use Rattle.store_spec.proofs.MarkLaws.{mark-laws}
+use Rattle.beside_spec.specs.Running.{Running, idle, namedIn}
+use Rattle.beside_spec.specs.Both.{Outcome, setUpBoth}
+use Rattle.beside_spec.specs.BothCalls.{storeLines, storeDone}
+use Rattle.beside_spec.specs.Acting.{Call, write, lose, repair, read, edit, start, careful, move, State, act, outputOf, packetsOfCall}
+use Rattle.beside_spec.proofs.BothCalls.{by, act-is}
+use Rattle.list_spec.proofs.Follows.{act-any}
+use Rattle.beside_spec.proofs.HandedLaws.{handed-laws}
 use Rattle.text_spec.specs.Texts.{ShareTold, readText, textsOf}
 use Rattle.text_spec.specs.Calls.{blank, toldOf, readSettled, readTextLines, readTextCall, textsTold, gathered, gatherLines, gatherCall}
 use Rattle.answer_word.specs.Answers.{wordOf}
@@ -79,7 +79,7 @@ module _ (ws ps area : List ℕ) where
       by-words (λ o. Keeps o ws ps area (outputOf call) (packetsOfCall call)) call
       (λ is-record is-repair h.
       let o = act state call in
-      ap inWords (mark-laws .refused-keeps state call (λ e. h (o .answer .reported) (omega (arith, e))))
+      ap inWords (handed-laws .refused-keeps state call (λ e. h (o .answer .reported) (omega (arith, e))))
       ∙ back-words ws ps is-record is-repair (wordOf (o .answer)) area (outputOf call) (packetsOfCall call))
       (λ h. refl)
 

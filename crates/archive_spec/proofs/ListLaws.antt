@@ -8,11 +8,12 @@ use Prim.Native.Nat.{ℕ, _%_}
 use lib.Dec.{eqb}
 use borrow.Author.Tests.{eq-eqb, ne-eqb}
 use Rattle.lists.specs.Tests.{pick}
-use Rattle.store_spec.specs.Running.{Running}
-use Rattle.store_spec.specs.MarkLaws.{Arrays}
-use Rattle.store_spec.specs.Ledger.{Call, write, lose, repair, read, edit, start, step, careful, move, Event, call, powerFails, Book, Step, bookNext}
-use Rattle.store_spec.specs.Premises.{Asked}
-use Rattle.store_spec.proofs.Premises.{asked-is, fair-is, premises}
+use Rattle.beside_spec.specs.Running.{Running}
+use Rattle.beside_spec.specs.HandedLaws.{Arrays}
+use Rattle.beside_spec.specs.Acting.{Call, write, lose, repair, read, edit, start, step, careful, move}
+use Rattle.ledger_spec.specs.Ledger.{Event, call, powerFails, Book, Step, bookNext}
+use Rattle.list_spec.specs.Premises.{Asked}
+use Rattle.list_spec.proofs.Premises.{asked-is, fair-is, premises}
 use Rattle.record_words.specs.Words.{recordFrom}
 use Rattle.repair_words.proofs.RepairWords.{repair-words}
 use Rattle.archive_spec.specs.Lent.{Lent, zbk}

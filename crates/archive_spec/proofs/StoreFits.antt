@@ -23,16 +23,16 @@ use Rattle.sizes.proofs.Legal.{legal-facts, α-most, stripes-least}
 use Rattle.sizes.proofs.Orders.{clear-off}
 use Rattle.board_spec.specs.Calls.{fileOf}
 use Rattle.store_spec.specs.Record.{Record, newRecord, sound, stripeCount}
-use Rattle.store_spec.specs.Running.{Running, freshOf, helpersOf, standInsOf, packetCount, soundBeside}
+use Rattle.beside_spec.specs.Running.{Running, freshOf, helpersOf, standInsOf, packetCount, soundBeside}
 use Rattle.store_spec.specs.Packets.{standInsEach, total, repairPackets}
 use Rattle.store_spec.specs.Calls.{recordLine, listLines, repairLines}
-use Rattle.store_spec.specs.Both.{Outcome, repairLinesBoth, carefulLinesBoth, stepLines, leftOf, stepLast, stepOn, setUpBoth, moveLinesBoth}
+use Rattle.beside_spec.specs.Both.{Outcome, repairLinesBoth, carefulLinesBoth, stepLines, leftOf, stepLast, stepOn, setUpBoth, moveLinesBoth}
 use Rattle.store_spec.specs.Careful.{odd, oddReport, carefulFile, carefulLines}
-use Rattle.store_spec.specs.BothCalls.{storeLines, storeDone}
-use Rattle.store_spec.specs.Ledger.{Call, write, lose, repair, read, edit, start, step, careful, move, State, act, outputOf, packetsOfCall}
+use Rattle.beside_spec.specs.BothCalls.{storeLines, storeDone}
+use Rattle.beside_spec.specs.Acting.{Call, write, lose, repair, read, edit, start, step, careful, move, State, act, outputOf, packetsOfCall}
 use Rattle.store_spec.specs.Move.{movePackets, moveLines}
-use Rattle.store_spec.proofs.BothCalls.{by, act-is}
-use Rattle.store_spec.proofs.Beside.{alone, alone-busy, sound-beside}
+use Rattle.beside_spec.proofs.BothCalls.{by, act-is}
+use Rattle.beside_spec.proofs.Beside.{alone, alone-busy, sound-beside}
 use Rattle.store_spec.proofs.Careful.{odd-named}
 use Rattle.store_spec.proofs.Records.{sound-facts, repair-facts, careful-facts, move-facts}
 use Rattle.store_spec.proofs.Real.{code-lengths}

@@ -10,12 +10,13 @@ use Rattle.lists.specs.Lists.{All, over}
 use Rattle.sizes.specs.declared.Sizes.{Sizes}
 use Rattle.board_spec.specs.Calls.{fileOf}
 use Rattle.store_spec.specs.Record.{newRecord}
-use Rattle.store_spec.specs.Running.{idle}
-use Rattle.store_spec.specs.Ledger.{careful, Event, call, powerFails, Book, State, Step, act, final, openBook, bookNext, bookFinal}
-use Rattle.store_spec.specs.Demand3.{begun, events}
-use Rattle.store_spec.specs.CarefulLaws.{AnyBytes, Worn}
-use Rattle.store_spec.proofs.LedgerLaws.{ledger-laws}
-use Rattle.store_spec.proofs.Worn.{worn}
+use Rattle.beside_spec.specs.Running.{idle}
+use Rattle.beside_spec.specs.Acting.{careful, State, act}
+use Rattle.ledger_spec.specs.Ledger.{Event, call, powerFails, Book, Step, final, openBook, bookNext, bookFinal}
+use Rattle.ledger_spec.specs.Demand3.{begun, events}
+use Rattle.list_spec.specs.WornLaws.{AnyBytes, Worn}
+use Rattle.ledger_spec.proofs.LedgerLaws.{ledger-laws}
+use Rattle.list_spec.proofs.Worn.{worn}
 use Rattle.record_words.specs.Words.{isRecord, recordFrom, wordsOf}
 use Rattle.record_words.proofs.Laws.{word-laws}
 use Rattle.repair_words.specs.RepairWords.{isRepair, repairFrom, repairWordsOf}

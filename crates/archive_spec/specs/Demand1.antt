@@ -28,9 +28,9 @@ use Rattle.store_spec.specs.Calls.{accepted, recordLine, writeDone, loseDone, r
 use Rattle.store_spec.specs.Edit.{editDone}
 use Rattle.store_spec.specs.Careful.{agreeing, odd, carefulFile, oddReport, carefulDone}
 use Rattle.store_spec.specs.CarefulLaws.{OddTold}
-use Rattle.store_spec.specs.Running.{idle, runningBy, freshOf, packetCount}
-use Rattle.store_spec.specs.Both.{Outcome, beside, lostBeside, writeLinesBoth, loseLinesBoth, repairLinesBoth, readLinesBoth, editLinesBoth, carefulLinesBoth, stepLines, stepDone, moveLinesBoth}
-use Rattle.store_spec.specs.Ledger.{write, lose, repair, read, edit, start, step, careful, move}
+use Rattle.beside_spec.specs.Running.{idle, runningBy, freshOf, packetCount}
+use Rattle.beside_spec.specs.Both.{Outcome, beside, lostBeside, writeLinesBoth, loseLinesBoth, repairLinesBoth, readLinesBoth, editLinesBoth, carefulLinesBoth, stepLines, stepDone, moveLinesBoth}
+use Rattle.beside_spec.specs.Acting.{write, lose, repair, read, edit, start, step, careful, move}
 use Rattle.store_spec.specs.Move.{movePackets, moveDone}
 use Rattle.text_spec.specs.Texts.{ShareTold, textOf, readText, textsOf}
 use Rattle.text_spec.specs.Laws.{Writable}

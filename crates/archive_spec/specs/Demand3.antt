@@ -18,12 +18,14 @@ use Rattle.mbcr.specs.Share.{pointed}
 use Rattle.board_spec.specs.Calls.{fileOf}
 use Rattle.store_spec.specs.Record.{held}
 use Rattle.store_spec.specs.Packets.{contents, total, repairPackets, freshShare}
-use Rattle.store_spec.specs.Running.{packetsLen}
-use Rattle.store_spec.specs.MarkLaws.{Arrays}
-use Rattle.store_spec.specs.Ledger.{Call, write, lose, repair, read, edit, start, step, careful, move, Event, call, powerFails, Reply, Book, Repairing, State, Step}
-use Rattle.store_spec.specs.Ledger.{Altered, Unaltered, FairEvent, openBook, bookLength, bookNext, bookReplies, bookFinal}
-use Rattle.store_spec.specs.Demand3.{Intact, Repaired, events}
-use Rattle.store_spec.specs.Premises.{files, IdleGiven, lentAgain, bare}
+use Rattle.beside_spec.specs.Running.{packetsLen}
+use Rattle.beside_spec.specs.HandedLaws.{Arrays}
+use Rattle.beside_spec.specs.Acting.{Call, write, lose, repair, read, edit, start, step, careful, move, State}
+use Rattle.ledger_spec.specs.Ledger.{Event, call, powerFails, Reply, Book, Repairing, Step}
+use Rattle.ledger_spec.specs.Ledger.{Altered, Unaltered, FairEvent, openBook, bookLength, bookNext, bookReplies, bookFinal}
+use Rattle.ledger_spec.specs.Demand3.{Intact, events}
+use Rattle.store_spec.specs.RepairLaws.{Repaired}
+use Rattle.list_spec.specs.Premises.{files, IdleGiven, lentAgain, bare}
 use Rattle.answer_word.specs.Answers.{wordOf}
 use Rattle.record_words.specs.Words.{isRecord, recordFrom}
 use Rattle.repair_words.specs.RepairWords.{isRepair, repairFrom, repairWordsOf}

@@ -12,9 +12,9 @@ use Rattle.sizes.specs.declared.Refusal.the-variants.{Size}
 use Rattle.sizes.specs.declared.Answer.the-variants.{Refused}
 use Rattle.sizes.specs.Refusals.{said}
 use Rattle.store_spec.specs.Record.{Record, newRecord}
-use Rattle.store_spec.specs.Running.{Running, idle}
-use Rattle.store_spec.specs.Both.{Outcome, setUpBoth}
-use Rattle.store_spec.specs.Ledger.{Call, act, outputOf, packetsOfCall}
+use Rattle.beside_spec.specs.Running.{Running, idle}
+use Rattle.beside_spec.specs.Both.{Outcome, setUpBoth}
+use Rattle.beside_spec.specs.Acting.{Call, act, outputOf, packetsOfCall}
 use Rattle.answer_word.specs.Answers.{wordOf}
 use Rattle.record_words.specs.Words.{isRecord, recordFrom, wordsOf}
 use Rattle.repair_words.specs.RepairWords.{isRepair, repairFrom, repairWordsOf}

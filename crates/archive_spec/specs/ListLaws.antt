@@ -9,11 +9,12 @@ use Prim.Native.Nat.{ℕ, _+_, _*_, _%_, _<_}
 use lib.ListN.{length, getD}
 use Rattle.lists.specs.Lists.{All}
 use Rattle.sizes.specs.declared.Sizes.{Sizes}
-use Rattle.store_spec.specs.Running.{Running}
-use Rattle.store_spec.specs.MarkLaws.{Arrays}
-use Rattle.store_spec.specs.Ledger.{Call, step, move, call, powerFails, Reply, Book, Step, FairEvent, replies, final, openBook, bookNext, bookFinal}
-use Rattle.store_spec.specs.Demand3.{events}
-use Rattle.store_spec.specs.Premises.{Asked}
+use Rattle.beside_spec.specs.Running.{Running}
+use Rattle.beside_spec.specs.HandedLaws.{Arrays}
+use Rattle.beside_spec.specs.Acting.{Call, step, move}
+use Rattle.ledger_spec.specs.Ledger.{call, powerFails, Reply, Book, Step, FairEvent, replies, final, openBook, bookNext, bookFinal}
+use Rattle.ledger_spec.specs.Demand3.{events}
+use Rattle.list_spec.specs.Premises.{Asked}
 use Rattle.record_words.specs.Words.{isRecord, recordFrom}
 use Rattle.repair_words.specs.RepairWords.{isRepair, repairFrom, repairWordsOf}
 use Rattle.archive_spec.specs.Lent.{Lent, zbkSetUp, zbk}

@@ -9,7 +9,7 @@ use lib.ListN.{set}
 use Rattle.store_spec.specs.Record.{stripeCount}
 use Rattle.store_spec.specs.Move.{moveCall}
 use Rattle.store_spec.specs.MoveLaws.{Moved}
-use Rattle.store_spec.specs.Ledger.{move}
+use Rattle.beside_spec.specs.Acting.{move}
 use Rattle.record_words.specs.Words.{isRecord, recordFrom}
 use Rattle.repair_words.specs.RepairWords.{isRepair, repairFrom}
 use Rattle.archive_spec.specs.Lent.{zbk}

@@ -10,9 +10,11 @@ use Rattle.lists.specs.Tests.{every, among, different}
 use Rattle.lists.specs.Lists.{All, Bytes, over}
 use Rattle.sizes.specs.declared.Sizes.{Sizes}
 use Rattle.board_spec.specs.Calls.{fileOf}
-use Rattle.store_spec.specs.Ledger.{careful, Step, bookLength}
-use Rattle.store_spec.specs.Demand3.{events}
-use Rattle.store_spec.specs.CarefulLaws.{OddTold, AnyBytes, Worn}
+use Rattle.beside_spec.specs.Acting.{careful}
+use Rattle.ledger_spec.specs.Ledger.{Step, bookLength}
+use Rattle.ledger_spec.specs.Demand3.{events}
+use Rattle.store_spec.specs.CarefulLaws.{OddTold}
+use Rattle.list_spec.specs.WornLaws.{AnyBytes, Worn}
 use Rattle.record_words.specs.Words.{isRecord, recordFrom}
 use Rattle.repair_words.specs.RepairWords.{isRepair}
 use Rattle.archive_spec.specs.Lent.{zbkSetUp, zbk}

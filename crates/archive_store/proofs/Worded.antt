@@ -18,11 +18,11 @@ use Rattle.sizes.specs.declared.Answer.the-variants.{Refused}
 use Rattle.sizes.specs.Refusals.{said, first, storeOrder}
 use Rattle.sizes.proofs.Laws.{number-low}
 use Rattle.store_spec.specs.Record.{Record, newRecord}
-use Rattle.store_spec.specs.Running.{idle}
-use Rattle.store_spec.specs.Running as beside-record
+use Rattle.beside_spec.specs.Running.{idle}
+use Rattle.beside_spec.specs.Running as beside-record
 use Rattle.store_spec.specs.Calls.{settle, accepted, recordLine}
-use Rattle.store_spec.specs.Both.{Outcome, beside, setUpBoth}
-use Rattle.store_spec.specs.Ledger.{Call, State, act}
+use Rattle.beside_spec.specs.Both.{Outcome, beside, setUpBoth}
+use Rattle.beside_spec.specs.Acting.{Call, State, act}
 use Rattle.record.specs.declared.Running.{Running}
 use Rattle.record.specs.Records.{runningIn}
 use Rattle.store.specs.declared.Store.{Store}

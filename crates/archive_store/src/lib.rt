@@ -5,7 +5,7 @@ ghost use mathlib.Core.List.{List, []};
 ghost use Prim.Native.Nat.{ℕ, _<_};
 ghost use lib.ListN.{length};
 ghost use Rattle.sizes.specs.Refusals.{said};
-ghost use Rattle.store_spec.specs.Ledger.{write, lose, repair, read, careful, edit, move, start, step};
+ghost use Rattle.beside_spec.specs.Acting.{write, lose, repair, read, careful, edit, move, start, step};
 ghost use Rattle.record.specs.Records.{runningIn};
 ghost use Rattle.store.specs.Handing.{recordIn};
 ghost use Rattle.answer_word.specs.Answers.{wordOf};

@@ -12,8 +12,8 @@ use Rattle.sizes.specs.Refusals.{Line, _when_}
 use Rattle.board_spec.specs.Calls.{nodeLine, shortLine}
 use Rattle.store_spec.specs.Record.{Record}
 use Rattle.store_spec.specs.Calls.{lentLine, emptyLine, downLine}
-use Rattle.store_spec.specs.Running.{Running}
-use Rattle.store_spec.specs.Both.{bothLine}
+use Rattle.beside_spec.specs.Running.{Running}
+use Rattle.beside_spec.specs.Both.{bothLine}
 
 -- of the boards: k + 2 of at least so many, known, different and in service
 abbrev pub carefulBoardLines : Sizes → List Bool → List ℕ → List Line

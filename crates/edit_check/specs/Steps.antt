@@ -11,8 +11,8 @@ use Rattle.sizes.specs.Refusals.{Line, _when_}
 use Rattle.board_spec.specs.Calls.{nodeLine}
 use Rattle.store_spec.specs.Record.{Record}
 use Rattle.store_spec.specs.Calls.{lentLine, emptyLine, downLine}
-use Rattle.store_spec.specs.Running.{Running}
-use Rattle.store_spec.specs.Both.{bothLine, busyLine}
+use Rattle.beside_spec.specs.Running.{Running}
+use Rattle.beside_spec.specs.Both.{bothLine, busyLine}
 
 abbrev pub askedLines : Record → Running → ℕ → ℕ → ℕ → List ℕ → List Line
 askedLines s p m offset count boards =

@@ -3,7 +3,7 @@
 use mathlib.Core.Path.{_≡_, refl}
 use mathlib.Core.List.{[], _∷_}
 use mathlib.Core.Option.{some, none}
-use Rattle.store_spec.specs.Demand3.{events}
+use Rattle.ledger_spec.specs.Demand3.{events}
 use Rattle.store_spec.specs.FurtherFigures.{five, fiveFile}
 use Rattle.lists.specs.Lists.{piece, put}
 use Rattle.gf256.specs.Field.{add, product, reduce, mul, squares, inverse}
@@ -14,10 +14,11 @@ use Rattle.mbcr.specs.Read.{through, bColumn, cRow, aColumn, decodedStripe, dec
 use Rattle.store_spec.specs.Record.{sound}
 use Rattle.store_spec.specs.Packets.{helperPackets, standInPackets, exchangePackets, partnerPackets, repairPackets, freshShare}
 use Rattle.store_spec.specs.Calls.{writeLines, loseLines, listLines, repairLines, readLines, setUpCall, writeCall, loseCall, repairCall, readCall}
-use Rattle.store_spec.specs.Running.{soundBeside}
-use Rattle.store_spec.specs.Both.{writeLinesBoth, loseLinesBoth, repairLinesBoth, readLinesBoth, setUpBoth, writeBoth, loseBoth, repairBoth, readBoth}
-use Rattle.store_spec.specs.Ledger.{Allowed, replies, bookReplies, bookFinal, repairAsked, bookLines, accept, enter, act}
-use Rattle.store_spec.proofs.Tested.{allow}
+use Rattle.beside_spec.specs.Running.{soundBeside}
+use Rattle.beside_spec.specs.Both.{writeLinesBoth, loseLinesBoth, repairLinesBoth, readLinesBoth, setUpBoth, writeBoth, loseBoth, repairBoth, readBoth}
+use Rattle.ledger_spec.specs.Ledger.{Allowed, replies, bookReplies, bookFinal, repairAsked, bookLines, accept, enter}
+use Rattle.beside_spec.specs.Acting.{act}
+use Rattle.ledger_spec.proofs.Tested.{allow}
 use Rattle.ledger_figures.specs.LedgerFigures.{start, opened, steps, told, LedgerFigures}
 use Rattle.ledger_figures.specs.RepairFigures.{RepairFigures}
 

@@ -1,8 +1,8 @@
 -- Figures of careful reads and moves beside a stepped repair: antt computes them.
 -- Assumes nothing.
 use mathlib.Core.Path.{_≡_, refl}
-use Rattle.store_spec.specs.Demand3.{events}
-use Rattle.store_spec.specs.Premises.{unaltered}
+use Rattle.ledger_spec.specs.Demand3.{events}
+use Rattle.list_spec.specs.Premises.{unaltered}
 use Rattle.lists.specs.Lists.{piece, put}
 use Rattle.gf256.specs.Field.{add, product, reduce, mul, squares, inverse}
 use Rattle.sizes.specs.Sizing.{legal, B, stripes}
@@ -16,11 +16,12 @@ use Rattle.store_spec.specs.Edit.{editLines}
 use Rattle.store_spec.specs.Careful.{carefulFile, carefulLines}
 use Rattle.store_spec.specs.Move.{afresh, afreshArea, movePackets, movedShare, moveLines}
 use Rattle.mbcr.specs.Afresh.{keptAfresh, shareAfresh}
-use Rattle.store_spec.specs.Running.{soundBeside}
-use Rattle.store_spec.specs.Lying.{helpersLying, exchangesMade, partnersLying, shareLying, packetsNow}
-use Rattle.store_spec.specs.Both.{writeLinesBoth, loseLinesBoth, repairLinesBoth, readLinesBoth, editLinesBoth, carefulLinesBoth, moveLinesBoth, stepLines}
-use Rattle.store_spec.specs.Both.{setUpBoth, writeBoth, loseBoth, repairBoth, readBoth, editBoth, carefulBoth, moveBoth, startCall, stepCall}
-use Rattle.store_spec.specs.Ledger.{repairAsked, bookLines, accept, enter, act, replies, bookReplies}
+use Rattle.beside_spec.specs.Running.{soundBeside}
+use Rattle.beside_spec.specs.Lying.{helpersLying, exchangesMade, partnersLying, shareLying, packetsNow}
+use Rattle.beside_spec.specs.Both.{writeLinesBoth, loseLinesBoth, repairLinesBoth, readLinesBoth, editLinesBoth, carefulLinesBoth, moveLinesBoth, stepLines}
+use Rattle.beside_spec.specs.Both.{setUpBoth, writeBoth, loseBoth, repairBoth, readBoth, editBoth, carefulBoth, moveBoth, startCall, stepCall}
+use Rattle.ledger_spec.specs.Ledger.{repairAsked, bookLines, accept, enter, replies, bookReplies}
+use Rattle.beside_spec.specs.Acting.{act}
 use Rattle.ledger_figures.specs.MixFigures.{newly, opened, happened, told, MixFigures}
 
 store-replies : replies newly (unaltered newly opened happened) ≡ told

@@ -3,8 +3,8 @@
 use mathlib.Core.Path.{_≡_, refl}
 use mathlib.Core.List.{[], _∷_, _++_}
 use lib.ListN.{replicate}
-use Rattle.store_spec.specs.Demand3.{events}
-use Rattle.store_spec.specs.Premises.{unaltered}
+use Rattle.ledger_spec.specs.Demand3.{events}
+use Rattle.list_spec.specs.Premises.{unaltered}
 use Rattle.lists.specs.Lists.{piece, put}
 use Rattle.gf256.specs.Field.{add, product, reduce, mul, squares, inverse}
 use Rattle.sizes.specs.Sizing.{legal, B, stripes}
@@ -15,12 +15,13 @@ use Rattle.store_spec.specs.Record.{sound}
 use Rattle.store_spec.specs.Packets.{helperPackets, standInPackets, exchangePackets, partnerPackets, repairPackets, freshShare}
 use Rattle.store_spec.specs.Calls.{writeLines, loseLines, listLines, repairLines, readLines}
 use Rattle.store_spec.specs.Edit.{editLines}
-use Rattle.store_spec.specs.Running.{soundBeside, runningBy}
+use Rattle.beside_spec.specs.Running.{soundBeside, runningBy}
 use Rattle.store_spec.specs.FurtherFigures.{helpers, spoiled}
-use Rattle.store_spec.specs.Lying.{helpersLying, exchangesMade, partnersLying, shareLying, packetsNow}
-use Rattle.store_spec.specs.Both.{writeLinesBoth, loseLinesBoth, repairLinesBoth, readLinesBoth, editLinesBoth, stepLines, setUpBoth, writeBoth, loseBoth, repairBoth, readBoth, editBoth, startCall}
-use Rattle.store_spec.specs.Both.{stepCall}
-use Rattle.store_spec.specs.Ledger.{repairAsked, bookLines, accept, enter, act, replies, bookReplies}
+use Rattle.beside_spec.specs.Lying.{helpersLying, exchangesMade, partnersLying, shareLying, packetsNow}
+use Rattle.beside_spec.specs.Both.{writeLinesBoth, loseLinesBoth, repairLinesBoth, readLinesBoth, editLinesBoth, stepLines, setUpBoth, writeBoth, loseBoth, repairBoth, readBoth, editBoth, startCall}
+use Rattle.beside_spec.specs.Both.{stepCall}
+use Rattle.ledger_spec.specs.Ledger.{repairAsked, bookLines, accept, enter, replies, bookReplies}
+use Rattle.beside_spec.specs.Acting.{act}
 use Rattle.ledger_figures.specs.StepFigures.{newly, opened, happened, told, lying, lost, altered, StepFigures}
 
 store-replies : replies newly (unaltered newly opened happened) ≡ told

@@ -8,9 +8,10 @@ use Prim.Native.Nat.{ℕ}
 use lib.ListN.{replicate}
 use Rattle.mbcr.specs.Share.{standard}
 use Rattle.store_spec.specs.Record.{newRecord}
-use Rattle.store_spec.specs.Running.{idle}
-use Rattle.store_spec.specs.Ledger.{Call, call, write, lose, repair, read, Reply, Book, State, Step, Allowed, openBook, replies, bookReplies, bookFinal}
-use Rattle.store_spec.specs.Demand3.{begun, events}
+use Rattle.beside_spec.specs.Running.{idle}
+use Rattle.beside_spec.specs.Acting.{Call, write, lose, repair, read, State}
+use Rattle.ledger_spec.specs.Ledger.{call, Reply, Book, Step, Allowed, openBook, replies, bookReplies, bookFinal}
+use Rattle.ledger_spec.specs.Demand3.{begun, events}
 use Rattle.store_spec.specs.FurtherFigures.{five, fiveFile, helpers}
 
 -- what is replied: the refusal's number or 0, the number reported, all bytes of the output

@@ -8,10 +8,11 @@ use lib.ListN.{replicate}
 use Rattle.mbcr.specs.PointLaws.{firstSeries}
 use Rattle.sizes.specs.declared.Sizes.{Sizes}
 use Rattle.store_spec.specs.Record.{newRecord}
-use Rattle.store_spec.specs.Running.{idle}
-use Rattle.store_spec.specs.Ledger.{Call, write, lose, read, edit, start, step, careful, move, Event, call, powerFails, Reply, Book, State, openBook, replies, bookReplies}
-use Rattle.store_spec.specs.Demand3.{begun, events}
-use Rattle.store_spec.specs.Premises.{unaltered}
+use Rattle.beside_spec.specs.Running.{idle}
+use Rattle.beside_spec.specs.Acting.{Call, write, lose, read, edit, start, step, careful, move, State}
+use Rattle.ledger_spec.specs.Ledger.{Event, call, powerFails, Reply, Book, openBook, replies, bookReplies}
+use Rattle.ledger_spec.specs.Demand3.{begun, events}
+use Rattle.list_spec.specs.Premises.{unaltered}
 
 abbrev reply : ℕ → ℕ → List ℕ → Reply
 reply refusal value output = record { answer = record { refusal = refusal; reported = value }; output = output }

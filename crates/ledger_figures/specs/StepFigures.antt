@@ -9,11 +9,12 @@ use Rattle.mbcr.specs.Share.{standard}
 use mathlib.Core.Bool.{true, false}
 use Rattle.store_spec.specs.Record.{Record, newRecord}
 use Rattle.sizes.specs.declared.Sizes.{Sizes}
-use Rattle.store_spec.specs.Running.{idle, runningBy}
-use Rattle.store_spec.specs.Both.{stepCall}
-use Rattle.store_spec.specs.Ledger.{Call, write, lose, read, edit, start, step, Event, call, powerFails, Reply, Book, State, openBook, replies, bookReplies}
-use Rattle.store_spec.specs.Demand3.{begun, events}
-use Rattle.store_spec.specs.Premises.{unaltered}
+use Rattle.beside_spec.specs.Running.{idle, runningBy}
+use Rattle.beside_spec.specs.Both.{stepCall}
+use Rattle.beside_spec.specs.Acting.{Call, write, lose, read, edit, start, step, State}
+use Rattle.ledger_spec.specs.Ledger.{Event, call, powerFails, Reply, Book, openBook, replies, bookReplies}
+use Rattle.ledger_spec.specs.Demand3.{begun, events}
+use Rattle.list_spec.specs.Premises.{unaltered}
 use Rattle.store_spec.specs.FurtherFigures.{five, helpers, spoiled}
 
 abbrev reply : ℕ → ℕ → List ℕ → Reply

@@ -4,7 +4,7 @@ ghost use mathlib.Core.Bool.{true};
 ghost use lib.ListN.{length};
 ghost use Rattle.sizes.specs.Sizing.{legal};
 ghost use Rattle.sizes.specs.Refusals.{first, storeOrder};
-ghost use Rattle.store_spec.specs.Both.{moveLinesBoth};
+ghost use Rattle.beside_spec.specs.Both.{moveLinesBoth};
 ghost use Rattle.record.specs.Records.{recordOf, runningIn};
 ghost use Rattle.move_check.specs.Steps.{namedLines};
 use record::Kept;

@@ -1,7 +1,7 @@
 //! The store's record, and that of a started repair (request A.8), by value: what the checks of its calls take.
 ghost use mathlib.Core.Path.{_≡_};
 ghost use Rattle.store_spec.specs.Record.{newRecord};
-ghost use Rattle.store_spec.specs.Running.{idle};
+ghost use Rattle.beside_spec.specs.Running.{idle};
 ghost use Rattle.record.specs.Records.{recordOf, runningIn};
 use sizes::Sizes;
 

@@ -5,7 +5,7 @@ ghost use mathlib.Core.List.{[], _∷_};
 ghost use Rattle.sizes.specs.Refusals.{first, storeOrder};
 ghost use Rattle.store_spec.specs.Record.{newRecord};
 ghost use Rattle.store_spec.specs.Calls.{recordLine};
-ghost use Rattle.store_spec.specs.Both.{loseLinesBoth};
+ghost use Rattle.beside_spec.specs.Both.{loseLinesBoth};
 ghost use Rattle.record.specs.Records.{recordOf, runningIn};
 use record::Kept;
 use record::Running;

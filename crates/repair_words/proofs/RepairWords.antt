@@ -18,8 +18,8 @@ use Rattle.lists.proofs.Put.{part-end}
 use Rattle.lists.proofs.Pieces.{join-ext, join-piece, length-piece, piece-bytes, piece-at, piece-join, length-joined, join-joined, length-tabulate, tabulate-at, tabulate-ext, tabulate-getD}
 use Rattle.lists.proofs.Pieces.{tabulate-all, tabulate-take}
 use Rattle.lists.proofs.Tests.{alls-hold, hold-alls, every-all, all-every}
-use Rattle.store_spec.specs.Running.{Running}
-use Rattle.store_spec.specs.MarkLaws.{Arrays}
+use Rattle.beside_spec.specs.Running.{Running}
+use Rattle.beside_spec.specs.HandedLaws.{Arrays}
 use Rattle.record_words.specs.Words.{bytes, fromBytes, word}
 use Rattle.record_words.proofs.Places.{byte-at}
 use Rattle.record_words.proofs.Points.{length-bytes, word-back, is-word, bytes-number, points-bytes}

@@ -7,7 +7,7 @@ use mathlib.Core.List.{List, [], _∷_, _++_, map}
 use Prim.Native.Nat.{ℕ, _+_, _*_}
 use lib.ListN.{take, set, replicate}
 use Rattle.lists.specs.Lists.{tabulate}
-use Rattle.store_spec.specs.Running.{Running}
+use Rattle.beside_spec.specs.Running.{Running}
 use Rattle.repair_words.specs.RepairWords.{isRepair, repairFrom, repairWordsOf}
 
 -- two fresh boards, five packets carried, and in the arrays: fresh boards 06 and 09, then 00; entry i of the helpers is i, of the stand-ins 255 less i

@@ -9,8 +9,8 @@ use lib.Dec.{eqb}
 use lib.ListN.{length, getD, take, drop, replicate}
 use Rattle.lists.specs.Tests.{pick}
 use Rattle.lists.specs.Lists.{All, Bytes}
-use Rattle.store_spec.specs.Running.{Running, idle}
-use Rattle.store_spec.specs.MarkLaws.{Arrays}
+use Rattle.beside_spec.specs.Running.{Running, idle}
+use Rattle.beside_spec.specs.HandedLaws.{Arrays}
 use Rattle.repair_words.specs.RepairWords.{isRepair, repairFrom, repairWordsOf}
 
 pub record RepairWordLaws : Type 0 where

@@ -8,7 +8,7 @@ use lib.Dec.{ltb, eqb}
 use lib.ListN.{length, getD, take, drop}
 use Rattle.lists.specs.Tests.{pick, every, alls}
 use Rattle.lists.specs.Lists.{tabulate, joined, piece}
-use Rattle.store_spec.specs.Running.{Running}
+use Rattle.beside_spec.specs.Running.{Running}
 use Rattle.record_words.specs.Words.{bytes, fromBytes, word}
 
 -- m words of eight bytes each

@@ -19,7 +19,7 @@ use Rattle.sizes.specs.Sizing.{legal}
 use Rattle.sizes.specs.Refusals.{_when_, first, storeOrder}
 use Rattle.store_spec.specs.Record.{Record}
 use Rattle.store_spec.specs.Calls.{listLines}
-use Rattle.store_spec.specs.Running.{Running, freshOf, packetCount, passed, soundBeside}
+use Rattle.beside_spec.specs.Running.{Running, freshOf, packetCount, passed, soundBeside}
 use Rattle.line_checks.specs.Steps.{asked}
 use Rattle.checks.proofs.Chain.{then}
 use Rattle.list_tests.specs.Steps.{named}

@@ -24,9 +24,9 @@ use Rattle.sizes.proofs.Legal.{legal-facts}
 use Rattle.sizes.proofs.Orders.{clear-off}
 use Rattle.store_spec.specs.Record.{Record}
 use Rattle.store_spec.specs.Calls.{listLines}
-use Rattle.store_spec.specs.Running.{Running, freshOf, helpersOf, standInsOf, namedIn, soundBeside}
+use Rattle.beside_spec.specs.Running.{Running, freshOf, helpersOf, standInsOf, namedIn, soundBeside}
 use Rattle.store_spec.proofs.Records.{countTests}
-use Rattle.store_spec.proofs.Beside.{sound-beside}
+use Rattle.beside_spec.proofs.Beside.{sound-beside}
 
 -- ---- how many boards a repair names
 

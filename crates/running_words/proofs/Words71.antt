@@ -13,7 +13,7 @@ use borrow.Rule.Slice.PartMut.{putMid}
 use Rattle.lists.specs.Tests.{pick}
 use Rattle.lists.specs.Lists.{joined, piece}
 use Rattle.lists.proofs.Pieces.{length-tabulate}
-use Rattle.store_spec.specs.Running.{Running}
+use Rattle.beside_spec.specs.Running.{Running}
 use Rattle.record_words.specs.Words.{bytes, fromBytes}
 use Rattle.repair_words.specs.RepairWords.{isRepair, repairFrom, repairWordsOf, pack}
 use Rattle.repair_words.proofs.RepairWords.{repair-words}

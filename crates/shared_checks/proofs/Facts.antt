@@ -18,8 +18,8 @@ use Rattle.sizes.specs.Refusals.{first, storeOrder}
 use Rattle.sizes.proofs.Legal.{legal-facts, stripes-least}
 use Rattle.sizes.proofs.Orders.{clear-off}
 use Rattle.store_spec.specs.Record.{Record, sound, areaLen}
-use Rattle.store_spec.specs.Running.{Running, soundBeside}
-use Rattle.store_spec.specs.Both.{bothLine}
+use Rattle.beside_spec.specs.Running.{Running, soundBeside}
+use Rattle.beside_spec.specs.Both.{bothLine}
 use Rattle.store_spec.proofs.Records.{sound-facts}
 use Rattle.line_checks.specs.Steps.{Stated}
 use Rattle.checks.proofs.Facts.{Taken, taken}

@@ -12,8 +12,8 @@ use Rattle.sizes.specs.Refusals.{Line, _when_}
 use Rattle.board_spec.specs.Calls.{nodeLine}
 use Rattle.store_spec.specs.Record.{Record}
 use Rattle.store_spec.specs.Calls.{lentLine}
-use Rattle.store_spec.specs.Running.{Running}
-use Rattle.store_spec.specs.Both.{bothLine}
+use Rattle.beside_spec.specs.Running.{Running}
+use Rattle.beside_spec.specs.Both.{bothLine}
 
 abbrev pub areaLines : Record → Running → ℕ → List Line
 areaLines s p m = bothLine s p ∷ lentLine s m ∷ []

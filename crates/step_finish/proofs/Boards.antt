@@ -14,7 +14,7 @@ use Rattle.sizes.proofs.Legal.{Legal}
 use Rattle.mbcr.specs.Rebuild.{finishedShare}
 use Rattle.puts.specs.Steps.{puts}
 use Rattle.store_spec.specs.Record.{Record, stripeCount, putShares}
-use Rattle.store_spec.specs.Lying.{shareLying}
+use Rattle.beside_spec.specs.Lying.{shareLying}
 use Rattle.repair_rows.specs.Steps.{othersAt}
 use Rattle.step_laws.specs.Steps.{Listed, shareAt}
 use Rattle.step_laws.proofs.Facts.{helpers-served, stand-ins-served, run-end, few-packets}

@@ -13,7 +13,7 @@ ghost use Rattle.sizes.specs.Sizing.{legal, α};
 ghost use Rattle.mbcr.specs.Share.{DifferentPoints};
 ghost use Rattle.puts.specs.Steps.{puts};
 ghost use Rattle.store_spec.specs.Record.{Record, stripeCount, putShares};
-ghost use Rattle.store_spec.specs.Lying.{shareLying};
+ghost use Rattle.beside_spec.specs.Lying.{shareLying};
 ghost use Rattle.step_laws.specs.Steps.{Listed, shareAt};
 
 // The share of the a-th fresh board, to its place.

@@ -17,8 +17,8 @@ use Rattle.sizes.specs.declared.Sizes.{Sizes}
 use Rattle.mbcr.specs.Rebuild.{helperPacket, standInPacket, exchangePacket}
 use Rattle.store_spec.specs.Record.{Record, stripeCount, held}
 use Rattle.store_spec.specs.Packets.{Packet, packetsOf, contents, sendersOf, sentTo, hearHelpers, hearPartners, standInsEach, helperPackets, standInPackets}
-use Rattle.store_spec.specs.Running.{packetCount}
-use Rattle.store_spec.specs.Lying.{laid, helpersLying, exchangesMade, packetsNow, carry, blank}
+use Rattle.beside_spec.specs.Running.{packetCount}
+use Rattle.beside_spec.specs.Lying.{laid, helpersLying, exchangesMade, packetsNow, carry, blank}
 use Rattle.store_spec.proofs.Packets.{packet-count, length-helpers, helpers-count}
 use Rattle.repair_rows.specs.Steps.{past}
 use Rattle.repair_rows.proofs.Others.{past-below}

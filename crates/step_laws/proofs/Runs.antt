@@ -12,9 +12,9 @@ use Rattle.lists.specs.Tests.{different}
 use Rattle.lists.specs.Lists.{All, piece, without}
 use Rattle.lists.proofs.Boards.{length-without, among-all}
 use Rattle.store_spec.specs.Packets.{Packet, Hearing, packetsOf, contents, sendersOf, sentTo, hearHelpers, hearPartners}
-use Rattle.store_spec.specs.Lying.{laidTo, laid, blank}
+use Rattle.beside_spec.specs.Lying.{laidTo, laid, blank}
 use Rattle.store_spec.proofs.Packets.{EachHears, receivers-helpers, receivers-partners, length-helpers, helpers-count, partners-each, run-length}
-use Rattle.store_spec.proofs.Laid.{no-hearing, laid-senders, laid-contents, sent-laid, helper-at, partner-at}
+use Rattle.beside_spec.proofs.Laid.{no-hearing, laid-senders, laid-contents, sent-laid, helper-at, partner-at}
 
 -- ---- packet u of the a-th hearing, where each hears c
 

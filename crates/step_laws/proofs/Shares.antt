@@ -18,7 +18,7 @@ use Rattle.puts.specs.Steps.{puts}
 use Rattle.puts.proofs.Puts.{puts-same}
 use Rattle.store_spec.specs.Record.{Record, stripeCount, partLen, putShares}
 use Rattle.store_spec.specs.Packets.{Packet, contents, sendersOf, sentTo, hearHelpers, hearPartners, standInsEach}
-use Rattle.store_spec.specs.Lying.{laid, placeOf, helpersLying, partnersLying, shareLying}
+use Rattle.beside_spec.specs.Lying.{laid, placeOf, helpersLying, partnersLying, shareLying}
 use Rattle.store_spec.proofs.Packets.{senders-append, contents-append}
 use Rattle.repair_rows.specs.Steps.{othersAt}
 use Rattle.repair_rows.proofs.Without.{without-place}

@@ -12,7 +12,7 @@ ghost use Rattle.gf256.specs.Field.{inverse};
 ghost use Rattle.sizes.specs.Sizing.{legal, α};
 ghost use Rattle.mbcr.specs.Share.{DifferentPoints};
 ghost use Rattle.store_spec.specs.Record.{Record, stripeCount};
-ghost use Rattle.store_spec.specs.Lying.{carry};
+ghost use Rattle.beside_spec.specs.Lying.{carry};
 ghost use Rattle.step_laws.specs.Steps.{Listed, placeAt, packetAt, carryAt};
 
 // Where packet q begins, where the first h have two bytes for each stripe and all others one.

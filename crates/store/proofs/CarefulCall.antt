@@ -20,8 +20,8 @@ use Rattle.board_spec.specs.Calls.{fileOf}
 use Rattle.store_spec.specs.Record.{Record}
 use Rattle.store_spec.specs.Calls.{accepted}
 use Rattle.store_spec.specs.Careful.{carefulFile, odd, oddReport, carefulLines, carefulDone}
-use Rattle.store_spec.specs.Running.{Running}
-use Rattle.store_spec.specs.Both.{Outcome, beside, carefulLinesBoth, carefulBoth}
+use Rattle.beside_spec.specs.Running.{Running}
+use Rattle.beside_spec.specs.Both.{Outcome, beside, carefulLinesBoth, carefulBoth}
 use Rattle.line_checks.specs.Steps.{asked}
 use Rattle.line_checks.proofs.Answers.{passes, refuses as refused-line}
 use Rattle.checks.proofs.Chain.{then, split, goes-on, refuses}

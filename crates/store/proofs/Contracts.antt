@@ -8,8 +8,8 @@ use contract.Lifetimes.{Lfts}
 use denote.Ref.{now}
 use denote.Triple.Clauses.{AtExit}
 use borrow.Fn.Kinds.{Dens, endedOf}
-use Rattle.store_spec.specs.Both.{setUpBoth}
-use Rattle.store_spec.specs.Ledger.{write, lose, repair, read, careful, edit, move, start, step, act}
+use Rattle.beside_spec.specs.Both.{setUpBoth}
+use Rattle.beside_spec.specs.Acting.{write, lose, repair, read, careful, edit, move, start, step, act}
 use Rattle.record.specs.declared.Running.{Running}
 use Rattle.record.specs.Records.{runningIn}
 use Rattle.store.specs.declared.Store.{Store}

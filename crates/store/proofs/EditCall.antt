@@ -20,10 +20,10 @@ use Rattle.board_spec.specs.Calls.{fileOf}
 use Rattle.store_spec.specs.Record.{Record, serving, putShares}
 use Rattle.store_spec.specs.Calls.{accepted, fileHeld}
 use Rattle.store_spec.specs.Edit.{editLines, editedShare, editDone}
-use Rattle.store_spec.specs.Running.{Running}
-use Rattle.store_spec.specs.Both.{Outcome, beside, editLinesBoth, editBoth}
+use Rattle.beside_spec.specs.Running.{Running}
+use Rattle.beside_spec.specs.Both.{Outcome, beside, editLinesBoth, editBoth}
 use Rattle.store_spec.proofs.Records.{sound-facts, edit-facts}
-use Rattle.store_spec.proofs.Beside.{alone-busy}
+use Rattle.beside_spec.proofs.Beside.{alone-busy}
 use Rattle.line_checks.specs.Steps.{asked}
 use Rattle.checks.proofs.Chain.{then, split, goes-on, refuses}
 use Rattle.store_checks.specs.Steps.{recordOf}

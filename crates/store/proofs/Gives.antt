@@ -6,12 +6,13 @@ use Prim.Native.Nat.{ℕ}
 use Rattle.sizes.specs.Refusals.{Said}
 use Rattle.store_spec.specs.Record.{held}
 use Rattle.store_spec.specs.Calls.{repairCall}
-use Rattle.store_spec.specs.Both.{Outcome, beside, repairBoth}
-use Rattle.store_spec.specs.Ledger.{repair, call, powerFails, Step, act}
-use Rattle.store_spec.specs.Demand3.{Repaired}
-use Rattle.store_spec.specs.Follows.{Given, Moment, gave, anew, Follows, handedOn, areaAt, packetsAt, ending}
-use Rattle.store_spec.proofs.Demand3.{accepted-both}
-use Rattle.store_spec.proofs.Follows.{follows-laws}
+use Rattle.beside_spec.specs.Both.{Outcome, beside, repairBoth}
+use Rattle.beside_spec.specs.Acting.{repair, act}
+use Rattle.ledger_spec.specs.Ledger.{call, powerFails, Step}
+use Rattle.store_spec.specs.RepairLaws.{Repaired}
+use Rattle.list_spec.specs.Follows.{Given, Moment, gave, anew, Follows, handedOn, areaAt, packetsAt, ending}
+use Rattle.beside_spec.proofs.Beside.{accepted-both}
+use Rattle.list_spec.proofs.Follows.{follows-laws}
 use Rattle.store.specs.Demand3.{Records, keptIn, besideIn, Meets}
 use Rattle.store.specs.Gives.{CodeGives}
 

@@ -16,10 +16,10 @@ use Rattle.store_spec.specs.Record.{Record, stripeCount}
 use Rattle.store_spec.specs.Packets.{total}
 use Rattle.store_spec.specs.Calls.{accepted}
 use Rattle.store_spec.specs.Move.{movedRecord, movePackets, moveLines, moveDone}
-use Rattle.store_spec.specs.Running.{Running}
-use Rattle.store_spec.specs.Both.{Outcome, beside, moveLinesBoth, moveBoth}
+use Rattle.beside_spec.specs.Running.{Running}
+use Rattle.beside_spec.specs.Both.{Outcome, beside, moveLinesBoth, moveBoth}
 use Rattle.store_spec.proofs.Records.{Moves, move-facts, sound-facts}
-use Rattle.store_spec.proofs.Beside.{alone-busy}
+use Rattle.beside_spec.proofs.Beside.{alone-busy}
 use Rattle.store_spec.proofs.Move.{total-is}
 use Rattle.shared_checks.proofs.Facts.{Ready, ready}
 use Rattle.store.specs.Handing.{turnedDown}

@@ -22,10 +22,10 @@ use Rattle.board_spec.specs.Calls.{fileOf}
 use Rattle.board_spec.proofs.Files.{file-is}
 use Rattle.store_spec.specs.Record.{Record, held}
 use Rattle.store_spec.specs.Calls.{accepted, fileHeld, readLines, readDone}
-use Rattle.store_spec.specs.Running.{Running}
-use Rattle.store_spec.specs.Both.{Outcome, beside, readLinesBoth, readBoth}
+use Rattle.beside_spec.specs.Running.{Running}
+use Rattle.beside_spec.specs.Both.{Outcome, beside, readLinesBoth, readBoth}
 use Rattle.store_spec.proofs.Records.{sound-facts, read-facts}
-use Rattle.store_spec.proofs.Beside.{alone}
+use Rattle.beside_spec.proofs.Beside.{alone}
 use Rattle.line_checks.specs.Steps.{asked}
 use Rattle.checks.proofs.Chain.{then, split, goes-on, refuses}
 use Rattle.store_checks.specs.Steps.{recordOf}

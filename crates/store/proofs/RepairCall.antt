@@ -18,10 +18,10 @@ use Rattle.sizes.proofs.Legal.{row-fits}
 use Rattle.store_spec.specs.Record.{Record, stripeCount, partLen, withMarks, turnOn}
 use Rattle.store_spec.specs.Packets.{standInsEach, repairPackets, total}
 use Rattle.store_spec.specs.Calls.{accepted, settle, listLines, repairLines, repairDone, repairCall, refused}
-use Rattle.store_spec.specs.Running.{Running, runningBy}
-use Rattle.store_spec.specs.Both.{Outcome, beside, repairLinesBoth, repairBoth, startCall}
+use Rattle.beside_spec.specs.Running.{Running, runningBy}
+use Rattle.beside_spec.specs.Both.{Outcome, beside, repairLinesBoth, repairBoth, startCall}
 use Rattle.store_spec.proofs.Records.{repair-facts, sound-facts}
-use Rattle.store_spec.proofs.Beside.{alone-busy}
+use Rattle.beside_spec.proofs.Beside.{alone-busy}
 use Rattle.store_spec.proofs.Real.{code-lengths}
 use Rattle.store_spec.proofs.Repair.{moved-is}
 use Rattle.puts.specs.Steps.{puts}

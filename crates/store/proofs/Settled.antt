@@ -18,10 +18,10 @@ use Rattle.sizes.proofs.Legal.{legal-facts}
 use Rattle.mbcr.specs.Share.{share}
 use Rattle.store_spec.specs.Record.{Record, newRecord, writtenRecord, partLen, putShares}
 use Rattle.store_spec.specs.Calls.{accepted, settle, recordLine, writeLines, writeDone, loseLines, loseDone}
-use Rattle.store_spec.specs.Running.{Running, idle, soundBeside}
-use Rattle.store_spec.specs.Both.{Outcome, beside, setUpBoth, writeLinesBoth, writeBoth, lostBeside, loseLinesBoth, loseBoth}
+use Rattle.beside_spec.specs.Running.{Running, idle, soundBeside}
+use Rattle.beside_spec.specs.Both.{Outcome, beside, setUpBoth, writeLinesBoth, writeBoth, lostBeside, loseLinesBoth, loseBoth}
 use Rattle.store_spec.proofs.Records.{sound-facts, lose-facts}
-use Rattle.store_spec.proofs.Beside.{alone, alone-busy}
+use Rattle.beside_spec.proofs.Beside.{alone, alone-busy}
 use Rattle.store_checks.specs.Steps.{recordOf}
 use Rattle.sizes.specs.declared.Refusal.the-variants.{Size}
 use Rattle.sizes.proofs.Orders.{clear-off}

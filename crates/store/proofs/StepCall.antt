@@ -9,8 +9,8 @@ use Rattle.sizes.specs.declared.Check.{Check}
 use Rattle.sizes.specs.declared.Check.the-variants.{Pass, Refuse}
 use Rattle.sizes.specs.Refusals.{first, storeOrder}
 use Rattle.store_spec.specs.Record.{Record}
-use Rattle.store_spec.specs.Running.{Running}
-use Rattle.store_spec.specs.Both.{Outcome, stepLines, stepDone, stepCall}
+use Rattle.beside_spec.specs.Running.{Running}
+use Rattle.beside_spec.specs.Both.{Outcome, stepLines, stepDone, stepCall}
 use Rattle.store.specs.Handing.{turnedDown}
 use Rattle.store.proofs.Settled.{refused-by, done-by}
 

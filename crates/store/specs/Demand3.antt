@@ -10,14 +10,16 @@ use lib.ListN.{length, set}
 use Rattle.sizes.specs.declared.Sizes.{Sizes}
 use Rattle.sizes.specs.Refusals.{said}
 use Rattle.store_spec.specs.Record.{Record}
-use Rattle.store_spec.specs.Running as spec
-use Rattle.store_spec.specs.Both.{setUpBoth}
-use Rattle.store_spec.specs.Ledger.{Call, repair, move, call, Step, State, Reply, Allowed, openBook, bookReplies, bookFinal}
-use Rattle.store_spec.specs.Demand3.{Intact, Repaired, begun, events}
-use Rattle.store_spec.specs.CarefulLaws.{AnyBytes, Worn}
+use Rattle.beside_spec.specs.Running as spec
+use Rattle.beside_spec.specs.Both.{setUpBoth}
+use Rattle.beside_spec.specs.Acting.{Call, repair, move, State}
+use Rattle.ledger_spec.specs.Ledger.{call, Step, Reply, Allowed, openBook, bookReplies, bookFinal}
+use Rattle.ledger_spec.specs.Demand3.{Intact, begun, events}
+use Rattle.store_spec.specs.RepairLaws.{Repaired}
+use Rattle.list_spec.specs.WornLaws.{AnyBytes, Worn}
 use Rattle.store_spec.specs.Move.{moveCall}
 use Rattle.store_spec.specs.MoveLaws.{Moved}
-use Rattle.store_spec.specs.Follows as follow
+use Rattle.list_spec.specs.Follows as follow
 use Rattle.record.specs.declared.Running.{Running}
 use Rattle.record.specs.Records.{runningIn}
 use Rattle.store.specs.declared.Store.{Store}

@@ -14,12 +14,13 @@ use Rattle.board_spec.specs.Calls.{fileOf}
 use Rattle.store_spec.specs.Record.{stripeCount, held}
 use Rattle.store_spec.specs.Packets.{repairPackets, freshShare, contents}
 use Rattle.store_spec.specs.Calls.{accepted}
-use Rattle.store_spec.specs.Running as spec
-use Rattle.store_spec.specs.Running.{idle, packetsLen}
-use Rattle.store_spec.specs.Both.{beside, repairBoth}
-use Rattle.store_spec.specs.Ledger.{Call, repair, read, step, call, powerFails, Step, Book, Repairing, Altered, Unaltered, bookLength, packetsAfter}
-use Rattle.store_spec.specs.Demand3.{Intact}
-use Rattle.store_spec.specs.Follows.{Given, Moment, gave, anew, FollowsLaws, outcomeOf}
+use Rattle.beside_spec.specs.Running as spec
+use Rattle.beside_spec.specs.Running.{idle, packetsLen}
+use Rattle.beside_spec.specs.Both.{beside, repairBoth}
+use Rattle.beside_spec.specs.Acting.{Call, repair, read, step}
+use Rattle.ledger_spec.specs.Ledger.{call, powerFails, Step, Book, Repairing, Altered, Unaltered, bookLength, packetsAfter}
+use Rattle.ledger_spec.specs.Demand3.{Intact}
+use Rattle.list_spec.specs.Follows.{Given, Moment, gave, anew, FollowsLaws, outcomeOf}
 use Rattle.record.specs.declared.Running.{Running}
 use Rattle.record.specs.Records.{runningIn}
 use Rattle.store.specs.declared.Store.{Store}

@@ -14,7 +14,7 @@ ghost use Rattle.store_spec.specs.Packets.{repairPackets, total};
 ghost use Rattle.store_spec.specs.Calls.{repairLines, readLines, fileHeld, repairDone, readDone};
 ghost use Rattle.store_spec.specs.Edit.{editLines, editDone};
 ghost use Rattle.store_spec.specs.Move.{movePackets, moveLines, moveDone};
-ghost use Rattle.store_spec.specs.Both.{setUpBoth, writeBoth, loseBoth, repairBoth, readBoth, carefulBoth, editBoth, moveBoth, startCall, stepCall};
+ghost use Rattle.beside_spec.specs.Both.{setUpBoth, writeBoth, loseBoth, repairBoth, readBoth, carefulBoth, editBoth, moveBoth, startCall, stepCall};
 ghost use Rattle.store_checks.specs.Steps.{Bounded};
 ghost use Rattle.decode_stripe.specs.Steps.{Asked};
 ghost use Rattle.decode_setup.specs.Steps.{Made};

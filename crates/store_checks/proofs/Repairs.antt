@@ -10,7 +10,7 @@ use lib.Seq.{drop-cons}
 use Rattle.lists.specs.Tests.{alls, below}
 use Rattle.store_spec.specs.Record.{turnOn}
 use Rattle.lists.proofs.Tests.{true-false}
-use Rattle.store_spec.proofs.Agree.{both-below}
+use Rattle.store_spec.proofs.Asked.{both-below}
 
 -- ---- NODE of two lists
 

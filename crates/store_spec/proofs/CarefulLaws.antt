@@ -25,9 +25,7 @@ use Rattle.board_spec.specs.Calls.{fileOf}
 use Rattle.store_spec.specs.Calls.{StoreOutcome, accepted, refused, settle, fileHeld}
 use Rattle.store_spec.specs.Careful.{leaving, agreeing, odd, oddReport, carefulFile, carefulLines, carefulDone, carefulCall}
 use Rattle.store_spec.specs.Record.{Record, sound, areaLen, inService}
-use Rattle.store_spec.specs.Both.{carefulBoth}
 use Rattle.store_spec.specs.CarefulLaws.{Holds, OddTold, CarefulLaws}
-use Rattle.store_spec.proofs.AloneLaws.{alone-is, alone-laws}
 use Rattle.store_spec.proofs.Careful.{agreeing-is, report-tells, tells-report, tells-few, few-odd, many-agree, two-never, one-shows, careful-found, careful-finds, careful-none}
 use Rattle.store_spec.proofs.Held.{file-has}
 use Rattle.store_spec.proofs.Records.{Cares, careTests, Sound, sound-facts}
@@ -186,6 +184,5 @@ careful-laws = record {
   two-reads = two-reads;
   one-shows = λ s area boards file i ok m named l b e n a file′. one-shows s area (sound-facts s ok) m boards named file l b i e n a file′;
   few-boards = few-boards;
-  same-beside = λ s p area boards output h. alone-is p (carefulCall s area boards output) (carefulBoth s p area boards output) (alone-laws .careful-alone s p area boards output h);
   careful-exact = λ s area boards output ba h. (gives s area boards output ba h, refuses s area boards output ba h);
 }

@@ -38,14 +38,14 @@ use Rattle.store_spec.specs.Record.{Record, newRecord, sound, inService,
 use Rattle.store_spec.specs.Move.{moveLines, moveDone, moveCall}
 use Rattle.store_spec.proofs.Area.{held-stripe, length-shares, byte-stays, shares-same}
 use Rattle.store_spec.proofs.Careful.{odd-named}
-use Rattle.store_spec.proofs.Demand3.{set-up-sound, set-up-taken, passes}
+use Rattle.store_spec.proofs.Passed.{set-up-sound, set-up-taken, passes}
 use Rattle.store_spec.proofs.Exact.{read-exact}
 use Rattle.store_spec.proofs.Marks.{off-from, off-none, on-below, off-above, first-below, among-first}
 use Rattle.store_spec.proofs.Packets.{runs-different}
 use Rattle.store_spec.proofs.Real.{code-lengths}
 use Rattle.store_spec.proofs.Records.{facts-sound, sound-facts, blank-length, blank-off, blank-if, Writes, write-facts, Sound, used-least, repair-facts, used-fits}
 use Rattle.store_spec.proofs.Repair.{fresh-length}
-use Rattle.store_spec.proofs.Step.{settle-pass}
+use Rattle.store_spec.proofs.Passed.{settle-pass}
 
 -- ---- every call ends
 

@@ -35,10 +35,10 @@ use Rattle.store_spec.specs.Edit.{editLines, editedShare, editDone, edit
 use Rattle.store_spec.specs.EditLaws.{Reached, Edited, EditLaws}
 use Rattle.store_spec.specs.Record.{Record, inService, serving, stripeCount, partLen, usedLen, held, putShares}
 use Rattle.store_spec.proofs.Area.{length-shares, shares-same, byte-stays}
-use Rattle.store_spec.proofs.Demand3.{passes}
+use Rattle.store_spec.proofs.Passed.{passes}
 use Rattle.store_spec.proofs.Marks.{on-below}
 use Rattle.store_spec.proofs.Records.{Sound, sound-facts, sound-points, Edits, edit-facts, used-fits}
-use Rattle.store_spec.proofs.Step.{settle-pass}
+use Rattle.store_spec.proofs.Passed.{settle-pass}
 use Rattle.store_spec.proofs.Sums.{add-both, plus-both, put-none, put-again, length-plus-short, take-short, serving-on, serving-low, serving-has, serving-is}
 
 -- a file that is given

@@ -24,7 +24,7 @@ use Rattle.store_spec.specs.Calls.{repairCall, repairLines, repairDone}
 use Rattle.store_spec.specs.Packets.{freshShare, sendersOf, sentTo, helperPackets, standInPackets}
 use Rattle.store_spec.specs.Record.{Record, held, stripeCount}
 use Rattle.store_spec.specs.Stripes.{firsts, seconds, exchangedByte, stoodIn, freshStripe, ByStripes}
-use Rattle.store_spec.proofs.Demand3.{passes}
+use Rattle.store_spec.proofs.Passed.{passes}
 use Rattle.store_spec.proofs.Packets.{concat-append}
 use Rattle.store_spec.proofs.Real.{code-lengths}
 use Rattle.store_spec.proofs.Records.{Repairs, repair-facts, sound-facts}

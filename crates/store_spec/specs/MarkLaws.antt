@@ -8,16 +8,12 @@ use Prim.Native.Nat.{ℕ, _<_}
 use lib.Dec.{ltb, eqb}
 use lib.ListN.{length, set}
 use Rattle.lists.specs.Tests.{pick, among}
-use Rattle.lists.specs.Lists.{Bytes}
 use Rattle.sizes.specs.Sizing.{maxBoards}
 use Rattle.store_spec.specs.Record.{Record, inService}
 use Rattle.store_spec.specs.Calls.{writeCall, loseCall, repairCall, readCall}
 use Rattle.store_spec.specs.Edit.{editCall}
 use Rattle.store_spec.specs.Careful.{carefulCall}
 use Rattle.store_spec.specs.Move.{moveCall}
-use Rattle.store_spec.specs.Running.{Running, idle}
-use Rattle.store_spec.specs.Ledger.{Call, move, State, act, outputOf, packetsOfCall}
-use Rattle.store_spec.specs.LedgerLaws.{newPoint, setPoints}
 
 -- one record has the other's sizes, points and capacity
 abbrev pub SameStore : Record → Record → Type 0
@@ -26,15 +22,6 @@ SameStore new old = (new .sizes ≡ old .sizes) × (new .points ≡ old .points)
 -- and it has its file
 abbrev pub SameFile : Record → Record → Type 0
 SameFile new old = (new .written ≡ old .written) × (new .length ≡ old .length)
-
--- a record of a repair has arrays of 32, 256 and 256 bytes
-pub record Arrays (p : Running) : Type 0 where
-  pub fresh-long : length (p .fresh) ≡ 32
-  pub fresh-bytes : Bytes (p .fresh)
-  pub helpers-long : length (p .helpers) ≡ 256
-  pub helpers-bytes : Bytes (p .helpers)
-  pub stand-ins-long : length (p .standIns) ≡ 256
-  pub stand-ins-bytes : Bytes (p .standIns)
 
 pub record MarkLaws : Type 0 where
   -- "all n come into service", and none from n up
@@ -51,20 +38,6 @@ pub record MarkLaws : Type 0 where
       → repairCall s area fresh helpers standIns .answer .refusal ≡ 0
       → ((i : ℕ) → i < maxBoards → inService (repairCall s area fresh helpers standIns .handed) i ≡ pick (among fresh i) true (inService s i))
       × SameStore (repairCall s area fresh helpers standIns .handed) s × SameFile (repairCall s area fresh helpers standIns .handed) s
-  -- whatever the call, with both records: a refused one leaves both, area, output and packet area as they came, and one on 32 marks hands on 32
-  pub refused-keeps : (w : State) (call : Call) → (act w call .answer .refusal ≡ 0 → ⊥)
-      → act w call ≡ record { answer = act w call .answer; handed = w .kept; running = w .running; area = w .area; output = outputOf call; packets = packetsOfCall call }
-  pub full-marks : (w : State) (call : Call) → length (w .kept .marks) ≡ maxBoards
-      → length (act w call .handed .marks) ≡ maxBoards
-  -- request A.8: so it is with the arrays of the record beside
-  pub arrays-stay : (w : State) (call : Call) → Arrays (w .running) → Arrays (act w call .running)
-  pub arrays-idle : Arrays idle
-  -- request A.9, and A.10: the points are those of the set-up but for the boards that were moved since; 32 of them stay 32, and with new points that are bytes, bytes
-  -- stay bytes
-  pub points-are : (w : State) (call : Call) → act w call .handed .points ≡ setPoints (w .kept .points) (newPoint call (act w call .answer))
-  pub full-points : (w : State) (call : Call) → length (act w call .handed .points) ≡ length (w .kept .points)
-  pub byte-points : (w : State) (call : Call) → ((board point : ℕ) (helpers partners : List ℕ) → call ≡ move board point helpers partners → point < 256)
-      → Bytes (w .kept .points) → Bytes (act w call .handed .points)
   -- an accepted move changes one point, and nothing else
   pub moves : (s : Record) (area : List ℕ) (board point : ℕ) (helpers partners : List ℕ) → moveCall s area board point helpers partners .answer .refusal ≡ 0
       → moveCall s area board point helpers partners .handed

@@ -5,17 +5,16 @@ use mathlib.Core.Path.{_≡_}
 use mathlib.Core.Bool.{true, false}
 use mathlib.Core.Logic.{_≢_, _↔_, _⊎_}
 use mathlib.Core.List.{List, [], _∷_, _++_, map}
-use Prim.Native.Nat.{ℕ, suc, _+_, _-_, _*_, _≤_, _<_}
+use Prim.Native.Nat.{ℕ, suc, _+_, _-_, _*_, _<_}
 use lib.ListN.{length, take, set}
 use Rattle.lists.specs.Tests.{among, below, different, every}
-use Rattle.lists.specs.Lists.{All, Bytes, tabulate, joined}
+use Rattle.lists.specs.Lists.{All, Bytes, joined}
 use Rattle.sizes.specs.declared.Sizes.{Sizes}
 use Rattle.sizes.specs.declared.Answer.the-variants.{Done}
-use Rattle.sizes.specs.Sizing.{legal, α, B}
+use Rattle.sizes.specs.Sizing.{legal}
 use Rattle.sizes.specs.declared.Refusal.the-variants.{Count, Node, Repeat}
 use Rattle.sizes.specs.Refusals.{said, appliesIn}
 use Rattle.mbcr.specs.Share.{standard, share}
-use Rattle.mbcr.specs.PointLaws.{firstSeries}
 use Rattle.mbcr.specs.TurnLaws.{turned}
 use Rattle.mbcr.specs.Rebuild.{seconds, helperPacket, standInPacket, finishedShare}
 use Rattle.mbcr.specs.Afresh.{shareAfresh}
@@ -24,13 +23,7 @@ use Rattle.store_spec.specs.Record.{Record, inService, sound, stripeCoun
 use Rattle.store_spec.specs.Packets.{total}
 use Rattle.store_spec.specs.Calls.{listLines, writeCall}
 use Rattle.store_spec.specs.Move.{allBoards, movedRecord, afresh, movePackets, moveLines, moveCall}
-use Rattle.store_spec.specs.Running.{Running}
-use Rattle.store_spec.specs.Both.{beside, setUpBoth, moveBoth}
 use Rattle.store_spec.specs.Demand1.{Stays}
-use Rattle.store_spec.specs.Demand3.{begun, events}
-use Rattle.store_spec.specs.Ledger.{Call, write, move, Event, call, powerFails, Book, openBook, enter, bookNext, bookFinal, Step, Allowed, final}
-use Rattle.store_spec.specs.LedgerLaws.{Accepted, newPoint, setPoints}
-use Rattle.store_spec.specs.Premises.{unaltered}
 
 -- An accepted move, over any record and any area. `ys` are the points after it.
 pub record Moved (s : Record) (area : List ℕ) (board point : ℕ) (helpers partners ys : List ℕ) : Type 0 where
@@ -62,12 +55,6 @@ pub record Moved (s : Record) (area : List ℕ) (board point : ℕ) (helpers par
   -- "Other bytes stay": only the first S stripes change
   pub stays : Stays s (allBoards s) area (moveCall s area board point helpers partners .area)
 
--- the moves of a list that the book accepts, in order: board and new point
-abbrev pub movesIn : Book → List Event → List (ℕ × ℕ)
-movesIn b [] = []
-movesIn b (call c ∷ es) = newPoint c (enter b c .reply .answer) ++ movesIn (enter b c .book) es
-movesIn b (powerFails p ∷ es) = movesIn (bookNext b (powerFails p)) es
-
 pub record MoveLaws : Type 0 where
   -- "Lists and marks are checked as in a repair of one board": COUNT and NODE hold where they do there, and, with lists of the right lengths, REPEAT does
   -- where it does there or the new byte is some board's point
@@ -77,13 +64,6 @@ pub record MoveLaws : Type 0 where
       × (appliesIn (moveLines s m board point helpers partners) Count ≡ false
       → (appliesIn (moveLines s m board point helpers partners) Repeat ≡ true)
       ↔ ((appliesIn (listLines s (board ∷ []) helpers partners) Repeat ≡ true) ⊎ (among (take (s .sizes .n) (s .points)) point ≡ true)))
-  -- request A.8: beside a record of a repair it is accepted just where it is accepted by itself and none runs, and then does the same
-  pub taken-beside : (s : Record) (p : Running) (area : List ℕ) (board point : ℕ) (helpers partners : List ℕ)
-      → (moveBoth s p area board point helpers partners .answer .refusal ≡ 0)
-      ↔ ((moveCall s area board point helpers partners .answer .refusal ≡ 0) × (p .running ≡ false))
-  pub same-beside : (s : Record) (p : Running) (area : List ℕ) (board point : ℕ) (helpers partners : List ℕ)
-      → moveBoth s p area board point helpers partners .answer .refusal ≡ 0
-      → moveBoth s p area board point helpers partners ≡ beside p (moveCall s area board point helpers partners)
   pub moved : (s : Record) (area : List ℕ) (board point : ℕ) (helpers partners : List ℕ) → point < 256
       → moveCall s area board point helpers partners .answer .refusal ≡ 0
       → Moved s area board point helpers partners (set (s .points) board point)
@@ -136,40 +116,3 @@ pub record MoveLaws : Type 0 where
       (writeCall fresh any file .answer .refusal ≡ 0)
       × ((j : ℕ) → j < s .sizes .n
       → held s (moveCall s area i i helpers partners .area) j ≡ held (writtenRecord fresh (length file)) (writeCall fresh any file .area) j)
-  -- the moves of a list: of an accepted move its board and its new point, once, and of all else that happens nothing
-  pub moves-none : (b : Book) → movesIn b [] ≡ []
-  pub moves-one : (b : Book) (board point : ℕ) (helpers partners : List ℕ) (es : List Event) → Accepted b (move board point helpers partners)
-      → movesIn b (call (move board point helpers partners) ∷ es) ≡ (board, point) ∷ movesIn (enter b (move board point helpers partners) .book) es
-  pub moves-refused : (b : Book) (c : Call) (es : List Event) → (Accepted b c → ⊥) → movesIn b (call c ∷ es) ≡ movesIn b es
-  pub moves-other : (b : Book) (c : Call) (es : List Event) → ((board point : ℕ) (helpers partners : List ℕ) → c ≢ move board point helpers partners)
-      → movesIn b (call c ∷ es) ≡ movesIn (enter b c .book) es
-  pub moves-fails : (b : Book) (p : Running) (es : List Event) → movesIn b (powerFails p ∷ es) ≡ movesIn (bookNext b (powerFails p)) es
-  -- the book's points are those of its opening but for the boards moved since
-  pub points-are : (es : List Event) (b : Book) → bookFinal b es .points ≡ setPoints (b .points) (movesIn b es)
-  -- "Moving boards 0 to n − 1 in turn carries i + 1 to i", whatever other calls and power failures stand between
-  pub turn : (z : Sizes) (c m : ℕ) (es : List Event) → legal z ≡ true
-      → movesIn (openBook z (firstSeries z) c m) es ≡ tabulate (z .n) (λ i. (i, i))
-      → bookFinal (openBook z (firstSeries z) c m) es .points ≡ standard z
-  -- so it is with the record of the store, after any list that demand 3 allows
-  pub turn-record : (old : Record) (p : Running) (z : Sizes) (c : ℕ) (area : List ℕ) (steps : List Step) → setUpBoth old p z (firstSeries z) c .answer .refusal ≡ 0
-      → Allowed (begun old p z (firstSeries z) c area) (openBook z (firstSeries z) c (length area)) steps
-      → movesIn (openBook z (firstSeries z) c (length area)) (events steps) ≡ tabulate (z .n) (λ i. (i, i))
-      → final (begun old p z (firstSeries z) c area) steps .kept .points ≡ standard z
-  -- and there are such lists, at all legal sizes: a write of any file that fits, and n moves with whatever lists a repair of one board takes
-  pub turn-met : (z : Sizes) (c : ℕ) (file : List ℕ) (helpers partners : ℕ → List ℕ) → legal z ≡ true → length file ≤ c * B z
-      → ((i : ℕ) → i < z .n
-      → (length (helpers i) ≡ z .d) × (length (partners i) ≡ z .r - 1)
-      × (below (z .n) (i ∷ (helpers i ++ partners i)) ≡ true) × (different (i ∷ (helpers i ++ partners i)) ≡ true))
-      → movesIn (openBook z (firstSeries z) c (z .n * (c * α z))) (call (write file) ∷ tabulate (z .n) (λ i. call (move i i (helpers i) (partners i))))
-      ≡ tabulate (z .n) (λ i. (i, i))
-  -- so it goes in the store, with nothing altered: from a set-up at the first series' points over any area, behind the last move the record has document 01's points,
-  -- and every board holds its share of the file there
-  pub turn-run : (old : Record) (p : Running) (z : Sizes) (c : ℕ) (area file : List ℕ) (helpers partners : ℕ → List ℕ)
-      → setUpBoth old p z (firstSeries z) c .answer .refusal ≡ 0 → length area ≡ z .n * (c * α z) → length file ≤ c * B z → Bytes file
-      → ((i : ℕ) → i < z .n
-      → (length (helpers i) ≡ z .d) × (length (partners i) ≡ z .r - 1)
-      × (below (z .n) (i ∷ (helpers i ++ partners i)) ≡ true) × (different (i ∷ (helpers i ++ partners i)) ≡ true))
-      → let w = begun old p z (firstSeries z) c area in
-      let es = call (write file) ∷ tabulate (z .n) (λ i. call (move i i (helpers i) (partners i))) in
-      let e = final w (unaltered w (openBook z (firstSeries z) c (length area)) es) in
-      (e .kept .points ≡ standard z) × ((i : ℕ) → i < z .n → held (e .kept) (e .area) i ≡ share z (standard z) file i)

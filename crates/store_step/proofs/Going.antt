@@ -23,11 +23,11 @@ use Rattle.sizes.proofs.Orders.{clear-off}
 use Rattle.mbcr.specs.Share.{DifferentPoints}
 use Rattle.line_checks.specs.Steps.{Stated}
 use Rattle.store_spec.specs.Record.{Record, sound, areaLen, withMarks, turnOn, putShares}
-use Rattle.store_spec.specs.Running.{Running, idle, withCarried, freshOf, helpersOf, standInsOf, packetCount, packetsLen, soundBeside}
-use Rattle.store_spec.specs.Lying.{shareLying, carry}
-use Rattle.store_spec.specs.Both.{Outcome, stepLines, leftOf, carriedOn, stepLast, stepOn, stepDone}
+use Rattle.beside_spec.specs.Running.{Running, idle, withCarried, freshOf, helpersOf, standInsOf, packetCount, packetsLen, soundBeside}
+use Rattle.beside_spec.specs.Lying.{shareLying, carry}
+use Rattle.beside_spec.specs.Both.{Outcome, stepLines, leftOf, carriedOn, stepLast, stepOn, stepDone}
 use Rattle.store_spec.proofs.Records.{sound-facts, sound-points, repair-facts}
-use Rattle.store_spec.proofs.Beside.{sound-beside, lists-taken}
+use Rattle.beside_spec.proofs.Beside.{sound-beside, lists-taken}
 use Rattle.step_laws.specs.Steps.{Listed}
 use Rattle.step_laws.proofs.Facts as laws
 use Rattle.running_lists.proofs.Lists.{count-few, fit-fresh, fit-helpers, fit-stand-ins}

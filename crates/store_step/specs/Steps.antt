@@ -8,8 +8,8 @@ use lib.ListN.{length}
 use Rattle.sizes.specs.declared.Answer.the-variants.{Done}
 use Rattle.sizes.specs.Refusals.{said}
 use Rattle.store_spec.specs.Record.{Record, sound, areaLen}
-use Rattle.store_spec.specs.Running.{Running, freshOf, helpersOf, standInsOf, packetCount, packetsLen}
-use Rattle.store_spec.specs.Both.{Outcome}
+use Rattle.beside_spec.specs.Running.{Running, freshOf, helpersOf, standInsOf, packetCount, packetsLen}
+use Rattle.beside_spec.specs.Both.{Outcome}
 use Rattle.step_laws.specs.Steps.{Listed}
 use Rattle.record.specs.Records.{recordOf, runningIn}
 use Rattle.store_step.specs.declared.Stepped.{Stepped}

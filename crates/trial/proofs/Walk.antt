@@ -14,11 +14,11 @@ use Rattle.board_spec.specs.Text.{decimal}
 use Rattle.printer.specs.Printer.{refusedLine}
 use Rattle.text_lines.specs.Steps.{Wrote}
 use Rattle.store_spec.specs.Record.{Record, areaLen}
-use Rattle.store_spec.specs.Running.{Running, idle}
-use Rattle.store_spec.specs.Both.{setUpBoth}
-use Rattle.store_spec.specs.Ledger.{State}
+use Rattle.beside_spec.specs.Running.{Running, idle}
+use Rattle.beside_spec.specs.Both.{setUpBoth}
+use Rattle.beside_spec.specs.Acting.{State}
 use Rattle.store_spec.proofs.Records.{sound-facts}
-use Rattle.store_spec.proofs.Demand3.{set-up-both}
+use Rattle.beside_spec.proofs.Beside.{set-up-both}
 use Rattle.trial_spec.specs.Trial.{Load, newStore, taken, loaded, drawn, left, trialOver, trialOf, trialText}
 use Rattle.trial_spec.proofs.Laws.{trial-laws}
 use Rattle.trial_input.specs.declared.Load as load

@@ -15,8 +15,8 @@ use Rattle.lists.specs.Lists.{tabulate}
 use Rattle.lists.proofs.Tests.{every-all}
 use Rattle.lists.proofs.Alls.{all-at}
 use Rattle.lists.proofs.Pieces.{length-tabulate, tabulate-at}
-use Rattle.store_spec.specs.Both.{Outcome, writeBoth, loseBoth, repairBoth, readBoth}
-use Rattle.store_spec.specs.Ledger.{Call, write, lose, repair, read, act}
+use Rattle.beside_spec.specs.Both.{Outcome, writeBoth, loseBoth, repairBoth, readBoth}
+use Rattle.beside_spec.specs.Acting.{Call, write, lose, repair, read, act}
 use Rattle.trial_spec.specs.Trial.{left}
 use Rattle.record.specs.declared.Running.{Running}
 use Rattle.record.specs.Records.{runningIn}

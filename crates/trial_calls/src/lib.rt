@@ -5,7 +5,7 @@ ghost use Prim.Native.Nat.{_≤_, _<_};
 ghost use lib.ListN.{length};
 ghost use Rattle.sizes.specs.Sizing.{legal};
 ghost use Rattle.generator.specs.Generator.{after, emitted};
-ghost use Rattle.store_spec.specs.Ledger.{write, read};
+ghost use Rattle.beside_spec.specs.Acting.{write, read};
 ghost use Rattle.trial_spec.specs.Trial.{counted};
 ghost use Rattle.trial_calls.specs.Acts.{stateIn, Acts, repairDrawn, readDrawn, Listed};
 use record::Running;

@@ -24,8 +24,9 @@ use Rattle.mbcr.specs.Share.{standard}
 use Rattle.store_spec.specs.Record.{Record, sound, newRecord, areaLen}
 use Rattle.store_spec.specs.Calls.{recordLine, setUpCall}
 use Rattle.store_spec.proofs.Records.{Sound, sound-facts}
-use Rattle.store_spec.specs.Running.{idle}
-use Rattle.store_spec.proofs.Demand3.{set-up-both, set-up-sound, set-up-taken}
+use Rattle.beside_spec.specs.Running.{idle}
+use Rattle.beside_spec.proofs.Beside.{set-up-both}
+use Rattle.store_spec.proofs.Passed.{set-up-sound, set-up-taken}
 use Rattle.trial_spec.specs.Trial.{Load, newStore, taken}
 use Rattle.trial_spec.proofs.Laws.{trial-laws}
 use Rattle.line_places.specs.Steps.{most}

@@ -18,8 +18,8 @@ use Rattle.number_lines.proofs.Laws.{line-laws}
 use Rattle.sizes.proofs.Legal.{legal-facts}
 use Rattle.mbcr.specs.Share.{standard}
 use Rattle.store_spec.proofs.Records.{sound-facts}
-use Rattle.store_spec.specs.Running.{idle}
-use Rattle.store_spec.proofs.Demand3.{set-up-both}
+use Rattle.beside_spec.specs.Running.{idle}
+use Rattle.beside_spec.proofs.Beside.{set-up-both}
 use lib.Dec.{eqb}
 use borrow.Author.Tests.{eqb-true}
 use Rattle.trial_spec.specs.Trial.{Load, newStore, taken, loaded}

@@ -16,7 +16,8 @@ use Rattle.lists.proofs.Pieces.{length-tabulate, tabulate-at, length-join, piec
 use Rattle.sizes.specs.Refusals.{Said}
 use Rattle.board_spec.specs.Text.{decimal, textLine}
 use Rattle.printer.proofs.Forms.{line-taken, step}
-use Rattle.store_spec.specs.Ledger.{Call, write, lose, Reply, State, act}
+use Rattle.beside_spec.specs.Acting.{Call, write, lose, State, act}
+use Rattle.ledger_spec.specs.Ledger.{Reply}
 use Rattle.generator.specs.Generator.{after, emitted}
 use Rattle.trial_spec.specs.Trial.{Load, eightLines, taken, loaded, counted, drawn, drawnCalls, callLine, printed, left, storeReplies}
 use Rattle.trial_spec.specs.DrawLaws.{Eight, Numbers, asks, spelt, Asked, byte, CountsOn, SameForEach, Repairs, Reads, before, numbers, DrawLaws}

@@ -11,9 +11,9 @@ use Rattle.board_spec.specs.Text.{decimal}
 use Rattle.store_spec.specs.Record.{sound}
 use Rattle.store_spec.specs.Packets.{helperPackets, standInPackets, exchangePackets, partnerPackets, repairPackets, freshShare}
 use Rattle.store_spec.specs.Calls.{writeLines, loseLines, listLines, repairLines, readLines, setUpCall, writeCall, loseCall, repairCall, readCall}
-use Rattle.store_spec.specs.Running.{soundBeside}
-use Rattle.store_spec.specs.Both.{writeLinesBoth, loseLinesBoth, repairLinesBoth, readLinesBoth, setUpBoth, writeBoth, loseBoth, repairBoth, readBoth}
-use Rattle.store_spec.specs.Ledger.{act}
+use Rattle.beside_spec.specs.Running.{soundBeside}
+use Rattle.beside_spec.specs.Both.{writeLinesBoth, loseLinesBoth, repairLinesBoth, readLinesBoth, setUpBoth, writeBoth, loseBoth, repairBoth, readBoth}
+use Rattle.beside_spec.specs.Acting.{act}
 use Rattle.generator.specs.Generator.{step}
 use Rattle.trial_spec.specs.Trial.{taken, loaded, drawn, callLine, trialOver, trialText}
 use Rattle.trial_spec.specs.Figures.{TrialFigures}

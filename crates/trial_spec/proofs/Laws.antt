@@ -22,13 +22,15 @@ use Rattle.board_spec.specs.Calls.{fileOf}
 use Rattle.printer.specs.Printer.{refusedLine}
 use Rattle.store_spec.specs.Record.{Record, newRecord, areaLen}
 use Rattle.store_spec.specs.Calls.{settle, refused, accepted, recordLine, setUpCall, loseCall}
-use Rattle.store_spec.specs.Running.{Running, idle, namedIn}
-use Rattle.store_spec.specs.Both.{Outcome, setUpBoth, lostBeside}
-use Rattle.store_spec.specs.Ledger.{Call, write, lose, repair, read, edit, start, step, careful, move, Event, call, Reply, Book, Entry, State, Step, Allowed}
-use Rattle.store_spec.specs.Ledger.{FairEvent, act, replyOf, next, replied, bookLines, accept, enter, bookNext, replies, openBook, bookReplies}
-use Rattle.store_spec.specs.Demand3.{begun, events}
-use Rattle.store_spec.proofs.AloneLaws.{alone-laws}
-use Rattle.store_spec.proofs.Demand3.{demand-3}
+use Rattle.beside_spec.specs.Running.{Running, idle, namedIn}
+use Rattle.beside_spec.specs.Both.{Outcome, setUpBoth, lostBeside}
+use Rattle.beside_spec.specs.Acting.{Call, write, lose, repair, read, edit, start, step, careful, move, State}
+use Rattle.ledger_spec.specs.Ledger.{Event, call, Reply, Book, Entry, Step, Allowed}
+use Rattle.ledger_spec.specs.Ledger.{FairEvent, replyOf, next, replied, bookLines, accept, enter, bookNext, replies, openBook, bookReplies}
+use Rattle.beside_spec.specs.Acting.{act}
+use Rattle.ledger_spec.specs.Demand3.{begun, events}
+use Rattle.beside_spec.proofs.AloneLaws.{alone-laws}
+use Rattle.ledger_spec.proofs.Demand3.{demand-3}
 use Rattle.generator.specs.Generator.{step as stepped, topByte, after, emitted}
 use Rattle.generator.proofs.Laws.{generator-laws}
 use Rattle.number_lines.specs.Lines.{line}

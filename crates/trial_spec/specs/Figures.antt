@@ -12,7 +12,7 @@ use Rattle.lists.specs.Lists.{concat}
 use Rattle.sizes.specs.Refusals.{Said}
 use Rattle.board_spec.specs.Text.{decimal, textLine}
 use Rattle.printer.specs.Printer.{refusedLine}
-use Rattle.store_spec.specs.Ledger.{write, lose, repair, read}
+use Rattle.beside_spec.specs.Acting.{write, lose, repair, read}
 use Rattle.trial_spec.specs.Trial.{Load, loaded, boardCall, drawnCalls, callLine, trialText}
 
 -- the lines with these numbers

@@ -13,10 +13,11 @@ use Rattle.sizes.specs.Sizing.{α}
 use Rattle.mbcr.specs.Share.{standard}
 use Rattle.printer.specs.Printer.{refusedLine}
 use Rattle.store_spec.specs.Record.{Record, areaLen}
-use Rattle.store_spec.specs.Running.{Running}
-use Rattle.store_spec.specs.Both.{setUpBoth}
-use Rattle.store_spec.specs.Ledger.{Call, write, lose, repair, read, edit, start, step, careful, move, call, State, act, openBook, bookReplies}
-use Rattle.store_spec.specs.Demand3.{begun}
+use Rattle.beside_spec.specs.Running.{Running}
+use Rattle.beside_spec.specs.Both.{setUpBoth}
+use Rattle.beside_spec.specs.Acting.{Call, write, lose, repair, read, edit, start, step, careful, move, State, act}
+use Rattle.ledger_spec.specs.Ledger.{call, openBook, bookReplies}
+use Rattle.ledger_spec.specs.Demand3.{begun}
 use Rattle.trial_spec.specs.Trial.{Load, newStore, taken, loaded, drawnCalls, printed, storeReplies, trialOver, trialText}
 
 -- what the ledger replies to the calls drawn

@@ -16,10 +16,11 @@ use Rattle.board_spec.specs.Text.{decimal}
 use Rattle.printer.specs.Printer.{refusedLine, maxFile}
 use Rattle.store_spec.specs.Record.{Record, newRecord, areaLen}
 use Rattle.store_spec.specs.Calls.{setUpCall}
-use Rattle.store_spec.specs.Running.{Running, idle}
-use Rattle.store_spec.specs.Both.{Outcome}
-use Rattle.store_spec.specs.Ledger.{Call, write, lose, repair, read, edit, start, step, careful, move, Reply, State, act, replyOf}
-use Rattle.store_spec.specs.Demand3.{begun}
+use Rattle.beside_spec.specs.Running.{Running, idle}
+use Rattle.beside_spec.specs.Both.{Outcome}
+use Rattle.beside_spec.specs.Acting.{Call, write, lose, repair, read, edit, start, step, careful, move, State, act}
+use Rattle.ledger_spec.specs.Ledger.{Reply, replyOf}
+use Rattle.ledger_spec.specs.Demand3.{begun}
 use Rattle.generator.specs.Generator.{step as stepped, topByte, after, emitted}
 
 -- ---- what it reads

@@ -1,8 +1,8 @@
 //! Request A.2: the store that the trial load begins with.
 ghost use mathlib.Core.Path.{_≡_};
 ghost use Rattle.mbcr.specs.Share.{standard};
-ghost use Rattle.store_spec.specs.Running.{idle};
-ghost use Rattle.store_spec.specs.Both.{setUpBoth};
+ghost use Rattle.beside_spec.specs.Running.{idle};
+ghost use Rattle.beside_spec.specs.Both.{setUpBoth};
 ghost use Rattle.record.specs.Records.{runningIn};
 ghost use Rattle.store.specs.Handing.{recordIn};
 ghost use Rattle.trial_spec.specs.Trial.{newStore};

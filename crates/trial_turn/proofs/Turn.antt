@@ -11,10 +11,10 @@ use Rattle.sizes.specs.Sizing.{legal}
 use Rattle.sizes.specs.Refusals.{Said}
 use Rattle.mbcr.specs.Share.{standard}
 use Rattle.text_lines.specs.Steps.{Wrote}
-use Rattle.store_spec.specs.Ledger.{Call, write, lose, State}
+use Rattle.beside_spec.specs.Acting.{Call, write, lose, State}
 use Rattle.store_spec.proofs.Records.{sound-facts}
-use Rattle.store_spec.specs.Running.{idle}
-use Rattle.store_spec.proofs.Demand3.{set-up-both}
+use Rattle.beside_spec.specs.Running.{idle}
+use Rattle.beside_spec.proofs.Beside.{set-up-both}
 use Rattle.store.specs.declared.Handed.{Handed}
 use Rattle.generator.specs.Generator.{step, topByte, after, emitted}
 use Rattle.trial_spec.specs.Trial.{Load, newStore, taken, Drawn, boardCall, drawn, callLine}

@@ -4,8 +4,8 @@ use mathlib.Core.List.{List}
 use Prim.Native.Nat.{ℕ, _%_}
 use lib.Dec.{eqb}
 use Rattle.lists.specs.Tests.{pick}
-use Rattle.store_spec.specs.Both.{Outcome}
-use Rattle.store_spec.specs.Ledger.{Call, write, State, act}
+use Rattle.beside_spec.specs.Both.{Outcome}
+use Rattle.beside_spec.specs.Acting.{Call, write, State, act}
 use Rattle.generator.specs.Generator.{step, topByte, after, emitted}
 use Rattle.trial_spec.specs.Trial.{Load, boardCall, drawn, callLine}
 

@@ -2,7 +2,7 @@
 -- Assumes nothing.
 use mathlib.Core.List.{List}
 use Prim.Native.Nat.{ℕ}
-use Rattle.store_spec.specs.Ledger.{State}
+use Rattle.beside_spec.specs.Acting.{State}
 use Rattle.trial_spec.specs.Trial.{Load, drawnCalls, printed, storeReplies}
 
 abbrev pub textFrom : Load → ℕ → State → ℕ → List ℕ

@@ -1,7 +1,7 @@
 //! The check of a write: its lines in document 01's order, and BUSY behind them (request A.8). Each check's answer is taken apart, and a refusal returned early.
 ghost use mathlib.Core.Path.{_≡_};
 ghost use Rattle.sizes.specs.Refusals.{first, storeOrder};
-ghost use Rattle.store_spec.specs.Both.{writeLinesBoth};
+ghost use Rattle.beside_spec.specs.Both.{writeLinesBoth};
 ghost use Rattle.record.specs.Records.{recordOf, runningIn};
 use record::Kept;
 use record::Running;

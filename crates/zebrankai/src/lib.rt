@@ -17,7 +17,7 @@ ghost use Rattle.sizes.specs.Refusals.{said};
 ghost use Rattle.board_spec.specs.Calls.{shareCall, fileCall, helperCall, exchangeCall, finishedCall, textCall};
 ghost use Rattle.text_spec.specs.Calls.{gatherCall};
 ghost use Rattle.prefix_spec.specs.Prefix.{longest};
-ghost use Rattle.store_spec.specs.Ledger.{write, lose, repair, read, careful, edit, move, start, step};
+ghost use Rattle.beside_spec.specs.Acting.{write, lose, repair, read, careful, edit, move, start, step};
 ghost use Rattle.answer_word.specs.Answers.{wordOf};
 ghost use Rattle.archive_spec.specs.Archive.{sizesOf};
 ghost use Rattle.archive_spec.specs.Lent.{zbkSetUp, zbk};

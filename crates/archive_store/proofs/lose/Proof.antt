@@ -4,9 +4,9 @@ use Prim.Native.Nat.{ℕ}
 use mathlib.Core.List.{List, []}
 use borrow.Author.Needs.{needs}
 use Rattle.store_spec.specs.Record.{Record}
-use Rattle.store_spec.specs.Running.{Running}
-use Rattle.store_spec.specs.Both.{Outcome}
-use Rattle.store_spec.specs.Ledger.{lose, Call, act}
+use Rattle.beside_spec.specs.Running.{Running}
+use Rattle.beside_spec.specs.Both.{Outcome}
+use Rattle.beside_spec.specs.Acting.{lose, Call, act}
 use Rattle.archive_store.proofs.Worded.{Both, are-both, none-lent, lent-on, handed-asks}
 use Rattle.archive_store.proofs.lose.Statement.{statement}
 use Rattle.archive_store.proofs.lose.Tie as tie

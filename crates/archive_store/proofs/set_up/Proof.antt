@@ -6,9 +6,9 @@ use native.Mathlib.Omega.{arith}
 use borrow.Author.Needs.{needs}
 use lib.ListN.{length}
 use Rattle.sizes.specs.declared.Sizes.{Sizes}
-use Rattle.store_spec.specs.Running as beside-record
+use Rattle.beside_spec.specs.Running as beside-record
 use Rattle.store_spec.specs.Record.{Record}
-use Rattle.store_spec.specs.Both.{setUpBoth}
+use Rattle.beside_spec.specs.Both.{setUpBoth}
 use Rattle.record.specs.Records.{runningIn, recordOf}
 use Rattle.store.specs.Handing.{outcomeBoth}
 use Rattle.archive_spec.specs.Archive.{sizesOf}

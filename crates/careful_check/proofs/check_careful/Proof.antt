@@ -10,7 +10,7 @@ use Rattle.sizes.specs.Refusals.{Line, first, storeOrder}
 use Rattle.board_spec.specs.Calls.{shortLine}
 use Rattle.store_spec.specs.Record.{Record}
 use Rattle.store_spec.specs.Calls.{emptyLine}
-use Rattle.store_spec.specs.Running.{Running}
+use Rattle.beside_spec.specs.Running.{Running}
 use Rattle.record.specs.Records.{recordOf, runningIn}
 use Rattle.shared_checks.specs.Steps.{areaLines}
 use Rattle.checks.proofs.Chain.{thens, grouped, goes-on, refuses, ends}

@@ -13,8 +13,8 @@ use Rattle.store_spec.specs.Record.{Record}
 use Rattle.store_spec.proofs.Records.{sound-facts}
 use Rattle.store_spec.specs.Calls.{emptyLine}
 use Rattle.store_spec.specs.Move.{moveLines}
-use Rattle.store_spec.specs.Running.{Running}
-use Rattle.store_spec.specs.Both.{busyLine, moveLinesBoth}
+use Rattle.beside_spec.specs.Running.{Running}
+use Rattle.beside_spec.specs.Both.{busyLine, moveLinesBoth}
 use Rattle.checks.proofs.Chain.{thens, grouped, goes-on, refuses, ends}
 use Rattle.record.specs.Records.{recordOf, runningIn}
 use Rattle.shared_checks.specs.Steps.{areaLines}

@@ -9,8 +9,8 @@ use Rattle.sizes.specs.Refusals.{Line, first, storeOrder}
 use Rattle.board_spec.specs.Calls.{nodeLine}
 use Rattle.store_spec.specs.Record.{Record}
 use Rattle.store_spec.specs.Calls.{loseLines}
-use Rattle.store_spec.specs.Running.{Running}
-use Rattle.store_spec.specs.Both.{bothLine, loseLinesBoth}
+use Rattle.beside_spec.specs.Running.{Running}
+use Rattle.beside_spec.specs.Both.{bothLine, loseLinesBoth}
 use Rattle.checks.proofs.Chain.{thens, grouped, goes-on, refuses, ends}
 use Rattle.record.specs.Records.{recordOf, runningIn}
 use Rattle.record_checks.proofs.check_lose.Statement.{statement}

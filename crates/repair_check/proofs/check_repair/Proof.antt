@@ -12,8 +12,8 @@ use Rattle.sizes.specs.Refusals.{Line, first, storeOrder}
 use Rattle.store_spec.specs.Record.{Record}
 use Rattle.store_spec.proofs.Records.{sound-facts}
 use Rattle.store_spec.specs.Calls.{emptyLine, listLines, repairLines}
-use Rattle.store_spec.specs.Running.{Running}
-use Rattle.store_spec.specs.Both.{busyLine, repairLinesBoth}
+use Rattle.beside_spec.specs.Running.{Running}
+use Rattle.beside_spec.specs.Both.{busyLine, repairLinesBoth}
 use Rattle.checks.proofs.Chain.{thens, grouped, goes-on, refuses, ends}
 use Rattle.checks.proofs.Given.{chain}
 use Rattle.record.specs.Records.{recordOf, runningIn}

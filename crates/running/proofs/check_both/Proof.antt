@@ -5,7 +5,7 @@ use borrow.Author.Needs.{needs}
 use Rattle.lists.proofs.Tests.{not-no}
 use Rattle.store_spec.specs.Record.{Record, sound}
 use Rattle.store_spec.specs.Calls.{recordLine}
-use Rattle.store_spec.specs.Running.{Running, soundBeside}
+use Rattle.beside_spec.specs.Running.{Running, soundBeside}
 use Rattle.store_spec.proofs.Records.{sound-facts}
 use Rattle.line_checks.proofs.Answers.{passed}
 use Rattle.record.specs.Records.{recordOf, runningIn}

@@ -11,7 +11,7 @@ use borrow.Author.Tests.{not-true}
 use Rattle.lists.proofs.Tests.{not-no}
 use Rattle.sizes.proofs.Legal.{Legal, legal-facts}
 use Rattle.store_spec.specs.Record.{Record}
-use Rattle.store_spec.specs.Running.{Running}
+use Rattle.beside_spec.specs.Running.{Running}
 use Rattle.record.specs.Records.{recordOf, runningIn}
 use Rattle.running_lists.proofs.Lists.{fit-fresh}
 use Rattle.running.proofs.Beside.{arraysPass, arrays-are, none-runs, many-fresh, lists-refused, lists-passed}

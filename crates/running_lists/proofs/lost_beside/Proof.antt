@@ -9,8 +9,8 @@ use lib.ListN.{length}
 use borrow.Author.Needs.{needs}
 use Rattle.lists.specs.Tests.{pick, alls, among}
 use Rattle.store_spec.specs.Record.{Record}
-use Rattle.store_spec.specs.Running.{Running, idle, namedIn}
-use Rattle.store_spec.specs.Both.{lostBeside}
+use Rattle.beside_spec.specs.Running.{Running, idle, namedIn}
+use Rattle.beside_spec.specs.Both.{lostBeside}
 use Rattle.record.specs.Records.{recordOf, runningIn}
 use Rattle.running_lists.proofs.Lists.{fit-fresh, count-few, named-are}
 use Rattle.running_lists.proofs.lost_beside.Statement.{statement}

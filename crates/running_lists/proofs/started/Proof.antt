@@ -7,7 +7,7 @@ use Prim.Native.Nat.{ℕ}
 use lib.ListN.{length}
 use borrow.Author.Needs.{needs}
 use Rattle.lists.specs.Lists.{fit}
-use Rattle.store_spec.specs.Running.{Running, runningBy}
+use Rattle.beside_spec.specs.Running.{Running, runningBy}
 use Rattle.running_lists.proofs.started.Statement.{statement}
 use Rattle.running_lists.proofs.started.Tie as tie
 

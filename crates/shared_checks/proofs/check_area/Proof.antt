@@ -16,8 +16,8 @@ use Rattle.sizes.specs.Refusals.{Line, _when_, first, storeOrder}
 use Rattle.sizes.proofs.Legal.{legal-facts, α-most}
 use Rattle.store_spec.specs.Record.{Record}
 use Rattle.store_spec.specs.Calls.{lentLine}
-use Rattle.store_spec.specs.Running.{Running}
-use Rattle.store_spec.specs.Both.{bothLine}
+use Rattle.beside_spec.specs.Running.{Running}
+use Rattle.beside_spec.specs.Both.{bothLine}
 use Rattle.store_spec.proofs.Records.{Sound, sound-facts}
 use Rattle.line_checks.specs.Steps.{asked}
 use Rattle.line_checks.proofs.Answers.{passed}

@@ -18,7 +18,7 @@ use Rattle.sizes.specs.Sizing.{α}
 use Rattle.sizes.specs.Refusals.{_when_}
 use Rattle.sizes.proofs.Legal.{legal-facts, α-most}
 use Rattle.store_spec.specs.Record.{Record}
-use Rattle.store_spec.specs.Running.{Running, freshOf, packetsLen}
+use Rattle.beside_spec.specs.Running.{Running, freshOf, packetsLen}
 use Rattle.line_checks.specs.Steps.{asked}
 use Rattle.record.specs.Records.{recordOf, runningIn}
 use Rattle.checks.proofs.Chain.{one-area}

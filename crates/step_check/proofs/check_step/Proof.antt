@@ -14,8 +14,8 @@ use Rattle.sizes.specs.declared.Refusal.the-variants.{Size, Area, Idle}
 use Rattle.sizes.specs.Refusals.{Line, _when_, first, storeOrder}
 use Rattle.store_spec.specs.Record.{Record, areaLen}
 use Rattle.store_spec.specs.Calls.{emptyLine}
-use Rattle.store_spec.specs.Running.{Running, freshOf, packetsLen}
-use Rattle.store_spec.specs.Both.{bothLine, stepLines}
+use Rattle.beside_spec.specs.Running.{Running, freshOf, packetsLen}
+use Rattle.beside_spec.specs.Both.{bothLine, stepLines}
 use Rattle.record.specs.Records.{recordOf, runningIn}
 use Rattle.checks.proofs.Given.{chain}
 use Rattle.checks.proofs.Chain.{thens, grouped, goes-on, refuses, ends}

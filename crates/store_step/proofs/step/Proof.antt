@@ -8,7 +8,7 @@ use lib.ListN.{length, take}
 use lib.Seq.{length-take-le}
 use borrow.Author.Needs.{needs}
 use Rattle.store_spec.specs.Record.{Record}
-use Rattle.store_spec.specs.Running.{Running}
+use Rattle.beside_spec.specs.Running.{Running}
 use Rattle.record.specs.Records.{recordOf, runningIn}
 use Rattle.store_step.proofs.Going.{Lists, lists-of}
 use Rattle.store_step.proofs.step.Statement.{statement}

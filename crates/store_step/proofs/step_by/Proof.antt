@@ -6,7 +6,7 @@ use lib.ListN.{length}
 use borrow.Author.Needs.{needs}
 use Rattle.sizes.proofs.Legal.{Legal, legal-facts}
 use Rattle.store_spec.specs.Record.{Record}
-use Rattle.store_spec.specs.Running.{Running, packetCount}
+use Rattle.beside_spec.specs.Running.{Running, packetCount}
 use Rattle.store_spec.proofs.Records.{sound-facts}
 use Rattle.step_laws.proofs.Facts.{few-packets}
 use Rattle.record.specs.Records.{recordOf, runningIn}

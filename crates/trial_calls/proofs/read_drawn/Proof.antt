@@ -7,7 +7,7 @@ use native.Mathlib.Omega.{arith}
 use lib.ListN.{length, take, replicate}
 use Rattle.sizes.specs.declared.Sizes.{Sizes}
 use Rattle.sizes.proofs.Legal.{Legal, legal-facts}
-use Rattle.store_spec.specs.Ledger.{Call, read}
+use Rattle.beside_spec.specs.Acting.{Call, read}
 use Rattle.trial_spec.specs.Trial.{counted}
 use Rattle.trial_calls.specs.Acts.{stateIn, Acts, readDrawn}
 use Rattle.trial_calls.proofs.Made.{length-front, take-zeros}

@@ -4,7 +4,7 @@ use mathlib.Core.Path.{_≡_, ap, _∙_}
 use mathlib.Core.List.{List}
 use Prim.Native.Nat.{ℕ}
 use lib.ListN.{length}
-use Rattle.store_spec.specs.Both.{readBoth}
+use Rattle.beside_spec.specs.Both.{readBoth}
 use Rattle.record.specs.Records.{runningIn}
 use Rattle.store.specs.Handing.{recordIn}
 use Rattle.trial_spec.specs.Trial.{counted}

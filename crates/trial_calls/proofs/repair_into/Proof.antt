@@ -7,7 +7,7 @@ use native.Mathlib.Omega.{arith}
 use lib.ListN.{length}
 use Rattle.lists.specs.Lists.{join}
 use Rattle.sizes.proofs.Legal.{legal-facts}
-use Rattle.store_spec.specs.Both.{Outcome, repairBoth}
+use Rattle.beside_spec.specs.Both.{Outcome, repairBoth}
 use Rattle.record.specs.Records.{runningIn}
 use Rattle.store.specs.Handing.{recordIn}
 use Rattle.trial_spec.specs.Trial.{counted}

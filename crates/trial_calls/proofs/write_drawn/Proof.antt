@@ -3,7 +3,7 @@
 use mathlib.Core.Path.{_≡_, sym, subst}
 use Prim.Native.Nat.{ℕ}
 use Rattle.generator.specs.Generator.{after, emitted}
-use Rattle.store_spec.specs.Ledger.{write}
+use Rattle.beside_spec.specs.Acting.{write}
 use Rattle.trial_calls.specs.Acts.{stateIn, Acts}
 use Rattle.trial_calls.proofs.Made.{length-front}
 use borrow.Author.Needs.{needs}

@@ -5,7 +5,7 @@ use mathlib.Core.List.{List}
 use Prim.Native.Nat.{ℕ}
 use lib.ListN.{length}
 use Rattle.generator.specs.Generator.{emitted}
-use Rattle.store_spec.specs.Both.{writeBoth}
+use Rattle.beside_spec.specs.Both.{writeBoth}
 use Rattle.record.specs.Records.{runningIn}
 use Rattle.store.specs.Handing.{recordIn}
 use Rattle.trial_calls.proofs.Made.{write-acts}

@@ -6,8 +6,8 @@ use Prim.Native.Nat.{ℕ}
 use borrow.Author.Needs.{needs}
 use Rattle.mbcr.specs.Share.{standard}
 use Rattle.store_spec.specs.Record.{Record, newRecord}
-use Rattle.store_spec.specs.Running.{Running, idle}
-use Rattle.store_spec.specs.Both.{Outcome, setUpBoth}
+use Rattle.beside_spec.specs.Running.{Running, idle}
+use Rattle.beside_spec.specs.Both.{Outcome, setUpBoth}
 use Rattle.store.specs.Handing.{outcomeBoth}
 use Rattle.trial_store.proofs.set_up.Statement.{statement}
 use Rattle.trial_store.proofs.set_up.Tie as tie

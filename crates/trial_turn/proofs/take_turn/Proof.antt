@@ -5,7 +5,7 @@ use Prim.Native.Nat.{ℕ, _%_, _≤_, _<_}
 use native.Mathlib.Nat.{mod-lt}
 use native.Mathlib.Omega.{arith}
 use Rattle.sizes.proofs.Legal.{Legal, legal-facts}
-use Rattle.store_spec.specs.Ledger.{Call}
+use Rattle.beside_spec.specs.Acting.{Call}
 use Rattle.generator.specs.Generator.{step, topByte}
 use Rattle.trial_spec.specs.Trial.{boardCall}
 use Rattle.trial_input.specs.Steps.{loadIn}

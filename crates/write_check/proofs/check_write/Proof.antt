@@ -13,8 +13,8 @@ use Rattle.sizes.specs.Sizing.{B}
 use Rattle.sizes.specs.Refusals.{Line, _when_, first, storeOrder}
 use Rattle.store_spec.specs.Record.{Record}
 use Rattle.store_spec.specs.Calls.{writeLines}
-use Rattle.store_spec.specs.Running.{Running}
-use Rattle.store_spec.specs.Both.{busyLine, writeLinesBoth}
+use Rattle.beside_spec.specs.Running.{Running}
+use Rattle.beside_spec.specs.Both.{busyLine, writeLinesBoth}
 use Rattle.store_spec.proofs.Records.{Sound, sound-facts}
 use Rattle.record.specs.Records.{recordOf, runningIn}
 use Rattle.shared_checks.specs.Steps.{areaLines}

@@ -8,8 +8,8 @@ use Rattle.sizes.specs.declared.Check.the-variants.{Pass}
 use Rattle.sizes.specs.Refusals.{first, storeOrder}
 use Rattle.store_spec.specs.Record.{Record}
 use Rattle.store_spec.specs.Edit.{editLines}
-use Rattle.store_spec.specs.Running.{Running}
-use Rattle.store_spec.specs.Both.{editBoth}
+use Rattle.beside_spec.specs.Running.{Running}
+use Rattle.beside_spec.specs.Both.{editBoth}
 use Rattle.record.specs.Records.{runningIn}
 use Rattle.store.specs.Handing.{recordIn, turnedDown}
 use Rattle.store.specs.Steps.{Readable}

@@ -8,9 +8,9 @@ use borrow.Author.Needs.{needs}
 use Rattle.sizes.specs.declared.Check.the-variants.{Pass}
 use Rattle.sizes.specs.Refusals.{first, storeOrder}
 use Rattle.store_spec.specs.Record.{Record}
-use Rattle.store_spec.specs.Running.{Running}
+use Rattle.beside_spec.specs.Running.{Running}
 use Rattle.store_spec.specs.Move.{moveLines}
-use Rattle.store_spec.specs.Both.{moveBoth}
+use Rattle.beside_spec.specs.Both.{moveBoth}
 use Rattle.record.specs.Records.{runningIn}
 use Rattle.store.specs.Handing.{recordIn, turnedDown}
 use Rattle.store.proofs.MoveCall.{checked, move-refuses, move-alone, move-known, move-works}

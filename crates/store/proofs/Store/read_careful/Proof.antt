@@ -8,8 +8,8 @@ use borrow.Author.Needs.{needs}
 use borrow.Author.Tests.{not-true, not-false}
 use Rattle.sizes.specs.declared.Refusal.the-variants.{Disagree}
 use Rattle.store_spec.specs.Record.{Record}
-use Rattle.store_spec.specs.Running.{Running}
-use Rattle.store_spec.specs.Both.{carefulBoth}
+use Rattle.beside_spec.specs.Running.{Running}
+use Rattle.beside_spec.specs.Both.{carefulBoth}
 use Rattle.record.specs.Records.{runningIn}
 use Rattle.careful_tries.specs.Steps.{Careful}
 use Rattle.store.specs.Handing.{recordIn, turnedDown}

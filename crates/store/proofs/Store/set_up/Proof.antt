@@ -3,7 +3,7 @@
 use mathlib.Core.Path.{_≡_, sym, ap₂, _∙_}
 use mathlib.Core.List.{[]}
 use borrow.Author.Needs.{needs}
-use Rattle.store_spec.specs.Both.{setUpBoth}
+use Rattle.beside_spec.specs.Both.{setUpBoth}
 use Rattle.record.specs.Records.{runningIn}
 use Rattle.store.specs.Handing.{recordIn, turnedDown}
 use Rattle.store.proofs.Settled.{new, set-up-refuses, set-up-works}

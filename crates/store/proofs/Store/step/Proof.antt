@@ -5,8 +5,8 @@ use mathlib.Core.List.{[]}
 use borrow.Author.Needs.{needs}
 use Rattle.sizes.specs.declared.Check.the-variants.{Pass}
 use Rattle.store_spec.specs.Record.{Record}
-use Rattle.store_spec.specs.Running.{Running}
-use Rattle.store_spec.specs.Both.{stepCall}
+use Rattle.beside_spec.specs.Running.{Running}
+use Rattle.beside_spec.specs.Both.{stepCall}
 use Rattle.record.specs.Records.{runningIn}
 use Rattle.store.specs.Handing.{recordIn, turnedDown}
 use Rattle.store.proofs.StepCall.{checked, step-refuses, step-works}

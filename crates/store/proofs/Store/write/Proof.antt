@@ -11,8 +11,8 @@ use Rattle.sizes.specs.declared.Check.the-variants.{Pass}
 use Rattle.sizes.specs.Sizing.{B}
 use Rattle.sizes.proofs.Legal.{legal-facts, stripes-least}
 use Rattle.store_spec.specs.Record.{Record}
-use Rattle.store_spec.specs.Running.{Running}
-use Rattle.store_spec.specs.Both.{writeBoth}
+use Rattle.beside_spec.specs.Running.{Running}
+use Rattle.beside_spec.specs.Both.{writeBoth}
 use Rattle.store_spec.proofs.Records.{Sound, sound-facts, Writes, write-facts}
 use Rattle.record.specs.Records.{runningIn}
 use Rattle.store.specs.Handing.{recordIn, turnedDown}

@@ -1,0 +1,4 @@
+pub mod Ledger
+pub mod Demand3
+pub mod LedgerLaws
+pub mod ListLaws

@@ -1,0 +1,5 @@
+pub mod Premises
+pub mod WornLaws
+pub mod TurnListLaws
+pub mod Stepped
+pub mod Follows
