@@ -36,7 +36,7 @@ use Rattle.ledger_spec.specs.Ledger.{replied, Book, Repairing, during, k
 use Rattle.ledger_spec.specs.Ledger.{accept, bookLength}
 use Rattle.store_spec.specs.Packets.{contents, helperPackets, standInPackets, exchangePackets, partnerPackets, repairPackets}
 use Rattle.store_spec.specs.Record.{sound, areaLen, held, usedLen, partLen, inService, Record, writtenRecord}
-use Rattle.ledger_spec.proofs.Agree.{Tallies, tallies-running, serves, size-same}
+use Rattle.ledger_spec.proofs.Agree.{Tallies, tallies-running, serves, alike, size-same}
 use Rattle.store_spec.proofs.Area.{length-shares, shares-same}
 use Rattle.store_spec.proofs.Marks.{mark-at, off-from, marksOf, first-below, marks-all, off-above, off-none, marks-lose}
 use Rattle.store_spec.proofs.Records.{sound-facts, sound-points, used-fits, Sound, Writes, Repairs, repair-facts, facts-sound, write-facts, blank-if, blank-length, blank-off}
