@@ -1,4 +1,4 @@
--- What an accepted move does over any record and any area, and the turn of all boards.
+-- What an accepted move does over any record and any area, and a move of the turn of all boards.
 -- Assumes nothing.
 use Prim.Native.Nat.{ℕ, suc, _+_, _-_, _*_, _≤_, _<_}
 use mathlib.Core.Path.{_≡_, refl, sym, _∙_, ap, ap₂, subst}

@@ -1,5 +1,5 @@
--- What a call changes in the store's record: nothing where it is refused; else the marks that document 01 says, and no others.
--- proofs/MarkLaws.antt has `mark-laws`.
+-- What an accepted call changes in the store's record: the marks that document 01 says, and no others. That a refused one changes nothing is in crate beside_spec
+-- (HandedLaws). proofs/MarkLaws.antt has `mark-laws`.
 -- Assumes nothing.
 use mathlib.Core.Path.{_≡_}
 use mathlib.Core.Bool.{true, false}

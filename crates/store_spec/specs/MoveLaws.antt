@@ -1,5 +1,5 @@
 -- Request A.10, 'To the present points with the robot running': what an accepted move does over any record and any area, what it makes of true shares,
--- and the turn of all boards. proofs/MoveLaws.antt has `move-laws : MoveLaws`.
+-- and one move of the turn of all boards; the turn whole is in crate list_spec. proofs/MoveLaws.antt has `move-laws : MoveLaws`.
 -- Assumes nothing.
 use mathlib.Core.Path.{_≡_}
 use mathlib.Core.Bool.{true, false}
