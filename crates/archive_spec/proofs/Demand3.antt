@@ -38,7 +38,7 @@ use Rattle.ledger_spec.specs.Ledger.{Altered, FairEvent, Allowed, packetsAfter,
 use Rattle.beside_spec.specs.Acting.{act, outputOf, packetsOfCall}
 use Rattle.ledger_spec.specs.Ledger.{told as toldBy}
 use Rattle.ledger_spec.specs.Demand3.{Intact, Demand3, WholeStep, begun, events}
-use Rattle.list_spec.specs.Premises.{files, IdleGiven, lentAgain, bare}
+use Rattle.ledger_spec.specs.Premises.{files, IdleGiven, lentAgain, bare}
 use Rattle.list_spec.specs.WornLaws.{OfBytes}
 use Rattle.beside_spec.proofs.AloneLaws.{alone-laws}
 use Rattle.beside_spec.proofs.BothCalls.{by, act-is, done-accepted}
@@ -48,7 +48,7 @@ use Rattle.beside_spec.proofs.Beside.{set-up-done, set-up-both, both-done, acce
 use Rattle.store_spec.proofs.Records.{sound-facts}
 use Rattle.list_spec.proofs.Follows.{act-any}
 use Rattle.beside_spec.proofs.HandedLaws.{handed-laws}
-use Rattle.list_spec.proofs.Premises.{as-it-was, fair, again-bare, premises}
+use Rattle.ledger_spec.proofs.Premises.{as-it-was, fair, again-bare, premises}
 use Rattle.answer_word.specs.Answers.{wordOf}
 use Rattle.answer_word.proofs.Laws.{answer-laws}
 use Rattle.record_words.specs.Words.{isRecord, recordFrom, wordsOf}

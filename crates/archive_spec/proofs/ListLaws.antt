@@ -12,8 +12,8 @@ use Rattle.beside_spec.specs.Running.{Running}
 use Rattle.beside_spec.specs.HandedLaws.{Arrays}
 use Rattle.beside_spec.specs.Acting.{Call, write, lose, repair, read, edit, start, step, careful, move}
 use Rattle.ledger_spec.specs.Ledger.{Event, call, powerFails, Book, Step, bookNext}
-use Rattle.list_spec.specs.Premises.{Asked}
-use Rattle.list_spec.proofs.Premises.{asked-is, fair-is, premises}
+use Rattle.ledger_spec.specs.Premises.{Asked}
+use Rattle.ledger_spec.proofs.Premises.{asked-is, fair-is, premises}
 use Rattle.record_words.specs.Words.{recordFrom}
 use Rattle.repair_words.proofs.RepairWords.{repair-words}
 use Rattle.archive_spec.specs.Lent.{Lent, zbk}

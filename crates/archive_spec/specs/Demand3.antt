@@ -25,7 +25,7 @@ use Rattle.ledger_spec.specs.Ledger.{Event, call, powerFails, Reply, Book, Repa
 use Rattle.ledger_spec.specs.Ledger.{Altered, Unaltered, FairEvent, openBook, bookLength, bookNext, bookReplies, bookFinal}
 use Rattle.ledger_spec.specs.Demand3.{Intact, events}
 use Rattle.store_spec.specs.RepairLaws.{Repaired}
-use Rattle.list_spec.specs.Premises.{files, IdleGiven, lentAgain, bare}
+use Rattle.ledger_spec.specs.Premises.{files, IdleGiven, lentAgain, bare}
 use Rattle.answer_word.specs.Answers.{wordOf}
 use Rattle.record_words.specs.Words.{isRecord, recordFrom}
 use Rattle.repair_words.specs.RepairWords.{isRepair, repairFrom, repairWordsOf}

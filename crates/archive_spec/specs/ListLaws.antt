@@ -14,7 +14,7 @@ use Rattle.beside_spec.specs.HandedLaws.{Arrays}
 use Rattle.beside_spec.specs.Acting.{Call, step, move}
 use Rattle.ledger_spec.specs.Ledger.{call, powerFails, Reply, Book, Step, FairEvent, replies, final, openBook, bookNext, bookFinal}
 use Rattle.ledger_spec.specs.Demand3.{events}
-use Rattle.list_spec.specs.Premises.{Asked}
+use Rattle.ledger_spec.specs.Premises.{Asked}
 use Rattle.record_words.specs.Words.{isRecord, recordFrom}
 use Rattle.repair_words.specs.RepairWords.{isRepair, repairFrom, repairWordsOf}
 use Rattle.archive_spec.specs.Lent.{Lent, zbkSetUp, zbk}

@@ -12,7 +12,7 @@ use Rattle.beside_spec.specs.Running.{idle}
 use Rattle.beside_spec.specs.Acting.{Call, write, lose, read, edit, start, step, careful, move, State}
 use Rattle.ledger_spec.specs.Ledger.{Event, call, powerFails, Reply, Book, openBook, replies, bookReplies}
 use Rattle.ledger_spec.specs.Demand3.{begun, events}
-use Rattle.list_spec.specs.Premises.{unaltered}
+use Rattle.ledger_spec.specs.Premises.{unaltered}
 
 abbrev reply : ℕ → ℕ → List ℕ → Reply
 reply refusal value output = record { answer = record { refusal = refusal; reported = value }; output = output }

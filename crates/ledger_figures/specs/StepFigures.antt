@@ -14,7 +14,7 @@ use Rattle.beside_spec.specs.Both.{stepCall}
 use Rattle.beside_spec.specs.Acting.{Call, write, lose, read, edit, start, step, State}
 use Rattle.ledger_spec.specs.Ledger.{Event, call, powerFails, Reply, Book, openBook, replies, bookReplies}
 use Rattle.ledger_spec.specs.Demand3.{begun, events}
-use Rattle.list_spec.specs.Premises.{unaltered}
+use Rattle.ledger_spec.specs.Premises.{unaltered}
 use Rattle.store_spec.specs.FurtherFigures.{five, helpers, spoiled}
 
 abbrev reply : ℕ → ℕ → List ℕ → Reply

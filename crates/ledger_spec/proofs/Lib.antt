@@ -11,3 +11,4 @@ pub mod Demand3
 pub mod LedgerLaws
 pub mod ListLaws
 pub mod Tested
+pub mod Premises

@@ -2,3 +2,4 @@ pub mod Ledger
 pub mod Demand3
 pub mod LedgerLaws
 pub mod ListLaws
+pub mod Premises

@@ -1,4 +1,3 @@
-pub mod Premises
 pub mod TurnListLaws
 pub mod Still
 pub mod Stepped

@@ -16,7 +16,7 @@ use Rattle.beside_spec.specs.Lying.{placeOf}
 use Rattle.beside_spec.specs.Acting.{write, lose, repair, read, edit, start, step, careful, move, State, act}
 use Rattle.ledger_spec.specs.Ledger.{Event, call, powerFails, Step, lent, next}
 use Rattle.list_spec.specs.Stepped.{SamePackets, SameLent, IsCall, lostBy, lost, carriedAt, carriedIn, SteppedLists}
-use Rattle.list_spec.proofs.Premises.{parts-agree, begins-alike}
+use Rattle.ledger_spec.proofs.Premises.{parts-agree, begins-alike}
 
 -- ---- what may not be altered
 

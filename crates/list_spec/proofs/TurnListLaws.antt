@@ -26,7 +26,7 @@ use Rattle.mbcr.specs.Share.{point, standard, share}
 use Rattle.mbcr.specs.TurnLaws.{turned}
 use Rattle.mbcr.proofs.TurnLaws.{turn-laws}
 use Rattle.ledger_spec.specs.Demand3.{Intact, begun, events}
-use Rattle.list_spec.specs.Premises.{IdleGiven, files, unaltered}
+use Rattle.ledger_spec.specs.Premises.{IdleGiven, files, unaltered}
 use Rattle.beside_spec.specs.Running.{Running}
 use Rattle.beside_spec.specs.Both.{setUpBoth}
 use Rattle.beside_spec.specs.Acting.{Call, write, lose, repair, read, edit, start, step, careful, move}
@@ -39,7 +39,7 @@ use Rattle.ledger_spec.proofs.Demand3.{demand-3}
 use Rattle.beside_spec.proofs.Beside.{set-up-both}
 use Rattle.ledger_spec.proofs.LedgerLaws.{ledger-laws}
 use Rattle.store_spec.proofs.Marks.{among-first, first-below}
-use Rattle.list_spec.proofs.Premises.{premises}
+use Rattle.ledger_spec.proofs.Premises.{premises}
 use Rattle.store_spec.proofs.Records.{sound-facts}
 use Rattle.store_spec.proofs.Passed.{settle-pass}
 use Rattle.beside_spec.proofs.HandedLaws.{off-move}

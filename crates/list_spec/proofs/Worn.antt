@@ -34,7 +34,7 @@ use Rattle.beside_spec.specs.Acting.{Call, write, lose, repair, read, edit, sta
 use Rattle.ledger_spec.specs.Ledger.{Event, call, powerFails, Book, Repairing, during, Step, Tells, Fair, Unaltered}
 use Rattle.beside_spec.specs.Acting.{act, outputOf, packetsOfCall}
 use Rattle.ledger_spec.specs.Ledger.{lent, next, bookNext, enter, openBook, bookLength, bookRecord, carriedBy, final, bookFinal}
-use Rattle.list_spec.specs.Premises.{filesOf, files, IdleGiven}
+use Rattle.ledger_spec.specs.Premises.{filesOf, files, IdleGiven}
 use Rattle.store_spec.specs.CarefulLaws.{OddTold}
 use Rattle.list_spec.specs.WornLaws.{OfBytes, AnyBytes, AskedWorn, WornPremises, Worn, WornClaim}
 use Rattle.store_spec.proofs.Asked.{every-same}

@@ -1,4 +1,3 @@
-pub mod Premises
 pub mod WornLaws
 pub mod TurnListLaws
 pub mod Stepped

@@ -21,7 +21,7 @@ use Rattle.beside_spec.specs.Acting.{Call, write, move}
 use Rattle.ledger_spec.specs.Ledger.{Event, call, powerFails, Book, openBook, enter, bookNext, bookFinal, Step, Allowed, final}
 use Rattle.ledger_spec.specs.LedgerLaws.{Accepted}
 use Rattle.beside_spec.specs.HandedLaws.{newPoint, setPoints}
-use Rattle.list_spec.specs.Premises.{unaltered}
+use Rattle.ledger_spec.specs.Premises.{unaltered}
 
 -- the moves of a list that the book accepts, in order: board and new point
 abbrev pub movesIn : Book → List Event → List (ℕ × ℕ)

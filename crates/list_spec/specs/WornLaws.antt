@@ -18,7 +18,7 @@ use Rattle.beside_spec.specs.Both.{beside, setUpBoth, carefulBoth}
 use Rattle.beside_spec.specs.Acting.{write, edit, move, State}
 use Rattle.ledger_spec.specs.Ledger.{Book, Step, Event, call, powerFails, Tells, openBook, bookLength, bookRecord, final, bookFinal}
 use Rattle.ledger_spec.specs.Demand3.{begun, events}
-use Rattle.list_spec.specs.Premises.{filesOf, files, IdleGiven}
+use Rattle.ledger_spec.specs.Premises.{filesOf, files, IdleGiven}
 use Rattle.store_spec.specs.CarefulLaws.{OddTold}
 
 -- what a list has is of bytes, and after a power failure the record given is an idle one; a step's packet area may be any

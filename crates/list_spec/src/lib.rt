@@ -1,1 +1,1 @@
-//! Lists of calls: demand 3's premises, lists with steps in them, worn boards, the turn of all boards. It has no function.
+//! Lists of calls: steps of a repair in them, worn boards, the turn of all boards, whatever follows the definitions. It has no function.

@@ -19,12 +19,11 @@ use Rattle.store_spec.specs.Record.{Record, part, partLen, stripeCount}
 use Rattle.beside_spec.specs.Running.{Running, packetsLen}
 use Rattle.beside_spec.specs.Lying.{placeOf}
 use Rattle.beside_spec.specs.Acting.{Call, write, lose, repair, read, edit, start, step, careful, move}
 use Rattle.ledger_spec.specs.Ledger.{Event, call, powerFails, Book, Repairing, during, bookLength, bookRecord}
 use Rattle.ledger_spec.specs.Ledger.{carriedBy, Step, Altered, Unaltered, Fair, FairEvent, Allowed, lent, next, bookNext, openBook}
 use Rattle.beside_spec.specs.Acting.{State}
 use Rattle.ledger_spec.specs.Demand3.{begun, events}
-use Rattle.list_spec.specs.Stepped.{IsCall}
-use Rattle.list_spec.specs.Premises.{noneCarried, filesOf, files, IdleGiven, lentAgain, unaltered, AgreeInService, Asked, bare, Premises}
+use Rattle.ledger_spec.specs.Premises.{noneCarried, filesOf, files, IdleGiven, lentAgain, unaltered, AgreeInService, Asked, bare, Premises}
 
 pub as-it-was : (b : Book) (s : Record) (area : List ℕ) → Altered b s area area
 as-it-was b s area = record { as-long = refl; in-service = λ i e. refl }
@@ -227,8 +226,13 @@ files-other (call (careful boards output)) es a b c = refl
 files-other (call (move board point helpers partners)) es a b c = absurd (c board point helpers partners refl)
 files-other (powerFails p) es a b c = refl
 
+-- a call, and no power failure
+abbrev Called : Event → Type 0
+Called (call c) = Unit
+Called (powerFails p) = ⊥
+
 idle-there : (e : Event) (es : List Event) → IdleGiven (e ∷ es) → ((p : Running) → e ≡ powerFails p → p .running ≡ false) × IdleGiven es
-idle-there (call c) es h = ((λ p q. absurd (subst IsCall q tt)), h)
+idle-there (call c) es h = ((λ p q. absurd (subst Called q tt)), h)
 idle-there (powerFails p) es h = ((λ x q. ap given-running (sym q) ∙ h .0), h .1)
   where
     given-running : Event → Bool
