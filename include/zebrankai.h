@@ -56,48 +56,43 @@ enum {
 /* The bytes of the packet area of a started repair of t fresh boards, of a file of so many stripes. */
 #define ZBK_PACKETS_LEN(stripes, t, d, r) ((size_t)(stripes) * (size_t)(t) * (2 * (size_t)(d) + (size_t)(r) - 1))
 
-/* Why a call was refused. Where several hold, the first is given: of the store in the order 1, 2, 3, 8, 16, 17, 15, 4, 5, 6, 14, 9, 7, 10, at
- * board level in the order 12, 1, 3, 13, 4, 5, 6, 2, 7, 10. 11 is not used: no call answers it. */
+/* Why a call was refused, a line for each refusal: its number, its name, and what it means. Where several hold, the first is given: of the store in
+ * the order 1, 2, 3, 8, 16, 17, 15, 4, 5, 6, 14, 9, 7, 10, at board level in the order 12, 1, 3, 13, 4, 5, 6, 2, 7, 10. 11 is not used: no call
+ * answers it. The constants ZBK_SIZE to ZBK_IDLE are made of this list, and a program can make a table of its own of it: ZBK_REFUSALS(LINE), where
+ * LINE(number, name, sentence) is defined as {number, #name, sentence}, with a comma behind it. */
+#define ZBK_REFUSALS(X)                                                                                                                 \
+    /* A record of another number of words than 12, a repair record of another than 71, a text's head of another than 6 and a list of   \
+       points of another length than 32 are refused with it before all else, and so is, but in zbk_set_up, a repair record with a first \
+       word above 1. */                                                                                                                 \
+    X(1, SIZE, "The sizes are not legal, the capacity is not 1 to 4,096 stripes, the record is one that no call hands out, the points " \
+               "repeat, or one from n up is not 00; or a repair is running by a repair record that no call hands out beside this "      \
+               "record.")                                                                                                               \
+    X(2, AREA, "The area, the packet area of a repair that is running, or a slice of shares or packets, has another length than the "   \
+               "sizes give.")                                                                                                           \
+    X(3, LONG, "The file is longer than the store's capacity, or than 4,096 stripes at board level.")                                   \
+    X(4, COUNT, "A list has the wrong number of boards, not k + 2 of them for a careful read, or k + 2 is above n; there are not 1 to " \
+                "r fresh boards; or the texts to gather are not k.")                                                                    \
+    X(5, NODE, "A board number is n or more.")                                                                                          \
+    X(6, REPEAT, "A board is named twice where each must be another one, two texts to gather are of one board, or the new point of a "  \
+                 "move is some board's.")                                                                                               \
+    X(7, SHORT, "The output is shorter than what is to be written.")                                                                    \
+    X(8, EMPTY, "A repair, a read, a careful read, an edit, a start, a step or a move before any file was written.")                    \
+    X(9, DOWN, "A board to read from, a helper or a stand-in is out of service, or any board, for a move.")                             \
+    /* No guard against altered bytes: k boards show that they fit together, not that none is altered, and often another file has them  \
+       (zbk_read says what k, k + 1 and k + 2 boards show). */                                                                          \
+    X(10, DISAGREE, "No file of this length has these shares; of a careful read, none has all of them but one.")                        \
+    X(12, TEXT, "The text is none that zbk_share_text writes.")                                                                         \
+    X(13, MIXED, "The texts differ in sizes, points or length.")                                                                        \
+    X(14, SERVING, "A fresh board is in service.")                                                                                      \
+    X(15, RANGE, "The edit goes beyond the end of the file.")                                                                           \
+    X(16, BUSY, "A repair is running.")                                                                                                 \
+    X(17, IDLE, "No repair is running.")
 enum zbk_refusal_number {
+#define ZBK_REFUSAL_NUMBER(number, name, sentence) ZBK_##name = number,
+    ZBK_REFUSALS(ZBK_REFUSAL_NUMBER)
+#undef ZBK_REFUSAL_NUMBER
     /* The call was accepted. */
-    ZBK_ACCEPTED = 0,
-    /* The sizes are not legal, the capacity is not 1 to 4,096 stripes, the record is one that no call hands out, the points repeat, or one from
-     * n up is not 00; or a repair is running by a repair record that no call hands out beside this record. A record of another number of words than
-     * 12, a repair record of another than 71, a text's head of another than 6 and a list of points of another length than 32 are refused with it
-     * before all else, and so is, but in zbk_set_up, a repair record with a first word above 1. */
-    ZBK_SIZE = 1,
-    /* The area, the packet area of a repair that is running, or a slice of shares or packets, has another length than the sizes give. */
-    ZBK_AREA = 2,
-    /* The file is longer than the store's capacity, or than 4,096 stripes at board level. */
-    ZBK_LONG = 3,
-    /* A list has the wrong number of boards, not k + 2 of them for a careful read, or k + 2 is above n; there are not 1 to r fresh boards; or the texts
-     * to gather are not k. */
-    ZBK_COUNT = 4,
-    /* A board number is n or more. */
-    ZBK_NODE = 5,
-    /* A board is named twice where each must be another one, two texts to gather are of one board, or the new point of a move is some board's. */
-    ZBK_REPEAT = 6,
-    /* The output is shorter than what is to be written. */
-    ZBK_SHORT = 7,
-    /* A repair, a read, a careful read, an edit, a start, a step or a move before any file was written. */
-    ZBK_EMPTY = 8,
-    /* A board to read from, a helper or a stand-in is out of service, or any board, for a move. */
-    ZBK_DOWN = 9,
-    /* No file of this length has these shares; of a careful read, none has all of them but one. No guard against altered bytes: k boards show that they
-     * fit together, not that none is altered, and often another file has them (zbk_read says what k, k + 1 and k + 2 boards show). */
-    ZBK_DISAGREE = 10,
-    /* The text is none that zbk_share_text writes. */
-    ZBK_TEXT = 12,
-    /* The texts differ in sizes, points or length. */
-    ZBK_MIXED = 13,
-    /* A fresh board is in service. */
-    ZBK_SERVING = 14,
-    /* The edit goes beyond the end of the file. */
-    ZBK_RANGE = 15,
-    /* A repair is running. */
-    ZBK_BUSY = 16,
-    /* No repair is running. */
-    ZBK_IDLE = 17
+    ZBK_ACCEPTED = 0
 };
 
 /* The words of a record, by place. Keep them together with the area; change them only by the calls. A record of eight words, as calls without

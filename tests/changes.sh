@@ -17,7 +17,7 @@ file() { mkdir -p "$(dirname "$1")" && cat >"$1"; }
 # ---- the first commit
 file crates/sums/specs/Sums.antt <<'END'
 -- sums of lists
-use Prim.Native.Nat.{ℕ, _+_}
+use Rattle.std.specs.Prelude.{ℕ, ◌+◌}
 
 -- the sum
 abbrev pub sum : List ℕ → ℕ
@@ -32,9 +32,9 @@ abbrev pub total : List (List ℕ) → ℕ
 total [] = 0
 total (x ∷ xs) = sum x + total xs
 
-infix 90 _plus_
-abbrev pub _plus_ : ℕ → ℕ → ℕ
-_plus_ a b = a + b
+infix 90 ◌plus◌
+abbrev pub ◌plus◌ : ℕ → ℕ → ℕ
+◌plus◌ a b = a + b
 
 pub record Pair : Type 0 where
   -- the first
@@ -59,7 +59,7 @@ module _ (k : ℕ) where
       * n
 END
 file crates/sums/specs/Parts.antt <<'END'
-use Prim.Native.Nat.{ℕ}
+use Rattle.std.specs.Prelude.{ℕ}
 abbrev pub part : ℕ → ℕ
 part n = n
 
@@ -68,7 +68,7 @@ half n = n / 2
 END
 file crates/sums/src/lib.rt <<'END'
 //! Sums.
-ghost use Rattle·sums·specs.specs.Sums.{sum};
+ghost use Rattle.sums.specs.Sums.{sum};
 
 // A pair.
 pub struct Pair {
@@ -83,7 +83,7 @@ impl Pair {
 
     // The sum of both.
     pub fn sum(self) -> u64
-        ensures { λ r. ⌜ r ≡ sum (self .one ∷ self .two ∷ []) ⌝ }
+        ensures { result ≡ sum (self.one ∷ self.two ∷ []) }
     {
         self.one + self.two
     }
@@ -93,8 +93,8 @@ impl Pair {
 pub fn sum(
     list: &[u64],
 ) -> u64
-    requires { ⌜ length (now list) ≤ 32 ⌝ }
-    ensures { λ r. ⌜ r ≡ sum (now list) ⌝ }
+    requires { length list.now ≤ 32 }
+    ensures { result ≡ sum list.now }
 {
     let mut s = 0;
     s
@@ -110,7 +110,7 @@ fn small(
 fn gone(x: u64) -> u64 { x }
 
 pub fn named(x: u64, y: u64) -> u64
-    ensures { λ r. ⌜ r ≡ x ⌝ }
+    ensures { result ≡ x }
 {
     x
 }
@@ -120,36 +120,41 @@ pub mod Facts
 END
 file crates/sums/proofs/Facts.antt <<'END'
 -- facts
-use Rattle·sums.specs.Sums.{sum}
+use Rattle.sums.specs.Sums.{sum}
 sum-none : sum [] ≡ 0
 sum-none = refl
 sum-one : sum (1 ∷ []) ≡ 1
 sum-one = refl
 END
-file crates/sums/proofs/sum/Proof.antt <<'END'
-use Rattle·sums.proofs.sum.Tie
-pub sum-spec : tie.Spec
-sum-spec = tie.spec
-    (λ c. search needs)
-    (λ c. omega arith)
+file crates/sums/proofs/sum/Answers.antt <<'END'
+use Rattle.sums.proofs.sum.Goals as goal
+pub add : goal.add
+add c = search rules
+
+pub returns : goal.returns
+returns c = omega arith
 END
-file crates/sums/proofs/named/Proof.antt <<'END'
-use Rattle·sums.proofs.named.Tie
-pub named-spec : tie.Spec
-named-spec = tie.spec
-    (λ c. search needs)
-    (λ c. refl)
-    (λ c. first c)
-    (λ c. second c)
-    (λ c. third c)
+file crates/sums/proofs/named/Answers.antt <<'END'
+use Rattle.sums.proofs.named.Goals as goal
+pub add : goal.add
+add c = search rules
+
+pub index : goal.index
+index c = first c
+
+pub range : goal.range
+range c = second c
+
+pub returns : goal.returns
+returns c = third c
 END
-file crates/sums/proofs/small/Proof.antt <<'END'
-pub small-spec : tie.Spec
-small-spec = tie.spec refl
+file crates/sums/proofs/small/Answers.antt <<'END'
+pub returns : goal.returns
+returns c = refl
 END
 file crates/lone/specs/Lone.antt <<'END'
 -- one definition, in a crate that is renamed
-use Rattle·sums.specs.Sums.{sum}
+use Rattle.sums.specs.Sums.{sum}
 
 abbrev pub lone : ℕ → ℕ
 lone n = sum (n ∷ [])
@@ -159,20 +164,20 @@ lonely n = sum (n ∷ n ∷ [])
 END
 file crates/lone/src/lib.rt <<'END'
 //! One.
-ghost use Rattle·sums.specs.Sums.{sum};
-ghost use Rattle·lone·specs.specs.Lone.{lone};
+ghost use Rattle.sums.specs.Sums.{sum};
+ghost use Rattle.lone.specs.Lone.{lone};
 
 // One number alone.
 pub fn lone(n: u64) -> u64
-    ensures { λ r. ⌜ r ≡ lone n ⌝ }
+    ensures { result ≡ lone n }
 {
     n
 }
 END
-file crates/lone/proofs/lone/Proof.antt <<'END'
-use Rattle·lone.proofs.lone.Tie
-pub lone-spec : tie.Spec
-lone-spec = tie.spec (λ c. lone-is (c .n))
+file crates/lone/proofs/lone/Answers.antt <<'END'
+use Rattle.lone.proofs.lone.Goals as goal
+pub returns : goal.returns
+returns c = lone-is c.args.n
 END
 file crates/lone/must-fail/two.edit <<'END'
 file: src/lib.rt
@@ -184,8 +189,8 @@ commit one
 # gone; one added; parameters of a module changed
 file crates/sums/specs/Sums.antt <<'END'
 -- sums of lists, and products
-use Prim.Native.Nat.{ℕ, _+_, _*_}
-use mathlib.Core.List.{
+use Rattle.std.specs.Prelude.{ℕ, ◌+◌, ◌*◌}
+use Rattle.std.specs.Prelude.{
   List,
   []
 }
@@ -203,9 +208,9 @@ abbrev pub grand : List (List ℕ) → ℕ
 grand [] = 0
 grand (x ∷ xs) = sum x + grand xs
 
-infix 80 _plus_
-abbrev pub _plus_ : ℕ → ℕ → ℕ
-_plus_ a b = a + b
+infix 80 ◌plus◌
+abbrev pub ◌plus◌ : ℕ → ℕ → ℕ
+◌plus◌ a b = a + b
 
 pub record Pair : Type 0 where
   pub one : ℕ
@@ -234,8 +239,8 @@ END
 # a file renamed, one definition of it to another file
 rm crates/sums/specs/Parts.antt
 file crates/sums/specs/Steps.antt <<'END'
-use Prim.Native.Nat.{ℕ}
-use mathlib.Core.Path.{_≡_}
+use Rattle.std.specs.Prelude.{ℕ}
+use Rattle.std.specs.Prelude.{◌≡◌}
 -- a part
 abbrev pub part : ℕ → ℕ
 part n = n
@@ -246,7 +251,7 @@ END
 # a body changed, `requires` changed, a method's `ensures` changed, a constant changed, a struct as it was, functions gone, added and renamed
 file crates/sums/src/lib.rt <<'END'
 //! Sums, and products.
-ghost use Rattle·sums·specs.specs.Sums.{sum, product};
+ghost use Rattle.sums.specs.Sums.{sum, product};
 
 // A pair of words.
 pub struct Pair {
@@ -260,15 +265,15 @@ impl Pair {
     pub const NONE: u64 = 0;
 
     pub fn sum(self) -> u64
-        ensures { λ r. ⌜ r ≡ sum (self .two ∷ self .one ∷ []) ⌝ }
+        ensures { result ≡ sum (self.two ∷ self.one ∷ []) }
     {
         self.one + self.two
     }
 }
 
 pub fn sum(list: &[u64]) -> u64
-    requires { ⌜ length (now list) ≤ 64 ⌝ }
-    ensures { λ r. ⌜ r ≡ sum (now list) ⌝ }
+    requires { length list.now ≤ 64 }
+    ensures { result ≡ sum list.now }
 {
     let mut s = 0;
     s
@@ -279,15 +284,15 @@ fn small(x: u64, y: u64) -> u64 {
 }
 
 pub fn called(x: u64, y: u64) -> u64
-    ensures { λ r. ⌜ r ≡ x ⌝ }
+    ensures { result ≡ x }
 {
     x
 }
 
-#[no_mangle]
+#[unsafe(no_mangle)]
 pub extern "C" fn made(x: u64) -> u64
     ensures {
-        λ r. ⌜ r ≡ x ⌝
+        result ≡ x
     }
 {
     x
@@ -300,22 +305,23 @@ END
 # a proof changed, one renamed, one renamed and changed, one with other imports, one gone
 file crates/sums/proofs/Facts.antt <<'END'
 -- facts
-use Rattle·sums.specs.Sums.{sum, more}
+use Rattle.sums.specs.Sums.{sum, more}
 sum-none : sum [] ≡ 0
 sum-none = refl
 sum-one : sum (1 ∷ []) ≡ 1
 sum-one = refl
 END
-file crates/sums/proofs/sum/Proof.antt <<'END'
-use Rattle·sums.proofs.sum.Tie
-pub sum-spec : tie.Spec
-sum-spec = tie.spec
-    (λ c. search needs)
-    (λ c. search needs)
+file crates/sums/proofs/sum/Answers.antt <<'END'
+use Rattle.sums.proofs.sum.Goals as goal
+pub add : goal.add
+add c = search rules
+
+pub returns : goal.returns
+returns c = search rules
 END
 mkdir -p crates/sums/proofs/called
-git mv crates/sums/proofs/named/Proof.antt crates/sums/proofs/called/Proof.antt
-sed 's/third c/fourth c/' crates/sums/proofs/called/Proof.antt >text && mv text crates/sums/proofs/called/Proof.antt
+git mv crates/sums/proofs/named/Answers.antt crates/sums/proofs/called/Answers.antt
+sed 's/third c/fourth c/' crates/sums/proofs/called/Answers.antt >text && mv text crates/sums/proofs/called/Answers.antt
 rm -r crates/sums/proofs/small
 file crates/sums/proofs/Others.antt <<'END'
 two-is : 2 ≡ 1 + 1
@@ -324,8 +330,8 @@ END
 # a crate renamed, one definition of it changed
 git mv crates/lone crates/single
 sed 's/lonely n = sum (n ∷ n ∷ \[\])/lonely n = sum (n ∷ [])/' crates/single/specs/Lone.antt >text && mv text crates/single/specs/Lone.antt
-sed 's/Rattle·lone/Rattle·single/' crates/single/src/lib.rt >text && mv text crates/single/src/lib.rt
-sed 's/Rattle·lone/Rattle·single/' crates/single/proofs/lone/Proof.antt >text && mv text crates/single/proofs/lone/Proof.antt
+sed 's/Rattle.lone/Rattle.single/' crates/single/src/lib.rt >text && mv text crates/single/src/lib.rt
+sed 's/Rattle.lone/Rattle.single/' crates/single/proofs/lone/Answers.antt >text && mv text crates/single/proofs/lone/Answers.antt
 commit two
 
 sh "$script" HEAD~1 HEAD >said
@@ -334,7 +340,7 @@ sh "$script" HEAD~1 HEAD >said
     cat <<'END'
 
 **Definitions**: 1 stayed, 6 changed, 1 added, 1 removed, 5 renamed.
-- changed: `single` lonely; `sums` more, _plus_, Pair, times, squares
+- changed: `single` lonely; `sums` more, ◌plus◌, Pair, times, squares
 - added: `sums` product
 - removed: `sums` Gone
 - renamed with their crate: `lone` → `single` (1)
@@ -350,9 +356,9 @@ sh "$script" HEAD~1 HEAD >said
 - under another name, with the same text: `sums` named → called
 
 **Proofs, by file**: 1 stayed, 2 changed, 1 added, 1 removed, 1 renamed.
-- changed: `sums` named/Proof → called/Proof, sum/Proof
+- changed: `sums` named/Answers → called/Answers, sum/Answers
 - added: `sums` Others
-- removed: `sums` small/Proof
+- removed: `sums` small/Answers
 - renamed with their crate: `lone` → `single` (1)
 END
 } >due

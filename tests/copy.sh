@@ -6,7 +6,7 @@ files() {
     if git rev-parse --git-dir >/dev/null 2>&1; then
         git ls-files --cached --others --exclude-standard | while IFS= read -r file; do [ ! -f "$file" ] || printf '%s\n' "$file"; done
     else
-        find . -name target -prune -o -type f -print
+        find . \( -name target -o -path './crates/*/out' \) -prune -o -type f -print
     fi
 }
 # copy FOLDER: these files as one commit of a fixed date in a repository of its own
@@ -28,8 +28,8 @@ prover() {
 #!/bin/sh
 case \$1 in
 version) echo 'made-up 1' ;;
-check) shift && for crate; do echo "rt: \$crate proved (0 s)"; done ;;
-staticlib) mkdir -p target/staticlib && cp '$2' target/staticlib/libzebrankai.a ;;
+all) echo '== summary' && echo 'zebrankai: ok' && echo '1 of 1 crates ok' ;;
+lib) mkdir -p out && cp '$2' out/libzebrankai.a ;;
 *) echo "rt: made-up, and asked for \$*" >&2 && exit 1 ;;
 esac
 RT

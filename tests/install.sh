@@ -263,9 +263,9 @@ for tool in rt cargo gcc; do
 done
 
 # where the archive is not proved, nothing is written: a copy, with a prover that proves nothing
-mkdir -p "$own/copy/tests" "$own/copy/tools" "$own/prover"
+mkdir -p "$own/copy/tests" "$own/copy/tools" "$own/copy/crates/zebrankai" "$own/prover"
 cp install crates.txt "$own/copy"
-cp tests/prove_archive.sh tests/jobs.sh tests/memory.sh "$own/copy/tests"
+cp tests/prove_archive.sh tests/made_of.sh tests/jobs.sh "$own/copy/tests"
 cp tools/product.sh "$own/copy/tools"
 printf '#!/bin/sh\necho "rt: made-up, proves nothing"\nexit 1\n' >"$own/prover/rt"
 chmod +x "$own/prover/rt"
@@ -278,6 +278,6 @@ install --help || fail "--help"
 grep -qF 'DESTDIR' "$own/out" || fail "--help does not name DESTDIR"
 
 found "$work" | diff "$own/before" - || fail "a refused call wrote or removed something"
-written=$(find . \( -path ./target -o -path ./.git \) -prune -o -type f -newer "$own/began" -print)
+written=$(find . \( -path ./target -o -path ./.git -o -path './crates/*/out' \) -prune -o -type f -newer "$own/began" -print)
 [ -z "$written" ] || fail "written in the repository: $written"
 echo "install: all passed"

@@ -1,12 +1,13 @@
 #!/bin/sh
 # Neutral controls: crates/NAME/neutral/LABEL.edit stands beside the must-fail edit of the same label, has the same shape and changes nothing
 # in meaning, so the prover must ACCEPT it. Where it does, the must-fail edit is refused for its one other operand, and not because a proof's
-# text does not know the operations that both add. Each is applied to a copy of its crate, which is proved anew on the crates that target/ has
-# proved. A control has the format of a must-fail edit: 'file:', then 'old:' and 'new:' pairs; an old text stands there once.
+# text does not know the operations that both add. Each is applied to a copy of its crate, beside copies of those that it rests on, and proved there by
+# `rt check`, over what the prover kept of the crate as it stands, as it tries must-fail edits. A control has the format of a must-fail edit: 'file:', then
+# 'old:' and 'new:' pairs; an old text stands there once.
 set -eu
 cd "$(dirname "$0")/.."
 top=$PWD
-work=$top/target/neutral
+. tests/made_of.sh
 
 # complain WHY: the control of this run is not accepted
 complain() {
@@ -36,20 +37,14 @@ one() {
     label=$(basename "$1" .edit)
     room=$work/$crate/$label
     [ -f "crates/$crate/must-fail/$label.edit" ] || complain "it stands beside no must-fail edit"
-    rm -rf "$room"
-    mkdir -p "$room/crates/$crate" "$room/target/rlib"
-    for dir in crates/*; do
-        [ "$dir" = "crates/$crate" ] || ln -s "$top/$dir" "$room/$dir"
+    mkdir -p "$room/.git" "$room/crates"
+    for name in $(closure "$crate"); do
+        mkdir "$room/crates/$name"
+        for part in src specs proofs; do
+            [ ! -d "crates/$name/$part" ] || cp -R "crates/$name/$part" "$room/crates/$name"
+        done
     done
-    for part in src specs proofs; do
-        [ ! -d "crates/$crate/$part" ] || cp -R "crates/$crate/$part" "$room/crates/$crate/$part"
-    done
-    for lib in "$work"/rlib/*.rlib; do
-        [ "$lib" = "$work/rlib/$crate.rlib" ] || ln -s "$lib" "$room/target/rlib"
-    done
-    cp -R target/stamp "$room/target/stamp"
-    rm -f "$room/target/stamp/$crate"
-    cp crates.txt "$room"
+    awk -v names=" $(closure "$crate" | tr '\n' ' ')" '{ n = $1; sub(/:.*/, "", n) } index(names, " " n " ")' crates.txt >"$room/crates.txt"
     file='' old='' pairs=0
     while IFS= read -r line || [ -n "$line" ]; do
         case $line in
@@ -70,39 +65,33 @@ one() {
     [ "$pairs" -gt 0 ] || complain "it has no 'old:' and 'new:' pair"
     began=$(date +%s)
     status=0
-    (cd "$room" && RT_JOBS=1 rt check "$crate") >"$room/log" 2>&1 || status=$?
-    # what it rests on was proved before, and is not proved here
-    if grep '^rt: .* proved ([0-9]* s)$' "$room/log" | grep -qv "^rt: $crate proved "; then
-        complain "target/ is behind the tree: prove all crates first"
-    fi
-    if [ "$status" -ne 0 ] || ! grep -q "^rt: $crate proved ([0-9]* s)$" "$room/log" || grep -q -E '(incremental|cache)=' "$room/log"; then
+    (cd "$room/crates/$crate" && rt check --jobs 1) >"$room/log" 2>&1 || status=$?
+    if [ "$status" -ne 0 ] || ! tail -n 5 "$room/log" | grep -q '^logic=proved '; then
         why=$(grep -m 1 -E ': error|error\[|it is not proved' "$room/log") || why=$(tail -n 1 "$room/log")
         complain "$(printf '%s' "$why" | sed "s|$room/||g" | cut -c 1-300)"
     fi
-    rm -rf "$room/crates" "$room/target"
+    rm -rf "$room"
     echo "neutral $crate/$label: accepted, as it must be ($(($(date +%s) - began)) s)"
 }
 
-if [ $# -eq 2 ] && [ "$1" = --one ]; then
-    one "$2"
+if [ $# -eq 3 ] && [ "$1" = --one ]; then
+    work=$2
+    one "$3"
     exit
 fi
 
-rm -rf "$work"
-mkdir -p "$work"
-# a copy, so that nothing here can change what target/ has proved
-cp -R target/rlib "$work/rlib"
+work=$(mktemp -d)
+trap 'rm -rf "$work"' EXIT
 # the last crates of crates.txt take longest, and come first
-sed -n 's/^\([a-z0-9_]*\):.*/\1/p' crates.txt | awk '{ name[NR] = $0 } END { for (i = NR; i; i--) print name[i] }' | while read -r crate; do
+sed -n 's/^\([a-z0-9_]*\)[^#:]*:.*/\1/p' crates.txt | awk '{ name[NR] = $0 } END { for (i = NR; i; i--) print name[i] }' | while read -r crate; do
     for edit in "crates/$crate"/neutral/*.edit; do
         [ ! -f "$edit" ] || echo "$edit"
     done
 done >"$work/edits"
 all=$(ls crates/*/neutral/*.edit 2>/dev/null | wc -l)
 : >"$work/said"
-[ ! -s "$work/edits" ] || xargs -n 1 -P "${RT_JOBS:-$(nproc)}" sh tests/neutral.sh --one <"$work/edits" >"$work/said" || true
+[ ! -s "$work/edits" ] || xargs -n 1 -P "$(sh tests/jobs.sh)" sh tests/neutral.sh --one "$work" <"$work/edits" >"$work/said" || true
 cat "$work/said"
 accepted=$(grep -c ': accepted, as it must be ' "$work/said") || true
-rm -rf "$work/rlib"
 echo "neutral controls: $accepted accepted, $((all - accepted)) not"
 [ "$accepted" -eq "$all" ] && [ "$all" -gt 0 ]

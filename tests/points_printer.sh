@@ -5,8 +5,7 @@
 # built; POINTS_PRINTER names another program to try instead. Ends with exit code 1 where a case failed, or where there is no program.
 set -eu
 cd "$(dirname "$0")/.."
-program=${POINTS_PRINTER:-target/bin/points_printer}
-[ -n "${POINTS_PRINTER:-}" ] || rt check points_printer >&2
+program=${POINTS_PRINTER:-$(sh tests/program.sh points_printer)}
 [ -x "$program" ] || { echo "FAIL there is no program $program"; exit 1; }
 sh tests/prove_archive.sh
 CARGO_TARGET_DIR=$PWD/target/cargo

@@ -8,7 +8,7 @@ cd "$(dirname "$0")/.."
 CARGO_TARGET_DIR=$PWD/target/cargo
 export CARGO_TARGET_DIR
 sh tests/prove_archive.sh
-rt check product_printer >&2
+program=$(sh tests/program.sh product_printer)
 cargo build --offline --quiet --release -j1 --manifest-path tests/coder/Cargo.toml
 work=$(mktemp -d)
 trap 'rm -rf "$work"' EXIT
@@ -20,7 +20,7 @@ while [ "$b" -lt 256 ]; do
     printf "\\$(printf %03o "$b")"
     b=$((b + 1))
 done >"$work/bytes"
-target/bin/product_printer <"$work/bytes" >"$work/made"
+"$program" <"$work/bytes" >"$work/made"
 target/cargo/release/coder --products >"$work/due"
 if [ "$(wc -c <"$work/due")" -eq 65792 ] && cmp "$work/made" "$work/due"; then
     echo "ok 65,536 products and 256 inverses are the unrelated coder's"

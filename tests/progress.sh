@@ -11,7 +11,7 @@ unset ZBK_ARCHIVE
 
 # fourteen crates, of which the archive rests on twelve: ten in a chain, and two beside it
 mkdir -p "$work/tests" "$work/bin"
-cp tests/prove_archive.sh tests/jobs.sh tests/memory.sh "$work/tests"
+cp tests/prove_archive.sh tests/made_of.sh tests/jobs.sh "$work/tests"
 {
     echo '# made-up: crates'
     echo 'c1: lists'
@@ -20,7 +20,7 @@ cp tests/prove_archive.sh tests/jobs.sh tests/memory.sh "$work/tests"
     echo 'c10: c4'
     echo 'c11: c1 c10'
     echo 'other: c3'
-    echo 'zebrankai: archive_store c11'
+    echo 'zebrankai staticlib: archive_store c11'
 } >"$work/crates.txt"
 for crate in c1 c2 c3 c4 c5 c6 c7 c8 c9 archive_store c10 c11 zebrankai; do
     mkdir -p "$work/crates/$crate/src"
@@ -29,43 +29,52 @@ done
 cat >"$work/bin/rt" <<'END'
 #!/bin/sh
 # c2 and the archive are done once the progress has told of it, where a run waits for that (C2 and LAST: what it is to say), or after half a minute;
-# a crate whose file says 'wrong' is not proved
+# a crate whose file says 'wrong' is not proved, and those after it are not come to
 told() {
     tries=0
-    until [ -z "$1" ] || tr '\r' '\n' <said | grep -q -e "$1" || [ "$tries" -ge 150 ]; do sleep 0.2 && tries=$((tries + 1)); done
+    until [ -z "$1" ] || tr '\r' '\n' <"$SAID" | grep -q -e "$1" || [ "$tries" -ge 150 ]; do sleep 0.2 && tries=$((tries + 1)); done
 }
-one() {
-    : >"target/log/$1.out"
-    [ "$1" != c2 ] || told "$C2"
-    { echo "fn $1::f: proved" && echo "rt: $1 proved (1 s)"; } >"target/log/$1.out"
-    if grep -q wrong "crates/$1/src/lib.rt"; then
-        { echo "$1: error: a fact fails" && echo "rt: $1 NOT PROVED (exit 1, 1 s)"; } >"target/log/$1.out"
-        cat "target/log/$1.out"
-        return 1
-    fi
-    cat "target/log/$1.out"
-}
-echo "$*" >>"$CALLS"
+echo "$(basename "$PWD"): $*" >>"$CALLS"
 case $1 in
 version) echo 'made-up 1' ;;
-check)
-    shift
-    for crate; do one "$crate" || { echo "rt: FAILED: $crate" && exit 1; }; done
-    echo "rt: ok, $# crates proved"
+all)
+    failed=
+    for crate in c1 c2 c3 c4 c5 c6 c7 c8 c9 archive_store c10 c11 zebrankai; do
+        if [ -n "$failed" ]; then
+            echo "$crate: not run, since $failed failed" >>"$CALLS.summary"
+            continue
+        fi
+        [ "$crate" != c2 ] || told "$C2"
+        echo "== $crate"
+        echo "fn $crate::f: proved"
+        if grep -q wrong "../$crate/src/lib.rt"; then
+            echo "$crate: error: a fact fails"
+            echo "$crate: failed (1)" >>"$CALLS.summary"
+            failed=$crate
+        else
+            echo "$crate: ok" >>"$CALLS.summary"
+        fi
+    done
+    echo '== summary'
+    cat "$CALLS.summary"
+    rm "$CALLS.summary"
+    echo 'so many of 13 crates ok'
+    [ -z "$failed" ]
     ;;
-staticlib)
+lib)
     told "$LAST"
-    mkdir -p target/staticlib
-    cat crates/*/src/lib.rt >"target/staticlib/lib$2.a"
+    mkdir -p out
+    cat ../*/src/lib.rt >out/libzebrankai.a
     ;;
 esac
 END
 chmod +x "$work/bin/rt"
 CALLS=$work/calls
+SAID=$work/said
 C2=
-LAST='^proved 1[012] of'
+LAST='^proved 1[0123] of'
 PATH=$work/bin:$PATH
-export CALLS C2 LAST PATH
+export CALLS SAID C2 LAST PATH
 cd "$work"
 # prove: runs it; what it says on standard error is in the file said
 prove() { : >calls; sh tests/prove_archive.sh >out 2>said; }
@@ -75,27 +84,26 @@ control() { LC_ALL=C tr -d '\n -~' <said | wc -c | tr -d ' '; }
 prove || fail "the made-up crates are not proved: $(cat said)"
 [ ! -s out ] || fail "it wrote to standard output"
 [ "$(control)" -eq 0 ] || fail "control characters where there is no terminal"
-sed 's/[0-9]:[0-9][0-9]/M:SS/; s/^proved 1[012] of/proved 1x of/' said >plain
+sed 's/[0-9]:[0-9][0-9]/M:SS/; s/^proved 1[0123] of/proved 1x of/' said >plain
 cat >expected <<'END'
-proving and building the archive, 13 crates: from nothing about 12 minutes on two cores
+proving and building the archive, 13 crates: from nothing it takes a while
 proved 1x of 13 crates, M:SS so far, less than a minute to go
 the archive is proved and built, 13 crates in M:SS
 END
 diff expected plain || fail "other lines where there is no terminal"
-grep -qx 'check c1 c2 c3 c4 c5 c6 c7 c8 c9 archive_store' calls || fail "other crates were proved: $(cat calls)"
-for crate in c10 c11; do [ "$(grep -c "^check.* $crate\( \|\$\)" calls)" -eq 1 ] || fail "$crate was not proved once beside the chain: $(cat calls)"; done
-grep -qx 'staticlib zebrankai' calls || fail "the archive was not built"
+[ "$(grep -c '^zebrankai: all check --jobs [0-9]*$' calls)" -eq 1 ] || fail "the crates were not proved once: $(cat calls)"
+grep -qx 'zebrankai: lib' calls || fail "the archive was not built"
 [ -f target/staticlib/libzebrankai.a ] || fail "there is no archive"
 
 LAST=
 # proved already: one line, and the prover is not asked
 prove
 [ "$(cat said)" = 'the archive is proved and built' ] || fail "more than a line where all is proved: $(cat said)"
-! grep -q -e check -e staticlib calls || fail "proved again though nothing changed"
+! grep -q -e ': all' -e ': lib' calls || fail "proved again though nothing changed"
 
 # a changed file of a crate below it, a changed archive, one crate more: proved again. A comment in crates.txt, a file of another crate: not
-again() { prove; grep -q '^staticlib' calls || fail "not proved again: $1"; }
-as_it_was() { prove; ! grep -q '^staticlib' calls || fail "proved again: $1"; }
+again() { prove; grep -q ': lib$' calls || fail "not proved again: $1"; }
+as_it_was() { prove; ! grep -q ': lib$' calls || fail "proved again: $1"; }
 echo 'more' >>crates/c7/src/lib.rt
 again "a changed file"
 echo 'more' >>target/staticlib/libzebrankai.a
@@ -111,7 +119,7 @@ as_it_was "a file of another crate"
 echo 'wrong' >>crates/c5/src/lib.rt
 ! prove || fail "a crate that is not proved is let pass"
 grep -qx 'c5: error: a fact fails' said || fail "what the prover said is not shown: $(cat said)"
-grep -qx 'rt: FAILED: c5' said || fail "the prover's last line is not shown"
+grep -qx 'c5: failed (1)' said || fail "the prover's summary is not shown: $(cat said)"
 ! grep -q 'c4' said || fail "a crate that is proved is shown: $(cat said)"
 grep -q '^fn c4::f: proved' target/prove_archive.log || fail "the log does not have all"
 tail -n 1 said | grep -q '^the archive could not be proved and built' || fail "it does not say that it failed"
@@ -122,7 +130,7 @@ echo 'wrong' >>crates/c10/src/lib.rt
 ! prove || fail "a crate beside the chain that is not proved is let pass"
 grep -qx 'c10: error: a fact fails' said || fail "what the prover said of a crate beside the chain is not shown: $(cat said)"
 ! grep -q -e c4 -e c11 said || fail "another crate is shown: $(cat said)"
-! grep -q '^staticlib' calls || fail "the archive was built though a crate is not proved"
+! grep -q ': lib$' calls || fail "the archive was built though a crate is not proved"
 echo 'of c10' >crates/c10/src/lib.rt
 again "a file beside the chain put right"
 
@@ -135,12 +143,12 @@ fi
 # on a terminal: one line that is kept up to date, and nothing left of it
 if command -v script >/dev/null && script --version 2>/dev/null | grep -q util-linux; then
     echo 'again' >>crates/c1/src/lib.rt
-    C2='; now c2$'
-    LAST='; now zebrankai$'
+    C2='proved 1 of 13'
+    LAST='proved 13 of 13'
     TERM=xterm script -qec 'sh tests/prove_archive.sh' /dev/null >said </dev/null || fail "on a terminal it is not proved: $(cat said)"
     [ "$(wc -l <said)" -eq 2 ] || fail "on a terminal more than a first and a last line: $(cat said)"
-    tr '\r' '\n' <said | grep -q 'proved 1 of 13 crates, 0:[0-9][0-9] so far; now c2$' || fail "it does not say which crate is being proved: $(cat said)"
-    tr '\r' '\n' <said | grep -q 'proved 12 of 13 crates, 0:[0-9][0-9] so far, less than a minute to go; now zebrankai$' || fail "nor that the archive is: $(cat said)"
+    tr '\r' '\n' <said | grep -q 'proved 1 of 13 crates, 0:[0-9][0-9] so far' || fail "it does not say how far it is: $(cat said)"
+    tr '\r' '\n' <said | grep -q 'proved 13 of 13 crates, 0:[0-9][0-9] so far' || fail "nor that all crates are proved: $(cat said)"
     tail -n 1 said | tr '\r' '\n' | tail -n 2 | grep -q "^$(printf '\033')\[Kthe archive is proved and built, 13 crates in 0:[0-9][0-9]" \
         || fail "the line is not cleared at the end: $(tail -n 1 said | od -c | head)"
 else

@@ -1,6 +1,7 @@
 #!/bin/sh
-# The words of refusals are the same everywhere: docs/REFUSALS.md, which is their source, the numbers, names and comments of include/zebrankai.h, what
-# the functions of zebrankai_util.h give, the Rust bindings' text, and what 'zbk explain' says.
+# Refusals are the same everywhere. The source of their words is docs/REFUSALS.md, that of numbers and names in C the list ZBK_REFUSALS of
+# include/zebrankai.h, and that of both orders the definitions, crates/sizes. Compared with them: what a C program makes of that list, what the
+# functions of zebrankai_util.h give, the Rust bindings, both coders, and what 'zbk explain' says.
 #
 #   sh tests/refusals.sh words FILE    page, both headers and the text of the bindings; FILE is what tests/header/util.c prints with 'refusals'
 #   sh tests/refusals.sh tool ZBK      page and tool; ZBK is the tool
@@ -33,15 +34,47 @@ while IFS='	' read -r number name _ who _; do
 done <"$work/page"
 
 if [ "$1" = words ]; then
-    # zebrankai.h: the numbers and names of its enum but 0, and each comment begins with the meaning
+    # zebrankai.h: its list, by what a C program makes of it; each constant is its number
+    cat >"$work/list.c" <<'END'
+#include <stdio.h>
+#include <zebrankai.h>
+#define LINE(number, name, sentence) {number, ZBK_##name, #name, sentence},
+static const struct line {
+    int number, constant;
+    const char *name, *sentence;
+} lines[] = {ZBK_REFUSALS(LINE)};
+int main(void) {
+    for (size_t i = 0; i < sizeof lines / sizeof *lines; i++) {
+        if (lines[i].constant != lines[i].number) return 1;
+        printf("%d\t%s\t%s\n", lines[i].number, lines[i].name, lines[i].sentence);
+    }
+    return ZBK_ACCEPTED;
+}
+END
+    strict='-pedantic -Wall -Wextra -Wconversion -Werror -Iinclude'
+    # shellcheck disable=SC2086 # the options are words
+    gcc -std=c99 $strict "$work/list.c" -o "$work/list" && "$work/list" >"$work/is" || fail "a program over the list of include/zebrankai.h"
+    # shellcheck disable=SC2086
+    g++ -std=c++98 -Wno-long-long $strict -x c++ -fsyntax-only include/zebrankai.h || fail "include/zebrankai.h as C++98"
+    cut -f 1-3 "$work/page" >"$work/due"
+    same "include/zebrankai.h, the list" "$work/due" "$work/is"
+    # the others with numbers and names of their own: the definitions' crate, the bindings, the plain coder and the unrelated one
     cut -f 1,2 "$work/page" >"$work/due"
-    sed -n 's/^ *ZBK_\([A-Z]*\) = \([0-9]*\),*$/\2	\1/p' include/zebrankai.h | awk -F '\t' '$2 == "ACCEPTED" { on = 1; next } on' >"$work/is"
-    same "include/zebrankai.h, numbers and names" "$work/due" "$work/is"
-    sed -n '/^enum zbk_refusal_number/,/^};/p' include/zebrankai.h | sed 's/^ *[*] / /' | tr '\n' ' ' | tr -s ' ' >"$work/enum"
-    while IFS='	' read -r number name means _; do
-        grep -qF "/* $means" "$work/enum" || fail "include/zebrankai.h: the comment of $name does not begin with its meaning"
-        grep -qE "[*]/ ZBK_$name = $number\\b" "$work/enum" || fail "include/zebrankai.h: $name has no comment before it, or is not $number"
-    done <"$work/page"
+    sed -n 's/^ *Refusal::\([A-Z][a-z]*\) => \([0-9]*\),$/\2	\1/p' crates/sizes/src/lib.rt | tr '[:lower:]' '[:upper:]' | sort -n >"$work/is"
+    same "crates/sizes, numbers and names" "$work/due" "$work/is"
+    for file in bindings/rust/src/refusal.rs tests/plain/src/sizes.rs; do
+        sed -n 's/^ *\([A-Z][a-z]*\) = \([0-9]*\),$/\2	\1/p' "$file" | tr '[:lower:]' '[:upper:]' | sort -n >"$work/is"
+        same "$file, numbers and names" "$work/due" "$work/is"
+    done
+    sed -n 's/^ *pub const \([A-Z]*\): u8 = \([1-9][0-9]*\);$/\2	\1/p' tests/coder/src/call.rs | sort -n >"$work/is"
+    same "tests/coder, numbers and names" "$work/due" "$work/is"
+    # both orders of asking, as the definitions have them, in the header's words
+    for order in store board; do
+        asked=$(sed -n "s/^${order}_order = \(.*\) ∷ \[\]$/\1/p" crates/sizes/specs/Refusals.antt | sed 's/ ∷ /\n/g' | tr '[:lower:]' '[:upper:]' |
+            awk -F '\t' 'NR == FNR { number[$2] = $1; next } { line = line (line == "" ? "" : ", ") number[$1] } END { print line }' "$work/page" -)
+        [ -n "$asked" ] || fail "crates/sizes has no ${order}_order"
+        tr '\n' ' ' <include/zebrankai.h | sed 's/ [*] / /g' | tr -s ' ' | grep -qE "in the order $asked[.,]? (at|11) " || fail "include/zebrankai.h: the $order order is not $asked"
+    done
     # zebrankai_util.h by what its functions give, and both texts as they are made of the page
     same "include/zebrankai_util.h" "$work/page" "$given"
     sh tools/refusals.sh check || fail "a text that is made of docs/REFUSALS.md is not as it is made"

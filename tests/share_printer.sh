@@ -4,8 +4,7 @@
 # full reads and has no byte 00. Proves and builds the program where it is not built. Ends with exit code 1 where a case failed.
 set -eu
 cd "$(dirname "$0")/.."
-program=target/bin/share_printer
-rt check share_printer >&2
+program=$(sh tests/program.sh share_printer)
 . tests/printer.sh
 for input in tests/share_printer/*.in; do
     tried "$(basename "$input" .in)" "$input" "${input%.in}.out"

@@ -7,9 +7,8 @@ cd "$(dirname "$0")/.."
 CARGO_TARGET_DIR=$PWD/target/cargo
 export CARGO_TARGET_DIR
 sh tests/prove_archive.sh
-rt check size_printer >&2
 cargo build --offline --quiet --release -j1 --manifest-path tests/coder/Cargo.toml
-program=target/bin/size_printer
+program=$(sh tests/program.sh size_printer)
 coder=target/cargo/release/coder
 work=$(mktemp -d)
 trap 'rm -rf "$work"' EXIT

@@ -77,24 +77,24 @@ awk '
 # how much a buyer reads: definitions, theorem statements, tables; without imports, blanks and comments
 lines() { cat "$@" | grep -v -E '^[[:space:]]*(--|use |$)' | wc -l | tr -d ' '; }
 tables=$(ls crates/*/specs/*Figures.antt)
-claims=$(ls crates/*/specs/*Laws.antt crates/*/specs/Demand?.antt crates/*/specs/Stripes.antt crates/*/specs/Premises.antt crates/*/specs/Gives.antt crates/*/specs/Claims.antt crates/*/specs/Tight.antt crates/*/specs/Runs.antt crates/store_spec/specs/BothCalls.antt crates/store_spec/specs/Stepped.antt crates/store_spec/specs/Follows.antt crates/archive_spec/specs/Worn.antt crates/archive_spec/specs/Moved.antt)
+claims=$(ls crates/*/specs/*Laws.antt crates/*/specs/Demand?.antt crates/*/specs/Stripes.antt crates/*/specs/Premises.antt crates/*/specs/Gives.antt crates/*/specs/Claims.antt crates/*/specs/Tight.antt crates/*/specs/Runs.antt crates/beside_spec/specs/BothCalls.antt crates/list_spec/specs/Stepped.antt crates/list_spec/specs/Follows.antt crates/archive_spec/specs/Worn.antt crates/archive_spec/specs/Moved.antt)
 definitions=$(ls crates/*/specs/*.antt | grep -v -e '/Lib.antt$')
 # what only inner functions cite: no public call's contract rests on it
-inner=$(ls crates/*/specs/Steps.antt crates/gf256_mul/specs/Tables.antt crates/trial_calls/specs/Acts.antt crates/trial_turn/specs/Turn.antt crates/trial_turn/specs/Walk.antt crates/trial/specs/Printing.antt crates/trial_line/specs/Line.antt)
+inner=$(ls crates/*/specs/Steps.antt crates/gf256_mul/specs/Tables.antt crates/trial_calls/specs/Acts.antt crates/trial_turn/specs/Turn.antt crates/trial_turn/specs/Walk.antt crates/trial/specs/Printing.antt crates/trial_line/specs/Line.antt crates/standard_input/specs/Reads.antt)
 # the archive's words, beside the calls that they are for
 archive='crates/answer_word/specs/Answers.antt crates/record_words/specs/Words.antt crates/repair_words/specs/RepairWords.antt crates/text_words/specs/Words.antt crates/archive_spec/specs/Archive.antt crates/archive_spec/specs/Lent.antt crates/archive_spec/specs/Texts.antt'
 # what a later request defines in files of its own, each with its most lines; they are not among the 891, which are 700 for the base with its points,
 # 45 for what stand-ins (request A.3) add to the base's own definitions, 17 for what edits (request A.6) add, 94 for what starts, steps and power
 # failures (request A.8) add to the ledger, 16 for what careful reads (request A.11) add and 19 for what moves (request A.10) add
-requests='crates/size_list/specs/Combinations.antt:45 crates/text_spec/specs/Texts.antt:63 crates/text_spec/specs/Calls.antt:49 crates/prefix_spec/specs/Prefix.antt:56 crates/generator/specs/Generator.antt:10 crates/trial_spec/specs/Trial.antt:85 crates/store_spec/specs/Edit.antt:26 crates/store_spec/specs/Running.antt:38 crates/store_spec/specs/Lying.antt:34 crates/store_spec/specs/Both.antt:85 crates/store_spec/specs/Careful.antt:45 crates/store_spec/specs/Move.antt:32 crates/mbcr/specs/Afresh.antt:5'
+requests='crates/size_list/specs/Combinations.antt:45 crates/text_spec/specs/Texts.antt:63 crates/text_spec/specs/Calls.antt:49 crates/prefix_spec/specs/Prefix.antt:56 crates/generator/specs/Generator.antt:10 crates/trial_spec/specs/Trial.antt:85 crates/store_spec/specs/Edit.antt:26 crates/beside_spec/specs/Running.antt:38 crates/beside_spec/specs/Lying.antt:34 crates/beside_spec/specs/Both.antt:85 crates/store_spec/specs/Careful.antt:45 crates/store_spec/specs/Move.antt:32 crates/mbcr/specs/Afresh.antt:5'
 later=$(for f in $requests; do echo "${f%:*}"; done)
 printf '%s\n' $tables $claims $inner $archive $later | LC_ALL=C sort -u >"$work/others"
 definitions=$(printf '%s\n' $definitions | LC_ALL=C sort | LC_ALL=C comm -23 - "$work/others")
 for f in $inner; do
     crate=${f#crates/} name=${f##*/}
-    echo "·${crate%%/*}.*specs\.${name%.antt}\."
+    echo "Rattle\.${crate%%/*}\.specs\.${name%.antt}\."
 done >"$work/inner"
-if grep -f "$work/inner" $(ls crates/board_*/specs/*.antt crates/store_spec/specs/*.antt crates/mbcr/specs/*.antt crates/text_spec/specs/*.antt crates/prefix_spec/specs/*.antt crates/generator/specs/*.antt crates/trial_spec/specs/*.antt \
+if grep -f "$work/inner" $(ls crates/board_*/specs/*.antt crates/store_spec/specs/*.antt crates/beside_spec/specs/*.antt crates/ledger_spec/specs/*.antt crates/list_spec/specs/*.antt crates/mbcr/specs/*.antt crates/text_spec/specs/*.antt crates/prefix_spec/specs/*.antt crates/generator/specs/*.antt crates/trial_spec/specs/*.antt \
     crates/record_words/specs/*.antt crates/store/specs/*.antt crates/archive_spec/specs/*.antt | grep -v '/Steps.antt$'); then
     complain "a definition rests on an inner one"
 fi

@@ -6,8 +6,7 @@
 # to try instead. Ends with exit code 1 where something differs, or where there is no program.
 set -eu
 cd "$(dirname "$0")/.."
-program=${TRIAL:-target/bin/trial}
-[ -n "${TRIAL:-}" ] || rt check trial >&2
+program=${TRIAL:-$(sh tests/program.sh trial)}
 [ -x "$program" ] || { echo "FAIL trial: there is no program $program"; exit 1; }
 sh tests/prove_archive.sh
 CARGO_TARGET_DIR=$PWD/target/cargo

@@ -59,14 +59,14 @@ units() {
         # the header of a function ends where its body begins
         function header(s,    t) {
             t = squeezed(s)
-            if (depth > 0 || t ~ /^(requires|ensures)/) { depth += braces(t); unit(now, t); return }
+            if (depth > 0 || t ~ /^(requires|ensures|ghost)/) { depth += braces(t); unit(now, t); return }
             if (t ~ /\{/) { sub(/ *\{.*/, "", t); if (t != "") unit(now, t); now = ""; return }
             unit(now, t)
         }
         function contract(s,    t) {
             if (now != "" && typed) { unit(now, s); if (s ~ /^ *[\]})]*;$/ || s ~ /^ *\}$/) { now = ""; typed = 0 }; return }
             if (now != "") { header(s); return }
-            if (s ~ /^impl /) { owner = s; sub(/^impl */, "", owner); sub(/ *\{.*/, "", owner); owner = owner "::"; return }
+            if (s ~ /^impl[ <]/) { owner = s; sub(/^impl */, "", owner); sub(/ *\{.*/, "", owner); owner = owner "::"; return }
             if (s ~ /^\}/) { owner = ""; return }
             if (s !~ /^ *(pub )?(extern "C" )?(fn|struct|enum|const|type) /) return
             t = s; sub(/^ *(pub )?(extern "C" )?[a-z]+ /, "", t); sub(/[^A-Za-z0-9_].*/, "", t)

@@ -9,7 +9,7 @@ fn main() {
     let archive = top.join(named.unwrap_or("target/staticlib/libzebrankai.a".into()));
     let archive = archive.canonicalize().unwrap_or_else(|error| {
         panic!(
-            "the archive {}: {error}. Build it with 'rt staticlib zebrankai', or set ZBK_ARCHIVE.",
+            "the archive {}: {error}. Build it with 'sh tests/prove_archive.sh', or set ZBK_ARCHIVE.",
             archive.display()
         )
     });

@@ -43,7 +43,7 @@
 //! The crate needs no standard library and no heap; the lengths, what a record says, the boards that it chooses and the words of refusals are worked out
 //! in this crate, and are not proved.
 //!
-//! The archive is linked by `build.rs`: `target/staticlib/libzebrankai.a` of this repository, which `rt staticlib zebrankai` makes, or the
+//! The archive is linked by `build.rs`: `target/staticlib/libzebrankai.a` of this repository, which `sh tests/prove_archive.sh` makes, or the
 //! file that the environment variable `ZBK_ARCHIVE` names.
 #![no_std]
 #![warn(missing_docs)]

@@ -1,7 +1,7 @@
 -- An answer's word taken apart: the low eight bits are the refusal's number, what is above them the number reported.
 -- proofs/Laws.antt has `answer-laws : AnswerLaws`.
 -- Assumes nothing.
-use Rattle.std.specs.Prelude.{◌≡◌, ℕ, ◌/◌, ◌%◌}
+use Rattle.std.specs.Prelude.{◌≡◌, ◌/◌, ◌%◌}
 use Rattle.sizes.specs.declared.Answer.{Answer}
 use Rattle.sizes.specs.Refusals.{said}
 use Rattle.answer_word.specs.Answers.{word_of}

@@ -1,4 +1,7 @@
 //! The archive's answer in one word.
+
+#![tactic(auto)]
+
 ghost use Rattle.std.specs.Prelude.{◌≡◌, ◌<◌};
 ghost use Rattle.sizes.specs.Refusals.{said};
 ghost use Rattle.answer_word.specs.Answers.{word_of};

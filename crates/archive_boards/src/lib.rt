@@ -1,5 +1,8 @@
 //! The archive's calls of board level, each by the words and bytes that it is lent: `zebrankai` has them under their C names.
 //! Each meets its definition in the crate `board_spec` at the points that are lent: the answer as one word, and every byte of the output.
+
+#![tactic(auto)]
+
 ghost use Rattle.std.specs.Prelude.{◌≡◌};
 ghost use Rattle.board_spec.specs.Calls.{share_call, file_call, helper_call, exchange_call, finished_call, text_call};
 ghost use Rattle.answer_word.specs.Answers.{word_of};

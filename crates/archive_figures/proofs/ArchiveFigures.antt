@@ -18,16 +18,17 @@ use Rattle.mbcr.specs.Read.{through, b_column, c_row, a_column, decoded_stripe, 
 use Rattle.mbcr.specs.Afresh.{kept_afresh, share_afresh}
 use Rattle.store_spec.specs.Record.{sound}
 use Rattle.store_spec.specs.Packets.{helper_packets, stand_in_packets, exchange_packets, partner_packets, repair_packets, fresh_share}
-use Rattle.store_spec.specs.Lying.{helpers_lying, partners_lying, exchanges_made, share_lying, packets_now}
+use Rattle.beside_spec.specs.Lying.{helpers_lying, partners_lying, exchanges_made, share_lying, packets_now}
 use Rattle.store_spec.specs.Calls.{write_lines, lose_lines, list_lines, repair_lines, read_lines}
 use Rattle.store_spec.specs.Careful.{careful_file, careful_lines}
-use Rattle.store_spec.specs.Running.{Running, sound_beside}
-use Rattle.store_spec.specs.Both.{write_lines_both, lose_lines_both, repair_lines_both, read_lines_both, careful_lines_both, step_lines}
-use Rattle.store_spec.specs.Both.{set_up_both, write_both, lose_both, repair_both, read_both, careful_both, start_call, step_call, move_lines_both, move_both}
-use Rattle.store_spec.specs.MarkLaws.{Arrays}
+use Rattle.beside_spec.specs.Running.{Running, sound_beside}
+use Rattle.beside_spec.specs.Both.{write_lines_both, lose_lines_both, repair_lines_both, read_lines_both, careful_lines_both, step_lines}
+use Rattle.beside_spec.specs.Both.{set_up_both, write_both, lose_both, repair_both, read_both, careful_both, start_call, step_call, move_lines_both, move_both}
+use Rattle.beside_spec.specs.HandedLaws.{Arrays}
 use Rattle.store_spec.specs.Move.{afresh, afresh_area, move_packets, moved_share, move_lines}
-use Rattle.store_spec.specs.Ledger.{Book, Event, call, power_fails, Step, act, open_book, repair_asked, book_lines, accept, enter, book_next}
-use Rattle.store_spec.proofs.Tested.{agrees, agree, fairly_event, fair-event}
+use Rattle.ledger_spec.specs.Ledger.{Book, Event, call, power_fails, Step, open_book, repair_asked, book_lines, accept, enter, book_next}
+use Rattle.beside_spec.specs.Acting.{act}
+use Rattle.ledger_spec.proofs.Tested.{agrees, agree, fairly_event, fair-event}
 use Rattle.text_spec.specs.Texts.{admitted, some_points, text_at, read_text}
 use Rattle.text_spec.specs.Calls.{read_text_lines, read_text_call}
 use Rattle.record_words.specs.Words.{is_record, record_from}

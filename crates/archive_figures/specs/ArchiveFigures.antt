@@ -5,9 +5,10 @@
 use Rattle.std.specs.Prelude.{◌≡◌, false, List, [], ◌∷◌, ◌++◌, map, ℕ, take, set, replicate}
 use Rattle.std.proofs.Math.Option.{some, none}
 use Rattle.sizes.specs.declared.Sizes.{Sizes}
-use Rattle.store_spec.specs.Running.{Running}
-use Rattle.store_spec.specs.Ledger.{Call, write, lose, repair, read, start, step, careful, move, call, power_fails, Step, open_book, book_replies}
-use Rattle.store_spec.specs.Demand3.{events}
+use Rattle.beside_spec.specs.Running.{Running}
+use Rattle.beside_spec.specs.Acting.{Call, write, lose, repair, read, start, step, careful, move}
+use Rattle.ledger_spec.specs.Ledger.{call, power_fails, Step, open_book, book_replies}
+use Rattle.ledger_spec.specs.Demand3.{events}
 use Rattle.archive_spec.specs.Archive.{sizes_of}
 use Rattle.archive_spec.specs.Lent.{Lent, zbk_set_up, zbk}
 use Rattle.archive_spec.specs.Texts.{TextLent, zbk_read_text}

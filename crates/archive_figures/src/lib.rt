@@ -1,1 +1,3 @@
 //! Figures of the archive's calls, apart from their definitions, whose edits are refused without them. It has no function of its own.
+
+#![tactic(auto)]

@@ -21,12 +21,12 @@ use Rattle.board_spec.specs.Calls.{BoardOutcome}
 use Rattle.board_spec.specs.Demand1.{BoardEnds}
 use Rattle.board_spec.proofs.Demand1 as at-board
 use Rattle.store_spec.specs.Record.{Record, new_record}
-use Rattle.store_spec.specs.Running.{Running, idle, fresh_of, packet_count}
+use Rattle.beside_spec.specs.Running.{Running, idle, fresh_of, packet_count}
 use Rattle.store_spec.specs.Calls.{accepted, record_line}
-use Rattle.store_spec.specs.Both.{Outcome, beside, left_of, step_last, step_on, step_done, set_up_both}
-use Rattle.store_spec.specs.BothCalls.{store_lines, store_done}
-use Rattle.store_spec.specs.Ledger.{Call, write, lose, repair, read, edit, start, step, careful, move, act, output_of, packets_of_call}
-use Rattle.store_spec.proofs.BothCalls.{both-calls}
+use Rattle.beside_spec.specs.Both.{Outcome, beside, left_of, step_last, step_on, step_done, set_up_both}
+use Rattle.beside_spec.specs.BothCalls.{store_lines, store_done}
+use Rattle.beside_spec.specs.Acting.{Call, write, lose, repair, read, edit, start, step, careful, move, act, output_of, packets_of_call}
+use Rattle.beside_spec.proofs.BothCalls.{both-calls}
 use Rattle.text_spec.specs.Texts.{ShareTold, text_of, read_text}
 use Rattle.text_spec.specs.Laws.{Writable}
 use Rattle.text_spec.specs.Calls.{ReadOutcome, told_of, read_text_lines, read_text_call}

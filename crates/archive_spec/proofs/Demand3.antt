@@ -28,24 +28,27 @@ use Rattle.mbcr.proofs.PointLaws.{pointed-facts}
 use Rattle.board_spec.specs.Calls.{file_of}
 use Rattle.store_spec.specs.Record.{Record, new_record}
 use Rattle.store_spec.specs.Packets.{total, repair_packets}
-use Rattle.store_spec.specs.Running.{Running, idle}
-use Rattle.store_spec.specs.Both.{Outcome, repair_lines_both, set_up_both, repair_both, step_call}
-use Rattle.store_spec.specs.BothCalls.{store_lines, store_done}
-use Rattle.store_spec.specs.MarkLaws.{Arrays}
-use Rattle.store_spec.specs.Ledger.{Call, write, lose, repair, read, edit, start, step, careful, move, Event, call, power_fails, Book, State, Step}
-use Rattle.store_spec.specs.Ledger.{Altered, FairEvent, Allowed, packets_after, act, lent, next, replies, final, output_of, packets_of_call, open_book, book_next}
-use Rattle.store_spec.specs.Ledger.{told as told_by}
-use Rattle.store_spec.specs.Demand3.{Intact, Demand3, WholeStep, begun, events}
-use Rattle.store_spec.specs.Premises.{files, IdleGiven, lent_again, bare}
-use Rattle.store_spec.specs.CarefulLaws.{OfBytes}
-use Rattle.store_spec.proofs.AloneLaws.{alone-laws}
-use Rattle.store_spec.proofs.BothCalls.{by, act-is, done-accepted}
+use Rattle.beside_spec.specs.Running.{Running, idle}
+use Rattle.beside_spec.specs.Both.{Outcome, repair_lines_both, set_up_both, repair_both, step_call}
+use Rattle.beside_spec.specs.BothCalls.{store_lines, store_done}
+use Rattle.beside_spec.specs.HandedLaws.{Arrays}
+use Rattle.beside_spec.specs.Acting.{Call, write, lose, repair, read, edit, start, step, careful, move, State}
+use Rattle.ledger_spec.specs.Ledger.{Event, call, power_fails, Book, Step}
+use Rattle.ledger_spec.specs.Ledger.{Altered, FairEvent, Allowed, packets_after, lent, next, replies, final, open_book, book_next}
+use Rattle.beside_spec.specs.Acting.{act, output_of, packets_of_call}
+use Rattle.ledger_spec.specs.Ledger.{told as told_by}
+use Rattle.ledger_spec.specs.Demand3.{Intact, Demand3, WholeStep, begun, events}
+use Rattle.ledger_spec.specs.Premises.{files, IdleGiven, lent_again, bare}
+use Rattle.list_spec.specs.WornLaws.{OfBytes}
+use Rattle.beside_spec.proofs.AloneLaws.{alone-laws}
+use Rattle.beside_spec.proofs.BothCalls.{by, act-is, done-accepted}
 use Rattle.store_spec.proofs.Demand1.{demand-1}
-use Rattle.store_spec.proofs.Demand3.{demand-3, set-up-done, set-up-both, both-done, accepted-both}
+use Rattle.ledger_spec.proofs.Demand3.{demand-3}
+use Rattle.beside_spec.proofs.Beside.{set-up-done, set-up-both, both-done, accepted-both}
 use Rattle.store_spec.proofs.Records.{sound-facts}
-use Rattle.store_spec.proofs.Follows.{act-any}
-use Rattle.store_spec.proofs.MarkLaws.{mark-laws}
-use Rattle.store_spec.proofs.Premises.{as_it_was, fair, again-bare, premises}
+use Rattle.list_spec.proofs.Follows.{act-any}
+use Rattle.beside_spec.proofs.HandedLaws.{handed-laws}
+use Rattle.ledger_spec.proofs.Premises.{as_it_was, fair, again-bare, premises}
 use Rattle.answer_word.specs.Answers.{word_of}
 use Rattle.answer_word.proofs.Laws.{answer-laws}
 use Rattle.record_words.specs.Words.{is_record, record_from, words_of}
@@ -114,9 +117,9 @@ BytePoint e = (board point : ℕ) (helpers partners : List ℕ) → e ≡ call (
 
 pub still-whole : (w : State) (c : Call) → BytePoint (call c) → Whole w.kept → Whole (act w c).handed
 still-whole w c b f = record {
-  marks = mark-laws.full-marks w c f.marks;
-  points = mark-laws.full-points w c ∙ f.points;
-  points-bytes = mark-laws.byte-points w c (λ board point helpers partners e. b board point helpers partners (ap call e)) f.points-bytes;
+  marks = handed-laws.full-marks w c f.marks;
+  points = handed-laws.full-points w c ∙ f.points;
+  points-bytes = handed-laws.byte-points w c (λ board point helpers partners e. b board point helpers partners (ap call e)) f.points-bytes;
 }
 
 following : (h : Held) (w : State) → Tells h w → (t : Step) (e : Event) → BytePoint e → GivenWords e → Tells (held_next h t.area e) (next (lent w t) e)
@@ -128,7 +131,7 @@ following h w k t (call c) b g =
       area-is = ap (λ (x : Lent). x.area) o;
       packets-are = ap₂ (λ (l : List ℕ) (x : Lent). packets_left l c x) k.packets-are o ∙ left-same w.packets (lent w t) c;
       whole = still-whole (lent w t) c b k.whole;
-      arrays = mark-laws.arrays-stay (lent w t) c k.arrays;
+      arrays = handed-laws.arrays-stay (lent w t) c k.arrays;
     }
 following h w k t (power_fails p) b g = record { words_are = k.words_are; repair-are = refl; area-is = refl; packets-are = refl; whole = k.whole; arrays = g }
 
@@ -262,7 +265,7 @@ module _ (ws ps : List ℕ) (z : Sizes) (xs : List ℕ) (c : ℕ) where
       subst Whole (sym (ap (λ (o : Outcome). o.handed) (set-up-done (new_record z xs c) idle z xs c ok))) (record { marks = refl; points = f.long; points-bytes = f.bytes })
 
   arrays-made : made.answer.refusal ≡ 0 → Arrays made.running
-  arrays-made ok = subst Arrays (sym (ap (λ (o : Outcome). o.running) (set-up-done (new_record z xs c) idle z xs c ok))) mark-laws.arrays-idle
+  arrays-made ok = subst Arrays (sym (ap (λ (o : Outcome). o.running) (set-up-done (new_record z xs c) idle z xs c ok))) handed-laws.arrays-idle
 
 -- ---- a step to the end
 
@@ -275,10 +278,10 @@ module _ (h : Held) (is : is_record h.words ≡ true) (so : is_repair h.repair �
 
   -- 71 words 0 tell no repair
   zeros-are : is_repair (replicate 71 0) ≡ true
-  zeros-are = subst (λ (l : List ℕ). is_repair l ≡ true) repair-words.idle-words (repair-words.are_words idle mark-laws.arrays-idle)
+  zeros-are = subst (λ (l : List ℕ). is_repair l ≡ true) repair-words.idle-words (repair-words.are_words idle handed-laws.arrays-idle)
 
   zeros-tell : repair_from (replicate 71 0) ≡ idle
-  zeros-tell = ap repair_from (sym repair-words.idle-words) ∙ repair-words.repair-back idle mark-laws.arrays-idle
+  zeros-tell = ap repair_from (sym repair-words.idle-words) ∙ repair-words.repair-back idle handed-laws.arrays-idle
 
   stepped : (now packets : List ℕ) (allowance : ℕ) → zbk h.words h.repair now (step allowance packets) ≡ in_words (step_call s p now packets allowance)
   unfolding act

@@ -9,7 +9,6 @@ use native.Mathlib.Omega.{arith}
 use native.Mathlib.Nat.{mod-lt}
 use lib.ListN.{length, drop}
 use Rattle.lists.specs.Lists.{All, Bytes, over}
-use Rattle.lists.proofs.Tests.{not-no, alls-hold}
 use Rattle.sizes.specs.declared.Check.{Check}
 use Rattle.sizes.specs.declared.Check.TheVariants.{Pass, Refuse}
 use Rattle.sizes.specs.declared.Refusal.TheVariants.{Size, Disagree}
@@ -17,13 +16,14 @@ use Rattle.sizes.specs.declared.Answer.TheVariants.{Refused}
 use Rattle.sizes.specs.Refusals.{number, Said, said, Line, ◌when◌, applies_in, first, store_order}
 use Rattle.mbcr.specs.Share.{share}
 use Rattle.store_spec.specs.Record.{Record, sound, held}
-use Rattle.store_spec.specs.Running.{Running, sound_beside}
+use Rattle.beside_spec.specs.Running.{Running, sound_beside}
+use Rattle.beside_spec.proofs.Beside.{both_facts}
 use Rattle.store_spec.specs.Calls.{StoreOutcome, settle, refused, record_line, read_lines, read_done, read_call}
 use Rattle.store_spec.specs.Careful.{agreeing, careful_lines, careful_done, careful_call}
 use Rattle.store_spec.specs.CarefulLaws.{OddTold}
-use Rattle.store_spec.specs.Both.{Outcome, beside, both_line, read_lines_both, read_both, careful_lines_both, careful_both}
-use Rattle.store_spec.specs.Ledger.{Call, read, careful, act, output_of, packets_of_call}
-use Rattle.store_spec.proofs.AloneLaws.{alone-is, alone-laws}
+use Rattle.beside_spec.specs.Both.{beside, both_line, read_lines_both, read_both, careful_lines_both, careful_both}
+use Rattle.beside_spec.specs.Acting.{Call, read, careful, act, output_of, packets_of_call}
+use Rattle.beside_spec.proofs.AloneLaws.{alone-is, alone-laws}
 use Rattle.store_spec.proofs.CarefulLaws.{careful-laws}
 use Rattle.store_spec.proofs.Demand1.{demand-1}
 use Rattle.store_spec.proofs.MarkLaws.{mark-laws}
@@ -47,7 +47,7 @@ module _ (s : Record) (p : Running) (rest : List Line)
       go (inr e) = e
 
   both-sound : (sound s ≡ true) × (sound_beside s p ≡ true)
-  both-sound = let h = alls-hold (sound s ∷ sound_beside s p ∷ []) (not-no _ no_size) in (h.0, h.1.0)
+  both-sound = both_facts s p no_size
 
   others-alone : All (λ x. (x ≡ Disagree) ⊎ (applies_in (record_line s ∷ rest) x ≡ false)) store_order
   others-alone =

@@ -21,8 +21,8 @@ use Rattle.mbcr.proofs.PointLaws.{pointed-facts}
 use Rattle.board_spec.specs.Calls.{BoardOutcome, share_lines, share_call, file_lines, file_call, helper_lines, helper_call}
 use Rattle.board_spec.specs.Calls.{exchange_lines, exchange_call, finished_lines, finished_call, text_lines, text_call}
 use Rattle.store_spec.specs.Record.{Record, new_record, all_off, sound}
-use Rattle.store_spec.specs.Running.{Running}
-use Rattle.store_spec.specs.Both.{set_up_both}
+use Rattle.beside_spec.specs.Running.{Running}
+use Rattle.beside_spec.specs.Both.{set_up_both}
 use Rattle.point_array.specs.Steps.{array_of}
 
 -- sizes and points that SIZE refuses

@@ -9,9 +9,9 @@ use native.Mathlib.Omega.{arith}
 use Rattle.lists.specs.Tests.{pick, alls}
 use Rattle.lists.proofs.Tests.{alls-hold, hold-alls}
 use Rattle.store_spec.specs.Record.{Record}
-use Rattle.store_spec.specs.Running.{Running}
-use Rattle.store_spec.specs.Both.{Outcome}
-use Rattle.store_spec.specs.MarkLaws.{Arrays}
+use Rattle.beside_spec.specs.Running.{Running}
+use Rattle.beside_spec.specs.Both.{Outcome}
+use Rattle.beside_spec.specs.HandedLaws.{Arrays}
 use Rattle.answer_word.specs.Answers.{word_of}
 use Rattle.record_words.specs.Words.{is_record, record_from, words_of}
 use Rattle.record_words.specs.Laws.{Whole}

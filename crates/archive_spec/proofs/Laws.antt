@@ -23,13 +23,13 @@ use Rattle.board_spec.specs.Calls.{settled, file_of, share_lines, share_call, fi
 use Rattle.board_spec.specs.Calls.{exchange_lines, exchange_call, finished_lines, finished_call, text_lines, text_call}
 use Rattle.board_spec.specs.Text.{share_text}
 use Rattle.store_spec.specs.Record.{Record, new_record}
-use Rattle.store_spec.specs.Running.{Running, idle, named_in}
-use Rattle.store_spec.specs.Both.{Outcome, set_up_both}
-use Rattle.store_spec.specs.BothCalls.{store_lines, store_done}
-use Rattle.store_spec.specs.Ledger.{Call, write, lose, repair, read, edit, start, careful, move, State, act, output_of, packets_of_call}
-use Rattle.store_spec.proofs.BothCalls.{by, act-is}
-use Rattle.store_spec.proofs.Follows.{act-any}
-use Rattle.store_spec.proofs.MarkLaws.{mark-laws}
+use Rattle.beside_spec.specs.Running.{Running, idle, named_in}
+use Rattle.beside_spec.specs.Both.{Outcome, set_up_both}
+use Rattle.beside_spec.specs.BothCalls.{store_lines, store_done}
+use Rattle.beside_spec.specs.Acting.{Call, write, lose, repair, read, edit, start, careful, move, State, act, output_of, packets_of_call}
+use Rattle.beside_spec.proofs.BothCalls.{by, act-is}
+use Rattle.list_spec.proofs.Follows.{act-any}
+use Rattle.beside_spec.proofs.HandedLaws.{handed-laws}
 use Rattle.text_spec.specs.Texts.{ShareTold, read_text, texts_of}
 use Rattle.text_spec.specs.Calls.{blank, told_of, read_settled, read_text_lines, read_text_call, texts_told, gathered, gather_lines, gather_call}
 use Rattle.answer_word.specs.Answers.{word_of}
@@ -79,7 +79,7 @@ module _ (ws ps area : List ℕ) where
       by-words (λ o. Keeps o ws ps area (output_of call) (packets_of_call call)) call
       (λ is-record is-repair h.
       let o = act state call in
-      ap in_words (mark-laws.refused-keeps state call (λ e. h o.answer.reported (omega (arith, e))))
+      ap in_words (handed-laws.refused-keeps state call (λ e. h o.answer.reported (omega (arith, e))))
       ∙ back-words ws ps is-record is-repair (word_of o.answer) area (output_of call) (packets_of_call call))
       (λ h. refl)
 

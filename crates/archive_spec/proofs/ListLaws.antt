@@ -8,11 +8,12 @@ use Prim.Native.Nat.{ℕ, ◌%◌}
 use lib.Dec.{eqb}
 use borrow.Author.Tests.{eq-eqb, ne_eqb}
 use Rattle.lists.specs.Tests.{pick}
-use Rattle.store_spec.specs.Running.{Running}
-use Rattle.store_spec.specs.MarkLaws.{Arrays}
-use Rattle.store_spec.specs.Ledger.{Call, write, lose, repair, read, edit, start, step, careful, move, Event, call, power_fails, Book, Step, book_next}
-use Rattle.store_spec.specs.Premises.{Asked}
-use Rattle.store_spec.proofs.Premises.{asked_is, fair-is, premises}
+use Rattle.beside_spec.specs.Running.{Running}
+use Rattle.beside_spec.specs.HandedLaws.{Arrays}
+use Rattle.beside_spec.specs.Acting.{Call, write, lose, repair, read, edit, start, step, careful, move}
+use Rattle.ledger_spec.specs.Ledger.{Event, call, power_fails, Book, Step, book_next}
+use Rattle.ledger_spec.specs.Premises.{Asked}
+use Rattle.ledger_spec.proofs.Premises.{asked_is, fair-is, premises}
 use Rattle.record_words.specs.Words.{record_from}
 use Rattle.repair_words.proofs.RepairWords.{repair-words}
 use Rattle.archive_spec.specs.Lent.{Lent, zbk}

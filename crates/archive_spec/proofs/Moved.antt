@@ -4,10 +4,12 @@ use Prim.Native.Nat.{ℕ, ◌*◌}
 use mathlib.Core.Path.{sym, ap, subst, ◌∙◌}
 use mathlib.Core.List.{[]}
 use Rattle.store_spec.specs.Record.{Record}
-use Rattle.store_spec.specs.Running.{Running}
-use Rattle.store_spec.specs.Both.{Outcome}
-use Rattle.store_spec.specs.Ledger.{call, move, State, act}
+use Rattle.beside_spec.specs.Running.{Running}
+use Rattle.beside_spec.specs.Both.{Outcome}
+use Rattle.ledger_spec.specs.Ledger.{call}
+use Rattle.beside_spec.specs.Acting.{move, State, act}
 use Rattle.store_spec.proofs.MoveLaws.{move-laws}
+use Rattle.beside_spec.proofs.BesideLaws.{move-beside}
 use Rattle.answer_word.specs.Answers.{word_of}
 use Rattle.record_words.specs.Words.{is_record, record_from, words_of}
 use Rattle.record_words.specs.Laws.{Whole}
@@ -29,8 +31,8 @@ archive-moves ws ps area board point helpers partners v byte h =
     let e = taken calling ws ps area [] [] v h in
     let is = sym (lent-call calling ws ps area [] [] e.0 e.1) in
     let ok = small w (move board point helpers partners) v (sym (ap (λ (o : Lent). o.answer) is) ∙ h) in
-    let alone = (move-laws.taken-beside s p area board point helpers partners).0 ok in
-    let q = move-laws.same_beside s p area board point helpers partners ok in
+    let alone = (move-beside.taken-beside s p area board point helpers partners).0 ok in
+    let q = move-beside.same_beside s p area board point helpers partners ok in
     let m = move-laws.moved s area board point helpers partners byte alone.0 in
     let bytes = byte-point (call (move board point helpers partners)) ((byte, tt), tt) in
     let record-now = ap (λ (o : Outcome). o.handed) q ∙ m.record_is in

@@ -22,17 +22,17 @@ use Rattle.sizes.specs.Refusals.{first, store_order}
 use Rattle.sizes.proofs.Legal.{legal-facts, α-most, stripes-least}
 use Rattle.sizes.proofs.Orders.{clear-off}
 use Rattle.board_spec.specs.Calls.{file_of}
-use Rattle.store_spec.specs.Record.{Record, new_record, sound, stripe_count}
-use Rattle.store_spec.specs.Running.{Running, fresh_of, helpers_of, stand_ins_of, packet_count, sound_beside}
+use Rattle.store_spec.specs.Record.{Record, new_record, stripe_count}
+use Rattle.beside_spec.specs.Running.{Running, fresh_of, helpers_of, stand_ins_of, packet_count}
 use Rattle.store_spec.specs.Packets.{stand_ins_each, total, repair_packets}
 use Rattle.store_spec.specs.Calls.{record_line, list_lines, repair_lines}
-use Rattle.store_spec.specs.Both.{Outcome, repair_lines_both, careful_lines_both, step_lines, left_of, step_last, step_on, set_up_both, move_lines_both}
+use Rattle.beside_spec.specs.Both.{Outcome, repair_lines_both, careful_lines_both, step_lines, left_of, step_last, step_on, set_up_both, move_lines_both}
 use Rattle.store_spec.specs.Careful.{odd, odd_report, careful_file, careful_lines}
-use Rattle.store_spec.specs.BothCalls.{store_lines, store_done}
-use Rattle.store_spec.specs.Ledger.{Call, write, lose, repair, read, edit, start, step, careful, move, State, act, output_of, packets_of_call}
+use Rattle.beside_spec.specs.BothCalls.{store_lines, store_done}
+use Rattle.beside_spec.specs.Acting.{Call, write, lose, repair, read, edit, start, step, careful, move, State, act, output_of, packets_of_call}
 use Rattle.store_spec.specs.Move.{move_packets, move_lines}
-use Rattle.store_spec.proofs.BothCalls.{by, act-is}
-use Rattle.store_spec.proofs.Beside.{alone, alone-busy, sound-beside}
+use Rattle.beside_spec.proofs.BothCalls.{by, act-is}
+use Rattle.beside_spec.proofs.Beside.{alone, alone-busy, sound-beside, both_facts}
 use Rattle.store_spec.proofs.Careful.{odd-named}
 use Rattle.store_spec.proofs.Records.{sound-facts, repair-facts, careful-facts, move-facts}
 use Rattle.store_spec.proofs.Real.{code-lengths}
@@ -76,9 +76,9 @@ most-packets : (s : Record) (p : Running) (m mp : ℕ) → first store_order (st
 unfolding step_lines list_lines
 most-packets s p m mp h =
     let off = clear-off (step_lines s p m mp) store_order h in
-    let k = alls-hold (sound s ∷ sound_beside s p ∷ []) (not-no _ (off Size refl)) in
+    let k = both_facts s p (off Size refl) in
     let l = legal-facts s.sizes (sound-facts s k.0).is-legal in
-    let lists = (sound-beside s p k.1.0 (not-no p.running (off Idle refl))).0 in
+    let lists = (sound-beside s p k.1 (not-no p.running (off Idle refl))).0 in
     let fresh : List ℕ = fresh_of p in
     let helpers : List ℕ = helpers_of s.sizes p in
     let stand_ins : List ℕ = stand_ins_of s.sizes p in
@@ -105,7 +105,7 @@ careful-few : (s : Record) (p : Running) (area boards output : List ℕ) → fir
     → Fits (odd_report (odd s area (file_of (careful_file s area boards)) boards))
 unfolding careful_lines_both careful_lines
 careful-few s p area boards output h =
-    let f = (careful-facts s area boards output (alone s p (drop 1 (careful_lines s area boards output)) h)).0 in
+    let f = careful-facts s area boards output (alone s p (drop 1 (careful_lines s area boards output)) h) in
     let l = legal-facts s.sizes (sound-facts s f.is-sound).is-legal in
     go (odd-named s area (file_of (careful_file s area boards)) boards) l.few (below_all s.sizes.n boards f.named-below)
   where

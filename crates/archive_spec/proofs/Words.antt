@@ -7,7 +7,7 @@ use native.Mathlib.Omega.{arith}
 use Rattle.sizes.specs.declared.Answer.{Answer}
 use Rattle.sizes.specs.Refusals.{said}
 use Rattle.board_spec.specs.Calls.{BoardOutcome}
-use Rattle.checks.specs.Outcomes.{outcome}
+use Rattle.board_lines.specs.Outcomes.{outcome}
 use Rattle.answer_word.specs.Answers.{word_of}
 use Rattle.archive_spec.proofs.Bounds.{Fits}
 

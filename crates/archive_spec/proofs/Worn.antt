@@ -10,17 +10,18 @@ use Rattle.lists.specs.Lists.{All, over}
 use Rattle.sizes.specs.declared.Sizes.{Sizes}
 use Rattle.board_spec.specs.Calls.{file_of}
 use Rattle.store_spec.specs.Record.{new_record}
-use Rattle.store_spec.specs.Running.{idle}
-use Rattle.store_spec.specs.Ledger.{careful, Event, call, power_fails, Book, State, Step, act, final, open_book, book_next, book_final}
-use Rattle.store_spec.specs.Demand3.{begun, events}
-use Rattle.store_spec.specs.CarefulLaws.{AnyBytes, Worn}
-use Rattle.store_spec.proofs.LedgerLaws.{ledger-laws}
-use Rattle.store_spec.proofs.Worn.{worn}
+use Rattle.beside_spec.specs.Running.{idle}
+use Rattle.beside_spec.specs.Acting.{careful, State, act}
+use Rattle.ledger_spec.specs.Ledger.{Event, call, power_fails, Book, Step, final, open_book, book_next, book_final}
+use Rattle.ledger_spec.specs.Demand3.{begun, events}
+use Rattle.list_spec.specs.WornLaws.{AnyBytes, Worn}
+use Rattle.ledger_spec.proofs.LedgerLaws.{ledger-laws}
+use Rattle.list_spec.proofs.Worn.{worn}
 use Rattle.record_words.specs.Words.{is_record, record_from, words_of}
 use Rattle.record_words.proofs.Laws.{word_laws}
 use Rattle.repair_words.specs.RepairWords.{is_repair, repair_from, repair_words_of}
 use Rattle.repair_words.proofs.RepairWords.{repair-words}
-use Rattle.archive_spec.specs.Lent.{Lent, in_words, zbk_set_up}
+use Rattle.archive_spec.specs.Lent.{in_words, zbk_set_up}
 use Rattle.archive_spec.specs.Demand3.{Held, GivenWords, held_state, first_held, end_held, end_book}
 use Rattle.archive_spec.specs.Worn.{WornRun, ArchiveWorn}
 use Rattle.archive_spec.proofs.Demand3.{Tells, Fit, ends, state-is, begun-so, tells-start}

@@ -23,9 +23,9 @@ use Rattle.store_spec.specs.Calls.{accepted, record_line, write_done, lose_done,
 use Rattle.store_spec.specs.Edit.{edit_done}
 use Rattle.store_spec.specs.Careful.{agreeing, odd, careful_file, odd_report, careful_done}
 use Rattle.store_spec.specs.CarefulLaws.{OddTold}
-use Rattle.store_spec.specs.Running.{idle, running_by, fresh_of, packet_count}
-use Rattle.store_spec.specs.Both.{Outcome, beside, lost_beside, write_lines_both, lose_lines_both, repair_lines_both, read_lines_both, edit_lines_both, careful_lines_both, step_lines, step_done, move_lines_both}
-use Rattle.store_spec.specs.Ledger.{write, lose, repair, read, edit, start, step, careful, move}
+use Rattle.beside_spec.specs.Running.{idle, running_by, fresh_of, packet_count}
+use Rattle.beside_spec.specs.Both.{Outcome, beside, lost_beside, write_lines_both, lose_lines_both, repair_lines_both, read_lines_both, edit_lines_both, careful_lines_both, step_lines, step_done, move_lines_both}
+use Rattle.beside_spec.specs.Acting.{write, lose, repair, read, edit, start, step, careful, move}
 use Rattle.store_spec.specs.Move.{move_packets, move_done}
 use Rattle.text_spec.specs.Texts.{ShareTold, text_of, read_text, texts_of}
 use Rattle.text_spec.specs.Laws.{Writable}

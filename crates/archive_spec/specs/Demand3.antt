@@ -12,12 +12,14 @@ use Rattle.mbcr.specs.Share.{pointed}
 use Rattle.board_spec.specs.Calls.{file_of}
 use Rattle.store_spec.specs.Record.{held}
 use Rattle.store_spec.specs.Packets.{contents, total, repair_packets, fresh_share}
-use Rattle.store_spec.specs.Running.{packets_len}
-use Rattle.store_spec.specs.MarkLaws.{Arrays}
-use Rattle.store_spec.specs.Ledger.{Call, write, lose, repair, read, edit, start, step, careful, move, Event, call, power_fails, Reply, Book, Repairing, State, Step}
-use Rattle.store_spec.specs.Ledger.{Altered, Unaltered, FairEvent, open_book, book_length, book_next, book_replies, book_final}
-use Rattle.store_spec.specs.Demand3.{Intact, Repaired, events}
-use Rattle.store_spec.specs.Premises.{files, IdleGiven, lent_again, bare}
+use Rattle.beside_spec.specs.Running.{packets_len}
+use Rattle.beside_spec.specs.HandedLaws.{Arrays}
+use Rattle.beside_spec.specs.Acting.{Call, write, lose, repair, read, edit, start, step, careful, move, State}
+use Rattle.ledger_spec.specs.Ledger.{Event, call, power_fails, Reply, Book, Repairing, Step}
+use Rattle.ledger_spec.specs.Ledger.{Altered, Unaltered, FairEvent, open_book, book_length, book_next, book_replies, book_final}
+use Rattle.ledger_spec.specs.Demand3.{Intact, events}
+use Rattle.store_spec.specs.RepairLaws.{Repaired}
+use Rattle.ledger_spec.specs.Premises.{files, IdleGiven, lent_again, bare}
 use Rattle.answer_word.specs.Answers.{word_of}
 use Rattle.record_words.specs.Words.{is_record, record_from}
 use Rattle.repair_words.specs.RepairWords.{is_repair, repair_from, repair_words_of}

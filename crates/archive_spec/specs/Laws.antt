@@ -6,9 +6,9 @@ use Rattle.sizes.specs.declared.Sizes.{Sizes}
 use Rattle.sizes.specs.declared.Answer.TheVariants.{Done}
 use Rattle.sizes.specs.Refusals.{said}
 use Rattle.board_spec.specs.Calls.{BoardOutcome, share_call, file_call, helper_call, exchange_call, finished_call, text_call}
-use Rattle.store_spec.specs.Running.{idle}
-use Rattle.store_spec.specs.Both.{Outcome}
-use Rattle.store_spec.specs.Ledger.{Call, write, lose, repair, read, edit, start, careful, move, act, output_of, packets_of_call}
+use Rattle.beside_spec.specs.Running.{idle}
+use Rattle.beside_spec.specs.Both.{Outcome}
+use Rattle.beside_spec.specs.Acting.{Call, write, lose, repair, read, edit, start, careful, move, act, output_of, packets_of_call}
 use Rattle.text_spec.specs.Calls.{gather_call}
 use Rattle.prefix_spec.specs.Prefix.{longest}
 use Rattle.answer_word.specs.Answers.{word_of}

@@ -8,9 +8,9 @@ use Rattle.sizes.specs.declared.Refusal.TheVariants.{Size}
 use Rattle.sizes.specs.declared.Answer.TheVariants.{Refused}
 use Rattle.sizes.specs.Refusals.{said}
 use Rattle.store_spec.specs.Record.{Record, new_record}
-use Rattle.store_spec.specs.Running.{Running, idle}
-use Rattle.store_spec.specs.Both.{Outcome, set_up_both}
-use Rattle.store_spec.specs.Ledger.{Call, act, output_of, packets_of_call}
+use Rattle.beside_spec.specs.Running.{Running, idle}
+use Rattle.beside_spec.specs.Both.{Outcome, set_up_both}
+use Rattle.beside_spec.specs.Acting.{Call, act, output_of, packets_of_call}
 use Rattle.answer_word.specs.Answers.{word_of}
 use Rattle.record_words.specs.Words.{is_record, record_from, words_of}
 use Rattle.repair_words.specs.RepairWords.{is_repair, repair_from, repair_words_of}

@@ -4,11 +4,12 @@
 use Rattle.std.specs.Prelude.{◌≡◌, true, ◌≢◌, ◌↔◌, List, [], ◌∷◌, ◌++◌, map, ℕ, ◌+◌, ◌*◌, ◌%◌, ◌<◌, length, get_or}
 use Rattle.lists.specs.Lists.{All}
 use Rattle.sizes.specs.declared.Sizes.{Sizes}
-use Rattle.store_spec.specs.Running.{Running}
-use Rattle.store_spec.specs.MarkLaws.{Arrays}
-use Rattle.store_spec.specs.Ledger.{Call, step, move, call, power_fails, Reply, Book, Step, FairEvent, replies, final, open_book, book_next, book_final}
-use Rattle.store_spec.specs.Demand3.{events}
-use Rattle.store_spec.specs.Premises.{Asked}
+use Rattle.beside_spec.specs.Running.{Running}
+use Rattle.beside_spec.specs.HandedLaws.{Arrays}
+use Rattle.beside_spec.specs.Acting.{Call, step, move}
+use Rattle.ledger_spec.specs.Ledger.{call, power_fails, Reply, Book, Step, FairEvent, replies, final, open_book, book_next, book_final}
+use Rattle.ledger_spec.specs.Demand3.{events}
+use Rattle.ledger_spec.specs.Premises.{Asked}
 use Rattle.record_words.specs.Words.{is_record, record_from}
 use Rattle.repair_words.specs.RepairWords.{is_repair, repair_from, repair_words_of}
 use Rattle.archive_spec.specs.Lent.{Lent, zbk_set_up, zbk}

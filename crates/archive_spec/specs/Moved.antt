@@ -5,7 +5,7 @@ use Rattle.std.specs.Prelude.{◌≡◌, true, false, List, ℕ, ◌+◌, ◌-�
 use Rattle.store_spec.specs.Record.{stripe_count}
 use Rattle.store_spec.specs.Move.{move_call}
 use Rattle.store_spec.specs.MoveLaws.{Moved}
-use Rattle.store_spec.specs.Ledger.{move}
+use Rattle.beside_spec.specs.Acting.{move}
 use Rattle.record_words.specs.Words.{is_record, record_from}
 use Rattle.repair_words.specs.RepairWords.{is_repair, repair_from}
 use Rattle.archive_spec.specs.Lent.{zbk}

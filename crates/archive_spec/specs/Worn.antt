@@ -6,9 +6,11 @@ use Rattle.lists.specs.Tests.{every, among, different}
 use Rattle.lists.specs.Lists.{All, Bytes, over}
 use Rattle.sizes.specs.declared.Sizes.{Sizes}
 use Rattle.board_spec.specs.Calls.{file_of}
-use Rattle.store_spec.specs.Ledger.{careful, Step, book_length}
-use Rattle.store_spec.specs.Demand3.{events}
-use Rattle.store_spec.specs.CarefulLaws.{OddTold, AnyBytes, Worn}
+use Rattle.beside_spec.specs.Acting.{careful}
+use Rattle.ledger_spec.specs.Ledger.{Step, book_length}
+use Rattle.ledger_spec.specs.Demand3.{events}
+use Rattle.store_spec.specs.CarefulLaws.{OddTold}
+use Rattle.list_spec.specs.WornLaws.{AnyBytes, Worn}
 use Rattle.record_words.specs.Words.{is_record, record_from}
 use Rattle.repair_words.specs.RepairWords.{is_repair}
 use Rattle.archive_spec.specs.Lent.{zbk_set_up, zbk}

@@ -18,11 +18,11 @@ use Rattle.sizes.specs.declared.Answer.TheVariants.{Refused}
 use Rattle.sizes.specs.Refusals.{said, first, store_order}
 use Rattle.sizes.proofs.Laws.{number-low}
 use Rattle.store_spec.specs.Record.{Record, new_record}
-use Rattle.store_spec.specs.Running.{idle}
-use Rattle.store_spec.specs.Running as beside-record
+use Rattle.beside_spec.specs.Running.{idle}
+use Rattle.beside_spec.specs.Running as beside-record
 use Rattle.store_spec.specs.Calls.{settle, accepted, record_line}
-use Rattle.store_spec.specs.Both.{Outcome, beside, set_up_both}
-use Rattle.store_spec.specs.Ledger.{Call, State, act}
+use Rattle.beside_spec.specs.Both.{Outcome, beside, set_up_both}
+use Rattle.beside_spec.specs.Acting.{Call, State, act, output_of, packets_of_call}
 use Rattle.record.specs.declared.Running.{Running}
 use Rattle.record.specs.Records.{running_in}
 use Rattle.store.specs.declared.Store.{Store}
@@ -34,7 +34,7 @@ use Rattle.record_words.specs.Words.{is_record, record_from, words_of}
 use Rattle.record_words.proofs.Bits.{words-facts}
 use Rattle.repair_words.specs.RepairWords.{is_repair, repair_from, repair_words_of}
 use Rattle.repair_words.proofs.RepairWords.{repair-words}
-use Rattle.archive_spec.specs.Lent.{Lent, no_record, in_words, are_records, lent_by, zbk_set_up}
+use Rattle.archive_spec.specs.Lent.{Lent, no_record, in_words, are_records, lent_by, zbk_set_up, zbk}
 use Rattle.archive_spec.proofs.Bounds.{Fits}
 use Rattle.archive_spec.proofs.StoreFits.{store-fits, set-up-fits}
 use Rattle.archive_spec.proofs.Given.{set-up-given}
@@ -42,17 +42,16 @@ use Rattle.archive_spec.proofs.InWords.{both_yes, both-no, by, lent, set-up-lent
 
 -- ---- a call over the records that the words tell
 
-module _ (ws ps : List ℕ) where
-  pub record Both : Type 0 where
-    pub is-record : is_record ws ≡ true
-    pub is-repair : is_repair ps ≡ true
+pub record Both (ws ps : List ℕ) : Type 0 where
+  pub is-record : is_record ws ≡ true
+  pub is-repair : is_repair ps ≡ true
 
-  -- what `are_records` told of them
-  pub are-both : (b : Bool) → b ≡ are_records ws ps → not b ≡ false → Both
+module _ (ws ps : List ℕ) where
+  pub are-both : (b : Bool) → b ≡ are_records ws ps → not b ≡ false → Both ws ps
   are-both b e h = let k = alls-hold (is_record ws ∷ is_repair ps ∷ []) (sym e ∙ not-false b h) in record { is-record = k.0; is-repair = k.1.0 }
 
   -- what `hand_on` asks
-  pub handed-asks : (w : State) (c : Call) (h : Handed) (area output packets : List ℕ) → Both → outcome_both h area output packets ≡ act w c
+  pub handed-asks : (w : State) (c : Call) (h : Handed) (area output packets : List ℕ) → Both ws ps → outcome_both h area output packets ≡ act w c
       → (length ws ≡ 12) × (length ps ≡ 71) × Fits (said h.answer).reported
   handed-asks w c h area output packets is e = (
     (words-facts ws is.is-record).twelve,
@@ -62,8 +61,8 @@ module _ (ws ps : List ℕ) where
 
 module _ (call : Record → beside-record.Running → Outcome) (ws ps area output packets : List ℕ) where
   -- of words that do not tell both records
-  pub none_lent : (b : Bool) → b ≡ are_records ws ps → not b ≡ true → no_record ws ps area output packets ≡ lent_by call ws ps area output packets
-  none_lent b e h = ap (by call ws ps area output packets) (sym (not-true b h) ∙ e)
+  pub none-lent : (b : Bool) → b ≡ are_records ws ps → not b ≡ true → no_record ws ps area output packets ≡ lent_by call ws ps area output packets
+  none-lent b e h = ap (by call ws ps area output packets) (sym (not-true b h) ∙ e)
 
   -- the records are taken from the words; records and answer that the call hands on are put into them
   pub lent-on : (s : Store) (p : Running) (h : Handed) (after written left next then : List ℕ) (w : ℕ)
@@ -78,6 +77,34 @@ module _ (call : Record → beside-record.Running → Outcome) (ws ps area outpu
       ∙ ap₂ {C = Lent} (λ (x y : List ℕ). record { answer = word_of (said h.answer); words = x; repair = y; area = after; output = written; packets = left }) k.1 k.2
       ∙ ap in_words (e ∙ ap₂ {C = Outcome} call es ep)
       ∙ lent call ws ps area output packets is.is-record is.is-repair
+
+-- of a call of the store on these words and this area: what `are_records`, the store's method and `hand_on` promised, and what is asked for it
+pub record LentCall (ws ps area : List ℕ) (c : Call) : Type 0 where
+  -- the words tell both records, or they do not
+  pub both : (b : Bool) → b ≡ are_records ws ps → not b ≡ false → Both ws ps
+  pub is_none : (b : Bool) → b ≡ are_records ws ps → not b ≡ true → no_record ws ps area (output_of c) (packets_of_call c) ≡ zbk ws ps area c
+  -- what `hand_on` asks
+  pub asks : (s : Record) (p : beside-record.Running) (h : Handed) (after written left : List ℕ) → Both ws ps
+      → outcome_both h after written left ≡ act (record { kept = s; running = p; area = area; packets = [] }) c
+      → (length ws ≡ 12) × (length ps ≡ 71) × Fits (said h.answer).reported
+  -- the records are taken from the words; records and answer that the call hands on are put into them
+  pub hands_on : (s : Store) (p : Running) (h : Handed) (after written left next then : List ℕ) (w : ℕ) → Both ws ps
+      → record_in s ≡ record_from ws
+      → running_in p ≡ repair_from ps
+      → outcome_both h after written left ≡ act (record { kept = record_in s; running = running_in p; area = area; packets = [] }) c
+      → (w ≡ word_of (said h.answer)) × (next ≡ words_of (record_in h.store)) × (then ≡ repair_words_of (running_in h.running))
+      → record { answer = w; words = next; repair = then; area = after; output = written; packets = left } ≡ zbk ws ps area c
+
+pub lent-call : (ws ps area : List ℕ) (c : Call) → LentCall ws ps area c
+lent-call ws ps area c = record {
+  both = are-both ws ps;
+  is_none = none-lent call ws ps area (output_of c) (packets_of_call c);
+  asks = λ s p h after written left is e. handed-asks ws ps (record { kept = s; running = p; area = area; packets = [] }) c h after written left is e;
+  hands_on = lent-on call ws ps area (output_of c) (packets_of_call c);
+}
+  where
+    call : Record → beside-record.Running → Outcome
+    call s p = act (record { kept = s; running = p; area = area; packets = [] }) c
 
 -- ---- set up
 

@@ -1,8 +1,11 @@
 //! The archive's calls of the store, each by the words and bytes that it is lent: `zebrankai` has them under their C names.
 //! Each meets its definition in the crate `archive_spec`: the answer as one word, and every word and byte that it was lent.
+
+#![tactic(auto)]
+
 ghost use Rattle.std.specs.Prelude.{◌≡◌, List, [], ℕ, ◌<◌, length};
 ghost use Rattle.sizes.specs.Refusals.{said};
-ghost use Rattle.store_spec.specs.Ledger.{write, lose, repair, read, careful, edit, move, start, step};
+ghost use Rattle.beside_spec.specs.Acting.{write, lose, repair, read, careful, edit, move, start, step};
 ghost use Rattle.record.specs.Records.{running_in};
 ghost use Rattle.store.specs.Handing.{record_in};
 ghost use Rattle.answer_word.specs.Answers.{word_of};

@@ -1,5 +1,8 @@
 //! The archive's calls of texts, each by the words and bytes that it is lent: `zebrankai` has them under their C names.
 //! Each meets its definition in the crates `archive_spec`, `text_spec` and `prefix_spec`: the answer as one word, and every word and byte that it was lent.
+
+#![tactic(auto)]
+
 ghost use Rattle.std.specs.Prelude.{◌≡◌};
 ghost use Rattle.sizes.specs.declared.Answer.TheVariants.{Done};
 ghost use Rattle.sizes.specs.Refusals.{said};

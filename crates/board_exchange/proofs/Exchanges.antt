@@ -23,8 +23,8 @@ use Rattle.mbcr.specs.Rebuild.{exchange_packet}
 use Rattle.mbcr.proofs.Repair.{length-exchange}
 use Rattle.board_spec.specs.Calls.{exchange_lines, exchange_call}
 use Rattle.line_checks.specs.Steps.{Stated}
-use Rattle.checks.specs.Outcomes.{outcome}
-use Rattle.checks.proofs.Facts.{stated-of, Taken, taken_of, refused-by, done-by}
+use Rattle.board_lines.specs.Outcomes.{outcome}
+use Rattle.board_lines.proofs.Facts.{stated-of, Taken, taken_of, refused-by, done-by}
 
 pub record Exchanges (z : Sizes) (xs : List ℕ) (L : ℕ) (helpers packets : List ℕ) (receiver : ℕ) (output : List ℕ) : Type 0 where
   pub stated : Stated z L

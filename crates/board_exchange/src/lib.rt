@@ -1,10 +1,13 @@
 //! Document 01, board level, stateless, for all input: an exchange packet.
 //! The call meets its definition in the crate `board_spec` at the points that it is given: the answer, and every byte of the output
 //! that it was lent. A refusal leaves the output as it came.
+
+#![tactic(auto)]
+
 ghost use Rattle.std.specs.Prelude.{◌≡◌};
 ghost use Rattle.sizes.specs.Refusals.{first, board_order};
 ghost use Rattle.board_spec.specs.Calls.{exchange_lines, exchange_call};
-ghost use Rattle.checks.specs.Outcomes.{outcome};
+ghost use Rattle.board_lines.specs.Outcomes.{outcome};
 
 use sizes::{Answer, Check, Sizes};
 
@@ -21,20 +24,20 @@ fn check_exchange(
 ) -> Check
     ensures { result ≡ first board_order (exchange_lines sizes points.now len board helpers.now packets.now receiver out.now) }
 {
-    if let Check::Refuse(stated) = checks::check_stated(sizes, points, len) {
+    if let Check::Refuse(stated) = board_lines::check_stated(sizes, points, len) {
         return Check::Refuse(stated);
     }
-    if let Check::Refuse(count) = checks::check_count(helpers.len(), sizes.d) {
+    if let Check::Refuse(count) = board_lines::check_count(helpers.len(), sizes.d) {
         return Check::Refuse(count);
     }
-    if let Check::Refuse(node) = checks::check_nodes_with(sizes, board, receiver, helpers) {
+    if let Check::Refuse(node) = board_lines::check_nodes_with(sizes, board, receiver, helpers) {
         return Check::Refuse(node);
     }
     if let Check::Refuse(repeat) = line_checks::check_repeat_with(board, receiver, helpers) {
         return Check::Refuse(repeat);
     }
-    let stripes = checks::stripe_count(sizes, len);
-    if let Check::Refuse(lent) = checks::check_lent(packets.len(), sizes.d * (2 * stripes)) {
+    let stripes = board_lines::stripe_count(sizes, len);
+    if let Check::Refuse(lent) = board_lines::check_lent(packets.len(), sizes.d * (2 * stripes)) {
         return Check::Refuse(lent);
     }
     line_checks::check_room(out, stripes)
@@ -58,10 +61,10 @@ pub fn exchange_packet(
     ) {
         return Answer::Refused(x);
     }
-    let stripes = checks::stripe_count(sizes, len);
+    let stripes = board_lines::stripe_count(sizes, len);
     let mut inverses = [0u8; 256];
     inverses::fill_inverses(&mut inverses);
-    exchange::exchange_packet(
+    stripe_exchange::exchange_packet(
         sizes, &points, &inverses, stripes, helpers, packets, receiver, out,
     );
     Answer::Done(stripes)

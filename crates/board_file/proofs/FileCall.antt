@@ -25,9 +25,9 @@ use Rattle.mbcr.proofs.Read.{length-decoded-file}
 use Rattle.board_spec.specs.Calls.{file_of, count_line, node_line, repeat_line, area_line, file_lines, file_call}
 use Rattle.board_spec.proofs.Files.{file-is}
 use Rattle.line_checks.specs.Steps.{asked, Stated}
-use Rattle.checks.specs.Outcomes.{outcome}
+use Rattle.board_lines.specs.Outcomes.{outcome}
 use Rattle.line_checks.proofs.Answers.{passed}
-use Rattle.checks.proofs.Facts.{stated-of, Taken, taken_of, refused-by, done-by}
+use Rattle.board_lines.proofs.Facts.{stated-of, Taken, taken_of, refused-by, done-by}
 use Rattle.decode_stripe.specs.Steps.{Asked}
 
 -- a refusal is no pass

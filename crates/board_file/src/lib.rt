@@ -1,12 +1,15 @@
 //! Document 01, board level, stateless, for all input: a file from k shares.
 //! The call meets its definition in the crate `board_spec` at the points that it is given: the answer, and every byte of the output
 //! that it was lent. A refusal leaves the output as it came.
+
+#![tactic(auto)]
+
 ghost use Rattle.std.specs.Prelude.{◌≡◌, length};
 ghost use Rattle.lists.specs.Lists.{tabulate};
 ghost use Rattle.gf256.specs.Field.{inverse};
 ghost use Rattle.sizes.specs.Refusals.{first, board_order};
 ghost use Rattle.board_spec.specs.Calls.{file_lines, file_call};
-ghost use Rattle.checks.specs.Outcomes.{outcome};
+ghost use Rattle.board_lines.specs.Outcomes.{outcome};
 ghost use Rattle.decode_setup.specs.Steps.{Made};
 
 use sizes::{Answer, Check, Sizes};
@@ -26,27 +29,27 @@ fn check_file(
     requires { (inverses.now ≡ tabulate 256 inverse) × (length tables.old ≡ 49152) }
     ensures { (result ≡ first board_order (file_lines sizes points.now len boards.now held.now out.now)) × (result ≡ Check.Pass → Made sizes points.now boards.now tables.new) }
 {
-    if let Check::Refuse(stated) = checks::check_stated(sizes, points, len) {
+    if let Check::Refuse(stated) = board_lines::check_stated(sizes, points, len) {
         return Check::Refuse(stated);
     }
-    if let Check::Refuse(miscounted) = checks::check_count(boards.len(), sizes.k) {
+    if let Check::Refuse(miscounted) = board_lines::check_count(boards.len(), sizes.k) {
         return Check::Refuse(miscounted);
     }
-    if let Check::Refuse(named) = checks::check_nodes(sizes, boards) {
+    if let Check::Refuse(named) = board_lines::check_nodes(sizes, boards) {
         return Check::Refuse(named);
     }
     if let Check::Refuse(repeated) = line_checks::check_repeat(boards) {
         return Check::Refuse(repeated);
     }
-    let stripes = checks::stripe_count(sizes, len);
+    let stripes = board_lines::stripe_count(sizes, len);
     let share_len = stripes * sizes.share_len();
-    if let Check::Refuse(lent) = checks::check_lent(held.len(), sizes.k * share_len) {
+    if let Check::Refuse(lent) = board_lines::check_lent(held.len(), sizes.k * share_len) {
         return Check::Refuse(lent);
     }
     if let Check::Refuse(short) = line_checks::check_room(out, len) {
         return Check::Refuse(short);
     }
-    share_decode::check_agrees(sizes, points, inverses, len, stripes, boards, held, tables)
+    decode_shares::check_agrees(sizes, points, inverses, len, stripes, boards, held, tables)
 }
 
 // The file of so many bytes that k shares give, or DISAGREE where no such file has them. Answers the number of bytes written.
@@ -75,7 +78,7 @@ pub fn file(
     ) {
         return Answer::Refused(x);
     }
-    let stripes = checks::stripe_count(sizes, len);
-    share_decode::file(sizes, &points, len, stripes, boards, held, &tables, out);
+    let stripes = board_lines::stripe_count(sizes, len);
+    decode_shares::write_file(sizes, &points, len, stripes, boards, held, &tables, out);
     Answer::Done(len)
 }

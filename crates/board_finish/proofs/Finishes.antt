@@ -23,8 +23,8 @@ use Rattle.mbcr.specs.Rebuild.{finished_share}
 use Rattle.mbcr.proofs.Repair.{length-finished}
 use Rattle.board_spec.specs.Calls.{finished_lines, finished_call}
 use Rattle.line_checks.specs.Steps.{Stated}
-use Rattle.checks.specs.Outcomes.{outcome}
-use Rattle.checks.proofs.Facts.{stated-of, Taken, taken_of, refused-by, done-by}
+use Rattle.board_lines.specs.Outcomes.{outcome}
+use Rattle.board_lines.proofs.Facts.{stated-of, Taken, taken_of, refused-by, done-by}
 
 pub record Finishes (z : Sizes) (xs : List ℕ) (L board : ℕ) (helpers packets partners exchanges output : List ℕ) : Type 0 where
   pub stated : Stated z L

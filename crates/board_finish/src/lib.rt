@@ -1,10 +1,13 @@
 //! Document 01, board level, stateless, for all input: a finished share.
 //! The call meets its definition in the crate `board_spec` at the points that it is given: the answer, and every byte of the output
 //! that it was lent. A refusal leaves the output as it came.
+
+#![tactic(auto)]
+
 ghost use Rattle.std.specs.Prelude.{◌≡◌};
 ghost use Rattle.sizes.specs.Refusals.{first, board_order};
 ghost use Rattle.board_spec.specs.Calls.{finished_lines, finished_call};
-ghost use Rattle.checks.specs.Outcomes.{outcome};
+ghost use Rattle.board_lines.specs.Outcomes.{outcome};
 
 use sizes::{Answer, Check, Sizes};
 
@@ -22,11 +25,11 @@ fn check_finish(
 ) -> Check
     ensures { result ≡ first board_order (finished_lines sizes points.now len board helpers.now packets.now partners.now exchanges.now out.now) }
 {
-    if let Check::Refuse(stated) = checks::check_stated(sizes, points, len) {
+    if let Check::Refuse(stated) = board_lines::check_stated(sizes, points, len) {
         return Check::Refuse(stated);
     }
     let others = sizes.r - 1;
-    if let Check::Refuse(count) = checks::check_counts(
+    if let Check::Refuse(count) = board_lines::check_counts(
         helpers.len(),
         sizes.d,
         partners.len(),
@@ -34,16 +37,16 @@ fn check_finish(
     ) {
         return Check::Refuse(count);
     }
-    if let Check::Refuse(node) = checks::check_nodes_joined(sizes, helpers, partners, board) {
+    if let Check::Refuse(node) = board_lines::check_nodes_joined(sizes, helpers, partners, board) {
         return Check::Refuse(node);
     }
     if let Check::Refuse(repeat) = line_checks::check_repeat_joined(helpers, partners, board) {
         return Check::Refuse(repeat);
     }
-    let stripes = checks::stripe_count(sizes, len);
+    let stripes = board_lines::stripe_count(sizes, len);
     let packets_len = sizes.d * (2 * stripes);
     let exchanges_len = others * stripes;
-    if let Check::Refuse(lent) = checks::check_two_lent(
+    if let Check::Refuse(lent) = board_lines::check_two_lent(
         packets.len(),
         packets_len,
         exchanges.len(),
@@ -73,10 +76,10 @@ pub fn finished_share(
     ) {
         return Answer::Refused(x);
     }
-    let stripes = checks::stripe_count(sizes, len);
+    let stripes = board_lines::stripe_count(sizes, len);
     let mut inverses = [0u8; 256];
     inverses::fill_inverses(&mut inverses);
-    finish::finished_share(
+    share_finish::finished_share(
         sizes, &points, &inverses, stripes, board, helpers, packets, partners, exchanges, out,
     );
     Answer::Done(stripes * sizes.share_len())

@@ -5,27 +5,26 @@ use mathlib.Core.Bool.{Bool, true, false, not}
 use mathlib.Core.Logic.{◌≢◌}
 use mathlib.Core.Option.{Option, some, none}
 use mathlib.Core.List.{List, [], ◌∷◌, ◌++◌, map}
-use Prim.Native.Nat.{ℕ, ◌+◌, ◌*◌, ◌-◌, ◌≤◌, ◌<◌}
+use Prim.Native.Nat.{ℕ, ◌*◌, ◌-◌, ◌≤◌, ◌<◌}
 use native.Mathlib.Nat.{add-zero}
 use native.Mathlib.Omega.{arith}
 use lib.Dec.{leb, eqb}
 use lib.ListN.{length, length-map, take, drop}
-use borrow.Author.Tests.{ltb-true, leb-true, eqb-true, ne_eqb}
-use Rattle.lists.specs.Tests.{pick, alls, every, below, given}
+use borrow.Author.Tests.{ltb-true, leb-true, ne_eqb}
+use Rattle.lists.specs.Tests.{pick, alls, every, given}
 use Rattle.lists.specs.Lists.{All, fit}
 use Rattle.lists.proofs.Boards.{all-below}
 use Rattle.lists.proofs.Pieces.{length-fit, take-fit}
 use Rattle.lists.proofs.Tests.{every-all}
 use Rattle.sizes.specs.declared.Sizes.{Sizes}
 use Rattle.sizes.specs.declared.Refusal.TheVariants.{Text, Mixed, Count, Disagree}
-use Rattle.sizes.specs.declared.Answer.TheVariants.{Done, Refused}
+use Rattle.sizes.specs.declared.Answer.TheVariants.{Refused}
 use Rattle.sizes.specs.Sizing.{α, stripes}
 use Rattle.sizes.specs.Refusals.{◌when◌, first, board_order}
-use Rattle.sizes.proofs.Legal.{Legal, legal-facts}
+use Rattle.sizes.proofs.Legal.{legal-facts}
 use Rattle.board_spec.specs.Calls.{BoardOutcome, settled, file_of, file_call, count_line, repeat_line, short_line}
-use Rattle.line_checks.specs.Steps.{Stated}
-use Rattle.checks.specs.Outcomes.{outcome}
-use Rattle.text_spec.specs.Texts.{ShareTold, text_of, texts_joined, Found, text_at, texts_of}
+use Rattle.board_lines.specs.Outcomes.{outcome}
+use Rattle.text_spec.specs.Texts.{ShareTold, texts_joined, Found, text_at, texts_of}
 use Rattle.text_spec.specs.Calls.{texts_told, first_of, like, nodes_of, shares_of, gathered, gather_lines, gather_call}
 use Rattle.text_spec.specs.Laws.{Writable}
 use Rattle.text_spec.specs.Demand1.{Like}
@@ -33,7 +32,7 @@ use Rattle.text_spec.proofs.Alike.{like_is}
 use Rattle.text_spec.proofs.Gather.{is-file}
 use Rattle.text_spec.proofs.Laws.{Facts, facts-of, writes_reads, texts-told}
 use Rattle.text_head.specs.declared.Head.{Head}
-use Rattle.text_head.specs.Steps.{told_by, found_by, Stands}
+use Rattle.text_head.specs.Steps.{told_by, Stands}
 use Rattle.text_scan.specs.declared.Scan.{Scan}
 use Rattle.text_scan.specs.Steps.{like_head, Inside, Heads}
 use Rattle.text_scan.proofs.Prefix.{none-behind}

@@ -1,7 +1,10 @@
 //! Request A.1, the gathering: k share texts, one after another in one lent slice, give the file that has their shares, and its length.
+
+#![tactic(auto)]
+
 ghost use Rattle.std.specs.Prelude.{◌≡◌};
 ghost use Rattle.text_spec.specs.Calls.{gather_call};
-ghost use Rattle.checks.specs.Outcomes.{outcome};
+ghost use Rattle.board_lines.specs.Outcomes.{outcome};
 
 use sizes::{Answer, Refusal};
 

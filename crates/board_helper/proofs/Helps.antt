@@ -21,8 +21,8 @@ use Rattle.mbcr.specs.Rebuild.{helper_packet}
 use Rattle.mbcr.proofs.Repair.{length-packet}
 use Rattle.board_spec.specs.Calls.{helper_lines, helper_call}
 use Rattle.line_checks.specs.Steps.{Stated}
-use Rattle.checks.specs.Outcomes.{outcome}
-use Rattle.checks.proofs.Facts.{stated-of, Taken, taken_of, refused-by, done-by}
+use Rattle.board_lines.specs.Outcomes.{outcome}
+use Rattle.board_lines.proofs.Facts.{stated-of, Taken, taken_of, refused-by, done-by}
 
 pub record Helps (z : Sizes) (xs : List ℕ) (L helper receiver : ℕ) (held output : List ℕ) : Type 0 where
   pub stated : Stated z L

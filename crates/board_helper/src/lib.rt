@@ -1,10 +1,13 @@
 //! Document 01, board level, stateless, for all input: a helper packet.
 //! The call meets its definition in the crate `board_spec` at the points that it is given: the answer, and every byte of the output
 //! that it was lent. A refusal leaves the output as it came.
+
+#![tactic(auto)]
+
 ghost use Rattle.std.specs.Prelude.{◌≡◌};
 ghost use Rattle.sizes.specs.Refusals.{first, board_order};
 ghost use Rattle.board_spec.specs.Calls.{helper_lines, helper_call};
-ghost use Rattle.checks.specs.Outcomes.{outcome};
+ghost use Rattle.board_lines.specs.Outcomes.{outcome};
 
 use sizes::{Answer, Check, Sizes};
 
@@ -20,18 +23,18 @@ fn check_helper(
 ) -> Check
     ensures { result ≡ first board_order (helper_lines sizes points.now len helper receiver held.now out.now) }
 {
-    if let Check::Refuse(stated) = checks::check_stated(sizes, points, len) {
+    if let Check::Refuse(stated) = board_lines::check_stated(sizes, points, len) {
         return Check::Refuse(stated);
     }
     let named = [helper, receiver];
-    if let Check::Refuse(node) = checks::check_nodes(sizes, &named) {
+    if let Check::Refuse(node) = board_lines::check_nodes(sizes, &named) {
         return Check::Refuse(node);
     }
     if let Check::Refuse(repeat) = line_checks::check_repeat(&named) {
         return Check::Refuse(repeat);
     }
-    let stripes = checks::stripe_count(sizes, len);
-    if let Check::Refuse(lent) = checks::check_lent(held.len(), stripes * sizes.share_len()) {
+    let stripes = board_lines::stripe_count(sizes, len);
+    if let Check::Refuse(lent) = board_lines::check_lent(held.len(), stripes * sizes.share_len()) {
         return Check::Refuse(lent);
     }
     let count = 2 * stripes;
@@ -53,10 +56,10 @@ pub fn helper_packet(
     if let Check::Refuse(x) = check_helper(sizes, &points, len, helper, receiver, held, out) {
         return Answer::Refused(x);
     }
-    let stripes = checks::stripe_count(sizes, len);
+    let stripes = board_lines::stripe_count(sizes, len);
     let mut inverses = [0u8; 256];
     inverses::fill_inverses(&mut inverses);
-    helper::helper_packet(
+    stripe_helper::helper_packet(
         sizes, &points, &inverses, stripes, helper, receiver, held, out,
     );
     Answer::Done(2 * stripes)

@@ -1,6 +1,6 @@
 -- The text reader's outcome, by the head of the text.
 -- Assumes nothing.
-use mathlib.Core.Path.{◌≡◌, refl, sym, ap, ap₂, ◌∙◌}
+use mathlib.Core.Path.{◌≡◌, sym, ap, ap₂, ◌∙◌}
 use mathlib.Core.Bool.{Bool, true, false, not}
 use mathlib.Core.Logic.{◌≢◌}
 use mathlib.Core.Option.{Option, some, none}
@@ -8,22 +8,21 @@ use mathlib.Core.List.{List, [], ◌∷◌, ◌++◌}
 use Prim.Native.Nat.{ℕ, ◌+◌, ◌*◌, ◌-◌, ◌≤◌, ◌<◌}
 use native.Mathlib.Omega.{arith}
 use lib.Dec.{eqb}
-use lib.ListN.{length, take, drop, length-drop, drop_of_length-le}
+use lib.ListN.{length, take, drop, length-drop}
 use lib.Seq.{length-take-le}
 use borrow.Author.Tests.{lt-ltb, le-ltb, eq-eqb, ne_eqb}
 use Rattle.lists.specs.Tests.{pick, given}
 use Rattle.lists.specs.Lists.{over}
 use Rattle.lists.proofs.Pieces.{length-tabulate}
-use Rattle.sizes.specs.declared.Refusal.{Refusal}
 use Rattle.sizes.specs.declared.Refusal.TheVariants.{Text, Short}
 use Rattle.sizes.specs.declared.Answer.TheVariants.{Done, Refused}
-use Rattle.sizes.specs.Refusals.{Said, said, Line, ◌when◌, first, board_order}
+use Rattle.sizes.specs.Refusals.{said, ◌when◌, first, board_order}
 use Rattle.board_spec.specs.Calls.{short_line}
-use Rattle.text_spec.specs.Texts.{ShareTold, Found, text_at, whole, read_text}
+use Rattle.text_spec.specs.Texts.{ShareTold, whole, read_text}
 use Rattle.text_spec.specs.Calls.{blank, told_of, ReadOutcome, giving, read_settled, read_text_lines, read_text_call}
 use Rattle.text_in.specs.Steps.{pair_at, bytes_at}
 use Rattle.text_head.specs.declared.Head.{Head}
-use Rattle.text_head.specs.Steps.{told_by, found_by, Stands}
+use Rattle.text_head.specs.Steps.{told_by, Stands}
 
 module _ (text : List ℕ) (output : List ℕ) where
   abbrev by : Option ShareTold → ReadOutcome

@@ -1,4 +1,7 @@
 //! Request A.1, the text reader: a share text in a lent slice gives sizes, points, board number and length, and its share to an output.
+
+#![tactic(auto)]
+
 ghost use Rattle.std.specs.Prelude.{◌≡◌, List};
 ghost use Rattle.sizes.specs.Refusals.{said};
 ghost use Rattle.text_spec.specs.Calls.{blank, read_text_call};
@@ -6,7 +9,7 @@ ghost use Rattle.text_spec.specs.Calls.{blank, read_text_call};
 use sizes::{Answer, Refusal, Sizes};
 
 // What the reader answers, and what the text tells; all 0 with a refusal.
-#[derive(Drop)]
+#[derive(Clone, Copy)]
 pub struct TextRead {
     pub answer: Answer,
     pub sizes: Sizes,

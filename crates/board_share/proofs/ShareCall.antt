@@ -21,8 +21,8 @@ use Rattle.mbcr.specs.Share.{share}
 use Rattle.mbcr.proofs.Repair.{length-share}
 use Rattle.board_spec.specs.Calls.{share_lines, share_call}
 use Rattle.line_checks.specs.Steps.{Stated}
-use Rattle.checks.specs.Outcomes.{outcome}
-use Rattle.checks.proofs.Facts.{stated-of, Taken, taken_of, refused-by, done-by}
+use Rattle.board_lines.specs.Outcomes.{outcome}
+use Rattle.board_lines.proofs.Facts.{stated-of, Taken, taken_of, refused-by, done-by}
 
 pub record Shares (z : Sizes) (xs : List ℕ) (node : ℕ) (file output : List ℕ) : Type 0 where
   pub stated : Stated z (length file)

@@ -1,10 +1,13 @@
 //! Document 01, board level, stateless, for all input: one share of a file.
 //! The call meets its definition in the crate `board_spec` at the points that it is given: the answer, and every byte of the output
 //! that it was lent. A refusal leaves the output as it came.
+
+#![tactic(auto)]
+
 ghost use Rattle.std.specs.Prelude.{◌≡◌};
 ghost use Rattle.sizes.specs.Refusals.{first, board_order};
 ghost use Rattle.board_spec.specs.Calls.{share_lines, share_call};
-ghost use Rattle.checks.specs.Outcomes.{outcome};
+ghost use Rattle.board_lines.specs.Outcomes.{outcome};
 
 use sizes::{Answer, Check, Sizes};
 
@@ -12,13 +15,13 @@ use sizes::{Answer, Check, Sizes};
 fn check_share(sizes: Sizes, points: &[u8], node: usize, file: &[u8], out: &[u8]) -> Check
     ensures { result ≡ first board_order (share_lines sizes points.now node file.now out.now) }
 {
-    if let Check::Refuse(stated) = checks::check_stated(sizes, points, file.len()) {
+    if let Check::Refuse(stated) = board_lines::check_stated(sizes, points, file.len()) {
         return Check::Refuse(stated);
     }
     if let Check::Refuse(named) = line_checks::check_node(sizes, node) {
         return Check::Refuse(named);
     }
-    let stripes = checks::stripe_count(sizes, file.len());
+    let stripes = board_lines::stripe_count(sizes, file.len());
     line_checks::check_room(out, stripes * sizes.share_len())
 }
 
@@ -29,8 +32,8 @@ pub fn share(sizes: Sizes, points: [u8; 32], node: usize, file: &[u8], out: &mut
     if let Check::Refuse(x) = check_share(sizes, &points, node, file, out) {
         return Answer::Refused(x);
     }
-    let stripes = checks::stripe_count(sizes, file.len());
+    let stripes = board_lines::stripe_count(sizes, file.len());
     let count = stripes * sizes.share_len();
-    encode::share(sizes, &points, node, file, stripes, out);
+    encode_share::share(sizes, &points, node, file, stripes, out);
     Answer::Done(count)
 }

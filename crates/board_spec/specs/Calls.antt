@@ -1,7 +1,7 @@
 -- Document 01, 'The calls', board level: each call is a total function of its arguments to its answer and to every byte of the output
 -- that it was lent. `z` are the sizes, `xs` the boards' points, which each call "is given .. with the sizes" (request A.9), `L` the file's length.
 -- Assumes nothing.
-use Rattle.std.specs.Prelude.{Bool, not, List, [], ◌∷◌, ◌++◌, ℕ, ◌+◌, ◌*◌, ◌-◌, ltb, eqb, length}
+use Rattle.std.specs.Prelude.{Bool, not, List, [], ◌∷◌, ◌++◌, ℕ, ◌*◌, ◌-◌, ltb, eqb, length}
 use Rattle.std.proofs.Math.Option.{Option, some, none}
 use Rattle.lists.specs.Tests.{alls, below, different, given}
 use Rattle.lists.specs.Lists.{over}

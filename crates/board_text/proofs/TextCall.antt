@@ -24,9 +24,9 @@ use Rattle.sizes.proofs.Orders.{clear-off}
 use Rattle.board_spec.specs.Text.{share_text}
 use Rattle.board_spec.specs.Calls.{node_line, area_line, text_lines, text_call}
 use Rattle.line_checks.specs.Steps.{asked, Stated}
-use Rattle.checks.specs.Outcomes.{outcome}
+use Rattle.board_lines.specs.Outcomes.{outcome}
 use Rattle.line_checks.proofs.Answers.{passed}
-use Rattle.checks.proofs.Facts.{stated-of, taken_of, refused-by, done-by}
+use Rattle.board_lines.proofs.Facts.{stated-of, taken_of, refused-by, done-by}
 use Rattle.text_writer.specs.Steps.{Writes, Fits}
 
 -- what the writer asks, from the lines before SHORT

@@ -1,10 +1,13 @@
 //! Document 01, board level, stateless, for all input: a share as text.
 //! The call meets its definition in the crate `board_spec` at the points that it is given: the answer, and every byte of the output
 //! that it was lent. A refusal leaves the output as it came.
+
+#![tactic(auto)]
+
 ghost use Rattle.std.specs.Prelude.{◌≡◌};
 ghost use Rattle.sizes.specs.Refusals.{first, board_order};
 ghost use Rattle.board_spec.specs.Calls.{text_lines, text_call};
-ghost use Rattle.checks.specs.Outcomes.{outcome};
+ghost use Rattle.board_lines.specs.Outcomes.{outcome};
 
 use sizes::{Answer, Check, Sizes};
 
@@ -19,15 +22,15 @@ fn check_text(
 ) -> Check
     ensures { result ≡ first board_order (text_lines sizes points.now len node held.now out.now) }
 {
-    if let Check::Refuse(stated) = checks::check_stated(sizes, points, len) {
+    if let Check::Refuse(stated) = board_lines::check_stated(sizes, points, len) {
         return Check::Refuse(stated);
     }
     if let Check::Refuse(named) = line_checks::check_node(sizes, node) {
         return Check::Refuse(named);
     }
-    let stripes = checks::stripe_count(sizes, len);
+    let stripes = board_lines::stripe_count(sizes, len);
     let share_len = stripes * sizes.share_len();
-    if let Check::Refuse(lent) = checks::check_lent(held.len(), share_len) {
+    if let Check::Refuse(lent) = board_lines::check_lent(held.len(), share_len) {
         return Check::Refuse(lent);
     }
     line_checks::check_room(

@@ -16,7 +16,7 @@ use Rattle.mbcr.specs.Share.{points}
 use Rattle.mbcr.proofs.Points.{length-points}
 use Rattle.lagrange.specs.Steps.{differences, others, weight}
 use Rattle.lagrange.proofs.Lagrange.{differences-byte}
-use Rattle.factors.specs.Steps.{factors_for}
+use Rattle.lagrange_factors.specs.Steps.{factors_for}
 
 -- ---- the loop over the points
 

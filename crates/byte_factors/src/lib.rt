@@ -1,11 +1,14 @@
 // Lagrange's factors of some boards for any byte: the value there is the sum of their values times these. Request A.10 takes a value at a byte that is no
 // board's point yet.
 // Assumes nothing.
+
+#![tactic(auto)]
+
 ghost use Rattle.std.specs.Prelude.{◌≡◌, ◌+◌, ◌%◌, ◌<◌, ◌≤◌, length};
 ghost use Rattle.lists.specs.Lists.{tabulate, fit};
 ghost use Rattle.gf256.specs.Field.{inverse};
 ghost use Rattle.lagrange.specs.Steps.{differences, others, weight};
-ghost use Rattle.factors.specs.Steps.{factors_for};
+ghost use Rattle.lagrange_factors.specs.Steps.{factors_for};
 
 // The product of y - x over these points x.
 fn product(xs: &[u8], y: u8) -> u8
@@ -74,7 +77,7 @@ fn factors_near(
     requires { (inverses.now ≡ tabulate 256 inverse) × (length points.now ≡ 32) × (j < n) × (n ≤ 32) × (m ≤ length out.old) × (length out.old ≤ 32) × (length near.old ≡ m) × (length xs.old ≡ m) }
     ensures { out.new ≡ fit (length out.old) (factors_for points.now (tabulate m (λ t. (j + t) % n)) y) }
 {
-    factors::boards_from(n, j, near);
+    lagrange_factors::boards_from(n, j, near);
     lagrange_rows::points_of(points, near, xs);
     factors_of(xs, inverses, y, out);
 }

@@ -1,5 +1,8 @@
 // Whether two lists of bytes are the same.
 // Assumes nothing.
+
+#![tactic(auto)]
+
 ghost use Rattle.std.specs.Prelude.{◌≡◌};
 ghost use Rattle.lists.specs.Tests.{same};
 

@@ -1,6 +1,6 @@
 -- The tries of a careful read: which boards each leaves out, and what is told where the others hold a file.
 -- Assumes nothing.
-use Rattle.std.specs.Prelude.{Bool, true, List, ℕ, suc, ◌-◌}
+use Rattle.std.specs.Prelude.{Bool, true, List, ℕ, suc}
 use Rattle.lists.specs.Tests.{pick}
 use Rattle.store_spec.specs.Careful.{leaving}
 

@@ -1,12 +1,15 @@
 // The tries of a careful read (request A.11): each leaves out two of k + 2 boards that stand side by side in the list, and asks whether one of the two,
 // at least, holds its share of the file that the others hold.
 // Assumes nothing.
+
+#![tactic(auto)]
+
 ghost use Rattle.std.specs.Prelude.{◌≡◌, ◌+◌, ◌-◌, ◌<◌, ◌≤◌, length};
 ghost use Rattle.careful_pairs.specs.Steps.{leaving_pair, found_of, odd_of};
 
 // Whether a try found the file, and the odd board: 0 for none, else its number plus 1; and a stripe to look at first in the next try, on which nothing
 // rests.
-#[derive(Drop)]
+#[derive(Clone, Copy)]
 pub struct Tried {
     pub found: bool,
     pub odd: usize,

@@ -31,7 +31,7 @@ use Rattle.line_checks.specs.Steps.{asked}
 use Rattle.careful_pairs.specs.Steps.{leaving_pair, found_of, odd_of}
 use Rattle.careful_pairs.proofs.Pairs.{length-pair, pair-all, pair-different, pair-among, pair-among-next, told_is, places_from, some_pair, places-low}
 use Rattle.store_holds.proofs.Stripes.{file-there}
-use Rattle.store_checks.specs.Steps.{record_of}
+use Rattle.store_lines.specs.Steps.{record_of}
 use Rattle.sizes.proofs.Legal.{Legal}
 use Rattle.mbcr.specs.Read.{decoded_file}
 use Rattle.mbcr.proofs.Read.{length-decoded-file}

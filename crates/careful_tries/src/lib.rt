@@ -1,6 +1,9 @@
 // The file of a careful read (request A.11): tries, of which each leaves out two boards that stand side by side in the list, from the last two on, until
 // one finds the file; and its bytes by the boards and the tables of that try.
 // Assumes nothing.
+
+#![tactic(auto)]
+
 ghost use Rattle.std.specs.Prelude.{◌≡◌, true, false, ◌+◌, ◌≤◌, length};
 ghost use Rattle.lists.specs.Tests.{given};
 ghost use Rattle.lists.specs.Lists.{over};
@@ -40,13 +43,13 @@ fn try_pair(
     let x = boards[p];
     let y = boards[p + 1];
     careful_pairs::leave_pair(boards, p, chosen);
-    store_decode::fill_tables(sizes, &points, chosen, tables);
+    decode_area::fill_tables(sizes, &points, chosen, tables);
     let held = store_holds::hold_two(kept, stripes, from, chosen, x, y, area, tables);
     let told = careful_pairs::told(held.first, held.second, x, y, held.at);
     if !told.found {
         return told;
     }
-    if let Check::Refuse(disagree) = store_decode::check_agrees(
+    if let Check::Refuse(disagree) = decode_area::check_agrees(
         sizes,
         kept.capacity,
         &points,
@@ -108,14 +111,14 @@ pub fn read_file(kept: Kept, boards: &[usize], area: &[u8], out: &mut [u8]) -> T
     let sizes = kept.sizes;
     let points = kept.points;
     let k = sizes.k;
-    let stripes = checks::stripe_count(sizes, kept.length);
+    let stripes = board_lines::stripe_count(sizes, kept.length);
     let mut chosen = [0usize; 32];
     let mut tables = [0u8; 49152];
     let tried = tries(kept, stripes, boards, area, &mut chosen[0..k], &mut tables);
     if !tried.found {
         return tried;
     }
-    store_decode::file(
+    decode_area::write_file(
         sizes,
         kept.capacity,
         &points,

@@ -1,6 +1,6 @@
 -- The code's figures: antt computes all but the first.
 -- Assumes nothing.
-use mathlib.Core.Path.{◌≡◌, refl}
+use mathlib.Core.Path.{refl}
 use native.Mathlib.Omega.{arith}
 use Rattle.lists.specs.Lists.{piece}
 use Rattle.gf256.specs.Field.{add, product, reduce, mul, squares, inverse}

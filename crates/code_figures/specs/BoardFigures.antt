@@ -3,9 +3,7 @@
 -- Assumes nothing.
 use Rattle.std.specs.Prelude.{◌≡◌, true, false, List, [], ◌∷◌, ◌++◌, map, ℕ, take, replicate, set}
 use Rattle.sizes.specs.declared.Sizes.{Sizes}
-use Rattle.sizes.specs.declared.Answer.TheVariants.{Done, Refused}
 use Rattle.sizes.specs.Sizing.{legal, stripes}
-use Rattle.sizes.specs.Refusals.{said}
 use Rattle.mbcr.specs.Share.{standard, share, shares}
 use Rattle.mbcr.specs.PointLaws.{first_series}
 use Rattle.board_spec.specs.Text.{share_text}

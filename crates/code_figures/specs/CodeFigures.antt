@@ -1,7 +1,7 @@
 -- Figures of the code over the definitions, in their order. proofs/CodeFigures.antt has `figures`.
 -- Assumes nothing.
 use Rattle.std.specs.Prelude.{◌≡◌, true, false, List, [], ◌∷◌, ◌++◌, map, ℕ, take, replicate, set}
-use Rattle.std.proofs.Math.Option.{Option, some, none}
+use Rattle.std.proofs.Math.Option.{some, none}
 use Rattle.sizes.specs.declared.Sizes.{Sizes}
 use Rattle.mbcr.specs.Share.{standard, pointed, DifferentPoints, neighbours, share}
 use Rattle.mbcr.specs.Rebuild.{seconds, helper_packet, stand_in_packet, exchange_packet, finished_share}

@@ -1,5 +1,8 @@
 // The sum of multiples of rows, looked up in tables of 16 multiples of each.
 // Assumes nothing.
+
+#![tactic(auto)]
+
 ghost use Rattle.std.specs.Prelude.{◌≡◌, List, ℕ, ◌+◌, ◌*◌, ◌<◌, ◌≤◌, length, get_or};
 ghost use Rattle.lists.specs.Lists.{tabulate};
 ghost use Rattle.polynomial.specs.Polynomial.{scale};

@@ -1,5 +1,8 @@
 // A stripe from the coefficients of f and g of k boards, by sums of rows: its rows from k on, then the columns of those before.
 // Assumes nothing.
+
+#![tactic(auto)]
+
 ghost use Rattle.std.specs.Prelude.{◌≡◌, true, List, ℕ, ◌+◌, ◌-◌, ◌*◌, ◌≤◌, length, take};
 ghost use Rattle.sizes.specs.Sizing.{legal, B};
 ghost use Rattle.decode_laws.specs.Steps.{stripe_by};

@@ -11,8 +11,8 @@ use native.Mathlib.Omega.{arith}
 use lib.Dec.{eqb, ltb}
 use lib.ListN.{length, get_or, take, drop, drop_of_length-le}
 use borrow.Author.Tests.{eqb-true, eq-eqb, lt-ltb, le-ltb}
-use Rattle.lists.specs.Tests.{pick, alls, every, same, below, different}
-use Rattle.lists.specs.Lists.{All, Bytes, tabulate, join, fit}
+use Rattle.lists.specs.Tests.{pick, alls, same}
+use Rattle.lists.specs.Lists.{Bytes, tabulate, join, fit}
 use Rattle.lists.proofs.Alls.{all-at, take-alls}
 use Rattle.lists.proofs.Boards.{all-below, distinct-different}
 use Rattle.lists.proofs.Tests.{both, every-all, all-every, same-eq, same_refl}
@@ -27,8 +27,8 @@ use Rattle.mbcr.specs.Rebuild.{own_f, own_g}
 use Rattle.mbcr.specs.Read.{through, a_column, b_column, c_row, decoded_stripe}
 use Rattle.mbcr.proofs.Points.{Boards}
 use Rattle.mbcr.proofs.Decode.{length-decoded, decoded-bytes, decoded-true}
-use Rattle.pairs.specs.Steps.{Pairs, Kept}
-use Rattle.pairs.proofs.Pairs.{pairs-agree}
+use Rattle.decode_agree.specs.Steps.{Pairs, Kept}
+use Rattle.decode_agree.proofs.Pairs.{pairs-agree}
 use Rattle.decode_laws.specs.Steps.{meets, pairs_meet, zeros, board_agrees, stripe_agrees, stripe_reads}
 use Rattle.decode_laws.proofs.Rows.{join-at}
 

@@ -1,14 +1,14 @@
 -- Values of k boards' polynomials at other boards, and their coefficients from the values.
 -- Assumes nothing.
 use mathlib.Core.Path.{◌≡◌, refl, sym, ap, ap₂, ◌∙◌}
-use mathlib.Core.List.{List, [], ◌∷◌, ◌++◌, map}
-use Prim.Native.Nat.{ℕ, zero, suc, ◌+◌, ◌*◌, ◌-◌, ◌%◌, ◌<◌, ◌≤◌}
+use mathlib.Core.List.{List, [], ◌∷◌, map}
+use Prim.Native.Nat.{ℕ, ◌+◌, ◌*◌, ◌-◌, ◌%◌, ◌<◌, ◌≤◌}
 use native.Mathlib.Omega.{arith}
-use lib.ListN.{length, get_or, drop, get_or-eq_default, get_or-append, length-append, length-map}
+use lib.ListN.{length, get_or, drop, get_or-eq_default, length-map}
 use lib.Seq.{get_or-drop}
-use Rattle.lists.specs.Lists.{All, Bytes, tabulate, join, piece, fit}
-use Rattle.lists.proofs.Alls.{all-at, byte_at}
-use Rattle.lists.proofs.Pieces.{length-tabulate, tabulate-at, tabulate-all, tabulate-ext, tabulate-map, join-ext, length-join, piece-join, length-fit, fit_at, map_at}
+use Rattle.lists.specs.Lists.{All, Bytes, tabulate, join, fit}
+use Rattle.lists.proofs.Alls.{all-at}
+use Rattle.lists.proofs.Pieces.{length-tabulate, tabulate-at, tabulate-all, tabulate-ext, tabulate-map, join-ext, length-join, piece-join, length-fit, map_at}
 use Rattle.gf256.specs.Field.{mul}
 use Rattle.gf256.proofs.Field.{mul_comm, zero-mul}
 use Rattle.sizes.specs.declared.Sizes.{Sizes}

@@ -1,20 +1,18 @@
 -- What boards hold of a stripe, wherever their bytes start: as rows, and the values and coefficients of their f and g from these.
 -- Assumes nothing.
-use mathlib.Core.Path.{◌≡◌, refl, sym, ap, ap₂, ◌∙◌}
-use mathlib.Core.Bool.{true}
-use mathlib.Core.List.{List, [], ◌∷◌, ◌++◌}
-use Prim.Native.Nat.{ℕ, zero, suc, ◌+◌, ◌*◌, ◌-◌, ◌<◌, ◌≤◌}
+use mathlib.Core.Path.{◌≡◌, sym, ap, ap₂, ◌∙◌}
+use mathlib.Core.List.{List, ◌++◌}
+use Prim.Native.Nat.{ℕ, ◌+◌, ◌*◌, ◌-◌, ◌<◌, ◌≤◌}
 use native.Mathlib.Nat.{suc-mul, mul-le-mul_right}
 use native.Mathlib.Numerals.{add-one}
 use native.Mathlib.Omega.{arith}
 use lib.Dec.{eqb}
 use lib.ListN.{length, get_or, take, drop, length-drop, get_or-append}
 use lib.Seq.{length-take-le}
-use Rattle.lists.specs.Tests.{alls, below}
+use Rattle.lists.specs.Tests.{alls}
 use Rattle.lists.specs.Lists.{All, Bytes, tabulate, join, fit}
 use Rattle.lists.proofs.Alls.{all-imp, all-at, take-alls, drop-alls}
-use Rattle.lists.proofs.Boards.{below_all}
-use Rattle.lists.proofs.Pieces.{join-ext, length-join, length-fit, length-tabulate, tabulate-at, tabulate-ext}
+use Rattle.lists.proofs.Pieces.{length-join, length-fit, length-tabulate, tabulate-at, tabulate-ext}
 use Rattle.sizes.specs.declared.Sizes.{Sizes}
 use Rattle.sizes.specs.Sizing.{α}
 use Rattle.sizes.proofs.Legal.{Legal, α-parts, α-most, row_fits}
@@ -22,7 +20,7 @@ use Rattle.polynomial.specs.Polynomial.{eval}
 use Rattle.mbcr.specs.Share.{DifferentPoints, point, points}
 use Rattle.mbcr.specs.Rebuild.{own_f, own_g}
 use Rattle.mbcr.proofs.Points.{Boards}
-use Rattle.decode_laws.specs.Steps.{f_row, g_row, value_at, values_of, board_meets, boards_meet, factors_of, factor_rows, unit_rows, by_rows, top_rows, tops_of, meets, pairs_meet, held_at, Placed}
+use Rattle.decode_laws.specs.Steps.{f_row, g_row, value_at, values_of, board_meets, boards_meet, factor_rows, unit_rows, by_rows, top_rows, tops_of, meets, pairs_meet, held_at, Placed}
 use Rattle.decode_laws.proofs.Rows.{join-at}
 use Rattle.decode_laws.proofs.Stripe.{length-f, length-g, f-bytes, g-bytes}
 use Rattle.decode_laws.proofs.Coefs.{length-factors, values-are, coefs-are, tops_are}

@@ -1,20 +1,18 @@
 -- The polynomial through sums of some values and of what powers of the points add, as one sum of rows of coefficients.
 -- Assumes nothing.
 use mathlib.Core.Path.{◌≡◌, refl, sym, ap, ap₂, ◌∙◌}
-use mathlib.Core.List.{List, [], ◌∷◌, ◌++◌, map}
-use Prim.Native.Nat.{ℕ, zero, suc, ◌+◌, ◌*◌, ◌-◌, ◌<◌, ◌≤◌}
+use mathlib.Core.List.{List, ◌++◌, map}
+use Prim.Native.Nat.{ℕ, zero, suc, ◌+◌, ◌-◌, ◌<◌, ◌≤◌}
 use native.Mathlib.Nat.{add-sub_of_le}
 use native.Mathlib.Omega.{arith}
-use lib.Dec.{ltb}
 use lib.ListN.{length, get_or, replicate, length-append, length-replicate, length-map, get_or-append}
 use lib.Seq.{get_or-append-add}
 use borrow.Author.Tests.{lt-ltb, le-ltb}
-use Rattle.lists.specs.Tests.{pick}
 use Rattle.lists.specs.Lists.{Bytes, tabulate}
 use Rattle.lists.proofs.Alls.{Distinct, append-all, zeros-bytes}
 use Rattle.lists.proofs.Pieces.{length-tabulate, tabulate-at, tabulate-all, map_at, map-bytes}
 use Rattle.gf256.specs.Field.{add, mul}
-use Rattle.gf256.proofs.Field.{mul_comm, mul-zero, zero-mul, mul-lt}
+use Rattle.gf256.proofs.Field.{mul_comm, zero-mul, mul-lt}
 use Rattle.gf256.proofs.Sums.{add_zero_l}
 use Rattle.gf256.proofs.Ring.{ring}
 use Rattle.polynomial.specs.Polynomial.{eval, interpolate, sum, power}

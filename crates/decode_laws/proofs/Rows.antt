@@ -1,15 +1,14 @@
 -- Rows of 32 bytes: the sum of rows of coefficients, each times a value, is the row of the polynomial through the values.
 -- Assumes nothing.
 use mathlib.Core.Path.{◌≡◌, refl, sym, ap, ap₂, ◌∙◌}
-use mathlib.Core.List.{List, [], ◌∷◌, ◌++◌}
-use Prim.Native.Nat.{ℕ, zero, suc, ◌+◌, ◌*◌, ◌<◌, ◌≤◌}
-use native.Mathlib.Omega.{arith}
+use mathlib.Core.List.{List, [], ◌∷◌}
+use Prim.Native.Nat.{ℕ, zero, suc, ◌+◌, ◌*◌, ◌<◌}
 use lib.ListN.{length, get_or}
-use Rattle.lists.specs.Lists.{Bytes, tabulate, join, piece, fit}
+use Rattle.lists.specs.Lists.{Bytes, tabulate, join, fit}
 use Rattle.lists.proofs.Alls.{Distinct}
-use Rattle.lists.proofs.Pieces.{length-tabulate, tabulate-at, tabulate-ext, piece-at, piece-join, length-join, fit_at, length-fit}
+use Rattle.lists.proofs.Pieces.{length-tabulate, tabulate-at, tabulate-ext, piece-at, piece-join, fit_at, length-fit}
 use Rattle.gf256.specs.Field.{add, mul}
-use Rattle.polynomial.specs.Polynomial.{interpolate, plus, scale, sum}
+use Rattle.polynomial.specs.Polynomial.{interpolate, scale, sum}
 use Rattle.polynomial.proofs.Linear.{plus-at, scale_at}
 use Rattle.polynomial.proofs.Sums.{sum-ext}
 use Rattle.lagrange.specs.Steps.{unit, total}

@@ -1,27 +1,27 @@
 -- The stripe that coefficients of k boards give by sums of rows is the one that their bytes decode to.
 -- Assumes nothing.
 use mathlib.Core.Path.{◌≡◌, refl, sym, ap, ap₂, ◌∙◌}
-use mathlib.Core.List.{List, [], ◌∷◌, ◌++◌, map}
+use mathlib.Core.List.{List, ◌++◌, map}
 use Prim.Native.Nat.{ℕ, zero, suc, ◌+◌, ◌*◌, ◌-◌, ◌<◌, ◌≤◌}
 use native.Mathlib.Nat.{zero-add}
 use native.Mathlib.Decide.{dec_lt}
 use native.Mathlib.Omega.{arith}
 use lib.Dec.{ltb}
-use lib.ListN.{length, get_or, take, drop, replicate, length-append, length-drop, length-take, length-map, length-replicate, get_or-append, get_or-eq_default}
-use lib.Seq.{ext_get_or, length-take-le, get_or-take, get_or-drop, get_or-append-add}
+use lib.ListN.{length, get_or, take, drop, replicate, length-append, length-drop, length-replicate, get_or-append, get_or-eq_default}
+use lib.Seq.{length-take-le, get_or-append-add}
 use borrow.Author.Tests.{lt-ltb, le-ltb}
 use Rattle.lists.specs.Tests.{pick}
 use Rattle.lists.specs.Lists.{Bytes, tabulate, join, piece, fit}
 use Rattle.lists.proofs.Alls.{Distinct, byte_at, append-all, take-alls, drop-alls}
-use Rattle.lists.proofs.Pieces.{length-tabulate, tabulate-take, take-fit, tabulate-at, tabulate-all, tabulate-ext, tabulate-map, join-ext, length-join, piece-join, map_at, fit_at, length-fit}
+use Rattle.lists.proofs.Pieces.{length-tabulate, take-fit, tabulate-at, tabulate-all, tabulate-ext, join-ext, length-join, piece-join, map_at, length-fit}
 use Rattle.gf256.specs.Field.{add, mul}
 use Rattle.gf256.proofs.Sums.{add_zero_r}
 use Rattle.gf256.proofs.Field.{mul_comm}
 use Rattle.sizes.specs.declared.Sizes.{Sizes}
 use Rattle.sizes.specs.Sizing.{α}
 use Rattle.sizes.proofs.Legal.{Legal, α-parts}
-use Rattle.polynomial.specs.Polynomial.{eval, evals, interpolate, sum, power}
-use Rattle.polynomial.proofs.Poly.{interpolate-bytes, length-interpolate, interpolate-evals}
+use Rattle.polynomial.specs.Polynomial.{eval, interpolate, power}
+use Rattle.polynomial.proofs.Poly.{interpolate-bytes, length-interpolate}
 use Rattle.polynomial.proofs.Linear.{eval-zero}
 use Rattle.mbcr.specs.Share.{DifferentPoints, points, neighbours, point}
 use Rattle.mbcr.specs.Rebuild.{own_f, own_g}
@@ -30,7 +30,7 @@ use Rattle.mbcr.proofs.Points.{Boards, length-neighbours, length-points, points-
 use Rattle.lagrange.specs.Steps.{unit}
 use Rattle.decode_laws.specs.Steps.{cell, sums, seeds, seed_rows, by_rows, by_columns, turned, parts, stripe_by}
 use Rattle.decode_laws.proofs.Sums.{sum_below}
-use Rattle.decode_laws.proofs.Rows.{join-at, cell-fit, row-fit, sums-through, length-sums, sums_at, sums-ext}
+use Rattle.decode_laws.proofs.Rows.{join-at, cell-fit, sums-through, length-sums, sums_at, sums-ext}
 use Rattle.decode_laws.proofs.Mixed.{mixed-rows}
 
 -- ---- f and g of any bytes

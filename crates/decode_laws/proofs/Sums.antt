@@ -4,7 +4,7 @@ use mathlib.Core.Path.{◌≡◌, refl, sym, ap, ap₂, ◌∙◌}
 use Prim.Native.Nat.{ℕ, zero, suc, ◌+◌, ◌<◌, ◌≤◌}
 use native.Mathlib.Nat.{zero-add, suc-add}
 use native.Mathlib.Omega.{arith}
-use Rattle.gf256.specs.Field.{add, mul}
+use Rattle.gf256.specs.Field.{add}
 use Rattle.gf256.proofs.Ring.{ring}
 use Rattle.gf256.proofs.Sums.{add-self, add_zero_l, add_zero_r}
 use Rattle.polynomial.specs.Polynomial.{sum}

@@ -1,23 +1,21 @@
 -- The value of a board's polynomial at another board's point: a byte that is kept, or the sum of the bytes kept times their factors.
 -- Assumes nothing.
-use mathlib.Core.Path.{◌≡◌, refl, sym, ap, ap₂, ◌∙◌}
-use mathlib.Core.Bool.{Bool, true, false}
-use mathlib.Core.List.{List, [], ◌∷◌, ◌++◌}
-use Prim.Native.Nat.{ℕ, zero, suc, ◌+◌, ◌*◌, ◌-◌, ◌%◌, ◌<◌, ◌≤◌}
+use mathlib.Core.Path.{◌≡◌, sym, ap, ap₂, ◌∙◌}
+use mathlib.Core.List.{List}
+use Prim.Native.Nat.{ℕ, ◌+◌, ◌-◌, ◌%◌, ◌<◌, ◌≤◌}
 use native.Mathlib.Nat.{mod-eq_of_lt, mod-eq-sub-mod}
 use native.Mathlib.Decide.{dec_lt}
 use native.Mathlib.Omega.{arith}
-use lib.Dec.{ltb, leb}
+use lib.Dec.{ltb}
 use lib.ListN.{length, get_or, get_or-eq_default}
 use borrow.Author.Tests.{lt-ltb, le-ltb, le-leb, lt-leb}
 use Rattle.lists.specs.Tests.{pick}
-use Rattle.lists.specs.Lists.{Bytes, tabulate, join, fit}
-use Rattle.lists.proofs.Alls.{Distinct}
+use Rattle.lists.specs.Lists.{Bytes, fit}
 use Rattle.lists.proofs.Pieces.{map_at, fit_at}
-use Rattle.gf256.specs.Field.{add, mul}
+use Rattle.gf256.specs.Field.{mul}
 use Rattle.gf256.proofs.Field.{mul_comm, mul-zero}
 use Rattle.sizes.specs.declared.Sizes.{Sizes}
-use Rattle.polynomial.specs.Polynomial.{eval, evals, interpolate, sum}
+use Rattle.polynomial.specs.Polynomial.{eval, interpolate, sum}
 use Rattle.polynomial.proofs.Poly.{evals-interpolate}
 use Rattle.mbcr.specs.Share.{DifferentPoints, points, neighbours, point}
 use Rattle.mbcr.proofs.Points.{Boards, length-neighbours, neighbours-boards, length-points, points-bytes, points-distinct}

@@ -1,6 +1,6 @@
 -- What the kernels of a read work out, over rows of 32 bytes that stand one after another.
 -- Assumes nothing.
-use Rattle.std.specs.Prelude.{Bool, List, [], ◌∷◌, ◌++◌, map, ℕ, ◌+◌, ◌*◌, ◌-◌, ◌%◌, ◌≤◌, eqb, ltb, leb, length, get_or, take, drop}
+use Rattle.std.specs.Prelude.{Bool, List, ◌++◌, map, ℕ, ◌+◌, ◌*◌, ◌-◌, ◌%◌, ◌≤◌, eqb, ltb, leb, length, get_or, take, drop}
 use Rattle.lists.specs.Tests.{pick, alls, every, same}
 use Rattle.lists.specs.Lists.{All, tabulate, join, piece, fit}
 use Rattle.gf256.specs.Field.{mul}

@@ -1,5 +1,8 @@
 // Whether k boards agree: f of each and g of each have one value where they meet.
 // Assumes nothing.
+
+#![tactic(auto)]
+
 ghost use Rattle.std.specs.Prelude.{◌≡◌, true, ◌+◌, ◌-◌, ◌*◌, ◌<◌, ◌≤◌, length};
 ghost use Rattle.lists.specs.Tests.{alls, below};
 ghost use Rattle.lists.specs.Lists.{tabulate};

@@ -1,16 +1,16 @@
 -- A sum of rows by their tables, as the sum of its bytes.
 -- Assumes nothing.
 use mathlib.Core.Path.{◌≡◌, refl, sym, ap, ap₂, ◌∙◌}
-use mathlib.Core.List.{List, [], ◌∷◌, ◌++◌}
+use mathlib.Core.List.{List, [], ◌∷◌}
 use Prim.Native.Nat.{ℕ, zero, suc, ◌+◌, ◌*◌, ◌-◌, ◌<◌, ◌≤◌}
 use native.Mathlib.Omega.{arith}
 use lib.ListN.{length, get_or, take, drop, replicate, length-replicate, length-drop}
 use lib.Seq.{ext_get_or, length-take-le, get_or-take, get_or-drop}
-use Rattle.lists.specs.Lists.{All, tabulate, join, piece}
+use Rattle.lists.specs.Lists.{tabulate, piece}
 use Rattle.lists.proofs.Pieces.{length-tabulate, tabulate-at, tabulate-all, piece-at, length-piece}
 use Rattle.gf256.specs.Field.{add, mul}
 use Rattle.sizes.proofs.Legal.{row_fits}
-use Rattle.polynomial.specs.Polynomial.{plus, scale, sum}
+use Rattle.polynomial.specs.Polynomial.{scale, sum}
 use Rattle.polynomial.proofs.Linear.{plus-at, scale_at, length-plus, length-scale}
 use Rattle.row_sums.specs.Steps.{multiples, Tabled, Wide, combined}
 use Rattle.decode_laws.specs.Steps.{cell, sums}

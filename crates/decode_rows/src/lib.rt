@@ -1,6 +1,9 @@
 // Matrices of bytes, in rows of 32: sums of rows that are looked up in tables of their multiples, columns, and parts of rows.
 // specs/Steps.antt of the crate decode_laws says what each function works out.
 // Assumes nothing.
+
+#![tactic(auto)]
+
 ghost use Rattle.std.specs.Prelude.{◌≡◌, List, ℕ, ◌+◌, ◌*◌, ◌<◌, ◌≤◌, length, take};
 ghost use Rattle.lists.specs.Lists.{tabulate};
 ghost use Rattle.decode_laws.specs.Steps.{cell, by_rows, by_columns, turned, parts};

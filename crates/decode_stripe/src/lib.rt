@@ -1,5 +1,8 @@
 // A stripe from k boards: the coefficients of their f and g from values at the same boards for all, then the stripe's own by sums of rows.
 // Assumes nothing.
+
+#![tactic(auto)]
+
 ghost use Rattle.std.specs.Prelude.{◌≡◌, true, List, ℕ, ◌+◌, ◌-◌, ◌*◌, ◌<◌, ◌≤◌, length, get_or, take};
 ghost use Rattle.lists.specs.Tests.{below, different};
 ghost use Rattle.lists.specs.Lists.{join, fit};

@@ -1,5 +1,8 @@
 // Stripes of a file from k boards, one after another, each by way of the working array of one stripe's coefficients.
 // Assumes nothing.
+
+#![tactic(auto)]
+
 ghost use Rattle.std.specs.Prelude.{◌≡◌, ◌+◌, ◌-◌, ◌*◌, ◌≤◌, length, take};
 ghost use Rattle.lists.specs.Lists.{join};
 ghost use Rattle.sizes.specs.Sizing.{B};
@@ -101,7 +104,7 @@ pub fn stripes(
     let top = 48128;
     let top_end = top + (d - k) * 32;
     let mut targets = [0usize; 32];
-    factors::boards_from(sizes.n, boards[0], &mut targets[0..w]);
+    lagrange_factors::boards_from(sizes.n, boards[0], &mut targets[0..w]);
     stripes_by(
         sizes,
         points,

@@ -3,27 +3,24 @@
 use mathlib.Core.Path.{◌≡◌, refl, sym, ap, ap₂, ◌∙◌}
 use mathlib.Core.Bool.{Bool, true, false}
 use mathlib.Core.List.{List, [], ◌∷◌, ◌++◌, map}
-use Prim.Native.Nat.{ℕ, zero, suc, ◌+◌, ◌*◌, ◌-◌, ◌%◌, ◌<◌, ◌≤◌}
+use Prim.Native.Nat.{ℕ, zero, suc, ◌+◌, ◌-◌, ◌%◌, ◌<◌, ◌≤◌}
 use native.Mathlib.Nat.{sub-zero, mod-lt}
 use native.Mathlib.Omega.{arith}
 use lib.Dec.{eqb, ltb}
-use lib.ListN.{length, get_or, take, drop, length-append, length-drop, length-map}
-use lib.Seq.{take_at, drop_at, length-take-le}
+use lib.ListN.{length, get_or, take, drop}
+use lib.Seq.{take_at, drop_at}
 use borrow.Author.Tests.{lt-ltb}
 use borrow.Rule.Slice.PartMut.{put_mid}
 use Rattle.lists.specs.Tests.{pick, below}
-use Rattle.lists.specs.Lists.{All, tabulate, join, piece, fit}
+use Rattle.lists.specs.Lists.{tabulate, join, fit}
 use Rattle.lists.proofs.Boards.{all-below}
-use Rattle.lists.proofs.Pieces.{length-tabulate, tabulate-at, tabulate-ext, tabulate-all, tabulate-map, join-ext, length-fit, piece-join, length-piece, fit_at}
+use Rattle.lists.proofs.Pieces.{length-tabulate, tabulate-at, tabulate-ext, tabulate-all, tabulate-map, join-ext}
 use Rattle.sizes.specs.declared.Sizes.{Sizes}
-use Rattle.sizes.proofs.Legal.{row_fits}
 use Rattle.polynomial.specs.Polynomial.{interpolate, power}
 use Rattle.polynomial.proofs.Poly.{length-interpolate}
 use Rattle.mbcr.specs.Share.{point, points, neighbours}
 use Rattle.lagrange.specs.Steps.{unit, weight}
 use Rattle.lagrange_rows.specs.Steps.{lagrange_row, lagrange_rows}
-use Rattle.row_sums.specs.Steps.{multiples}
-use Rattle.row_sums.proofs.Tables.{length-multiples}
 use Rattle.decode_laws.specs.Steps.{cell, unit_rows, top_rows, seeds, seed_rows, factors_of}
 use Rattle.decode_laws.proofs.Rows.{join-at, cell-fit}
 

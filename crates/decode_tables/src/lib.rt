@@ -1,6 +1,9 @@
 // What a read makes once, of sizes, points and boards alone: rows of coefficients, the tables of their multiples, and Lagrange's factors.
 // specs/Steps.antt of the crate decode_laws says what each function works out.
 // Assumes nothing.
+
+#![tactic(auto)]
+
 ghost use Rattle.std.specs.Prelude.{◌≡◌, true, ◌+◌, ◌-◌, ◌*◌, ◌<◌, ◌≤◌, length};
 ghost use Rattle.lists.specs.Tests.{below};
 ghost use Rattle.lists.specs.Lists.{tabulate, join, piece, fit};
@@ -75,7 +78,7 @@ pub fn top_rows(k: usize, m: usize, count: usize, rows: &[u8], out: &mut [u8])
         let at = i * 32;
         let end = at + 32;
         let j = k + i;
-        factors::column(rows, m, j, &mut out[at..end]);
+        lagrange_factors::column(rows, m, j, &mut out[at..end]);
         i += 1;
     }
 }
@@ -94,7 +97,7 @@ fn factors_in(
     requires { (inverses.now ≡ tabulate 256 inverse) × (length points.now ≡ 32) × (sizes.n ≤ 32) × (c ≤ sizes.n) × (b < sizes.n) × (length near.old ≡ c) × (length rows.old ≡ c * 32) × (length out.old ≡ (sizes.n - c) * 32) }
     ensures { out.new ≡ factors_of sizes points.now c b }
 {
-    factors::boards_from(sizes.n, b, near);
+    lagrange_factors::boards_from(sizes.n, b, near);
     lagrange_rows::lagrange_rows(points, near, inverses, rows);
     table_seeds::board_factors(sizes, c, b, rows, out);
 }

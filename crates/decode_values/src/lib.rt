@@ -1,6 +1,9 @@
 // What boards keep of a stripe, as rows of 32 bytes, and the values of their f and g at other boards: bytes that they keep, or sums of these
 // times Lagrange's factors. specs/Steps.antt of the crate decode_laws says what each function works out.
 // Assumes nothing.
+
+#![tactic(auto)]
+
 ghost use Rattle.std.specs.Prelude.{◌≡◌, true, ◌+◌, ◌-◌, ◌*◌, ◌<◌, ◌≤◌, length, get_or, take, drop};
 ghost use Rattle.lists.specs.Tests.{below};
 ghost use Rattle.lists.specs.Lists.{All, tabulate, join};

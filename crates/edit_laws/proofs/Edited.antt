@@ -9,7 +9,7 @@ use native.Mathlib.Numerals.{add-one}
 use native.Mathlib.Omega.{arith}
 use lib.ListN.{length, get_or, take, drop, length-drop}
 use lib.Seq.{ext_get_or, get_or-take, get_or-drop, drop-drop, length-take-le}
-use Rattle.lists.specs.Lists.{tabulate, join, joined, piece, put, fit}
+use Rattle.lists.specs.Lists.{tabulate, join, joined, piece, put}
 use Rattle.lists.proofs.Pieces.{length-tabulate, tabulate-at, tabulate-ext, join-ext, join-piece, piece-at, piece-join, fit_at}
 use Rattle.lists.proofs.Put.{length-put, byte-before, byte-in, byte-after, part_end}
 use Rattle.gf256.specs.Field.{add}
@@ -30,14 +30,14 @@ use Rattle.board_spec.specs.Calls.{file_of}
 use Rattle.board_spec.proofs.Files.{file-is}
 use Rattle.store_spec.specs.Calls.{file_held}
 use Rattle.store_spec.specs.Edit.{edit_lines, change, edited_share}
-use Rattle.store_spec.specs.Record.{Record, serving, stripe_count, part_len, used_len, held, put_shares}
-use Rattle.store_spec.proofs.Records.{Sound, sound-facts, Edits, edit-facts}
+use Rattle.store_spec.specs.Record.{Record, serving, stripe_count, part_len, held, put_shares}
+use Rattle.store_spec.proofs.Records.{Sound, sound-facts, Reads, edit-facts}
 use Rattle.decode_laws.specs.Steps.{held_at}
 use Rattle.decode_laws.proofs.Agree.{decoded-ext}
 use Rattle.stripes_cut.specs.Steps.{stripe_at}
-use Rattle.decode.proofs.Shares.{held-there}
-use Rattle.store_decode.proofs.Parts.{parts-long, parts-placed, parts-shares}
-use Rattle.puts.proofs.Puts.{puts-same}
+use Rattle.decode_file.proofs.Shares.{held-there}
+use Rattle.decode_area.proofs.Parts.{parts-long, parts-placed, parts-shares}
+use Rattle.area_puts.proofs.Puts.{puts-same}
 use Rattle.store_write.proofs.Places.{by-places}
 use Rattle.edit_rows.specs.Steps.{changed_at}
 use Rattle.edit_rows.proofs.Rows.{before, behind, inside}
@@ -86,7 +86,7 @@ module _ (s : Record) (area₀ : List ℕ) (offset : ℕ) (bytes boards : List �
   abbrev W : ℕ
   W = part_len s
 
-  f : Edits s (length area₀) offset bytes boards
+  f : Reads s (length area₀) s.sizes.k boards
   f = (edit-facts s area₀ offset bytes boards pass).0
 
   g : Sound s
@@ -117,13 +117,13 @@ module _ (s : Record) (area₀ : List ℕ) (offset : ℕ) (bytes boards : List �
   H = joined (held s area₀) boards
 
   file-read : file ≡ decoded_file z xs s.length boards H
-  file-read = file-is z xs s.length boards H (edit-facts s area₀ offset bytes boards pass).1
+  file-read = file-is z xs s.length boards H (edit-facts s area₀ offset bytes boards pass).2
 
   file-long : length file ≡ s.length
   file-long = ap length file-read ∙ length-decoded-file z xs legal boards f.count s.length H
 
   fits : offset + length bytes ≤ length file
-  fits = omega (arith, file-long, f.in-range)
+  fits = omega (arith, file-long, (edit-facts s area₀ offset bytes boards pass).1)
 
   abbrev new : List ℕ
   new = put file offset bytes

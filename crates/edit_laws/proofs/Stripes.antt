@@ -2,7 +2,7 @@
 -- Assumes nothing.
 use mathlib.Core.Path.{◌≡◌, refl, sym, ap, ap₂, ◌∙◌}
 use mathlib.Core.Bool.{true}
-use mathlib.Core.Logic.{◌⊎◌, inl, inr, ⊎_elim}
+use mathlib.Core.Logic.{◌⊎◌, inl, inr}
 use mathlib.Core.List.{List}
 use Prim.Native.Nat.{ℕ, zero, suc, ◌+◌, ◌*◌, ◌<◌, ◌≤◌}
 use native.Mathlib.Decide.{dec_lt}
@@ -16,8 +16,8 @@ use Rattle.lists.proofs.Boards.{distinct}
 use Rattle.lists.proofs.Pieces.{length-join}
 use Rattle.lists.proofs.Put.{part_end}
 use Rattle.polynomial.specs.Polynomial.{plus}
-use Rattle.puts.specs.Steps.{puts}
-use Rattle.puts.proofs.Puts.{puts-same, length-puts, puts-stripe, puts-other, puts_none}
+use Rattle.area_puts.specs.Steps.{puts}
+use Rattle.area_puts.proofs.Puts.{puts-same, length-puts, puts-stripe, puts-other, puts_none}
 use Rattle.store_spec.proofs.Sums.{length-plus-short, put-again}
 use Rattle.edit_put.specs.Steps.{added}
 use Rattle.edit_put.proofs.Added.{apart_parts, board-low}

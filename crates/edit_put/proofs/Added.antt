@@ -18,8 +18,8 @@ use Rattle.lists.proofs.Put.{part_end}
 use Rattle.polynomial.specs.Polynomial.{plus}
 use Rattle.polynomial.proofs.Linear.{length-plus}
 use Rattle.row_dots.proofs.Rows.{part-back}
-use Rattle.puts.specs.Steps.{puts}
-use Rattle.puts.proofs.Puts.{puts-same, puts-other, puts-turn}
+use Rattle.area_puts.specs.Steps.{puts}
+use Rattle.area_puts.proofs.Puts.{puts-same, puts-other, puts-turn}
 use Rattle.edit_put.specs.Steps.{added}
 
 -- the beginning of a list is as long as it is cut

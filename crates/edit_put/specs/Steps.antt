@@ -3,7 +3,7 @@
 use Rattle.std.specs.Prelude.{List, ℕ, ◌+◌, ◌*◌, length, get_or, take, drop}
 use Rattle.polynomial.specs.Polynomial.{plus}
 use Rattle.sizes.specs.declared.Sizes.{Sizes}
-use Rattle.puts.specs.Steps.{puts}
+use Rattle.area_puts.specs.Steps.{puts}
 use Rattle.kept_bytes.specs.Steps.{kept_of}
 
 -- what board i keeps of a stripe, out of rows of values: f is byte i of each row, g is row i

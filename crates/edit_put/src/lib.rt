@@ -1,5 +1,8 @@
 // What boards keep of a stripe, added to what they hold of it.
 // Assumes nothing.
+
+#![tactic(auto)]
+
 ghost use Rattle.std.specs.Prelude.{◌≡◌, true, ◌+◌, ◌*◌, ◌<◌, ◌≤◌, length};
 ghost use Rattle.lists.specs.Tests.{below, different};
 ghost use Rattle.polynomial.specs.Polynomial.{plus};

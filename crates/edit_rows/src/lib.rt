@@ -1,5 +1,8 @@
 // Rows of an edit: a row added to another, and the bytes of a stripe, old against new.
 // Assumes nothing.
+
+#![tactic(auto)]
+
 ghost use Rattle.std.specs.Prelude.{◌≡◌, ◌+◌, ◌≤◌, length, get_or};
 ghost use Rattle.lists.specs.Lists.{tabulate};
 ghost use Rattle.polynomial.specs.Polynomial.{plus};

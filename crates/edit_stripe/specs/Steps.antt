@@ -1,17 +1,12 @@
--- Rows of powers; a stripe's grid in rows of 32 bytes; and by what a stripe of a file changes.
+-- A stripe's grid in rows of 32 bytes; and by what a stripe of a file changes.
 -- Assumes nothing.
 use Rattle.std.specs.Prelude.{List, [], ℕ, ◌+◌, ◌*◌, get_or}
 use Rattle.lists.specs.Lists.{tabulate, join, fit}
 use Rattle.sizes.specs.declared.Sizes.{Sizes}
 use Rattle.sizes.specs.Sizing.{B}
 use Rattle.mbcr.specs.Share.{grid}
-use Rattle.powers.specs.Steps.{power_row}
 use Rattle.stripes_cut.specs.Steps.{stripe_at}
 use Rattle.edit_rows.specs.Steps.{changed_at}
-
--- the powers 0 to 31 of each point, a row for each power
-unfoldable pub powers_of : List ℕ → List ℕ
-powers_of xs = join 32 (power_row xs)
 
 -- each row of the grid, and 00 behind
 abbrev pub laid_rows : Sizes → List ℕ → List ℕ

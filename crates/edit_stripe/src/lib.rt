@@ -1,47 +1,23 @@
 // One stripe of an edit: by what it changes, and what boards keep of that, added to what they hold. Most bytes of a change are 00, and a byte 00 adds
 // nothing: its values are sums of the rows of powers that it has other bytes for, without tables of their multiples.
 // Assumes nothing.
-ghost use Rattle.std.specs.Prelude.{◌≡◌, true, [], ◌++◌, ℕ, ◌+◌, ◌*◌, ◌<◌, ◌≤◌, length, get_or, take, drop};
+
+#![tactic(auto)]
+
+ghost use Rattle.std.specs.Prelude.{◌≡◌, true, ◌++◌, ℕ, ◌+◌, ◌*◌, ◌<◌, ◌≤◌, length, take, drop};
 ghost use Rattle.lists.specs.Tests.{below, different};
-ghost use Rattle.lists.specs.Lists.{join, piece, fit};
-ghost use Rattle.gf256.specs.Field.{add_scaled};
+ghost use Rattle.lists.specs.Lists.{join, piece};
 ghost use Rattle.sizes.specs.Sizing.{legal, α, B};
 ghost use Rattle.polynomial.specs.Polynomial.{evals};
-ghost use Rattle.mbcr.specs.Share.{grid, kept};
+ghost use Rattle.mbcr.specs.Share.{kept};
 ghost use Rattle.row_values.specs.Steps.{row_sums};
 ghost use Rattle.decode_laws.specs.Steps.{Placed};
 ghost use Rattle.decode_stripe.specs.Steps.{Asked};
 ghost use Rattle.decode_setup.specs.Steps.{Made};
 ghost use Rattle.edit_put.specs.Steps.{kept_by, added};
-ghost use Rattle.edit_stripe.specs.Steps.{powers_of, laid_rows, changed_stripe};
+ghost use Rattle.edit_stripe.specs.Steps.{laid_rows, changed_stripe};
 
 use sizes::Sizes;
-
-// The powers 0 to 31 of 32 points, a row for each.
-fn fill_rows(points: &[u8], rows: &mut [u8])
-    requires { (length points.now ≡ 32) × (length rows.old ≡ 1024) }
-    ensures { rows.new ≡ powers_of points.now }
-{
-    let mut power = [1u8; 32];
-    let mut j: usize = 0;
-    while j < 32 {
-        let at = j * 32;
-        let end = at + 32;
-        row_dots::copy(&power, &mut rows[at..end]);
-        row_products::scale_by(points, &mut power);
-        j += 1;
-    }
-}
-
-// Adds c times a row: nothing, for 00.
-fn add_times(c: u8, row: &[u8], acc: &mut [u8])
-    ensures { acc.new ≡ add_scaled c row.now acc.old }
-{
-    if c == 0 {
-        return;
-    }
-    gf256_rows::add_scaled(c, row, acc);
-}
 
 // The sum of each row of 32 bytes times its value.
 fn sums(values: &[u8], rows: &[u8], out: &mut [u8])
@@ -54,7 +30,7 @@ fn sums(values: &[u8], rows: &[u8], out: &mut [u8])
     while t < m {
         let at = t * 32;
         let end = at + 32;
-        add_times(values[t], &rows[at..end], out);
+        edit_powers::add_times(values[t], &rows[at..end], out);
         t += 1;
     }
 }
@@ -79,45 +55,8 @@ fn values(points: &[u8], count: usize, rows: &[u8], out: &mut [u8])
     ensures { out.new ≡ join count (λ t. evals (piece 32 t rows.now) points.now) ++ drop (count * 32) out.old }
 {
     let mut powers = [0u8; 1024];
-    fill_rows(points, &mut powers);
+    edit_powers::fill_rows(points, &mut powers);
     values_in(&powers, count, rows, out);
-}
-
-// Row i of the first k of a stripe's grid, and 00 behind: k bytes of a, then m bytes of b.
-fn upper_row(k: usize, m: usize, u: &[u8], i: usize, out: &mut [u8])
-    requires { (i < k) × (k + m ≤ 32) × (k * k + k * m ≤ length u.now) × (length out.old ≡ 32) }
-    ensures { out.new ≡ fit 32 (piece k i u.now ++ piece m i (drop (k * k) u.now)) }
-{
-    let from = i * k;
-    let to = from + k;
-    let more = k * k + i * m;
-    let end = more + m;
-    row_dots::copy(&u[from..to], &mut out[0..k]);
-    kept_rows::padded(&u[more..end], &mut out[k..32]);
-}
-
-// Row i of those behind them, which stand from `low` on, and 00 behind: k bytes of c.
-fn lower_row(k: usize, m: usize, low: usize, u: &[u8], i: usize, out: &mut [u8])
-    requires { (i < m) × (m ≤ 32) × (k ≤ 32) × (low ≤ 1024) × (low + m * k ≤ length u.now) × (length out.old ≡ 32) }
-    ensures { out.new ≡ fit 32 (piece k i (drop low u.now)) }
-{
-    let from = low + i * k;
-    let to = from + k;
-    kept_rows::padded(&u[from..to], out);
-}
-
-// Row i of a stripe's grid, and 00 behind.
-fn lay_row(sizes: Sizes, u: &[u8], i: usize, out: &mut [u8])
-    requires { (legal sizes ≡ true) × (i < sizes.d) × (length u.now ≡ B sizes) × (length out.old ≡ 32) }
-    ensures { out.new ≡ fit 32 (get_or (grid sizes u.now) i []) }
-{
-    let k = sizes.k;
-    let m = sizes.d + sizes.r - k;
-    if i < k {
-        upper_row(k, m, u, i, out);
-        return;
-    }
-    lower_row(k, sizes.d - k, k * k + k * m, u, i - k, out);
 }
 
 // The rows of a stripe's grid, to the beginning of out.
@@ -130,7 +69,7 @@ fn lay_rows(sizes: Sizes, u: &[u8], out: &mut [u8])
     while i < d {
         let at = i * 32;
         let end = at + 32;
-        lay_row(sizes, u, i, &mut out[at..end]);
+        edit_grid::lay_row(sizes, u, i, &mut out[at..end]);
         i += 1;
     }
 }

@@ -1,6 +1,9 @@
 // The stripes of a file that an edit reaches, one after another. Boards that are read are changed too: a stripe is decoded before the first board
 // of that stripe is.
 // Assumes nothing.
+
+#![tactic(auto)]
+
 ghost use Rattle.std.specs.Prelude.{◌≡◌, true, ◌+◌, ◌-◌, ◌*◌, ◌/◌, ◌<◌, ◌≤◌, length};
 ghost use Rattle.lists.specs.Tests.{below, different};
 ghost use Rattle.sizes.specs.Sizing.{α, B, stripes};
@@ -95,7 +98,7 @@ pub fn edit_reached(
     let b = sizes.stripe_len();
     let end = offset + bytes.len();
     let first = offset / b;
-    let stop = checks::stripe_count(sizes, end);
+    let stop = board_lines::stripe_count(sizes, end);
     if first < stop {
         edit_stripes(
             sizes, points, boards, starts, tables, part, first, stop, offset, bytes, on, area,

@@ -1,6 +1,9 @@
 // The values of a stripe's polynomial at all points: its rows, then its columns, each a sum of rows of powers. The bytes of the stripe
 // are read where they lie.
 // Assumes nothing.
+
+#![tactic(auto)]
+
 ghost use Rattle.std.specs.Prelude.{◌≡◌, List, ◌++◌, true, ℕ, ◌+◌, ◌-◌, ◌*◌, ◌<◌, ◌≤◌, length, get_or, drop};
 ghost use Rattle.lists.specs.Lists.{tabulate, join, piece};
 ghost use Rattle.sizes.specs.Sizing.{legal, B};

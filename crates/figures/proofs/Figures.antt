@@ -1,6 +1,6 @@
 -- The figures marked M, and those with k = 2: M4 is a law of the field, antt computes the others.
 -- Assumes nothing.
-use mathlib.Core.Path.{◌≡◌, refl}
+use mathlib.Core.Path.{refl}
 use Rattle.lists.specs.Lists.{piece, put}
 use Rattle.gf256.specs.Field.{add, product, reduce, mul, squares, inverse}
 use Rattle.gf256.proofs.Field.{zero-mul}

@@ -1,10 +1,8 @@
 -- Document 01, 'Figures to meet': those marked M, in one table over the definitions. "Marked M are proved": proofs/Figures.antt has `figures`.
 -- Assumes nothing.
-use Rattle.std.specs.Prelude.{◌≡◌, List, [], ◌∷◌, ◌++◌, ℕ, replicate}
+use Rattle.std.specs.Prelude.{◌≡◌, [], ◌∷◌, ℕ, replicate}
 use Rattle.gf256.specs.Field.{mul}
-use Rattle.sizes.specs.declared.Answer.TheVariants.{Done}
 use Rattle.sizes.specs.Sizing.{α, B}
-use Rattle.sizes.specs.Refusals.{said}
 use Rattle.mbcr.specs.Share.{standard, share}
 use Rattle.store_spec.specs.Record.{new_record}
 use Rattle.store_spec.specs.Packets.{sent_to, contents, total, repair_packets}

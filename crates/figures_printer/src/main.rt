@@ -1,6 +1,8 @@
 // Prints figures of document 01 as the proved functions work them out: products and an inverse of bytes, and the shares of a stripe of two
 // bytes, 05 and 03, on two boards (n=2, k=d=r=1), whose F is 05 + 03 Y; then that stripe again from board 0's share.
 
+#![tactic(auto)]
+
 // Writes a byte as two hexadecimal digits.
 fn print_byte(b: u8) {
     io::print_hex(1, b as u64, 2);

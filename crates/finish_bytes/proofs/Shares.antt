@@ -1,6 +1,6 @@
 -- A share by rows is that of the definition; parts put together.
 -- Assumes nothing.
-use mathlib.Core.Path.{◌≡◌, refl, sym, ap, ap₂, ◌∙◌}
+use mathlib.Core.Path.{◌≡◌, refl, ap, ap₂, ◌∙◌}
 use mathlib.Core.Bool.{true}
 use mathlib.Core.List.{List, [], ◌∷◌, ◌++◌}
 use Prim.Native.Nat.{ℕ, ◌+◌, ◌*◌, ◌-◌, ◌<◌, ◌≤◌}
@@ -15,14 +15,14 @@ use Rattle.lists.proofs.Boards.{below_all, all-below}
 use Rattle.lists.proofs.Pieces.{join-ext}
 use Rattle.sizes.specs.declared.Sizes.{Sizes}
 use Rattle.sizes.specs.Sizing.{α}
-use Rattle.sizes.proofs.Legal.{Legal, α-parts}
+use Rattle.sizes.proofs.Legal.{Legal}
 use Rattle.mbcr.specs.Share.{DifferentPoints}
-use Rattle.mbcr.specs.Rebuild.{received, exchanged, finished_stripe, finished_share}
+use Rattle.mbcr.specs.Rebuild.{received, exchanged, finished_share}
 use Rattle.mbcr.proofs.Points.{boards-of}
-use Rattle.exchange.proofs.Packets.{length-received, length_exchanged, received-bytes, exchanged-bytes}
+use Rattle.stripe_exchange.proofs.Packets.{length-received, length_exchanged, received-bytes, exchanged-bytes}
 use Rattle.row_values.specs.Steps.{row_sums}
-use Rattle.finish_rows.specs.Steps.{finished_by, board_rows}
-use Rattle.finish_rows.proofs.Finished.{back-next, finished-is, length-finished, rows_g, rows-f}
+use Rattle.stripe_finish.specs.Steps.{finished_by, board_rows}
+use Rattle.stripe_finish.proofs.Finished.{back-next, finished-is, length-finished, rows_g, rows-f}
 use Rattle.finish_bytes.specs.Steps.{stripe_by}
 
 -- the second bytes of the helpers and those of the partners, put in one after another

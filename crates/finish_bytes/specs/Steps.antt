@@ -4,7 +4,7 @@ use Rattle.std.specs.Prelude.{List, ◌++◌, ℕ, ◌*◌, ◌-◌, take, drop}
 use Rattle.sizes.specs.declared.Sizes.{Sizes}
 use Rattle.mbcr.specs.Rebuild.{received, exchanged}
 use Rattle.row_values.specs.Steps.{row_sums}
-use Rattle.finish_rows.specs.Steps.{finished_by}
+use Rattle.stripe_finish.specs.Steps.{finished_by}
 
 -- stripe s of S that board i writes, from the packets of its helpers and its partners: `rows` are those of its helpers, then those of all
 unfoldable pub stripe_by : Sizes → ℕ → ℕ → List ℕ → ℕ → ℕ → List ℕ → List ℕ → List ℕ

@@ -1,5 +1,8 @@
 // What a fresh board hears of a stripe, in two rows.
 // Assumes nothing.
+
+#![tactic(auto)]
+
 ghost use Rattle.std.specs.Prelude.{◌≡◌, ◌++◌, ◌+◌, ◌-◌, ◌*◌, ◌<◌, ◌≤◌, length, take};
 ghost use Rattle.mbcr.specs.Rebuild.{received, exchanged};
 
@@ -19,6 +22,6 @@ pub fn gather(
 {
     let d = sizes.d;
     let last = f.len() - 1;
-    exchange::received(sizes, stripes, 1, s, packets, &mut f[0..d]);
-    exchange::exchanged(sizes, stripes, s, exchanges, &mut f[d..last]);
+    stripe_exchange::received(sizes, stripes, 1, s, packets, &mut f[0..d]);
+    stripe_exchange::exchanged(sizes, stripes, s, exchanges, &mut f[d..last]);
 }

@@ -1,32 +1,29 @@
 -- A file from shares that texts tell: what the call answers, by what was found, where sizes, length, boards and shares are as they should be.
 -- Assumes nothing.
-use mathlib.Core.Path.{◌≡◌, refl, sym, ap, ap₂, ◌∙◌}
+use mathlib.Core.Path.{◌≡◌, refl, ap, ◌∙◌}
 use mathlib.Core.Bool.{Bool, true, false, not}
 use mathlib.Core.List.{List, [], ◌∷◌, ◌++◌}
 use Prim.Native.Nat.{ℕ, ◌+◌, ◌*◌, ◌≤◌, ◌<◌}
-use native.Mathlib.Omega.{arith}
 use lib.Dec.{ltb, eqb}
 use lib.ListN.{length, drop}
 use borrow.Author.Tests.{lt-ltb, le-ltb, eq-eqb}
-use Rattle.lists.specs.Tests.{pick, alls, different, given}
+use Rattle.lists.specs.Tests.{pick, different, given}
 use Rattle.lists.proofs.Pieces.{length-joined, length-tabulate}
 use Rattle.lists.proofs.Tests.{hold-alls}
 use Rattle.sizes.specs.declared.Sizes.{Sizes}
 use Rattle.sizes.specs.declared.Check.{Check}
 use Rattle.sizes.specs.declared.Check.TheVariants.{Pass, Refuse}
-use Rattle.sizes.specs.declared.Refusal.{Refusal}
-use Rattle.sizes.specs.declared.Refusal.TheVariants.{Repeat, Short, Disagree, Size, Long, Count, Node, Area}
+use Rattle.sizes.specs.declared.Refusal.TheVariants.{Repeat, Short, Disagree}
 use Rattle.sizes.specs.declared.Answer.TheVariants.{Done, Refused}
 use Rattle.sizes.specs.Sizing.{legal, α, B, stripes}
-use Rattle.sizes.specs.Refusals.{◌when◌, first, board_order}
 use Rattle.mbcr.specs.Share.{pointed}
 use Rattle.mbcr.specs.Read.{decoded_file, read_file}
 use Rattle.board_spec.specs.Calls.{file_lines}
-use Rattle.checks.specs.Outcomes.{outcome}
-use Rattle.checks.proofs.Facts.{Taken, taken}
+use Rattle.board_lines.specs.Outcomes.{outcome}
+use Rattle.board_lines.proofs.Facts.{Taken, taken}
 use Rattle.decode_stripe.specs.Steps.{Asked}
 use Rattle.board_file.proofs.FileCall.{checked, file-refuses, file-works}
-use Rattle.text_in.specs.Steps.{pair_at, bytes_at}
+use Rattle.text_in.specs.Steps.{bytes_at}
 use Rattle.text_stripes.specs.Steps.{spelled}
 use Rattle.gather_told.specs.Steps.{Ready, file_told}
 

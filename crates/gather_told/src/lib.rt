@@ -1,7 +1,10 @@
 // A file gathered from texts that were told.
 // Assumes nothing.
+
+#![tactic(auto)]
+
 ghost use Rattle.std.specs.Prelude.{◌≡◌};
-ghost use Rattle.checks.specs.Outcomes.{outcome};
+ghost use Rattle.board_lines.specs.Outcomes.{outcome};
 ghost use Rattle.gather_told.specs.Steps.{Ready, file_told};
 
 use sizes::{Answer, Refusal, Sizes};
@@ -19,21 +22,21 @@ pub fn gather_told(
     requires { Ready text.now sizes points.now len boards.now places.now }
     ensures { outcome result out.new ≡ file_told text.now sizes points.now len boards.now places.now out.old }
 {
-    if !board_tests::different(boards) {
+    if !line_tests::different(boards) {
         return Answer::Refused(Refusal::Repeat);
     }
     if out.len() < len {
         return Answer::Refused(Refusal::Short);
     }
-    let stripes = checks::stripe_count(sizes, len);
+    let stripes = board_lines::stripe_count(sizes, len);
     let mut inverses = [0u8; 256];
     inverses::fill_inverses(&mut inverses);
     let mut tables = [0u8; 49152];
     decode_setup::fill(sizes, points, &inverses, boards, &mut tables);
-    if !text_decode::agrees(text, sizes, points, len, stripes, boards, places, &tables) {
+    if !decode_texts::agrees(text, sizes, points, len, stripes, boards, places, &tables) {
         return Answer::Refused(Refusal::Disagree);
     }
-    text_decode::file(
+    decode_texts::write_file(
         text, sizes, points, len, stripes, boards, places, &tables, out,
     );
     Answer::Done(len)

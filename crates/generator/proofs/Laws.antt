@@ -1,9 +1,8 @@
 -- The laws of specs/Laws.antt, and the generator as a loop has it.
 -- Assumes nothing.
-use Rattle.std.proofs.Common.{◌≡◌, ℕ, zero, suc, ◌+◌, ◌*◌, ◌/◌, ◌%◌, ◌<◌, ◌≤◌, List, [], ◌∷◌, ◌++◌, length, get_or, drop, set, sym, refl, ap, ◌∙◌, mod-lt, suc-add, div-add-mod', zero-add, add-one, arith}
-use lib.Seq.{drop-length}
+use Rattle.std.proofs.Common.{◌≡◌, ℕ, zero, suc, ◌+◌, ◌*◌, ◌/◌, ◌<◌, ◌≤◌, List, ◌∷◌, ◌++◌, length, get_or, drop, sym, refl, ap, ◌∙◌, mod-lt, suc-add, div-add-mod', zero-add, arith}
 use Rattle.lists.specs.Lists.{Bytes, tabulate}
-use Rattle.lists.proofs.Pieces.{fill-loop, fill-all, tabulate-at}
+use Rattle.lists.proofs.Pieces.{fill-all, tabulate-at}
 use Rattle.generator.specs.Generator.{step, top_byte, after, emitted}
 use Rattle.generator.specs.Laws.{GeneratorLaws}
 

@@ -1,6 +1,6 @@
 -- What holds of the generator, and its first bytes. proofs/Laws.antt has `generator-laws : GeneratorLaws`.
 -- Assumes nothing.
-use Rattle.std.specs.Prelude.{◌≡◌, ℕ, ◌+◌, ◌*◌, ◌/◌, ◌<◌, List, [], ◌∷◌, ◌++◌, length, slice_index}
+use Rattle.std.specs.Prelude.{◌≡◌, ℕ, ◌+◌, ◌*◌, ◌/◌, ◌<◌, [], ◌∷◌, ◌++◌, length, slice_index}
 use Rattle.lists.specs.Lists.{Bytes}
 use Rattle.generator.specs.Generator.{step, after, emitted}
 

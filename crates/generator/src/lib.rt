@@ -1,4 +1,7 @@
 //! Request A.2: the generator of the trial load, and the file that it draws.
+
+#![tactic(auto)]
+
 ghost use Rattle.std.specs.Prelude.{◌≡◌, ◌*◌, ◌%◌, length};
 ghost use Rattle.generator.specs.Generator.{step, top_byte, after, emitted};
 

@@ -1,7 +1,7 @@
 -- The powers of 02 and the logarithms. "a table of the 255 powers of 02, each the one before times 02, and a table of logarithms" (request A.4
 -- of document 02).
 -- Assumes nothing.
-use Rattle.std.specs.Prelude.{Bool, true, false, List, [], ◌∷◌, ℕ, zero, suc, eqb}
+use Rattle.std.specs.Prelude.{true, false, List, [], ◌∷◌, ℕ, zero, suc, eqb}
 use Rattle.gf256.specs.Field.{mul}
 
 -- x, then each the one before times 02: n of them

@@ -2,6 +2,9 @@
 // the logarithms. `times` is for a row that has one factor: the sum of some of eight multiples of that factor, with no table, and compiled to no
 // branch, so that a row is multiplied many bytes at a time.
 // Assumes nothing.
+
+#![tactic(auto)]
+
 mod tables; // tables.rt: the powers of 02 and the logarithms
 
 ghost use Rattle.std.specs.Prelude.{◌≡◌, ◌*◌, ◌%◌};
@@ -9,7 +12,7 @@ ghost use Rattle.gf256.specs.Field.{add, mul};
 ghost use Rattle.gf256_mul.specs.Steps.{Doubled};
 
 // A factor times 1, z, z^2 .. z^7.
-#[derive(Drop)]
+#[derive(Clone, Copy)]
 pub struct Multiples {
     pub m0: u8,
     pub m1: u8,

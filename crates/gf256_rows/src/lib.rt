@@ -1,5 +1,8 @@
 // The inverse of a byte, and the sum of a row and a multiple of another, by the definitions of the crate gf256.
 // Assumes nothing.
+
+#![tactic(auto)]
+
 ghost use Rattle.std.specs.Prelude.{◌≡◌, ◌<◌, ◌≤◌};
 ghost use Rattle.gf256.specs.Field.{inverse, add_scaled};
 

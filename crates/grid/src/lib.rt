@@ -1,5 +1,8 @@
 // Bytes cleared; and a law of loops that put pieces one behind another.
 // Assumes nothing.
+
+#![tactic(auto)]
+
 ghost use Rattle.std.specs.Prelude.{◌≡◌, length};
 ghost use Rattle.lists.specs.Lists.{tabulate};
 

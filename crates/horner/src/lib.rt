@@ -1,5 +1,8 @@
 // A polynomial whose coefficients are rows, at a point: Horner's rule on whole rows.
 // Assumes nothing.
+
+#![tactic(auto)]
+
 ghost use Rattle.std.specs.Prelude.{◌≡◌, ◌+◌, ◌*◌, ◌≤◌, length, get_or};
 ghost use Rattle.lists.specs.Lists.{tabulate};
 ghost use Rattle.polynomial.specs.Polynomial.{plus, scale, eval};

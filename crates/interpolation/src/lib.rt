@@ -1,5 +1,8 @@
 // Polynomials over the field of 256 elements: values by Horner, interpolation by Newton, in place, by the definitions of the crate polynomial.
 // Assumes nothing.
+
+#![tactic(auto)]
+
 ghost use Rattle.std.specs.Prelude.{◌≡◌, length};
 ghost use Rattle.lists.specs.Lists.{tabulate};
 ghost use Rattle.gf256.specs.Field.{mul, inverse};

@@ -1,5 +1,8 @@
 // The inverse of each byte, by walking the powers of 02 and those of its inverse 8E: with no product.
 // Assumes nothing.
+
+#![tactic(auto)]
+
 ghost use Rattle.std.specs.Prelude.{◌≡◌, length};
 ghost use Rattle.lists.specs.Lists.{tabulate};
 ghost use Rattle.gf256.specs.Field.{inverse};

@@ -1,5 +1,8 @@
 // The bytes that a board keeps of a stripe, taken out of rows of values in the order of its neighbours.
 // Assumes nothing.
+
+#![tactic(auto)]
+
 ghost use Rattle.std.specs.Prelude.{◌≡◌, true, ◌+◌, ◌*◌, ◌%◌, ◌<◌, ◌≤◌, length, get_or};
 ghost use Rattle.sizes.specs.Sizing.{legal, α};
 ghost use Rattle.kept_bytes.specs.Steps.{around, kept_of};

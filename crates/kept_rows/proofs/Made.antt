@@ -6,8 +6,8 @@ use mathlib.Core.List.{List, [], ◌∷◌, ◌++◌, append-nil}
 use Prim.Native.Nat.{ℕ, zero, suc, ◌+◌, ◌*◌, ◌-◌, ◌<◌, ◌≤◌}
 use native.Mathlib.Nat.{sub-zero}
 use native.Mathlib.Omega.{arith}
-use lib.ListN.{length, get_or, take, drop, set, length-append, length-take, length-drop, length-set, drop_of_length-le}
-use lib.Seq.{take_all, take-suc, take-suc-set, drop-drop, get_or-take, get_or-drop, length-take-le}
+use lib.ListN.{length, get_or, take, drop, set, length-drop, length-set, drop_of_length-le}
+use lib.Seq.{take_all, take-suc, take-suc-set, get_or-take, get_or-drop, length-take-le}
 use borrow.Rule.Slice.PartMut.{put_mid}
 use Rattle.lists.specs.Lists.{tabulate, fit}
 use Rattle.lists.specs.Tests.{below}
@@ -16,9 +16,8 @@ use Rattle.lists.proofs.Boards.{below_all}
 use Rattle.lists.proofs.Pieces.{length-tabulate}
 use Rattle.gf256.specs.Field.{mul}
 use Rattle.polynomial.specs.Polynomial.{sum}
-use Rattle.decode_laws.specs.Steps.{f_row, g_row, value_by}
+use Rattle.decode_laws.specs.Steps.{f_row, g_row}
 use Rattle.decode_laws.proofs.Sums.{sum_below}
-use Rattle.decode_laws.proofs.Loops.{put_next}
 
 fit-over : (m : ℕ) (a : List ℕ) → length a ≤ m → a ++ drop (length a) (tabulate m (λ _. 0)) ≡ fit m a
 fit-over m [] h = none m

@@ -1,5 +1,8 @@
 // What one board keeps of a stripe, as two rows, and a value of its polynomials at another board.
 // Assumes nothing.
+
+#![tactic(auto)]
+
 ghost use Rattle.std.specs.Prelude.{◌≡◌, ◌+◌, ◌-◌, ◌*◌, ◌<◌, ◌≤◌, length};
 ghost use Rattle.lists.specs.Lists.{fit};
 ghost use Rattle.decode_laws.specs.Steps.{offset, value_by, f_row, g_row};

@@ -3,22 +3,22 @@
 use mathlib.Core.Path.{◌≡◌, refl, sym, ap, ap₂, ◌∙◌}
 use mathlib.Core.Logic.{◌≢◌}
 use mathlib.Core.Bool.{Bool, true, false}
-use mathlib.Core.List.{List, [], ◌∷◌, ◌++◌, map}
-use Prim.Native.Nat.{ℕ, zero, suc, ◌+◌, ◌-◌, ◌<◌, ◌≤◌}
+use mathlib.Core.List.{List, [], ◌∷◌}
+use Prim.Native.Nat.{ℕ, zero, suc, ◌+◌, ◌-◌, ◌<◌}
 use native.Mathlib.Decide.{dec_lt}
 use native.Mathlib.Omega.{arith}
 use lib.Dec.{eqb}
 use borrow.Author.Tests.{eq-eqb, ne_eqb}
 use lib.ListN.{length, get_or, take, drop, length-append, length-drop, length-map, get_or-append}
 use lib.Seq.{ext_get_or, length-take-le, get_or-take, get_or-drop, get_or-append-add}
-use Rattle.lists.specs.Tests.{different, pick}
-use Rattle.lists.specs.Lists.{All, Bytes, tabulate}
+use Rattle.lists.specs.Tests.{pick}
+use Rattle.lists.specs.Lists.{All, Bytes}
 use Rattle.lists.proofs.Alls.{Distinct, distinct-at, all_of, byte_at, take-alls, drop-alls, append-all}
 use Rattle.lists.proofs.Boards.{distinct}
 use Rattle.lists.proofs.Pieces.{length-tabulate, tabulate-at, tabulate-all, map_at}
 use Rattle.gf256.specs.Field.{add, mul, inverse}
-use Rattle.gf256.proofs.Field.{mul_comm, mul_assoc, mul-zero, zero-mul, one-mul, mul-one, mul-lt}
-use Rattle.gf256.proofs.Inverses.{mul-inverse, inverse-lt}
+use Rattle.gf256.proofs.Field.{mul_comm, mul-zero, zero-mul, one-mul, mul-one, mul-lt}
+use Rattle.gf256.proofs.Inverses.{mul-inverse}
 use Rattle.gf256.proofs.Ring.{ring}
 use Rattle.gf256.proofs.Sums.{add-self, add_zero_l, add_zero_r}
 use Rattle.polynomial.specs.Polynomial.{eval, evals, interpolate, step, plus, scale, sum}

@@ -1,16 +1,14 @@
 -- Products of differences, from both sides of a point; turns of the loops that make the rows.
 -- Assumes nothing.
 use mathlib.Core.Path.{◌≡◌, refl, sym, ap, ap₂, ◌∙◌}
-use mathlib.Core.Bool.{true}
 use mathlib.Core.List.{List, [], ◌∷◌, ◌++◌, append-nil}
-use Prim.Native.Nat.{ℕ, zero, suc, ◌+◌, ◌*◌, ◌-◌, ◌<◌, ◌≤◌}
+use Prim.Native.Nat.{ℕ, suc, ◌+◌, ◌*◌, ◌-◌, ◌<◌, ◌≤◌}
 use native.Mathlib.Nat.{suc-mul}
 use native.Mathlib.Numerals.{add-one}
 use native.Mathlib.Omega.{arith}
 use lib.ListN.{length, get_or, take, drop, length-drop, drop_of_length-le}
-use lib.Seq.{take-suc, take_all, drop-cons, take-append-le, drop-append-le, length-take-le, take-take}
+use lib.Seq.{take-suc, take_all, drop-cons, take-append-le, drop-append-le, length-take-le}
 use borrow.Rule.Slice.PartMut.{put_mid}
-use Rattle.lists.specs.Tests.{below}
 use Rattle.lists.specs.Lists.{tabulate, concat, join, piece}
 use Rattle.lists.proofs.Put.{within}
 use Rattle.lists.proofs.Pieces.{length-tabulate, tabulate-at, tabulate-ext, map_at, length-join, piece-join, piece-at, part-piece}

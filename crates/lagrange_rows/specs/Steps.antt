@@ -1,6 +1,6 @@
 -- Rows of 32 bytes, a byte for the point of each board.
 -- Assumes nothing.
-use Rattle.std.specs.Prelude.{List, ℕ, length, get_or, take}
+use Rattle.std.specs.Prelude.{List, ℕ, length, take}
 use Rattle.lists.specs.Lists.{tabulate, join}
 use Rattle.mbcr.specs.Share.{point, points}
 use Rattle.lagrange.specs.Steps.{differences, weight}

@@ -1,5 +1,8 @@
 // Lagrange's factors as rows: what the value at the point of each of some boards adds at the point of every board.
 // Assumes nothing.
+
+#![tactic(auto)]
+
 ghost use Rattle.std.specs.Prelude.{◌≡◌, true, ◌*◌, ◌<◌, ◌≤◌, length, get_or, take};
 ghost use Rattle.lists.specs.Tests.{below};
 ghost use Rattle.lists.specs.Lists.{tabulate, join};

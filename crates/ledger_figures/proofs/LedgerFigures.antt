@@ -3,7 +3,7 @@
 use mathlib.Core.Path.{◌≡◌, refl}
 use mathlib.Core.List.{[], ◌∷◌}
 use mathlib.Core.Option.{some, none}
-use Rattle.store_spec.specs.Demand3.{events}
+use Rattle.ledger_spec.specs.Demand3.{events}
 use Rattle.store_spec.specs.FurtherFigures.{five, five_file}
 use Rattle.lists.specs.Lists.{piece, put}
 use Rattle.gf256.specs.Field.{add, product, reduce, mul, squares, inverse}
@@ -14,10 +14,11 @@ use Rattle.mbcr.specs.Read.{through, b_column, c_row, a_column, decoded_stripe, 
 use Rattle.store_spec.specs.Record.{sound}
 use Rattle.store_spec.specs.Packets.{helper_packets, stand_in_packets, exchange_packets, partner_packets, repair_packets, fresh_share}
 use Rattle.store_spec.specs.Calls.{write_lines, lose_lines, list_lines, repair_lines, read_lines, set_up_call, write_call, lose_call, repair_call, read_call}
-use Rattle.store_spec.specs.Running.{sound_beside}
-use Rattle.store_spec.specs.Both.{write_lines_both, lose_lines_both, repair_lines_both, read_lines_both, set_up_both, write_both, lose_both, repair_both, read_both}
-use Rattle.store_spec.specs.Ledger.{Allowed, replies, book_replies, book_final, repair_asked, book_lines, accept, enter, act}
-use Rattle.store_spec.proofs.Tested.{allow}
+use Rattle.beside_spec.specs.Running.{sound_beside}
+use Rattle.beside_spec.specs.Both.{write_lines_both, lose_lines_both, repair_lines_both, read_lines_both, set_up_both, write_both, lose_both, repair_both, read_both}
+use Rattle.ledger_spec.specs.Ledger.{Allowed, replies, book_replies, book_final, repair_asked, book_lines, accept, enter}
+use Rattle.beside_spec.specs.Acting.{act}
+use Rattle.ledger_spec.proofs.Tested.{allow}
 use Rattle.ledger_figures.specs.LedgerFigures.{start, opened, steps, told, LedgerFigures}
 use Rattle.ledger_figures.specs.RepairFigures.{RepairFigures}
 

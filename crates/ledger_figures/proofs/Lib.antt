@@ -1,3 +1,4 @@
 pub mod LedgerFigures
 pub mod StepFigures
 pub mod MixFigures
+pub mod LaterFigures

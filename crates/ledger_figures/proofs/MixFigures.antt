@@ -1,8 +1,8 @@
 -- Figures of careful reads and moves beside a stepped repair: antt computes them.
 -- Assumes nothing.
 use mathlib.Core.Path.{◌≡◌, refl}
-use Rattle.store_spec.specs.Demand3.{events}
-use Rattle.store_spec.specs.Premises.{unaltered}
+use Rattle.ledger_spec.specs.Demand3.{events}
+use Rattle.ledger_spec.specs.Premises.{unaltered}
 use Rattle.lists.specs.Lists.{piece, put}
 use Rattle.gf256.specs.Field.{add, product, reduce, mul, squares, inverse}
 use Rattle.sizes.specs.Sizing.{legal, B, stripes}
@@ -16,11 +16,12 @@ use Rattle.store_spec.specs.Edit.{edit_lines}
 use Rattle.store_spec.specs.Careful.{careful_file, careful_lines}
 use Rattle.store_spec.specs.Move.{afresh, afresh_area, move_packets, moved_share, move_lines}
 use Rattle.mbcr.specs.Afresh.{kept_afresh, share_afresh}
-use Rattle.store_spec.specs.Running.{sound_beside}
-use Rattle.store_spec.specs.Lying.{helpers_lying, exchanges_made, partners_lying, share_lying, packets_now}
-use Rattle.store_spec.specs.Both.{write_lines_both, lose_lines_both, repair_lines_both, read_lines_both, edit_lines_both, careful_lines_both, move_lines_both, step_lines}
-use Rattle.store_spec.specs.Both.{set_up_both, write_both, lose_both, repair_both, read_both, edit_both, careful_both, move_both, start_call, step_call}
-use Rattle.store_spec.specs.Ledger.{repair_asked, book_lines, accept, enter, act, replies, book_replies}
+use Rattle.beside_spec.specs.Running.{sound_beside}
+use Rattle.beside_spec.specs.Lying.{helpers_lying, exchanges_made, partners_lying, share_lying, packets_now}
+use Rattle.beside_spec.specs.Both.{write_lines_both, lose_lines_both, repair_lines_both, read_lines_both, edit_lines_both, careful_lines_both, move_lines_both, step_lines}
+use Rattle.beside_spec.specs.Both.{set_up_both, write_both, lose_both, repair_both, read_both, edit_both, careful_both, move_both, start_call, step_call}
+use Rattle.ledger_spec.specs.Ledger.{repair_asked, book_lines, accept, enter, replies, book_replies}
+use Rattle.beside_spec.specs.Acting.{act}
 use Rattle.ledger_figures.specs.MixFigures.{newly, opened, happened, told, MixFigures}
 
 store-replies : replies newly (unaltered newly opened happened) ≡ told

@@ -3,8 +3,8 @@
 use mathlib.Core.Path.{◌≡◌, refl}
 use mathlib.Core.List.{[], ◌∷◌, ◌++◌}
 use lib.ListN.{replicate}
-use Rattle.store_spec.specs.Demand3.{events}
-use Rattle.store_spec.specs.Premises.{unaltered}
+use Rattle.ledger_spec.specs.Demand3.{events}
+use Rattle.ledger_spec.specs.Premises.{unaltered}
 use Rattle.lists.specs.Lists.{piece, put}
 use Rattle.gf256.specs.Field.{add, product, reduce, mul, squares, inverse}
 use Rattle.sizes.specs.Sizing.{legal, B, stripes}
@@ -15,12 +15,13 @@ use Rattle.store_spec.specs.Record.{sound}
 use Rattle.store_spec.specs.Packets.{helper_packets, stand_in_packets, exchange_packets, partner_packets, repair_packets, fresh_share}
 use Rattle.store_spec.specs.Calls.{write_lines, lose_lines, list_lines, repair_lines, read_lines}
 use Rattle.store_spec.specs.Edit.{edit_lines}
-use Rattle.store_spec.specs.Running.{sound_beside, running_by}
+use Rattle.beside_spec.specs.Running.{sound_beside, running_by}
 use Rattle.store_spec.specs.FurtherFigures.{helpers, spoiled}
-use Rattle.store_spec.specs.Lying.{helpers_lying, exchanges_made, partners_lying, share_lying, packets_now}
-use Rattle.store_spec.specs.Both.{write_lines_both, lose_lines_both, repair_lines_both, read_lines_both, edit_lines_both, step_lines, set_up_both, write_both, lose_both, repair_both, read_both, edit_both, start_call}
-use Rattle.store_spec.specs.Both.{step_call}
-use Rattle.store_spec.specs.Ledger.{repair_asked, book_lines, accept, enter, act, replies, book_replies}
+use Rattle.beside_spec.specs.Lying.{helpers_lying, exchanges_made, partners_lying, share_lying, packets_now}
+use Rattle.beside_spec.specs.Both.{write_lines_both, lose_lines_both, repair_lines_both, read_lines_both, edit_lines_both, step_lines, set_up_both, write_both, lose_both, repair_both, read_both, edit_both, start_call}
+use Rattle.beside_spec.specs.Both.{step_call}
+use Rattle.ledger_spec.specs.Ledger.{repair_asked, book_lines, accept, enter, replies, book_replies}
+use Rattle.beside_spec.specs.Acting.{act}
 use Rattle.ledger_figures.specs.StepFigures.{newly, opened, happened, told, lying, lost, altered, StepFigures}
 
 store-replies : replies newly (unaltered newly opened happened) ≡ told

@@ -5,9 +5,10 @@ use Rattle.std.specs.Prelude.{◌≡◌, List, [], ◌∷◌, ◌++◌, ℕ, rep
 use Rattle.std.proofs.Math.Option.{some, none}
 use Rattle.mbcr.specs.Share.{standard}
 use Rattle.store_spec.specs.Record.{new_record}
-use Rattle.store_spec.specs.Running.{idle}
-use Rattle.store_spec.specs.Ledger.{Call, call, write, lose, repair, read, Reply, Book, State, Step, Allowed, open_book, replies, book_replies, book_final}
-use Rattle.store_spec.specs.Demand3.{begun, events}
+use Rattle.beside_spec.specs.Running.{idle}
+use Rattle.beside_spec.specs.Acting.{Call, write, lose, repair, read, State}
+use Rattle.ledger_spec.specs.Ledger.{call, Reply, Book, Step, Allowed, open_book, replies, book_replies, book_final}
+use Rattle.ledger_spec.specs.Demand3.{begun, events}
 use Rattle.store_spec.specs.FurtherFigures.{five, five_file, helpers}
 
 -- what is replied: the refusal's number or 0, the number reported, all bytes of the output

@@ -5,10 +5,11 @@ use Rattle.std.specs.Prelude.{◌≡◌, List, [], ◌∷◌, ℕ, replicate}
 use Rattle.mbcr.specs.PointLaws.{first_series}
 use Rattle.sizes.specs.declared.Sizes.{Sizes}
 use Rattle.store_spec.specs.Record.{new_record}
-use Rattle.store_spec.specs.Running.{idle}
-use Rattle.store_spec.specs.Ledger.{Call, write, lose, read, edit, start, step, careful, move, Event, call, power_fails, Reply, Book, State, open_book, replies, book_replies}
-use Rattle.store_spec.specs.Demand3.{begun, events}
-use Rattle.store_spec.specs.Premises.{unaltered}
+use Rattle.beside_spec.specs.Running.{idle}
+use Rattle.beside_spec.specs.Acting.{Call, write, lose, read, edit, start, step, careful, move, State}
+use Rattle.ledger_spec.specs.Ledger.{Event, call, power_fails, Reply, Book, open_book, replies, book_replies}
+use Rattle.ledger_spec.specs.Demand3.{begun, events}
+use Rattle.ledger_spec.specs.Premises.{unaltered}
 
 abbrev reply : ℕ → ℕ → List ℕ → Reply
 reply refusal value output = record { answer = record { refusal = refusal; reported = value }; output = output }

@@ -5,11 +5,12 @@ use Rattle.std.specs.Prelude.{◌≡◌, List, [], ◌∷◌, ◌++◌, ℕ, rep
 use Rattle.mbcr.specs.Share.{standard}
 use Rattle.store_spec.specs.Record.{Record, new_record}
 use Rattle.sizes.specs.declared.Sizes.{Sizes}
-use Rattle.store_spec.specs.Running.{idle, running_by}
-use Rattle.store_spec.specs.Both.{step_call}
-use Rattle.store_spec.specs.Ledger.{Call, write, lose, read, edit, start, step, Event, call, power_fails, Reply, Book, State, open_book, replies, book_replies}
-use Rattle.store_spec.specs.Demand3.{begun, events}
-use Rattle.store_spec.specs.Premises.{unaltered}
+use Rattle.beside_spec.specs.Running.{idle, running_by}
+use Rattle.beside_spec.specs.Both.{step_call}
+use Rattle.beside_spec.specs.Acting.{Call, write, lose, read, edit, start, step, State}
+use Rattle.ledger_spec.specs.Ledger.{Event, call, power_fails, Reply, Book, open_book, replies, book_replies}
+use Rattle.ledger_spec.specs.Demand3.{begun, events}
+use Rattle.ledger_spec.specs.Premises.{unaltered}
 use Rattle.store_spec.specs.FurtherFigures.{five, helpers, spoiled}
 
 abbrev reply : ℕ → ℕ → List ℕ → Reply

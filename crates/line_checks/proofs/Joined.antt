@@ -6,10 +6,10 @@ use mathlib.Core.Bool.{Bool, true, false, not}
 use mathlib.Core.Logic.{◌≢◌}
 use mathlib.Core.List.{List, [], ◌∷◌, ◌++◌}
 use Rattle.lists.specs.Lists.{All}
-use Rattle.lists.specs.Tests.{pick, below, among, different, apart}
+use Rattle.lists.specs.Tests.{below, among, different, apart}
 use Rattle.lists.proofs.Tests.{true-false, is_false, all-every, every-all}
 use Rattle.lists.proofs.Alls.{Distinct, all-imp, all_left, all_right, append-all, distinct-left}
-use Rattle.lists.proofs.Boards.{below_all, all-below, among-not, not-among, among-append-none, distinct, distinct-different, distinct_append}
+use Rattle.lists.proofs.Boards.{below_all, all-below, among-not, not-among, distinct, distinct-different, distinct_append}
 
 distinct-right : (xs ys : List ℕ) → Distinct (xs ++ ys) → Distinct ys
 distinct-right [] ys h = h

@@ -1,5 +1,8 @@
 // Checks of a line that wrong programs are tried on: points, one board, repeats, room.
 // Assumes nothing.
+
+#![tactic(auto)]
+
 ghost use Rattle.std.specs.Prelude.{◌≡◌, [], ◌∷◌, ◌++◌, ◌+◌, true};
 ghost use Rattle.lists.specs.Tests.{different};
 ghost use Rattle.sizes.specs.Sizing.{legal};
@@ -18,8 +21,8 @@ pub fn points_taken(sizes: Sizes, points: &[u8]) -> bool
         return false;
     }
     let n = sizes.n;
-    if board_tests::points_differ(&points[0..n]) {
-        return board_tests::zero_from(points, n);
+    if line_tests::points_differ(&points[0..n]) {
+        return line_tests::zero_from(points, n);
     }
     false
 }
@@ -39,7 +42,7 @@ pub fn check_node(sizes: Sizes, node: usize) -> Check
 pub fn check_repeat(boards: &[usize]) -> Check
     ensures { result ≡ asked (repeat_line boards.now) }
 {
-    if board_tests::different(boards) {
+    if line_tests::different(boards) {
         Check::Pass
     } else {
         Check::Refuse(Refusal::Repeat)
@@ -53,10 +56,10 @@ pub fn check_repeat_with(one: usize, other: usize, boards: &[usize]) -> Check
     if other == one {
         return Check::Refuse(Refusal::Repeat);
     }
-    if board_tests::among_from(boards, 0, one) {
+    if line_tests::among_from(boards, 0, one) {
         return Check::Refuse(Refusal::Repeat);
     }
-    if board_tests::among_from(boards, 0, other) {
+    if line_tests::among_from(boards, 0, other) {
         return Check::Refuse(Refusal::Repeat);
     }
     check_repeat(boards)
@@ -66,13 +69,13 @@ pub fn check_repeat_with(one: usize, other: usize, boards: &[usize]) -> Check
 pub fn check_repeat_joined(boards: &[usize], others: &[usize], last: usize) -> Check
     ensures { result ≡ asked (repeat_line (boards.now ++ others.now ++ (last ∷ []))) }
 {
-    if board_tests::different(boards) {
-        if board_tests::different(others) {
-            if board_tests::apart(others, boards) {
-                if board_tests::among_from(boards, 0, last) {
+    if line_tests::different(boards) {
+        if line_tests::different(others) {
+            if line_tests::apart(others, boards) {
+                if line_tests::among_from(boards, 0, last) {
                     return Check::Refuse(Refusal::Repeat);
                 }
-                if board_tests::among_from(others, 0, last) {
+                if line_tests::among_from(others, 0, last) {
                     return Check::Refuse(Refusal::Repeat);
                 }
                 return Check::Pass;

@@ -1,5 +1,8 @@
 //! A line of a number at a place of a lent slice, of any name. It is told whether the line stands there, and the place behind it; a line that does not
 //! stand there leaves the place behind the whole text, where no line stands.
+
+#![tactic(auto)]
+
 ghost use Rattle.std.specs.Prelude.{◌≡◌};
 ghost use Rattle.line_places.specs.Steps.{line_at};
 

@@ -7,10 +7,10 @@ use mathlib.Core.List.{List, [], ◌∷◌, ◌++◌}
 use native.Mathlib.Nat.{suc-mul, mul-le-mul}
 use native.Mathlib.Numerals.{add-one}
 use native.Mathlib.Omega.{arith}
-use lib.Dec.{leb, eqb}
-use lib.ListN.{length, get_or, take, drop}
+use lib.Dec.{eqb}
+use lib.ListN.{length, take, drop}
 use lib.Seq.{drop-cons, drop-drop}
-use borrow.Author.Tests.{leb-true, le-leb, eqb-true, eq-eqb}
+use borrow.Author.Tests.{leb-true, le-leb, eqb-true}
 use Rattle.lists.specs.Lists.{All}
 use Rattle.lists.specs.Tests.{pick, every, alls, among, different, apart}
 use Rattle.lists.proofs.Alls.{Distinct, all-imp, all_right, distinct-left}
@@ -23,7 +23,7 @@ use Rattle.sizes.specs.Refusals.{◌when◌}
 use Rattle.sizes.specs.Sizing.{legal}
 use Rattle.sizes.proofs.Legal.{legal-facts}
 use Rattle.store_spec.specs.Packets.{hear_named}
-use Rattle.store_spec.proofs.Agree.{every_append}
+use Rattle.store_spec.proofs.Asked.{every_append}
 use Rattle.line_checks.specs.Steps.{asked}
 use Rattle.line_checks.proofs.Answers.{passed}
 use Rattle.list_tests.specs.Steps.{count_tests}

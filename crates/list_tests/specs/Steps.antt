@@ -5,7 +5,7 @@ use Rattle.lists.specs.Tests.{every, different, apart}
 use Rattle.sizes.specs.declared.Sizes.{Sizes}
 use Rattle.store_spec.specs.Record.{Record}
 use Rattle.store_spec.specs.Packets.{hear_named}
-use Rattle.store_checks.specs.Steps.{record_of}
+use Rattle.store_lines.specs.Steps.{record_of}
 
 -- a run of d helpers and one of e stand-ins for each fresh board, and few in all
 pub record Runs (d e : ℕ) (fresh helpers stand_ins : List ℕ) : Type 0 where

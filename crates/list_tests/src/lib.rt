@@ -1,5 +1,8 @@
 // How many boards a repair names, and whether two lists are apart.
 // Assumes nothing.
+
+#![tactic(auto)]
+
 ghost use Rattle.std.specs.Prelude.{◌≡◌, true, false, not, ◌++◌, ◌-◌, ◌*◌};
 ghost use Rattle.lists.specs.Tests.{alls, different, apart};
 ghost use Rattle.sizes.specs.declared.Refusal.TheVariants.{Count};
@@ -22,16 +25,16 @@ pub fn check_named_counts(sizes: Sizes, fresh: usize, helpers: usize, standins: 
         return Check::Refuse(Refusal::Count);
     }
     let each = sizes.r - fresh;
-    checks::check_counts(helpers, fresh * sizes.d, standins, fresh * each)
+    board_lines::check_counts(helpers, fresh * sizes.d, standins, fresh * each)
 }
 
 // Whether no board stands twice in two lists.
 pub fn both_differ(boards: &[usize], others: &[usize]) -> bool
     ensures { result ≡ different (boards.now ++ others.now) }
 {
-    if board_tests::different(boards) {
-        if board_tests::different(others) {
-            return board_tests::apart(others, boards);
+    if line_tests::different(boards) {
+        if line_tests::different(others) {
+            return line_tests::apart(others, boards);
         }
     }
     false

@@ -1,19 +1,18 @@
 -- Laws of lists of board numbers: who is among them, that they differ, a list without one number.
 -- Assumes nothing.
-use Prim.Native.Nat.{ℕ, zero, suc, ◌+◌, ◌≤◌, ◌<◌}
+use Prim.Native.Nat.{ℕ, suc, ◌<◌}
 use mathlib.Core.Path.{◌≡◌, refl, sym, ◌∙◌, ap, subst}
-use mathlib.Core.Bool.{Bool, true, false, not}
-use mathlib.Core.List.{List, [], ◌∷◌, ◌++◌, map}
+use mathlib.Core.Bool.{Bool, true, false}
+use mathlib.Core.List.{List, [], ◌∷◌, ◌++◌}
 use mathlib.Core.Logic.{◌≢◌, ◌⊎◌, inl, inr}
-use native.Mathlib.Omega.{arith}
 use lib.Dec.{ltb, eqb}
 use lib.ListN.{length, get_or, take, drop}
 use lib.Seq.{take_at, drop_at}
-use borrow.Author.Tests.{ltb-true, lt-ltb, eqb-true, eqb-false, eq-eqb, ne_eqb, not-false, not-true}
-use Rattle.lists.specs.Tests.{pick, every, below, among, different, apart}
+use borrow.Author.Tests.{ltb-true, lt-ltb, eqb-true, eqb-false, eq-eqb, ne_eqb}
+use Rattle.lists.specs.Tests.{pick, below, among, different}
 use Rattle.lists.specs.Lists.{All, joined, without}
-use Rattle.lists.proofs.Tests.{true-false, both, every-all, all-every}
-use Rattle.lists.proofs.Alls.{all-imp, all-at, append-all, Distinct, distinct_of, distinct-at}
+use Rattle.lists.proofs.Tests.{true-false, every-all, all-every}
+use Rattle.lists.proofs.Alls.{all-imp, all-at, append-all, Distinct}
 
 -- ---- below n
 

@@ -1,8 +1,8 @@
 -- The tests mean what specs/Laws.antt says.
 -- Assumes nothing.
 use mathlib.Core.Path.{◌≡◌, refl, sym, ◌∙◌, ap, subst}
-use mathlib.Core.Bool.{Bool, true, false, not}
-use mathlib.Core.Logic.{◌≢◌, ◌↔◌, ◌⊎◌, inl, inr}
+use mathlib.Core.Bool.{true, false, not}
+use mathlib.Core.Logic.{◌≢◌, ◌⊎◌, inl, inr}
 use mathlib.Core.Option.{Option, some, none}
 use mathlib.Core.List.{List, [], ◌∷◌, ◌++◌, append-nil, append_assoc}
 use Prim.Native.Nat.{ℕ, zero, suc, ◌+◌, ◌-◌, ◌*◌, ◌≤◌, ◌<◌, min, max}
@@ -11,8 +11,8 @@ use lib.Dec.{eqb}
 use lib.ListN.{length, get_or, take, drop, length-append, length-take, length-drop, get_or-append, drop_of_length-le}
 use lib.Seq.{get_or-append-add, get_or-take, get_or-drop, drop_at, length-take-le, take_all}
 use borrow.Author.Tests.{not-true, eq-eqb}
-use Rattle.lists.specs.Tests.{pick, every, below, among, different, apart, same, given}
-use Rattle.lists.specs.Lists.{All, concat, join, joined, piece, without, put, over}
+use Rattle.lists.specs.Tests.{pick, among, apart, same, given}
+use Rattle.lists.specs.Lists.{All, concat, joined, piece, without, put, over}
 use Rattle.lists.specs.Laws.{TestsMean}
 use Rattle.lists.proofs.Tests.{true-false, is_false, every-all, all-every, alls-hold, hold-alls, same-eq, same_refl}
 use Rattle.lists.proofs.Alls.{all-at, all_of, distinct_of, distinct-at}

@@ -8,7 +8,7 @@ use native.Mathlib.Numerals.{add-one}
 use native.Mathlib.Omega.{arith}
 use lib.ListN.{length, get_or, take, drop, set, length-append, length-take, length-drop, drop_of_length-le}
 use lib.Seq.{sets-eq, take_at, drop_at, drop-append-add, take-add, drop-drop, drop-nil, get_or-take, get_or-drop, length-take-le}
-use Rattle.lists.specs.Lists.{All, Bytes, tabulate, concat, join, joined, piece, fit}
+use Rattle.lists.specs.Lists.{All, Bytes, tabulate, join, joined, piece, fit}
 use Rattle.lists.proofs.Alls.{append-all, take-alls, drop-alls}
 
 module _ {A : Type 0} where

@@ -1,10 +1,10 @@
 -- One stripe: what k boards keep of it decodes to it; and what any bytes decode to are B bytes.
 -- Assumes nothing.
-use mathlib.Core.Path.{◌≡◌, refl, sym, ap, ap₂, fun_ext, ◌∙◌}
+use mathlib.Core.Path.{◌≡◌, refl, sym, ap, ap₂, ◌∙◌}
 use mathlib.Core.List.{List, [], ◌∷◌, ◌++◌, map}
-use Prim.Native.Nat.{ℕ, zero, suc, ◌+◌, ◌*◌, ◌-◌, ◌<◌, ◌≤◌}
+use Prim.Native.Nat.{ℕ, zero, suc, ◌+◌, ◌-◌, ◌<◌, ◌≤◌}
 use native.Mathlib.Omega.{arith}
-use lib.ListN.{length, get_or, take, drop, replicate, length-append, length-map, length-drop, length-replicate, get_or-replicate}
+use lib.ListN.{length, get_or, take, drop, replicate, length-append, length-map, length-drop}
 use lib.Seq.{get_or-drop}
 use Rattle.lists.specs.Lists.{Bytes, tabulate, join}
 use Rattle.lists.proofs.Alls.{all-at_d, byte_at, append-all, take-alls, drop-alls, zeros-bytes}

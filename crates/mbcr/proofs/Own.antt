@@ -1,10 +1,10 @@
 -- f and g by any bytes that a board keeps: lengths, bytes, and that they have these bytes for values.
 -- Assumes nothing.
-use mathlib.Core.Path.{◌≡◌, refl, sym, ap, ap₂, ◌∙◌}
-use mathlib.Core.List.{List, [], ◌∷◌, ◌++◌, map}
-use Prim.Native.Nat.{ℕ, zero, suc, ◌+◌, ◌-◌, ◌<◌, ◌≤◌}
+use mathlib.Core.Path.{◌≡◌, sym, ap, ap₂, ◌∙◌}
+use mathlib.Core.List.{List, ◌++◌, map}
+use Prim.Native.Nat.{ℕ, ◌+◌, ◌<◌, ◌≤◌}
 use native.Mathlib.Omega.{arith}
-use lib.ListN.{length, get_or, take, drop, length-append, length-drop, take-append-drop}
+use lib.ListN.{length, take, drop, length-append, length-drop, take-append-drop}
 use lib.Seq.{length-take-le, drop_at}
 use Rattle.lists.specs.Lists.{Bytes}
 use Rattle.lists.proofs.Alls.{append-all, take-alls, drop-alls}
@@ -12,8 +12,8 @@ use Rattle.lists.proofs.Pieces.{map-drop}
 use Rattle.sizes.specs.Sizing.{α}
 use Rattle.sizes.specs.declared.Sizes.{Sizes}
 use Rattle.sizes.proofs.Legal.{Legal, α-parts}
-use Rattle.polynomial.specs.Polynomial.{eval, evals, interpolate}
-use Rattle.polynomial.proofs.Poly.{evals-interpolate, interpolate-bytes, length-interpolate}
+use Rattle.polynomial.specs.Polynomial.{eval, evals}
+use Rattle.polynomial.proofs.Poly.{evals-interpolate, length-interpolate}
 use Rattle.mbcr.specs.Rebuild.{own_f, own_g}
 use Rattle.mbcr.specs.Share.{DifferentPoints, points, neighbours, symbols, point}
 use Rattle.mbcr.proofs.Points.{Boards, length-neighbours, neighbours-boards, length-points, points-bytes, points-distinct}

@@ -1,11 +1,10 @@
 -- Stripes, shares and packets by place, and that bytes make bytes.
 -- Assumes nothing.
-use mathlib.Core.Path.{◌≡◌, refl, sym, ap, ap₂, ◌∙◌}
+use mathlib.Core.Path.{◌≡◌, refl, sym, ap, ◌∙◌}
 use mathlib.Core.List.{List, [], ◌∷◌, ◌++◌, map}
-use Prim.Native.Nat.{ℕ, zero, suc, ◌+◌, ◌*◌, ◌-◌, ◌%◌, ◌<◌, ◌≤◌}
-use native.Mathlib.Nat.{suc-mul, mul-le-mul_right}
+use Prim.Native.Nat.{ℕ, suc, ◌+◌, ◌*◌, ◌-◌, ◌%◌, ◌<◌, ◌≤◌}
 use native.Mathlib.Omega.{arith}
-use lib.ListN.{length, get_or, take, drop, length-append, length-map, length-drop, get_or-append}
+use lib.ListN.{length, get_or, take, drop, length-map, length-drop, get_or-append}
 use lib.Seq.{get_or-drop, get_or-append-add}
 use Rattle.lists.specs.Lists.{Bytes, piece}
 use Rattle.lists.proofs.Alls.{append-all, take-alls, drop-alls, byte_at}

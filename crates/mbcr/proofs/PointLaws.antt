@@ -1,19 +1,19 @@
 -- What it says that points are taken; and that document 01's are, and those of the first series.
 -- Assumes nothing.
-use mathlib.Core.Path.{◌≡◌, refl, sym, ap, subst, ◌∙◌}
-use mathlib.Core.Bool.{Bool, true, false}
+use mathlib.Core.Path.{◌≡◌, refl, sym, ap, ◌∙◌}
+use mathlib.Core.Bool.{Bool, true}
 use mathlib.Core.Logic.{◌≢◌}
 use mathlib.Core.List.{List, [], ◌∷◌}
 use Prim.Native.Nat.{ℕ, ◌+◌, ◌-◌, ◌≤◌, ◌<◌}
 use native.Mathlib.Decide.{dec_lt}
 use native.Mathlib.Omega.{arith}
 use lib.Dec.{ltb, eqb}
-use lib.ListN.{length, get_or, take, drop, length-drop, get_or-eq_default}
+use lib.ListN.{length, get_or, take, drop, get_or-eq_default}
 use lib.Seq.{length-take-le, get_or-take, get_or-drop}
 use borrow.Author.Tests.{eqb-true, eq-eqb, lt-ltb, le-ltb}
 use Rattle.lists.specs.Tests.{pick, every, below, different}
-use Rattle.lists.specs.Lists.{All, Bytes, tabulate}
-use Rattle.lists.proofs.Alls.{all-at, all-at_d, all_of, byte_at, Distinct, distinct_of, distinct-at}
+use Rattle.lists.specs.Lists.{All, Bytes}
+use Rattle.lists.proofs.Alls.{all-at_d, all_of, byte_at, Distinct, distinct_of, distinct-at}
 use Rattle.lists.proofs.Boards.{below_all, all-below, distinct, distinct-different}
 use Rattle.lists.proofs.Pieces.{length-tabulate, tabulate-at, tabulate-all, map_at}
 use Rattle.lists.proofs.Tests.{alls-hold, hold-alls, every-all, all-every}

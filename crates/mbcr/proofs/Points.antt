@@ -1,20 +1,19 @@
 -- The points of boards that differ are bytes that differ.
 -- Assumes nothing.
-use mathlib.Core.Path.{◌≡◌, refl, sym, ap, ap₂, ◌∙◌}
+use mathlib.Core.Path.{◌≡◌, refl, sym, ap, ◌∙◌}
 use mathlib.Core.Logic.{◌≢◌}
 use mathlib.Core.Bool.{true}
-use mathlib.Core.List.{List, [], ◌∷◌, ◌++◌, map}
-use Prim.Native.Nat.{ℕ, zero, suc, ◌+◌, ◌*◌, ◌-◌, ◌/◌, ◌%◌, ◌<◌, ◌≤◌}
+use mathlib.Core.List.{List, [], ◌∷◌, ◌++◌}
+use Prim.Native.Nat.{ℕ, suc, ◌+◌, ◌-◌, ◌%◌, ◌<◌, ◌≤◌}
 use native.Mathlib.Nat.{mod-lt, mod-eq_of_lt, mod-eq-sub-mod}
 use native.Mathlib.Decide.{dec_lt}
 use native.Mathlib.Omega.{arith}
 use lib.Dec.{ltb}
 use borrow.Author.Tests.{lt-ltb}
-use lib.ListN.{length, get_or, take, length-map}
-use lib.Seq.{length-take-le, get_or-take}
+use lib.ListN.{length, length-map}
 use Rattle.lists.specs.Lists.{All, Bytes, tabulate}
 use Rattle.lists.specs.Tests.{pick, below, different}
-use Rattle.lists.proofs.Alls.{all-at, Distinct, distinct_of, byte_at, all_left, distinct-left}
+use Rattle.lists.proofs.Alls.{Distinct, distinct_of, all_left, distinct-left}
 use Rattle.lists.proofs.Boards.{below_all, distinct}
 use Rattle.lists.proofs.Pieces.{length-tabulate, tabulate-at, tabulate-all}
 use Rattle.sizes.specs.declared.Sizes.{Sizes}

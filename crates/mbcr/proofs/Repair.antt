@@ -1,11 +1,11 @@
 -- Whole shares and packets: lengths, over any bytes; and over true shares, what the packets are and that a finished share is the share.
 -- Assumes nothing.
-use mathlib.Core.Path.{◌≡◌, refl, sym, ap, ap₂, fun_ext, ◌∙◌}
+use mathlib.Core.Path.{◌≡◌, refl, sym, ap, ap₂, ◌∙◌}
 use mathlib.Core.List.{List, [], ◌∷◌, ◌++◌, map}
-use Prim.Native.Nat.{ℕ, zero, suc, ◌+◌, ◌*◌, ◌-◌, ◌<◌, ◌≤◌}
-use native.Mathlib.Nat.{mul_comm, mul-one, mul_assoc, mul-add, add-mul}
+use Prim.Native.Nat.{ℕ, ◌+◌, ◌*◌, ◌-◌, ◌<◌}
+use native.Mathlib.Nat.{mul_comm, mul-one, mul_assoc, add-mul}
 use native.Mathlib.Omega.{arith}
-use lib.ListN.{length, get_or, length-append, get_or-eq_default}
+use lib.ListN.{length, get_or}
 use Rattle.lists.proofs.Alls.{all-at}
 use Rattle.lists.specs.Lists.{All, Bytes, join, piece}
 use Rattle.lists.proofs.Pieces.{tabulate-ext, tabulate-map, tabulate-at, length-tabulate, join-ext, join-ones, length-join, piece-join}

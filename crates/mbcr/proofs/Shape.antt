@@ -1,14 +1,14 @@
 -- The grid of a stripe: its shape, and its coefficients in the stripe's order, which are the stripe.
 -- Assumes nothing.
-use mathlib.Core.Path.{◌≡◌, refl, sym, ap, ap₂, ◌∙◌}
-use mathlib.Core.List.{List, [], ◌∷◌, ◌++◌, map, append_assoc}
-use Prim.Native.Nat.{ℕ, zero, suc, ◌+◌, ◌*◌, ◌-◌, ◌<◌, ◌≤◌}
+use mathlib.Core.Path.{◌≡◌, sym, ap, ap₂, ◌∙◌}
+use mathlib.Core.List.{List, [], ◌++◌}
+use Prim.Native.Nat.{ℕ, ◌+◌, ◌*◌, ◌-◌, ◌<◌, ◌≤◌}
 use native.Mathlib.Nat.{mul-add, add-sub_of_le}
 use native.Mathlib.Decide.{dec_lt}
 use native.Mathlib.Omega.{arith}
 use mathlib.Core.Logic.{◌⊎◌, inl, inr}
-use lib.ListN.{length, get_or, take, drop, length-append, length-drop, get_or-append, get_or-eq_default, length-take}
-use lib.Seq.{get_or-append-add, get_or-drop, take-add, take_all, drop-drop, length-take-le}
+use lib.ListN.{length, get_or, drop, length-append, length-drop, get_or-append, get_or-eq_default}
+use lib.Seq.{get_or-append-add, get_or-drop, take-add, take_all}
 use Rattle.lists.specs.Lists.{Bytes, tabulate, join, piece}
 use Rattle.lists.proofs.Alls.{append-all, drop-alls}
 use Rattle.lists.proofs.Pieces.{length-fit, fit-bytes, length-tabulate, tabulate-at, tabulate-ext, tabulate-get_d, tabulate-all, join-ext, join-piece, length-piece, piece_bytes, piece-at}

@@ -2,21 +2,20 @@
 -- Assumes nothing.
 use mathlib.Core.Path.{◌≡◌, refl, sym, ap, ap₂, fun_ext, ◌∙◌}
 use mathlib.Core.List.{List, [], ◌∷◌, ◌++◌, map}
-use Prim.Native.Nat.{ℕ, zero, suc, ◌+◌, ◌*◌, ◌-◌, ◌<◌, ◌≤◌}
+use Prim.Native.Nat.{ℕ, zero, suc, ◌+◌, ◌-◌, ◌<◌, ◌≤◌}
 use native.Mathlib.Decide.{dec_lt}
 use native.Mathlib.Omega.{arith}
-use lib.ListN.{length, get_or, take, drop, length-append, length-map, length-drop, take-append-drop, get_or-eq_default}
-use lib.Seq.{take_at, drop_at, length-take-le}
+use lib.ListN.{length, get_or, take, drop, length-append, length-map, length-drop, get_or-eq_default}
+use lib.Seq.{take_at, drop_at}
 use Rattle.lists.specs.Lists.{Bytes, fit}
-use Rattle.lists.proofs.Alls.{append-all, take-alls, drop-alls}
-use Rattle.lists.proofs.Pieces.{map-append, map-drop}
+use Rattle.lists.proofs.Pieces.{map-append}
 use Rattle.sizes.specs.Sizing.{α, B}
 use Rattle.sizes.specs.declared.Sizes.{Sizes}
 use Rattle.sizes.proofs.Legal.{Legal, α-parts}
 use Rattle.polynomial.specs.Polynomial.{eval, interpolate, Grid, column, at_x, at_y}
 use Rattle.polynomial.proofs.Grid.{Shape, GridBytes, column-at, eval-at_x, at_x-at, at_y-at}
 use Rattle.polynomial.proofs.Linear.{eval-fit, eval-zero, interpolate-fit, plus-bytes, scale-bytes}
-use Rattle.polynomial.proofs.Poly.{eval-byte, evals-interpolate}
+use Rattle.polynomial.proofs.Poly.{eval-byte}
 use Rattle.mbcr.specs.Rebuild.{own_f, own_g, helper_pair, g_from, f_from, finished_stripe}
 use Rattle.mbcr.specs.Share.{DifferentPoints, grid, F, points, neighbours, symbols, kept, point}
 use Rattle.mbcr.proofs.Points.{Boards, length-neighbours, neighbours-boards, neighbours-first, length-points, points-bytes, points-distinct, boards-left}

@@ -1,8 +1,8 @@
 -- A file from k shares. Document 001, section IV, in its words: first the b and c coefficients, then the a; and what is read must encode
 -- to the shares it was read from.
 -- Assumes nothing.
-use Rattle.std.specs.Prelude.{true, false, List, [], ◌∷◌, ◌++◌, ℕ, ◌+◌, ◌*◌, ◌-◌, get_or, take, replicate}
 use Rattle.std.proofs.Math.Option.{Option, none, some}
+use Rattle.std.specs.Prelude.{List, ◌++◌, ℕ, ◌+◌, ◌*◌, ◌-◌, get_or, take, replicate}
 use Rattle.lists.specs.Tests.{pick, same}
 use Rattle.lists.specs.Lists.{tabulate, join, piece}
 use Rattle.gf256.specs.Field.{add}

@@ -10,7 +10,7 @@ use Rattle.lists.specs.Tests.{every, alls, among, different}
 use Rattle.lists.specs.Lists.{tabulate}
 use Rattle.lists.proofs.Boards.{among-append-left, among-append-none}
 use Rattle.lists.proofs.Pieces.{length-tabulate, tabulate-at}
-use Rattle.store_checks.proofs.Walks.{every-no, every-next}
+use Rattle.store_lines.proofs.Walks.{every-no, every-next}
 
 -- ---- a board and two lists
 

@@ -1,4 +1,7 @@
 //! Tests of a move (request A.10): of the boards named, of the new point, and of every board's mark.
+
+#![tactic(auto)]
+
 ghost use Rattle.std.specs.Prelude.{◌≡◌, ◌∷◌, ◌++◌, ◌≤◌, length};
 ghost use Rattle.lists.specs.Tests.{different};
 ghost use Rattle.board_spec.specs.Calls.{node_line};
@@ -12,7 +15,7 @@ pub fn check_known(sizes: Sizes, board: usize, helpers: &[usize], partners: &[us
     ensures { result ≡ asked (node_line sizes (board ∷ (helpers.now ++ partners.now))) }
 {
     if board < sizes.n {
-        return store_checks::check_two_lists(sizes, helpers, partners);
+        return store_lines::check_two_lists(sizes, helpers, partners);
     }
     Check::Refuse(Refusal::Node)
 }
@@ -21,10 +24,10 @@ pub fn check_known(sizes: Sizes, board: usize, helpers: &[usize], partners: &[us
 fn all_differ(board: usize, helpers: &[usize], partners: &[usize]) -> bool
     ensures { result ≡ different (board ∷ (helpers.now ++ partners.now)) }
 {
-    if board_tests::among_from(helpers, 0, board) {
+    if line_tests::among_from(helpers, 0, board) {
         return false;
     }
-    if board_tests::among_from(partners, 0, board) {
+    if line_tests::among_from(partners, 0, board) {
         return false;
     }
     list_tests::both_differ(helpers, partners)
@@ -43,7 +46,7 @@ pub fn check_new(
     ensures { result ≡ asked (new_line n points.now board point helpers.now partners.now) }
 {
     if all_differ(board, helpers, partners) {
-        if board_tests::point_from(&points[0..n], 0, point) {
+        if line_tests::point_from(&points[0..n], 0, point) {
             return Check::Refuse(Refusal::Repeat);
         }
         return Check::Pass;
@@ -57,7 +60,7 @@ pub fn check_up(n: usize, marks: &[bool]) -> Check
 {
     let mut i: usize = 0;
     while i < n {
-        if store_checks::mark_of(marks, i) {
+        if store_lines::mark_of(marks, i) {
             i += 1;
         } else {
             return Check::Refuse(Refusal::Down);

@@ -1,5 +1,8 @@
 // The sixteen multiples of a row of 32 bytes, as a sum of rows looks them up.
 // Assumes nothing.
+
+#![tactic(auto)]
+
 ghost use Rattle.std.specs.Prelude.{◌≡◌, length};
 ghost use Rattle.polynomial.specs.Polynomial.{scale};
 ghost use Rattle.row_sums.specs.Steps.{multiples};

@@ -1,13 +1,13 @@
 -- Two lists put one after the other.
 -- Assumes nothing.
 use Prim.Native.Nat.{ℕ, ◌+◌, ◌-◌}
-use mathlib.Core.Path.{◌≡◌, refl, ap, ap₂, ◌∙◌}
+use mathlib.Core.Path.{◌≡◌, ap, ap₂, ◌∙◌}
 use mathlib.Core.List.{List, ◌++◌, append-nil}
 use native.Mathlib.Omega.{arith}
 use lib.ListN.{length, take, drop, length-append, length-take, length-drop, drop_of_length-le}
 use lib.Seq.{take_all}
 use borrow.Rule.Slice.PartMut.{put_mid}
-use Rattle.finish_rows.proofs.Finished.{back-next}
+use Rattle.stripe_finish.proofs.Finished.{back-next}
 
 pub run-made : (hs ss out a b : List ℕ) → length out ≡ length hs + length ss
     → (let m = length hs in a ≡ take (length (take (m - 0) (drop 0 out))) hs)

@@ -1,4 +1,7 @@
 //! The boards that each fresh board of a repair names, its helpers and then its stand-ins, in one list.
+
+#![tactic(auto)]
+
 ghost use Rattle.std.specs.Prelude.{◌≡◌, ◌++◌, ◌+◌, ◌*◌, ◌≤◌, length};
 ghost use Rattle.lists.specs.Lists.{join, piece};
 
@@ -8,8 +11,8 @@ fn put_run(helpers: &[usize], standins: &[usize], out: &mut [usize])
     ensures { out.new ≡ helpers.now ++ standins.now }
 {
     let d = helpers.len();
-    finish_rows::copy_boards(helpers, &mut out[0..d]);
-    finish_rows::copy_boards(standins, &mut out[d..]);
+    stripe_finish::copy_boards(helpers, &mut out[0..d]);
+    stripe_finish::copy_boards(standins, &mut out[d..]);
 }
 
 // For each of t fresh boards its run of d helpers, then its run of e stand-ins.

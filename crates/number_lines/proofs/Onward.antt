@@ -1,11 +1,10 @@
 -- What a line still says of an input, from where a reader stands in it; one byte at a time it stays the same.
 -- Assumes nothing.
-use mathlib.Core.Path.{◌≡◌, refl, sym, ap, ap₂, fun_ext, ◌∙◌}
+use mathlib.Core.Path.{◌≡◌, refl, sym, ap, fun_ext, ◌∙◌}
 use mathlib.Core.Bool.{Bool, true, false}
 use mathlib.Core.List.{List, [], ◌∷◌}
 use Prim.Native.Nat.{ℕ, suc, ◌+◌, ◌*◌, ◌-◌, ◌≤◌, ◌<◌}
 use native.Mathlib.Numerals.{add-one}
-use native.Mathlib.Omega.{arith}
 use lib.Dec.{ltb, eqb}
 use lib.ListN.{length, get_or, drop, drop_of_length-le}
 use lib.Seq.{drop-cons}
@@ -16,7 +15,7 @@ use Rattle.number_lines.specs.declared.Read.{Read}
 use Rattle.number_lines.specs.declared.Read.TheVariants.{More, Whole, Malformed}
 use Rattle.number_lines.specs.Lines.{digit, read_digits, read_lone, read_number, line}
 use Rattle.number_lines.specs.Steps.{capped, fed_lone, fed_digits, fed_first, fed_name, fed, told, reads}
-use Rattle.number_lines.proofs.Picks.{yes, no, if-eq, if-ne}
+use Rattle.number_lines.proofs.Picks.{yes, no, if-ne}
 use Rattle.number_lines.proofs.Fed.{fed-lone, fed-digits, fed-name, fed-first}
 use Rattle.number_lines.proofs.Capped.{capped-zero, digits-capped}
 

@@ -1,19 +1,22 @@
 //! A line of a name, a number and byte 0A, read one byte after another: any name, any bound. A reader by value stands in the line; fed with a
 //! byte, it goes on, or the line is whole and gives its number, or it is malformed. A number of `most` or more is given as `most`.
+
+#![tactic(auto)]
+
 ghost use Rattle.std.specs.Prelude.{◌≡◌, ◌+◌, ◌*◌, ◌≤◌};
 ghost use Rattle.number_lines.specs.Lines.{digit};
 ghost use Rattle.number_lines.specs.Steps.{begin, capped, fed_digits, fed_first, fed};
 
 // Where in the line: 0 for its name and first digit, 1 behind a first 0, 2 behind other digits; the bytes of the name that are read; the
 // number so far.
-#[derive(Drop)]
+#[derive(Clone, Copy)]
 pub struct Reader {
     pub part: u8,
     pub at: usize,
     pub value: usize,
 }
 
-#[derive(Drop)]
+#[derive(Clone, Copy)]
 pub enum Read {
     More(Reader),
     Whole(usize),

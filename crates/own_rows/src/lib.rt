@@ -1,5 +1,8 @@
 // The bytes that a board keeps of a stripe as two rows: those of f and those of g.
 // Assumes nothing.
+
+#![tactic(auto)]
+
 ghost use Rattle.std.specs.Prelude.{◌≡◌, ◌++◌, ◌+◌, ◌-◌, ◌≤◌, length, take, drop};
 
 // Of the bytes held, of which w are of f: those of f to the beginning of f; the first of them and the others to the beginning of g, d in all.

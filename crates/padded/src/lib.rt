@@ -1,5 +1,8 @@
 // Bytes of a file from a place on, filled up with 00.
 // Assumes nothing.
+
+#![tactic(auto)]
+
 ghost use Rattle.std.specs.Prelude.{◌≡◌, ◌*◌, ◌≤◌, length, get_or, drop};
 ghost use Rattle.lists.specs.Lists.{fit};
 

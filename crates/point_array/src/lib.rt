@@ -1,4 +1,7 @@
 //! Points that are lent, as an array.
+
+#![tactic(auto)]
+
 ghost use Rattle.std.specs.Prelude.{◌≡◌};
 ghost use Rattle.point_array.specs.Steps.{array_of};
 

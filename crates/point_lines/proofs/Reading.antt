@@ -8,15 +8,15 @@ use native.Mathlib.Nat.{mod-eq_of_lt}
 use native.Mathlib.Numerals.{add-one}
 use native.Mathlib.Omega.{arith}
 use lib.Dec.{ltb, eqb}
-use lib.ListN.{length, get_or, drop, set, length-append, drop_of_length-le}
+use lib.ListN.{length, get_or, drop, set, length-append}
 use lib.Seq.{drop-cons}
 use borrow.Author.Tests.{ltb-true, ltb-false}
 use Rattle.lists.specs.Tests.{pick}
 use Rattle.lists.specs.Lists.{fit}
-use Rattle.number_lines.proofs.Picks.{yes, no, if-eq, if-ne, if-lt, if-le}
+use Rattle.number_lines.proofs.Picks.{if-eq, if-ne, if-lt, if-le}
 use Rattle.point_lines.specs.declared.PointReader.{PointReader}
 use Rattle.point_lines.specs.Lines.{hexadecimal, digit_value, read_digit, read_name, read_pairs, read_points}
-use Rattle.point_lines.specs.Steps.{points_name, turned, begun, paired, fed_name, fed_end, fed_high, fed_low, fed, reads}
+use Rattle.point_lines.specs.Steps.{points_name, turned, begun, paired, fed_name, fed_high, fed_low, fed, reads}
 use Rattle.point_lines.proofs.Digits.{digit_low}
 
 -- ---- the reader after a byte, by its part

@@ -1,12 +1,15 @@
 //! The line of points, `points=`, n lower-case pairs and byte 0A, read one byte after another. A reader by value stands in the line; fed with a
 //! byte, it goes on, or the line is whole, or it is malformed. A line of more than 32 pairs is malformed.
+
+#![tactic(auto)]
+
 ghost use Rattle.std.specs.Prelude.{◌≡◌, true, ◌<◌, length};
 ghost use Rattle.point_lines.specs.Lines.{hexadecimal, digit_value};
 ghost use Rattle.point_lines.specs.Steps.{begin, turned, fed_name, fed_high, fed_low, fed};
 
 // Where in the line: 0 in its name and before a pair, 1 within a pair, 2 behind the line, 3 in a line that is malformed; the bytes of the name and
 // the pairs that are read; the first digit of the pair; the points, 00 from the pairs up.
-#[derive(Drop)]
+#[derive(Clone, Copy)]
 pub struct PointReader {
     pub part: u8,
     pub at: usize,

@@ -4,19 +4,18 @@ use mathlib.Core.Path.{◌≡◌, refl, sym, ap, ap₂, ◌∙◌}
 use mathlib.Core.Bool.{Bool, true, false}
 use mathlib.Core.Logic.{◌⊎◌, inl, inr}
 use mathlib.Core.List.{List, [], ◌∷◌, ◌++◌, append_assoc}
-use Prim.Native.Nat.{ℕ, zero, suc, ◌+◌, ◌*◌, ◌-◌, ◌/◌, ◌%◌, ◌<◌}
-use native.Mathlib.Nat.{div-add-mod', mod-lt}
+use Prim.Native.Nat.{ℕ, zero, suc, ◌+◌, ◌*◌, ◌<◌}
 use native.Mathlib.Omega.{arith}
-use lib.Dec.{ltb, eqb}
+use lib.Dec.{eqb}
 use lib.ListN.{length}
-use borrow.Author.Tests.{ltb-true, ltb-false, lt-ltb, le-ltb, eq-eqb, eqb-true}
+use borrow.Author.Tests.{eq-eqb, eqb-true}
 use Rattle.lists.specs.Tests.{pick}
 use Rattle.lists.specs.Lists.{Bytes, joined}
 use Rattle.number_lines.proofs.Picks.{yes, no}
-use Rattle.board_spec.specs.Text.{hex_digit, hex_pair}
-use Rattle.point_lines.specs.Lines.{hexadecimal, digit_value, read_digit, read_name, read_pairs, read_points}
+use Rattle.board_spec.specs.Text.{hex_pair}
+use Rattle.point_lines.specs.Lines.{hexadecimal, digit_value, read_name, read_pairs, read_points}
 use Rattle.text_spec.proofs.Back.{digit-back, pair-spelled}
-use Rattle.points_print.specs.Laws.{points_text, PointsStart}
+use Rattle.points_print.specs.Laws.{PointsStart}
 
 -- ---- digits
 

@@ -1,20 +1,17 @@
 -- The line of points as it is written: its pairs are taken as their bytes, and another number of them is malformed.
 -- Assumes nothing.
-use mathlib.Core.Path.{◌≡◌, refl, sym, ap, ap₂, ◌∙◌}
+use mathlib.Core.Path.{◌≡◌, refl, sym, ap, ◌∙◌}
 use mathlib.Core.Bool.{true, false}
-use mathlib.Core.Logic.{◌≢◌, ◌⊎◌, inl, inr}
+use mathlib.Core.Logic.{◌≢◌}
 use mathlib.Core.List.{List, [], ◌∷◌, ◌++◌, append_assoc}
-use Prim.Native.Nat.{ℕ, zero, suc, ◌+◌, ◌*◌, ◌/◌, ◌%◌, ◌≤◌, ◌<◌}
+use Prim.Native.Nat.{ℕ, zero, suc, ◌+◌, ◌*◌, ◌/◌, ◌%◌, ◌<◌}
 use native.Mathlib.Omega.{arith}
-use lib.Dec.{ltb, eqb}
 use lib.ListN.{length}
-use borrow.Author.Tests.{lt-ltb, le-ltb, ne_eqb}
-use Rattle.lists.specs.Tests.{pick}
 use Rattle.lists.specs.Lists.{Bytes, joined}
-use Rattle.number_lines.proofs.Picks.{yes, no, if-lt, if-le, if-ne}
-use Rattle.board_spec.specs.Text.{hex_digit, hex_pair, text_line}
+use Rattle.number_lines.proofs.Picks.{yes, if-ne}
+use Rattle.board_spec.specs.Text.{hex_digit, hex_pair}
 use Rattle.board_spec.proofs.Text.{text-laws}
-use Rattle.point_lines.specs.Lines.{hexadecimal, digit_value, read_digit, read_pairs, read_points}
+use Rattle.point_lines.specs.Lines.{hexadecimal, read_digit, read_pairs, read_points}
 use Rattle.text_spec.proofs.Forms.{digit-yes}
 use Rattle.points_print.specs.Laws.{points_text}
 

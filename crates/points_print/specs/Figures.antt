@@ -5,7 +5,7 @@ use Rattle.std.specs.Prelude.{◌≡◌, List, [], ◌∷◌, ◌++◌, map, ℕ
 use Rattle.lists.specs.Lists.{tabulate, joined}
 use Rattle.board_spec.specs.Text.{hex_pair, text_line}
 use Rattle.printer.specs.Laws.{asks}
-use Rattle.printer.specs.Printer.{refused_line, printed}
+use Rattle.printer.specs.Printer.{refused_line}
 use Rattle.points_print.specs.PointsPrinter.{points_printed}
 use Rattle.points_print.specs.Laws.{points_text}
 

@@ -12,7 +12,7 @@ use Rattle.board_spec.specs.Demand1.{value}
 use Rattle.board_spec.specs.Text.{decimal, hex_pair, text_line}
 use Rattle.printer.specs.Laws.{asks, seven_lines}
 use Rattle.printer.specs.Printer.{refused_line, printed}
-use Rattle.printer.specs.Steps.{accepted, begin, runs}
+use Rattle.printer.specs.Steps.{begin, runs}
 use Rattle.point_lines.specs.Lines.{read_points}
 use Rattle.points_print.specs.PointsPrinter.{points_printed}
 

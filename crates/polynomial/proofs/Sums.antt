@@ -1,14 +1,14 @@
 -- Values as sums of coefficients times powers.
 -- Assumes nothing.
-use mathlib.Core.Path.{◌≡◌, refl, sym, ap, ap₂, fun_ext, ◌∙◌}
-use mathlib.Core.List.{List, [], ◌∷◌, map}
-use Prim.Native.Nat.{ℕ, zero, suc, ◌<◌, ◌≤◌}
+use mathlib.Core.Path.{◌≡◌, refl, sym, ap, ap₂, ◌∙◌}
+use mathlib.Core.List.{List, [], ◌∷◌}
+use Prim.Native.Nat.{ℕ, zero, suc, ◌≤◌}
 use native.Mathlib.Omega.{arith}
-use lib.ListN.{length, get_or, get_or-eq_default}
+use lib.ListN.{length, get_or}
 use Rattle.lists.specs.Lists.{All, Bytes}
-use Rattle.lists.proofs.Alls.{byte_at, all-at_d}
+use Rattle.lists.proofs.Alls.{all-at_d}
 use Rattle.gf256.specs.Field.{add, mul}
-use Rattle.gf256.proofs.Field.{mul-lt, mul-one, mul-add, zero-mul, mul-zero, one-mul}
+use Rattle.gf256.proofs.Field.{mul-one, mul-add, mul-zero}
 use Rattle.gf256.proofs.Ring.{ring}
 use Rattle.polynomial.specs.Polynomial.{eval, sum, power, Grid, entry, at_y, eval_grid}
 use Rattle.polynomial.proofs.Poly.{eval-byte}

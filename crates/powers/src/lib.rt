@@ -1,5 +1,8 @@
 // The powers of the boards' points, each as a row of 32 bytes with its sixteen multiples.
 // Assumes nothing.
+
+#![tactic(auto)]
+
 ghost use Rattle.std.specs.Prelude.{◌≡◌, ◌++◌, ◌*◌, ◌≤◌, length, drop};
 ghost use Rattle.lists.specs.Lists.{join};
 ghost use Rattle.row_sums.specs.Steps.{multiples};

@@ -1,4 +1,7 @@
 //! Request A.14: how far lines of numbers go along with those of an accepted text.
+
+#![tactic(auto)]
+
 ghost use Rattle.std.specs.Prelude.{◌≡◌, true, ◌≤◌, drop};
 ghost use Rattle.text_in.specs.Steps.{name_of};
 ghost use Rattle.prefix_spec.specs.Prefix.{name_on, digits_on, number_on, line_on};
@@ -8,7 +11,7 @@ ghost use Rattle.prefix_lines.specs.Steps.{digit_next};
 use prefix_steps::Went;
 
 // A byte of a number: one more digit, the line's end, or neither.
-#[derive(Drop)]
+#[derive(Clone, Copy)]
 pub enum Digit {
     More(usize),
     End,

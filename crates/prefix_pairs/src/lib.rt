@@ -1,4 +1,7 @@
 //! Request A.14: how far pairs go along with those of an accepted text.
+
+#![tactic(auto)]
+
 ghost use Rattle.std.specs.Prelude.{true, [], ◌∷◌, ◌≤◌, length, drop};
 ghost use Rattle.prefix_spec.specs.Prefix.{name_on, pairs_on, may_point};
 ghost use Rattle.prefix_steps.specs.Steps.{Goes};

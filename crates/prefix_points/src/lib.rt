@@ -1,4 +1,7 @@
 //! Request A.14: which bytes may stand next in a line of points.
+
+#![tactic(auto)]
+
 ghost use Rattle.std.specs.Prelude.{◌≡◌, ◌+◌, ◌*◌, ◌≤◌, ◌<◌, length};
 ghost use Rattle.prefix_spec.specs.Prefix.{some, may_point};
 ghost use Rattle.prefix_points.specs.Steps.{may_last, Kept};
@@ -7,7 +10,7 @@ ghost use Rattle.prefix_points.specs.Steps.{may_last, Kept};
 pub fn may_point(points: &[u8], left: usize) -> bool
     ensures { result ≡ may_point (length points.now + left) left points.now }
 {
-    if !board_tests::points_differ(points) {
+    if !line_tests::points_differ(points) {
         return false;
     }
     if left == 0 {

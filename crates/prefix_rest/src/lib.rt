@@ -1,4 +1,7 @@
 //! Request A.14: how far the lines behind that of length go along with those of an accepted text: points= or not, and data=.
+
+#![tactic(auto)]
+
 ghost use Rattle.std.specs.Prelude.{◌≡◌, true, ◌+◌, ◌*◌, ◌≤◌, drop};
 ghost use Rattle.sizes.specs.Sizing.{legal, B};
 ghost use Rattle.prefix_spec.specs.Prefix.{points_on};
@@ -39,7 +42,7 @@ pub fn rest_on(text: &[u8], at: usize, sizes: Sizes, length: usize) -> usize
     requires { (legal sizes ≡ true) × (length ≤ 4096 * B sizes) }
     ensures { result ≡ at + points_on sizes length (drop at text.now) }
 {
-    let count = checks::stripe_count(sizes, length) * sizes.share_len();
+    let count = board_lines::stripe_count(sizes, length) * sizes.share_len();
     if text.len() <= at {
         return data_line(text, at, count);
     }

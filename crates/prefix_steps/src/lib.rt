@@ -1,11 +1,14 @@
 //! Request A.14: how far bytes of a text go along with those of an accepted text, from a place on: a name, and whether digits can go on.
+
+#![tactic(auto)]
+
 ghost use Rattle.std.specs.Prelude.{◌≡◌, [], ◌∷◌, ◌≤◌, leb, drop};
 ghost use Rattle.lists.specs.Tests.{alls};
 ghost use Rattle.prefix_spec.specs.Prefix.{name_on, opens};
 ghost use Rattle.prefix_steps.specs.Steps.{stopped, Goes};
 
 // Whether a line went through; its number; the place behind it, or the place from which on the text makes no sense.
-#[derive(Drop)]
+#[derive(Clone, Copy)]
 pub struct Went {
     pub ok: bool,
     pub value: usize,

@@ -1,6 +1,9 @@
 //! The printers' input over lent slices, a part at a time. The file's bytes stand at the beginning of a slice, as many as the parser has
 //! counted. Each contract says, for a slice of any length, what every byte of it is after the call; with a slice of 16,384 bytes it is what the
 //! crate `printer` defines.
+
+#![tactic(auto)]
+
 ghost use Rattle.std.specs.Prelude.{◌≡◌};
 ghost use Rattle.print_feed.specs.Steps.{kept_in, feed_all};
 

@@ -1,5 +1,8 @@
 //! The printers' decisions over a stream of bytes: a parser by value, fed one byte after another. The share printer has document 01's points; the
 //! points printer is asked for the line of points behind the five lines.
+
+#![tactic(auto)]
+
 ghost use Rattle.std.specs.Prelude.{◌≡◌, ◌≤◌};
 ghost use Rattle.lists.specs.Tests.{pick};
 ghost use Rattle.printer.specs.Steps.{accepted, begin, wrong, stored, counted, line_fed, behind_fed, fed, in_file, sizes_read, points_read, refusal_of};
@@ -160,7 +163,7 @@ pub fn points(p: Parser) -> [u8; 32]
         let points = p.points;
         return points.points;
     }
-    checks::standard_points(sizes(p))
+    board_lines::standard_points(sizes(p))
 }
 
 // Whether the input is behind its lines.

@@ -1,52 +1,20 @@
 -- What comes of a program's reads, one after another.
 -- Assumes nothing.
-use mathlib.Core.Path.{◌≡◌, refl, sym, ap, ap₂, ◌∙◌}
+use mathlib.Core.Path.{◌≡◌, refl, ap, ◌∙◌}
 use mathlib.Core.Bool.{Bool, true, false}
 use mathlib.Core.List.{List, [], ◌++◌}
 use Prim.Native.Nat.{ℕ, ◌≤◌}
 use native.Mathlib.Omega.{arith}
-use lib.Dec.{ltb}
-use lib.ListN.{length, take}
-use lib.IntN.{ℤ, pos, negsuc}
-use lib.Signed.{lt_z}
-use borrow.Author.Tests.{ltb-true}
+use lib.ListN.{length}
 use Rattle.lists.specs.Tests.{pick}
-use Rattle.lists.proofs.Tests.{true-false, is_false}
-use Rattle.io.specs.Counts.{clamp_len}
-use Rattle.printer.specs.declared.Parser.{Parser}
 use Rattle.printer.specs.Printer.{refused_line}
-use Rattle.printer.specs.Steps.{begin, wrong}
+use Rattle.printer.specs.Steps.{begin}
 use Rattle.print_feed.specs.Steps.{Feed, feed_all, printed_by}
 use Rattle.print_feed.proofs.Laws.{behind, feed-laws}
 use Rattle.print_share.specs.Steps.{Written, placed, to_write}
 use Rattle.print_share.specs.Laws.{shown}
 use Rattle.print_share.proofs.Laws.{share_laws}
-use Rattle.print_read.specs.Steps.{unless, after_read, Reading, Printing, Lent}
-
--- ---- one read
-
-below : (got : ℤ) (most : ℕ) → lt_z got (pos 0) ≡ true → clamp_len got most ≡ 0
-below (pos k) most e = absurd (omega (arith, ltb-true k 0 e))
-below (negsuc k) most e = refl
-
-module _ (got : ℤ) (slice : List ℕ) where
-  pub none_more : lt_z got (pos 0) ≡ true → false ≡ ltb 0 (clamp_len got (length slice))
-  none_more e = sym (ap (ltb 0) (below got (length slice) e))
-
-  pub failed : (s : Feed) → lt_z got (pos 0) ≡ true → record { parser = wrong s.parser; file = s.file } ≡ after_read got slice s
-  failed s e =
-      sym (ap₂ {C = Feed} (λ (t : Bool) (n : ℕ). unless t (feed_all s (take n slice))) e (below got (length slice) e))
-
-  pub came : (s : Feed) → lt_z got (pos 0) ≡ false → feed_all s (take (clamp_len got (length slice)) slice) ≡ after_read got slice s
-  came s e = sym (ap (λ (t : Bool). unless t (feed_all s (take (clamp_len got (length slice)) slice))) e)
-
-  pub once : {s t : Feed} (more : Bool) → t ≡ after_read got slice s → more ≡ ltb 0 (clamp_len got (length slice)) → Reading s more t
-  once more e m = record {
-    input = take (clamp_len got (length slice)) slice;
-    cut = lt_z got (pos 0);
-    fed-all = e;
-    not-cut = λ q. is_false (lt_z got (pos 0)) (λ f. true-false q (m ∙ sym (none_more f)));
-  }
+use Rattle.print_read.specs.Steps.{unless, Reading, Printing, Lent}
 
 -- ---- reads, one after another
 
@@ -63,18 +31,6 @@ next {s} {t} {u} a q b = record {
   cut = b.cut;
   fed-all = b.fed-all ∙ ap (unless b.cut) (ap (λ (t : Feed). feed_all t b.input) (so_far a q) ∙ behind a.input b.input s);
   not-cut = b.not-cut;
-}
-
-pub ended : {s t : Feed} {more : Bool} → Reading s more t → Reading s false t
-ended a = record { input = a.input; cut = a.cut; fed-all = a.fed-all; not-cut = λ q. absurd (true-false q refl) }
-
--- an input that was not read to its end
-pub left : {s t : Feed} {more : Bool} {q : Parser} → Reading s more t → more ≡ true → q ≡ wrong t.parser → Reading s false (record { parser = q; file = t.file })
-left {t = t} a m e = record {
-  input = a.input;
-  cut = true;
-  fed-all = ap (λ (q : Parser). record { parser = q; file = t.file }) e ∙ ap (unless true) (so_far a m);
-  not-cut = λ f. absurd (true-false f refl);
 }
 
 -- ---- what is written

@@ -32,7 +32,7 @@ use Rattle.board_spec.specs.Calls.{BoardOutcome, settled, share_lines, share_cal
 use Rattle.board_spec.proofs.Runs.{size-facts}
 use Rattle.text_lines.specs.Steps.{Wrote}
 use Rattle.text_lines.proofs.Lines.{length-line, from_start}
-use Rattle.checks.specs.Outcomes.{outcome}
+use Rattle.board_lines.specs.Outcomes.{outcome}
 use Rattle.printer.specs.declared.Parser.{Parser}
 use Rattle.printer.specs.Printer.{refused_line, max_file, told, shared}
 use Rattle.printer.specs.Steps.{accepted, in_file, sizes_read, points_read, refusal_of, decided}

@@ -1,6 +1,9 @@
 //! The printers' output over lent slices. The file's bytes stand at the beginning of a slice, as many as the parser has counted. Each
 //! contract says, for slices of any length, what is answered and what every lent byte is after the call: what the crate `printer` defines, where
 //! there is room for all of it, and else nothing.
+
+#![tactic(auto)]
+
 ghost use Rattle.std.specs.Prelude.{◌≡◌, length};
 ghost use Rattle.board_spec.specs.Calls.{share_call, text_call};
 ghost use Rattle.printer.specs.Printer.{refused_line, told};

@@ -11,8 +11,7 @@ use Rattle.number_lines.proofs.Laws.{line-laws}
 use Rattle.board_spec.specs.Demand1.{value}
 use Rattle.board_spec.specs.Text.{decimal, text_line}
 use Rattle.board_spec.proofs.Text.{text-laws}
-use Rattle.printer.specs.Printer.{refused_line}
-use Rattle.printer.specs.Laws.{Begins, asks, Asked}
+use Rattle.printer.specs.Laws.{Begins, Asked}
 use Rattle.printer.specs.Printer.{five_lines}
 use Rattle.sizes.specs.declared.Sizes.{Sizes}
 

@@ -1,7 +1,7 @@
 -- The store's record and that of a started repair, as the definitions of the crate `store_spec` have them.
 -- Assumes nothing.
 use Rattle.store_spec.specs.Record.{Record}
-use Rattle.store_spec.specs.Running as beside
+use Rattle.beside_spec.specs.Running as beside
 use Rattle.record.specs.declared.Kept.{Kept}
 use Rattle.record.specs.declared.Running.{Running}
 

@@ -1,13 +1,16 @@
 //! The store's record, and that of a started repair (request A.8), by value: what the checks of its calls take.
+
+#![tactic(auto)]
+
 ghost use Rattle.std.specs.Prelude.{◌≡◌};
 ghost use Rattle.store_spec.specs.Record.{new_record};
-ghost use Rattle.store_spec.specs.Running.{idle};
+ghost use Rattle.beside_spec.specs.Running.{idle};
 ghost use Rattle.record.specs.Records.{record_of, running_in};
 
 use sizes::Sizes;
 
 // The sizes, a point for each board, the capacity in stripes, whether a file was accepted, its length, and a mark for each board: in service or not.
-#[derive(Drop)]
+#[derive(Clone, Copy)]
 pub struct Kept {
     pub sizes: Sizes,
     pub points: [u8; 32],
@@ -19,7 +22,7 @@ pub struct Kept {
 
 // Whether a repair runs, the number t of its fresh boards, the packets carried, and its lists as bytes: t fresh boards, their t × d helpers and
 // t × (r − t) stand-ins, each at the beginning of its array.
-#[derive(Drop)]
+#[derive(Clone, Copy)]
 pub struct Running {
     pub running: bool,
     pub count: usize,

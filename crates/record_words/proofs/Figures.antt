@@ -1,6 +1,6 @@
 -- The figures of the words: antt computes them.
 -- Assumes nothing.
-use mathlib.Core.Path.{◌≡◌, refl}
+use mathlib.Core.Path.{refl}
 use Rattle.lists.specs.Lists.{piece}
 use Rattle.record_words.specs.Words.{is_record}
 use Rattle.record_words.specs.Figures.{WordFigures}

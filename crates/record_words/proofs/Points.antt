@@ -1,14 +1,13 @@
 -- The points of eight boards in a word: bytes of a number and numbers of bytes, one the other's way back; points and their words.
 -- Assumes nothing.
 use mathlib.Core.Path.{◌≡◌, refl, sym, ap, ap₂, ◌∙◌}
-use mathlib.Core.List.{List, [], ◌∷◌, ◌++◌}
+use mathlib.Core.List.{List, [], ◌∷◌}
 use Prim.Native.Nat.{ℕ, zero, suc, ◌+◌, ◌*◌, ◌/◌, ◌%◌, ◌≤◌, ◌<◌}
 use native.Mathlib.Nat.{mod-lt, div-add-mod'}
 use native.Mathlib.Omega.{arith}
-use lib.ListN.{length, take, drop, length-append}
+use lib.ListN.{length}
 use lib.Seq.{take_all}
-use Rattle.lists.specs.Lists.{All, Bytes, tabulate, join, joined, piece}
-use Rattle.lists.proofs.Alls.{append-all}
+use Rattle.lists.specs.Lists.{All, Bytes, tabulate, joined, piece}
 use Rattle.lists.proofs.Put.{part_end}
 use Rattle.lists.proofs.Pieces.{join-ext, join-piece, length-piece, piece_bytes, length-joined, joined_bytes}
 use Rattle.record_words.specs.Words.{bytes, from_bytes}

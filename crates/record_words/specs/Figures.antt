@@ -2,7 +2,7 @@
 -- alike.
 -- proofs/Figures.antt has `word-figures : WordFigures`.
 -- Assumes nothing.
-use Rattle.std.specs.Prelude.{◌≡◌, Bool, true, false, List, [], ◌∷◌, ◌++◌, map, ℕ, ◌+◌, take, set, replicate}
+use Rattle.std.specs.Prelude.{◌≡◌, true, false, List, [], ◌∷◌, ◌++◌, map, ℕ, ◌+◌, take, set, replicate}
 use Rattle.lists.specs.Lists.{tabulate}
 use Rattle.store_spec.specs.Record.{Record}
 use Rattle.record_words.specs.Words.{is_record, record_from, words_of}

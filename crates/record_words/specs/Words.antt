@@ -1,10 +1,9 @@
 -- The archive's record in twelve words: n, k, d, r, capacity, written, length, marks, and the points of boards 0 to 7, 8 to 15, 16 to 23, 24 to 31
 -- (request A.9).
 -- Assumes nothing.
-use Rattle.std.specs.Prelude.{Bool, true, false, List, [], ◌∷◌, ℕ, zero, suc, ◌+◌, ◌*◌, ◌/◌, ◌%◌, ◌-◌, ltb, eqb, length, get_or, drop}
+use Rattle.std.specs.Prelude.{Bool, List, [], ◌∷◌, ℕ, zero, suc, ◌+◌, ◌*◌, ◌/◌, ◌%◌, ◌-◌, ltb, eqb, length, get_or, drop}
 use Rattle.lists.specs.Tests.{pick, every, alls}
 use Rattle.lists.specs.Lists.{tabulate, joined, piece}
-use Rattle.sizes.specs.declared.Sizes.{Sizes}
 use Rattle.sizes.specs.Sizing.{max_boards}
 use Rattle.store_spec.specs.Record.{Record}
 

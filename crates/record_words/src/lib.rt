@@ -1,1 +1,3 @@
 //! The record of the archive in twelve words: definitions and laws. It has no function.
+
+#![tactic(auto)]

@@ -30,7 +30,7 @@ use Rattle.store_spec.proofs.Area.{shares-other}
 use Rattle.store_spec.proofs.Records.{Sound, sound-points, used-fits}
 use Rattle.decode_laws.specs.Steps.{offset}
 use Rattle.decode_laws.proofs.Values.{offset-below, offset-there}
-use Rattle.puts.proofs.Puts.{puts-turn}
+use Rattle.area_puts.proofs.Puts.{puts-turn}
 use Rattle.rekeep_stripes.specs.Steps.{share_patched}
 use Rattle.rekeep.specs.Steps.{board_patched, rekept}
 use Rattle.rekeep_stripes.proofs.Shares.{share-afresh}

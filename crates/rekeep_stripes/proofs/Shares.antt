@@ -20,8 +20,8 @@ use Rattle.mbcr.specs.Rebuild.{own_f, own_g}
 use Rattle.mbcr.specs.Afresh.{share_afresh}
 use Rattle.mbcr.specs.AfreshLaws.{patched}
 use Rattle.mbcr.proofs.Patched.{kept-patched, length-patched}
-use Rattle.factors.specs.Steps.{factors_for}
-use Rattle.helper.proofs.Packets.{pair-for}
+use Rattle.lagrange_factors.specs.Steps.{factors_for}
+use Rattle.stripe_helper.proofs.Packets.{pair-for}
 use Rattle.rekeep_stripes.specs.Steps.{patch_by, share_patched}
 use Rattle.rekeep_stripes.proofs.Stripes.{none-set}
 

@@ -18,8 +18,8 @@ use Rattle.sizes.proofs.Legal.{Legal}
 use Rattle.mbcr.specs.AfreshLaws.{patched}
 use Rattle.mbcr.proofs.Patched.{length-patched}
 use Rattle.row_dots.proofs.Rows.{join-loop}
-use Rattle.factors.specs.Steps.{dot_of}
-use Rattle.helper.specs.Steps.{pair_by}
+use Rattle.lagrange_factors.specs.Steps.{dot_of}
+use Rattle.stripe_helper.specs.Steps.{pair_by}
 use Rattle.rekeep_stripes.specs.Steps.{patch_by}
 
 module _ (z : Sizes) (t a b : ℕ) (w : List ℕ) (some : 1 ≤ t) where

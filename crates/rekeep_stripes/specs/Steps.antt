@@ -7,7 +7,7 @@ use Rattle.sizes.specs.Sizing.{α}
 use Rattle.polynomial.specs.Polynomial.{eval}
 use Rattle.mbcr.specs.Rebuild.{own_f, own_g}
 use Rattle.mbcr.specs.AfreshLaws.{patched}
-use Rattle.helper.specs.Steps.{pair_by}
+use Rattle.stripe_helper.specs.Steps.{pair_by}
 
 -- a stripe, by the factors ff of f and gf of g; the moved board is the t-th after its own
 unfoldable pub patch_by : Sizes → ℕ → List ℕ → List ℕ → List ℕ → List ℕ

@@ -1,12 +1,15 @@
 // Request A.10: what a board keeps once another board has a new point, worked out in place. At most two bytes of a stripe change: f at the new point where
 // the moved board is among the d + r boards from its own on, g where it is among the d.
 // Assumes nothing.
+
+#![tactic(auto)]
+
 ghost use Rattle.std.specs.Prelude.{◌≡◌, true, ◌+◌, ◌*◌, ◌<◌, ◌≤◌, length, take};
 ghost use Rattle.lists.specs.Lists.{tabulate, join, piece};
 ghost use Rattle.gf256.specs.Field.{inverse};
 ghost use Rattle.sizes.specs.Sizing.{legal, α};
 ghost use Rattle.mbcr.specs.Share.{DifferentPoints};
-ghost use Rattle.factors.specs.Steps.{dot_of};
+ghost use Rattle.lagrange_factors.specs.Steps.{dot_of};
 ghost use Rattle.rekeep_stripes.specs.Steps.{patch_by, share_patched};
 
 use sizes::Sizes;
@@ -34,7 +37,7 @@ fn patch(sizes: Sizes, t: usize, ff: &[u8], gf: &[u8], stripe: &mut [u8])
         stripe[t] = v;
         return;
     }
-    let q = helper::helper_pair(d, w, ff, gf, stripe);
+    let q = stripe_helper::helper_pair(d, w, ff, gf, stripe);
     stripe[t] = q.first;
     let at = w + t - 1;
     stripe[at] = q.second;

@@ -3,7 +3,7 @@
 use Prim.Native.Nat.{ℕ, zero, suc, ◌<◌}
 use mathlib.Core.Path.{◌≡◌}
 use mathlib.Core.Bool.{true, not}
-use mathlib.Core.List.{List, [], ◌∷◌, ◌++◌}
+use mathlib.Core.List.{List, ◌++◌}
 use Rattle.lists.specs.Lists.{All, join, piece}
 use Rattle.lists.specs.Tests.{among, below, apart}
 use Rattle.lists.proofs.Alls.{append-all}

@@ -1,12 +1,15 @@
 // A repair by its lists: each fresh board's helpers and stand-ins are put in one list, and the stripes rebuilt from the boards named there.
 // Assumes nothing.
+
+#![tactic(auto)]
+
 ghost use Rattle.std.specs.Prelude.{◌≡◌, true, ◌++◌, ◌+◌, ◌-◌, ◌*◌, ◌<◌, ◌≤◌, length, get_or, drop};
 ghost use Rattle.lists.specs.Lists.{tabulate, join, piece};
 ghost use Rattle.lists.specs.Tests.{below, different, apart};
 ghost use Rattle.gf256.specs.Field.{inverse};
 ghost use Rattle.sizes.specs.Sizing.{legal, α};
 ghost use Rattle.mbcr.specs.Share.{DifferentPoints};
-ghost use Rattle.puts.specs.Steps.{puts};
+ghost use Rattle.area_puts.specs.Steps.{puts};
 ghost use Rattle.repair_hear.specs.Steps.{Naming};
 ghost use Rattle.repair_stripe.specs.Steps.{DifferentRuns, rebuilt};
 
@@ -33,7 +36,7 @@ pub fn repair_lists(
     let d = sizes.d;
     let e = c - d;
     named_boards::name_boards(t, d, e, helpers, standins, named);
-    store_repair::repair_shares(
+    store_repair::repair_area(
         sizes, capacity, points, inverses, stripes, fresh, c, named, area,
     );
 }

@@ -1,9 +1,9 @@
 -- The loop over all boards: what is done of the rows when the helpers below h have theirs.
 -- Assumes nothing.
-use mathlib.Core.Path.{◌≡◌, refl, sym, ap, ap₂, ◌∙◌}
+use mathlib.Core.Path.{◌≡◌, refl, sym, ap, ◌∙◌}
 use mathlib.Core.Bool.{Bool, true, false}
 use mathlib.Core.List.{List, ◌++◌}
-use Prim.Native.Nat.{ℕ, ◌+◌, ◌*◌, ◌/◌, ◌%◌, ◌-◌, ◌<◌, ◌≤◌}
+use Prim.Native.Nat.{ℕ, ◌+◌, ◌*◌, ◌/◌, ◌%◌, ◌<◌}
 use native.Mathlib.Nat.{div-lt_iff_lt-mul}
 use native.Mathlib.Omega.{arith}
 use borrow.Author.Tests.{lt-ltb, le-ltb, ltb-true, ltb-false, eqb-true, eqb-false, eq-eqb, ne_eqb}
@@ -14,8 +14,8 @@ use Rattle.lists.specs.Tests.{pick}
 use Rattle.lists.specs.Lists.{tabulate, join, piece, fit}
 use Rattle.lists.proofs.Pieces.{join-ext, length-join, join-piece, length-piece, piece-join, length-tabulate, length-fit}
 use Rattle.lagrange_rows.specs.Steps.{lagrange_rows}
-use Rattle.factors.specs.Steps.{factors_at}
-use Rattle.factors.proofs.Values.{column-is}
+use Rattle.lagrange_factors.specs.Steps.{factors_at}
+use Rattle.lagrange_factors.proofs.Values.{column-is}
 use Rattle.repair_factors.specs.Steps.{column_row, pair_row, pair_row_at}
 
 -- ---- rows

@@ -2,7 +2,7 @@
 -- Assumes nothing.
 use Rattle.std.specs.Prelude.{List, ℕ, ◌+◌, ◌*◌, ◌/◌, ◌%◌, get_or}
 use Rattle.lists.specs.Lists.{tabulate, fit}
-use Rattle.factors.specs.Steps.{factors_at}
+use Rattle.lagrange_factors.specs.Steps.{factors_at}
 
 -- column i of c rows, and 00 behind
 unfoldable pub column_row : ℕ → ℕ → List ℕ → List ℕ

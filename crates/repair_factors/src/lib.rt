@@ -1,5 +1,8 @@
 // What helpers multiply their bytes by in a repair: Lagrange's factors of each helper for the fresh board that it serves, made once.
 // Assumes nothing.
+
+#![tactic(auto)]
+
 ghost use Rattle.std.specs.Prelude.{◌≡◌, true, ◌*◌, ◌/◌, ◌<◌, ◌≤◌, eqb, length, get_or};
 ghost use Rattle.lists.specs.Tests.{pick, below};
 ghost use Rattle.lists.specs.Lists.{tabulate, join, piece};
@@ -12,7 +15,7 @@ fn put_row(c: usize, h: usize, j: usize, i: usize, rows: &[u8], out: &mut [u8])
     ensures { out.new ≡ pick (eqb j h) (column_row c i rows.now) out.old }
 {
     if j == h {
-        factors::column(rows, c, i, out);
+        lagrange_factors::column(rows, c, i, out);
     }
 }
 
@@ -58,7 +61,7 @@ fn pair_rows(
 {
     let mut h: usize = 0;
     while h < n {
-        factors::boards_from(n, h, near);
+        lagrange_factors::boards_from(n, h, near);
         lagrange_rows::lagrange_rows(points, near, inverses, rows);
         put_rows(d, c, h, fresh, helpers, rows, out);
         h += 1;

@@ -1,5 +1,8 @@
 // What the fresh boards of a repair finish of one stripe, from the bytes that all of them heard.
 // Assumes nothing.
+
+#![tactic(auto)]
+
 ghost use Rattle.std.specs.Prelude.{◌≡◌, true, ◌+◌, ◌*◌, ◌<◌, ◌≤◌, length};
 ghost use Rattle.lists.specs.Tests.{below};
 ghost use Rattle.sizes.specs.Sizing.{legal, α};
@@ -61,5 +64,5 @@ pub fn finish(
     let right = left + lanes;
     let i = fresh[a];
     repair_sent::gather(sizes, lanes, fresh.len(), c, seconds, gs, i, a, got);
-    finish_rows::finish(sizes.n, i, &rows[mid..end], &gs[left..right], got, f, out);
+    stripe_finish::finish(sizes.n, i, &rows[mid..end], &gs[left..right], got, f, out);
 }

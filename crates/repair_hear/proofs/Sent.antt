@@ -18,12 +18,12 @@ use Rattle.sizes.proofs.Legal.{Legal}
 use Rattle.polynomial.specs.Polynomial.{eval}
 use Rattle.mbcr.specs.Share.{DifferentPoints, point}
 use Rattle.mbcr.specs.Rebuild.{own_f, own_g, helper_pair}
-use Rattle.factors.specs.Steps.{factors_at}
-use Rattle.factors.proofs.Values.{board-below}
-use Rattle.helper.specs.Steps.{pair_by}
-use Rattle.helper.proofs.Packets.{pair_is}
+use Rattle.lagrange_factors.specs.Steps.{factors_at}
+use Rattle.lagrange_factors.proofs.Values.{board-below}
+use Rattle.stripe_helper.specs.Steps.{pair_by}
+use Rattle.stripe_helper.proofs.Packets.{pair_is}
 use Rattle.repair_factors.specs.Steps.{pair_row, pair_row_at}
-use Rattle.repair_factors.proofs.Pairs.{length-pair-row, served}
+use Rattle.repair_factors.proofs.Pairs.{length-pair-row}
 use Rattle.repair_hear.specs.Steps.{firsts_of, seconds_of, heard_first, heard_second}
 
 -- ---- runs of d

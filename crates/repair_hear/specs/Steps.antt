@@ -7,7 +7,7 @@ use Rattle.sizes.specs.declared.Sizes.{Sizes}
 use Rattle.polynomial.specs.Polynomial.{eval}
 use Rattle.mbcr.specs.Share.{point}
 use Rattle.mbcr.specs.Rebuild.{own_f, own_g}
-use Rattle.helper.specs.Steps.{pair_by}
+use Rattle.stripe_helper.specs.Steps.{pair_by}
 
 -- t fresh boards, each of which names c boards: its d helpers, then its r − t stand-ins
 pub record Naming (z : Sizes) (t c : ℕ) : Type 0 where

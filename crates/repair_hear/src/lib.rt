@@ -1,5 +1,8 @@
 // What the fresh boards of a repair hear of one stripe from their helpers, from the area.
 // Assumes nothing.
+
+#![tactic(auto)]
+
 ghost use Rattle.std.specs.Prelude.{◌≡◌, true, ◌+◌, ◌*◌, ◌<◌, ◌≤◌, length, drop};
 ghost use Rattle.lists.specs.Lists.{tabulate, piece};
 ghost use Rattle.lists.specs.Tests.{below};
@@ -37,7 +40,7 @@ pub fn hear(
         let row = p * 32;
         let fend = row + fl;
         let gend = row + gl;
-        let q = helper::helper_pair(d, w, &ff[row..fend], &gf[row..gend], &area[from..to]);
+        let q = stripe_helper::helper_pair(d, w, &ff[row..fend], &gf[row..gend], &area[from..to]);
         firsts[p] = q.first;
         seconds[p] = q.second;
         p += 1;

@@ -1,5 +1,8 @@
 // Whether words are a repair's record; bytes of words, and words of bytes.
 // Assumes nothing.
+
+#![tactic(auto)]
+
 ghost use Rattle.std.specs.Prelude.{◌≡◌, ◌*◌, ◌<◌, length};
 ghost use Rattle.lists.specs.Lists.{joined};
 ghost use Rattle.record_words.specs.Words.{bytes, from_bytes};

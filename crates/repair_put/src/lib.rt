@@ -1,9 +1,12 @@
 // A rebuilt stripe of each fresh board, to its place in the area.
 // Assumes nothing.
+
+#![tactic(auto)]
+
 ghost use Rattle.std.specs.Prelude.{◌≡◌, true, ◌+◌, ◌*◌, ◌<◌, ◌≤◌, length, get_or};
 ghost use Rattle.lists.specs.Tests.{below};
 ghost use Rattle.sizes.specs.Sizing.{legal, α};
-ghost use Rattle.puts.specs.Steps.{puts};
+ghost use Rattle.area_puts.specs.Steps.{puts};
 ghost use Rattle.repair_hear.specs.Steps.{Naming};
 ghost use Rattle.repair_sent.specs.Steps.{stripe_by};
 

@@ -1,7 +1,7 @@
 -- The fresh boards other than one, and the rows of each.
 -- Assumes nothing.
 use Prim.Native.Nat.{ℕ, suc, ◌+◌, ◌*◌, ◌-◌, ◌≤◌, ◌<◌}
-use mathlib.Core.Path.{◌≡◌, refl, sym, ap, ap₂, ◌∙◌}
+use mathlib.Core.Path.{◌≡◌, refl, ap, ap₂, ◌∙◌}
 use mathlib.Core.Bool.{Bool, true, false}
 use mathlib.Core.List.{List, ◌++◌, append-nil}
 use native.Mathlib.Nat.{mul-le-mul_left, le_trans}
@@ -20,9 +20,9 @@ use Rattle.lists.proofs.Put.{part_end}
 use Rattle.lists.proofs.Boards.{below_all, all-below}
 use Rattle.sizes.specs.declared.Sizes.{Sizes}
 use Rattle.sizes.proofs.Legal.{Legal}
-use Rattle.factors.proofs.Values.{board-below}
-use Rattle.finish_rows.specs.Steps.{board_rows}
-use Rattle.finish_rows.proofs.Finished.{back-next, length-board-rows}
+use Rattle.lagrange_factors.proofs.Values.{board-below}
+use Rattle.stripe_finish.specs.Steps.{board_rows}
+use Rattle.stripe_finish.proofs.Finished.{back-next, length-board-rows}
 use Rattle.repair_hear.specs.Steps.{Naming}
 use Rattle.repair_rows.specs.Steps.{past, others_at, helpers_at, partners_at, fresh_rows}
 

@@ -5,7 +5,7 @@ use Rattle.std.specs.Prelude.{List, ◌++◌, ℕ, suc, ◌-◌, ltb, length, ge
 use Rattle.lists.specs.Tests.{pick}
 use Rattle.lists.specs.Lists.{tabulate, piece}
 use Rattle.sizes.specs.declared.Sizes.{Sizes}
-use Rattle.finish_rows.specs.Steps.{board_rows}
+use Rattle.stripe_finish.specs.Steps.{board_rows}
 
 -- the place of the u-th board other than the a-th
 abbrev pub past : ℕ → ℕ → ℕ

@@ -1,5 +1,8 @@
 // Lagrange's rows of all fresh boards of a repair, made once.
 // Assumes nothing.
+
+#![tactic(auto)]
+
 ghost use Rattle.std.specs.Prelude.{◌≡◌, true, ◌++◌, ◌+◌, ◌-◌, ◌*◌, ◌<◌, ◌≤◌, length};
 ghost use Rattle.lists.specs.Tests.{below};
 ghost use Rattle.lists.specs.Lists.{tabulate, join};
@@ -38,7 +41,7 @@ pub fn partners(standins: &[usize], fresh: &[usize], a: usize, out: &mut [usize]
     ensures { out.new ≡ standins.now ++ others_at fresh.now a }
 {
     let e = standins.len();
-    finish_rows::copy_boards(standins, &mut out[0..e]);
+    stripe_finish::copy_boards(standins, &mut out[0..e]);
     other_boards(fresh, a, &mut out[e..]);
 }
 
@@ -62,7 +65,7 @@ fn fresh_rows(
     let mid = from + sizes.d;
     let to = from + c;
     partners(&named[mid..to], fresh, a, boards);
-    finish_rows::board_rows(
+    stripe_finish::board_rows(
         points,
         &named[from..mid],
         boards,

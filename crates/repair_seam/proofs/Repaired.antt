@@ -1,13 +1,13 @@
 -- What an accepted repair leaves in the area: the stripes by places are the shares by packets.
 -- Assumes nothing.
-use Prim.Native.Nat.{ℕ, zero, suc, ◌+◌, ◌*◌, ◌-◌, ◌<◌}
+use Prim.Native.Nat.{ℕ, ◌+◌, ◌*◌, ◌<◌}
 use mathlib.Core.Path.{◌≡◌, refl, sym, ap, ap₂, ◌∙◌}
-use mathlib.Core.List.{List, [], ◌∷◌, ◌++◌}
+use mathlib.Core.List.{List, ◌++◌}
 use native.Mathlib.Omega.{arith}
 use lib.ListN.{length, get_or, take, drop, length-append}
-use Rattle.lists.specs.Lists.{tabulate, join, piece, put}
+use Rattle.lists.specs.Lists.{join, piece}
 use Rattle.lists.proofs.Boards.{among-all, get_d-among}
-use Rattle.lists.proofs.Pieces.{tabulate-suc, tabulate-get_d, join-ext, length-join, piece-join, length-piece}
+use Rattle.lists.proofs.Pieces.{join-ext, length-join, piece-join, length-piece}
 use Rattle.lists.proofs.Put.{within}
 use Rattle.sizes.specs.Sizing.{α}
 use Rattle.sizes.proofs.Legal.{row_fits}
@@ -18,8 +18,8 @@ use Rattle.store_spec.proofs.Packets.{heard-run}
 use Rattle.store_spec.proofs.Records.{Repairs}
 use Rattle.store_spec.proofs.Stripes.{repair-by-stripes}
 use Rattle.repair_hear.specs.Steps.{Naming}
-use Rattle.puts.specs.Steps.{puts}
-use Rattle.puts.proofs.Puts.{puts-same}
+use Rattle.area_puts.specs.Steps.{puts}
+use Rattle.area_puts.proofs.Puts.{puts-same}
 use Rattle.repair_stripe.specs.Steps.{rebuilt}
 use Rattle.repair_stripe.proofs.Rebuilt.{rebuilt-same}
 use Rattle.store_write.proofs.Places.{by-places}

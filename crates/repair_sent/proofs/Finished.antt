@@ -1,8 +1,8 @@
 -- What the fresh boards finish: bytes that partners send, and parts put together.
 -- Assumes nothing.
-use mathlib.Core.Path.{◌≡◌, refl, sym, ap, ap₂, ◌∙◌}
-use mathlib.Core.List.{List, [], ◌∷◌, ◌++◌}
-use Prim.Native.Nat.{ℕ, ◌+◌, ◌*◌, ◌-◌, ◌<◌, ◌≤◌}
+use mathlib.Core.Path.{◌≡◌, ap, ap₂, ◌∙◌}
+use mathlib.Core.List.{List, ◌++◌}
+use Prim.Native.Nat.{ℕ, ◌+◌, ◌*◌, ◌-◌, ◌≤◌}
 use native.Mathlib.Nat.{mul-le-mul}
 use native.Mathlib.Omega.{arith}
 use lib.ListN.{length, get_or, take, drop, length-append, length-take, length-drop}
@@ -15,8 +15,8 @@ use Rattle.sizes.specs.Sizing.{α}
 use Rattle.sizes.proofs.Legal.{Legal}
 use Rattle.row_values.specs.Steps.{row_sums}
 use Rattle.row_values.proofs.Sums.{length-sums}
-use Rattle.finish_rows.specs.Steps.{finished_by}
-use Rattle.finish_rows.proofs.Finished.{back-next, length-finished}
+use Rattle.stripe_finish.specs.Steps.{finished_by}
+use Rattle.stripe_finish.proofs.Finished.{back-next, length-finished}
 use Rattle.repair_hear.specs.Steps.{Naming}
 use Rattle.repair_rows.specs.Steps.{past}
 use Rattle.repair_sent.specs.Steps.{rows_of, g_row, sent_by, stripe_by}

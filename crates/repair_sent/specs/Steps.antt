@@ -5,7 +5,7 @@ use Rattle.std.specs.Prelude.{ℕ, ◌+◌, ◌*◌, ◌-◌, List, ◌++◌, le
 use Rattle.lists.specs.Lists.{tabulate, join, piece}
 use Rattle.sizes.specs.declared.Sizes.{Sizes}
 use Rattle.row_values.specs.Steps.{row_sums}
-use Rattle.finish_rows.specs.Steps.{finished_by}
+use Rattle.stripe_finish.specs.Steps.{finished_by}
 use Rattle.repair_rows.specs.Steps.{past}
 
 -- the rows of the a-th fresh board

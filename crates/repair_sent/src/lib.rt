@@ -1,5 +1,8 @@
 // The bytes that fresh boards hear of the others named, in one row.
 // Assumes nothing.
+
+#![tactic(auto)]
+
 ghost use Rattle.std.specs.Prelude.{◌≡◌, true, ◌++◌, ◌+◌, ◌-◌, ◌*◌, ◌<◌, ◌≤◌, length, take};
 ghost use Rattle.lists.specs.Lists.{piece};
 ghost use Rattle.sizes.specs.Sizing.{legal};

@@ -14,26 +14,26 @@ use Rattle.lists.proofs.Put.{part_end}
 use Rattle.sizes.specs.declared.Sizes.{Sizes}
 use Rattle.sizes.specs.Sizing.{α}
 use Rattle.sizes.proofs.Legal.{Legal}
-use Rattle.polynomial.specs.Polynomial.{eval, interpolate}
+use Rattle.polynomial.specs.Polynomial.{eval}
 use Rattle.polynomial.proofs.Poly.{eval-byte, interpolate-bytes}
 use Rattle.mbcr.specs.Share.{DifferentPoints, point, points}
-use Rattle.mbcr.specs.Rebuild.{g_from, finished_stripe}
+use Rattle.mbcr.specs.Rebuild.{g_from}
 use Rattle.mbcr.proofs.Points.{Boards, boards-left, points-bytes, points-distinct}
-use Rattle.factors.proofs.Values.{board-below}
+use Rattle.lagrange_factors.proofs.Values.{board-below}
 use Rattle.lagrange_rows.specs.Steps.{lagrange_rows}
 use Rattle.row_values.specs.Steps.{row_sums}
 use Rattle.row_values.proofs.Sums.{sums-values}
-use Rattle.finish_rows.specs.Steps.{finished_by, board_rows}
-use Rattle.finish_rows.proofs.Finished.{finished-is, rows_g, rows-f}
-use Rattle.puts.specs.Steps.{puts}
-use Rattle.puts.proofs.Puts.{puts-same}
-use Rattle.helper.specs.Steps.{pair_by}
+use Rattle.stripe_finish.specs.Steps.{board_rows}
+use Rattle.stripe_finish.proofs.Finished.{finished-is, rows_g, rows-f}
+use Rattle.area_puts.specs.Steps.{puts}
+use Rattle.area_puts.proofs.Puts.{puts-same}
+use Rattle.stripe_helper.specs.Steps.{pair_by}
 use Rattle.repair_factors.specs.Steps.{pair_row_at}
 use Rattle.repair_hear.specs.Steps.{Naming, heard_first, heard_second}
 use Rattle.repair_hear.proofs.Heard.{piece-long}
 use Rattle.repair_hear.proofs.Sent.{firsts-are, seconds-are}
-use Rattle.repair_rows.specs.Steps.{past, others_at, helpers_at, partners_at, fresh_rows}
-use Rattle.repair_rows.proofs.Others.{past-below, length-others, helpers-long, partners-long, length-fresh-rows}
+use Rattle.repair_rows.specs.Steps.{past, helpers_at, partners_at, fresh_rows}
+use Rattle.repair_rows.proofs.Others.{past-below, helpers-long, partners-long, length-fresh-rows}
 use Rattle.repair_sent.specs.Steps.{rows_of, g_row, g_rows, sent_by, stripe_by}
 use Rattle.repair_sent.proofs.Finished.{length-g, length-stripe}
 use Rattle.repair_stripe.specs.Steps.{DifferentRuns, polys_of, sent_at, stripe_at, all_firsts, all_seconds, rebuilt, firsts_by, seconds_by, rebuilt_by}

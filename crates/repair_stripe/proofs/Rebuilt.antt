@@ -1,6 +1,6 @@
 -- Rebuilt stripes by places: what they hang on, how long what is heard is, and that it is of bytes.
 -- Assumes nothing.
-use Prim.Native.Nat.{ℕ, ◌+◌, ◌*◌, ◌-◌, ◌<◌, ◌≤◌}
+use Prim.Native.Nat.{ℕ, ◌+◌, ◌*◌, ◌<◌, ◌≤◌}
 use mathlib.Core.Path.{◌≡◌, refl, sym, ap, ap₂, ◌∙◌}
 use mathlib.Core.List.{List, [], ◌∷◌, ◌++◌, map}
 use native.Mathlib.Omega.{arith}
@@ -10,7 +10,7 @@ use Rattle.lists.proofs.Alls.{all-imp, take-alls, drop-alls, append-all}
 use Rattle.lists.proofs.Pieces.{join-ext, length-join, join-bytes, map-bytes, length-piece}
 use Rattle.lists.proofs.Put.{part_end}
 use Rattle.sizes.specs.declared.Sizes.{Sizes}
-use Rattle.polynomial.specs.Polynomial.{eval, interpolate}
+use Rattle.polynomial.specs.Polynomial.{eval}
 use Rattle.polynomial.proofs.Poly.{eval-byte, interpolate-bytes, length-interpolate}
 use Rattle.mbcr.specs.Share.{point, points, neighbours}
 use Rattle.mbcr.specs.Rebuild.{own_f, own_g, g_from}

@@ -1,6 +1,6 @@
 -- A turn of the loop over the stripes: one stripe more of each fresh board, from boards whose parts no turn has changed.
 -- Assumes nothing.
-use Prim.Native.Nat.{ℕ, ◌+◌, ◌*◌, ◌-◌, ◌≤◌, ◌<◌}
+use Prim.Native.Nat.{ℕ, ◌+◌, ◌*◌, ◌≤◌, ◌<◌}
 use mathlib.Core.Path.{◌≡◌, refl, sym, ap, subst, ◌∙◌}
 use mathlib.Core.Bool.{Bool, true, false, not}
 use mathlib.Core.List.{List}
@@ -16,12 +16,12 @@ use Rattle.lists.proofs.Boards.{all_among, among-all, get_d-among}
 use Rattle.lists.proofs.Laws.{tests-mean}
 use Rattle.lists.proofs.Pieces.{length-join}
 use Rattle.lists.proofs.Tests.{true-false, every-all}
-use Rattle.factors.proofs.Values.{board-below}
+use Rattle.lagrange_factors.proofs.Values.{board-below}
 use Rattle.sizes.specs.declared.Sizes.{Sizes}
 use Rattle.sizes.specs.Sizing.{α}
 use Rattle.sizes.proofs.Legal.{row_fits}
-use Rattle.puts.specs.Steps.{puts}
-use Rattle.puts.proofs.Puts.{puts-same, puts-stripe, puts-other}
+use Rattle.area_puts.specs.Steps.{puts}
+use Rattle.area_puts.proofs.Puts.{puts-same, puts-stripe, puts-other}
 
 -- boards with other numbers have parts apart
 apart_parts : (i j w : ℕ) → (i ≡ j → ⊥) → (i * w + w ≤ j * w) ⊎ (j * w + w ≤ i * w)

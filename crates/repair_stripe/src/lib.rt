@@ -1,10 +1,13 @@
 // The stripes of a repair, one after another.
 // Assumes nothing.
+
+#![tactic(auto)]
+
 ghost use Rattle.std.specs.Prelude.{◌≡◌, true, ◌+◌, ◌*◌, ◌<◌, ◌≤◌, length, get_or, drop};
 ghost use Rattle.lists.specs.Lists.{join, piece};
 ghost use Rattle.lists.specs.Tests.{below, different, apart};
 ghost use Rattle.sizes.specs.Sizing.{legal, α};
-ghost use Rattle.puts.specs.Steps.{puts};
+ghost use Rattle.area_puts.specs.Steps.{puts};
 ghost use Rattle.repair_hear.specs.Steps.{Naming};
 ghost use Rattle.repair_stripe.specs.Steps.{rebuilt_by};
 

@@ -18,8 +18,8 @@ use Rattle.lists.proofs.Put.{part_end}
 use Rattle.lists.proofs.Pieces.{join-ext, join-piece, length-piece, piece_bytes, piece-at, piece-join, length-joined, join-joined, length-tabulate, tabulate-at, tabulate-ext, tabulate-get_d}
 use Rattle.lists.proofs.Pieces.{tabulate-all, tabulate-take}
 use Rattle.lists.proofs.Tests.{alls-hold, hold-alls, every-all, all-every}
-use Rattle.store_spec.specs.Running.{Running}
-use Rattle.store_spec.specs.MarkLaws.{Arrays}
+use Rattle.beside_spec.specs.Running.{Running}
+use Rattle.beside_spec.specs.HandedLaws.{Arrays}
 use Rattle.record_words.specs.Words.{bytes, from_bytes, word}
 use Rattle.record_words.proofs.Places.{byte_at}
 use Rattle.record_words.proofs.Points.{length-bytes, word_back, is_word, bytes-number, points-bytes}

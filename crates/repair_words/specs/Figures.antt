@@ -3,7 +3,7 @@
 -- Assumes nothing.
 use Rattle.std.specs.Prelude.{◌≡◌, true, false, List, [], ◌∷◌, ◌++◌, map, ℕ, ◌+◌, ◌*◌, take, set, replicate}
 use Rattle.lists.specs.Lists.{tabulate}
-use Rattle.store_spec.specs.Running.{Running}
+use Rattle.beside_spec.specs.Running.{Running}
 use Rattle.repair_words.specs.RepairWords.{is_repair, repair_from, repair_words_of}
 
 -- two fresh boards, five packets carried, and in the arrays: fresh boards 06 and 09, then 00; entry i of the helpers is i, of the stand-ins 255 less i

@@ -3,8 +3,8 @@
 use Rattle.std.specs.Prelude.{◌≡◌, true, ◌↔◌, List, [], ◌∷◌, ℕ, ◌+◌, ◌*◌, ◌/◌, ◌%◌, ◌^◌, ◌<◌, eqb, length, get_or, take, drop, replicate}
 use Rattle.lists.specs.Tests.{pick}
 use Rattle.lists.specs.Lists.{All, Bytes}
-use Rattle.store_spec.specs.Running.{Running, idle}
-use Rattle.store_spec.specs.MarkLaws.{Arrays}
+use Rattle.beside_spec.specs.Running.{Running, idle}
+use Rattle.beside_spec.specs.HandedLaws.{Arrays}
 use Rattle.repair_words.specs.RepairWords.{is_repair, repair_from, repair_words_of}
 
 pub record RepairWordLaws : Type 0 where

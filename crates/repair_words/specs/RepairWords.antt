@@ -4,7 +4,7 @@
 use Rattle.std.specs.Prelude.{Bool, List, [], ◌∷◌, ◌++◌, ℕ, ltb, eqb, length, get_or, take, drop}
 use Rattle.lists.specs.Tests.{pick, every, alls}
 use Rattle.lists.specs.Lists.{tabulate, joined, piece}
-use Rattle.store_spec.specs.Running.{Running}
+use Rattle.beside_spec.specs.Running.{Running}
 use Rattle.record_words.specs.Words.{bytes, from_bytes, word}
 
 -- m words of eight bytes each

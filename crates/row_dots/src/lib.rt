@@ -1,5 +1,8 @@
 // Rows of bytes, multiplied byte by byte: a sum of products, and a row times a byte, times a row, and times the differences to a point.
 // Assumes nothing.
+
+#![tactic(auto)]
+
 ghost use Rattle.std.specs.Prelude.{◌≡◌, ◌≤◌, length, get_or, take};
 ghost use Rattle.lists.specs.Lists.{tabulate};
 ghost use Rattle.gf256.specs.Field.{mul, add};

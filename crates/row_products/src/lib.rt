@@ -1,5 +1,8 @@
 // The products of two rows of bytes.
 // Assumes nothing.
+
+#![tactic(auto)]
+
 ghost use Rattle.std.specs.Prelude.{◌≡◌, length};
 ghost use Rattle.row_products.specs.Steps.{products};
 

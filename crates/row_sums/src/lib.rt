@@ -1,11 +1,14 @@
 // Rows of 32 bytes by value, and their sums. The definitions of sums of multiples of rows, looked up in tables of 16 multiples of each.
 // Assumes nothing.
+
+#![tactic(auto)]
+
 ghost use Rattle.std.specs.Prelude.{◌≡◌, List, ℕ, ◌+◌, ◌*◌, ◌<◌, ◌≤◌, length, get_or, take, drop};
 ghost use Rattle.polynomial.specs.Polynomial.{plus as sum_of};
 ghost use Rattle.row_sums.specs.Steps.{bytes_of, row_bytes};
 
 // 32 bytes.
-#[derive(Drop)]
+#[derive(Clone, Copy)]
 pub struct Row {
     pub a: u64,
     pub b: u64,

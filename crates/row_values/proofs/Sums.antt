@@ -1,7 +1,7 @@
 -- Sums of rows: a turn of the loop, and what the sums of Lagrange's rows are.
 -- Assumes nothing.
 use mathlib.Core.Path.{◌≡◌, refl, sym, ap, ap₂, ◌∙◌}
-use mathlib.Core.List.{List, [], ◌∷◌, ◌++◌}
+use mathlib.Core.List.{List, [], ◌∷◌}
 use Prim.Native.Nat.{ℕ, zero, suc, ◌+◌, ◌*◌, ◌-◌, ◌%◌, ◌<◌, ◌≤◌}
 use native.Mathlib.Nat.{mod-lt}
 use native.Mathlib.Numerals.{add-one}
@@ -15,7 +15,7 @@ use Rattle.gf256.specs.Field.{add, mul, add_scaled}
 use Rattle.polynomial.specs.Polynomial.{eval, interpolate, sum}
 use Rattle.mbcr.specs.Share.{point, points}
 use Rattle.mbcr.proofs.Points.{length-points}
-use Rattle.lagrange.specs.Steps.{weight, LagrangeClaim}
+use Rattle.lagrange.specs.Steps.{weight}
 use Rattle.lagrange.proofs.Lagrange.{lagrange}
 use Rattle.row_dots.proofs.Rows.{sum-suc, sum_same}
 use Rattle.lagrange_rows.specs.Steps.{lagrange_rows}

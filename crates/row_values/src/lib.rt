@@ -1,5 +1,8 @@
 // Sums of rows: the values of a polynomial at all points, from Lagrange's rows; and what a board keeps of such a row.
 // Assumes nothing.
+
+#![tactic(auto)]
+
 ghost use Rattle.std.specs.Prelude.{◌≡◌, ◌*◌, ◌%◌, ◌<◌, ◌≤◌, length};
 ghost use Rattle.row_values.specs.Steps.{row_sums, turned};
 
@@ -37,7 +40,7 @@ pub fn emit_turned(row: &[u8], n: usize, i: usize, out: &mut [u8])
     let mut t: usize = 0;
     while t < m {
         out[t] = row[b];
-        b = factors::next(b, n);
+        b = lagrange_factors::next(b, n);
         t += 1;
     }
 }

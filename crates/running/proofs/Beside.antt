@@ -10,7 +10,6 @@ use lib.ListN.{length, take}
 use Rattle.lists.specs.Tests.{alls}
 use lib.Seq.{length-take-le}
 use Rattle.lists.proofs.Tests.{is_false}
-use Rattle.sizes.specs.declared.Sizes.{Sizes}
 use Rattle.sizes.specs.declared.Refusal.{Refusal}
 use Rattle.sizes.specs.declared.Refusal.TheVariants.{Size}
 use Rattle.sizes.specs.declared.Check.{Check}
@@ -19,9 +18,9 @@ use Rattle.sizes.specs.Sizing.{legal}
 use Rattle.sizes.specs.Refusals.{◌when◌, first, store_order}
 use Rattle.store_spec.specs.Record.{Record}
 use Rattle.store_spec.specs.Calls.{list_lines}
-use Rattle.store_spec.specs.Running.{Running, fresh_of, packet_count, passed, sound_beside}
+use Rattle.beside_spec.specs.Running.{Running, fresh_of, packet_count, passed, sound_beside}
 use Rattle.line_checks.specs.Steps.{asked}
-use Rattle.checks.proofs.Chain.{then}
+use Rattle.board_lines.proofs.Chain.{then}
 use Rattle.list_tests.specs.Steps.{named}
 use Rattle.running_lists.proofs.Lists.{count-few}
 

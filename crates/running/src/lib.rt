@@ -1,11 +1,14 @@
 //! The check of a started repair's record (request A.8): whether it may stand beside the store's.
+
+#![tactic(auto)]
+
 ghost use Rattle.std.specs.Prelude.{◌≡◌, true, not, [], ◌∷◌, ◌-◌, ◌*◌, take};
 ghost use Rattle.sizes.specs.declared.Refusal.TheVariants.{Size};
 ghost use Rattle.sizes.specs.Sizing.{legal};
 ghost use Rattle.sizes.specs.Refusals.{◌when◌, first, store_order};
 ghost use Rattle.store_spec.specs.Calls.{list_lines};
-ghost use Rattle.store_spec.specs.Running.{sound_beside};
-ghost use Rattle.store_spec.specs.Both.{both_line};
+ghost use Rattle.beside_spec.specs.Running.{sound_beside};
+ghost use Rattle.beside_spec.specs.Both.{both_line};
 ghost use Rattle.line_checks.specs.Steps.{asked};
 ghost use Rattle.list_tests.specs.Steps.{named};
 ghost use Rattle.record.specs.Records.{record_of, running_in};
@@ -34,7 +37,7 @@ fn check_arrays(
     running_lists::boards_of(standins, &mut c);
     let h = t * sizes.d;
     let e = t * (sizes.r - t);
-    list_check::check_lists(sizes, marks, &a[..t], &b[..h], &c[..e])
+    check_lists::check_lists(sizes, marks, &a[..t], &b[..h], &c[..e])
 }
 
 // Whether the record of a repair may stand beside a store's with legal sizes.
@@ -75,7 +78,7 @@ pub fn check_running(kept: Kept, running: Running) -> Check
 pub fn check_both(kept: Kept, running: Running) -> Check
     ensures { result ≡ asked (both_line (record_of kept) (running_in running)) }
 {
-    if let Check::Refuse(size) = store_checks::check_record(kept) {
+    if let Check::Refuse(size) = store_lines::check_record(kept) {
         return Check::Refuse(size);
     }
     check_running(kept, running)

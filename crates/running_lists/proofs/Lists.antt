@@ -24,9 +24,9 @@ use Rattle.sizes.proofs.Legal.{legal-facts}
 use Rattle.sizes.proofs.Orders.{clear-off}
 use Rattle.store_spec.specs.Record.{Record}
 use Rattle.store_spec.specs.Calls.{list_lines}
-use Rattle.store_spec.specs.Running.{Running, fresh_of, helpers_of, stand_ins_of, named_in, sound_beside}
+use Rattle.beside_spec.specs.Running.{Running, fresh_of, helpers_of, stand_ins_of, named_in, sound_beside}
 use Rattle.store_spec.proofs.Records.{count_tests}
-use Rattle.store_spec.proofs.Beside.{sound-beside}
+use Rattle.beside_spec.proofs.Beside.{sound-beside}
 
 -- ---- how many boards a repair names
 

@@ -1,10 +1,13 @@
 //! The lists of a started repair (request A.8) as its record keeps them: bytes, at the beginning of an array each.
+
+#![tactic(auto)]
+
 ghost use Rattle.std.specs.Prelude.{◌≡◌, true, ◌++◌, ◌-◌, ◌*◌, ◌≤◌, ◌<◌, length, take, get_or};
 ghost use Rattle.lists.specs.Lists.{fit};
 ghost use Rattle.lists.specs.Tests.{below, among};
 ghost use Rattle.sizes.specs.Sizing.{legal};
-ghost use Rattle.store_spec.specs.Running.{running_by, sound_beside};
-ghost use Rattle.store_spec.specs.Both.{lost_beside};
+ghost use Rattle.beside_spec.specs.Running.{running_by, sound_beside};
+ghost use Rattle.beside_spec.specs.Both.{lost_beside};
 ghost use Rattle.record.specs.Records.{record_of, running_in};
 ghost use Rattle.running_lists.specs.Steps.{Arrays};
 
@@ -91,13 +94,13 @@ fn names(
     let x = board as u8;
     let h = t * sizes.d;
     let e = t * (sizes.r - t);
-    if board_tests::point_from(&fresh[..t], 0, x) {
+    if line_tests::point_from(&fresh[..t], 0, x) {
         return true;
     }
-    if board_tests::point_from(&helpers[..h], 0, x) {
+    if line_tests::point_from(&helpers[..h], 0, x) {
         return true;
     }
-    board_tests::point_from(&standins[..e], 0, x)
+    line_tests::point_from(&standins[..e], 0, x)
 }
 
 // The record of a repair after the loss of a board: a repair that names it ends.

@@ -13,7 +13,7 @@ use borrow.Rule.Slice.PartMut.{put_mid}
 use Rattle.lists.specs.Tests.{pick}
 use Rattle.lists.specs.Lists.{joined, piece}
 use Rattle.lists.proofs.Pieces.{length-tabulate}
-use Rattle.store_spec.specs.Running.{Running}
+use Rattle.beside_spec.specs.Running.{Running}
 use Rattle.record_words.specs.Words.{bytes, from_bytes}
 use Rattle.repair_words.specs.RepairWords.{is_repair, repair_from, repair_words_of, pack}
 use Rattle.repair_words.proofs.RepairWords.{repair-words}

@@ -1,4 +1,7 @@
 //! The record of a started repair in 71 words.
+
+#![tactic(auto)]
+
 ghost use Rattle.std.specs.Prelude.{◌≡◌, true, length};
 ghost use Rattle.record.specs.Records.{running_in};
 ghost use Rattle.repair_words.specs.RepairWords.{is_repair, repair_from, repair_words_of};

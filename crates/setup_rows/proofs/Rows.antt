@@ -6,10 +6,9 @@ use Prim.Native.Nat.{ℕ, ◌+◌, ◌*◌, ◌-◌, ◌≤◌}
 use native.Mathlib.Omega.{arith}
 use lib.ListN.{length, take, drop}
 use borrow.Rule.Slice.PartMut.{put_mid}
-use Rattle.lists.specs.Lists.{tabulate, join, piece, fit, put}
+use Rattle.lists.specs.Lists.{tabulate, join, fit, put}
 use Rattle.mbcr.specs.Share.{points}
 use Rattle.mbcr.proofs.Points.{length-points}
-use Rattle.row_sums.specs.Steps.{multiples}
 use Rattle.decode_laws.specs.Steps.{cell, seed_rows, unit_rows, top_rows}
 use Rattle.decode_laws.proofs.Loops.{back-part}
 use Rattle.decode_tables.proofs.Made.{units-are, tops-made}

@@ -1,6 +1,9 @@
 // The tables that a read makes once, of sizes, points and boards alone, each put at a place: rows of coefficients with their multiples,
 // and Lagrange's factors.
 // Assumes nothing.
+
+#![tactic(auto)]
+
 ghost use Rattle.std.specs.Prelude.{◌≡◌, true, ◌+◌, ◌-◌, ◌*◌, ◌≤◌, length, get_or};
 ghost use Rattle.lists.specs.Tests.{below};
 ghost use Rattle.lists.specs.Lists.{tabulate, put};
@@ -77,7 +80,7 @@ pub fn unit_tables(
 {
     let w = sizes.d + sizes.r;
     let mut targets = [0usize; 32];
-    factors::boards_from(sizes.n, boards[0], &mut targets[0..w]);
+    lagrange_factors::boards_from(sizes.n, boards[0], &mut targets[0..w]);
     row_tables(points, inverses, &targets[0..w], w, at, out);
 }
 

@@ -1,5 +1,8 @@
 // The coefficients of the highest powers, for the boards at which a read takes values.
 // Assumes nothing.
+
+#![tactic(auto)]
+
 ghost use Rattle.std.specs.Prelude.{◌≡◌, true, ◌+◌, ◌≤◌, length, get_or, take};
 ghost use Rattle.lists.specs.Tests.{below};
 ghost use Rattle.lists.specs.Lists.{tabulate, put};
@@ -25,6 +28,6 @@ pub fn tops_at(
     let d = sizes.d;
     let w = d + sizes.r;
     let mut targets = [0usize; 32];
-    factors::boards_from(sizes.n, boards[0], &mut targets[0..w]);
+    lagrange_factors::boards_from(sizes.n, boards[0], &mut targets[0..w]);
     setup_rows::top_table(points, inverses, &targets[0..d], sizes.k, at, out);
 }

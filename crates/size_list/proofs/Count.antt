@@ -1,13 +1,11 @@
 -- How many combinations there are: sums of 1, 2, .. , then of those sums, then of these.
 -- Assumes nothing.
 use mathlib.Core.Path.{◌≡◌, refl, sym, ap, ap₂, ◌∙◌}
-use mathlib.Core.List.{List, [], ◌∷◌, ◌++◌, append_assoc, append-nil}
+use mathlib.Core.List.{List, ◌++◌, append_assoc, append-nil}
 use Prim.Native.Nat.{ℕ, zero, suc, ◌+◌, ◌*◌, ◌-◌, ◌<◌, ◌≤◌}
-use native.Mathlib.Nat.{add-zero, add-suc, suc-add, add_assoc, add_comm, add_left_comm, mul-add, add-mul, mul_assoc, mul_comm, mul_left_comm, suc-mul, mul-suc, mul-one, one-mul, mul-zero}
-use native.Mathlib.Numerals.{add-one, add-two, add-three, add-four}
+use native.Mathlib.Nat.{add-zero, mul-add, mul_assoc, mul_comm, mul_left_comm, suc-mul, mul-suc, mul-one}
 use native.Mathlib.Omega.{arith}
 use lib.ListN.{length, length-append}
-use Rattle.sizes.specs.declared.Sizes.{Sizes}
 use Rattle.size_list.specs.Combinations.{each, combinations}
 use Rattle.size_list.proofs.Places.{one, of_d, of_k, of_n}
 

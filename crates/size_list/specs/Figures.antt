@@ -1,6 +1,6 @@
 -- Request A.12, figures with numbers that all differ: a line; all combinations up to 3; what is taken and what is refused.
 -- Assumes nothing.
-use Rattle.std.specs.Prelude.{◌≡◌, List, [], ◌∷◌}
+use Rattle.std.specs.Prelude.{◌≡◌, [], ◌∷◌}
 use Rattle.sizes.specs.declared.Sizes.{Sizes}
 use Rattle.printer.specs.Printer.{refused_line}
 use Rattle.size_list.specs.Combinations.{combinations, limit, listed, row, rows}

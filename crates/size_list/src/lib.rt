@@ -1,1 +1,3 @@
 //! All legal combinations of sizes: definitions and theorems. It has no function.
+
+#![tactic(auto)]

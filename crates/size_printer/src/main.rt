@@ -1,5 +1,7 @@
 // All sizes for the order form (request A.12): reads a limit from standard input, and writes a line for each legal combination of sizes up to it, or
 // one line with a refusal. It only reads and writes; the limit and the lines are decided by the crate `size_rows`.
+#![tactic(auto)]
+
 ghost use Rattle.std.specs.Prelude.{◌≡◌, false, ◌≤◌, length};
 ghost use Rattle.size_list.specs.Combinations.{combinations, rows};
 
@@ -42,9 +44,10 @@ fn print(most: usize) -> Run
     }
 }
 
-fn main() {
+fn main(rt: HostRuntime) {
+    let mut reader = rt.stdin();
     let mut input = [0u8; 4];
-    let count = standard_input::read_input(&mut input);
+    let count = standard_input::read_input(&mut reader, &mut input);
     let most = size_rows::limit(&input[..count]);
     if most == 0 {
         io::write_all(1, b"refused=1\n");

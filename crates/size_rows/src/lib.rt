@@ -1,4 +1,7 @@
 //! The lines of all legal combinations of sizes: one line, a run of lines, and the limit that is read.
+
+#![tactic(auto)]
+
 ghost use Rattle.std.specs.Prelude.{◌≡◌, true, ◌++◌, ◌+◌, ◌*◌, ◌≤◌, length};
 ghost use Rattle.sizes.specs.Sizing.{legal};
 ghost use Rattle.board_spec.specs.Text.{decimal};
@@ -11,7 +14,7 @@ use size_steps::Place;
 use sizes::Sizes;
 
 // A run of lines: how many bytes they have, and the place behind them.
-#[derive(Drop)]
+#[derive(Clone, Copy)]
 pub struct Run {
     pub count: usize,
     pub place: Place,

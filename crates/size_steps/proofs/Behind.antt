@@ -1,18 +1,12 @@
 -- The place behind a combination, case by case; a place behind a legal one is legal.
 -- Assumes nothing.
-use mathlib.Core.Path.{◌≡◌, refl}
-use mathlib.Core.Bool.{Bool, true, false}
-use Prim.Native.Nat.{ℕ, suc, ◌+◌, ◌<◌, ◌≤◌}
+use mathlib.Core.Path.{◌≡◌}
+use Prim.Native.Nat.{ℕ, ◌+◌, ◌<◌, ◌≤◌}
 use native.Mathlib.Omega.{arith}
-use lib.Dec.{leb, ltb}
-use borrow.Author.Tests.{ltb-true, ltb-false, leb-true, leb-false, lt-ltb, le-ltb, le-leb, lt-leb}
-use Rattle.lists.specs.Tests.{pick}
+use borrow.Author.Tests.{lt-ltb, le-ltb, le-leb, lt-leb}
 use Rattle.sizes.specs.declared.Sizes.{Sizes}
-use Rattle.sizes.specs.Sizing.{legal}
-use Rattle.sizes.proofs.Legal.{Legal, legal-facts, legal-yes}
-use Rattle.size_steps.specs.declared.Place.{Place}
 use Rattle.size_steps.specs.declared.Place.TheVariants.{At, End}
-use Rattle.size_steps.specs.Steps.{from_n, from_k, from_d, next_of, LegalPlace}
+use Rattle.size_steps.specs.Steps.{from_d, next_of}
 
 module _ (N n k : ℕ) where
   pub some-helpers : (d : ℕ) → d < n → from_d N n k d ≡ At (record { n = n; k = k; d = d; r = 1 })

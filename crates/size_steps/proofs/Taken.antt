@@ -1,19 +1,15 @@
 -- The limit, byte by byte: what a reader of the line gives, with a number of 33 or more held as 33.
 -- Assumes nothing.
-use mathlib.Core.Path.{◌≡◌, refl, sym, ap, ap₂, fun_ext, ◌∙◌}
-use mathlib.Core.Bool.{Bool, true, false}
+use mathlib.Core.Path.{◌≡◌, refl, sym, ◌∙◌}
 use mathlib.Core.List.{List, [], ◌∷◌}
-use Prim.Native.Nat.{ℕ, zero, suc, ◌+◌, ◌-◌, ◌<◌, ◌≤◌}
-use native.Mathlib.Nat.{eq-or-lt_of_le}
+use Prim.Native.Nat.{ℕ, suc, ◌<◌, ◌≤◌}
 use native.Mathlib.Omega.{arith}
 use native.Mathlib.Decide.{dec_lt}
-use lib.Dec.{leb, ltb, eqb}
-use lib.ListN.{length, drop, length-drop}
+use lib.Dec.{leb, eqb}
+use lib.ListN.{length}
 use borrow.Author.Tests.{lt-ltb, le-ltb, le-leb, lt-leb, eq-eqb, ne_eqb}
 use Rattle.lists.specs.Tests.{pick, alls}
-use Rattle.number_lines.specs.Lines.{line}
 use Rattle.number_lines.specs.Steps.{begin, capped, reads}
-use Rattle.number_lines.specs.Laws.{LineLaws}
 use Rattle.number_lines.proofs.Laws.{line-laws}
 use Rattle.size_list.specs.Combinations.{none, limit}
 use Rattle.size_steps.specs.Steps.{whole_limit}

@@ -1,6 +1,6 @@
 -- What a walk from the first combination meets: all of them, whatever the limit, and in blocks of 1,024 lines what the program writes.
 -- Assumes nothing.
-use Rattle.std.specs.Prelude.{◌≡◌, List, [], ◌∷◌, ◌++◌, ℕ, ◌+◌, ◌*◌, ◌≤◌, length}
+use Rattle.std.specs.Prelude.{◌≡◌, ℕ, ◌*◌, ◌≤◌, length}
 use Rattle.lists.specs.Lists.{join}
 use Rattle.size_list.specs.Combinations.{combinations, rows}
 use Rattle.size_steps.specs.declared.Place.{Place}

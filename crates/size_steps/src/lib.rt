@@ -1,4 +1,7 @@
 //! The list of all legal combinations of sizes, step by step: the place behind each, and what a whole line of input gives as its limit.
+
+#![tactic(auto)]
+
 ghost use Rattle.std.specs.Prelude.{◌≡◌, true, ◌≤◌};
 ghost use Rattle.sizes.specs.Sizing.{legal};
 ghost use Rattle.size_steps.specs.Steps.{next_of, from_d, whole_limit};
@@ -6,7 +9,7 @@ ghost use Rattle.size_steps.specs.Steps.{next_of, from_d, whole_limit};
 use sizes::Sizes;
 
 // A place in the list: at a combination, or behind the last.
-#[derive(Drop)]
+#[derive(Clone, Copy)]
 pub enum Place {
     At(Sizes),
     End,

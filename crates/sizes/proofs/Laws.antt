@@ -11,7 +11,6 @@ use borrow.Author.Tests.{eq-eqb, ne_eqb, leb-true, ltb-true, eqb-false, not-true
 use Rattle.lists.specs.Lists.{All}
 use Rattle.lists.specs.Tests.{pick, every}
 use Rattle.lists.proofs.Tests.{both}
-use Rattle.sizes.specs.declared.Sizes.{Sizes}
 use Rattle.sizes.specs.declared.Refusal.{Refusal}
 use Rattle.sizes.specs.declared.Refusal.TheVariants.{Size, Area, Long, Count, Node, Repeat, Short, Empty, Down, Disagree, Text, Mixed, Serving, Range, Busy, Idle}
 use Rattle.sizes.specs.declared.Answer.{Answer}

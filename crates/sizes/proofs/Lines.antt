@@ -13,7 +13,7 @@ use Rattle.lists.specs.Lists.{All}
 use Rattle.lists.specs.Tests.{pick, alls, given}
 use Rattle.lists.proofs.Tests.{true-false, hold-alls, alls-hold, is_false}
 use Rattle.sizes.specs.Laws.{First}
-use Rattle.sizes.specs.Refusals.{Line, applies_in, first, number}
+use Rattle.sizes.specs.Refusals.{Line, applies_in, first}
 use Rattle.sizes.specs.declared.Check.{Check}
 use Rattle.sizes.specs.declared.Check.TheVariants.{Pass, Refuse}
 use Rattle.sizes.specs.declared.Refusal.{Refusal}

@@ -9,7 +9,7 @@ use Rattle.sizes.specs.declared.Check.TheVariants.{Pass, Refuse}
 use Rattle.sizes.specs.declared.Answer.{Answer}
 use Rattle.sizes.specs.declared.Answer.TheVariants.{Done, Refused}
 use Rattle.sizes.specs.Sizing.{max_boards, max_stripes, legal, α, B, stripes}
-use Rattle.sizes.specs.Refusals.{number, Said, said, Line, ◌when◌, applies_in, first, store_order, board_order}
+use Rattle.sizes.specs.Refusals.{number, said, Line, ◌when◌, applies_in, first, store_order, board_order}
 
 -- x is the first of the order whose line holds
 pub record First (order : List Refusal) (lines : List Line) (x : Refusal) : Type 0 where

@@ -1,6 +1,6 @@
 -- Document 01, 'Field and sizes': which sizes are legal, and the lengths that follow from them.
 -- Assumes nothing.
-use Rattle.std.specs.Prelude.{Bool, List, [], ◌∷◌, ℕ, ◌+◌, ◌-◌, ◌*◌, ◌/◌, leb}
+use Rattle.std.specs.Prelude.{Bool, [], ◌∷◌, ℕ, ◌+◌, ◌-◌, ◌*◌, ◌/◌, leb}
 use Rattle.lists.specs.Tests.{alls}
 use Rattle.sizes.specs.declared.Sizes.{Sizes}
 

@@ -1,11 +1,14 @@
 //! The sizes of the code, what a call answers, and the refusals with their numbers.
+
+#![tactic(auto)]
+
 ghost use Rattle.std.specs.Prelude.{◌≡◌};
 ghost use Rattle.lists.specs.Tests.{pick};
 ghost use Rattle.sizes.specs.Sizing.{legal, α, B, stripes};
 ghost use Rattle.sizes.specs.Refusals.{number};
 
 // Document 01's refusals and those of the requests, in the order of their numbers; 11 is not used, and is never given again.
-#[derive(Drop)]
+#[derive(Clone, Copy)]
 pub enum Refusal {
     Size,
     Area,
@@ -26,21 +29,21 @@ pub enum Refusal {
 }
 
 // What a check answers: nothing is wrong, or the refusal to give.
-#[derive(Drop)]
+#[derive(Clone, Copy)]
 pub enum Check {
     Pass,
     Refuse(Refusal),
 }
 
 // What a call answers: it is done, with the number that it reports, or it is refused.
-#[derive(Drop)]
+#[derive(Clone, Copy)]
 pub enum Answer {
     Done(usize),
     Refused(Refusal),
 }
 
 // n boards, k read, d helpers, r fresh boards.
-#[derive(Drop)]
+#[derive(Clone, Copy)]
 pub struct Sizes {
     pub n: usize,
     pub k: usize,

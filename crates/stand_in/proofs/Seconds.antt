@@ -1,11 +1,11 @@
 -- The bytes by factors are those of the definition.
 -- Assumes nothing.
 use mathlib.Core.Path.{◌≡◌, refl, sym, ap, ◌∙◌}
-use mathlib.Core.List.{List, [], ◌∷◌, ◌++◌}
+use mathlib.Core.List.{List, ◌++◌}
 use Prim.Native.Nat.{ℕ, ◌+◌, ◌*◌, ◌-◌, ◌%◌, ◌<◌, ◌≤◌}
 use native.Mathlib.Omega.{arith}
 use lib.ListN.{length, get_or, take, drop}
-use Rattle.lists.specs.Lists.{Bytes, tabulate, join, piece, fit}
+use Rattle.lists.specs.Lists.{Bytes, tabulate, piece, fit}
 use Rattle.lists.proofs.Put.{part_end}
 use Rattle.lists.proofs.Pieces.{tabulate-ext, piece-join, length-piece, piece_bytes}
 use Rattle.sizes.specs.declared.Sizes.{Sizes}
@@ -13,9 +13,9 @@ use Rattle.sizes.specs.Sizing.{α}
 use Rattle.sizes.proofs.Legal.{Legal}
 use Rattle.mbcr.specs.Share.{DifferentPoints}
 use Rattle.mbcr.specs.Rebuild.{seconds, helper_pair, helper_packet, stand_in_packet}
-use Rattle.factors.specs.Steps.{factors_at, dot_of}
-use Rattle.helper.specs.Steps.{pair_by}
-use Rattle.helper.proofs.Packets.{pair_is}
+use Rattle.lagrange_factors.specs.Steps.{factors_at, dot_of}
+use Rattle.stripe_helper.specs.Steps.{pair_by}
+use Rattle.stripe_helper.proofs.Packets.{pair_is}
 
 -- the second byte of a pair by factors
 second-of : (w : ℕ) (ff gf held : List ℕ) → get_or (pair_by w ff gf held) 1 0 ≡ dot_of gf (take 1 held ++ drop w held)

@@ -2,13 +2,16 @@
 // A byte is a sum of the bytes that the stand-in keeps, times factors that depend on the two boards alone: these are made once. The definitions
 // are those of the crate mbcr, over any bytes; the points of the boards differ.
 // Assumes nothing.
+
+#![tactic(auto)]
+
 ghost use Rattle.std.specs.Prelude.{◌≡◌, true, ◌++◌, ◌+◌, ◌-◌, ◌*◌, ◌<◌, ◌≤◌, length, take, drop};
 ghost use Rattle.lists.specs.Lists.{tabulate, piece};
 ghost use Rattle.gf256.specs.Field.{inverse};
 ghost use Rattle.sizes.specs.Sizing.{legal, α};
 ghost use Rattle.mbcr.specs.Share.{DifferentPoints};
 ghost use Rattle.mbcr.specs.Rebuild.{stand_in_packet};
-ghost use Rattle.factors.specs.Steps.{dot_of};
+ghost use Rattle.lagrange_factors.specs.Steps.{dot_of};
 
 use sizes::Sizes;
 
@@ -63,7 +66,7 @@ fn packet_in(
 {
     let d = sizes.d;
     let w = d + sizes.r;
-    factors::factors_from(points, sizes.n, j, d, inverses, i, gf);
+    lagrange_factors::factors_from(points, sizes.n, j, d, inverses, i, gf);
     second_bytes(d, w, gf, stripes, held, out);
 }
 

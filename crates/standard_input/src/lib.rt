@@ -1,17 +1,34 @@
-//! What a program reads from standard input, where it is at most as long as a lent slice.
+//! What a program reads from standard input, where it is at most as long as a lent slice. The reader is lent too: a program passes its own standard
+//! input.
+#![tactic(auto)]
+
 ghost use Rattle.std.specs.Prelude.{◌≤◌, length};
+ghost use Rattle.standard_input.specs.Reads.{Moved, Taken};
+
+use std::io::Read;
 
 // What a read of one byte gave.
-#[derive(Drop)]
+#[derive(Clone, Copy)]
 enum Got {
     Byte(u8),
     End,
     Failed,
 }
 
-fn read_byte() -> Got {
+// Reads once into a slice. Answers how many bytes it put at the beginning of the slice, where 0 are the end of the input, or -1 where the read failed.
+pub fn read_once<R: Read>(reader: &mut R, slice: &mut [u8]) -> isize
+    ensures bound { Moved result slice.new }
+    ensures bytes { Taken (R.remaining reader.old) (R.remaining reader.new) result slice.new }
+{
+    match reader.read(slice) {
+        Ok(n) => n as isize,
+        Err(_) => -1,
+    }
+}
+
+fn read_byte<R: Read>(reader: &mut R) -> Got {
     let mut byte = [0u8; 1];
-    let got = libc::read(0, &mut byte);
+    let got = read_once(reader, &mut byte);
     if got < 0 {
         return Got::Failed;
     }
@@ -23,12 +40,12 @@ fn read_byte() -> Got {
 
 // Reads to the end of the input or until the slice is full, and answers how many bytes came. A read that failed counts as a full slice, which the
 // programs that call this refuse.
-pub fn read_input(input: &mut [u8]) -> usize
+pub fn read_input<R: Read>(reader: &mut R, input: &mut [u8]) -> usize
     ensures { result ≤ length input.new }
 {
     let mut done: usize = 0;
     while done < input.len() {
-        let got = read_byte();
+        let got = read_byte(reader);
         match got {
             Got::Byte(b) => {
                 input[done] = b;

@@ -4,7 +4,6 @@ use Prim.Native.Nat.{ℕ, ◌+◌, ◌-◌, ◌*◌, ◌≤◌, ◌<◌}
 use mathlib.Core.Path.{◌≡◌, sym, ap, ◌∙◌}
 use mathlib.Core.Bool.{true}
 use mathlib.Core.List.{List, [], ◌∷◌, ◌++◌}
-use native.Mathlib.Nat.{mul-add}
 use native.Mathlib.Omega.{arith}
 use lib.ListN.{length, get_or, take, drop, length-take, length-drop}
 use lib.Seq.{drop-drop}
@@ -12,7 +11,6 @@ use Rattle.lists.specs.Tests.{below}
 use Rattle.lists.specs.Lists.{piece}
 use Rattle.lists.proofs.Alls.{all_left}
 use Rattle.lists.proofs.Boards.{below_all, all-below}
-use Rattle.lists.proofs.Pieces.{part-piece}
 use Rattle.lists.proofs.Put.{part_end}
 use Rattle.finish_bytes.proofs.Shares.{last-known}
 use Rattle.repair_rows.specs.Steps.{others_at}

@@ -1,5 +1,8 @@
 // The share of one fresh board of a started repair, from the packets that lie for it in the packet area.
 // Assumes nothing.
+
+#![tactic(auto)]
+
 ghost use Rattle.std.specs.Prelude.{◌≡◌, true, [], ◌∷◌, ◌++◌, ◌+◌, ◌-◌, ◌*◌, ◌<◌, ◌≤◌, length, get_or, drop};
 ghost use Rattle.lists.specs.Tests.{below, different};
 ghost use Rattle.lists.specs.Lists.{tabulate, piece};
@@ -7,7 +10,7 @@ ghost use Rattle.gf256.specs.Field.{inverse};
 ghost use Rattle.sizes.specs.Sizing.{legal, α};
 ghost use Rattle.mbcr.specs.Share.{DifferentPoints};
 ghost use Rattle.mbcr.specs.Rebuild.{finished_share};
-ghost use Rattle.finish_rows.specs.Steps.{board_rows};
+ghost use Rattle.stripe_finish.specs.Steps.{board_rows};
 ghost use Rattle.repair_rows.specs.Steps.{others_at};
 
 use sizes::Sizes;
@@ -28,7 +31,7 @@ fn rows_in(
     ensures { rows.new ≡ board_rows points.now helpers.now (standins.now ++ others_at fresh.now a) (get_or fresh.now a 0) }
 {
     repair_rows::partners(standins, fresh, a, boards);
-    finish_rows::board_rows(points, helpers, boards, fresh[a], inverses, all, rows);
+    stripe_finish::board_rows(points, helpers, boards, fresh[a], inverses, all, rows);
 }
 
 // The same, with space of its own.

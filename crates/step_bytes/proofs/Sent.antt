@@ -1,7 +1,7 @@
 -- Bytes out of packets that lie in two places, in one row.
 -- Assumes nothing.
-use mathlib.Core.Path.{◌≡◌, refl, sym, ap, ap₂, ◌∙◌}
-use mathlib.Core.List.{List, [], ◌∷◌, ◌++◌, append_assoc}
+use mathlib.Core.Path.{◌≡◌, sym, ap, ap₂, ◌∙◌}
+use mathlib.Core.List.{List, ◌∷◌, ◌++◌, append_assoc}
 use Prim.Native.Nat.{ℕ, zero, suc, ◌+◌, ◌*◌, ◌-◌, ◌<◌, ◌≤◌}
 use native.Mathlib.Nat.{zero-add, suc-add, add-mul}
 use native.Mathlib.Omega.{arith}
@@ -13,7 +13,7 @@ use Rattle.lists.proofs.Pieces.{length-tabulate, tabulate-ext}
 use Rattle.lists.proofs.Put.{part_end}
 use Rattle.sizes.specs.declared.Sizes.{Sizes}
 use Rattle.mbcr.specs.Rebuild.{received, exchanged}
-use Rattle.exchange.proofs.Packets.{exchanged-made, length-received}
+use Rattle.stripe_exchange.proofs.Packets.{exchanged-made, length-received}
 
 tabulate-add : (e m : ℕ) (f : ℕ → ℕ) → tabulate (e + m) f ≡ tabulate e f ++ tabulate m (λ u. f (e + u))
 tabulate-add zero m f = ap (λ (n : ℕ). tabulate n f) (zero-add m) ∙ tabulate-ext m f (λ u. f (zero + u)) (λ u h. ap f (sym (zero-add u)))

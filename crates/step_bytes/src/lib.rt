@@ -1,6 +1,9 @@
 // What a fresh board of a started repair hears of a stripe, in two rows, from the packets that lie for it: those of its helpers, of its stand-ins and of
 // the other fresh boards.
 // Assumes nothing.
+
+#![tactic(auto)]
+
 ghost use Rattle.std.specs.Prelude.{◌≡◌, ◌++◌, ◌+◌, ◌-◌, ◌*◌, ◌<◌, ◌≤◌, length, get_or, take};
 ghost use Rattle.lists.specs.Lists.{tabulate};
 ghost use Rattle.mbcr.specs.Rebuild.{received, exchanged};
@@ -39,7 +42,7 @@ fn gather(
     let mid = d + e;
     let last = got.len() - 1;
     let rest = sizes.r - 1 - e;
-    exchange::received(sizes, stripes, 1, s, packets, &mut got[0..d]);
+    stripe_exchange::received(sizes, stripes, 1, s, packets, &mut got[0..d]);
     sent_bytes(stripes, s, e, stood, &mut got[d..mid]);
     sent_bytes(stripes, s, rest, exchanges, &mut got[mid..last]);
 }
@@ -59,6 +62,6 @@ pub fn hear(
     requires { (sizes.d + sizes.r ≤ 32) × (e < sizes.r) × (s < stripes) × (stripes ≤ 4096) × (length packets.now ≡ sizes.d * (2 * stripes)) × (length stood.now ≡ e * stripes) × (length exchanges.now ≡ (sizes.r - 1 - e) * stripes) × (length firsts.old ≡ sizes.d) × (length got.old ≡ sizes.d + sizes.r) }
     ensures { (firsts.new ≡ received sizes stripes 0 s packets.now) × (take (length got.old - 1) got.new ≡ received sizes stripes 1 s packets.now ++ exchanged sizes stripes s (stood.now ++ exchanges.now)) }
 {
-    exchange::received(sizes, stripes, 0, s, packets, firsts);
+    stripe_exchange::received(sizes, stripes, 0, s, packets, firsts);
     gather(sizes, stripes, s, e, packets, stood, exchanges, got);
 }

@@ -1,5 +1,8 @@
 // An exchange packet of a started repair, made inside the packet area: from the helper packets of its sender that lie there, to its own place.
 // Assumes nothing.
+
+#![tactic(auto)]
+
 ghost use Rattle.std.specs.Prelude.{◌≡◌, true, ◌+◌, ◌*◌, ◌<◌, ◌≤◌, length, take, drop};
 ghost use Rattle.lists.specs.Tests.{below, different};
 ghost use Rattle.lists.specs.Lists.{tabulate, put};
@@ -7,7 +10,7 @@ ghost use Rattle.gf256.specs.Field.{inverse};
 ghost use Rattle.sizes.specs.Sizing.{legal};
 ghost use Rattle.mbcr.specs.Share.{DifferentPoints};
 ghost use Rattle.mbcr.specs.Rebuild.{received, exchange_packet};
-ghost use Rattle.factors.specs.Steps.{dot_of};
+ghost use Rattle.lagrange_factors.specs.Steps.{dot_of};
 
 use sizes::Sizes;
 
@@ -19,7 +22,7 @@ fn bytes_at(sizes: Sizes, ff: &[u8], stripes: usize, from: usize, at: usize, pac
     let to = from + sizes.d * (2 * stripes);
     let mut s: usize = 0;
     while s < stripes {
-        let b = exchange::exchange_byte(sizes, ff, stripes, s, &packets[from..to]);
+        let b = stripe_exchange::exchange_byte(sizes, ff, stripes, s, &packets[from..to]);
         let place = at + s;
         packets[place] = b;
         s += 1;
@@ -42,7 +45,7 @@ fn exchange_in(
     requires { (legal sizes ≡ true) × (length points.now ≡ 32) × DifferentPoints sizes points.now × (inverses.now ≡ tabulate 256 inverse) × (stripes ≤ 4096) × (length helpers.now ≡ sizes.d) × (below sizes.n helpers.now ≡ true) × (different helpers.now ≡ true) × (m < sizes.n) × (from + sizes.d * (2 * stripes) ≤ at) × (at + stripes ≤ length packets.old) × (sizes.d ≤ length ff.old) × (length ff.old ≤ 32) }
     ensures { packets.new ≡ put packets.old at (exchange_packet sizes points.now stripes helpers.now (take (sizes.d * (2 * stripes)) (drop from packets.old)) m) }
 {
-    factors::factors(points, helpers, inverses, m, ff);
+    lagrange_factors::factors(points, helpers, inverses, m, ff);
     bytes_at(sizes, ff, stripes, from, at, packets);
 }
 

@@ -12,9 +12,9 @@ use Rattle.sizes.specs.declared.Sizes.{Sizes}
 use Rattle.sizes.specs.Sizing.{α}
 use Rattle.sizes.proofs.Legal.{Legal}
 use Rattle.mbcr.specs.Rebuild.{finished_share}
-use Rattle.puts.specs.Steps.{puts}
+use Rattle.area_puts.specs.Steps.{puts}
 use Rattle.store_spec.specs.Record.{Record, stripe_count, put_shares}
-use Rattle.store_spec.specs.Lying.{share_lying}
+use Rattle.beside_spec.specs.Lying.{share_lying}
 use Rattle.repair_rows.specs.Steps.{others_at}
 use Rattle.step_laws.specs.Steps.{Listed, share_at}
 use Rattle.step_laws.proofs.Facts.{helpers-served, stand-ins-served, run_end, few-packets}

@@ -1,14 +1,17 @@
 // The shares that the last step of a started repair writes: each fresh board's from the packets that lie for it in the packet area, to its place in the
 // area.
 // Assumes nothing.
+
+#![tactic(auto)]
+
 ghost use Rattle.std.specs.Prelude.{◌≡◌, true, List, ℕ, ◌+◌, ◌*◌, ◌<◌, ◌≤◌, length, get_or};
 ghost use Rattle.lists.specs.Lists.{tabulate, put};
 ghost use Rattle.gf256.specs.Field.{inverse};
 ghost use Rattle.sizes.specs.Sizing.{legal, α};
 ghost use Rattle.mbcr.specs.Share.{DifferentPoints};
-ghost use Rattle.puts.specs.Steps.{puts};
+ghost use Rattle.area_puts.specs.Steps.{puts};
 ghost use Rattle.store_spec.specs.Record.{Record, stripe_count, put_shares};
-ghost use Rattle.store_spec.specs.Lying.{share_lying};
+ghost use Rattle.beside_spec.specs.Lying.{share_lying};
 ghost use Rattle.step_laws.specs.Steps.{Listed, share_at};
 
 use sizes::Sizes;

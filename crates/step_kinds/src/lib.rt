@@ -1,5 +1,8 @@
 // The packets of a started repair by kind, each to its place in the packet area: the p-th helper packet, stand-in's packet and exchange.
 // Assumes nothing.
+
+#![tactic(auto)]
+
 ghost use Rattle.std.specs.Prelude.{◌≡◌, true, ◌+◌, ◌-◌, ◌*◌, ◌<◌, ◌≤◌, length};
 ghost use Rattle.lists.specs.Lists.{tabulate, put};
 ghost use Rattle.gf256.specs.Field.{inverse};

@@ -1,13 +1,13 @@
 -- What lists that a start takes are: plain facts of each board and each run; and where packets lie.
 -- Assumes nothing.
-use Prim.Native.Nat.{ℕ, zero, suc, ◌+◌, ◌-◌, ◌*◌, ◌/◌, ◌≤◌, ◌<◌, min}
-use mathlib.Core.Path.{◌≡◌, refl, sym, ◌∙◌, ap, ap₂, subst}
+use Prim.Native.Nat.{ℕ, ◌+◌, ◌-◌, ◌*◌, ◌/◌, ◌≤◌, ◌<◌}
+use mathlib.Core.Path.{◌≡◌, refl, ◌∙◌, ap, ap₂, subst}
 use mathlib.Core.Bool.{Bool, true, false, not}
 use mathlib.Core.List.{List, [], ◌∷◌, ◌++◌, append_assoc}
 use native.Mathlib.Omega.{arith}
-use native.Mathlib.Nat.{min-eq_left, min-eq_right, mul-le-mul_right, mul-le-mul, mul_comm, mul_assoc}
-use lib.ListN.{length, take, drop, get_or}
-use Rattle.lists.specs.Tests.{pick, among, every, below, different, apart}
+use native.Mathlib.Nat.{min-eq_left, min-eq_right, mul-le-mul_right, mul-le-mul}
+use lib.ListN.{length, drop, get_or}
+use Rattle.lists.specs.Tests.{pick, among, below, different, apart}
 use Rattle.lists.specs.Lists.{All, piece}
 use Rattle.lists.proofs.Alls.{all-at, all_left, all_right, append-all, take-alls, drop-alls}
 use Rattle.lists.proofs.Boards.{below_all, all-below, get_d-among, different-cons, among-append-left, distinct-different}
@@ -15,7 +15,6 @@ use Rattle.lists.proofs.Pieces.{length-piece}
 use Rattle.lists.proofs.Put.{part_end}
 use Rattle.lists.proofs.Tests.{true-false, every-all, all-every}
 use Rattle.sizes.specs.declared.Sizes.{Sizes}
-use Rattle.sizes.specs.Sizing.{α}
 use Rattle.sizes.proofs.Legal.{Legal}
 use Rattle.mbcr.proofs.Points.{Boards}
 use Rattle.store_spec.specs.Record.{Record}
@@ -23,9 +22,9 @@ use Rattle.store_spec.proofs.Named.{named-boards}
 use Rattle.store_spec.proofs.Packets.{run-different}
 use Rattle.store_spec.proofs.Records.{Repairs}
 use Rattle.repair_rows.specs.Steps.{others_at}
-use Rattle.repair_rows.proofs.Others.{length-others, others_below}
+use Rattle.repair_rows.proofs.Others.{length-others}
 use Rattle.repair_rows.proofs.Without.{without-place}
-use Rattle.step_laws.specs.Steps.{Listed, Served, DifferentEach, place_at, partners_at}
+use Rattle.step_laws.specs.Steps.{Listed, Served, DifferentEach, place_at}
 use Rattle.step_laws.proofs.Runs.{in-part}
 
 -- as the checks' pass gives them

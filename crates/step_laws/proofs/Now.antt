@@ -3,22 +3,22 @@
 use Prim.Native.Nat.{ℕ, zero, suc, ◌+◌, ◌-◌, ◌*◌, ◌/◌, ◌%◌, ◌≤◌, ◌<◌}
 use mathlib.Core.Path.{◌≡◌, refl, sym, ◌∙◌, ap, ap₂, subst}
 use mathlib.Core.Bool.{Bool, true, false}
-use mathlib.Core.List.{List, [], ◌∷◌, ◌++◌}
+use mathlib.Core.List.{List, ◌++◌}
 use native.Mathlib.Numerals.{add-one}
 use native.Mathlib.Omega.{arith}
 use lib.Dec.{ltb}
-use lib.ListN.{length, take, drop, get_or, length-append, get_or-append}
+use lib.ListN.{length, get_or, get_or-append}
 use lib.Seq.{get_or-append-add}
 use borrow.Author.Tests.{ltb-true, ltb-false, lt-ltb, le-ltb}
-use Rattle.lists.specs.Tests.{pick, different}
-use Rattle.lists.specs.Lists.{piece, put, without}
+use Rattle.lists.specs.Tests.{pick}
+use Rattle.lists.specs.Lists.{put, without}
 use Rattle.lists.proofs.Pieces.{tabulate-at}
 use Rattle.sizes.specs.declared.Sizes.{Sizes}
 use Rattle.mbcr.specs.Rebuild.{helper_packet, stand_in_packet, exchange_packet}
 use Rattle.store_spec.specs.Record.{Record, stripe_count, held}
 use Rattle.store_spec.specs.Packets.{Packet, packets_of, contents, senders_of, sent_to, hear_helpers, hear_partners, stand_ins_each, helper_packets, stand_in_packets}
-use Rattle.store_spec.specs.Running.{packet_count}
-use Rattle.store_spec.specs.Lying.{laid, helpers_lying, exchanges_made, packets_now, carry, blank}
+use Rattle.beside_spec.specs.Running.{packet_count}
+use Rattle.beside_spec.specs.Lying.{laid, helpers_lying, exchanges_made, packets_now, carry, blank}
 use Rattle.store_spec.proofs.Packets.{packet-count, length-helpers, helpers-count}
 use Rattle.repair_rows.specs.Steps.{past}
 use Rattle.repair_rows.proofs.Others.{past-below}

@@ -1,20 +1,20 @@
 -- Packets by their number, and those that lie there for the a-th fresh board, over any lists of the right lengths.
 -- Assumes nothing.
-use Prim.Native.Nat.{ℕ, zero, suc, ◌+◌, ◌-◌, ◌*◌, ◌/◌, ◌%◌, ◌≤◌, ◌<◌}
+use Prim.Native.Nat.{ℕ, zero, suc, ◌+◌, ◌-◌, ◌*◌, ◌/◌, ◌%◌, ◌<◌}
 use mathlib.Core.Path.{◌≡◌, refl, sym, ◌∙◌, ap, ap₂}
 use mathlib.Core.Bool.{true}
-use mathlib.Core.List.{List, [], ◌∷◌, ◌++◌, map}
+use mathlib.Core.List.{List, [], ◌∷◌, map}
 use native.Mathlib.Omega.{arith}
 use native.Mathlib.Nat.{zero-mul, suc-mul}
 use lib.ListN.{length, take, drop, get_or, length-map, get_or-append}
 use lib.Seq.{get_or-append-add, get_or-take, get_or-drop}
 use Rattle.lists.specs.Tests.{different}
-use Rattle.lists.specs.Lists.{All, piece, without}
+use Rattle.lists.specs.Lists.{piece, without}
 use Rattle.lists.proofs.Boards.{length_without, among-all}
 use Rattle.store_spec.specs.Packets.{Packet, Hearing, packets_of, contents, senders_of, sent_to, hear_helpers, hear_partners}
-use Rattle.store_spec.specs.Lying.{laid_to, laid, blank}
+use Rattle.beside_spec.specs.Lying.{laid_to, laid, blank}
 use Rattle.store_spec.proofs.Packets.{EachHears, receivers-helpers, receivers-partners, length-helpers, helpers-count, partners-each, run_length}
-use Rattle.store_spec.proofs.Laid.{no-hearing, laid-senders, laid-contents, sent-laid, helper-at, partner-at}
+use Rattle.beside_spec.proofs.Laid.{no-hearing, laid-senders, laid-contents, sent-laid, helper-at, partner-at}
 
 -- ---- packet u of the a-th hearing, where each hears c
 

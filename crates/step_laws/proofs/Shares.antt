@@ -6,7 +6,7 @@ use mathlib.Core.List.{List, [], ◌∷◌, ◌++◌}
 use native.Mathlib.Numerals.{add-one}
 use native.Mathlib.Omega.{arith}
 use native.Mathlib.Nat.{min-eq_left, min-eq_right, mul_assoc}
-use lib.ListN.{length, take, drop, get_or}
+use lib.ListN.{length, drop, get_or}
 use Rattle.lists.specs.Lists.{piece, put, tabulate}
 use Rattle.lists.proofs.Pieces.{tabulate-get_d, tabulate-suc}
 use Rattle.sizes.specs.declared.Sizes.{Sizes}
@@ -14,11 +14,11 @@ use Rattle.sizes.specs.Sizing.{α}
 use Rattle.sizes.proofs.Legal.{Legal}
 use Rattle.mbcr.specs.Rebuild.{finished_share}
 use Rattle.mbcr.proofs.Repair.{length-finished}
-use Rattle.puts.specs.Steps.{puts}
-use Rattle.puts.proofs.Puts.{puts-same}
+use Rattle.area_puts.specs.Steps.{puts}
+use Rattle.area_puts.proofs.Puts.{puts-same}
 use Rattle.store_spec.specs.Record.{Record, stripe_count, part_len, put_shares}
 use Rattle.store_spec.specs.Packets.{Packet, contents, senders_of, sent_to, hear_helpers, hear_partners, stand_ins_each}
-use Rattle.store_spec.specs.Lying.{laid, place_of, helpers_lying, partners_lying, share_lying}
+use Rattle.beside_spec.specs.Lying.{laid, place_of, helpers_lying, partners_lying, share_lying}
 use Rattle.store_spec.proofs.Packets.{senders-append, contents-append}
 use Rattle.repair_rows.specs.Steps.{others_at}
 use Rattle.repair_rows.proofs.Without.{without-place}

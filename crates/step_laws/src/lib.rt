@@ -1,2 +1,4 @@
 // A started repair by places: definitions and laws only.
 // Assumes nothing.
+
+#![tactic(auto)]

@@ -1,13 +1,16 @@
 // What a step of a started repair carries: packet after packet, each made of what the boards hold then or of the packets lying there, to its place in
 // the packet area.
 // Assumes nothing.
+
+#![tactic(auto)]
+
 ghost use Rattle.std.specs.Prelude.{◌≡◌, true, List, ℕ, ◌+◌, ◌-◌, ◌*◌, ◌<◌, ◌≤◌, min, length};
 ghost use Rattle.lists.specs.Lists.{tabulate, put};
 ghost use Rattle.gf256.specs.Field.{inverse};
 ghost use Rattle.sizes.specs.Sizing.{legal, α};
 ghost use Rattle.mbcr.specs.Share.{DifferentPoints};
 ghost use Rattle.store_spec.specs.Record.{Record, stripe_count};
-ghost use Rattle.store_spec.specs.Lying.{carry};
+ghost use Rattle.beside_spec.specs.Lying.{carry};
 ghost use Rattle.step_laws.specs.Steps.{Listed, place_at, packet_at, carry_at};
 
 use sizes::Sizes;

@@ -1,5 +1,8 @@
 // The packets of one board of a started repair, from what it holds in the area to a place in the packet area.
 // Assumes nothing.
+
+#![tactic(auto)]
+
 ghost use Rattle.std.specs.Prelude.{◌≡◌, true, ◌+◌, ◌*◌, ◌<◌, ◌≤◌, length};
 ghost use Rattle.lists.specs.Lists.{tabulate, put};
 ghost use Rattle.gf256.specs.Field.{inverse};
@@ -30,7 +33,7 @@ pub fn helper_at(
     let from = j * (capacity * w);
     let to = from + stripes * w;
     let end = at + 2 * stripes;
-    helper::helper_packet(
+    stripe_helper::helper_packet(
         sizes,
         points,
         inverses,

@@ -7,7 +7,7 @@ use lib.ListN.{take, drop}
 use Rattle.sizes.specs.declared.Sizes.{Sizes}
 use Rattle.mbcr.specs.Rebuild.{received, exchanged}
 use Rattle.row_values.specs.Steps.{row_sums}
-use Rattle.finish_rows.specs.Steps.{finished_by}
+use Rattle.stripe_finish.specs.Steps.{finished_by}
 use Rattle.finish_bytes.specs.Steps.{stripe_by}
 
 pub finished-step : (z : Sizes) (i L L₀ e : ℕ) (rows firsts rest g rowsG rowsF out : List ℕ) → out ≡ finished_by z.n i L e rowsF g rest

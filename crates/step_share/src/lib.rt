@@ -1,10 +1,13 @@
 // The share that a fresh board of a started repair writes, stripe by stripe from the packets that lie for it, by its rows.
 // Assumes nothing.
+
+#![tactic(auto)]
+
 ghost use Rattle.std.specs.Prelude.{◌≡◌, true, ◌++◌, ◌+◌, ◌-◌, ◌*◌, ◌<◌, ◌≤◌, length, take, drop};
 ghost use Rattle.lists.specs.Lists.{join};
 ghost use Rattle.sizes.specs.Sizing.{legal, α};
 ghost use Rattle.row_values.specs.Steps.{row_sums};
-ghost use Rattle.finish_rows.specs.Steps.{finished_by};
+ghost use Rattle.stripe_finish.specs.Steps.{finished_by};
 ghost use Rattle.finish_bytes.specs.Steps.{stripe_by};
 
 use sizes::Sizes;
@@ -25,7 +28,7 @@ fn finish_stripe(
 {
     let m = sizes.d * 32;
     row_values::row_sums(firsts, &rows[0..m], g);
-    finish_rows::finish(sizes.n, i, &rows[m..], g, got, f, out);
+    stripe_finish::finish(sizes.n, i, &rows[m..], g, got, f, out);
 }
 
 // The share that board i writes, by its rows, where e stand-ins sent it packets. The slices from firsts to f are for work.

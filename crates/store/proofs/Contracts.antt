@@ -7,8 +7,8 @@ use Prim.Native.Nat.{ℕ}
 use contract.Lifetimes.{Lfts}
 use denote.Triple.Clauses.{AtExit}
 use borrow.Fn.Kinds.{Dens, ended_of}
-use Rattle.store_spec.specs.Both.{set_up_both}
-use Rattle.store_spec.specs.Ledger.{write, lose, repair, read, careful, edit, move, start, step, act}
+use Rattle.beside_spec.specs.Both.{set_up_both}
+use Rattle.beside_spec.specs.Acting.{write, lose, repair, read, careful, edit, move, start, step, act}
 use Rattle.record.specs.declared.Running.{Running}
 use Rattle.record.specs.Records.{running_in}
 use Rattle.store.specs.declared.Store.{Store}

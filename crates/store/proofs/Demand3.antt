@@ -1,11 +1,12 @@
 -- Demand 3 of the code: a run of the methods follows the definitions.
 -- Assumes nothing.
 use mathlib.Core.Path.{sym, ap, ◌∙◌}
-use Rattle.store_spec.specs.Both.{Outcome}
-use Rattle.store_spec.specs.Ledger.{act}
-use Rattle.store_spec.proofs.Demand3.{accepted-both}
-use Rattle.store_spec.proofs.Follows.{follows, follows-worn}
+use Rattle.beside_spec.specs.Both.{Outcome}
+use Rattle.beside_spec.specs.Acting.{act}
+use Rattle.beside_spec.proofs.Beside.{accepted-both}
+use Rattle.list_spec.proofs.Follows.{follows, follows-worn}
 use Rattle.store_spec.proofs.MoveLaws.{move-laws}
+use Rattle.beside_spec.proofs.BesideLaws.{move-beside}
 use Rattle.record.specs.Records.{running_in}
 use Rattle.store.specs.Handing.{record_in}
 use Rattle.store.specs.Demand3.{Records, kept_in, beside_in, handed_on, CodeDemand3, CodeWorn, CodeMoved}
@@ -31,8 +32,8 @@ pub code-moved : CodeMoved
 unfolding act
 code-moved x any board point helpers partners g m k byte =
     let ok = ap (λ (o : Outcome). o.answer.refusal) (sym m) ∙ k in
-    let alone = (move-laws.taken-beside (kept_in x) (beside_in x) any board point helpers partners).0 ok in
-    let q = m ∙ move-laws.same_beside (kept_in x) (beside_in x) any board point helpers partners ok in (
+    let alone = (move-beside.taken-beside (kept_in x) (beside_in x) any board point helpers partners).0 ok in
+    let q = m ∙ move-beside.same_beside (kept_in x) (beside_in x) any board point helpers partners ok in (
       move-laws.moved (kept_in x) any board point helpers partners byte alone.0,
       ap (λ (o : Outcome). o.handed) q,
       ap (λ (o : Outcome). o.area) q,

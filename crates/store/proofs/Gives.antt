@@ -6,12 +6,13 @@ use Prim.Native.Nat.{ℕ}
 use Rattle.sizes.specs.Refusals.{Said}
 use Rattle.store_spec.specs.Record.{held}
 use Rattle.store_spec.specs.Calls.{repair_call}
-use Rattle.store_spec.specs.Both.{Outcome, beside, repair_both}
-use Rattle.store_spec.specs.Ledger.{repair, call, power_fails, Step, act}
-use Rattle.store_spec.specs.Demand3.{Repaired}
-use Rattle.store_spec.specs.Follows.{Given, Moment, gave, anew, Follows, handed_on, area_at, packets_at, ending}
-use Rattle.store_spec.proofs.Demand3.{accepted-both}
-use Rattle.store_spec.proofs.Follows.{follows-laws}
+use Rattle.beside_spec.specs.Both.{Outcome, beside, repair_both}
+use Rattle.beside_spec.specs.Acting.{repair, act}
+use Rattle.ledger_spec.specs.Ledger.{call, power_fails, Step}
+use Rattle.store_spec.specs.RepairLaws.{Repaired}
+use Rattle.list_spec.specs.Follows.{Given, Moment, gave, anew, Follows, handed_on, area_at, packets_at, ending}
+use Rattle.beside_spec.proofs.Beside.{accepted-both}
+use Rattle.list_spec.proofs.Follows.{follows-laws}
 use Rattle.store.specs.Demand3.{Records, kept_in, beside_in, Meets}
 use Rattle.store.specs.Gives.{CodeGives}
 

@@ -1,11 +1,3 @@
-pub mod Settled
-pub mod Readable
-pub mod ReadCall
-pub mod CarefulCall
-pub mod RepairCall
-pub mod EditCall
-pub mod MoveCall
-pub mod StepCall
 pub mod Demand3
 pub mod Gives
 pub mod Contracts

@@ -6,14 +6,16 @@ use Rattle.std.specs.Prelude.{◌≡◌, false, List, [], ℕ, ◌<◌, length, 
 use Rattle.sizes.specs.declared.Sizes.{Sizes}
 use Rattle.sizes.specs.Refusals.{said}
 use Rattle.store_spec.specs.Record.{Record}
-use Rattle.store_spec.specs.Running as spec
-use Rattle.store_spec.specs.Both.{set_up_both}
-use Rattle.store_spec.specs.Ledger.{Call, repair, move, call, Step, State, Reply, Allowed, open_book, book_replies, book_final}
-use Rattle.store_spec.specs.Demand3.{Intact, Repaired, begun, events}
-use Rattle.store_spec.specs.CarefulLaws.{AnyBytes, Worn}
+use Rattle.beside_spec.specs.Running as spec
+use Rattle.beside_spec.specs.Both.{set_up_both}
+use Rattle.beside_spec.specs.Acting.{Call, repair, move, State}
+use Rattle.ledger_spec.specs.Ledger.{call, Step, Reply, Allowed, open_book, book_replies, book_final}
+use Rattle.ledger_spec.specs.Demand3.{Intact, begun, events}
+use Rattle.store_spec.specs.RepairLaws.{Repaired}
+use Rattle.list_spec.specs.WornLaws.{AnyBytes, Worn}
 use Rattle.store_spec.specs.Move.{move_call}
 use Rattle.store_spec.specs.MoveLaws.{Moved}
-use Rattle.store_spec.specs.Follows as follow
+use Rattle.list_spec.specs.Follows as follow
 use Rattle.record.specs.declared.Running.{Running}
 use Rattle.record.specs.Records.{running_in}
 use Rattle.store.specs.declared.Store.{Store}

@@ -10,12 +10,13 @@ use Rattle.board_spec.specs.Calls.{file_of}
 use Rattle.store_spec.specs.Record.{stripe_count, held}
 use Rattle.store_spec.specs.Packets.{repair_packets, fresh_share, contents}
 use Rattle.store_spec.specs.Calls.{accepted}
-use Rattle.store_spec.specs.Running as spec
-use Rattle.store_spec.specs.Running.{idle, packets_len}
-use Rattle.store_spec.specs.Both.{beside, repair_both}
-use Rattle.store_spec.specs.Ledger.{Call, repair, read, step, call, power_fails, Step, Book, Repairing, Altered, Unaltered, book_length, packets_after}
-use Rattle.store_spec.specs.Demand3.{Intact}
-use Rattle.store_spec.specs.Follows.{Given, Moment, gave, anew, FollowsLaws, outcome_of}
+use Rattle.beside_spec.specs.Running as spec
+use Rattle.beside_spec.specs.Running.{idle, packets_len}
+use Rattle.beside_spec.specs.Both.{beside, repair_both}
+use Rattle.beside_spec.specs.Acting.{Call, repair, read, step}
+use Rattle.ledger_spec.specs.Ledger.{call, power_fails, Step, Book, Repairing, Altered, Unaltered, book_length, packets_after}
+use Rattle.ledger_spec.specs.Demand3.{Intact}
+use Rattle.list_spec.specs.Follows.{Given, Moment, gave, anew, FollowsLaws, outcome_of}
 use Rattle.record.specs.declared.Running.{Running}
 use Rattle.record.specs.Records.{running_in}
 use Rattle.store.specs.declared.Store.{Store}

@@ -1,12 +1,9 @@
 -- The store's record and what a call hands on, as the definitions of the crate `store_spec` have them.
 -- Assumes nothing.
 use Rattle.std.specs.Prelude.{List, ℕ}
-use Rattle.sizes.specs.declared.Refusal.{Refusal}
-use Rattle.sizes.specs.declared.Answer.TheVariants.{Refused}
 use Rattle.sizes.specs.Refusals.{said}
 use Rattle.store_spec.specs.Record.{Record}
-use Rattle.store_spec.specs.Running.{Running}
-use Rattle.store_spec.specs.Both.{Outcome}
+use Rattle.beside_spec.specs.Both.{Outcome}
 use Rattle.record.specs.Records.{record_of, running_in}
 use Rattle.store.specs.declared.Store.{Store}
 use Rattle.store.specs.declared.Handed.{Handed}
@@ -17,8 +14,3 @@ record_in s = record_of s.record
 abbrev pub outcome_both : Handed → List ℕ → List ℕ → List ℕ → Outcome
 outcome_both h area output packets =
     record { answer = said h.answer; handed = record_in h.store; running = running_in h.running; area = area; output = output; packets = packets }
-
--- what a refused call hands on: all as it came
-abbrev pub turned_down : Record → Running → List ℕ → List ℕ → List ℕ → Refusal → Outcome
-turned_down s p area output packets x =
-    record { answer = said (Refused x); handed = s; running = p; area = area; output = output; packets = packets }

@@ -1,4 +1,3 @@
 pub mod Handing
-pub mod Steps
 pub mod Demand3
 pub mod Gives

@@ -1,35 +1,26 @@
 //! Document 01, the store: its record, and the calls as methods by value. Each takes the record of a started repair beside it (request A.8), hands on
 //! both records with its answer, and meets its definition in the crate `store_spec`, for all input: the answer, the records, and every lent byte.
-ghost use Rattle.std.specs.Prelude.{◌≡◌, not, List, [], ℕ, ◌+◌, ◌*◌, ◌-◌, ◌≤◌, length};
-ghost use Rattle.lists.specs.Tests.{given};
-ghost use Rattle.sizes.specs.declared.Check.TheVariants.{Pass};
-ghost use Rattle.sizes.specs.declared.Refusal.TheVariants.{Disagree};
-ghost use Rattle.sizes.specs.Refusals.{◌when◌, first, store_order};
-ghost use Rattle.line_checks.specs.Steps.{asked};
-ghost use Rattle.store_spec.specs.Packets.{repair_packets, total};
-ghost use Rattle.store_spec.specs.Calls.{repair_lines, read_lines, file_held, repair_done, read_done};
-ghost use Rattle.store_spec.specs.Edit.{edit_lines, edit_done};
-ghost use Rattle.store_spec.specs.Move.{move_packets, move_lines, move_done};
-ghost use Rattle.store_spec.specs.Both.{set_up_both, write_both, lose_both, repair_both, read_both, careful_both, edit_both, move_both, start_call, step_call};
-ghost use Rattle.store_checks.specs.Steps.{Bounded};
-ghost use Rattle.decode_stripe.specs.Steps.{Asked};
-ghost use Rattle.decode_setup.specs.Steps.{Made};
-ghost use Rattle.record.specs.Records.{record_of, running_in};
-ghost use Rattle.store.specs.Handing.{record_in, outcome_both, turned_down};
-ghost use Rattle.store.specs.Steps.{Readable};
+
+#![tactic(auto)]
+
+ghost use Rattle.std.specs.Prelude.{◌≡◌, List, [], ℕ};
+ghost use Rattle.beside_spec.specs.Both.{set_up_both, write_both, lose_both, repair_both, read_both, careful_both, edit_both, move_both, start_call, step_call};
+ghost use Rattle.record.specs.Records.{running_in};
+ghost use Rattle.store_work.specs.Handing.{turned_down};
+ghost use Rattle.store.specs.Handing.{record_in, outcome_both};
 
 use record::{Kept, Running};
 use sizes::{Answer, Check, Refusal, Sizes};
 
 // A store is its record: the sizes, a point for each board, the capacity in stripes, whether a file was accepted, its length, and a mark for each
 // board: in service or not.
-#[derive(Drop)]
+#[derive(Clone, Copy)]
 pub struct Store {
     pub record: Kept,
 }
 
 // What a call hands on: both records after it, and its answer.
-#[derive(Drop)]
+#[derive(Clone, Copy)]
 pub struct Handed {
     pub store: Store,
     pub running: Running,
@@ -48,148 +39,12 @@ fn refuse(kept: Store, running: Running, x: Refusal) -> Handed
     }
 }
 
-// The bytes that a repair of so many stripes of t fresh boards moves.
-fn bytes_moved(sizes: Sizes, t: usize, stripes: usize) -> usize
-    requires { Bounded sizes stripes × (t ≤ sizes.r) }
-    ensures { result ≡ stripes * t * (2 * sizes.d + sizes.r - 1) }
-{
-    stripes * t * (2 * sizes.d + sizes.r - 1)
-}
-
-// Rebuilds the fresh boards in the area, and answers the bytes that are moved.
-fn rebuild(
-    kept: Kept,
-    fresh: &[usize],
-    helpers: &[usize],
-    standins: &[usize],
-    area: &mut [u8],
-) -> usize
-    requires { first store_order (repair_lines (record_of kept) (length area.old) fresh.now helpers.now standins.now) ≡ Pass }
-    ensures value { result ≡ total (repair_packets (record_of kept) area.old fresh.now helpers.now standins.now) }
-    ensures area_after { area.new ≡ (repair_done (record_of kept) area.old fresh.now helpers.now standins.now).area }
-{
-    let sizes = kept.sizes;
-    let points = kept.points;
-    let mut inverses = [0u8; 256];
-    inverses::fill_inverses(&mut inverses);
-    let stripes = checks::stripe_count(sizes, kept.length);
-    repair_boards::repair_shares(
-        sizes,
-        kept.capacity,
-        &points,
-        &inverses,
-        stripes,
-        fresh,
-        helpers,
-        standins,
-        area,
-    );
-    bytes_moved(sizes, fresh.len(), stripes)
-}
-
-// Moves a board to a new point in the area, and answers the bytes that are moved.
-fn move_one(
-    kept: Kept,
-    board: usize,
-    point: u8,
-    helpers: &[usize],
-    partners: &[usize],
-    area: &mut [u8],
-) -> usize
-    requires { first store_order (move_lines (record_of kept) (length area.old) board point helpers.now partners.now) ≡ Pass }
-    ensures value { result ≡ total (move_packets (record_of kept) area.old board point helpers.now partners.now) }
-    ensures area_after { area.new ≡ (move_done (record_of kept) area.old board point helpers.now partners.now).area }
-{
-    let sizes = kept.sizes;
-    let stripes = checks::stripe_count(sizes, kept.length);
-    store_move::move_share(kept, stripes, board, point, helpers, partners, area);
-    bytes_moved(sizes, 1, stripes)
-}
-
-// The tables to read from k boards.
-fn fill_tables(kept: Kept, boards: &[usize], tables: &mut [u8])
-    requires { Asked kept.sizes kept.points boards.now × (length tables.old ≡ 49152) }
-    ensures { Made kept.sizes kept.points boards.now tables.new }
-{
-    let points = kept.points;
-    store_decode::fill_tables(kept.sizes, &points, boards, tables);
-}
-
-// 10 DISAGREE, of k boards with their tables.
-fn check_agrees(kept: Kept, boards: &[usize], area: &[u8], tables: &[u8]) -> Check
-    requires { Readable (record_of kept) (length area.now) boards.now × Made kept.sizes kept.points boards.now tables.now }
-    ensures { result ≡ asked (Disagree when not (given (file_held (record_of kept) area.now boards.now))) }
-{
-    let sizes = kept.sizes;
-    let points = kept.points;
-    let count = checks::stripe_count(sizes, kept.length);
-    store_decode::check_agrees(
-        sizes,
-        kept.capacity,
-        &points,
-        kept.length,
-        count,
-        boards,
-        area,
-        tables,
-    )
-}
-
-// The file that k boards hold goes to the beginning of the output.
-fn read_file(kept: Kept, boards: &[usize], area: &[u8], tables: &[u8], out: &mut [u8])
-    requires { (first store_order (read_lines (record_of kept) area.now boards.now out.old) ≡ Pass) × Made kept.sizes kept.points boards.now tables.now }
-    ensures { out.new ≡ (read_done (record_of kept) area.now boards.now out.old).output }
-{
-    let sizes = kept.sizes;
-    let points = kept.points;
-    let count = checks::stripe_count(sizes, kept.length);
-    store_decode::file(
-        sizes,
-        kept.capacity,
-        &points,
-        kept.length,
-        count,
-        boards,
-        area,
-        tables,
-        out,
-    );
-}
-
-// Puts bytes into the file in all boards in service; the file is read from k boards.
-fn edit_boards(
-    kept: Kept,
-    offset: usize,
-    bytes: &[u8],
-    boards: &[usize],
-    tables: &[u8],
-    area: &mut [u8],
-)
-    requires { (first store_order (edit_lines (record_of kept) area.old offset bytes.now boards.now) ≡ Pass) × Made kept.sizes kept.points boards.now tables.now }
-    ensures { area.new ≡ (edit_done (record_of kept) area.old offset bytes.now boards.now).area }
-{
-    let sizes = kept.sizes;
-    let points = kept.points;
-    let marks = kept.marks;
-    store_edit::edit_shares(
-        sizes,
-        kept.capacity,
-        &points,
-        &marks,
-        offset,
-        bytes,
-        boards,
-        tables,
-        area,
-    );
-}
-
 impl Store {
     // A store of these sizes, these points and this capacity, with no file and no repair. The records that it is handed are not examined.
     pub fn set_up(self, running: Running, sizes: Sizes, points: [u8; 32], capacity: usize) -> Handed
         ensures { outcome_both result [] [] [] ≡ set_up_both (record_in self) (running_in running) sizes points capacity }
     {
-        if let Check::Refuse(x) = record_checks::check_set_up(sizes, points, capacity) {
+        if let Check::Refuse(x) = check_set_up_lose::check_set_up(sizes, points, capacity) {
             return refuse(self, running, x);
         }
         let next = record::new_kept(sizes, points, capacity);
@@ -206,14 +61,14 @@ impl Store {
         ensures { outcome_both result area.new [] [] ≡ write_both (record_in self) (running_in running) area.old file.now }
     {
         let kept = self.record;
-        if let Check::Refuse(x) = write_check::check_write(kept, running, area.len(), file) {
+        if let Check::Refuse(x) = check_write::check_write(kept, running, area.len(), file) {
             return refuse(self, running, x);
         }
         let sizes = kept.sizes;
         let points = kept.points;
-        let count = checks::stripe_count(sizes, file.len());
+        let count = board_lines::stripe_count(sizes, file.len());
         store_write::write_shares(sizes, kept.capacity, &points, file, count, area);
-        let marks = store_checks::first_on(sizes.n);
+        let marks = store_lines::first_on(sizes.n);
         let mut next = kept;
         next.written = true;
         next.length = file.len();
@@ -230,7 +85,7 @@ impl Store {
         ensures { (area : List ℕ) → outcome_both result area [] [] ≡ lose_both (record_in self) (running_in running) area board }
     {
         let kept = self.record;
-        if let Check::Refuse(x) = record_checks::check_lose(kept, running, board) {
+        if let Check::Refuse(x) = check_set_up_lose::check_lose(kept, running, board) {
             return refuse(self, running, x);
         }
         let beside = running_lists::lost_beside(kept, running, board);
@@ -256,7 +111,7 @@ impl Store {
         ensures { outcome_both result area.new [] [] ≡ repair_both (record_in self) (running_in running) area.old fresh.now helpers.now standins.now }
     {
         let kept = self.record;
-        if let Check::Refuse(x) = repair_check::check_repair(
+        if let Check::Refuse(x) = check_repair::check_repair(
             kept,
             running,
             area.len(),
@@ -266,9 +121,9 @@ impl Store {
         ) {
             return refuse(self, running, x);
         }
-        let moved = rebuild(kept, fresh, helpers, standins, area);
+        let moved = store_work::rebuild(kept, fresh, helpers, standins, area);
         let mut marks = kept.marks;
-        store_checks::marks_on(fresh, &mut marks);
+        store_lines::marks_on(fresh, &mut marks);
         let mut next = kept;
         next.marks = marks;
         Handed {
@@ -283,15 +138,15 @@ impl Store {
         ensures { outcome_both result area.now out.new [] ≡ read_both (record_in self) (running_in running) area.now boards.now out.old }
     {
         let kept = self.record;
-        if let Check::Refuse(x) = read_check::check_read(kept, running, area.len(), boards, out) {
+        if let Check::Refuse(x) = check_read::check_read(kept, running, area.len(), boards, out) {
             return refuse(self, running, x);
         }
         let mut tables = [0u8; 49152];
-        fill_tables(kept, boards, &mut tables);
-        if let Check::Refuse(disagree) = check_agrees(kept, boards, area, &tables) {
+        store_work::fill_tables(kept, boards, &mut tables);
+        if let Check::Refuse(disagree) = store_work::check_agrees(kept, boards, area, &tables) {
             return refuse(self, running, disagree);
         }
-        read_file(kept, boards, area, &tables, out);
+        store_work::read_file(kept, boards, area, &tables, out);
         Handed {
             store: self,
             running: running,
@@ -311,7 +166,7 @@ impl Store {
         ensures { outcome_both result area.now out.new [] ≡ careful_both (record_in self) (running_in running) area.now boards.now out.old }
     {
         let kept = self.record;
-        if let Check::Refuse(x) = careful_check::check_careful(
+        if let Check::Refuse(x) = check_careful::check_careful(
             kept,
             running,
             area.len(),
@@ -344,7 +199,7 @@ impl Store {
         ensures { outcome_both result area.new [] [] ≡ edit_both (record_in self) (running_in running) area.old offset bytes.now boards.now }
     {
         let kept = self.record;
-        if let Check::Refuse(x) = edit_check::check_edit(
+        if let Check::Refuse(x) = check_edit::check_edit(
             kept,
             running,
             area.len(),
@@ -355,11 +210,11 @@ impl Store {
             return refuse(self, running, x);
         }
         let mut tables = [0u8; 49152];
-        fill_tables(kept, boards, &mut tables);
-        if let Check::Refuse(disagree) = check_agrees(kept, boards, area, &tables) {
+        store_work::fill_tables(kept, boards, &mut tables);
+        if let Check::Refuse(disagree) = store_work::check_agrees(kept, boards, area, &tables) {
             return refuse(self, running, disagree);
         }
-        edit_boards(kept, offset, bytes, boards, &tables, area);
+        store_work::edit_boards(kept, offset, bytes, boards, &tables, area);
         Handed {
             store: self,
             running: running,
@@ -381,7 +236,7 @@ impl Store {
         ensures { outcome_both result area.new [] [] ≡ move_both (record_in self) (running_in running) area.old board point helpers.now partners.now }
     {
         let kept = self.record;
-        if let Check::Refuse(x) = move_check::check_move(
+        if let Check::Refuse(x) = check_move::check_move(
             kept,
             running,
             area.len(),
@@ -392,7 +247,7 @@ impl Store {
         ) {
             return refuse(self, running, x);
         }
-        let moved = move_one(kept, board, point, helpers, partners, area);
+        let moved = store_work::move_one(kept, board, point, helpers, partners, area);
         let mut next = kept;
         next.points[board] = point;
         Handed {
@@ -414,7 +269,7 @@ impl Store {
         ensures { outcome_both result area.now [] [] ≡ start_call (record_in self) (running_in running) area.now fresh.now helpers.now standins.now }
     {
         let kept = self.record;
-        if let Check::Refuse(x) = repair_check::check_repair(
+        if let Check::Refuse(x) = check_repair::check_repair(
             kept,
             running,
             area.len(),
@@ -444,7 +299,7 @@ impl Store {
         ensures { outcome_both result area.new [] packets.new ≡ step_call (record_in self) (running_in running) area.old packets.old allowance }
     {
         let kept = self.record;
-        if let Check::Refuse(x) = step_check::check_step(kept, running, area.len(), packets.len()) {
+        if let Check::Refuse(x) = check_step::check_step(kept, running, area.len(), packets.len()) {
             return refuse(self, running, x);
         }
         let stepped = store_step::step(kept, running, area, packets, allowance);

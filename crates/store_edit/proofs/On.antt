@@ -1,6 +1,6 @@
 -- The list of boards in service: one board more, taken or left.
 -- Assumes nothing.
-use mathlib.Core.Path.{◌≡◌, refl, sym, ap, ap₂, ◌∙◌}
+use mathlib.Core.Path.{◌≡◌, refl, sym, ap, ◌∙◌}
 use mathlib.Core.Bool.{Bool, true, false}
 use mathlib.Core.List.{List, [], ◌∷◌, ◌++◌, append-nil}
 use Prim.Native.Nat.{ℕ, zero, suc, ◌+◌, ◌-◌, ◌<◌, ◌≤◌}
@@ -8,11 +8,10 @@ use native.Mathlib.Nat.{sub-zero}
 use native.Mathlib.Numerals.{add-one}
 use native.Mathlib.Omega.{arith}
 use lib.ListN.{length, get_or, take, drop, set}
-use Rattle.lists.specs.Lists.{join}
 use Rattle.lists.specs.Tests.{pick, below, different}
 use Rattle.lists.proofs.Pieces.{join-suc}
 use Rattle.sizes.specs.declared.Sizes.{Sizes}
-use Rattle.store_checks.specs.Steps.{record_of}
+use Rattle.store_lines.specs.Steps.{record_of}
 use Rattle.edit_laws.specs.Steps.{serving_of}
 use Rattle.edit_laws.proofs.Serving.{serving-below, serving-different}
 

@@ -1,11 +1,9 @@
 -- The stripes that an edit reaches are all of it, whatever the file's length.
 -- Assumes nothing.
-use mathlib.Core.Path.{◌≡◌, refl, sym, ap, ap₂, ◌∙◌}
-use mathlib.Core.Bool.{Bool, true}
+use mathlib.Core.Path.{◌≡◌, ap, ap₂, ◌∙◌}
 use mathlib.Core.List.{List, map}
 use Prim.Native.Nat.{ℕ, ◌+◌, ◌-◌, ◌*◌, ◌/◌}
 use lib.ListN.{length}
-use Rattle.sizes.specs.declared.Sizes.{Sizes}
 use Rattle.sizes.specs.declared.Check.TheVariants.{Pass}
 use Rattle.sizes.specs.Refusals.{first, store_order}
 use Rattle.sizes.specs.Sizing.{B, stripes}
@@ -32,4 +30,4 @@ module _ (s : Record) (legal : Legal s.sizes) (area : List ℕ) (offset : ℕ) (
       ea ∙ ap₂ {C = List ℕ} (λ (l : List ℕ) (m : ℕ). reached l m on) es ep ∙ ap (reached (map (λ b. b * part_len s) boards) (part_len s)) eo
       ∙ edited s area offset bytes boards pass (offset / B s.sizes) (stripes s.sizes (offset + length bytes) - offset / B s.sizes)
       (first-from s.sizes legal offset (length bytes)) (stop-high s.sizes legal offset (length bytes))
-      (stop-low s.sizes legal offset (length bytes) s.length (edit-facts s area offset bytes boards pass).0.in-range)
+      (stop-low s.sizes legal offset (length bytes) s.length (edit-facts s area offset bytes boards pass).1)

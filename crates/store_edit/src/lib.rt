@@ -1,5 +1,8 @@
 // An edit of the area (request A.6): "each board in service receives the exclusive or of its share with the share of old against new bytes".
 // Assumes nothing.
+
+#![tactic(auto)]
+
 ghost use Rattle.std.specs.Prelude.{◌≡◌, true, List, ℕ, ◌+◌, ◌*◌, ◌<◌, ◌≤◌, length, take};
 ghost use Rattle.lists.specs.Tests.{pick};
 ghost use Rattle.sizes.specs.Sizing.{α, B};
@@ -8,7 +11,7 @@ ghost use Rattle.board_spec.specs.Calls.{file_of};
 ghost use Rattle.store_spec.specs.Record.{serving, put_shares};
 ghost use Rattle.store_spec.specs.Calls.{file_held};
 ghost use Rattle.store_spec.specs.Edit.{edit_lines, edited_share};
-ghost use Rattle.store_checks.specs.Steps.{record_of};
+ghost use Rattle.store_lines.specs.Steps.{record_of};
 ghost use Rattle.decode_stripe.specs.Steps.{Asked};
 ghost use Rattle.decode_setup.specs.Steps.{Made};
 ghost use Rattle.edit_laws.specs.Steps.{serving_of};
@@ -58,7 +61,7 @@ pub fn edit_shares(
     let part = capacity * sizes.share_len();
     let mut starts = [0usize; 32];
     let mut on = [0usize; 32];
-    store_decode::places(boards, part, &mut starts[0..k]);
+    decode_area::places(boards, part, &mut starts[0..k]);
     let m = boards_on(sizes.n, marks, &mut on);
     edit_stripes::edit_reached(
         sizes,

@@ -19,9 +19,9 @@ use Rattle.store_spec.specs.Calls.{settle, refused, list_lines, repair_lines, re
 use Rattle.store_spec.specs.Move.{moved_record, afresh_area, moved_share}
 use Rattle.store_spec.proofs.Move.{repairs, made-is}
 use Rattle.store_spec.proofs.Records.{Moves, Repairs, count_tests, repeat_tests}
-use Rattle.puts.specs.Steps.{puts}
+use Rattle.area_puts.specs.Steps.{puts}
 use Rattle.repair_stripe.specs.Steps.{rebuilt}
-use Rattle.repair_check.proofs.Repairable.{Repairable, repairable}
+use Rattle.check_repair.proofs.Repairable.{Repairable, repairable}
 use Rattle.repair_seam.proofs.Repaired.{named_of, run_of, repaired}
 
 -- a repair of which these facts hold passes

@@ -1,6 +1,6 @@
 -- The boards that are named for the fresh ones, in one list: none stands twice in a run of it.
 -- Assumes nothing.
-use Prim.Native.Nat.{ℕ, ◌+◌, ◌*◌, ◌-◌, ◌<◌}
+use Prim.Native.Nat.{ℕ, ◌<◌, ◌+◌}
 use mathlib.Core.Path.{◌≡◌, ap, ap₂, ◌∙◌}
 use mathlib.Core.List.{List, ◌++◌}
 use native.Mathlib.Omega.{arith}
@@ -12,7 +12,7 @@ use Rattle.sizes.proofs.Legal.{row_fits}
 use Rattle.store_spec.specs.Record.{Record}
 use Rattle.store_spec.specs.Packets.{stand_ins_each}
 use Rattle.repair_stripe.specs.Steps.{DifferentRuns}
-use Rattle.repair_check.proofs.Repairable.{Repairable}
+use Rattle.check_repair.proofs.Repairable.{Repairable}
 use Rattle.repair_seam.proofs.Repaired.{named_of, run_of}
 
 -- no fresh board names a board twice, in the list of all that are named

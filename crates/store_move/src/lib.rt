@@ -1,5 +1,8 @@
 //! A move in the area (request A.10): every other board's kept values afresh, then the repair of the one board at the new points.
 //! No byte that the board held is read.
+
+#![tactic(auto)]
+
 ghost use Rattle.std.specs.Prelude.{◌≡◌, [], ◌∷◌, length};
 ghost use Rattle.sizes.specs.declared.Check.TheVariants.{Pass};
 ghost use Rattle.sizes.specs.Refusals.{first, store_order};

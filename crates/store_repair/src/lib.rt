@@ -1,12 +1,15 @@
 // A repair, stripe by stripe in the lent area: what depends on the boards alone is made once, and there is room for one stripe's bytes.
 // Assumes nothing.
+
+#![tactic(auto)]
+
 ghost use Rattle.std.specs.Prelude.{◌≡◌, true, ◌+◌, ◌*◌, ◌≤◌, length, get_or, drop};
 ghost use Rattle.lists.specs.Lists.{tabulate, join, piece};
 ghost use Rattle.lists.specs.Tests.{below, different, apart};
 ghost use Rattle.gf256.specs.Field.{inverse};
 ghost use Rattle.sizes.specs.Sizing.{legal, α};
 ghost use Rattle.mbcr.specs.Share.{DifferentPoints};
-ghost use Rattle.puts.specs.Steps.{puts};
+ghost use Rattle.area_puts.specs.Steps.{puts};
 ghost use Rattle.repair_hear.specs.Steps.{Naming};
 ghost use Rattle.repair_stripe.specs.Steps.{DifferentRuns, rebuilt, rebuilt_by};
 
@@ -94,7 +97,7 @@ fn repair_in(
 }
 
 // All stripes of the fresh boards, each to its place in the area, from the same stripe of the c boards that it names.
-pub fn repair_shares(
+pub fn repair_area(
     sizes: Sizes,
     capacity: usize,
     points: &[u8],

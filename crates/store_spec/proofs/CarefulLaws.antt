@@ -9,7 +9,7 @@ use mathlib.Core.Option.{Option, some, none}
 use native.Mathlib.Omega.{arith}
 use lib.Dec.{eqb, ltb}
 use lib.ListN.{length}
-use borrow.Author.Tests.{eqb-true, eq-eqb, leb-true, ltb-false}
+use borrow.Author.Tests.{eqb-true, eq-eqb, leb-true}
 use Rattle.lists.specs.Lists.{All, over, Bytes}
 use Rattle.lists.specs.Tests.{pick, alls, below, among, different, every, given}
 use Rattle.lists.proofs.Boards.{all-below, below_all}
@@ -25,12 +25,10 @@ use Rattle.board_spec.specs.Calls.{file_of}
 use Rattle.store_spec.specs.Calls.{StoreOutcome, accepted, refused, settle, file_held}
 use Rattle.store_spec.specs.Careful.{leaving, agreeing, odd, odd_report, careful_file, careful_lines, careful_done, careful_call}
 use Rattle.store_spec.specs.Record.{Record, sound, area_len, in_service}
-use Rattle.store_spec.specs.Both.{careful_both}
 use Rattle.store_spec.specs.CarefulLaws.{Holds, OddTold, CarefulLaws}
-use Rattle.store_spec.proofs.AloneLaws.{alone-is, alone-laws}
 use Rattle.store_spec.proofs.Careful.{agreeing-is, report-tells, tells-report, tells-few, few-odd, many-agree, two-never, one-shows, careful-found, careful-finds, careful-none}
 use Rattle.store_spec.proofs.Held.{file-has}
-use Rattle.store_spec.proofs.Records.{Cares, care_tests, Sound, sound-facts}
+use Rattle.store_spec.proofs.Records.{Reads, reads-by, care_tests, Sound, sound-facts}
 use Rattle.store_spec.proofs.Those.{leaving-all, leaving-length, leaving-different}
 
 -- the outcome of a careful read that found this file, or none
@@ -48,22 +46,12 @@ found s area boards output none = refl
 -- no line but DISAGREE holds
 module _ (s : Record) (area boards output : List ℕ) (ba : Bytes area)
     (h : Only (careful_lines s area boards output) Disagree store_order) where
-  facts : Cares s (length area) boards output
+  facts : Reads s (length area) (s.sizes.k + 2) boards
   unfolding careful_lines
   facts =
       let off = only-off (careful_lines s area boards output) Disagree store_order h in
-      let c = alls-hold (care_tests s boards) (not-no _ (off Count refl refl)) in
-      record {
-        is-sound = not-no _ (off Size refl refl);
-        area-is = eqb-true _ _ (not-no _ (off Area refl refl));
-        is-written = not-no _ (off Empty refl refl);
-        enough = leb-true _ _ c.0;
-        count = eqb-true _ _ c.1.0;
-        named-below = not-no _ (off Node refl refl);
-        all-different = not-no _ (off Repeat refl refl);
-        all_up = not-no _ (off Down refl refl);
-        room = ltb-false _ _ (off Short refl refl);
-      }
+      reads-by s (length area) (s.sizes.k + 2) boards (not-no _ (off Size refl refl)) (off Area refl refl) (off Empty refl refl)
+      (eqb-true _ _ (alls-hold (care_tests s boards) (not-no _ (off Count refl refl))).1.0) (off Node refl refl) (off Repeat refl refl) (off Down refl refl)
 
   call-is : (o : Option (List ℕ)) → careful_file s area boards ≡ o → careful_call s area boards output ≡ outcome s area boards o output
   unfolding careful_lines careful_call
@@ -186,6 +174,5 @@ careful-laws = record {
   two-reads = two-reads;
   one-shows = λ s area boards file i ok m named l b e n a file'. one-shows s area (sound-facts s ok) m boards named file l b i e n a file';
   few-boards = few-boards;
-  same_beside = λ s p area boards output h. alone-is p (careful_call s area boards output) (careful_both s p area boards output) (alone-laws.careful-alone s p area boards output h);
   careful-exact = λ s area boards output ba h. (gives s area boards output ba h, refuses s area boards output ba h);
 }

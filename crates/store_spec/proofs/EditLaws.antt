@@ -35,10 +35,10 @@ use Rattle.store_spec.specs.Edit.{edit_lines, edited_share, edit_done, edit_call
 use Rattle.store_spec.specs.EditLaws.{Reached, Edited, EditLaws}
 use Rattle.store_spec.specs.Record.{Record, in_service, serving, stripe_count, part_len, used_len, held, put_shares}
 use Rattle.store_spec.proofs.Area.{length-shares, shares-same, byte-stays}
-use Rattle.store_spec.proofs.Demand3.{passes}
+use Rattle.store_spec.proofs.Passed.{passes}
 use Rattle.store_spec.proofs.Marks.{on_below}
-use Rattle.store_spec.proofs.Records.{Sound, sound-facts, sound-points, Edits, edit-facts, used-fits}
-use Rattle.store_spec.proofs.Step.{settle-pass}
+use Rattle.store_spec.proofs.Records.{Sound, sound-facts, sound-points, Reads, edit-facts, used-fits}
+use Rattle.store_spec.proofs.Passed.{settle-pass}
 use Rattle.store_spec.proofs.Sums.{add-both, plus-both, put-none, put-again, length-plus-short, take_short, serving-on, serving-low, serving-has, serving-is}
 
 -- a file that is given
@@ -55,7 +55,7 @@ module _ (s : Record) (area : List ℕ) (offset : ℕ) (bytes boards : List ℕ)
   unfolding edit_call
   is-done = settle-pass _ _ _ pass
 
-  f : Edits s (length area) offset bytes boards
+  f : Reads s (length area) s.sizes.k boards
   f = (edit-facts s area offset bytes boards pass).0
 
   g : Sound s
@@ -72,12 +72,12 @@ module _ (s : Record) (area : List ℕ) (offset : ℕ) (bytes boards : List ℕ)
 
   -- the file that is held has the length that the record tells
   held-file : file_held s area boards ≡ some old
-  held-file = found (file_held s area boards) (edit-facts s area offset bytes boards pass).1
+  held-file = found (file_held s area boards) (edit-facts s area offset bytes boards pass).2
 
   old-long : length old ≡ s.length
   unfolding read_file
   old-long =
-      go (same (shares s.sizes s.points file boards) (joined (held s area) boards)) (edit-facts s area offset bytes boards pass).1
+      go (same (shares s.sizes s.points file boards) (joined (held s area) boards)) (edit-facts s area offset bytes boards pass).2
     where
       file : List ℕ
       file = decoded_file s.sizes s.points s.length boards (joined (held s area) boards)
@@ -90,7 +90,7 @@ module _ (s : Record) (area : List ℕ) (offset : ℕ) (bytes boards : List ℕ)
   new = put old offset bytes
 
   fits : offset + length bytes ≤ length old
-  fits = omega (arith, old-long, f.in-range)
+  fits = omega (arith, old-long, (edit-facts s area offset bytes boards pass).1)
 
   new-long : length new ≡ length old
   new-long = length-put old offset bytes fits
@@ -200,7 +200,7 @@ module _ (s : Record) (area : List ℕ) (offset : ℕ) (bytes boards : List ℕ)
 -- ---- an edit of no bytes
 
 module _ (s : Record) (area : List ℕ) (offset : ℕ) (boards : List ℕ) (ok : (edit_call s area offset [] boards).answer.refusal ≡ 0) where
-  fact : Edits s (length area) offset [] boards
+  fact : Reads s (length area) s.sizes.k boards
   fact = f s area offset [] boards ok
 
   known : Sound s

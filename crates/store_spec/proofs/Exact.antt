@@ -8,14 +8,14 @@ use mathlib.Core.List.{List}
 use mathlib.Core.Option.{Option, some, none}
 use native.Mathlib.Omega.{arith}
 use lib.ListN.{length}
-use borrow.Author.Tests.{eqb-true, ltb-false}
+use borrow.Author.Tests.{eqb-true}
 use Rattle.lists.specs.Lists.{All, over, Bytes}
 use Rattle.lists.specs.Tests.{pick, given}
 use Rattle.lists.proofs.Tests.{not-no}
 use Rattle.sizes.specs.Refusals.{store_order}
 use Rattle.sizes.specs.declared.Check.{Check}
 use Rattle.sizes.specs.declared.Check.TheVariants.{Refuse, Pass}
-use Rattle.sizes.specs.declared.Refusal.TheVariants.{Size, Area, Count, Node, Repeat, Short, Empty, Down, Disagree}
+use Rattle.sizes.specs.declared.Refusal.TheVariants.{Size, Area, Count, Node, Repeat, Empty, Down, Disagree}
 use Rattle.sizes.proofs.Orders.{Only, only-off, only-first}
 use Rattle.mbcr.specs.Demand2.{Named}
 use Rattle.mbcr.specs.Share.{share}
@@ -24,7 +24,7 @@ use Rattle.board_spec.specs.Calls.{file_of}
 use Rattle.store_spec.specs.Calls.{StoreOutcome, accepted, refused, settle, read_lines, file_held, read_call, read_done}
 use Rattle.store_spec.specs.Record.{Record, held}
 use Rattle.store_spec.proofs.Held.{file-has, file-is, no-file}
-use Rattle.store_spec.proofs.Records.{Reads, Sound, sound-facts}
+use Rattle.store_spec.proofs.Records.{reads-by, Reads, Sound, sound-facts}
 
 -- the outcome of a read that found this file, or none
 abbrev outcome : Record → List ℕ → Option (List ℕ) → List ℕ → StoreOutcome
@@ -40,20 +40,12 @@ found s area output none = refl
 -- no line but DISAGREE holds
 module _ (s : Record) (area boards output : List ℕ) (ba : Bytes area)
     (h : Only (read_lines s area boards output) Disagree store_order) where
-  facts : Reads s (length area) boards output
+  facts : Reads s (length area) s.sizes.k boards
   unfolding read_lines
   facts =
       let off = only-off (read_lines s area boards output) Disagree store_order h in
-      record {
-        is-sound = not-no _ (off Size refl refl);
-        area-is = eqb-true _ _ (not-no _ (off Area refl refl));
-        is-written = not-no _ (off Empty refl refl);
-        count = eqb-true _ _ (not-no _ (off Count refl refl));
-        named-below = not-no _ (off Node refl refl);
-        all-different = not-no _ (off Repeat refl refl);
-        all_up = not-no _ (off Down refl refl);
-        room = ltb-false _ _ (off Short refl refl);
-      }
+      reads-by s (length area) s.sizes.k boards (not-no _ (off Size refl refl)) (off Area refl refl) (off Empty refl refl) (eqb-true _ _ (not-no _ (off Count refl refl)))
+      (off Node refl refl) (off Repeat refl refl) (off Down refl refl)
 
   call-is : (o : Option (List ℕ)) → file_held s area boards ≡ o → read_call s area boards output ≡ outcome s area o output
   unfolding read_lines read_call

@@ -176,39 +176,43 @@ repair-facts s m fresh helpers stand_ins h =
       all_up = not-no _ (off Down refl);
     }
 
-pub record Reads (s : Record) (m : ℕ) (boards output : List ℕ) : Type 0 where
+-- of a call that reads from so many boards: SIZE, AREA, EMPTY, COUNT, NODE, REPEAT and DOWN
+pub record Reads (s : Record) (m many : ℕ) (boards : List ℕ) : Type 0 where
   pub is-sound : sound s ≡ true
   pub area-is : m ≡ area_len s
   pub is-written : s.written ≡ true
-  pub count : length boards ≡ s.sizes.k
+  pub count : length boards ≡ many
   pub named-below : below s.sizes.n boards ≡ true
   pub all-different : different boards ≡ true
   pub all_up : every (in_service s) boards ≡ true
-  pub room : s.length ≤ length output
+
+pub reads-by : (s : Record) (m many : ℕ) (boards : List ℕ) → sound s ≡ true → not (eqb m (area_len s)) ≡ false → not s.written ≡ false → length boards ≡ many
+    → not (below s.sizes.n boards) ≡ false → not (different boards) ≡ false → not (every (in_service s) boards) ≡ false → Reads s m many boards
+reads-by s m many boards is area written count low unlike up = record {
+  is-sound = is;
+  area-is = eqb-true _ _ (not-no _ area);
+  is-written = not-no _ written;
+  count = count;
+  named-below = not-no _ low;
+  all-different = not-no _ unlike;
+  all_up = not-no _ up;
+}
 
 pub read-facts : (s : Record) (area boards output : List ℕ) → first store_order (read_lines s area boards output) ≡ Pass
-    → Reads s (length area) boards output × (given (file_held s area boards) ≡ true)
+    → Reads s (length area) s.sizes.k boards × (s.length ≤ length output) × (given (file_held s area boards) ≡ true)
 unfolding read_lines
 read-facts s area boards output h =
     let off = clear-off (read_lines s area boards output) store_order h in (
-      record {
-        is-sound = not-no _ (off Size refl);
-        area-is = eqb-true _ _ (not-no _ (off Area refl));
-        is-written = not-no _ (off Empty refl);
-        count = eqb-true _ _ (not-no _ (off Count refl));
-        named-below = not-no _ (off Node refl);
-        all-different = not-no _ (off Repeat refl);
-        all_up = not-no _ (off Down refl);
-        room = ltb-false _ _ (off Short refl);
-      },
+      reads-by s (length area) s.sizes.k boards (not-no _ (off Size refl)) (off Area refl) (off Empty refl) (eqb-true _ _ (not-no _ (off Count refl))) (off Node refl)
+          (off Repeat refl) (off Down refl),
+      ltb-false _ _ (off Short refl),
       not-no _ (off Disagree refl),
     )
 
-pub reads-pass : (s : Record) (area boards output : List ℕ) → Reads s (length area) boards output
-    → given (file_held s area boards) ≡ true
-    → first store_order (read_lines s area boards output) ≡ Pass
+pub reads-pass : (s : Record) (area boards output : List ℕ) → Reads s (length area) s.sizes.k boards → s.length ≤ length output
+    → given (file_held s area boards) ≡ true → first store_order (read_lines s area boards output) ≡ Pass
 unfolding read_lines
-reads-pass s area boards output f g =
+reads-pass s area boards output f room g =
     off-pass (read_lines s area boards output) store_order
     (ap not f.is-sound
     also ap not (eq-eqb _ _ f.area-is)
@@ -217,87 +221,45 @@ reads-pass s area boards output f g =
     also ap not f.named-below
     also ap not f.all-different
     also ap not f.all_up
-    also le-ltb _ _ f.room
+    also le-ltb _ _ room
     also ap not g
     also tt)
 
-pub record Edits (s : Record) (m offset : ℕ) (bytes boards : List ℕ) : Type 0 where
-  pub is-sound : sound s ≡ true
-  pub area-is : m ≡ area_len s
-  pub is-written : s.written ≡ true
-  pub in-range : offset + length bytes ≤ s.length
-  pub count : length boards ≡ s.sizes.k
-  pub named-below : below s.sizes.n boards ≡ true
-  pub all-different : different boards ≡ true
-  pub all_up : every (in_service s) boards ≡ true
-
 pub edit-facts : (s : Record) (area : List ℕ) (offset : ℕ) (bytes boards : List ℕ) → first store_order (edit_lines s area offset bytes boards) ≡ Pass
-    → Edits s (length area) offset bytes boards × (given (file_held s area boards) ≡ true)
+    → Reads s (length area) s.sizes.k boards × (offset + length bytes ≤ s.length) × (given (file_held s area boards) ≡ true)
 unfolding edit_lines
 edit-facts s area offset bytes boards h =
     let off = clear-off (edit_lines s area offset bytes boards) store_order h in (
-      record {
-        is-sound = not-no _ (off Size refl);
-        area-is = eqb-true _ _ (not-no _ (off Area refl));
-        is-written = not-no _ (off Empty refl);
-        in-range = ltb-false _ _ (off Range refl);
-        count = eqb-true _ _ (not-no _ (off Count refl));
-        named-below = not-no _ (off Node refl);
-        all-different = not-no _ (off Repeat refl);
-        all_up = not-no _ (off Down refl);
-      },
+      reads-by s (length area) s.sizes.k boards (not-no _ (off Size refl)) (off Area refl) (off Empty refl) (eqb-true _ _ (not-no _ (off Count refl))) (off Node refl)
+          (off Repeat refl) (off Down refl),
+      ltb-false _ _ (off Range refl),
       not-no _ (off Disagree refl),
     )
-
-pub record Cares (s : Record) (m : ℕ) (boards output : List ℕ) : Type 0 where
-  pub is-sound : sound s ≡ true
-  pub area-is : m ≡ area_len s
-  pub is-written : s.written ≡ true
-  pub enough : s.sizes.k + 2 ≤ s.sizes.n
-  pub count : length boards ≡ s.sizes.k + 2
-  pub named-below : below s.sizes.n boards ≡ true
-  pub all-different : different boards ≡ true
-  pub all_up : every (in_service s) boards ≡ true
-  pub room : s.length ≤ length output
 
 -- COUNT of a careful read
 abbrev pub care_tests : Record → List ℕ → List Bool
 care_tests s boards = leb (s.sizes.k + 2) s.sizes.n ∷ eqb (length boards) (s.sizes.k + 2) ∷ []
 
-pub careful-facts : (s : Record) (area boards output : List ℕ) → first store_order (careful_lines s area boards output) ≡ Pass
-    → Cares s (length area) boards output × (given (careful_file s area boards) ≡ true)
+pub careful-facts : (s : Record) (area boards output : List ℕ) → first store_order (careful_lines s area boards output) ≡ Pass → Reads s (length area) (s.sizes.k + 2) boards
 unfolding careful_lines
 careful-facts s area boards output h =
     let off = clear-off (careful_lines s area boards output) store_order h in
-    let c = alls-hold (care_tests s boards) (not-no _ (off Count refl)) in (
-      record {
-        is-sound = not-no _ (off Size refl);
-        area-is = eqb-true _ _ (not-no _ (off Area refl));
-        is-written = not-no _ (off Empty refl);
-        enough = leb-true _ _ c.0;
-        count = eqb-true _ _ c.1.0;
-        named-below = not-no _ (off Node refl);
-        all-different = not-no _ (off Repeat refl);
-        all_up = not-no _ (off Down refl);
-        room = ltb-false _ _ (off Short refl);
-      },
-      not-no _ (off Disagree refl),
-    )
+    reads-by s (length area) (s.sizes.k + 2) boards (not-no _ (off Size refl)) (off Area refl) (off Empty refl)
+    (eqb-true _ _ (alls-hold (care_tests s boards) (not-no _ (off Count refl))).1.0) (off Node refl) (off Repeat refl) (off Down refl)
 
-pub cares-pass : (s : Record) (area boards output : List ℕ) → Cares s (length area) boards output
-    → given (careful_file s area boards) ≡ true
-    → first store_order (careful_lines s area boards output) ≡ Pass
+pub cares-pass : (s : Record) (area boards output : List ℕ) → Reads s (length area) (s.sizes.k + 2) boards → s.sizes.k + 2 ≤ s.sizes.n → s.length ≤ length output
+    → given (careful_file s area boards) ≡ true → first store_order (careful_lines s area boards output) ≡ Pass
 unfolding careful_lines
-cares-pass s area boards output f g =
+cares-pass s area boards output f enough room g =
     off-pass (careful_lines s area boards output) store_order
     (ap not f.is-sound
     also ap not (eq-eqb _ _ f.area-is)
     also ap not f.is-written
-    also ap not (hold-alls (care_tests s boards) (le-leb _ _ f.enough, (eq-eqb _ _ f.count, tt)))
+    also ap not (hold-alls (care_tests s boards) (le-leb _ _ enough, (eq-eqb _ _ f.count, tt)))
     also ap not f.named-below
     also ap not f.all-different
     also ap not f.all_up
-    also le-ltb _ _ f.room
+    also le-ltb _ _ room
     also ap not g
     also tt)
 

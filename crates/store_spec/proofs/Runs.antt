@@ -111,7 +111,7 @@ careful-any-apart : (s : Record) (area boards output some : List ℕ)
     → first store_order (careful_lines s area boards output) ≡ Pass → different some ≡ true → All (λ i. among boards i ≡ true) some
     → equal_points s.points (read_runs s.sizes some) ≡ false
 careful-any-apart s area boards output some h d a =
-    let f = (careful-facts s area boards output h).0 in
+    let f = careful-facts s area boards output h in
     let low : All (λ i. i < s.sizes.n) boards = below_all s.sizes.n boards f.named-below in
     decode-apart s some (sound-facts s f.is-sound)
     (boards-of s.sizes some (all-below s.sizes.n some (all-imp (λ i. among boards i ≡ true) (λ i. i < s.sizes.n) (λ i e. all_among (λ x. x < s.sizes.n) boards i low e) some a)) d)
@@ -119,7 +119,7 @@ careful-any-apart s area boards output some h d a =
 careful-apart : (s : Record) (area boards output : List ℕ)
     → first store_order (careful_lines s area boards output) ≡ Pass → equal_points s.points (careful_runs s.sizes boards) ≡ false
 careful-apart s area boards output h =
-    let f = (careful-facts s area boards output h).0 in
+    let f = careful-facts s area boards output h in
     let run : ℕ → List (List ℕ) = λ t. read_runs s.sizes (take s.sizes.k (leaving t boards)) in
     unequal-all s.points (tabulate (length boards) run)
     (tabulate-all (λ r. equal_points s.points r ≡ false) (length boards) run (λ t l.

@@ -1,11 +1,11 @@
 -- The seam between the algebra and the proof of demand 3: the laws of the code that demand 3 rests on. The proof of demand 3 uses these and
 -- knows no polynomial.
 -- Assumes nothing.
-use Prim.Native.Nat.{ℕ, ◌+◌, ◌-◌, ◌*◌, ◌≤◌, ◌<◌}
+use Prim.Native.Nat.{ℕ, ◌-◌, ◌*◌, ◌≤◌}
 use mathlib.Core.Path.{◌≡◌}
-use mathlib.Core.Bool.{Bool, true, false}
-use mathlib.Core.List.{List, [], ◌∷◌, ◌++◌}
-use mathlib.Core.Option.{Option, some, none}
+use mathlib.Core.Bool.{true}
+use mathlib.Core.List.{List, ◌++◌}
+use mathlib.Core.Option.{some}
 use lib.ListN.{length}
 use Rattle.lists.specs.Lists.{Bytes, joined, without}
 use Rattle.lists.specs.Tests.{below, different, among, apart}

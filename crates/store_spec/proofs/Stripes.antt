@@ -1,7 +1,7 @@
 -- The packets of a repair, stripe by stripe: a fresh share is its finished stripes, each from the same stripe of the helpers.
-use Prim.Native.Nat.{ℕ, zero, suc, ◌+◌, ◌-◌, ◌*◌, ◌≤◌, ◌<◌}
+use Prim.Native.Nat.{ℕ, zero, suc, ◌+◌, ◌-◌, ◌*◌, ◌<◌}
 use mathlib.Core.Path.{◌≡◌, refl, sym, ◌∙◌, ap, ap₂, subst}
-use mathlib.Core.Bool.{Bool, true, false}
+use mathlib.Core.Bool.{true}
 use mathlib.Core.List.{List, [], ◌∷◌, ◌++◌, map}
 use native.Mathlib.Omega.{arith}
 use lib.ListN.{length, get_or, length-append, length-map}
@@ -24,7 +24,7 @@ use Rattle.store_spec.specs.Calls.{repair_call, repair_lines, repair_done}
 use Rattle.store_spec.specs.Packets.{fresh_share, senders_of, sent_to, helper_packets, stand_in_packets}
 use Rattle.store_spec.specs.Record.{Record, held, stripe_count}
 use Rattle.store_spec.specs.Stripes.{firsts, seconds, exchanged_byte, stood_in, fresh_stripe, ByStripes}
-use Rattle.store_spec.proofs.Demand3.{passes}
+use Rattle.store_spec.proofs.Passed.{passes}
 use Rattle.store_spec.proofs.Packets.{concat-append}
 use Rattle.store_spec.proofs.Real.{code-lengths}
 use Rattle.store_spec.proofs.Records.{Repairs, repair-facts, sound-facts}

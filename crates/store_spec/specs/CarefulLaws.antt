@@ -1,26 +1,17 @@
--- Request A.11, 'A board that answers wrongly': what a careful read answers over any area, and that a worn board costs no file. Demand 3's own claim
--- "keeps its premise that boards in service are unaltered"; the one here has none of them unaltered.
--- proofs/CarefulLaws.antt has `careful-laws : CarefulLaws`, proofs/Worn.antt has `worn : WornClaim` and
--- `worn-premises : WornPremises`.
+-- Request A.11, 'A board that answers wrongly': what a careful read answers over any area. proofs/CarefulLaws.antt has `careful-laws : CarefulLaws`; beside the
+-- record of a repair, and that a worn board costs no file: crates beside_spec and list_spec.
 -- Assumes nothing.
-use Rattle.std.specs.Prelude.{◌≡◌, true, false, ◌≢◌, ◌↔◌, ◌⊎◌, List, [], ◌∷◌, ℕ, suc, ◌+◌, ◌≤◌, ◌<◌, length}
+use Rattle.std.specs.Prelude.{◌≡◌, true, false, ◌≢◌, ◌↔◌, ◌⊎◌, List, ℕ, suc, ◌+◌, ◌≤◌, ◌<◌, length}
 use Rattle.std.proofs.Math.Option.{some}
-use Rattle.lists.specs.Tests.{among, different, every}
+use Rattle.lists.specs.Tests.{among, different}
 use Rattle.lists.specs.Lists.{All, Bytes, over}
-use Rattle.sizes.specs.declared.Sizes.{Sizes}
 use Rattle.sizes.specs.declared.Refusal.TheVariants.{Count, Disagree}
 use Rattle.sizes.specs.Refusals.{applies_in, store_order}
 use Rattle.mbcr.specs.Demand2.{Named}
 use Rattle.mbcr.specs.Share.{share}
-use Rattle.board_spec.specs.Calls.{file_of}
 use Rattle.store_spec.specs.Record.{Record, sound, area_len, held}
 use Rattle.store_spec.specs.Calls.{accepted, refused, file_held}
-use Rattle.store_spec.specs.Running.{Running, sound_beside}
-use Rattle.store_spec.specs.Both.{beside, set_up_both, careful_both}
 use Rattle.store_spec.specs.Careful.{leaving, agreeing, careful_lines, careful_call}
-use Rattle.store_spec.specs.Ledger.{write, edit, move, Book, State, Step, Event, call, power_fails, Tells, open_book, book_length, book_record, final, book_final}
-use Rattle.store_spec.specs.Demand3.{begun, events}
-use Rattle.store_spec.specs.Premises.{files_of, files, IdleGiven}
 
 -- board i holds its share of the file
 abbrev pub Holds : Record → List ℕ → List ℕ → ℕ → Type 0
@@ -73,53 +64,3 @@ pub record CarefulLaws : Type 0 where
   -- "Where k + 2 exceeds n, COUNT.", whatever the list and the output
   pub few-boards : (s : Record) (area boards output : List ℕ) → sound s ≡ true → length area ≡ area_len s → s.written ≡ true
       → s.sizes.n < s.sizes.k + 2 → careful_call s area boards output ≡ refused s area output Count
-  -- request A.8: beside a record of a repair that is not SIZE, running or not, it is the same call
-  pub same_beside : (s : Record) (p : Running) (area boards output : List ℕ) → sound_beside s p ≡ true
-      → careful_both s p area boards output ≡ beside p (careful_call s area boards output)
-
--- what a list has is of bytes, and after a power failure the record given is an idle one; a step's packet area may be any
-abbrev pub OfBytes : Event → Type 0
-OfBytes (call c) = All Bytes (files_of c)
-OfBytes (power_fails p) = p.running ≡ false
-
--- a list of calls and power failures over any areas of m bytes: between calls anyone may alter any bytes, of boards in service and of packets carried too
-abbrev pub AnyBytes : ℕ → List Step → Type 0
-AnyBytes m [] = Unit
-AnyBytes m (t ∷ ts) = (length t.area ≡ m) × OfBytes t.event × AnyBytes m ts
-
--- of an entry of such a list nothing but this is asked
-pub record AskedWorn (m : ℕ) (t : Step) : Type 0 where
-  pub as_long : length t.area ≡ m
-  pub writes_bytes : (file : List ℕ) → t.event ≡ call (write file) → Bytes file
-  pub edits-bytes : (offset : ℕ) (bytes boards : List ℕ) → t.event ≡ call (edit offset bytes boards) → Bytes bytes
-  pub moves-byte : (board point : ℕ) (helpers partners : List ℕ) → t.event ≡ call (move board point helpers partners) → point < 256
-  pub idle-given : (given : Running) → t.event ≡ power_fails given → given.running ≡ false
-
-pub record WornPremises : Type 0 where
-  pub none-asked : (m : ℕ) → AnyBytes m []
-  pub more-asked : (m : ℕ) (t : Step) (ts : List Step) → AnyBytes m (t ∷ ts) ↔ (AskedWorn m t × AnyBytes m ts)
-  -- so every list is such a one whose areas have m bytes, whose files and bytes of edits are of bytes, and that gives an idle record after each power failure
-  pub all_asked : (m : ℕ) (ts : List Step) → All (λ t. length t.area ≡ m) ts → All Bytes (files (events ts)) → IdleGiven (events ts) → AnyBytes m ts
-
--- After such a list, over any area of bytes.
-pub record Worn (w : State) (b : Book) : Type 0 where
-  -- the records are still those that the book tells
-  pub same-record : w.kept ≡ book_record b
-  pub same-running : Tells b.sizes b.repairing w.running
-  -- "If all the named boards but at most one hold their share of the last file, that file is the answer", with the odd board's number or none
-  pub gives : (now : List ℕ) → length now ≡ b.area_length → Bytes now
-      → (boards output : List ℕ)
-      → length boards ≡ b.sizes.k + 2
-      → different boards ≡ true
-      → every (among b.service) boards ≡ true
-      → book_length b ≤ length output
-      → (v : ℕ) → OddTold w.kept now (file_of b.file) boards v
-      → careful_both w.kept w.running now boards output
-      ≡ beside w.running (accepted v w.kept now (over (file_of b.file) output))
-
-abbrev pub WornClaim : Type 0
-WornClaim =
-    (old : Record) (p : Running) (z : Sizes) (xs : List ℕ) (c : ℕ) (area : List ℕ) (steps : List Step)
-    → (set_up_both old p z xs c).answer.refusal ≡ 0
-    → AnyBytes (length area) steps
-    → Worn (final (begun old p z xs c area) steps) (book_final (open_book z xs c (length area)) (events steps))

@@ -3,8 +3,6 @@
 -- Assumes nothing.
 use Rattle.std.specs.Prelude.{◌≡◌, Bool, true, false, List, [], ◌∷◌, ◌++◌, map, ℕ, take, drop, replicate, set}
 use Rattle.sizes.specs.declared.Sizes.{Sizes}
-use Rattle.sizes.specs.declared.Answer.TheVariants.{Done, Refused}
-use Rattle.sizes.specs.Refusals.{said}
 use Rattle.mbcr.specs.Share.{standard}
 use Rattle.mbcr.specs.PointLaws.{first_series}
 use Rattle.store_spec.specs.Record.{Record, sound, new_record, with_marks}

@@ -1,18 +1,14 @@
--- What a call changes in the store's record: nothing where it is refused; else the marks that document 01 says, and no others.
--- proofs/MarkLaws.antt has `mark-laws`.
+-- What an accepted call changes in the store's record: the marks that document 01 says, and no others. That a refused one changes nothing is in crate beside_spec
+-- (HandedLaws). proofs/MarkLaws.antt has `mark-laws`.
 -- Assumes nothing.
 use Rattle.std.specs.Prelude.{◌≡◌, true, false, List, ℕ, ◌<◌, ltb, eqb, length, set}
 use Rattle.lists.specs.Tests.{pick, among}
-use Rattle.lists.specs.Lists.{Bytes}
 use Rattle.sizes.specs.Sizing.{max_boards}
 use Rattle.store_spec.specs.Record.{Record, in_service}
 use Rattle.store_spec.specs.Calls.{write_call, lose_call, repair_call, read_call}
 use Rattle.store_spec.specs.Edit.{edit_call}
 use Rattle.store_spec.specs.Careful.{careful_call}
 use Rattle.store_spec.specs.Move.{move_call}
-use Rattle.store_spec.specs.Running.{Running, idle}
-use Rattle.store_spec.specs.Ledger.{Call, move, State, act, output_of, packets_of_call}
-use Rattle.store_spec.specs.LedgerLaws.{new_point, set_points}
 
 -- one record has the other's sizes, points and capacity
 abbrev pub SameStore : Record → Record → Type 0
@@ -21,15 +17,6 @@ SameStore new old = (new.sizes ≡ old.sizes) × (new.points ≡ old.points) × 
 -- and it has its file
 abbrev pub SameFile : Record → Record → Type 0
 SameFile new old = (new.written ≡ old.written) × (new.length ≡ old.length)
-
--- a record of a repair has arrays of 32, 256 and 256 bytes
-pub record Arrays (p : Running) : Type 0 where
-  pub fresh-long : length p.fresh ≡ 32
-  pub fresh-bytes : Bytes p.fresh
-  pub helpers-long : length p.helpers ≡ 256
-  pub helpers-bytes : Bytes p.helpers
-  pub stand-ins-long : length p.stand_ins ≡ 256
-  pub stand-ins-bytes : Bytes p.stand_ins
 
 pub record MarkLaws : Type 0 where
   -- "all n come into service", and none from n up
@@ -46,20 +33,6 @@ pub record MarkLaws : Type 0 where
       → (repair_call s area fresh helpers stand_ins).answer.refusal ≡ 0
       → ((i : ℕ) → i < max_boards → in_service (repair_call s area fresh helpers stand_ins).handed i ≡ pick (among fresh i) true (in_service s i))
       × SameStore (repair_call s area fresh helpers stand_ins).handed s × SameFile (repair_call s area fresh helpers stand_ins).handed s
-  -- whatever the call, with both records: a refused one leaves both, area, output and packet area as they came, and one on 32 marks hands on 32
-  pub refused-keeps : (w : State) (call : Call) → ((act w call).answer.refusal ≡ 0 → ⊥)
-      → act w call ≡ record { answer = (act w call).answer; handed = w.kept; running = w.running; area = w.area; output = output_of call; packets = packets_of_call call }
-  pub full-marks : (w : State) (call : Call) → length w.kept.marks ≡ max_boards
-      → length (act w call).handed.marks ≡ max_boards
-  -- request A.8: so it is with the arrays of the record beside
-  pub arrays-stay : (w : State) (call : Call) → Arrays w.running → Arrays (act w call).running
-  pub arrays-idle : Arrays idle
-  -- request A.9, and A.10: the points are those of the set-up but for the boards that were moved since; 32 of them stay 32, and with new points that are bytes, bytes
-  -- stay bytes
-  pub points-are : (w : State) (call : Call) → (act w call).handed.points ≡ set_points w.kept.points (new_point call (act w call).answer)
-  pub full-points : (w : State) (call : Call) → length (act w call).handed.points ≡ length w.kept.points
-  pub byte-points : (w : State) (call : Call) → ((board point : ℕ) (helpers partners : List ℕ) → call ≡ move board point helpers partners → point < 256)
-      → Bytes w.kept.points → Bytes (act w call).handed.points
   -- an accepted move changes one point, and nothing else
   pub moves : (s : Record) (area : List ℕ) (board point : ℕ) (helpers partners : List ℕ) → (move_call s area board point helpers partners).answer.refusal ≡ 0
       → (move_call s area board point helpers partners).handed

@@ -1,16 +1,15 @@
 -- Request A.10, 'To the present points with the robot running': what an accepted move does over any record and any area, what it makes of true shares,
--- and the turn of all boards. proofs/MoveLaws.antt has `move-laws : MoveLaws`.
+-- and one move of the turn of all boards; the turn whole is in crate list_spec. proofs/MoveLaws.antt has `move-laws : MoveLaws`.
 -- Assumes nothing.
-use Rattle.std.specs.Prelude.{◌≡◌, true, false, ◌≢◌, ◌↔◌, ◌⊎◌, List, [], ◌∷◌, ◌++◌, map, ℕ, suc, ◌+◌, ◌-◌, ◌*◌, ◌≤◌, ◌<◌, length, take, set}
+use Rattle.std.specs.Prelude.{◌≡◌, true, false, ◌≢◌, ◌↔◌, ◌⊎◌, List, [], ◌∷◌, ◌++◌, map, ℕ, suc, ◌+◌, ◌-◌, ◌*◌, ◌<◌, length, take, set}
 use Rattle.lists.specs.Tests.{among, below, different, every}
-use Rattle.lists.specs.Lists.{All, Bytes, tabulate, joined}
+use Rattle.lists.specs.Lists.{All, Bytes, joined}
 use Rattle.sizes.specs.declared.Sizes.{Sizes}
 use Rattle.sizes.specs.declared.Answer.TheVariants.{Done}
-use Rattle.sizes.specs.Sizing.{legal, α, B}
+use Rattle.sizes.specs.Sizing.{legal}
 use Rattle.sizes.specs.declared.Refusal.TheVariants.{Count, Node, Repeat}
 use Rattle.sizes.specs.Refusals.{said, applies_in}
 use Rattle.mbcr.specs.Share.{standard, share}
-use Rattle.mbcr.specs.PointLaws.{first_series}
 use Rattle.mbcr.specs.TurnLaws.{turned}
 use Rattle.mbcr.specs.Rebuild.{seconds, helper_packet, stand_in_packet, finished_share}
 use Rattle.mbcr.specs.Afresh.{share_afresh}
@@ -19,13 +18,7 @@ use Rattle.store_spec.specs.Record.{Record, in_service, sound, stripe_count, are
 use Rattle.store_spec.specs.Packets.{total}
 use Rattle.store_spec.specs.Calls.{list_lines, write_call}
 use Rattle.store_spec.specs.Move.{all_boards, moved_record, afresh, move_packets, move_lines, move_call}
-use Rattle.store_spec.specs.Running.{Running}
-use Rattle.store_spec.specs.Both.{beside, set_up_both, move_both}
 use Rattle.store_spec.specs.Demand1.{Stays}
-use Rattle.store_spec.specs.Demand3.{begun, events}
-use Rattle.store_spec.specs.Ledger.{Call, write, move, Event, call, power_fails, Book, open_book, enter, book_next, book_final, Step, Allowed, final}
-use Rattle.store_spec.specs.LedgerLaws.{Accepted, new_point, set_points}
-use Rattle.store_spec.specs.Premises.{unaltered}
 
 -- An accepted move, over any record and any area. `ys` are the points after it.
 pub record Moved (s : Record) (area : List ℕ) (board point : ℕ) (helpers partners ys : List ℕ) : Type 0 where
@@ -57,12 +50,6 @@ pub record Moved (s : Record) (area : List ℕ) (board point : ℕ) (helpers par
   -- "Other bytes stay": only the first S stripes change
   pub stays : Stays s (all_boards s) area (move_call s area board point helpers partners).area
 
--- the moves of a list that the book accepts, in order: board and new point
-abbrev pub moves_in : Book → List Event → List (ℕ × ℕ)
-moves_in b [] = []
-moves_in b (call c ∷ es) = new_point c (enter b c).reply.answer ++ moves_in (enter b c).book es
-moves_in b (power_fails p ∷ es) = moves_in (book_next b (power_fails p)) es
-
 pub record MoveLaws : Type 0 where
   -- "Lists and marks are checked as in a repair of one board": COUNT and NODE hold where they do there, and, with lists of the right lengths, REPEAT does
   -- where it does there or the new byte is some board's point
@@ -72,13 +59,6 @@ pub record MoveLaws : Type 0 where
       × (applies_in (move_lines s m board point helpers partners) Count ≡ false
       → (applies_in (move_lines s m board point helpers partners) Repeat ≡ true)
       ↔ ((applies_in (list_lines s (board ∷ []) helpers partners) Repeat ≡ true) ⊎ (among (take s.sizes.n s.points) point ≡ true)))
-  -- request A.8: beside a record of a repair it is accepted just where it is accepted by itself and none runs, and then does the same
-  pub taken-beside : (s : Record) (p : Running) (area : List ℕ) (board point : ℕ) (helpers partners : List ℕ)
-      → ((move_both s p area board point helpers partners).answer.refusal ≡ 0)
-      ↔ (((move_call s area board point helpers partners).answer.refusal ≡ 0) × (p.running ≡ false))
-  pub same_beside : (s : Record) (p : Running) (area : List ℕ) (board point : ℕ) (helpers partners : List ℕ)
-      → (move_both s p area board point helpers partners).answer.refusal ≡ 0
-      → move_both s p area board point helpers partners ≡ beside p (move_call s area board point helpers partners)
   pub moved : (s : Record) (area : List ℕ) (board point : ℕ) (helpers partners : List ℕ) → point < 256
       → (move_call s area board point helpers partners).answer.refusal ≡ 0
       → Moved s area board point helpers partners (set s.points board point)
@@ -131,40 +111,3 @@ pub record MoveLaws : Type 0 where
       ((write_call fresh any file).answer.refusal ≡ 0)
       × ((j : ℕ) → j < s.sizes.n
       → held s (move_call s area i i helpers partners).area j ≡ held (written_record fresh (length file)) (write_call fresh any file).area j)
-  -- the moves of a list: of an accepted move its board and its new point, once, and of all else that happens nothing
-  pub moves-none : (b : Book) → moves_in b [] ≡ []
-  pub moves-one : (b : Book) (board point : ℕ) (helpers partners : List ℕ) (es : List Event) → Accepted b (move board point helpers partners)
-      → moves_in b (call (move board point helpers partners) ∷ es) ≡ (board, point) ∷ moves_in (enter b (move board point helpers partners)).book es
-  pub moves-refused : (b : Book) (c : Call) (es : List Event) → (Accepted b c → ⊥) → moves_in b (call c ∷ es) ≡ moves_in b es
-  pub moves-other : (b : Book) (c : Call) (es : List Event) → ((board point : ℕ) (helpers partners : List ℕ) → c ≢ move board point helpers partners)
-      → moves_in b (call c ∷ es) ≡ moves_in (enter b c).book es
-  pub moves-fails : (b : Book) (p : Running) (es : List Event) → moves_in b (power_fails p ∷ es) ≡ moves_in (book_next b (power_fails p)) es
-  -- the book's points are those of its opening but for the boards moved since
-  pub points-are : (es : List Event) (b : Book) → (book_final b es).points ≡ set_points b.points (moves_in b es)
-  -- "Moving boards 0 to n − 1 in turn carries i + 1 to i", whatever other calls and power failures stand between
-  pub turn : (z : Sizes) (c m : ℕ) (es : List Event) → legal z ≡ true
-      → moves_in (open_book z (first_series z) c m) es ≡ tabulate z.n (λ i. (i, i))
-      → (book_final (open_book z (first_series z) c m) es).points ≡ standard z
-  -- so it is with the record of the store, after any list that demand 3 allows
-  pub turn-record : (old : Record) (p : Running) (z : Sizes) (c : ℕ) (area : List ℕ) (steps : List Step) → (set_up_both old p z (first_series z) c).answer.refusal ≡ 0
-      → Allowed (begun old p z (first_series z) c area) (open_book z (first_series z) c (length area)) steps
-      → moves_in (open_book z (first_series z) c (length area)) (events steps) ≡ tabulate z.n (λ i. (i, i))
-      → (final (begun old p z (first_series z) c area) steps).kept.points ≡ standard z
-  -- and there are such lists, at all legal sizes: a write of any file that fits, and n moves with whatever lists a repair of one board takes
-  pub turn-met : (z : Sizes) (c : ℕ) (file : List ℕ) (helpers partners : ℕ → List ℕ) → legal z ≡ true → length file ≤ c * B z
-      → ((i : ℕ) → i < z.n
-      → (length (helpers i) ≡ z.d) × (length (partners i) ≡ z.r - 1)
-      × (below z.n (i ∷ (helpers i ++ partners i)) ≡ true) × (different (i ∷ (helpers i ++ partners i)) ≡ true))
-      → moves_in (open_book z (first_series z) c (z.n * (c * α z))) (call (write file) ∷ tabulate z.n (λ i. call (move i i (helpers i) (partners i))))
-      ≡ tabulate z.n (λ i. (i, i))
-  -- so it goes in the store, with nothing altered: from a set-up at the first series' points over any area, behind the last move the record has document 01's points,
-  -- and every board holds its share of the file there
-  pub turn-run : (old : Record) (p : Running) (z : Sizes) (c : ℕ) (area file : List ℕ) (helpers partners : ℕ → List ℕ)
-      → (set_up_both old p z (first_series z) c).answer.refusal ≡ 0 → length area ≡ z.n * (c * α z) → length file ≤ c * B z → Bytes file
-      → ((i : ℕ) → i < z.n
-      → (length (helpers i) ≡ z.d) × (length (partners i) ≡ z.r - 1)
-      × (below z.n (i ∷ (helpers i ++ partners i)) ≡ true) × (different (i ∷ (helpers i ++ partners i)) ≡ true))
-      → let w = begun old p z (first_series z) c area in
-      let es = call (write file) ∷ tabulate z.n (λ i. call (move i i (helpers i) (partners i))) in
-      let e = final w (unaltered w (open_book z (first_series z) c (length area)) es) in
-      (e.kept.points ≡ standard z) × ((i : ℕ) → i < z.n → held e.kept e.area i ≡ share z (standard z) file i)

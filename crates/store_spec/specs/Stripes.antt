@@ -1,7 +1,7 @@
 -- A repair stripe by stripe: what one with room for a single stripe works out. `own j` is what board j holds of the stripe, `helpers i` the
 -- helpers of fresh board i, `stand_ins i` its stand-ins.
 -- Assumes nothing.
-use Rattle.std.specs.Prelude.{ℕ, ◌≡◌, true, List, [], ◌∷◌, ◌++◌, map}
+use Rattle.std.specs.Prelude.{ℕ, ◌≡◌, true, List, ◌++◌, map}
 use Rattle.lists.specs.Tests.{among}
 use Rattle.lists.specs.Lists.{join, piece, without}
 use Rattle.sizes.specs.declared.Sizes.{Sizes}

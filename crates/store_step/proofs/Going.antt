@@ -4,53 +4,29 @@ use Prim.Native.Nat.{ℕ, ◌+◌, ◌-◌, ◌*◌, ◌≤◌, ◌<◌}
 use mathlib.Core.Path.{◌≡◌, refl, sym, ap, ap₂, ◌∙◌}
 use mathlib.Core.Bool.{Bool, true, not}
 use mathlib.Core.List.{List, [], ◌∷◌}
-use native.Mathlib.Nat.{mul-le-mul_right}
 use native.Mathlib.Omega.{arith}
-use lib.Dec.{leb, eqb}
+use lib.Dec.{eqb}
 use lib.ListN.{length, take}
 use borrow.Author.Tests.{eqb-true, le-leb, lt-leb}
-use Rattle.lists.specs.Tests.{pick, alls}
+use Rattle.lists.specs.Tests.{pick}
 use lib.Seq.{length-take-le}
 use Rattle.lists.proofs.Tests.{alls-hold, not-no}
 use Rattle.sizes.specs.declared.Sizes.{Sizes}
 use Rattle.sizes.specs.declared.Check.TheVariants.{Pass}
 use Rattle.sizes.specs.declared.Refusal.TheVariants.{Size, Area, Empty, Idle}
 use Rattle.sizes.specs.declared.Answer.TheVariants.{Done}
-use Rattle.sizes.specs.Sizing.{B, stripes}
 use Rattle.sizes.specs.Refusals.{first, store_order, said}
-use Rattle.sizes.proofs.Legal.{legal-facts, stripes-least}
 use Rattle.sizes.proofs.Orders.{clear-off}
-use Rattle.mbcr.specs.Share.{DifferentPoints}
-use Rattle.line_checks.specs.Steps.{Stated}
 use Rattle.store_spec.specs.Record.{Record, sound, area_len, with_marks, turn_on, put_shares}
-use Rattle.store_spec.specs.Running.{Running, idle, with_carried, fresh_of, helpers_of, stand_ins_of, packet_count, packets_len, sound_beside}
-use Rattle.store_spec.specs.Lying.{share_lying, carry}
-use Rattle.store_spec.specs.Both.{Outcome, step_lines, left_of, carried_on, step_last, step_on, step_done}
-use Rattle.store_spec.proofs.Records.{sound-facts, sound-points, repair-facts}
-use Rattle.store_spec.proofs.Beside.{sound-beside, lists-taken}
+use Rattle.beside_spec.specs.Running.{Running, idle, with_carried, fresh_of, helpers_of, stand_ins_of, packet_count, packets_len, sound_beside}
+use Rattle.beside_spec.specs.Lying.{share_lying, carry}
+use Rattle.beside_spec.specs.Both.{Outcome, step_lines, left_of, carried_on, step_last, step_on, step_done}
+use Rattle.store_spec.proofs.Records.{sound-facts, repair-facts}
+use Rattle.beside_spec.proofs.Beside.{both_facts, sound-beside, lists-taken}
 use Rattle.step_laws.specs.Steps.{Listed}
 use Rattle.step_laws.proofs.Facts as laws
 use Rattle.running_lists.proofs.Lists.{count-few, fit-fresh, fit-helpers, fit-stand-ins}
 use Rattle.store_step.specs.Steps.{Going, Listing}
-
--- ---- what the work asks of a record
-
-pub record Ready (s : Record) : Type 0 where
-  pub stated : Stated s.sizes s.length
-  pub differ : DifferentPoints s.sizes s.points
-  pub cap-high : s.capacity ≤ 4096
-  pub few-stripes : stripes s.sizes s.length ≤ s.capacity
-
-pub ready : (s : Record) → sound s ≡ true → Ready s
-ready s h =
-    let f = sound-facts s h in
-    let most : s.capacity * B s.sizes ≤ 4096 * B s.sizes = mul-le-mul_right (B s.sizes) f.cap-high in
-    record {
-      stated = record { is-legal = f.is-legal; not-long = omega (arith, f.fits, most) };
-      differ = sound-points s f;
-      cap-high = f.cap-high;
-      few-stripes = stripes-least s.sizes (legal-facts _ f.is-legal) s.length s.capacity f.fits;
-    }
 
 -- ---- past the checks
 
@@ -70,9 +46,7 @@ module _ (s : Record) (p : Running) (area packets : List ℕ) (pass : first stor
   -- the tests of SIZE and of AREA
   sizes-hold : (sound s ≡ true) × (sound_beside s p ≡ true)
   unfolding step_lines
-  sizes-hold =
-      let e = alls-hold (sound s ∷ sound_beside s p ∷ []) (not-no _ (clear-off (step_lines s p (length area) (length packets)) store_order pass Size refl)) in
-      (e.0, e.1.0)
+  sizes-hold = both_facts s p (clear-off (step_lines s p (length area) (length packets)) store_order pass Size refl)
 
   on : p.running ≡ true
   unfolding step_lines

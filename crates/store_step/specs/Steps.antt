@@ -4,8 +4,8 @@ use Rattle.std.specs.Prelude.{◌≡◌, true, List, [], ℕ, ◌<◌, length}
 use Rattle.sizes.specs.declared.Answer.TheVariants.{Done}
 use Rattle.sizes.specs.Refusals.{said}
 use Rattle.store_spec.specs.Record.{Record, sound, area_len}
-use Rattle.store_spec.specs.Running.{Running, fresh_of, helpers_of, stand_ins_of, packet_count, packets_len}
-use Rattle.store_spec.specs.Both.{Outcome}
+use Rattle.beside_spec.specs.Running.{Running, fresh_of, helpers_of, stand_ins_of, packet_count, packets_len}
+use Rattle.beside_spec.specs.Both.{Outcome}
 use Rattle.step_laws.specs.Steps.{Listed}
 use Rattle.record.specs.Records.{record_of, running_in}
 use Rattle.store_step.specs.declared.Stepped.{Stepped}

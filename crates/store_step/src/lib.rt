@@ -1,19 +1,22 @@
 //! The work of a step of a started repair (request A.8): packets are carried on from where it stands, and with the last of them the fresh boards get
 //! their shares and come into service.
+
+#![tactic(auto)]
+
 ghost use Rattle.std.specs.Prelude.{◌≡◌, ◌+◌, ◌≤◌, length};
 ghost use Rattle.sizes.specs.declared.Check.TheVariants.{Pass};
 ghost use Rattle.sizes.specs.Refusals.{first, store_order};
 ghost use Rattle.store_spec.specs.Record.{with_marks, turn_on, put_shares};
-ghost use Rattle.store_spec.specs.Running.{packet_count};
-ghost use Rattle.store_spec.specs.Lying.{share_lying, carry};
-ghost use Rattle.store_spec.specs.Both.{step_lines, step_done};
+ghost use Rattle.beside_spec.specs.Running.{packet_count};
+ghost use Rattle.beside_spec.specs.Lying.{share_lying, carry};
+ghost use Rattle.beside_spec.specs.Both.{step_lines, step_done};
 ghost use Rattle.record.specs.Records.{record_of, running_in};
 ghost use Rattle.store_step.specs.Steps.{Going, Listing, left_by};
 
 use record::{Kept, Running};
 
 // What a step leaves: both records, and how many packets it carried.
-#[derive(Drop)]
+#[derive(Clone, Copy)]
 pub struct Stepped {
     pub record: Kept,
     pub running: Running,
@@ -36,7 +39,7 @@ fn carry_on(
 {
     let sizes = kept.sizes;
     let points = kept.points;
-    let stripes = checks::stripe_count(sizes, kept.length);
+    let stripes = board_lines::stripe_count(sizes, kept.length);
     step_packet::carry_packets(
         sizes,
         &points,
@@ -68,7 +71,7 @@ fn finish(
     let sizes = kept.sizes;
     let points = kept.points;
     let mut marks = kept.marks;
-    let stripes = checks::stripe_count(sizes, kept.length);
+    let stripes = board_lines::stripe_count(sizes, kept.length);
     step_finish::finish_shares(
         sizes,
         &points,
@@ -80,7 +83,7 @@ fn finish(
         packets,
         area,
     );
-    store_checks::marks_on(fresh, &mut marks);
+    store_lines::marks_on(fresh, &mut marks);
     let mut next = kept;
     next.marks = marks;
     next

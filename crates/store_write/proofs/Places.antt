@@ -17,8 +17,8 @@ use Rattle.mbcr.specs.Share.{stripe, kept, share}
 use Rattle.mbcr.proofs.Repair.{length-kept}
 use Rattle.mbcr.proofs.Shape.{length-stripe}
 use Rattle.store_spec.specs.Record.{Record, part_len, put_shares}
-use Rattle.puts.specs.Steps.{puts}
-use Rattle.puts.proofs.Puts.{puts-same, puts-stripe, puts_none}
+use Rattle.area_puts.specs.Steps.{puts}
+use Rattle.area_puts.proofs.Puts.{puts-same, puts-stripe, puts_none}
 use Rattle.encode_values.specs.Steps.{row_values}
 use Rattle.encode_values.proofs.Values.{columns-at}
 use Rattle.kept_bytes.specs.Steps.{kept_of}

@@ -1,12 +1,15 @@
 // A write: stripe by stripe, what each board keeps of it to its place in the area.
 // Assumes nothing.
+
+#![tactic(auto)]
+
 ghost use Rattle.std.specs.Prelude.{◌≡◌, true, List, [], ℕ, ◌+◌, ◌*◌, ◌<◌, ◌≤◌, length, get_or};
 ghost use Rattle.lists.specs.Lists.{tabulate, join};
 ghost use Rattle.sizes.specs.Sizing.{legal, α, stripes};
 ghost use Rattle.mbcr.specs.Share.{stripe, kept, share};
 ghost use Rattle.store_spec.specs.Record.{put_shares};
-ghost use Rattle.store_checks.specs.Steps.{record_of};
-ghost use Rattle.puts.specs.Steps.{puts};
+ghost use Rattle.store_lines.specs.Steps.{record_of};
+ghost use Rattle.area_puts.specs.Steps.{puts};
 ghost use Rattle.row_sums.specs.Steps.{Tabled};
 ghost use Rattle.powers.specs.Steps.{power_rows};
 ghost use Rattle.kept_bytes.specs.Steps.{kept_of};

@@ -1,5 +1,8 @@
 // The rows of values of a stripe of a file, whose coefficients stand in a working array of 992 bytes; the last stripe is filled up with 00.
 // Assumes nothing.
+
+#![tactic(auto)]
+
 ghost use Rattle.std.specs.Prelude.{◌≡◌, true, List, ◌++◌, ℕ, ◌+◌, ◌*◌, ◌<◌, length, drop};
 ghost use Rattle.sizes.specs.Sizing.{legal};
 ghost use Rattle.mbcr.specs.Share.{stripe};

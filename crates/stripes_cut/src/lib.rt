@@ -1,5 +1,8 @@
 // Stripes of a file, one after another, the last one cut.
 // Assumes nothing.
+
+#![tactic(auto)]
+
 ghost use Rattle.std.specs.Prelude.{◌≡◌, ◌+◌, ◌-◌, ◌*◌, ◌<◌, ◌≤◌, length, take};
 ghost use Rattle.lists.specs.Lists.{join};
 ghost use Rattle.sizes.specs.Sizing.{B};
@@ -8,13 +11,6 @@ ghost use Rattle.decode_stripe.specs.Steps.{Asked, Targets, Tables, Work};
 ghost use Rattle.stripes_cut.specs.Steps.{stripe_at};
 
 use sizes::Sizes;
-
-// The lesser of two numbers.
-pub fn least(a: usize, b: usize) -> usize
-    ensures { result ≡ a - (a - b) }
-{
-    if a < b { a } else { b }
-}
 
 // The bytes of count stripes from the first on, as many as out has. The arrays between et and out are for work; u is one stripe's coefficients.
 pub fn stripes_in(
@@ -49,7 +45,7 @@ pub fn stripes_in(
     let mut s: usize = 0;
     while s < count {
         let at = s * b;
-        let m = least(b, len - at);
+        let m = part_lengths::least(b, len - at);
         let end = at + m;
         let q = first + s;
         decode_stripe::decode_stripe(

@@ -1,5 +1,8 @@
 // A power, a seed of the tables of a read, and the factors for one board.
 // Assumes nothing.
+
+#![tactic(auto)]
+
 ghost use Rattle.std.specs.Prelude.{◌≡◌, ◌+◌, ◌-◌, ◌*◌, ◌%◌, ◌<◌, ◌≤◌, eqb, ltb, length};
 ghost use Rattle.lists.specs.Tests.{pick};
 ghost use Rattle.lists.specs.Lists.{tabulate, join, fit};
@@ -46,7 +49,7 @@ pub fn board_factors(sizes: Sizes, c: usize, b: usize, rows: &[u8], out: &mut [u
         let at = o * 32;
         let end = at + 32;
         let j = (b + (c + o)) % n;
-        factors::column(rows, c, j, &mut out[at..end]);
+        lagrange_factors::column(rows, c, j, &mut out[at..end]);
         o += 1;
     }
 }

@@ -1,11 +1,14 @@
 //! A reader over a lent text that hands on its place from line to line: a small struct with the text and a place, and thin functions over it. Each leaves the
 //! work to the line reader of `text_in`, and is proved by hand; `number_from` and `pairs_from` take a plain slice, so that their callers are covered.
+
+#![tactic(auto)]
+
 ghost use Rattle.std.specs.Prelude.{◌≡◌};
 ghost use Rattle.text_in.specs.Steps.{number_at, pairs_line_at};
 
 use text_in::Told;
 
-#[derive(Drop)]
+#[derive(Clone, Copy)]
 pub struct Reader<'a> {
     pub text: &'a [u8],
     pub at: usize,

@@ -1,10 +1,10 @@
 -- The head of a text is what stands at its place.
 -- Assumes nothing.
-use mathlib.Core.Path.{◌≡◌, refl, sym, ap, ap₂, subst⁻¹, ◌∙◌}
+use mathlib.Core.Path.{◌≡◌, refl, sym, ap, subst⁻¹, ◌∙◌}
 use mathlib.Core.Bool.{Bool, true, false, not}
 use mathlib.Core.Option.{Option, some, none}
 use mathlib.Core.List.{List, [], ◌∷◌, ◌++◌}
-use Prim.Native.Nat.{ℕ, zero, suc, ◌+◌, ◌*◌, ◌-◌, ◌≤◌, ◌<◌}
+use Prim.Native.Nat.{ℕ, zero, suc, ◌*◌, ◌≤◌, ◌<◌}
 use native.Mathlib.Nat.{add-zero}
 use native.Mathlib.Omega.{arith}
 use lib.Dec.{ltb, leb, eqb}
@@ -13,18 +13,18 @@ use lib.Seq.{get_or-drop}
 use borrow.Author.Tests.{leb-true}
 use Rattle.lists.specs.Tests.{pick, alls, same}
 use Rattle.lists.specs.Lists.{fit, tabulate}
-use Rattle.lists.proofs.Pieces.{length-tabulate, take-fit}
+use Rattle.lists.proofs.Pieces.{take-fit}
 use Rattle.lists.proofs.Tests.{true-false, alls-hold}
 use Rattle.point_lines.specs.Lines.{read_points}
 use Rattle.sizes.specs.declared.Sizes.{Sizes}
 use Rattle.sizes.specs.Sizing.{legal, α, B, stripes}
 use Rattle.mbcr.specs.Share.{pointed, standard}
 use Rattle.text_lines.specs.Steps.{in_order}
-use Rattle.text_spec.specs.Texts.{ShareTold, text_of, admitted, tellable, some_points, data_at, points_at, Found, found, text_at}
+use Rattle.text_spec.specs.Texts.{text_of, admitted, tellable, some_points, data_at, points_at, Found, found, text_at}
 use Rattle.text_spec.proofs.Laws.{reads-writes, text-begins}
 use Rattle.text_in.specs.declared.Told.{Told}
 use Rattle.text_in.specs.Steps.{pairs_line_at, bytes_at}
-use Rattle.text_places.proofs.Pairs.{Pairs-at, line-by, line-told}
+use Rattle.text_places.proofs.Pairs.{line-by, line-told}
 use Rattle.text_places.proofs.Heads.{six-by}
 use Rattle.text_head.specs.declared.Six.{Six}
 use Rattle.text_head.specs.declared.Pointed.{Pointed}

@@ -1,4 +1,7 @@
 //! A share text at a place of a lent slice: its head, line by line, and where the pairs of its share stand.
+
+#![tactic(auto)]
+
 ghost use Rattle.std.specs.Prelude.{◌≡◌, true, false, not, [], ◌∷◌, ◌+◌, ◌*◌, ◌≤◌, length, take};
 ghost use Rattle.lists.specs.Tests.{alls};
 ghost use Rattle.lists.specs.Lists.{fit};
@@ -12,7 +15,7 @@ ghost use Rattle.text_head.specs.Steps.{six_at, unpointed, said_at, pointed_at, 
 use sizes::Sizes;
 
 // The numbers of the six lines, and the place behind them.
-#[derive(Drop)]
+#[derive(Clone, Copy)]
 pub struct Six {
     pub ok: bool,
     pub sizes: Sizes,
@@ -22,7 +25,7 @@ pub struct Six {
 }
 
 // The points, and the place behind their line.
-#[derive(Drop)]
+#[derive(Clone, Copy)]
 pub struct Pointed {
     pub ok: bool,
     pub points: [u8; 32],
@@ -30,7 +33,7 @@ pub struct Pointed {
 }
 
 // What a text tells but its share; the share's bytes, and the place where its pairs begin; the place behind the text.
-#[derive(Drop)]
+#[derive(Clone, Copy)]
 pub struct Head {
     pub ok: bool,
     pub sizes: Sizes,
@@ -140,7 +143,7 @@ fn unsaid(sizes: Sizes, at: usize) -> Pointed
 {
     Pointed {
         ok: true,
-        points: checks::standard_points(sizes),
+        points: board_lines::standard_points(sizes),
         next: at,
     }
 }
@@ -197,7 +200,7 @@ pub fn head_at(text: &[u8], at: usize) -> Head
     if !pointed.ok {
         return nothing();
     }
-    let count = checks::stripe_count(sizes, six.length) * sizes.share_len();
+    let count = board_lines::stripe_count(sizes, six.length) * sizes.share_len();
     let data = text_cursor::pairs_from(text, pointed.next, 1, count);
     let points = pointed.points;
     Head {

@@ -1,5 +1,8 @@
 //! Lines of a share text that stand at a place of a lent slice: a line of a number, a line of pairs, and the bytes that pairs spell. Each tells whether the
 //! line stands there, and the place behind it; a line that does not stand there leaves the place behind the whole text, where no line stands.
+
+#![tactic(auto)]
+
 ghost use Rattle.std.specs.Prelude.{◌≡◌, ◌+◌, ◌*◌, ◌≤◌, ◌<◌, length, get_or};
 ghost use Rattle.number_lines.specs.Steps.{fed};
 ghost use Rattle.point_lines.specs.Lines.{hexadecimal};
@@ -11,7 +14,7 @@ use number_lines::{Read, Reader};
 const MOST: usize = 4063233;
 
 // Whether the line stands there; its number, or the place where its pairs begin; the place behind it.
-#[derive(Drop)]
+#[derive(Clone, Copy)]
 pub struct Told {
     pub ok: bool,
     pub value: usize,

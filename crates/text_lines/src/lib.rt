@@ -1,4 +1,7 @@
 //! Share text, written into a lent slice: decimals, hexadecimal pairs, lines. A function that writes answers the place behind what it wrote.
+
+#![tactic(auto)]
+
 ghost use Rattle.std.specs.Prelude.{◌≡◌, ◌+◌, ◌≤◌, ◌<◌, length};
 ghost use Rattle.lists.specs.Lists.{joined};
 ghost use Rattle.board_spec.specs.Text.{decimal, hex_digit, hex_pair, text_line};

@@ -2,22 +2,22 @@
 -- Assumes nothing.
 use mathlib.Core.Path.{◌≡◌, refl, sym, ap, fun_ext, ◌∙◌}
 use mathlib.Core.Bool.{Bool, true, false}
-use mathlib.Core.Logic.{◌⊎◌, inl, inr, ⊎_elim}
+use mathlib.Core.Logic.{⊎_elim}
 use mathlib.Core.Option.{Option, none}
 use mathlib.Core.List.{List, [], ◌∷◌}
-use Prim.Native.Nat.{ℕ, ◌+◌, ◌*◌, ◌≤◌, ◌<◌}
+use Prim.Native.Nat.{ℕ, ◌*◌, ◌<◌}
 use native.Mathlib.Omega.{arith}
 use lib.Dec.{ltb, leb}
 use lib.ListN.{length, drop}
 use borrow.Author.Tests.{leb-true, ltb-true}
-use Rattle.lists.specs.Tests.{pick, alls}
-use Rattle.lists.proofs.Tests.{alls-hold, is_false}
+use Rattle.lists.specs.Tests.{pick}
+use Rattle.lists.proofs.Tests.{alls-hold}
 use Rattle.number_lines.specs.Lines.{line}
 use Rattle.number_lines.specs.Steps.{capped}
 use Rattle.number_lines.proofs.Capped.{capped-like, capped-low}
 use Rattle.sizes.specs.declared.Sizes.{Sizes}
 use Rattle.sizes.specs.Sizing.{legal, B}
-use Rattle.sizes.proofs.Legal.{Legal, legal-facts, B-most}
+use Rattle.sizes.proofs.Legal.{legal-facts, B-most}
 use Rattle.text_spec.specs.Texts.{Found, admitted, six_lines, points_at}
 use Rattle.text_in.specs.declared.Told.{Told}
 use Rattle.text_in.specs.Steps.{most, name_of, number_at}

@@ -3,8 +3,8 @@
 use mathlib.Core.Path.{◌≡◌, refl, sym, ap, ap₂, subst⁻¹, ◌∙◌}
 use mathlib.Core.Bool.{Bool, true, false}
 use mathlib.Core.Option.{Option, none}
-use mathlib.Core.List.{List, [], ◌∷◌, ◌++◌}
-use Prim.Native.Nat.{ℕ, zero, suc, ◌+◌, ◌*◌, ◌-◌, ◌≤◌, ◌<◌}
+use mathlib.Core.List.{List, [], ◌∷◌}
+use Prim.Native.Nat.{ℕ, zero, suc, ◌+◌, ◌*◌, ◌≤◌, ◌<◌}
 use native.Mathlib.Omega.{arith}
 use lib.Dec.{eqb}
 use lib.ListN.{length, get_or, drop, length-drop, drop_of_length-le}
@@ -13,11 +13,10 @@ use Rattle.lists.specs.Tests.{pick}
 use Rattle.lists.specs.Lists.{tabulate}
 use Rattle.lists.proofs.Pieces.{tabulate-ext}
 use Rattle.lists.proofs.Tests.{true-false, both}
-use Rattle.point_lines.specs.Lines.{hexadecimal, digit_value, read_digit, read_name, read_pairs}
+use Rattle.point_lines.specs.Lines.{hexadecimal, digit_value, read_name, read_pairs}
 use Rattle.text_spec.specs.Texts.{Found}
 use Rattle.text_in.specs.declared.Told.{Told}
 use Rattle.text_in.specs.Steps.{lost, name_at, pairs_at, pairs_name, pairs_line_at, nibble, pair_at, bytes_at}
-use Rattle.text_places.proofs.Places.{Told-at}
 
 -- ---- names
 

@@ -1,4 +1,7 @@
 //! Request A.14: how far a share text still makes sense, line by line.
+
+#![tactic(auto)]
+
 ghost use Rattle.std.specs.Prelude.{◌≡◌};
 ghost use Rattle.prefix_spec.specs.Prefix.{longest};
 

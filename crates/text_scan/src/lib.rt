@@ -1,5 +1,8 @@
 //! Texts that stand one after another in a lent slice: whether they do, whether they are alike in sizes, points and length, how many there are, and
 //! of the first 32 the board and the place where its pairs begin.
+
+#![tactic(auto)]
+
 ghost use Rattle.std.specs.Prelude.{◌≡◌, [], ◌∷◌, eqb, set};
 ghost use Rattle.lists.specs.Tests.{alls, same};
 ghost use Rattle.lists.specs.Lists.{fit};
@@ -9,7 +12,7 @@ ghost use Rattle.text_scan.specs.Steps.{Scanned};
 use sizes::Sizes;
 
 // Whether texts stand there, one after another to the end; whether each is like the one that they are measured by; how many there are.
-#[derive(Drop)]
+#[derive(Clone, Copy)]
 pub struct Scan {
     pub ok: bool,
     pub alike: bool,

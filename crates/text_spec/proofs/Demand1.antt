@@ -2,28 +2,23 @@
 -- Assumes nothing.
 use mathlib.Core.Path.{◌≡◌, refl, sym, ap, ap₂, subst, ◌∙◌}
 use mathlib.Core.Bool.{Bool, true, false, not}
-use mathlib.Core.Logic.{◌≢◌, ◌↔◌, ◌⊎◌, inl, inr}
+use mathlib.Core.Logic.{◌↔◌}
 use mathlib.Core.Option.{Option, some, none}
 use mathlib.Core.List.{List, [], ◌∷◌, ◌++◌, map}
 use Prim.Native.Nat.{ℕ, ◌*◌, ◌≤◌, ◌<◌}
 use native.Mathlib.Omega.{arith}
-use lib.Dec.{leb, eqb}
 use lib.ListN.{length, take, drop, length-take}
 use lib.Seq.{take_at, drop_at}
-use borrow.Author.Tests.{ltb-false, le-ltb, lt-ltb, leb-true, le-leb, eqb-true, eq-eqb}
-use Rattle.lists.specs.Tests.{pick, alls, every, same, given, below, different}
+use borrow.Author.Tests.{ltb-false, le-ltb, lt-ltb, le-leb}
+use Rattle.lists.specs.Tests.{pick, same, given, different}
 use Rattle.lists.specs.Lists.{All, Bytes, concat, over}
-use Rattle.lists.proofs.Alls.{all-imp}
-use Rattle.lists.proofs.Boards.{all-below, below_all}
-use Rattle.lists.proofs.Tests.{alls-hold, hold-alls, every-all, not-no}
+use Rattle.lists.proofs.Boards.{below_all}
 use Rattle.sizes.specs.declared.Sizes.{Sizes}
 use Rattle.sizes.specs.declared.Check.{Check}
-use Rattle.sizes.specs.declared.Check.TheVariants.{Pass}
-use Rattle.sizes.specs.declared.Refusal.{Refusal}
-use Rattle.sizes.specs.declared.Refusal.TheVariants.{Text, Size, Long, Mixed, Count, Node, Repeat, Area, Short, Disagree}
+use Rattle.sizes.specs.declared.Refusal.TheVariants.{Text, Mixed, Count, Repeat, Short, Disagree}
 use Rattle.sizes.specs.declared.Answer.TheVariants.{Done, Refused}
 use Rattle.sizes.specs.Sizing.{legal, α, B, stripes}
-use Rattle.sizes.specs.Refusals.{said, Line, ◌when◌, applies_in, first, board_order}
+use Rattle.sizes.specs.Refusals.{said, ◌when◌, first, board_order}
 use Rattle.sizes.proofs.Legal.{legal-facts}
 use Rattle.sizes.proofs.Lines.{clear_first, refuse-first, one-or-none}
 use Rattle.sizes.proofs.Orders.{Only}
@@ -32,16 +27,16 @@ use Rattle.mbcr.specs.Demand2.{Named}
 use Rattle.mbcr.specs.Read.{decoded_file, read_file}
 use Rattle.mbcr.proofs.Places.{share-bytes}
 use Rattle.mbcr.proofs.Repair.{length-share}
-use Rattle.board_spec.specs.Calls.{BoardOutcome, settled, file_of, file_lines, file_call, short_line}
+use Rattle.board_spec.specs.Calls.{BoardOutcome, settled, file_of, file_call, short_line}
 use Rattle.board_spec.specs.Claims.{Claim, ◌means◌, LinesSay}
 use Rattle.board_spec.specs.Demand1.{BoardEnds}
 use Rattle.board_spec.proofs.Demand1 as board
 use Rattle.text_spec.specs.Texts.{ShareTold, text_of, texts_joined, read_text, texts_of}
-use Rattle.text_spec.specs.Calls.{told_of, ReadOutcome, read_settled, read_text_lines, read_text_call, texts_told, first_of, like, nodes_of, shares_of, gathered, gather_lines, gather_call}
+use Rattle.text_spec.specs.Calls.{told_of, read_settled, read_text_lines, read_text_call, texts_told, first_of, nodes_of, shares_of, gathered, gather_lines, gather_call}
 use Rattle.text_spec.specs.Laws.{Writable}
 use Rattle.text_spec.specs.Demand1.{ReadEnds, Like, written_claims, share_of, TextCalls}
-use Rattle.text_spec.proofs.Laws.{Facts, facts-of, of-facts, text-told, texts-told}
-use Rattle.text_spec.proofs.Alike.{like_is, read-lines, gather-lines}
+use Rattle.text_spec.proofs.Laws.{facts-of, of-facts, text-told, texts-told}
+use Rattle.text_spec.proofs.Alike.{read-lines, gather-lines}
 use Rattle.text_spec.proofs.Gather.{shares-bytes, width, is-file, all-like, only-file, shares-wide}
 
 -- ---- the reader

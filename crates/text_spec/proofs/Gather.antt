@@ -1,19 +1,18 @@
 -- Texts that do not differ are gathered as a file is made of the shares that they tell.
 -- Assumes nothing.
 use mathlib.Core.Path.{◌≡◌, refl, sym, ap, ap₂, subst, ◌∙◌}
-use mathlib.Core.Bool.{Bool, true, false, not}
-use mathlib.Core.Logic.{◌↔◌, ◌⊎◌, inl, inr}
-use mathlib.Core.Option.{Option, some, none}
-use mathlib.Core.List.{List, [], ◌∷◌, map}
-use Prim.Native.Nat.{ℕ, suc, ◌+◌, ◌*◌, ◌≤◌, ◌<◌}
+use mathlib.Core.Bool.{true, false, not}
+use mathlib.Core.Logic.{inl, inr}
+use mathlib.Core.Option.{Option, some}
+use mathlib.Core.List.{List, [], ◌∷◌}
+use Prim.Native.Nat.{ℕ, ◌*◌, ◌<◌, ◌+◌}
 use native.Mathlib.Nat.{zero-mul, suc-mul, add_comm}
 use native.Mathlib.Omega.{arith}
-use lib.Dec.{ltb, leb, eqb}
-use lib.ListN.{length, take, drop, length-append, length-map, length-take}
-use lib.Seq.{take_at, drop_at}
-use borrow.Author.Tests.{le-ltb, ltb-true, ltb-false, leb-true, le-leb, eqb-true, eq-eqb}
-use Rattle.lists.specs.Tests.{pick, alls, every, same, below, given}
-use Rattle.lists.specs.Lists.{All, Bytes, concat, joined, over}
+use lib.Dec.{leb, eqb}
+use lib.ListN.{length, length-append, length-map}
+use borrow.Author.Tests.{le-ltb, ltb-true, leb-true, le-leb, eqb-true, eq-eqb}
+use Rattle.lists.specs.Tests.{alls, every, given}
+use Rattle.lists.specs.Lists.{All, Bytes}
 use Rattle.lists.proofs.Alls.{append-all}
 use Rattle.lists.proofs.Boards.{all-below}
 use Rattle.lists.proofs.Tests.{alls-hold, hold-alls, every-all, all-every, not-no}
@@ -21,20 +20,16 @@ use Rattle.sizes.specs.declared.Sizes.{Sizes}
 use Rattle.sizes.specs.declared.Check.{Check}
 use Rattle.sizes.specs.declared.Refusal.TheVariants.{Size, Area, Long, Count, Node, Repeat, Short, Disagree, Text, Mixed}
 use Rattle.sizes.specs.declared.Refusal.{Refusal}
-use Rattle.sizes.specs.declared.Answer.TheVariants.{Done, Refused}
 use Rattle.sizes.specs.Sizing.{legal, α, B, stripes}
-use Rattle.sizes.specs.Refusals.{said, number, Line, applies_in, ◌when◌, first, board_order}
-use Rattle.sizes.proofs.Legal.{legal-facts}
+use Rattle.sizes.specs.Refusals.{number, Line, applies_in, ◌when◌, first, board_order}
 use Rattle.sizes.proofs.Orders.{◌also◌, stands, ahead, all-at, Only, only-off, first-same}
-use Rattle.mbcr.specs.Share.{pointed, share, shares}
-use Rattle.mbcr.specs.Read.{decoded_file, read_file}
-use Rattle.mbcr.proofs.Repair.{length-share}
+use Rattle.mbcr.specs.Share.{pointed, share}
 use Rattle.board_spec.specs.Calls.{BoardOutcome, settled, file_of, file_lines, file_call, count_line, repeat_line, short_line}
 use Rattle.text_spec.specs.Texts.{ShareTold, texts_joined, texts_of}
 use Rattle.text_spec.specs.Calls.{texts_told, first_of, like, nodes_of, shares_of, gathered, gather_lines, gather_call}
 use Rattle.text_spec.specs.Laws.{Writable}
 use Rattle.text_spec.specs.Demand1.{Like}
-use Rattle.text_spec.proofs.Laws.{Facts, facts-of, texts-told}
+use Rattle.text_spec.proofs.Laws.{facts-of, texts-told}
 use Rattle.text_spec.proofs.Alike.{like_is}
 
 -- ---- what alike texts tell

@@ -1,17 +1,16 @@
 -- Reading undoes writing, and writing undoes reading.
 -- Assumes nothing.
-use mathlib.Core.Path.{◌≡◌, refl, sym, ap, ap₂, subst, ◌∙◌}
-use mathlib.Core.Bool.{Bool, true, false, not}
+use mathlib.Core.Path.{◌≡◌, refl, sym, ap, subst, ◌∙◌}
+use mathlib.Core.Bool.{true}
 use mathlib.Core.Logic.{◌↔◌}
 use mathlib.Core.Option.{Option, some, none}
 use mathlib.Core.List.{List, [], ◌∷◌, ◌++◌, append_assoc}
-use Prim.Native.Nat.{ℕ, zero, suc, ◌+◌, ◌*◌, ◌≤◌, ◌<◌}
+use Prim.Native.Nat.{ℕ, zero, suc, ◌*◌, ◌≤◌}
 use native.Mathlib.Omega.{arith}
 use lib.Dec.{ltb, leb, eqb}
 use lib.ListN.{length, length-append}
-use borrow.Author.Tests.{eqb-true, eq-eqb, ltb-true}
-use Rattle.lists.specs.Tests.{pick, alls}
-use Rattle.lists.specs.Lists.{All, Bytes, joined, concat}
+use borrow.Author.Tests.{eqb-true, eq-eqb}
+use Rattle.lists.specs.Lists.{All, Bytes, joined}
 use Rattle.lists.proofs.Tests.{alls-hold, hold-alls}
 use Rattle.number_lines.proofs.Picks.{yes}
 use Rattle.point_lines.specs.Lines.{read_pairs}
@@ -20,7 +19,7 @@ use Rattle.sizes.specs.Sizing.{legal, α, B, stripes}
 use Rattle.sizes.proofs.Legal.{legal-facts}
 use Rattle.mbcr.specs.Share.{pointed}
 use Rattle.board_spec.specs.Text.{decimal, hex_pair, text_line, points_line, share_text}
-use Rattle.text_spec.specs.Texts.{ShareTold, text_of, texts_joined, admitted, writable, six_lines, some_points, data_line, Found, found, data_at, points_at}
+use Rattle.text_spec.specs.Texts.{ShareTold, text_of, texts_joined, admitted, writable, six_lines, some_points, Found, found, data_at, points_at}
 use Rattle.text_spec.specs.Texts.{text_at, whole, read_text, before, onward, or_no_text, texts_up_to, texts_of}
 use Rattle.text_spec.specs.Laws.{Writable}
 use Rattle.text_spec.proofs.Forms.{six-taken, pairs-line-taken, line-apart}

@@ -11,16 +11,15 @@ use lib.Dec.{ltb, eqb}
 use lib.ListN.{length, get_or, take, drop, get_or-eq_default}
 use lib.Seq.{ext_get_or, length-take-le}
 use borrow.Author.Tests.{ltb-true, ltb-false, eqb-true}
-use Rattle.lists.specs.Tests.{pick, same, every, alls, below, different}
+use Rattle.lists.specs.Tests.{pick, same, every, below, different}
 use Rattle.lists.specs.Lists.{All, Bytes, tabulate, joined, fit}
 use Rattle.lists.proofs.Alls.{take-alls}
 use Rattle.lists.proofs.Boards.{below_all}
 use Rattle.lists.proofs.Pieces.{length-tabulate, tabulate-at, length-fit, fit_at, take-fit}
-use Rattle.lists.proofs.Tests.{alls-hold, hold-alls, every-all, same-eq, not-no, is_false}
-use Rattle.number_lines.proofs.Picks.{yes, no, if-ne}
+use Rattle.lists.proofs.Tests.{alls-hold, hold-alls, every-all, same-eq}
+use Rattle.number_lines.proofs.Picks.{yes, if-ne}
 use Rattle.sizes.specs.declared.Sizes.{Sizes}
 use Rattle.sizes.specs.Sizing.{legal}
-use Rattle.sizes.proofs.Legal.{legal-facts}
 use Rattle.mbcr.specs.Share.{standard, pointed}
 use Rattle.mbcr.proofs.PointLaws.{standard-pointed}
 use Rattle.board_spec.specs.Text.{hex_pair, text_line, points_line}

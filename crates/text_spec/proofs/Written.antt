@@ -1,15 +1,14 @@
 -- What is writable is what the share-as-text call writes.
 -- Assumes nothing.
-use mathlib.Core.Path.{◌≡◌, refl, sym, ap, ◌∙◌}
-use mathlib.Core.Bool.{Bool, true, false, not}
+use mathlib.Core.Path.{◌≡◌, refl, ap}
+use mathlib.Core.Bool.{true}
 use mathlib.Core.Logic.{◌↔◌}
 use mathlib.Core.List.{List, [], ◌∷◌}
-use Prim.Native.Nat.{ℕ, ◌*◌, ◌≤◌}
+use Prim.Native.Nat.{ℕ, ◌*◌}
 use native.Mathlib.Omega.{arith}
-use lib.Dec.{ltb, leb, eqb}
+use lib.Dec.{eqb}
 use lib.ListN.{length}
 use borrow.Author.Tests.{ltb-false, le-ltb, lt-ltb, leb-true, le-leb, eqb-true, eq-eqb}
-use Rattle.lists.specs.Tests.{pick, alls, below}
 use Rattle.lists.specs.Lists.{over}
 use Rattle.lists.proofs.Boards.{below_all}
 use Rattle.lists.proofs.Tests.{alls-hold, not-no}

@@ -2,7 +2,7 @@
 -- changes no byte of the output. And what they give: the reader what was written; the gathering the file of the shares, just where there is one.
 -- proofs/Demand1.antt has `demand-1 : TextCalls`.
 -- Assumes nothing.
-use Rattle.std.specs.Prelude.{◌≡◌, true, false, ◌≢◌, ◌↔◌, ◌⊎◌, List, [], ◌∷◌, map, ℕ, ◌*◌, ◌≤◌, ◌<◌, length, replicate}
+use Rattle.std.specs.Prelude.{◌≡◌, true, false, ◌↔◌, ◌⊎◌, List, [], ◌∷◌, map, ℕ, ◌*◌, ◌≤◌, ◌<◌, length, replicate}
 use Rattle.std.proofs.Math.Option.{none}
 use Rattle.lists.specs.Tests.{different}
 use Rattle.lists.specs.Lists.{All, Bytes, concat, over}

@@ -1,15 +1,15 @@
 -- Figures of share texts that are read again, with numbers that all differ: a text without a line of points and one with it; texts that nothing writes,
 -- each wrong in one thing; and for both calls each refusal that they have, then each before the next. proofs/Figures.antt has `figures`.
 -- Assumes nothing.
-use Rattle.std.specs.Prelude.{◌≡◌, Bool, true, false, List, [], ◌∷◌, ◌++◌, map, ℕ, ◌*◌, length, take, drop, replicate}
+use Rattle.std.specs.Prelude.{◌≡◌, false, List, [], ◌∷◌, ◌++◌, map, ℕ, ◌*◌, length, take, drop, replicate}
 use Rattle.std.proofs.Math.Option.{some}
 use Rattle.lists.specs.Tests.{given}
 use Rattle.lists.specs.Lists.{joined}
 use Rattle.sizes.specs.declared.Sizes.{Sizes}
 use Rattle.board_spec.specs.Text.{hex_pair, text_line}
 use Rattle.board_spec.specs.Calls.{BoardOutcome}
-use Rattle.text_spec.specs.Texts.{ShareTold, read_text, texts_of}
-use Rattle.text_spec.specs.Calls.{ReadOutcome, read_text_call, gather_call}
+use Rattle.text_spec.specs.Texts.{read_text, texts_of}
+use Rattle.text_spec.specs.Calls.{read_text_call, gather_call}
 
 -- the lines n=, k=, d=, r=, node=, length= with these bytes behind each =, and what follows
 abbrev six : List ℕ → List ℕ → List ℕ → List ℕ → List ℕ → List ℕ → List ℕ → List ℕ

@@ -1,10 +1,9 @@
 -- What holds of share texts: reading undoes writing and writing undoes reading, so that a share has one text; one after another they are read apart.
 -- proofs/Written.antt has `text-laws : ReadLaws`.
 -- Assumes nothing.
-use Rattle.std.specs.Prelude.{◌≡◌, true, ◌↔◌, List, [], ◌∷◌, ◌++◌, ℕ, ◌<◌, length}
+use Rattle.std.specs.Prelude.{◌≡◌, true, ◌↔◌, List, [], ◌∷◌, ◌++◌, ℕ, length}
 use Rattle.std.proofs.Math.Option.{some}
 use Rattle.lists.specs.Lists.{All, Bytes, over}
-use Rattle.sizes.specs.declared.Sizes.{Sizes}
 use Rattle.sizes.specs.declared.Answer.TheVariants.{Done}
 use Rattle.sizes.specs.Refusals.{said}
 use Rattle.board_spec.specs.Calls.{text_call}

@@ -1,7 +1,7 @@
 -- Request A.1, 'Shares come back from the workshop as text': what a share text tells, which texts are read, and how. "Accepted are just the texts that
 -- the share-as-text call can write." Document 01, 'Share text', has the lines.
 -- Assumes nothing.
-use Rattle.std.specs.Prelude.{Bool, not, List, [], ◌∷◌, ◌++◌, map, ℕ, zero, suc, ◌*◌, ltb, leb, eqb, length, get_or}
+use Rattle.std.specs.Prelude.{Bool, not, List, [], ◌∷◌, map, ℕ, zero, suc, ◌*◌, ltb, leb, eqb, length, get_or}
 use Rattle.std.proofs.Math.Option.{Option, some, none}
 use Rattle.lists.specs.Tests.{pick, alls, same}
 use Rattle.lists.specs.Lists.{tabulate, concat, fit}

@@ -16,7 +16,7 @@ use Rattle.sizes.specs.Sizing.{α, B, stripes}
 use Rattle.sizes.proofs.Legal.{Legal, row_fits, stripes-enough, stripes-least}
 use Rattle.decode_laws.specs.Steps.{Placed}
 use Rattle.decode_laws.proofs.Loops.{join-loop, join-end}
-use Rattle.decode.specs.Steps.{shares_at}
+use Rattle.decode_file.specs.Steps.{shares_at}
 use Rattle.text_in.specs.Steps.{bytes_at}
 use Rattle.text_stripes.specs.Steps.{spelled, Spelled, stripe_starts}
 

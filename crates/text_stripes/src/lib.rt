@@ -1,4 +1,7 @@
 //! One stripe of shares that pairs of a text spell: whether it is that of a part of a file, and the part.
+
+#![tactic(auto)]
+
 ghost use Rattle.std.specs.Prelude.{◌≡◌, ◌+◌, ◌*◌, ◌-◌, ◌<◌, ◌≤◌, length};
 ghost use Rattle.lists.specs.Tests.{given};
 ghost use Rattle.sizes.specs.Sizing.{α, B};
@@ -43,7 +46,7 @@ pub fn stripe_agrees(
 {
     let share = sizes.share_len();
     stripe_bytes(text, places, from, share, held);
-    decode::agrees(sizes, points, part, 1, boards, starts, held, tables)
+    decode_file::agrees(sizes, points, part, 1, boards, starts, held, tables)
 }
 
 // The part of a file that this stripe decodes to, as many bytes as out has. The stripe's bytes go to held.
@@ -65,5 +68,5 @@ pub fn stripe_file(
     let share = sizes.share_len();
     let part = out.len();
     stripe_bytes(text, places, from, share, held);
-    decode::file(sizes, points, part, 1, boards, starts, held, tables, out);
+    decode_file::write_file(sizes, points, part, 1, boards, starts, held, tables, out);
 }

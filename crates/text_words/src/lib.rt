@@ -1,4 +1,7 @@
 //! What the text reader tells, in words: the head of a text in six words, its points in 32 bytes, and the answer in one word.
+
+#![tactic(auto)]
+
 ghost use Rattle.std.specs.Prelude.{◌≡◌, ◌<◌, eqb, length};
 ghost use Rattle.lists.specs.Tests.{pick};
 ghost use Rattle.sizes.specs.Refusals.{said};

@@ -1,4 +1,7 @@
 //! Share text, written whole into a lent slice, and its length.
+
+#![tactic(auto)]
+
 ghost use Rattle.std.specs.Prelude.{◌≡◌, List, ℕ, ◌≤◌, length};
 ghost use Rattle.lists.specs.Lists.{over};
 ghost use Rattle.board_spec.specs.Text.{share_text};

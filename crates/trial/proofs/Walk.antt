@@ -3,8 +3,8 @@
 use mathlib.Core.Path.{◌≡◌, refl, sym, ap, ap₂, ◌∙◌}
 use mathlib.Core.Bool.{Bool, true}
 use mathlib.Core.Option.{Option, some, none}
-use mathlib.Core.List.{List, [], ◌∷◌, ◌++◌, append-nil, append_assoc}
-use Prim.Native.Nat.{ℕ, zero, suc, ◌+◌, ◌*◌, ◌-◌, ◌≤◌, ◌<◌}
+use mathlib.Core.List.{List, [], ◌++◌, append-nil, append_assoc}
+use Prim.Native.Nat.{ℕ, suc, ◌+◌, ◌*◌, ◌-◌, ◌≤◌, ◌<◌}
 use native.Mathlib.Omega.{arith}
 use lib.ListN.{length, take, drop, replicate, length-append, length-drop}
 use Rattle.lists.specs.Lists.{put}
@@ -13,12 +13,12 @@ use Rattle.mbcr.specs.Share.{standard}
 use Rattle.board_spec.specs.Text.{decimal}
 use Rattle.printer.specs.Printer.{refused_line}
 use Rattle.text_lines.specs.Steps.{Wrote}
-use Rattle.store_spec.specs.Record.{Record, area_len}
-use Rattle.store_spec.specs.Running.{Running, idle}
-use Rattle.store_spec.specs.Both.{set_up_both}
-use Rattle.store_spec.specs.Ledger.{State}
+use Rattle.store_spec.specs.Record.{Record}
+use Rattle.beside_spec.specs.Running.{Running, idle}
+use Rattle.beside_spec.specs.Both.{set_up_both}
+use Rattle.beside_spec.specs.Acting.{State}
 use Rattle.store_spec.proofs.Records.{sound-facts}
-use Rattle.store_spec.proofs.Demand3.{set-up-both}
+use Rattle.beside_spec.proofs.Beside.{set-up-both}
 use Rattle.trial_spec.specs.Trial.{Load, new_store, taken, loaded, drawn, left, trial_over, trial_of, trial_text}
 use Rattle.trial_spec.proofs.Laws.{trial-laws}
 use Rattle.trial_input.specs.declared.Load as load
@@ -28,7 +28,6 @@ use Rattle.trial_input.specs.Steps.{load_in, loaded_in}
 use Rattle.trial_calls.proofs.Made.{take-zeros}
 use Rattle.trial_turn.specs.Turn.{outcome_of, line_after}
 use Rattle.trial_turn.specs.Walk.{text_from}
-use Rattle.trial.specs.declared.Printed.{Printed}
 use Rattle.trial.specs.Printing.{Printing}
 
 -- ---- turn by turn

@@ -1,5 +1,7 @@
 // The trial load of request A.2: reads eight lines from standard input, draws calls from one number, makes them on a store, and writes a line after
 // each; or one line with a refusal. It only reads and writes; what is taken is decided by the crate `trial_input`, each turn by `trial_turn`.
+#![tactic(auto)]
+
 ghost use Rattle.std.specs.Prelude.{◌≡◌, true, ◌≤◌, length};
 ghost use Rattle.std.proofs.Math.Option.{some};
 ghost use Rattle.printer.specs.Printer.{refused_line};
@@ -15,7 +17,7 @@ use store::Store;
 use trial_input::{Load, Loaded};
 
 // How many bytes the lines have that were to be written, how many calls were not made, and whether every line was written: else a call may be left.
-#[derive(Drop)]
+#[derive(Clone, Copy)]
 struct Printed {
     count: usize,
     left: u32,
@@ -23,7 +25,7 @@ struct Printed {
 }
 
 // What a turn leaves: both records, the generator's state, how many bytes its line has, and whether it was written.
-#[derive(Drop)]
+#[derive(Clone, Copy)]
 struct Turn {
     store: Store,
     running: Running,
@@ -89,7 +91,7 @@ fn print(load: Load) -> Printed
     ensures { Printing (trial_of (some (load_in load))) result }
 {
     let mut area = [0u8; 32768];
-    let m = trial_input::area_len(load.sizes, load.capacity);
+    let m = trial_limits::area_len(load.sizes, load.capacity);
     let handed = trial_store::set_up(load);
     let kept = handed.store;
     let running = handed.running;
@@ -119,8 +121,9 @@ fn run(input: &[u8]) -> Printed
     }
 }
 
-fn main() {
+fn main(rt: HostRuntime) {
+    let mut reader = rt.stdin();
     let mut input = [0u8; 128];
-    let count = standard_input::read_input(&mut input);
+    let count = standard_input::read_input(&mut reader, &mut input);
     run(&input[..count]);
 }

@@ -1,10 +1,10 @@
 -- What a method's contract says, as the trial load asks it; and beginnings of arrays.
 -- Assumes nothing.
-use mathlib.Core.Path.{◌≡◌, refl, sym, ap, ap₂, ◌∙◌}
-use mathlib.Core.Bool.{Bool, true}
+use mathlib.Core.Path.{◌≡◌, refl, sym, ap}
+use mathlib.Core.Bool.{true}
 use mathlib.Core.List.{List, [], ◌∷◌}
-use Prim.Native.Nat.{ℕ, zero, suc, ◌+◌, ◌*◌, ◌-◌, ◌≤◌, ◌<◌}
-use native.Mathlib.Nat.{mul-le-mul_left, mul-le-mul}
+use Prim.Native.Nat.{ℕ, zero, suc, ◌+◌, ◌*◌, ◌-◌, ◌≤◌}
+use native.Mathlib.Nat.{mul-le-mul}
 use native.Mathlib.Omega.{arith}
 use lib.Dec.{leb}
 use lib.ListN.{length, take, get_or, replicate}
@@ -15,8 +15,8 @@ use Rattle.lists.specs.Lists.{tabulate}
 use Rattle.lists.proofs.Tests.{every-all}
 use Rattle.lists.proofs.Alls.{all-at}
 use Rattle.lists.proofs.Pieces.{length-tabulate, tabulate-at}
-use Rattle.store_spec.specs.Both.{Outcome, write_both, lose_both, repair_both, read_both}
-use Rattle.store_spec.specs.Ledger.{Call, write, lose, repair, read, act}
+use Rattle.beside_spec.specs.Both.{Outcome, write_both, lose_both, repair_both, read_both}
+use Rattle.beside_spec.specs.Acting.{Call, write, lose, repair, read, act}
 use Rattle.trial_spec.specs.Trial.{left}
 use Rattle.record.specs.declared.Running.{Running}
 use Rattle.record.specs.Records.{running_in}

@@ -5,7 +5,7 @@ use Rattle.lists.specs.Lists.{join}
 use Rattle.sizes.specs.declared.Sizes.{Sizes}
 use Rattle.sizes.specs.Sizing.{legal}
 use Rattle.sizes.specs.Refusals.{said}
-use Rattle.store_spec.specs.Ledger.{Call, repair, read, State, act}
+use Rattle.beside_spec.specs.Acting.{Call, repair, read, State, act}
 use Rattle.trial_spec.specs.Trial.{counted, left}
 use Rattle.record.specs.declared.Running.{Running}
 use Rattle.record.specs.Records.{running_in}

@@ -1,8 +1,11 @@
 //! Request A.2: a write, a repair and a read of the trial load, each with what is drawn for it, made on a store.
+
+#![tactic(auto)]
+
 ghost use Rattle.std.specs.Prelude.{◌≡◌, true, ◌≤◌, ◌<◌, length};
 ghost use Rattle.sizes.specs.Sizing.{legal};
 ghost use Rattle.generator.specs.Generator.{after, emitted};
-ghost use Rattle.store_spec.specs.Ledger.{write, read};
+ghost use Rattle.beside_spec.specs.Acting.{write, read};
 ghost use Rattle.trial_spec.specs.Trial.{counted};
 ghost use Rattle.trial_calls.specs.Acts.{state_in, Acts, repair_drawn, read_drawn, Listed};
 
@@ -11,7 +14,7 @@ use sizes::Sizes;
 use store::{Handed, Store};
 
 // What a call hands on, and the generator's state after it.
-#[derive(Drop)]
+#[derive(Clone, Copy)]
 pub struct Turned {
     pub handed: Handed,
     pub state: u32,

@@ -1,3 +1,2 @@
-pub mod SetUp
 pub mod Lines
 pub mod Short

@@ -5,21 +5,20 @@ use mathlib.Core.Bool.{Bool, true, false}
 use mathlib.Core.Logic.{⊎_elim}
 use mathlib.Core.Option.{Option, none}
 use mathlib.Core.List.{List, [], ◌∷◌}
-use Prim.Native.Nat.{ℕ, ◌≤◌, ◌<◌}
+use Prim.Native.Nat.{ℕ, ◌<◌}
 use native.Mathlib.Omega.{arith}
 use lib.ListN.{drop}
 use Rattle.lists.specs.Tests.{pick}
-use Rattle.lists.proofs.Tests.{true-false}
 use Rattle.number_lines.specs.Lines.{line}
 use Rattle.number_lines.specs.Steps.{capped}
 use Rattle.number_lines.proofs.Capped.{capped-like, capped-low}
-use Rattle.sizes.specs.declared.Sizes.{Sizes}
 use Rattle.text_in.specs.declared.Told.{Told}
 use Rattle.line_places.specs.Steps.{most, line_at}
 use Rattle.line_places.proofs.Places.{line-by, next-line}
 use Rattle.trial_spec.specs.Trial.{Load, eight_lines, taken, loaded}
-use Rattle.trial_input.specs.Steps.{numbers_in, numbers_at}
-use Rattle.trial_input.proofs.SetUp.{Small, small, ends, ends-refused}
+use Rattle.trial_limits.specs.Steps.{numbers_in}
+use Rattle.trial_input.specs.Steps.{numbers_at}
+use Rattle.trial_limits.proofs.SetUp.{Small, small, ends, ends-refused}
 
 -- ---- numbers that are held
 

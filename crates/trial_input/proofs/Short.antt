@@ -2,11 +2,11 @@
 -- Assumes nothing.
 use mathlib.Core.Path.{◌≡◌, refl, sym, ap, ◌∙◌}
 use mathlib.Core.Bool.{Bool, true, false}
-use mathlib.Core.Logic.{◌⊎◌, inl, inr, ⊎_elim}
+use mathlib.Core.Logic.{inl, inr, ⊎_elim}
 use mathlib.Core.Option.{Option, some, none}
 use mathlib.Core.List.{List, [], ◌∷◌, ◌++◌}
 use Prim.Native.Nat.{ℕ, zero, suc, ◌+◌, ◌*◌, ◌-◌, ◌≤◌, ◌<◌}
-use native.Mathlib.Nat.{mul-le-mul_right, mul_assoc, mul_comm, one-mul, mul-one}
+use native.Mathlib.Nat.{mul-le-mul_right, mul_assoc, mul_comm, one-mul}
 use native.Mathlib.Decide.{dec_lt}
 use native.Mathlib.Omega.{arith}
 use lib.ListN.{length, length-append}
@@ -18,14 +18,14 @@ use Rattle.number_lines.proofs.Laws.{line-laws}
 use Rattle.sizes.proofs.Legal.{legal-facts}
 use Rattle.mbcr.specs.Share.{standard}
 use Rattle.store_spec.proofs.Records.{sound-facts}
-use Rattle.store_spec.specs.Running.{idle}
-use Rattle.store_spec.proofs.Demand3.{set-up-both}
+use Rattle.beside_spec.specs.Running.{idle}
+use Rattle.beside_spec.proofs.Beside.{set-up-both}
 use lib.Dec.{eqb}
 use borrow.Author.Tests.{eqb-true}
 use Rattle.trial_spec.specs.Trial.{Load, new_store, taken, loaded}
 use Rattle.trial_spec.proofs.Laws.{trial-laws}
 use Rattle.trial_input.specs.Laws.{InputLaws}
-use Rattle.trial_input.proofs.SetUp.{ends}
+use Rattle.trial_limits.proofs.SetUp.{ends}
 
 -- ---- digits
 

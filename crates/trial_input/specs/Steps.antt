@@ -1,17 +1,11 @@
 -- What is read of a load, line by line, and what is made of it.
 -- Assumes nothing.
-use Rattle.std.specs.Prelude.{Bool, List, [], ◌∷◌, ℕ, leb, eqb}
 use Rattle.std.proofs.Math.Option.{Option, some, none}
-use Rattle.lists.specs.Tests.{alls}
-use Rattle.sizes.specs.declared.Sizes.{Sizes}
-use Rattle.mbcr.specs.Share.{standard}
-use Rattle.store_spec.specs.Record.{new_record, area_len}
-use Rattle.store_spec.specs.Calls.{set_up_call}
+use Rattle.std.specs.Prelude.{List, [], ◌∷◌, ℕ}
 use Rattle.text_in.specs.declared.Told.{Told}
 use Rattle.line_places.specs.Steps.{line_at}
 use Rattle.trial_spec.specs.Trial as trial
 use Rattle.trial_input.specs.declared.Four.{Four}
-use Rattle.trial_input.specs.declared.Numbers.{Numbers}
 use Rattle.trial_input.specs.declared.Eight.{Eight}
 use Rattle.trial_input.specs.declared.Load.{Load}
 use Rattle.trial_input.specs.declared.Loaded.{Loaded}
@@ -24,9 +18,6 @@ load_in l = record { sizes = l.sizes; capacity = l.capacity; seed = l.seed; leng
 abbrev pub loaded_in : Loaded → Option trial.Load
 loaded_in (Taken l) = some (load_in l)
 loaded_in Refused = none
-
-abbrev pub numbers_in : Numbers → trial.Load
-numbers_in l = record { sizes = l.sizes; capacity = l.capacity; seed = l.seed; length = l.length; calls = l.calls }
 
 -- what four lines tell, each from behind the last
 abbrev pub four_told : Told → Told → Told → Told → Four
@@ -51,9 +42,3 @@ numbers_at text =
     let seed = line_at text C.next (0x73 ∷ 0x65 ∷ 0x65 ∷ 0x64 ∷ 0x3D ∷ []) in
     let L = line_at text seed.next (0x6C ∷ 0x65 ∷ 0x6E ∷ 0x67 ∷ 0x74 ∷ 0x68 ∷ 0x3D ∷ []) in
     eight_told four C seed L (line_at text L.next (0x63 ∷ 0x61 ∷ 0x6C ∷ 0x6C ∷ 0x73 ∷ 0x3D ∷ []))
-
--- the set-up is accepted, and the area is not too long
-abbrev pub set_up : Sizes → ℕ → Bool
-set_up z C =
-    let s = new_record z (standard z) C in
-    alls (eqb (set_up_call s z (standard z) C).answer.refusal 0 ∷ leb (area_len s) 32768 ∷ [])

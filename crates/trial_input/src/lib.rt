@@ -1,32 +1,24 @@
 //! Request A.2: what the trial program reads. The eight lines of numbers, just these, or nothing is taken.
-ghost use Rattle.std.specs.Prelude.{◌≡◌, ◌*◌};
-ghost use Rattle.sizes.specs.Sizing.{α};
-ghost use Rattle.store_checks.specs.Steps.{Bounded};
-ghost use Rattle.trial_spec.specs.Trial.{taken, loaded};
-ghost use Rattle.trial_input.specs.Steps.{sizes_at, numbers_at, numbers_in, set_up, loaded_in};
 
-use sizes::{Check, Sizes};
+#![tactic(auto)]
+
+ghost use Rattle.std.specs.Prelude.{◌≡◌};
+ghost use Rattle.trial_spec.specs.Trial.{loaded};
+ghost use Rattle.trial_input.specs.Steps.{sizes_at, numbers_at, loaded_in};
+
+use sizes::Sizes;
+use trial_limits::Numbers;
 
 // The sizes, and the place behind their lines.
-#[derive(Drop)]
+#[derive(Clone, Copy)]
 struct Four {
     ok: bool,
     sizes: Sizes,
     next: usize,
 }
 
-// The numbers of the eight lines; one above 4,294,967,295 is held as one more than that.
-#[derive(Drop)]
-struct Numbers {
-    sizes: Sizes,
-    capacity: usize,
-    seed: usize,
-    length: usize,
-    calls: usize,
-}
-
 // The numbers, and the place behind their lines.
-#[derive(Drop)]
+#[derive(Clone, Copy)]
 struct Eight {
     ok: bool,
     numbers: Numbers,
@@ -34,7 +26,7 @@ struct Eight {
 }
 
 // A load: the sizes, the capacity in stripes, the seed, the length of a file, how many calls.
-#[derive(Drop)]
+#[derive(Clone, Copy)]
 pub struct Load {
     pub sizes: Sizes,
     pub capacity: usize,
@@ -44,7 +36,7 @@ pub struct Load {
 }
 
 // A load that is taken, or none.
-#[derive(Drop)]
+#[derive(Clone, Copy)]
 pub enum Loaded {
     Taken(Load),
     Refused,
@@ -93,42 +85,6 @@ fn numbers_at(text: &[u8]) -> Eight
     }
 }
 
-// The bytes of the area of a store of these sizes and this capacity.
-pub fn area_len(sizes: Sizes, capacity: usize) -> usize
-    requires { Bounded sizes capacity }
-    ensures { result ≡ sizes.n * (capacity * α sizes) }
-{
-    sizes.n * (capacity * sizes.share_len())
-}
-
-// Whether a store of these sizes and this capacity is set up, and its area has at most 32,768 bytes.
-fn set_up(sizes: Sizes, capacity: usize) -> bool
-    ensures { result ≡ set_up sizes capacity }
-{
-    let points = checks::standard_points(sizes);
-    if let Check::Refuse(_) = record_checks::check_set_up(sizes, points, capacity) {
-        return false;
-    }
-    area_len(sizes, capacity) <= 32768
-}
-
-// Whether these numbers are taken.
-fn within(numbers: Numbers) -> bool
-    ensures { result ≡ taken (numbers_in numbers) }
-{
-    if 4294967295 < numbers.seed {
-        return false;
-    }
-    if 4294967295 < numbers.calls {
-        return false;
-    }
-    if 16384 < numbers.length {
-        return false;
-    }
-    let sizes = numbers.sizes;
-    set_up(sizes, numbers.capacity)
-}
-
 // The load that an input gives.
 pub fn read_load(input: &[u8]) -> Loaded
     ensures { loaded_in result ≡ loaded input.now }
@@ -141,7 +97,7 @@ pub fn read_load(input: &[u8]) -> Loaded
         return Loaded::Refused;
     }
     let numbers = eight.numbers;
-    if !within(numbers) {
+    if !trial_limits::within(numbers) {
         return Loaded::Refused;
     }
     let sizes = numbers.sizes;

@@ -14,7 +14,7 @@ use Rattle.lists.specs.Lists.{join}
 use Rattle.sizes.specs.Refusals.{Said}
 use Rattle.board_spec.specs.Text.{decimal}
 use Rattle.text_lines.proofs.Decimals.{length-one, length_more}
-use Rattle.store_spec.specs.Ledger.{Call, write, lose, repair, read}
+use Rattle.beside_spec.specs.Acting.{Call, write, lose, repair, read}
 use Rattle.generator.specs.Generator.{step, top_byte, after, emitted}
 use Rattle.trial_spec.specs.Trial.{Load, Drawn, counted, board_call, drawn, call_line}
 use Rattle.trial_line.specs.Line.{opening, moved_end, line_of}

@@ -1,4 +1,7 @@
 //! Request A.2: the line that the trial program prints after a call.
+
+#![tactic(auto)]
+
 ghost use Rattle.std.specs.Prelude.{◌≡◌, ◌++◌, ◌+◌, ◌≤◌, ◌<◌, length};
 ghost use Rattle.sizes.specs.Refusals.{said};
 ghost use Rattle.board_spec.specs.Text.{decimal};

@@ -1,4 +1,7 @@
 //! Request A.2: the lists of boards that the trial load draws. "Lists count on from there modulo n".
+
+#![tactic(auto)]
+
 ghost use Rattle.std.specs.Prelude.{◌≡◌, ◌*◌, ◌≤◌, length};
 ghost use Rattle.lists.specs.Lists.{join};
 ghost use Rattle.trial_spec.specs.Trial.{counted};

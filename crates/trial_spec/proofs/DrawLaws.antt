@@ -16,7 +16,8 @@ use Rattle.lists.proofs.Pieces.{length-tabulate, tabulate-at, length-join, piece
 use Rattle.sizes.specs.Refusals.{Said}
 use Rattle.board_spec.specs.Text.{decimal, text_line}
 use Rattle.printer.proofs.Forms.{line_taken, step}
-use Rattle.store_spec.specs.Ledger.{Call, write, lose, Reply, State, act}
+use Rattle.beside_spec.specs.Acting.{Call, write, lose, State, act}
+use Rattle.ledger_spec.specs.Ledger.{Reply}
 use Rattle.generator.specs.Generator.{after, emitted}
 use Rattle.trial_spec.specs.Trial.{Load, eight_lines, taken, loaded, counted, drawn, drawn_calls, call_line, printed, left, store_replies}
 use Rattle.trial_spec.specs.DrawLaws.{Eight, Numbers, asks, spelt, Asked, byte, CountsOn, SameForEach, Repairs, Reads, before, numbers, DrawLaws}

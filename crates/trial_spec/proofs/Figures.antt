@@ -11,9 +11,9 @@ use Rattle.board_spec.specs.Text.{decimal}
 use Rattle.store_spec.specs.Record.{sound}
 use Rattle.store_spec.specs.Packets.{helper_packets, stand_in_packets, exchange_packets, partner_packets, repair_packets, fresh_share}
 use Rattle.store_spec.specs.Calls.{write_lines, lose_lines, list_lines, repair_lines, read_lines, set_up_call, write_call, lose_call, repair_call, read_call}
-use Rattle.store_spec.specs.Running.{sound_beside}
-use Rattle.store_spec.specs.Both.{write_lines_both, lose_lines_both, repair_lines_both, read_lines_both, set_up_both, write_both, lose_both, repair_both, read_both}
-use Rattle.store_spec.specs.Ledger.{act}
+use Rattle.beside_spec.specs.Running.{sound_beside}
+use Rattle.beside_spec.specs.Both.{write_lines_both, lose_lines_both, repair_lines_both, read_lines_both, set_up_both, write_both, lose_both, repair_both, read_both}
+use Rattle.beside_spec.specs.Acting.{act}
 use Rattle.generator.specs.Generator.{step}
 use Rattle.trial_spec.specs.Trial.{taken, loaded, drawn, call_line, trial_over, trial_text}
 use Rattle.trial_spec.specs.Figures.{TrialFigures}

@@ -22,13 +22,15 @@ use Rattle.board_spec.specs.Calls.{file_of}
 use Rattle.printer.specs.Printer.{refused_line}
 use Rattle.store_spec.specs.Record.{Record, new_record, area_len}
 use Rattle.store_spec.specs.Calls.{settle, refused, accepted, record_line, set_up_call, lose_call}
-use Rattle.store_spec.specs.Running.{Running, idle, named_in}
-use Rattle.store_spec.specs.Both.{Outcome, set_up_both, lost_beside}
-use Rattle.store_spec.specs.Ledger.{Call, write, lose, repair, read, edit, start, step, careful, move, Event, call, Reply, Book, Entry, State, Step, Allowed}
-use Rattle.store_spec.specs.Ledger.{FairEvent, act, reply_of, next, replied, book_lines, accept, enter, book_next, replies, open_book, book_replies}
-use Rattle.store_spec.specs.Demand3.{begun, events}
-use Rattle.store_spec.proofs.AloneLaws.{alone-laws}
-use Rattle.store_spec.proofs.Demand3.{demand-3}
+use Rattle.beside_spec.specs.Running.{Running, idle, named_in}
+use Rattle.beside_spec.specs.Both.{Outcome, set_up_both, lost_beside}
+use Rattle.beside_spec.specs.Acting.{Call, write, lose, repair, read, edit, start, step, careful, move, State}
+use Rattle.ledger_spec.specs.Ledger.{Event, call, Reply, Book, Entry, Step, Allowed}
+use Rattle.ledger_spec.specs.Ledger.{FairEvent, reply_of, next, replied, book_lines, accept, enter, book_next, replies, open_book, book_replies}
+use Rattle.beside_spec.specs.Acting.{act}
+use Rattle.ledger_spec.specs.Demand3.{begun, events}
+use Rattle.beside_spec.proofs.AloneLaws.{alone-laws}
+use Rattle.ledger_spec.proofs.Demand3.{demand-3}
 use Rattle.generator.specs.Generator.{step as stepped, top_byte, after, emitted}
 use Rattle.generator.proofs.Laws.{generator-laws}
 use Rattle.number_lines.specs.Lines.{line}

@@ -8,7 +8,8 @@ use Rattle.number_lines.specs.Laws.{Number}
 use Rattle.sizes.specs.Refusals.{Said}
 use Rattle.board_spec.specs.Demand1.{value}
 use Rattle.board_spec.specs.Text.{decimal, text_line}
-use Rattle.store_spec.specs.Ledger.{Call, write, lose, repair, read, Reply, State}
+use Rattle.beside_spec.specs.Acting.{Call, write, lose, repair, read, State}
+use Rattle.ledger_spec.specs.Ledger.{Reply}
 use Rattle.generator.specs.Generator.{after, emitted}
 use Rattle.trial_spec.specs.Trial.{Load, taken, loaded, drawn, drawn_calls, call_line, printed, store_replies}
 

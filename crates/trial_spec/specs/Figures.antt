@@ -8,7 +8,7 @@ use Rattle.lists.specs.Lists.{concat}
 use Rattle.sizes.specs.Refusals.{Said}
 use Rattle.board_spec.specs.Text.{decimal, text_line}
 use Rattle.printer.specs.Printer.{refused_line}
-use Rattle.store_spec.specs.Ledger.{write, lose, repair, read}
+use Rattle.beside_spec.specs.Acting.{write, lose, repair, read}
 use Rattle.trial_spec.specs.Trial.{Load, loaded, board_call, drawn_calls, call_line, trial_text}
 
 -- the lines with these numbers

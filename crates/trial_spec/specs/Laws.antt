@@ -8,10 +8,11 @@ use Rattle.sizes.specs.Sizing.{α}
 use Rattle.mbcr.specs.Share.{standard}
 use Rattle.printer.specs.Printer.{refused_line}
 use Rattle.store_spec.specs.Record.{Record, area_len}
-use Rattle.store_spec.specs.Running.{Running}
-use Rattle.store_spec.specs.Both.{set_up_both}
-use Rattle.store_spec.specs.Ledger.{Call, write, lose, repair, read, edit, start, step, careful, move, call, State, act, open_book, book_replies}
-use Rattle.store_spec.specs.Demand3.{begun}
+use Rattle.beside_spec.specs.Running.{Running}
+use Rattle.beside_spec.specs.Both.{set_up_both}
+use Rattle.beside_spec.specs.Acting.{Call, write, lose, repair, read, edit, start, step, careful, move, State, act}
+use Rattle.ledger_spec.specs.Ledger.{call, open_book, book_replies}
+use Rattle.ledger_spec.specs.Demand3.{begun}
 use Rattle.trial_spec.specs.Trial.{Load, new_store, taken, loaded, drawn_calls, printed, store_replies, trial_over, trial_text}
 
 -- what the ledger replies to the calls drawn

@@ -12,10 +12,11 @@ use Rattle.board_spec.specs.Text.{decimal}
 use Rattle.printer.specs.Printer.{refused_line, max_file}
 use Rattle.store_spec.specs.Record.{Record, new_record, area_len}
 use Rattle.store_spec.specs.Calls.{set_up_call}
-use Rattle.store_spec.specs.Running.{Running, idle}
-use Rattle.store_spec.specs.Both.{Outcome}
-use Rattle.store_spec.specs.Ledger.{Call, write, lose, repair, read, edit, start, step, careful, move, Reply, State, act, reply_of}
-use Rattle.store_spec.specs.Demand3.{begun}
+use Rattle.beside_spec.specs.Running.{Running, idle}
+use Rattle.beside_spec.specs.Both.{Outcome}
+use Rattle.beside_spec.specs.Acting.{Call, write, lose, repair, read, edit, start, step, careful, move, State, act}
+use Rattle.ledger_spec.specs.Ledger.{Reply, reply_of}
+use Rattle.ledger_spec.specs.Demand3.{begun}
 use Rattle.generator.specs.Generator.{step as stepped, top_byte, after, emitted}
 
 -- ---- what it reads

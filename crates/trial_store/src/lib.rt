@@ -1,8 +1,11 @@
 //! Request A.2: the store that the trial load begins with.
+
+#![tactic(auto)]
+
 ghost use Rattle.std.specs.Prelude.{◌≡◌};
 ghost use Rattle.mbcr.specs.Share.{standard};
-ghost use Rattle.store_spec.specs.Running.{idle};
-ghost use Rattle.store_spec.specs.Both.{set_up_both};
+ghost use Rattle.beside_spec.specs.Running.{idle};
+ghost use Rattle.beside_spec.specs.Both.{set_up_both};
 ghost use Rattle.record.specs.Records.{running_in};
 ghost use Rattle.store.specs.Handing.{record_in};
 ghost use Rattle.trial_spec.specs.Trial.{new_store};
@@ -17,7 +20,7 @@ pub fn set_up(load: Load) -> Handed
     ensures running_value { running_in result.running ≡ (set_up_both (new_store (load_in load)) idle load.sizes (standard load.sizes) load.capacity).running }
 {
     let sizes = load.sizes;
-    let points = checks::standard_points(sizes);
+    let points = board_lines::standard_points(sizes);
     let kept = record::new_kept(sizes, points, load.capacity);
     let old = Store { record: kept };
     let none = record::idle();

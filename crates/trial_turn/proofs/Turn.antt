@@ -1,6 +1,6 @@
 -- The call drawn, case by case; and what a load that is taken has.
 -- Assumes nothing.
-use mathlib.Core.Path.{◌≡◌, refl, sym, ap, ap₂, subst, ◌∙◌}
+use mathlib.Core.Path.{◌≡◌, refl, sym, ap₂, subst, ◌∙◌}
 use mathlib.Core.Bool.{Bool, true, false}
 use mathlib.Core.List.{List}
 use Prim.Native.Nat.{ℕ, ◌%◌, ◌≤◌}
@@ -10,11 +10,10 @@ use Rattle.number_lines.proofs.Picks.{if-eq, if-ne}
 use Rattle.sizes.specs.Sizing.{legal}
 use Rattle.sizes.specs.Refusals.{Said}
 use Rattle.mbcr.specs.Share.{standard}
-use Rattle.text_lines.specs.Steps.{Wrote}
-use Rattle.store_spec.specs.Ledger.{Call, write, lose, State}
+use Rattle.beside_spec.specs.Acting.{Call, write, lose, State}
 use Rattle.store_spec.proofs.Records.{sound-facts}
-use Rattle.store_spec.specs.Running.{idle}
-use Rattle.store_spec.proofs.Demand3.{set-up-both}
+use Rattle.beside_spec.specs.Running.{idle}
+use Rattle.beside_spec.proofs.Beside.{set-up-both}
 use Rattle.store.specs.declared.Handed.{Handed}
 use Rattle.generator.specs.Generator.{step, top_byte, after, emitted}
 use Rattle.trial_spec.specs.Trial.{Load, new_store, taken, Drawn, board_call, drawn, call_line}
@@ -63,18 +62,15 @@ module _ (l : Load) where
         by true = refl
         by false = refl
 
-    module _ (picked byte : ℕ) (p : picked ≡ step state) (b : byte ≡ top_byte picked) where
-      op-is : byte % 4 ≡ top_byte (step state) % 4
-      op-is = ap (λ (x : ℕ). x % 4) (b ∙ ap top_byte p)
-
-      pub call-picked : picked_call l (byte % 4) picked ≡ (drawn l state).call
+    module _ (picked op : ℕ) (p : picked ≡ step state) (op-is : op ≡ top_byte (step state) % 4) where
+      pub call-picked : picked_call l op picked ≡ (drawn l state).call
       call-picked = ap₂ {C = Call} (picked_call l) op-is p ∙ sym (call-of l state)
 
-      pub state-picked : picked_state l (byte % 4) picked ≡ (drawn l state).state
+      pub state-picked : picked_state l op picked ≡ (drawn l state).state
       state-picked = ap₂ {C = ℕ} (picked_state l) op-is p ∙ sym state-of
 
       -- the line of the kind picked is that of the call drawn
-      pub line-picked : {a r : Said} → a ≡ r → line_of (byte % 4) a ≡ call_line (drawn l state).call r
+      pub line-picked : {a r : Said} → a ≡ r → line_of op a ≡ call_line (drawn l state).call r
       line-picked {a} {r} e = ap₂ {C = List ℕ} line_of op-is e ∙ line-drawn l state r
 
 -- the same call

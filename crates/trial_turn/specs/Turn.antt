@@ -2,8 +2,8 @@
 -- Assumes nothing.
 use Rattle.std.specs.Prelude.{List, ℕ, ◌%◌, eqb}
 use Rattle.lists.specs.Tests.{pick}
-use Rattle.store_spec.specs.Both.{Outcome}
-use Rattle.store_spec.specs.Ledger.{Call, write, State, act}
+use Rattle.beside_spec.specs.Both.{Outcome}
+use Rattle.beside_spec.specs.Acting.{Call, write, State, act}
 use Rattle.generator.specs.Generator.{step, top_byte, after, emitted}
 use Rattle.trial_spec.specs.Trial.{Load, board_call, drawn, call_line}
 

@@ -1,4 +1,7 @@
 //! Request A.2: one turn of the trial load. A call is drawn, made on the store, and its line written.
+
+#![tactic(auto)]
+
 ghost use Rattle.std.specs.Prelude.{◌≡◌, true, ◌≤◌, ◌<◌, length};
 ghost use Rattle.text_lines.specs.Steps.{Wrote};
 ghost use Rattle.trial_spec.specs.Trial.{taken, drawn, board_call, left};
@@ -12,7 +15,7 @@ use trial_calls::Turned;
 use trial_input::Load;
 
 // What a turn leaves: both records, the generator's state, and how many bytes its line has.
-#[derive(Drop)]
+#[derive(Clone, Copy)]
 pub struct Ran {
     pub store: Store,
     pub running: Running,
@@ -56,12 +59,12 @@ fn take_turn(
     if op == 0 {
         return trial_calls::write_drawn(kept, running, load.length, picked, area);
     }
-    let next = generator::step(picked);
-    let first = (generator::top_byte(next) as usize) % load.sizes.n;
+    let drawn = trial_picks::pick_board(picked, load.sizes.n);
+    let first = drawn.board;
     let handed = board_turn(kept, running, load, op, first, area);
     Turned {
         handed: handed,
-        state: next,
+        state: drawn.state,
     }
 }
 
@@ -80,8 +83,9 @@ pub fn run_one(
     ensures state_value { result.state ≡ (drawn (load_in load) state).state }
     ensures wrote { Wrote line.old 0 (line_after (load_in load) (state_in kept running area.old) state) line.new result.count }
 {
-    let picked = generator::step(state);
-    let op = generator::top_byte(picked) % 4;
+    let kind = trial_picks::pick_kind(state);
+    let op = kind.op;
+    let picked = kind.state;
     let turned = take_turn(kept, running, load, op, picked, area);
     let handed = turned.handed;
     let answer = handed.answer;

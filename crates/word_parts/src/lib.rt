@@ -1,5 +1,8 @@
 // Whether words are a record; marks and points as words.
 // Assumes nothing.
+
+#![tactic(auto)]
+
 ghost use Rattle.std.specs.Prelude.{◌≡◌, ◌<◌, ◌++◌, length, take};
 ghost use Rattle.lists.specs.Lists.{tabulate, piece};
 ghost use Rattle.record_words.specs.Words.{bits, from_bytes, is_record};

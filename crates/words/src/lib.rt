@@ -1,4 +1,7 @@
 //! The store's record in twelve words, and whether words tell it and that of a repair beside it.
+
+#![tactic(auto)]
+
 ghost use Rattle.std.specs.Prelude.{◌≡◌, true, [], ◌∷◌, ◌≤◌, length, drop};
 ghost use Rattle.lists.specs.Tests.{alls};
 ghost use Rattle.lists.specs.Lists.{joined};

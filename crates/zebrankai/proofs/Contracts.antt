@@ -13,7 +13,7 @@ use borrow.Fn.Kinds.{Dens, ended_of}
 use Rattle.sizes.specs.declared.Answer.TheVariants.{Done}
 use Rattle.sizes.specs.Refusals.{said}
 use Rattle.board_spec.specs.Calls.{BoardOutcome, share_call, file_call, helper_call, exchange_call, finished_call, text_call}
-use Rattle.store_spec.specs.Ledger.{write, lose, repair, read, careful, edit, move, start, step}
+use Rattle.beside_spec.specs.Acting.{write, lose, repair, read, careful, edit, move, start, step}
 use Rattle.text_spec.specs.Calls.{gather_call}
 use Rattle.prefix_spec.specs.Prefix.{longest}
 use Rattle.generator.specs.Generator.{after, emitted}

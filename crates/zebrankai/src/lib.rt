@@ -7,6 +7,9 @@
 //! slice of six words: n, k, d, r, board number, length. Points are a lent slice of 32 bytes. Another number of them than these is SIZE. An answer
 //! has the refusal's number in its low eight bits, 0 where there is none, and the number reported above them; the trial file, which refuses nothing,
 //! answers the generator's state.
+
+#![tactic(auto)]
+
 ghost use Rattle.std.specs.Prelude.{◌≡◌, List, [], ℕ, length};
 ghost use Rattle.generator.specs.Generator.{after, emitted};
 ghost use Rattle.sizes.specs.declared.Answer.TheVariants.{Done};
@@ -14,7 +17,7 @@ ghost use Rattle.sizes.specs.Refusals.{said};
 ghost use Rattle.board_spec.specs.Calls.{share_call, file_call, helper_call, exchange_call, finished_call, text_call};
 ghost use Rattle.text_spec.specs.Calls.{gather_call};
 ghost use Rattle.prefix_spec.specs.Prefix.{longest};
-ghost use Rattle.store_spec.specs.Ledger.{write, lose, repair, read, careful, edit, move, start, step};
+ghost use Rattle.beside_spec.specs.Acting.{write, lose, repair, read, careful, edit, move, start, step};
 ghost use Rattle.answer_word.specs.Answers.{word_of};
 ghost use Rattle.archive_spec.specs.Archive.{sizes_of};
 ghost use Rattle.archive_spec.specs.Lent.{zbk_set_up, zbk};

@@ -1,6 +1,5 @@
 -- `answer_word::word_of` meets its contract.
 -- Assumes nothing.
-use Prim.Native.Nat.{◌-◌}
 use mathlib.Core.Path.{ap}
 use native.Mathlib.Omega.{arith}
 use borrow.Author.Rules.{rules}
@@ -10,14 +9,14 @@ use Rattle.answer_word.specs.Answers.{word_of}
 use Rattle.answer_word.proofs.word_of.Statement.{statement}
 use Rattle.answer_word.proofs.word_of.Tie as tie
 
-pub word-of-spec : {M : Type 1} → statement M
-word-of-spec =
+pub word_of_spec : {M : Type 1} → statement M
+word_of_spec =
     tie.close
     (tie.spec
     (λ c. search rules)
-    (λ c. let e = ap (λ (a : Answer). (said a).reported) c.before.answer.given.1 in omega (arith, c.before.before.before.requires, e))
+    (λ c. let e = ap (λ (a : Answer). (said a).reported) c.in-Done.is in omega (arith, c.requires, e))
     (λ c. search rules)
     (λ c κs. search rules)
     (λ c. search rules)
-    (λ c. let e = ap (λ (a : Answer). word_of (said a)) c.before.answer.given.1 in omega (arith, e))
-    (λ c. let e = ap (λ (a : Answer). word_of (said a)) c.before.before.answer2.given.1 in omega (arith, e, c.number.ensures)))
+    (λ c. let e = ap (λ (a : Answer). word_of (said a)) c.in-Done.is in omega (arith, e))
+    (λ c. let e = ap (λ (a : Answer). word_of (said a)) c.in-Refused.is in omega (arith, e, c.number.ensures)))

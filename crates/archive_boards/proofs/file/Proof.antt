@@ -14,13 +14,13 @@ use Rattle.archive_boards.proofs.file.Statement.{statement}
 use Rattle.archive_boards.proofs.file.Tie as tie
 
 -- the places
-abbrev at_call : tie.After-slice-known2 → tie.After-file
+abbrev at_call : tie.After-slice_known-2-1 → tie.After-file
 at_call c = c.before.before
 
-abbrev at-array : tie.After-file → tie.After-points-array
+abbrev at-array : tie.After-file → tie.After-points_array-xs
 at-array c = c.before.before
 
-abbrev st : tie.After-points-array → tie.Start
+abbrev st : tie.After-points_array-xs → tie.Start
 st c = c.before.before.before.before.before
 
 abbrev z : tie.Start → Sizes
@@ -31,11 +31,11 @@ abbrev due : tie.Start → List ℕ → BoardOutcome
 due g xs = let a = g.args in file_call (z g) xs a.len a.boards.now a.shares.now a.out.now
 
 -- at the array of the points it is that at the points
-is-due : (c : tie.After-file) → let p = at-array c in let g = st p in due g p.points-array.result ≡ due g g.args.points.now
-is-due c = let p = at-array c in let g = st p in let a = g.args in ap (due g) p.points-array.ensures ∙ file-given (z g) a.points.now a.len a.boards.now a.shares.now a.out.now
+is-due : (c : tie.After-file) → let p = at-array c in let g = st p in due g p.points_array-xs.result ≡ due g g.args.points.now
+is-due c = let p = at-array c in let g = st p in let a = g.args in ap (due g) p.points_array-xs.ensures ∙ file-given (z g) a.points.now a.len a.boards.now a.shares.now a.out.now
 
-pub file-spec : {M : Type 1} → statement M
-file-spec =
+pub file_spec : {M : Type 1} → statement M
+file_spec =
     tie.close
     (tie.spec
     (λ c κs. search rules)

@@ -14,13 +14,13 @@ use Rattle.archive_boards.proofs.finished_share.Statement.{statement}
 use Rattle.archive_boards.proofs.finished_share.Tie as tie
 
 -- the places
-abbrev at_call : tie.After-slice-known2 → tie.After-finished-share
+abbrev at_call : tie.After-slice_known-2-1 → tie.After-finished_share
 at_call c = c.before.before
 
-abbrev at-array : tie.After-finished-share → tie.After-points-array
+abbrev at-array : tie.After-finished_share → tie.After-points_array-xs
 at-array c = c.before.before
 
-abbrev st : tie.After-points-array → tie.Start
+abbrev st : tie.After-points_array-xs → tie.Start
 st c = c.before.before.before.before.before.before.before
 
 abbrev z : tie.Start → Sizes
@@ -31,20 +31,20 @@ abbrev due : tie.Start → List ℕ → BoardOutcome
 due g xs = let a = g.args in finished_call (z g) xs a.len a.board a.helpers.now a.packets.now a.partners.now a.exchanges.now a.out.now
 
 -- at the array of the points it is that at the points
-is-due : (c : tie.After-finished-share) → let p = at-array c in let g = st p in due g p.points-array.result ≡ due g g.args.points.now
+is-due : (c : tie.After-finished_share) → let p = at-array c in let g = st p in due g p.points_array-xs.result ≡ due g g.args.points.now
 is-due c =
     let p = at-array c in
     let g = st p in
     let a = g.args in
-    ap (due g) p.points-array.ensures
+    ap (due g) p.points_array-xs.ensures
     ∙ finished-given (z g) a.points.now a.len a.board a.helpers.now a.packets.now a.partners.now a.exchanges.now a.out.now
 
-pub finished-share-spec : {M : Type 1} → statement M
-finished-share-spec =
+pub finished_share_spec : {M : Type 1} → statement M
+finished_share_spec =
     tie.close
     (tie.spec
     (λ c κs. search rules)
     (λ c κs. search rules)
-    (λ c κs. let k = at_call c in fits k.finished-share.result _ _ (k.finished-share.ensures ∙ is-due k) (finished-fits _ _ _ _ _ _ _ _ _))
+    (λ c κs. let k = at_call c in fits k.finished_share.result _ _ (k.finished_share.ensures ∙ is-due k) (finished-fits _ _ _ _ _ _ _ _ _))
     (λ c. search rules)
-    (λ c. let k = at_call c.before in tells k.finished-share.result _ _ (k.finished-share.ensures ∙ is-due k) _ c.word_of.ensures))
+    (λ c. let k = at_call c.before in tells k.finished_share.result _ _ (k.finished_share.ensures ∙ is-due k) _ c.word_of.ensures))

@@ -14,13 +14,13 @@ use Rattle.archive_boards.proofs.helper_packet.Statement.{statement}
 use Rattle.archive_boards.proofs.helper_packet.Tie as tie
 
 -- the places
-abbrev at_call : tie.After-slice-known2 → tie.After-helper-packet
+abbrev at_call : tie.After-slice_known-2-1 → tie.After-helper_packet
 at_call c = c.before.before
 
-abbrev at-array : tie.After-helper-packet → tie.After-points-array
+abbrev at-array : tie.After-helper_packet → tie.After-points_array-xs
 at-array c = c.before.before
 
-abbrev st : tie.After-points-array → tie.Start
+abbrev st : tie.After-points_array-xs → tie.Start
 st c = c.before.before.before.before
 
 abbrev z : tie.Start → Sizes
@@ -31,20 +31,20 @@ abbrev due : tie.Start → List ℕ → BoardOutcome
 due g xs = let a = g.args in helper_call (z g) xs a.len a.helper a.receiver a.share.now a.out.now
 
 -- at the array of the points it is that at the points
-is-due : (c : tie.After-helper-packet) → let p = at-array c in let g = st p in due g p.points-array.result ≡ due g g.args.points.now
+is-due : (c : tie.After-helper_packet) → let p = at-array c in let g = st p in due g p.points_array-xs.result ≡ due g g.args.points.now
 is-due c =
     let p = at-array c in
     let g = st p in
     let a = g.args in
-    ap (due g) p.points-array.ensures
+    ap (due g) p.points_array-xs.ensures
     ∙ helper-given (z g) a.points.now a.len a.helper a.receiver a.share.now a.out.now
 
-pub helper-packet-spec : {M : Type 1} → statement M
-helper-packet-spec =
+pub helper_packet_spec : {M : Type 1} → statement M
+helper_packet_spec =
     tie.close
     (tie.spec
     (λ c κs. search rules)
     (λ c κs. search rules)
-    (λ c κs. let k = at_call c in fits k.helper-packet.result _ _ (k.helper-packet.ensures ∙ is-due k) (helper-fits _ _ _ _ _ _ _))
+    (λ c κs. let k = at_call c in fits k.helper_packet.result _ _ (k.helper_packet.ensures ∙ is-due k) (helper-fits _ _ _ _ _ _ _))
     (λ c. search rules)
-    (λ c. let k = at_call c.before in tells k.helper-packet.result _ _ (k.helper-packet.ensures ∙ is-due k) _ c.word_of.ensures))
+    (λ c. let k = at_call c.before in tells k.helper_packet.result _ _ (k.helper_packet.ensures ∙ is-due k) _ c.word_of.ensures))

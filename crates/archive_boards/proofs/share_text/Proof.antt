@@ -14,13 +14,13 @@ use Rattle.archive_boards.proofs.share_text.Statement.{statement}
 use Rattle.archive_boards.proofs.share_text.Tie as tie
 
 -- the places
-abbrev at_call : tie.After-slice-known2 → tie.After-text
+abbrev at_call : tie.After-slice_known-2-1 → tie.After-text
 at_call c = c.before.before
 
-abbrev at-array : tie.After-text → tie.After-points-array
+abbrev at-array : tie.After-text → tie.After-points_array-xs
 at-array c = c.before.before
 
-abbrev st : tie.After-points-array → tie.Start
+abbrev st : tie.After-points_array-xs → tie.Start
 st c = c.before.before.before.before
 
 abbrev z : tie.Start → Sizes
@@ -31,11 +31,11 @@ abbrev due : tie.Start → List ℕ → BoardOutcome
 due g xs = let a = g.args in text_call (z g) xs a.len a.node a.share.now a.out.now
 
 -- at the array of the points it is that at the points
-is-due : (c : tie.After-text) → let p = at-array c in let g = st p in due g p.points-array.result ≡ due g g.args.points.now
-is-due c = let p = at-array c in let g = st p in let a = g.args in ap (due g) p.points-array.ensures ∙ text-given (z g) a.points.now a.len a.node a.share.now a.out.now
+is-due : (c : tie.After-text) → let p = at-array c in let g = st p in due g p.points_array-xs.result ≡ due g g.args.points.now
+is-due c = let p = at-array c in let g = st p in let a = g.args in ap (due g) p.points_array-xs.ensures ∙ text-given (z g) a.points.now a.len a.node a.share.now a.out.now
 
-pub share-text-spec : {M : Type 1} → statement M
-share-text-spec =
+pub share_text_spec : {M : Type 1} → statement M
+share_text_spec =
     tie.close
     (tie.spec
     (λ c κs. search rules)

@@ -1,82 +1,63 @@
 -- `archive_store::repair` meets its contract: what the store's call gives, with both records in words.
 -- Assumes nothing.
-use mathlib.Core.List.{[]}
+use mathlib.Core.Bool.{not}
+use mathlib.Core.Path.{ap}
 use borrow.Author.Rules.{rules}
-use Rattle.store_spec.specs.Record.{Record}
-use Rattle.store_spec.specs.Running.{Running}
-use Rattle.store_spec.specs.Both.{Outcome}
-use Rattle.store_spec.specs.Ledger.{repair, Call, act}
-use Rattle.archive_store.proofs.Worded.{Both, are-both, none_lent, lent-on, handed-asks}
+use Rattle.beside_spec.specs.Acting.{repair, act}
+use Rattle.archive_store.proofs.Worded.{Both, LentCall, lent-call}
 use Rattle.archive_store.proofs.repair.Statement.{statement}
 use Rattle.archive_store.proofs.repair.Tie as tie
 
--- the places
-abbrev st : tie.After-are-records → tie.Start
-st c = c.before.before.before.before.before.before.before.before.before
+-- places in the code
+abbrev else-not-are_records-of-hand_on-arg-2-1 : tie.After-hand_on-arg-2-1 → tie.Else-not-are_records
+else-not-are_records-of-hand_on-arg-2-1 c = c.before.before.before.before.before.before.before.before
 
-abbrev running-of-at-repair : tie.After-repair → tie.After-running-of
-running-of-at-repair c = c.before.before
+abbrev start-of-else-not-are_records : tie.Else-not-are_records → tie.Start
+start-of-else-not-are_records c = c.before.before.before.before.before.before.before.before
 
-abbrev at-kept : tie.After-repair → tie.After-kept-of
-at-kept c = (running-of-at-repair c).before.before
+abbrev start-of-then-not-are_records : tie.Then-not-are_records → tie.Start
+start-of-then-not-are_records c = c.before.before.before.before.before.before.before.before
 
-abbrev else1-at-kept-of : tie.After-kept-of → tie.Else1
-else1-at-kept-of c = c.before.before
+abbrev else-not-are_records-of-slice_known-6-1 : tie.After-slice_known-6-1 → tie.Else-not-are_records
+else-not-are_records-of-slice_known-6-1 c = else-not-are_records-of-hand_on-arg-2-1 c.before.before.before.before.before
 
-abbrev at-else : tie.After-kept-of → tie.Else1
-at-else c = else1-at-kept-of c
+abbrev start-of-hand_on-arg-2-1 : tie.After-hand_on-arg-2-1 → tie.Start
+start-of-hand_on-arg-2-1 c = start-of-else-not-are_records c.before.before.before.before.before.before.before.before
 
-abbrev at_call : tie.After-hand-on-arg2 → tie.After-repair
-at_call c = c.before.before.before.before
-
-abbrev st-call : tie.After-repair → tie.Start
-st-call c = st (at-else (at-kept c)).before
+abbrev start-of-slice_known-6-1 : tie.After-slice_known-6-1 → tie.Start
+start-of-slice_known-6-1 c = start-of-hand_on-arg-2-1 c.before.before.before.before.before
 
 -- the store's call
-abbrev asked : tie.Start → Call
-asked g = repair g.args.fresh.now g.args.helpers.now g.args.standins.now
-
-abbrev call : tie.Start → Record → Running → Outcome
-call g s p = act (record { kept = s; running = p; area = g.args.area.now; packets = [] }) (asked g)
+on : (g : tie.Start) → LentCall g.args.ws.now g.args.ps.now g.args.area.now (repair g.args.fresh.now g.args.helpers.now g.args.standins.now)
+on g = lent-call _ _ _ _
 
 -- the words tell both records
-both : (c : tie.Else1) → Both (st c.before).args.ws.now (st c.before).args.ps.now
-both c = let k = c.before in let g = st k in are-both g.args.ws.now g.args.ps.now k.are-records.result k.are-records.ensures c.if1.false
+both : (c : tie.Else-not-are_records) → Both c.args.ws.now c.args.ps.now
+both c = (on (start-of-else-not-are_records c)).both _ c.are_records.ensures (ap not c.if-not-are_records.false)
 
-is_none : tie.Need-returns
-is_none c =
-    let k = c.before in
-    let g = st k in
-    none_lent (call g) g.args.ws.now g.args.ps.now g.args.area.now [] [] k.are-records.result k.are-records.ensures c.if1.true
+is_none : tie.Need-returns-then-not-are_records
+is_none c = (on (start-of-then-not-are_records c)).is_none _ c.are_records.ensures (ap not c.if-not-are_records.true)
 
-asks : tie.Need-hand-on-requires
+asks : tie.Need-hand_on-requires
 unfolding act
 asks c κs =
-    let k = at_call c in
-    let g = st-call k in
-    handed-asks g.args.ws.now g.args.ps.now (record { kept = _; running = _; area = g.args.area.now; packets = [] }) (asked g) k.repair.result _ _ _
-    (both (at-else (at-kept k))) k.repair.ensures
+    (on (start-of-hand_on-arg-2-1 c)).asks _ _ c.repair-handed.result _ _ _ (both (else-not-are_records-of-hand_on-arg-2-1 c)) c.repair-handed.ensures
 
-hands_on : tie.Need-returns-2
+hands_on : tie.Need-returns
 unfolding act
 hands_on c =
-    let h = c.before.before.before.before in
-    let k = at_call h.before in
-    let g = st-call k in
-    let o = at-kept k in
-    lent-on (call g) g.args.ws.now g.args.ps.now g.args.area.now [] [] _ _ k.repair.result _ _ _ _ _ _ (both (at-else o))
-    o.kept_of.ensures (running-of-at-repair k).running-of.ensures k.repair.ensures h.hand_on.ensures
+    (on (start-of-slice_known-6-1 c)).hands_on _ _ c.repair-handed.result _ _ _ _ _ _ (both (else-not-are_records-of-slice_known-6-1 c)) c.kept_of.ensures c.running_of-running.ensures c.repair-handed.ensures c.hand_on.ensures
 
-pub repair-spec : {M : Type 1} → statement M
-repair-spec =
+pub repair_spec : {M : Type 1} → statement M
+repair_spec =
     tie.close
     (tie.spec
     (λ c κs. search rules)
     (λ c. search rules)
     (λ c. search rules)
     is_none
-    (λ c κs. (both c.before).is-record)
-    (λ c κs. (both (at-else c.before)).is-repair)
+    (λ c κs. (both c).is-record)
+    (λ c κs. (both c.before).is-repair)
     (λ c κs. search rules)
     asks
     (λ c. search rules)

@@ -6,8 +6,8 @@ use Rattle.archive_spec.proofs.Words.{fits, tells}
 use Rattle.archive_texts.proofs.gather.Statement.{statement}
 use Rattle.archive_texts.proofs.gather.Tie as tie
 
-pub gather-spec : {M : Type 1} → statement M
-gather-spec =
+pub gather_spec : {M : Type 1} → statement M
+gather_spec =
     tie.close
     (tie.spec
     (λ c κs. search rules)

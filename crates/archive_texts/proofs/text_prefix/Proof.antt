@@ -10,8 +10,8 @@ use Rattle.archive_spec.proofs.Bounds.{Fits, prefix-fits}
 use Rattle.archive_texts.proofs.text_prefix.Statement.{statement}
 use Rattle.archive_texts.proofs.text_prefix.Tie as tie
 
-pub text-prefix-spec : {M : Type 1} → statement M
-text-prefix-spec =
+pub text_prefix_spec : {M : Type 1} → statement M
+text_prefix_spec =
     tie.close
     (tie.spec
     (λ c κs. search rules)

@@ -2,7 +2,6 @@
 -- Assumes nothing.
 use Prim.Native.Nat.{ℕ, ◌*◌, ◌≤◌}
 use mathlib.Core.Path.{◌≡◌, sym, ap, ◌∙◌}
-use mathlib.Core.Bool.{not}
 use mathlib.Core.List.{List, [], ◌∷◌}
 use native.Mathlib.Omega.{arith}
 use lib.Dec.{eqb}
@@ -18,11 +17,51 @@ use Rattle.mbcr.proofs.Points.{Boards, boards-of}
 use Rattle.board_spec.specs.Calls.{count_line, node_line, repeat_line, area_line, short_line, exchange_lines}
 use Rattle.line_checks.specs.Steps.{asked, stated_lines, Stated}
 use Rattle.line_checks.proofs.Answers.{passed}
-use Rattle.checks.proofs.Given.{few-packets}
-use Rattle.checks.proofs.Chain.{thens, grouped, goes-on, refuses, ends}
-use Rattle.checks.proofs.Facts.{stated-facts}
+use Rattle.board_lines.proofs.Given.{few-packets}
+use Rattle.board_lines.proofs.Chain.{thens, grouped, goes-on, refuses, ends}
+use Rattle.board_lines.proofs.Facts.{stated-facts}
 use Rattle.board_exchange.proofs.check_exchange.Statement.{statement}
 use Rattle.board_exchange.proofs.check_exchange.Tie as tie
+
+-- places in the code
+abbrev check_count-of-in-default-check_repeat_with : tie.In_default-check_repeat_with → tie.After-check_count
+check_count-of-in-default-check_repeat_with c = c.before.before.before.before.before
+
+abbrev check_count-of-stripe_count-stripes : tie.After-stripe_count-stripes → tie.After-check_count
+check_count-of-stripe_count-stripes c = check_count-of-in-default-check_repeat_with c.before
+
+abbrev start-of-in-refuse : tie.In-Refuse → tie.Start
+start-of-in-refuse c = c.before.before.before.before.before.before
+
+abbrev start-of-check_count : tie.After-check_count → tie.Start
+start-of-check_count c = c.before.before.before.before.before.before.before
+
+abbrev start-of-in-refuse-check_count : tie.In-Refuse-check_count → tie.Start
+start-of-in-refuse-check_count c = start-of-check_count c.before
+
+abbrev start-of-check_nodes_with : tie.After-check_nodes_with → tie.Start
+start-of-check_nodes_with c = start-of-check_count c.before.before
+
+abbrev start-of-in-refuse-check_nodes_with : tie.In-Refuse-check_nodes_with → tie.Start
+start-of-in-refuse-check_nodes_with c = start-of-check_nodes_with c.before
+
+abbrev start-of-check_repeat_with : tie.After-check_repeat_with → tie.Start
+start-of-check_repeat_with c = start-of-check_nodes_with c.before.before
+
+abbrev start-of-in-refuse-check_repeat_with : tie.In-Refuse-check_repeat_with → tie.Start
+start-of-in-refuse-check_repeat_with c = start-of-check_repeat_with c.before
+
+abbrev start-of-stripe_count-stripes : tie.After-stripe_count-stripes → tie.Start
+start-of-stripe_count-stripes c = start-of-check_repeat_with c.before.before
+
+abbrev start-of-check_lent : tie.After-check_lent → tie.Start
+start-of-check_lent c = start-of-stripe_count-stripes c.before.before
+
+abbrev start-of-in-refuse-check_lent : tie.In-Refuse-check_lent → tie.Start
+start-of-in-refuse-check_lent c = start-of-check_lent c.before
+
+abbrev start-of-check_room : tie.After-check_room → tie.Start
+start-of-check_room c = start-of-check_lent c.before.before
 
 abbrev named : tie.Start → List ℕ
 named g = g.args.board ∷ g.args.receiver ∷ g.args.helpers.now
@@ -64,156 +103,96 @@ whole : (g : tie.Start) → thens (stateds g) ≡ answer g
 unfolding exchange_lines
 whole g = grouped (stateds g)
 
--- 1 SIZE, 3 LONG
-abbrev st-stated : tie.After-check-stated → tie.Start
-st-stated c = c.before.before.before.before.before
+no-stated : (c : tie.In-Refuse) → Refuse c.in-Refuse.stated ≡ answer (start-of-in-refuse c)
+no-stated c = refuses _ (whole (start-of-in-refuse c)) c.check_stated.ensures c.in-Refuse.is
 
-abbrev check-stated-at-stated : tie.After-stated → tie.After-check-stated
-check-stated-at-stated c = c.before.before
+stated-on : (c : tie.After-check_count) → Stated c.args.sizes c.args.len
+stated-on c = stated-facts _ _ _ (sym c.check_stated.ensures ∙ c.in_default.is)
 
-no-stated : (c : tie.After-stated) → Refuse c.stated.given.0.0 ≡ answer (st-stated (check-stated-at-stated c))
-no-stated c = let k = check-stated-at-stated c in refuses _ (whole (st-stated k)) k.check-stated.ensures c.stated.given.1
+on-count : (c : tie.After-check_count) → thens (counts (start-of-check_count c)) ≡ answer (start-of-check_count c)
+on-count c = goes-on (whole (start-of-check_count c)) c.check_stated.ensures c.in_default.is
 
--- 4 COUNT
-abbrev at-stated : tie.After-check-count → tie.After-check-stated
-at-stated c = c.before.before.before
+no-count : (c : tie.In-Refuse-check_count) → Refuse c.in-Refuse-check_count.count ≡ answer (start-of-in-refuse-check_count c)
+no-count c = refuses _ (on-count c.before) c.check_count.ensures c.in-Refuse-check_count.is
 
-abbrev st-count : tie.After-check-count → tie.Start
-st-count c = st-stated (at-stated c)
+on-node : (c : tie.After-check_nodes_with) → thens (nodes (start-of-check_nodes_with c)) ≡ answer (start-of-check_nodes_with c)
+on-node c = goes-on (on-count c.before.before) c.check_count.ensures c.in_default-check_count.is
 
-stated-on : (c : tie.After-check-count) → let g = st-count c in Stated g.args.sizes g.args.len
-stated-on c = stated-facts _ _ _ (sym (at-stated c).check-stated.ensures ∙ c.before.enum_told.given.1)
+no_node : (c : tie.In-Refuse-check_nodes_with) → Refuse c.in-Refuse-check_nodes_with.node ≡ answer (start-of-in-refuse-check_nodes_with c)
+no_node c = refuses _ (on-node c.before) c.check_nodes_with.ensures c.in-Refuse-check_nodes_with.is
 
-on-count : (c : tie.After-check-count) → thens (counts (st-count c)) ≡ answer (st-count c)
-on-count c = goes-on (whole (st-count c)) (at-stated c).check-stated.ensures c.before.enum_told.given.1
+on-repeat : (c : tie.After-check_repeat_with) → thens (repeats (start-of-check_repeat_with c)) ≡ answer (start-of-check_repeat_with c)
+on-repeat c = goes-on (on-node c.before.before) c.check_nodes_with.ensures c.in_default-check_nodes_with.is
 
-abbrev check-count-at-count : tie.After-count → tie.After-check-count
-check-count-at-count c = c.before.before
+no-repeat : (c : tie.In-Refuse-check_repeat_with) → Refuse c.in-Refuse-check_repeat_with.repeat ≡ answer (start-of-in-refuse-check_repeat_with c)
+no-repeat c = refuses _ (on-repeat c.before) c.check_repeat_with.ensures c.in-Refuse-check_repeat_with.is
 
-no-count : (c : tie.After-count) → Refuse c.count.given.0.0 ≡ answer (st-count (check-count-at-count c))
-no-count c = let k = check-count-at-count c in refuses _ (on-count k) k.check-count.ensures c.count.given.1
-
--- 5 NODE
-abbrev at_count : tie.After-check-nodes-with → tie.After-check-count
-at_count c = c.before.before.before
-
-abbrev st-node : tie.After-check-nodes-with → tie.Start
-st-node c = st-count (at_count c)
-
-on-node : (c : tie.After-check-nodes-with) → thens (nodes (st-node c)) ≡ answer (st-node c)
-on-node c = goes-on (on-count (at_count c)) (at_count c).check-count.ensures c.before.enum-told2.given.1
-
-abbrev check-nodes-with-at-node : tie.After-node → tie.After-check-nodes-with
-check-nodes-with-at-node c = c.before.before
-
-no_node : (c : tie.After-node) → Refuse c.node.given.0.0 ≡ answer (st-node (check-nodes-with-at-node c))
-no_node c = let k = check-nodes-with-at-node c in refuses _ (on-node k) k.check-nodes-with.ensures c.node.given.1
-
--- 6 REPEAT
-abbrev at-node : tie.After-check-repeat-with → tie.After-check-nodes-with
-at-node c = c.before.before.before
-
-abbrev st-repeat : tie.After-check-repeat-with → tie.Start
-st-repeat c = st-node (at-node c)
-
-on-repeat : (c : tie.After-check-repeat-with) → thens (repeats (st-repeat c)) ≡ answer (st-repeat c)
-on-repeat c = goes-on (on-node (at-node c)) (at-node c).check-nodes-with.ensures c.before.enum-told3.given.1
-
-abbrev check-repeat-with-at-repeat : tie.After-repeat → tie.After-check-repeat-with
-check-repeat-with-at-repeat c = c.before.before
-
-no-repeat : (c : tie.After-repeat) → Refuse c.repeat.given.0.0 ≡ answer (st-repeat (check-repeat-with-at-repeat c))
-no-repeat c = let k = check-repeat-with-at-repeat c in refuses _ (on-repeat k) k.check-repeat-with.ensures c.repeat.given.1
-
--- 2 AREA
-abbrev check-repeat-with-at-enum-told4 : tie.After-enum-told4 → tie.After-check-repeat-with
-check-repeat-with-at-enum-told4 c = c.before.before
-
-abbrev at-repeat : tie.After-stripe-count → tie.After-check-repeat-with
-at-repeat c = check-repeat-with-at-enum-told4 c.before
-
-abbrev st-lent : tie.After-stripe-count → tie.Start
-st-lent c = st-repeat (at-repeat c)
-
-on-lent : (c : tie.After-stripe-count) → thens (lents (st-lent c)) ≡ answer (st-lent c)
-on-lent c = goes-on (on-repeat (at-repeat c)) (at-repeat c).check-repeat-with.ensures c.before.enum-told4.given.1
+on-lent : (c : tie.After-stripe_count-stripes) → thens (lents (start-of-stripe_count-stripes c)) ≡ answer (start-of-stripe_count-stripes c)
+on-lent c = goes-on (on-repeat c.before.before) c.check_repeat_with.ensures c.in_default-check_repeat_with.is
 
 -- what the checks so far told
-sizes-on : (c : tie.After-stripe-count) → Legal (st-lent c).args.sizes
-sizes-on c = legal-facts _ (stated-on (at_count (at-node (at-repeat c)))).is-legal
+sizes-on : (c : tie.After-stripe_count-stripes) → Legal c.args.sizes
+sizes-on c = legal-facts _ (stated-on (check_count-of-stripe_count-stripes c)).is-legal
 
-nodes-on : (c : tie.After-stripe-count) → asked (node_line (st-lent c).args.sizes (named (st-lent c))) ≡ Pass
-nodes-on c = sym (at-node (at-repeat c)).check-nodes-with.ensures ∙ (at-repeat c).before.enum-told3.given.1
+nodes-on : (c : tie.After-stripe_count-stripes) → asked (node_line c.args.sizes (named (start-of-stripe_count-stripes c))) ≡ Pass
+nodes-on c = sym c.check_nodes_with.ensures ∙ c.in_default-check_nodes_with.is
 
-repeats-on : (c : tie.After-stripe-count) → asked (repeat_line (named (st-lent c))) ≡ Pass
-repeats-on c = sym (at-repeat c).check-repeat-with.ensures ∙ c.before.enum-told4.given.1
+repeats-on : (c : tie.After-stripe_count-stripes) → asked (repeat_line (named (start-of-stripe_count-stripes c))) ≡ Pass
+repeats-on c = sym c.check_repeat_with.ensures ∙ c.in_default-check_repeat_with.is
 
-boards-on : (c : tie.After-stripe-count) → Boards (st-lent c).args.sizes (named (st-lent c))
+boards-on : (c : tie.After-stripe_count-stripes) → Boards c.args.sizes (named (start-of-stripe_count-stripes c))
 boards-on c =
-    let z = (st-lent c).args.sizes in
-    let l = named (st-lent c) in
+    let z = c.args.sizes in
+    let l = named (start-of-stripe_count-stripes c) in
     boards-of z l (not-no _ (passed (node_line z l) (nodes-on c))) (not-no _ (passed (repeat_line l) (repeats-on c)))
 
 -- so few bytes that their number does not wrap
-sent-few : (c : tie.After-stripe-count) → (st-lent c).args.sizes.d * (2 * c.stripe-count.result) ≤ 262144
+sent-few : (c : tie.After-stripe_count-stripes) → c.args.sizes.d * (2 * c.stripe_count-stripes.result) ≤ 262144
 sent-few c =
     let f = sizes-on c in
-    few-packets _ _ 2 (omega (arith, f.enough, f.few)) c.stripe-count.ensures.1 (omega arith)
+    few-packets _ _ 2 (omega (arith, f.enough, f.few)) c.stripe_count-stripes.ensures.1 (omega arith)
 
-abbrev at-stripes : tie.After-check-lent → tie.After-stripe-count
-at-stripes c = c.before.before
-
-is-lent : (c : tie.After-check-lent) → c.check-lent.result ≡ asked (sent_line (st-lent (at-stripes c)))
+is-lent : (c : tie.After-check_lent) → c.check_lent.result ≡ asked (sent_line (start-of-check_lent c))
 is-lent c =
-    let a = (st-lent (at-stripes c)).args in
-    c.check-lent.ensures
-    ∙ ap (λ (m : ℕ). asked (area_line (eqb (length a.packets.now) (a.sizes.d * (2 * m)) ∷ []))) (at-stripes c).stripe-count.ensures.0
+    let a = c.args in
+    c.check_lent.ensures
+    ∙ ap (λ (m : ℕ). asked (area_line (eqb (length a.packets.now) (a.sizes.d * (2 * m)) ∷ []))) c.stripe_count-stripes.ensures.0
 
-abbrev check-lent-at-lent : tie.After-lent → tie.After-check-lent
-check-lent-at-lent c = c.before.before
+no-lent : (c : tie.In-Refuse-check_lent) → Refuse c.in-Refuse-check_lent.lent ≡ answer (start-of-in-refuse-check_lent c)
+no-lent c = refuses _ (on-lent c.before.before.before) (is-lent c.before) c.in-Refuse-check_lent.is
 
-no-lent : (c : tie.After-lent) → Refuse c.lent.given.0.0 ≡ answer (st-lent (at-stripes (check-lent-at-lent c)))
-no-lent c = let k = check-lent-at-lent c in refuses _ (on-lent (at-stripes k)) (is-lent k) c.lent.given.1
+on-short : (c : tie.After-check_room) → thens (shorts (start-of-check_room c)) ≡ answer (start-of-check_room c)
+on-short c = goes-on (on-lent c.before.before.before.before) (is-lent c.before.before) c.in_default-check_lent.is
 
--- 7 SHORT
-abbrev at-lent : tie.After-check-room → tie.After-check-lent
-at-lent c = c.before.before.before
+is-short : (c : tie.After-check_room) → c.check_room.result ≡ asked (room_line (start-of-check_room c))
+is-short c = c.check_room.ensures ∙ ap (λ (m : ℕ). asked (short_line c.args.out.now m)) c.stripe_count-stripes.ensures.0
 
-abbrev st-short : tie.After-check-room → tie.Start
-st-short c = st-lent (at-stripes (at-lent c))
-
-on-short : (c : tie.After-check-room) → thens (shorts (st-short c)) ≡ answer (st-short c)
-on-short c = goes-on (on-lent (at-stripes (at-lent c))) (is-lent (at-lent c)) c.before.enum-told5.given.1
-
-is-short : (c : tie.After-check-room) → c.check-room.result ≡ asked (room_line (st-short c))
-is-short c = c.check-room.ensures ∙ ap (λ (m : ℕ). asked (short_line (st-short c).args.out.now m)) (at-stripes (at-lent c)).stripe-count.ensures.0
-
-pub check-exchange-spec : {M : Type 1} → statement M
-check-exchange-spec =
+pub check_exchange_spec : {M : Type 1} → statement M
+check_exchange_spec =
     tie.close
     (tie.spec
     (λ c κs. search rules)
     (λ c. search rules)
-    (λ c. no-stated c.before)
+    (λ c. no-stated c)
     (λ c. search rules)
     (λ c κs. search rules)
     (λ c. search rules)
-    (λ c. no-count c.before)
+    (λ c. no-count c)
     (λ c. search rules)
     (λ c κs. search rules)
     (λ c. search rules)
-    (λ c. no_node c.before)
+    (λ c. no_node c)
     (λ c. search rules)
     (λ c κs. search rules)
     (λ c. search rules)
-    (λ c. no-repeat c.before)
+    (λ c. no-repeat c)
     (λ c. search rules)
-    (λ c κs. stated-on (at_count (at-node (check-repeat-with-at-enum-told4 c))))
-    (λ c. omega (arith, c.stripe-count.ensures.1))
+    (λ c κs. stated-on (check_count-of-in-default-check_repeat_with c))
+    (λ c. omega (arith, c.stripe_count-stripes.ensures.1))
     (λ c. omega (arith, sent-few c.before))
     (λ c κs. search rules)
     (λ c. search rules)
-    (λ c. no-lent c.before)
+    (λ c. no-lent c)
     (λ c. search rules)
     (λ c κs. search rules)
     (λ c. ends (on-short c) (is-short c)))

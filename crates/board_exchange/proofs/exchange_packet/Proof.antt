@@ -10,62 +10,56 @@ use Rattle.board_exchange.proofs.Exchanges.{Exchanges, checked, exchanges, excha
 use Rattle.board_exchange.proofs.exchange_packet.Statement.{statement}
 use Rattle.board_exchange.proofs.exchange_packet.Tie as tie
 
--- the places
-abbrev st : tie.After-check-exchange → tie.Start
-st c = c.before.before.before.before.before.before
+-- places in the code
+abbrev start-of-in-default : tie.In_default → tie.Start
+start-of-in-default c = c.before.before.before.before.before.before
 
-abbrev check-exchange-at-enum-told : tie.After-enum-told → tie.After-check-exchange
-check-exchange-at-enum-told c = c.before.before
+abbrev start-of-in-refuse : tie.In-Refuse → tie.Start
+start-of-in-refuse c = c.before.before.before.before.before.before
 
-abbrev at-check : tie.After-stripe-count → tie.After-check-exchange
-at-check c = check-exchange-at-enum-told c.before
+abbrev in-default-of-exchange_packet-arg-1 : tie.After-exchange_packet-arg-1 → tie.In_default
+in-default-of-exchange_packet-arg-1 c = c.before.before.before.before.before.before.before
 
-abbrev at-inverses : tie.After-exchange-packet-arg → tie.After-fill-inverses
-at-inverses c = c.before.before.before.before
+abbrev in-default-of-slice_known-2-1 : tie.After-slice_known-2-1 → tie.In_default
+in-default-of-slice_known-2-1 c = in-default-of-exchange_packet-arg-1 c.before.before.before
 
-abbrev at_count : tie.After-exchange-packet-arg → tie.After-stripe-count
-at_count c = (at-inverses c).before.before
+abbrev start-of-slice_known-2-1 : tie.After-slice_known-2-1 → tie.Start
+start-of-slice_known-2-1 c = start-of-in-default c.before.before.before.before.before.before.before.before.before.before
 
--- the points that it is given, its second argument
+-- the points that it is given
 abbrev given : tie.Start → List ℕ
-given g = g.args.t2
+given g = g.args.points
 
 -- what the check told
 abbrev answer : tie.Start → Check
 answer g = let a = g.args in checked a.sizes (given g) a.len a.board a.helpers.now a.packets.now a.receiver a.out.now
 
-abbrev check-exchange-at-x : tie.After-x → tie.After-check-exchange
-check-exchange-at-x c = c.before.before
+refusal : (c : tie.In-Refuse) → answer (start-of-in-refuse c) ≡ Refuse c.in-Refuse.x
+refusal c = sym c.check_exchange.ensures ∙ c.in-Refuse.is
 
-refusal : (c : tie.After-x) → answer (st (check-exchange-at-x c)) ≡ Refuse c.x.given.0.0
-refusal c = sym (check-exchange-at-x c).check-exchange.ensures ∙ c.x.given.1
+passed : (c : tie.In_default) → answer (start-of-in-default c) ≡ Pass
+passed c = sym c.check_exchange.ensures ∙ c.in_default.is
 
-passed : (c : tie.After-enum-told) → answer (st (check-exchange-at-enum-told c)) ≡ Pass
-passed c = sym (check-exchange-at-enum-told c).check-exchange.ensures ∙ c.enum_told.given.1
-
-facts : (c : tie.After-enum-told)
-    → let g = st (check-exchange-at-enum-told c) in let a = g.args in Exchanges a.sizes (given g) a.len a.helpers.now a.packets.now a.receiver a.out.now
+facts : (c : tie.In_default)
+    → let a = c.args in Exchanges a.sizes (given (start-of-in-default c)) a.len a.helpers.now a.packets.now a.receiver a.out.now
 facts c =
-    let g = st (check-exchange-at-enum-told c) in
-    let a = g.args in
-    exchanges a.sizes (given g) a.len a.board a.helpers.now a.packets.now a.receiver a.out.now (passed c)
+    let a = c.args in
+    exchanges a.sizes (given (start-of-in-default c)) a.len a.board a.helpers.now a.packets.now a.receiver a.out.now (passed c)
 
-refused : tie.Need-returns
+refused : tie.Need-returns-in-Refuse
 refused c =
-    let g = st (check-exchange-at-x c.before) in
-    let a = g.args in
-    exchange-refuses a.sizes (given g) a.len a.board a.helpers.now a.packets.now a.receiver a.out.now (refusal c.before)
+    let a = c.args in
+    exchange-refuses a.sizes (given (start-of-in-refuse c)) a.len a.board a.helpers.now a.packets.now a.receiver a.out.now (refusal c)
 
 -- the work
-packet-asks : tie.Need-exchange-packet-requires
+packet-asks : tie.Need-exchange_packet-requires
 packet-asks c κs =
-    let n = at_count c in
-    let f = facts n.before in
-    let e = n.stripe-count.ensures in (
+    let f = facts (in-default-of-exchange_packet-arg-1 c) in
+    let e = c.stripe_count-stripes.ensures in (
       f.stated.is-legal,
       f.points-taken.long,
       f.points-taken.differ,
-      (at-inverses c).fill-inverses.ensures,
+      c.fill_inverses.ensures,
       e.1,
       f.enough,
       f.known,
@@ -75,17 +69,14 @@ packet-asks c κs =
       rw e.0 f.room,
     )
 
-done : tie.Need-returns-2
+done : tie.Need-returns
 done c =
-    let w = c.before.before in
-    let n = at_count w.before in
-    let g = st (at-check n) in
-    let a = g.args in
-    exchange-works a.sizes (given g) a.len a.board a.helpers.now a.packets.now a.receiver a.out.now _ _
-    (passed n.before) n.stripe-count.ensures.0 w.exchange-packet.ensures
+    let a = c.args in
+    exchange-works a.sizes (given (start-of-slice_known-2-1 c)) a.len a.board a.helpers.now a.packets.now a.receiver a.out.now _ _
+    (passed (in-default-of-slice_known-2-1 c)) c.stripe_count-stripes.ensures.0 c.exchange_packet.ensures
 
-pub exchange-packet-spec : {M : Type 1} → statement M
-exchange-packet-spec =
+pub exchange_packet_spec : {M : Type 1} → statement M
+exchange_packet_spec =
     tie.close
     (tie.spec
     (λ c. search rules)

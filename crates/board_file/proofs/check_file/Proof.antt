@@ -19,13 +19,59 @@ use Rattle.sizes.proofs.Legal.{legal-facts, α-most}
 use Rattle.mbcr.specs.Read.{read_file}
 use Rattle.board_spec.specs.Calls.{count_line, node_line, repeat_line, area_line, short_line, file_lines}
 use Rattle.line_checks.specs.Steps.{asked, stated_lines, Stated}
-use Rattle.checks.proofs.Chain.{thens, grouped, goes-on, refuses, ends}
-use Rattle.checks.proofs.Facts.{Taken, stated-facts, taken-facts}
-use Rattle.checks.proofs.Given.{as_many, few_bytes}
+use Rattle.board_lines.proofs.Chain.{thens, grouped, goes-on, refuses, ends}
+use Rattle.board_lines.proofs.Facts.{Taken, stated-facts, taken-facts}
+use Rattle.board_lines.proofs.Given.{as_many, few_bytes}
 use Rattle.decode_stripe.specs.Steps.{Asked}
 use Rattle.board_file.proofs.FileCall.{Readable, readable, asked_of, not-passed}
 use Rattle.board_file.proofs.check_file.Statement.{statement}
 use Rattle.board_file.proofs.check_file.Tie as tie
+
+-- places in the code
+abbrev check_repeat-of-check_lent : tie.After-check_lent → tie.After-check_repeat
+check_repeat-of-check_lent c = c.before.before.before.before.before
+
+abbrev check_repeat-of-check_room : tie.After-check_room → tie.After-check_repeat
+check_repeat-of-check_room c = check_repeat-of-check_lent c.before.before
+
+abbrev start-of-in-refuse : tie.In-Refuse → tie.Start
+start-of-in-refuse c = c.before.before.before.before.before.before.before.before
+
+abbrev start-of-check_count : tie.After-check_count → tie.Start
+start-of-check_count c = c.before.before.before.before.before.before.before.before.before
+
+abbrev start-of-in-refuse-check_count : tie.In-Refuse-check_count → tie.Start
+start-of-in-refuse-check_count c = start-of-check_count c.before
+
+abbrev start-of-check_nodes : tie.After-check_nodes → tie.Start
+start-of-check_nodes c = start-of-check_count c.before.before
+
+abbrev start-of-in-refuse-check_nodes : tie.In-Refuse-check_nodes → tie.Start
+start-of-in-refuse-check_nodes c = start-of-check_nodes c.before
+
+abbrev start-of-check_repeat : tie.After-check_repeat → tie.Start
+start-of-check_repeat c = start-of-check_nodes c.before.before
+
+abbrev start-of-in-refuse-check_repeat : tie.In-Refuse-check_repeat → tie.Start
+start-of-in-refuse-check_repeat c = start-of-check_repeat c.before
+
+abbrev start-of-share_len : tie.After-share_len → tie.Start
+start-of-share_len c = start-of-check_repeat c.before.before.before
+
+abbrev start-of-check_lent : tie.After-check_lent → tie.Start
+start-of-check_lent c = start-of-share_len c.before.before
+
+abbrev start-of-in-refuse-check_lent : tie.In-Refuse-check_lent → tie.Start
+start-of-in-refuse-check_lent c = start-of-check_lent c.before
+
+abbrev start-of-check_room : tie.After-check_room → tie.Start
+start-of-check_room c = start-of-check_lent c.before.before
+
+abbrev start-of-in-refuse-check_room : tie.In-Refuse-check_room → tie.Start
+start-of-in-refuse-check_room c = start-of-check_room c.before
+
+abbrev start-of-check_agrees : tie.After-check_agrees → tie.Start
+start-of-check_agrees c = start-of-check_room c.before.before.before
 
 -- the lines of one test
 abbrev count-line : tie.Start → Line
@@ -69,203 +115,120 @@ unfolding file_lines
 whole g = grouped (all g)
 
 -- 1 SIZE, 3 LONG
-abbrev st-stated : tie.After-check-stated → tie.Start
-st-stated c = c.before.before.before.before.before.before.before
-
-abbrev check-stated-at-stated : tie.After-stated → tie.After-check-stated
-check-stated-at-stated c = c.before.before
-
-no-stated : (c : tie.After-stated) → Refuse c.stated.given.0.0 ≡ answer (st-stated (check-stated-at-stated c))
-no-stated c = let k = check-stated-at-stated c in refuses _ (whole (st-stated k)) k.check-stated.ensures c.stated.given.1
+no-stated : (c : tie.In-Refuse) → Refuse c.in-Refuse.stated ≡ answer (start-of-in-refuse c)
+no-stated c = refuses _ (whole (start-of-in-refuse c)) c.check_stated.ensures c.in-Refuse.is
 
 -- 4 COUNT
-abbrev at-stated : tie.After-check-count → tie.After-check-stated
-at-stated c = c.before.before.before
+on-count : (c : tie.After-check_count) → thens (counts (start-of-check_count c)) ≡ answer (start-of-check_count c)
+on-count c = goes-on (whole (start-of-check_count c)) c.check_stated.ensures c.in_default.is
 
-abbrev st-count : tie.After-check-count → tie.Start
-st-count c = st-stated (at-stated c)
+no-count : (c : tie.In-Refuse-check_count) → Refuse c.in-Refuse-check_count.miscounted ≡ answer (start-of-in-refuse-check_count c)
+no-count c = refuses _ (on-count c.before) c.check_count.ensures c.in-Refuse-check_count.is
 
-on-count : (c : tie.After-check-count) → thens (counts (st-count c)) ≡ answer (st-count c)
-on-count c = goes-on (whole (st-count c)) (at-stated c).check-stated.ensures c.before.enum_told.given.1
+on-nodes : (c : tie.After-check_nodes) → thens (nodes (start-of-check_nodes c)) ≡ answer (start-of-check_nodes c)
+on-nodes c = goes-on (on-count c.before.before) c.check_count.ensures c.in_default-check_count.is
 
-abbrev check-count-at-miscounted : tie.After-miscounted → tie.After-check-count
-check-count-at-miscounted c = c.before.before
+no-nodes : (c : tie.In-Refuse-check_nodes) → Refuse c.in-Refuse-check_nodes.named ≡ answer (start-of-in-refuse-check_nodes c)
+no-nodes c = refuses _ (on-nodes c.before) c.check_nodes.ensures c.in-Refuse-check_nodes.is
 
-no-count : (c : tie.After-miscounted) → Refuse c.miscounted.given.0.0 ≡ answer (st-count (check-count-at-miscounted c))
-no-count c = let k = check-count-at-miscounted c in refuses _ (on-count k) k.check-count.ensures c.miscounted.given.1
+on-repeat : (c : tie.After-check_repeat) → thens (repeats (start-of-check_repeat c)) ≡ answer (start-of-check_repeat c)
+on-repeat c = goes-on (on-nodes c.before.before) c.check_nodes.ensures c.in_default-check_nodes.is
 
--- 5 NODE
-abbrev at_count : tie.After-check-nodes → tie.After-check-count
-at_count c = c.before.before.before
+no-repeat : (c : tie.In-Refuse-check_repeat) → Refuse c.in-Refuse-check_repeat.repeated ≡ answer (start-of-in-refuse-check_repeat c)
+no-repeat c = refuses _ (on-repeat c.before) c.check_repeat.ensures c.in-Refuse-check_repeat.is
 
-abbrev st-nodes : tie.After-check-nodes → tie.Start
-st-nodes c = st-count (at_count c)
-
-on-nodes : (c : tie.After-check-nodes) → thens (nodes (st-nodes c)) ≡ answer (st-nodes c)
-on-nodes c = let k = at_count c in goes-on (on-count k) k.check-count.ensures c.before.enum-told2.given.1
-
-abbrev check-nodes-at-named : tie.After-named → tie.After-check-nodes
-check-nodes-at-named c = c.before.before
-
-no-nodes : (c : tie.After-named) → Refuse c.named.given.0.0 ≡ answer (st-nodes (check-nodes-at-named c))
-no-nodes c = let k = check-nodes-at-named c in refuses _ (on-nodes k) k.check-nodes.ensures c.named.given.1
-
--- 6 REPEAT
-abbrev at-nodes : tie.After-check-repeat → tie.After-check-nodes
-at-nodes c = c.before.before.before
-
-abbrev st-repeat : tie.After-check-repeat → tie.Start
-st-repeat c = st-nodes (at-nodes c)
-
-on-repeat : (c : tie.After-check-repeat) → thens (repeats (st-repeat c)) ≡ answer (st-repeat c)
-on-repeat c = let k = at-nodes c in goes-on (on-nodes k) k.check-nodes.ensures c.before.enum-told3.given.1
-
-abbrev check-repeat-at-repeated : tie.After-repeated → tie.After-check-repeat
-check-repeat-at-repeated c = c.before.before
-
-no-repeat : (c : tie.After-repeated) → Refuse c.repeated.given.0.0 ≡ answer (st-repeat (check-repeat-at-repeated c))
-no-repeat c = let k = check-repeat-at-repeated c in refuses _ (on-repeat k) k.check-repeat.ensures c.repeated.given.1
-
-taken-on : (c : tie.After-check-repeat) → Taken (st-repeat c).args.sizes (st-repeat c).args.points.now
+taken-on : (c : tie.After-check_repeat) → Taken c.args.sizes c.args.points.now
 taken-on c =
-    let k = at_count (at-nodes c) in
-    taken-facts _ _ (st-repeat c).args.len (sym (at-stated k).check-stated.ensures ∙ k.before.enum_told.given.1)
+    taken-facts _ _ c.args.len (sym c.check_stated.ensures ∙ c.in_default.is)
 
-stated-on : (c : tie.After-check-repeat) → Stated (st-repeat c).args.sizes (st-repeat c).args.len
+stated-on : (c : tie.After-check_repeat) → Stated c.args.sizes c.args.len
 stated-on c =
-    let k = at_count (at-nodes c) in
-    stated-facts _ _ _ (sym (at-stated k).check-stated.ensures ∙ k.before.enum_told.given.1)
+    stated-facts _ _ _ (sym c.check_stated.ensures ∙ c.in_default.is)
 
--- 2 AREA
-abbrev check-repeat-at-enum-told4 : tie.After-enum-told4 → tie.After-check-repeat
-check-repeat-at-enum-told4 c = c.before.before
+on-area : (c : tie.After-share_len) → thens (areas (start-of-share_len c)) ≡ answer (start-of-share_len c)
+on-area c = goes-on (on-repeat c.before.before.before) c.check_repeat.ensures c.in_default-check_repeat.is
 
-abbrev enum-told4-at-share-len : tie.After-share-len → tie.After-enum-told4
-enum-told4-at-share-len c = c.before.before
-
-abbrev at-repeat : tie.After-share-len → tie.After-check-repeat
-at-repeat c = check-repeat-at-enum-told4 (enum-told4-at-share-len c)
-
-abbrev st-area : tie.After-share-len → tie.Start
-st-area c = st-repeat (at-repeat c)
-
-on-area : (c : tie.After-share-len) → thens (areas (st-area c)) ≡ answer (st-area c)
-on-area c = let k = at-repeat c in goes-on (on-repeat k) k.check-repeat.ensures (enum-told4-at-share-len c).enum-told4.given.1
-
-few : (c : tie.After-share-len) → c.before.stripe-count.result * c.share-len.result ≤ 253952
+few : (c : tie.After-share_len) → c.stripe_count-stripes.result * c.share_len.result ≤ 253952
 few c =
-    let ok = (stated-on (at-repeat c)).is-legal in
-    few_bytes _ c.share-len.result _ _ c.before.stripe-count.ensures.1 c.share-len.ensures ok (α-most _ (legal-facts _ ok))
+    let ok = (stated-on c.before.before.before).is-legal in
+    few_bytes _ c.share_len.result _ _ c.stripe_count-stripes.ensures.1 c.share_len.ensures ok (α-most _ (legal-facts _ ok))
 
-all-few : (c : tie.After-share-len) → (st-area c).args.sizes.k * (c.before.stripe-count.result * c.share-len.result) ≤ 8126464
+all-few : (c : tie.After-share_len) → c.args.sizes.k * (c.stripe_count-stripes.result * c.share_len.result) ≤ 8126464
 all-few c =
-    let f = legal-facts _ (stated-on (at-repeat c)).is-legal in
-    let q = c.before.stripe-count.result * c.share-len.result in
-    let most : (st-area c).args.sizes.k * q ≤ 32 * q = mul-le-mul_right q (omega (arith, f.read-helpers, f.enough, f.few)) in
+    let f = legal-facts _ (stated-on c.before.before.before).is-legal in
+    let q = c.stripe_count-stripes.result * c.share_len.result in
+    let most : c.args.sizes.k * q ≤ 32 * q = mul-le-mul_right q (omega (arith, f.read-helpers, f.enough, f.few)) in
     omega (arith, few c, most)
 
-abbrev at_len : tie.After-check-lent → tie.After-share-len
-at_len c = c.before.before
-
-is-area : (c : tie.After-check-lent) → c.check-lent.result ≡ asked (area-line (st-area (at_len c)))
+is-area : (c : tie.After-check_lent) → c.check_lent.result ≡ asked (area-line (start-of-check_lent c))
 is-area c =
-    let k = at_len c in
-    let a = (st-area k).args in
-    let many = as_many _ k.share-len.result _ _ _ k.before.stripe-count.ensures.0 k.share-len.ensures (stated-on (at-repeat k)).is-legal in
-    c.check-lent.ensures ∙ ap (λ (m : ℕ). asked (area_line (eqb (length a.held.now) (a.sizes.k * m) ∷ []))) many
+    let a = c.args in
+    let many = as_many _ c.share_len.result _ _ _ c.stripe_count-stripes.ensures.0 c.share_len.ensures (stated-on (check_repeat-of-check_lent c)).is-legal in
+    c.check_lent.ensures ∙ ap (λ (m : ℕ). asked (area_line (eqb (length a.held.now) (a.sizes.k * m) ∷ []))) many
 
-abbrev check-lent-at-lent : tie.After-lent → tie.After-check-lent
-check-lent-at-lent c = c.before.before
+no-area : (c : tie.In-Refuse-check_lent) → Refuse c.in-Refuse-check_lent.lent ≡ answer (start-of-in-refuse-check_lent c)
+no-area c = refuses _ (on-area c.before.before.before) (is-area c.before) c.in-Refuse-check_lent.is
 
-no-area : (c : tie.After-lent) → Refuse c.lent.given.0.0 ≡ answer (st-area (at_len (check-lent-at-lent c)))
-no-area c = let k = check-lent-at-lent c in refuses _ (on-area (at_len k)) (is-area k) c.lent.given.1
+on-short : (c : tie.After-check_room) → thens (shorts (start-of-check_room c)) ≡ answer (start-of-check_room c)
+on-short c = goes-on (on-area c.before.before.before.before) (is-area c.before.before) c.in_default-check_lent.is
 
--- 7 SHORT
-abbrev at-area : tie.After-check-room → tie.After-check-lent
-at-area c = c.before.before.before
-
-abbrev st-short : tie.After-check-room → tie.Start
-st-short c = st-area (at_len (at-area c))
-
-on-short : (c : tie.After-check-room) → thens (shorts (st-short c)) ≡ answer (st-short c)
-on-short c = let k = at-area c in goes-on (on-area (at_len k)) (is-area k) c.before.enum-told5.given.1
-
-abbrev check-room-at-short : tie.After-short → tie.After-check-room
-check-room-at-short c = c.before.before
-
-no_short : (c : tie.After-short) → Refuse c.short.given.0.0 ≡ answer (st-short (check-room-at-short c))
-no_short c = let k = check-room-at-short c in refuses _ (on-short k) k.check-room.ensures c.short.given.1
+no_short : (c : tie.In-Refuse-check_room) → Refuse c.in-Refuse-check_room.short ≡ answer (start-of-in-refuse-check_room c)
+no_short c = refuses _ (on-short c.before) c.check_room.ensures c.in-Refuse-check_room.is
 
 -- what the checks so far told
-readable-on : (c : tie.After-check-room) → let a = (st-short c).args in Readable a.sizes a.points.now a.len a.boards.now (length a.held.now)
+readable-on : (c : tie.After-check_room) → let a = c.args in Readable a.sizes a.points.now a.len a.boards.now (length a.held.now)
 readable-on c =
-    let l = at_len (at-area c) in
-    let r = at-repeat l in
-    let n = at-nodes r in
-    let k = at_count n in
-    readable _ _ _ _ _ (stated-on r) (taken-on r) (sym k.check-count.ensures ∙ n.before.enum-told2.given.1) (sym n.check-nodes.ensures ∙ r.before.enum-told3.given.1)
-    (sym r.check-repeat.ensures ∙ (enum-told4-at-share-len l).enum-told4.given.1) (sym (is-area (at-area c)) ∙ c.before.enum-told5.given.1)
+    readable _ _ _ _ _ (stated-on (check_repeat-of-check_room c)) (taken-on (check_repeat-of-check_room c)) (sym c.check_count.ensures ∙ c.in_default-check_count.is) (sym c.check_nodes.ensures ∙ c.in_default-check_nodes.is)
+    (sym c.check_repeat.ensures ∙ c.in_default-check_repeat.is) (sym (is-area c.before.before) ∙ c.in_default-check_lent.is)
 
--- 10 DISAGREE
-abbrev check-room-at-check-agrees-arg : tie.After-check-agrees-arg → tie.After-check-room
-check-room-at-check-agrees-arg c = c.before.before.before
+on_agrees : (c : tie.After-check_agrees) → thens (agrees (start-of-check_agrees c)) ≡ answer (start-of-check_agrees c)
+on_agrees c = goes-on (on-short c.before.before.before) c.check_room.ensures c.in_default-check_room.is
 
-abbrev at_room : tie.After-check-agrees → tie.After-check-room
-at_room c = check-room-at-check-agrees-arg c.before
-
-abbrev st-agrees : tie.After-check-agrees → tie.Start
-st-agrees c = st-short (at_room c)
-
-on_agrees : (c : tie.After-check-agrees) → thens (agrees (st-agrees c)) ≡ answer (st-agrees c)
-on_agrees c = let k = at_room c in goes-on (on-short k) k.check-room.ensures c.before.before.enum-told6.given.1
-
-is-agrees : (c : tie.After-check-agrees) → c.check-agrees.result ≡ asked (agree-line (st-agrees c))
-is-agrees c = c.check-agrees.ensures.0
+is-agrees : (c : tie.After-check_agrees) → c.check_agrees.result ≡ asked (agree-line (start-of-check_agrees c))
+is-agrees c = c.check_agrees.ensures.0
 
 -- what was asked of the kernels
-asked-on : (c : tie.After-check-room) → let a = (st-short c).args in Asked a.sizes a.points.now a.boards.now
+asked-on : (c : tie.After-check_room) → let a = c.args in Asked a.sizes a.points.now a.boards.now
 asked-on c = asked_of _ _ _ _ _ (readable-on c)
 
-agrees-ask : tie.Need-check-agrees-requires
+agrees-ask : tie.Need-check_agrees-requires
 agrees-ask c κs =
-    let k = check-room-at-check-agrees-arg c in
-    let n = (at_len (at-area k)).before in
-    let f = readable-on k in
-    let e = n.stripe-count.ensures.0 in
-    (asked-on k, (st-short k).pre.0, f.points-taken.long, n.stripe-count.ensures.1, e, rw e f.held-is, (st-short k).pre.1)
+    let f = readable-on c.before.before in
+    let e = c.stripe_count-stripes.ensures.0 in
+    (asked-on c.before.before, c.requires.0, f.points-taken.long, c.stripe_count-stripes.ensures.1, e, rw e f.held-is, c.requires.1)
 
-pub check-file-spec : {M : Type 1} → statement M
-check-file-spec =
+pub check_file_spec : {M : Type 1} → statement M
+check_file_spec =
     tie.close
     (tie.spec
     (λ c κs. search rules)
     (λ c. search rules)
-    (λ c. (no-stated c.before, not-passed))
+    (λ c. (no-stated c, not-passed))
     (λ c. search rules)
     (λ c κs. search rules)
     (λ c. search rules)
-    (λ c. (no-count c.before, not-passed))
+    (λ c. (no-count c, not-passed))
     (λ c. search rules)
     (λ c κs. search rules)
     (λ c. search rules)
-    (λ c. (no-nodes c.before, not-passed))
+    (λ c. (no-nodes c, not-passed))
     (λ c. search rules)
     (λ c κs. search rules)
     (λ c. search rules)
-    (λ c. (no-repeat c.before, not-passed))
+    (λ c. (no-repeat c, not-passed))
     (λ c. search rules)
-    (λ c κs. stated-on (check-repeat-at-enum-told4 c))
+    (λ c κs. stated-on c.before)
     (λ c κs. search rules)
     (λ c. omega (arith, few c))
     (λ c. omega (arith, all-few c.before))
     (λ c κs. search rules)
     (λ c. search rules)
-    (λ c. (no-area c.before, not-passed))
+    (λ c. (no-area c, not-passed))
     (λ c. search rules)
     (λ c κs. search rules)
     (λ c. search rules)
-    (λ c. (no_short c.before, not-passed))
+    (λ c. (no_short c, not-passed))
     (λ c. search rules)
     agrees-ask
     (λ c. search rules)
-    (λ c. let k = c.before.before in (ends (on_agrees k) (is-agrees k), λ _. k.check-agrees.ensures.1)))
+    (λ c. (ends (on_agrees c.before.before) (is-agrees c.before.before), λ _. c.check_agrees.ensures.1)))

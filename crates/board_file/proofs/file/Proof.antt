@@ -11,70 +11,63 @@ use Rattle.board_file.proofs.FileCall.{Readable, asked_of, checked, file-readabl
 use Rattle.board_file.proofs.file.Statement.{statement}
 use Rattle.board_file.proofs.file.Tie as tie
 
--- the places
-abbrev at-inverses : tie.After-check-file → tie.After-fill-inverses
-at-inverses c = c.before.before.before.before.before.before
+-- places in the code
+abbrev in-default-of-slice_known-2-1 : tie.After-slice_known-2-1 → tie.In_default
+in-default-of-slice_known-2-1 c = c.before.before.before.before.before.before.before
 
-abbrev st : tie.After-check-file → tie.Start
-st c = (at-inverses c).before.before.before.before.before
+abbrev start-of-in-default : tie.In_default → tie.Start
+start-of-in-default c = c.before.before.before.before.before.before.before.before.before.before.before.before
 
-abbrev at-check : tie.After-enum-told → tie.After-check-file
-at-check c = c.before.before.before
+abbrev start-of-in-refuse : tie.In-Refuse → tie.Start
+start-of-in-refuse c = c.before.before.before.before.before.before.before.before.before.before.before.before
 
--- the points that it is given, its second argument
+abbrev start-of-write_file-arg-1 : tie.After-write_file-arg-1 → tie.Start
+start-of-write_file-arg-1 c = start-of-in-default c.before.before.before.before
+
+abbrev start-of-slice_known-2-1 : tie.After-slice_known-2-1 → tie.Start
+start-of-slice_known-2-1 c = start-of-write_file-arg-1 c.before.before.before
+
+-- the points that it is given
 abbrev given : tie.Start → List ℕ
-given g = g.args.t2
+given g = g.args.points
 
 -- what the check told
-passed : (c : tie.After-enum-told) → let g = st (at-check c) in let a = g.args in checked a.sizes (given g) a.len a.boards.now a.held.now a.out.now ≡ Pass
-passed c = sym (at-check c).check-file.ensures.0 ∙ c.enum_told.given.1
+passed : (c : tie.In_default) → let a = c.args in checked a.sizes (given (start-of-in-default c)) a.len a.boards.now a.held.now a.out.now ≡ Pass
+passed c = sym c.check_file.ensures.0 ∙ c.in_default.is
 
-facts : (c : tie.After-enum-told) → let g = st (at-check c) in let a = g.args in Readable a.sizes (given g) a.len a.boards.now (length a.held.now)
-facts c = let g = st (at-check c) in let a = g.args in file-readable a.sizes (given g) a.len a.boards.now a.held.now a.out.now (passed c)
+facts : (c : tie.In_default) → let a = c.args in Readable a.sizes (given (start-of-in-default c)) a.len a.boards.now (length a.held.now)
+facts c = let a = c.args in file-readable a.sizes (given (start-of-in-default c)) a.len a.boards.now a.held.now a.out.now (passed c)
 
 -- the tables are made
-made : (c : tie.After-enum-told) → let k = at-check c in let a = (st k).args in Made a.sizes (given (st k)) a.boards.now k.check-file.last.1.1.1.1.1.1.1.0
-made c = (at-check c).check-file.ensures.1 c.enum_told.given.1
-
-abbrev stripe-count-at-file-arg : tie.After-file-arg → tie.After-stripe-count
-stripe-count-at-file-arg c = c.before.before.before
+made : (c : tie.In_default) → let a = c.args in Made a.sizes (given (start-of-in-default c)) a.boards.now c.check_file.new.tables
+made c = c.check_file.ensures.1 c.in_default.is
 
 -- the work
-file-asks : tie.Need-file-requires
+file-asks : tie.Need-write_file-requires
 file-asks c κs =
-    let n = stripe-count-at-file-arg c in
-    let t = n.before in
-    let k = at-check t in
-    let g = st k in
-    let a = g.args in
-    let f = facts t in
-    let e = n.stripe-count.ensures.0 in (
+    let a = c.args in
+    let f = facts c.before.before.before.before in
+    let e = c.stripe_count-stripes.ensures.0 in (
       asked_of _ _ _ _ _ f,
-      n.stripe-count.ensures.1,
+      c.stripe_count-stripes.ensures.1,
       e,
       rw e f.held-is,
-      made t,
-      file-room a.sizes (given g) a.len a.boards.now a.held.now a.out.now (passed t),
+      made c.before.before.before.before,
+      file-room a.sizes (given (start-of-write_file-arg-1 c)) a.len a.boards.now a.held.now a.out.now (passed c.before.before.before.before),
     )
 
-file-done : tie.Need-returns-2
+file-done : tie.Need-returns
 file-done c =
-    let w = c.before.before in
-    let n = stripe-count-at-file-arg w.before in
-    let t = n.before in
-    let g = st (at-check t) in
-    let a = g.args in
-    file-works a.sizes (given g) a.len a.boards.now a.held.now a.out.now _ (passed t) w.file.ensures
+    let a = c.args in
+    file-works a.sizes (given (start-of-slice_known-2-1 c)) a.len a.boards.now a.held.now a.out.now _ (passed (in-default-of-slice_known-2-1 c)) c.write_file.ensures
 
-file-refused : tie.Need-returns
+file-refused : tie.Need-returns-in-Refuse
 file-refused c =
-    let k = c.before.before.before.before in
-    let g = st k in
-    let a = g.args in
-    file-refuses a.sizes (given g) a.len a.boards.now a.held.now a.out.now (sym k.check-file.ensures.0 ∙ c.before.x.given.1)
+    let a = c.args in
+    file-refuses a.sizes (given (start-of-in-refuse c)) a.len a.boards.now a.held.now a.out.now (sym c.check_file.ensures.0 ∙ c.in-Refuse.is)
 
-pub file-spec : {M : Type 1} → statement M
-file-spec =
+pub file_spec : {M : Type 1} → statement M
+file_spec =
     tie.close
     (tie.spec
     (λ c. search rules)

@@ -2,7 +2,7 @@
 -- Assumes nothing.
 use Prim.Native.Nat.{ℕ, ◌-◌, ◌*◌, ◌≤◌}
 use mathlib.Core.Path.{◌≡◌, refl, sym, ap, ◌∙◌}
-use mathlib.Core.Bool.{true, not}
+use mathlib.Core.Bool.{true}
 use mathlib.Core.List.{List, [], ◌∷◌, ◌++◌}
 use native.Mathlib.Nat.{mul_comm}
 use native.Mathlib.Omega.{arith}
@@ -19,11 +19,54 @@ use Rattle.mbcr.proofs.Points.{Boards, boards-of}
 use Rattle.board_spec.specs.Calls.{count_line, node_line, repeat_line, area_line, short_line, finished_lines}
 use Rattle.line_checks.specs.Steps.{asked, stated_lines, Stated}
 use Rattle.line_checks.proofs.Answers.{passed}
-use Rattle.checks.proofs.Given.{as_many, few_bytes, few-packets}
-use Rattle.checks.proofs.Chain.{thens, grouped, goes-on, refuses, ends}
-use Rattle.checks.proofs.Facts.{stated-facts}
+use Rattle.board_lines.proofs.Given.{as_many, few_bytes, few-packets}
+use Rattle.board_lines.proofs.Chain.{thens, grouped, goes-on, refuses, ends}
+use Rattle.board_lines.proofs.Facts.{stated-facts}
 use Rattle.board_finish.proofs.check_finish.Statement.{statement}
 use Rattle.board_finish.proofs.check_finish.Tie as tie
+
+-- places in the code
+abbrev in-default-check_repeat_joined-of-share_len : tie.After-share_len → tie.In_default-check_repeat_joined
+in-default-check_repeat_joined-of-share_len c = c.before.before.before.before.before
+
+abbrev in-default-of-in-default-check_repeat_joined : tie.In_default-check_repeat_joined → tie.In_default
+in-default-of-in-default-check_repeat_joined c = c.before.before.before.before.before.before.before
+
+abbrev start-of-in-refuse : tie.In-Refuse → tie.Start
+start-of-in-refuse c = c.before.before.before.before.before.before.before.before
+
+abbrev start-of-check_counts : tie.After-check_counts → tie.Start
+start-of-check_counts c = c.before.before.before.before.before.before.before.before.before.before
+
+abbrev start-of-in-refuse-check_counts : tie.In-Refuse-check_counts → tie.Start
+start-of-in-refuse-check_counts c = start-of-check_counts c.before
+
+abbrev start-of-check_nodes_joined : tie.After-check_nodes_joined → tie.Start
+start-of-check_nodes_joined c = start-of-check_counts c.before.before
+
+abbrev start-of-in-refuse-check_nodes_joined : tie.In-Refuse-check_nodes_joined → tie.Start
+start-of-in-refuse-check_nodes_joined c = start-of-check_nodes_joined c.before
+
+abbrev start-of-check_repeat_joined : tie.After-check_repeat_joined → tie.Start
+start-of-check_repeat_joined c = start-of-check_nodes_joined c.before.before
+
+abbrev start-of-in-refuse-check_repeat_joined : tie.In-Refuse-check_repeat_joined → tie.Start
+start-of-in-refuse-check_repeat_joined c = start-of-check_repeat_joined c.before
+
+abbrev start-of-stripe_count-stripes : tie.After-stripe_count-stripes → tie.Start
+start-of-stripe_count-stripes c = start-of-check_repeat_joined c.before.before
+
+abbrev start-of-check_two_lent : tie.After-check_two_lent → tie.Start
+start-of-check_two_lent c = start-of-stripe_count-stripes c.before.before
+
+abbrev start-of-in-refuse-check_two_lent : tie.In-Refuse-check_two_lent → tie.Start
+start-of-in-refuse-check_two_lent c = start-of-check_two_lent c.before
+
+abbrev start-of-share_len : tie.After-share_len → tie.Start
+start-of-share_len c = start-of-check_two_lent c.before.before
+
+abbrev start-of-check_room : tie.After-check_room → tie.Start
+start-of-check_room c = start-of-share_len c.before
 
 abbrev named : tie.Start → List ℕ
 named g = g.args.helpers.now ++ g.args.partners.now ++ (g.args.board ∷ [])
@@ -74,183 +117,113 @@ whole : (g : tie.Start) → thens (stateds g) ≡ answer g
 unfolding finished_lines
 whole g = grouped (stateds g)
 
--- 1 SIZE, 3 LONG
-abbrev st-stated : tie.After-check-stated → tie.Start
-st-stated c = c.before.before.before.before.before.before.before
+no-stated : (c : tie.In-Refuse) → Refuse c.in-Refuse.stated ≡ answer (start-of-in-refuse c)
+no-stated c = refuses _ (whole (start-of-in-refuse c)) c.check_stated.ensures c.in-Refuse.is
 
-abbrev check-stated-at-stated : tie.After-stated → tie.After-check-stated
-check-stated-at-stated c = c.before.before
-
-no-stated : (c : tie.After-stated) → Refuse c.stated.given.0.0 ≡ answer (st-stated (check-stated-at-stated c))
-no-stated c = let k = check-stated-at-stated c in refuses _ (whole (st-stated k)) k.check-stated.ensures c.stated.given.1
-
-abbrev check-stated-at-enum-told : tie.After-enum-told → tie.After-check-stated
-check-stated-at-enum-told c = c.before.before
-
-stated-on : (c : tie.After-enum-told) → let a = (st-stated (check-stated-at-enum-told c)).args in Stated a.sizes a.len
-stated-on c = stated-facts _ _ _ (sym (check-stated-at-enum-told c).check-stated.ensures ∙ c.enum_told.given.1)
+stated-on : (c : tie.In_default) → let a = c.args in Stated a.sizes a.len
+stated-on c = stated-facts _ _ _ (sym c.check_stated.ensures ∙ c.in_default.is)
 
 -- 4 COUNT
-abbrev enum-told-at-check-counts : tie.After-check-counts → tie.After-enum-told
-enum-told-at-check-counts c = c.before.before
+on-count : (c : tie.After-check_counts) → thens (counts (start-of-check_counts c)) ≡ answer (start-of-check_counts c)
+on-count c = goes-on (whole (start-of-check_counts c)) c.check_stated.ensures c.in_default.is
 
-abbrev at-stated : tie.After-check-counts → tie.After-check-stated
-at-stated c = check-stated-at-enum-told (enum-told-at-check-counts c)
+no-count : (c : tie.In-Refuse-check_counts) → Refuse c.in-Refuse-check_counts.count ≡ answer (start-of-in-refuse-check_counts c)
+no-count c = refuses _ (on-count c.before) c.check_counts.ensures c.in-Refuse-check_counts.is
 
-abbrev st-count : tie.After-check-counts → tie.Start
-st-count c = st-stated (at-stated c)
+on-node : (c : tie.After-check_nodes_joined) → thens (nodes (start-of-check_nodes_joined c)) ≡ answer (start-of-check_nodes_joined c)
+on-node c = goes-on (on-count c.before.before) c.check_counts.ensures c.in_default-check_counts.is
 
-on-count : (c : tie.After-check-counts) → thens (counts (st-count c)) ≡ answer (st-count c)
-on-count c = goes-on (whole (st-count c)) (at-stated c).check-stated.ensures (enum-told-at-check-counts c).enum_told.given.1
+is-node : (c : tie.After-check_nodes_joined) → c.check_nodes_joined.result ≡ asked (node_line c.args.sizes (named (start-of-check_nodes_joined c)))
+is-node c = c.check_nodes_joined.ensures
 
-abbrev check-counts-at-count : tie.After-count → tie.After-check-counts
-check-counts-at-count c = c.before.before
+no_node : (c : tie.In-Refuse-check_nodes_joined) → Refuse c.in-Refuse-check_nodes_joined.node ≡ answer (start-of-in-refuse-check_nodes_joined c)
+no_node c = refuses _ (on-node c.before) (is-node c.before) c.in-Refuse-check_nodes_joined.is
 
-no-count : (c : tie.After-count) → Refuse c.count.given.0.0 ≡ answer (st-count (check-counts-at-count c))
-no-count c = let k = check-counts-at-count c in refuses _ (on-count k) k.check-counts.ensures c.count.given.1
+on-repeat : (c : tie.After-check_repeat_joined) → thens (repeats (start-of-check_repeat_joined c)) ≡ answer (start-of-check_repeat_joined c)
+on-repeat c = goes-on (on-node c.before.before) (is-node c.before.before) c.in_default-check_nodes_joined.is
 
--- 5 NODE
-abbrev at_count : tie.After-check-nodes-joined → tie.After-check-counts
-at_count c = c.before.before.before
+no-repeat : (c : tie.In-Refuse-check_repeat_joined) → Refuse c.in-Refuse-check_repeat_joined.repeat ≡ answer (start-of-in-refuse-check_repeat_joined c)
+no-repeat c = refuses _ (on-repeat c.before) c.check_repeat_joined.ensures c.in-Refuse-check_repeat_joined.is
 
-abbrev st-node : tie.After-check-nodes-joined → tie.Start
-st-node c = st-count (at_count c)
-
-on-node : (c : tie.After-check-nodes-joined) → thens (nodes (st-node c)) ≡ answer (st-node c)
-on-node c = goes-on (on-count (at_count c)) (at_count c).check-counts.ensures c.before.enum-told2.given.1
-
-is-node : (c : tie.After-check-nodes-joined) → c.check-nodes-joined.result ≡ asked (node_line (st-node c).args.sizes (named (st-node c)))
-is-node c = c.check-nodes-joined.ensures
-
-abbrev check-nodes-joined-at-node : tie.After-node → tie.After-check-nodes-joined
-check-nodes-joined-at-node c = c.before.before
-
-no_node : (c : tie.After-node) → Refuse c.node.given.0.0 ≡ answer (st-node (check-nodes-joined-at-node c))
-no_node c = let k = check-nodes-joined-at-node c in refuses _ (on-node k) (is-node k) c.node.given.1
-
--- 6 REPEAT
-abbrev at-node : tie.After-check-repeat-joined → tie.After-check-nodes-joined
-at-node c = c.before.before.before
-
-abbrev st-repeat : tie.After-check-repeat-joined → tie.Start
-st-repeat c = st-node (at-node c)
-
-on-repeat : (c : tie.After-check-repeat-joined) → thens (repeats (st-repeat c)) ≡ answer (st-repeat c)
-on-repeat c = goes-on (on-node (at-node c)) (is-node (at-node c)) c.before.enum-told3.given.1
-
-abbrev check-repeat-joined-at-repeat : tie.After-repeat → tie.After-check-repeat-joined
-check-repeat-joined-at-repeat c = c.before.before
-
-no-repeat : (c : tie.After-repeat) → Refuse c.repeat.given.0.0 ≡ answer (st-repeat (check-repeat-joined-at-repeat c))
-no-repeat c = let k = check-repeat-joined-at-repeat c in refuses _ (on-repeat k) k.check-repeat-joined.ensures c.repeat.given.1
-
--- 2 AREA
-abbrev check-repeat-joined-at-enum-told4 : tie.After-enum-told4 → tie.After-check-repeat-joined
-check-repeat-joined-at-enum-told4 c = c.before.before
-
-abbrev at-repeat : tie.After-stripe-count → tie.After-check-repeat-joined
-at-repeat c = check-repeat-joined-at-enum-told4 c.before
-
-abbrev st-lent : tie.After-stripe-count → tie.Start
-st-lent c = st-repeat (at-repeat c)
-
-on-lent : (c : tie.After-stripe-count) → thens (lents (st-lent c)) ≡ answer (st-lent c)
-on-lent c = goes-on (on-repeat (at-repeat c)) (at-repeat c).check-repeat-joined.ensures c.before.enum-told4.given.1
+on-lent : (c : tie.After-stripe_count-stripes) → thens (lents (start-of-stripe_count-stripes c)) ≡ answer (start-of-stripe_count-stripes c)
+on-lent c = goes-on (on-repeat c.before.before) c.check_repeat_joined.ensures c.in_default-check_repeat_joined.is
 
 -- what the checks so far told
-stated-at : (c : tie.After-enum-told4) → let a = (st-repeat (check-repeat-joined-at-enum-told4 c)).args in Stated a.sizes a.len
-stated-at c = stated-on (enum-told-at-check-counts (at_count (at-node (check-repeat-joined-at-enum-told4 c))))
+stated-at : (c : tie.In_default-check_repeat_joined) → let a = c.args in Stated a.sizes a.len
+stated-at c = stated-on (in-default-of-in-default-check_repeat_joined c)
 
-sizes-on : (c : tie.After-stripe-count) → Legal (st-lent c).args.sizes
+sizes-on : (c : tie.After-stripe_count-stripes) → Legal c.args.sizes
 sizes-on c = legal-facts _ (stated-at c.before).is-legal
 
-boards-on : (c : tie.After-stripe-count) → Boards (st-lent c).args.sizes (named (st-lent c))
+boards-on : (c : tie.After-stripe_count-stripes) → Boards c.args.sizes (named (start-of-stripe_count-stripes c))
 boards-on c =
-    let z = (st-lent c).args.sizes in
-    let l = named (st-lent c) in
-    let k = at-repeat c in
-    let node = sym (is-node (at-node k)) ∙ k.before.enum-told3.given.1 in
-    let once = sym k.check-repeat-joined.ensures ∙ c.before.enum-told4.given.1 in
+    let z = c.args.sizes in
+    let l = named (start-of-stripe_count-stripes c) in
+    let node = sym (is-node c.before.before.before.before) ∙ c.in_default-check_nodes_joined.is in
+    let once = sym c.check_repeat_joined.ensures ∙ c.in_default-check_repeat_joined.is in
     boards-of z l (not-no _ (passed (node_line z l) node)) (not-no _ (passed (repeat_line l) once))
 
 -- so few bytes that their number does not wrap
-packets-few : (c : tie.After-stripe-count) → (st-lent c).args.sizes.d * (2 * c.stripe-count.result) ≤ 262144
+packets-few : (c : tie.After-stripe_count-stripes) → c.args.sizes.d * (2 * c.stripe_count-stripes.result) ≤ 262144
 packets-few c =
     let f = sizes-on c in
-    few-packets _ _ 2 (omega (arith, f.enough, f.few)) c.stripe-count.ensures.1 (omega arith)
+    few-packets _ _ 2 (omega (arith, f.enough, f.few)) c.stripe_count-stripes.ensures.1 (omega arith)
 
-exchanges-few : (c : tie.After-stripe-count) → ((st-lent c).args.sizes.r - 1) * c.stripe-count.result ≤ 253952
+exchanges-few : (c : tie.After-stripe_count-stripes) → (c.args.sizes.r - 1) * c.stripe_count-stripes.result ≤ 253952
 exchanges-few c =
     let f = sizes-on c in
-    let m = (st-lent c).args.sizes.r - 1 in
-    let s = c.stripe-count.result in
-    rw (mul_comm m s) (few_bytes s m m true c.stripe-count.ensures.1 refl refl (omega (arith, f.enough, f.few)))
+    let m = c.args.sizes.r - 1 in
+    let s = c.stripe_count-stripes.result in
+    rw (mul_comm m s) (few_bytes s m m true c.stripe_count-stripes.ensures.1 refl refl (omega (arith, f.enough, f.few)))
 
-abbrev at-stripes : tie.After-check-two-lent → tie.After-stripe-count
-at-stripes c = c.before.before
+is-lent : (c : tie.After-check_two_lent) → c.check_two_lent.result ≡ asked (sent_line (start-of-check_two_lent c) (S (start-of-check_two_lent c)))
+is-lent c = c.check_two_lent.ensures ∙ ap (λ (s : ℕ). asked (sent_line (start-of-check_two_lent c) s)) c.stripe_count-stripes.ensures.0
 
-is-lent : (c : tie.After-check-two-lent) → let g = st-lent (at-stripes c) in c.check-two-lent.result ≡ asked (sent_line g (S g))
-is-lent c = let g = st-lent (at-stripes c) in c.check-two-lent.ensures ∙ ap (λ (s : ℕ). asked (sent_line g s)) (at-stripes c).stripe-count.ensures.0
+no-lent : (c : tie.In-Refuse-check_two_lent) → Refuse c.in-Refuse-check_two_lent.lent ≡ answer (start-of-in-refuse-check_two_lent c)
+no-lent c = refuses _ (on-lent c.before.before.before) (is-lent c.before) c.in-Refuse-check_two_lent.is
 
-abbrev check-two-lent-at-lent : tie.After-lent → tie.After-check-two-lent
-check-two-lent-at-lent c = c.before.before
-
-no-lent : (c : tie.After-lent) → Refuse c.lent.given.0.0 ≡ answer (st-lent (at-stripes (check-two-lent-at-lent c)))
-no-lent c = let k = check-two-lent-at-lent c in refuses _ (on-lent (at-stripes k)) (is-lent k) c.lent.given.1
-
--- 7 SHORT
-abbrev at-lent : tie.After-share-len → tie.After-check-two-lent
-at-lent c = c.before.before.before
-
-abbrev at-number : tie.After-share-len → tie.After-stripe-count
-at-number c = at-stripes (at-lent c)
-
-abbrev st-short : tie.After-share-len → tie.Start
-st-short c = st-lent (at-number c)
-
-on-short : (c : tie.After-share-len) → thens (shorts (st-short c)) ≡ answer (st-short c)
-on-short c = goes-on (on-lent (at-number c)) (is-lent (at-lent c)) c.before.enum-told5.given.1
+on-short : (c : tie.After-share_len) → thens (shorts (start-of-share_len c)) ≡ answer (start-of-share_len c)
+on-short c = goes-on (on-lent c.before.before.before.before) (is-lent c.before.before) c.in_default-check_two_lent.is
 
 -- how long the share is
-share-is : (c : tie.After-share-len) → (at-number c).stripe-count.result * c.share-len.result ≡ S (st-short c) * α (st-short c).args.sizes
-share-is c = let n = at-number c in as_many _ _ _ _ _ n.stripe-count.ensures.0 c.share-len.ensures (stated-at n.before).is-legal
+share-is : (c : tie.After-share_len) → c.stripe_count-stripes.result * c.share_len.result ≡ S (start-of-share_len c) * α c.args.sizes
+share-is c = as_many _ _ _ _ _ c.stripe_count-stripes.ensures.0 c.share_len.ensures (stated-at (in-default-check_repeat_joined-of-share_len c)).is-legal
 
-share-few : (c : tie.After-share-len) → (at-number c).stripe-count.result * c.share-len.result ≤ 253952
+share-few : (c : tie.After-share_len) → c.stripe_count-stripes.result * c.share_len.result ≤ 253952
 share-few c =
-    let n = at-number c in
-    few_bytes _ _ _ _ n.stripe-count.ensures.1 c.share-len.ensures (stated-at n.before).is-legal (α-most _ (sizes-on n))
+    few_bytes _ _ _ _ c.stripe_count-stripes.ensures.1 c.share_len.ensures (stated-at (in-default-check_repeat_joined-of-share_len c)).is-legal (α-most _ (sizes-on c.before.before.before.before))
 
-is-short : (c : tie.After-check-room) → c.check-room.result ≡ asked (room_line (st-short c.before))
-is-short c = c.check-room.ensures ∙ ap (λ (m : ℕ). asked (short_line (st-short c.before).args.out.now m)) (share-is c.before)
+is-short : (c : tie.After-check_room) → c.check_room.result ≡ asked (room_line (start-of-check_room c))
+is-short c = c.check_room.ensures ∙ ap (λ (m : ℕ). asked (short_line c.args.out.now m)) (share-is c.before)
 
-pub check-finish-spec : {M : Type 1} → statement M
-check-finish-spec =
+pub check_finish_spec : {M : Type 1} → statement M
+check_finish_spec =
     tie.close
     (tie.spec
     (λ c κs. search rules)
     (λ c. search rules)
-    (λ c. no-stated c.before)
+    (λ c. no-stated c)
     (λ c. search rules)
     (λ c. omega (arith, (legal-facts _ (stated-on c.before).is-legal).some-fresh))
     (λ c κs. search rules)
     (λ c. search rules)
-    (λ c. no-count c.before)
+    (λ c. no-count c)
     (λ c. search rules)
     (λ c κs. search rules)
     (λ c. search rules)
-    (λ c. no_node c.before)
+    (λ c. no_node c)
     (λ c. search rules)
     (λ c κs. search rules)
     (λ c. search rules)
-    (λ c. no-repeat c.before)
+    (λ c. no-repeat c)
     (λ c. search rules)
     (λ c κs. stated-at c)
-    (λ c. omega (arith, c.stripe-count.ensures.1))
+    (λ c. omega (arith, c.stripe_count-stripes.ensures.1))
     (λ c. omega (arith, packets-few c.before))
     (λ c. omega (arith, exchanges-few c.before))
     (λ c κs. search rules)
     (λ c. search rules)
-    (λ c. no-lent c.before)
+    (λ c. no-lent c)
     (λ c. search rules)
     (λ c κs. search rules)
     (λ c. omega (arith, share-few c))

@@ -8,33 +8,30 @@ use borrow.Author.Rules.{rules}
 use Rattle.sizes.specs.declared.Check.{Check}
 use Rattle.sizes.specs.declared.Check.TheVariants.{Pass, Refuse}
 use Rattle.sizes.proofs.Legal.{legal-facts, α-most}
-use Rattle.checks.proofs.Given.{as_many, few_bytes}
+use Rattle.board_lines.proofs.Given.{as_many, few_bytes}
 use Rattle.board_finish.proofs.Finishes.{Finishes, checked, finishes, finish-refuses, finish-works}
 use Rattle.board_finish.proofs.finished_share.Statement.{statement}
 use Rattle.board_finish.proofs.finished_share.Tie as tie
 
--- the places
-abbrev st : tie.After-check-finish → tie.Start
-st c = c.before.before.before.before.before.before.before.before
+-- places in the code
+abbrev in-default-of-finished_share-arg-1 : tie.After-finished_share-arg-1 → tie.In_default
+in-default-of-finished_share-arg-1 c = c.before.before.before.before.before.before.before
 
-abbrev check-finish-at-enum-told : tie.After-enum-told → tie.After-check-finish
-check-finish-at-enum-told c = c.before.before
+abbrev start-of-in-default : tie.In_default → tie.Start
+start-of-in-default c = c.before.before.before.before.before.before.before.before
 
-abbrev at-check : tie.After-stripe-count → tie.After-check-finish
-at-check c = check-finish-at-enum-told c.before
+abbrev start-of-in-refuse : tie.In-Refuse → tie.Start
+start-of-in-refuse c = c.before.before.before.before.before.before.before.before
 
-abbrev at-inverses : tie.After-finished-share-arg → tie.After-fill-inverses
-at-inverses c = c.before.before.before.before
+abbrev in-default-of-share_len : tie.After-share_len → tie.In_default
+in-default-of-share_len c = in-default-of-finished_share-arg-1 c.before.before.before.before
 
-abbrev at_count : tie.After-finished-share-arg → tie.After-stripe-count
-at_count c = (at-inverses c).before.before
+abbrev start-of-share_len : tie.After-share_len → tie.Start
+start-of-share_len c = start-of-in-default c.before.before.before.before.before.before.before.before.before.before.before
 
-abbrev at-share : tie.After-share-len → tie.After-finished-share
-at-share c = c.before.before.before
-
--- the points that it is given, its second argument
+-- the points that it is given
 abbrev given : tie.Start → List ℕ
-given g = g.args.t2
+given g = g.args.points
 
 -- what the check told
 abbrev answer : tie.Start → Check
@@ -42,39 +39,33 @@ answer g =
     let a = g.args in
     checked a.sizes (given g) a.len a.board a.helpers.now a.packets.now a.partners.now a.exchanges.now a.out.now
 
-abbrev check-finish-at-x : tie.After-x → tie.After-check-finish
-check-finish-at-x c = c.before.before
+refusal : (c : tie.In-Refuse) → answer (start-of-in-refuse c) ≡ Refuse c.in-Refuse.x
+refusal c = sym c.check_finish.ensures ∙ c.in-Refuse.is
 
-refusal : (c : tie.After-x) → answer (st (check-finish-at-x c)) ≡ Refuse c.x.given.0.0
-refusal c = sym (check-finish-at-x c).check-finish.ensures ∙ c.x.given.1
+passed : (c : tie.In_default) → answer (start-of-in-default c) ≡ Pass
+passed c = sym c.check_finish.ensures ∙ c.in_default.is
 
-passed : (c : tie.After-enum-told) → answer (st (check-finish-at-enum-told c)) ≡ Pass
-passed c = sym (check-finish-at-enum-told c).check-finish.ensures ∙ c.enum_told.given.1
-
-facts : (c : tie.After-enum-told) → let g = st (check-finish-at-enum-told c) in let a = g.args in
-    Finishes a.sizes (given g) a.len a.board a.helpers.now a.packets.now a.partners.now a.exchanges.now a.out.now
+facts : (c : tie.In_default) → let a = c.args in
+    Finishes a.sizes (given (start-of-in-default c)) a.len a.board a.helpers.now a.packets.now a.partners.now a.exchanges.now a.out.now
 facts c =
-    let g = st (check-finish-at-enum-told c) in
-    let a = g.args in
-    finishes a.sizes (given g) a.len a.board a.helpers.now a.packets.now a.partners.now a.exchanges.now a.out.now (passed c)
+    let a = c.args in
+    finishes a.sizes (given (start-of-in-default c)) a.len a.board a.helpers.now a.packets.now a.partners.now a.exchanges.now a.out.now (passed c)
 
-refused : tie.Need-returns
+refused : tie.Need-returns-in-Refuse
 refused c =
-    let g = st (check-finish-at-x c.before) in
-    let a = g.args in
-    finish-refuses a.sizes (given g) a.len a.board a.helpers.now a.packets.now a.partners.now a.exchanges.now a.out.now
-    (refusal c.before)
+    let a = c.args in
+    finish-refuses a.sizes (given (start-of-in-refuse c)) a.len a.board a.helpers.now a.packets.now a.partners.now a.exchanges.now a.out.now
+    (refusal c)
 
 -- the work
-share-asks : tie.Need-finished-share-requires
+share-asks : tie.Need-finished_share-requires
 share-asks c κs =
-    let n = at_count c in
-    let f = facts n.before in
-    let e = n.stripe-count.ensures in (
+    let f = facts (in-default-of-finished_share-arg-1 c) in
+    let e = c.stripe_count-stripes.ensures in (
       f.stated.is-legal,
       f.points-taken.long,
       f.points-taken.differ,
-      (at-inverses c).fill-inverses.ensures,
+      c.fill_inverses.ensures,
       e.1,
       rw e.0 f.packets-are,
       rw e.0 f.exchanges-are,
@@ -85,25 +76,21 @@ share-asks c κs =
       rw e.0 f.room,
     )
 
-count_fits : tie.Need-overflow-mul-t29
+count_fits : tie.Need-overflow_mul-result
 count_fits c =
-    let n = at_count (at-share c).before in
-    let f = facts n.before in
-    omega (arith, few_bytes _ _ _ _ n.stripe-count.ensures.1 c.share-len.ensures f.stated.is-legal (α-most _ (legal-facts _ f.stated.is-legal)))
+    let f = facts (in-default-of-share_len c) in
+    omega (arith, few_bytes _ _ _ _ c.stripe_count-stripes.ensures.1 c.share_len.ensures f.stated.is-legal (α-most _ (legal-facts _ f.stated.is-legal)))
 
-done : tie.Need-returns-2
+done : tie.Need-returns
 done c =
-    let w = at-share c in
-    let n = at_count w.before in
-    let g = st (at-check n) in
-    let a = g.args in
-    let many = n.stripe-count.ensures.0 in
-    finish-works a.sizes (given g) a.len a.board a.helpers.now a.packets.now a.partners.now a.exchanges.now a.out.now _ _ _
-    (passed n.before) many
-    (as_many _ _ _ _ _ many c.share-len.ensures (facts n.before).stated.is-legal) w.finished-share.ensures
+    let a = c.args in
+    let many = c.stripe_count-stripes.ensures.0 in
+    finish-works a.sizes (given (start-of-share_len c)) a.len a.board a.helpers.now a.packets.now a.partners.now a.exchanges.now a.out.now _ _ _
+    (passed (in-default-of-share_len c)) many
+    (as_many _ _ _ _ _ many c.share_len.ensures (facts (in-default-of-share_len c)).stated.is-legal) c.finished_share.ensures
 
-pub finished-share-spec : {M : Type 1} → statement M
-finished-share-spec =
+pub finished_share_spec : {M : Type 1} → statement M
+finished_share_spec =
     tie.close
     (tie.spec
     (λ c. search rules)

@@ -1,7 +1,7 @@
 -- `board_gather::gather` meets its contract: each test is taken apart, and a refusal returned early.
 -- Assumes nothing.
 use mathlib.Core.Path.{◌≡◌, refl, sym, ◌∙◌}
-use mathlib.Core.Bool.{true, false}
+use mathlib.Core.Bool.{true}
 use mathlib.Core.List.{List}
 use Prim.Native.Nat.{ℕ, ◌<◌}
 use native.Mathlib.Omega.{arith}
@@ -17,26 +17,53 @@ use Rattle.board_gather.proofs.gather.Statement.{statement}
 use Rattle.board_gather.proofs.gather.Tie as tie
 
 -- places in the code
-abbrev st : tie.After-head-at → tie.Start
-st c = c.before.before.before.before
+abbrev scan_texts-found-of-then-not-found-2 : tie.Then-not-found-2 → tie.After-scan_texts-found
+scan_texts-found-of-then-not-found-2 c = c.before.before.before.before.before.before
 
-abbrev at-points : tie.After-scan-texts → tie.After-points2
-at-points c = c.before.before.before
+abbrev start-of-then-not-first : tie.Then-not-first → tie.Start
+start-of-then-not-first c = c.before.before.before.before.before.before
 
-abbrev else2-at-points2 : tie.After-points2 → tie.Else2
-else2-at-points2 c = c.before.before.before
+abbrev else-found-k-of-slice_known-2-1 : tie.After-slice_known-2-1 → tie.Else-found-k
+else-found-k-of-slice_known-2-1 c = c.before.before.before.before.before.before.before
 
-abbrev at_head : tie.After-scan-texts → tie.After-head-at
-at_head c = (else2-at-points2 (at-points c)).before.before
+abbrev head_at-first-of-scan_texts-found : tie.After-scan_texts-found → tie.After-head_at-first
+head_at-first-of-scan_texts-found c = c.before.before.before.before.before.before.before.before
 
-abbrev at-scan : tie.After-struct-known2 → tie.After-scan-texts
-at-scan c = c.before.before.before
+abbrev scan_texts-found-of-else-found-k : tie.Else-found-k → tie.After-scan_texts-found
+scan_texts-found-of-else-found-k c = c.before.before.before.before.before.before.before.before
 
-abbrev at-alike : tie.Else4 → tie.After-struct-known2
-at-alike c = c.before.before.before
+abbrev scan_texts-found-of-then-found-k : tie.Then-found-k → tie.After-scan_texts-found
+scan_texts-found-of-then-found-k c = c.before.before.before.before.before.before.before.before
 
-abbrev at_count : tie.Else5 → tie.Else4
-at_count c = c.before.before
+abbrev head_at-first-of-else-not-found : tie.Else-not-found → tie.After-head_at-first
+head_at-first-of-else-not-found c = head_at-first-of-scan_texts-found c.before.before.before.before
+
+abbrev points-2-1-of-points-3-1 : tie.After-points-3-1 → tie.After-points-2-1
+points-2-1-of-points-3-1 c = c.before.before.before.before.before.before.before.before.before.before.before.before
+
+abbrev head_at-first-of-then-not-found-2 : tie.Then-not-found-2 → tie.After-head_at-first
+head_at-first-of-then-not-found-2 c = head_at-first-of-else-not-found c.before.before
+
+abbrev head_at-first-of-else-found-k : tie.Else-found-k → tie.After-head_at-first
+head_at-first-of-else-found-k c = head_at-first-of-else-not-found c.before.before.before.before
+
+abbrev head_at-first-of-then-found-k : tie.Then-found-k → tie.After-head_at-first
+head_at-first-of-then-found-k c = head_at-first-of-else-not-found c.before.before.before.before
+
+abbrev start-of-else-not-found : tie.Else-not-found → tie.Start
+start-of-else-not-found c = c.before.before.before.before.before.before.before.before.before.before.before.before.before.before.before.before
+
+abbrev start-of-then-not-found : tie.Then-not-found → tie.Start
+start-of-then-not-found c = c.before.before.before.before.before.before.before.before.before.before.before.before.before.before.before.before
+
+abbrev start-of-then-not-found-2 : tie.Then-not-found-2 → tie.Start
+start-of-then-not-found-2 c = start-of-else-not-found c.before.before
+
+abbrev start-of-else-found-k : tie.Else-found-k → tie.Start
+start-of-else-found-k c = start-of-else-not-found c.before.before.before.before
+
+abbrev start-of-then-found-k : tie.Then-found-k → tie.Start
+start-of-then-found-k c = start-of-else-not-found c.before.before.before.before
 
 abbrev text : tie.Start → List ℕ
 text g = g.args.text.now
@@ -45,83 +72,65 @@ abbrev out : tie.Start → List ℕ
 out g = g.args.out.now
 
 -- the first text's head
-abbrev first : tie.After-head-at → Head
-first c = c.head_at.result
+abbrev first : tie.After-head_at-first → Head
+first c = c.head_at-first.result
 
-stands : (c : tie.After-head-at) → Stands (text (st c)) 0 (first c)
-stands c = c.head_at.ensures
+stands : (c : tie.After-head_at-first) → Stands (text c.before.before.before.before) 0 (first c)
+stands c = c.head_at-first.ensures
 
-some_bytes : (c : tie.After-head-at) → 0 < length (text (st c))
-some_bytes c = omega (arith, c.before.if1.false)
+some_bytes : (c : tie.After-head_at-first) → 0 < length (text c.before.before.before.before)
+some_bytes c = omega (arith, c.if-text-eq0.false)
 
-first-stands : (c : tie.After-scan-texts) → (first (at_head c)).ok ≡ true
-first-stands c = not-false _ (else2-at-points2 (at-points c)).if2.false
+first-stands : (c : tie.After-scan_texts-found) → (first (head_at-first-of-scan_texts-found c)).ok ≡ true
+first-stands c = not-false _ c.if-not-first.false
 
 -- what the walk found
-abbrev found : tie.After-scan-texts → Scan
-found c = c.scan-texts.result
+abbrev found : tie.After-scan_texts-found → Scan
+found c = c.scan_texts-found.result
 
-abbrev nodes : tie.After-scan-texts → List ℕ
-nodes c = c.scan-texts.new.1.1.1.1.0
+abbrev nodes : tie.After-scan_texts-found → List ℕ
+nodes c = c.scan_texts-found.new.nodes
 
-abbrev places : tie.After-scan-texts → List ℕ
-places c = c.scan-texts.new.1.1.1.1.1.0
+abbrev places : tie.After-scan_texts-found → List ℕ
+places c = c.scan_texts-found.new.places
 
-walked : (c : tie.Else3) → let s = at-scan c.before in let f = first (at_head s) in
-    (hs : List Head) × Heads (text (st (at_head s))) f.sizes f.points f.length (found s) (nodes s) (places s) hs
-walked c = (at-scan c.before).scan-texts.ensures.heads (not-false _ c.if3.false)
+walked : (c : tie.Else-not-found) → let f = first (head_at-first-of-else-not-found c) in
+    (hs : List Head) × Heads (text (start-of-else-not-found c)) f.sizes f.points f.length (found c.before.before.before.before) (nodes c.before.before.before.before) (places c.before.before.before.before) hs
+walked c = c.scan_texts-found.ensures.heads (not-false _ c.if-not-found.false)
 
-no_text : tie.Need-returns
-no_text c = let g = c.before.before.before in law.refuses-none (text g) (out g) c.if1.true
+no_text : tie.Need-returns-then-text-eq0
+no_text c = law.refuses-none (text c.before.before.before) (out c.before.before.before) c.if-text-eq0.true
 
-no-first : tie.Need-returns-2
-no-first c = let k = c.before.before in law.refuses-first (text (st k)) (out (st k)) (first k) (stands k) (some_bytes k) (not-true _ c.if2.true)
+no-first : tie.Need-returns-then-not-first
+no-first c = law.refuses-first (text (start-of-then-not-first c)) (out (start-of-then-not-first c)) (first c.before.before) (stands c.before.before) (some_bytes c.before.before) (not-true _ c.if-not-first.true)
 
-no-texts : tie.Need-returns-3
+no-texts : tie.Need-returns-then-not-found
 no-texts c =
-    let s = at-scan c.before in
-    let g = st (at_head s) in
-    law.refuses-text (text g) (out g) (s.scan-texts.ensures.no-texts (not-true _ c.if3.true))
+    law.refuses-text (text (start-of-then-not-found c)) (out (start-of-then-not-found c)) (c.scan_texts-found.ensures.no-texts (not-true _ c.if-not-found.true))
 
-mixed : tie.Need-returns-4
+mixed : tie.Need-returns-then-not-found-2
 mixed c =
-    let e = c.before.before in
-    let s = at-scan e.before in
-    let k = at_head s in
-    let w = walked e in
-    law.refuses-mixed (text (st k)) (out (st k)) (first k) (stands k) (some_bytes k) (first-stands s) (found s) (nodes s) (places s) w.0 w.1 (not-true _ c.if4.true)
+    let w = walked c.before.before in
+    law.refuses-mixed (text (start-of-then-not-found-2 c)) (out (start-of-then-not-found-2 c)) (first (head_at-first-of-then-not-found-2 c)) (stands (head_at-first-of-then-not-found-2 c)) (some_bytes (head_at-first-of-then-not-found-2 c)) (first-stands (scan_texts-found-of-then-not-found-2 c)) (found (scan_texts-found-of-then-not-found-2 c)) (nodes (scan_texts-found-of-then-not-found-2 c)) (places (scan_texts-found-of-then-not-found-2 c)) w.0 w.1 (not-true _ c.if-not-found-2.true)
 
-miscounted : tie.Need-returns-5
+miscounted : tie.Need-returns-then-found-k
 miscounted c =
-    let a = c.before.before in
-    let e = a.before.before in
-    let s = at-scan e.before in
-    let k = at_head s in
-    let w = walked e in
-    law.refuses-count (text (st k)) (out (st k)) (first k) (stands k) (some_bytes k) (first-stands s) (found s) (nodes s) (places s) w.0 w.1
-    (not-false _ a.if4.false) c.if5.true
+    let w = walked c.before.before.before.before in
+    law.refuses-count (text (start-of-then-found-k c)) (out (start-of-then-found-k c)) (first (head_at-first-of-then-found-k c)) (stands (head_at-first-of-then-found-k c)) (some_bytes (head_at-first-of-then-found-k c)) (first-stands (scan_texts-found-of-then-found-k c)) (found (scan_texts-found-of-then-found-k c)) (nodes (scan_texts-found-of-then-found-k c)) (places (scan_texts-found-of-then-found-k c)) w.0 w.1
+    (not-false _ c.if-not-found-2.false) c.if-found-k.true
 
 -- the points are 32 bytes, each time that they are lent
-points-long : tie.Need-slice-aggregate-scan-texts
+points-long : tie.Need-slice_bounds-scan_texts-end
 points-long c = search rules
 
 -- k texts that are alike
-told : (q : tie.Else5) → let s = at-scan (at-alike (at_count q)) in let k = at_head s in law.Told (text (st k)) (out (st k)) (first k) (nodes s) (places s)
+told : (q : tie.Else-found-k) → law.Told (text (start-of-else-found-k q)) (out (start-of-else-found-k q)) (first (head_at-first-of-else-found-k q)) (nodes (scan_texts-found-of-else-found-k q)) (places (scan_texts-found-of-else-found-k q))
 told q =
-    let a = at_count q in
-    let s = at-scan (at-alike a) in
-    let k = at_head s in
-    let w = walked a.before.before in
-    law.told (text (st k)) (out (st k)) (first k) (stands k) (some_bytes k) (first-stands s) (found s) (nodes s) (places s) w.0 w.1 (not-false _ a.if4.left) q.if5.false
+    let w = walked q.before.before.before.before in
+    law.told (text (start-of-else-found-k q)) (out (start-of-else-found-k q)) (first (head_at-first-of-else-found-k q)) (stands (head_at-first-of-else-found-k q)) (some_bytes (head_at-first-of-else-found-k q)) (first-stands (scan_texts-found-of-else-found-k q)) (found (scan_texts-found-of-else-found-k q)) (nodes (scan_texts-found-of-else-found-k q)) (places (scan_texts-found-of-else-found-k q)) w.0 w.1 (not-false _ q.if-not-found-2.false) q.if-found-k.false
 
-abbrev else5-at-places3 : tie.After-places3 → tie.Else5
-else5-at-places3 c = c.before.before.before.before
-
-abbrev at_told : tie.After-gather-told-arg3 → tie.Else5
-at_told c = else5-at-places3 c.before.before
-
-pub gather-spec : {M : Type 1} → statement M
-gather-spec =
+pub gather_spec : {M : Type 1} → statement M
+gather_spec =
     tie.close
     (tie.spec
     no_text
@@ -134,13 +143,13 @@ gather-spec =
     no-texts
     mixed
     miscounted
-    (λ c. points-long (at-points (at-scan (at-alike (at_count c.before)))))
+    (λ c. points-long (points-2-1-of-points-3-1 c))
     (λ c. search rules)
     (λ c. search rules)
-    (λ c. (told c.before.before).boards-enough)
+    (λ c. (told c.before).boards-enough)
     (λ c. search rules)
     (λ c. search rules)
-    (λ c. (told (else5-at-places3 c)).places-enough)
-    (λ c κs. (told (at_told c)).ready)
+    (λ c. (told c.before.before).places-enough)
+    (λ c κs. (told c.before.before.before.before).ready)
     (λ c. search rules)
-    (λ c. let t = c.before.before in t.gather-told.ensures ∙ sym (told (at_told t.before)).gathers))
+    (λ c. c.gather_told.ensures ∙ sym (told (else-found-k-of-slice_known-2-1 c)).gathers))

@@ -15,11 +15,42 @@ use Rattle.sizes.specs.Refusals.{Line, first, board_order}
 use Rattle.sizes.proofs.Legal.{legal-facts, α-most}
 use Rattle.board_spec.specs.Calls.{node_line, repeat_line, area_line, short_line, helper_lines}
 use Rattle.line_checks.specs.Steps.{asked, stated_lines, Stated}
-use Rattle.checks.proofs.Given.{as_many, few_bytes}
-use Rattle.checks.proofs.Chain.{thens, grouped, goes-on, refuses, ends}
-use Rattle.checks.proofs.Facts.{stated-facts}
+use Rattle.board_lines.proofs.Given.{as_many, few_bytes}
+use Rattle.board_lines.proofs.Chain.{thens, grouped, goes-on, refuses, ends}
+use Rattle.board_lines.proofs.Facts.{stated-facts}
 use Rattle.board_helper.proofs.check_helper.Statement.{statement}
 use Rattle.board_helper.proofs.check_helper.Tie as tie
+
+-- places in the code
+abbrev start-of-in-refuse : tie.In-Refuse → tie.Start
+start-of-in-refuse c = c.before.before.before.before.before
+
+abbrev check_nodes-of-share_len : tie.After-share_len → tie.After-check_nodes
+check_nodes-of-share_len c = c.before.before.before.before.before.before
+
+abbrev start-of-check_nodes : tie.After-check_nodes → tie.Start
+start-of-check_nodes c = c.before.before.before.before.before.before.before
+
+abbrev start-of-in-refuse-check_nodes : tie.In-Refuse-check_nodes → tie.Start
+start-of-in-refuse-check_nodes c = start-of-check_nodes c.before
+
+abbrev start-of-check_repeat : tie.After-check_repeat → tie.Start
+start-of-check_repeat c = start-of-check_nodes c.before.before.before
+
+abbrev start-of-in-refuse-check_repeat : tie.In-Refuse-check_repeat → tie.Start
+start-of-in-refuse-check_repeat c = start-of-check_repeat c.before
+
+abbrev start-of-share_len : tie.After-share_len → tie.Start
+start-of-share_len c = start-of-check_repeat c.before.before.before
+
+abbrev start-of-check_lent : tie.After-check_lent → tie.Start
+start-of-check_lent c = start-of-share_len c.before
+
+abbrev start-of-in-refuse-check_lent : tie.In-Refuse-check_lent → tie.Start
+start-of-in-refuse-check_lent c = start-of-check_lent c.before
+
+abbrev start-of-check_room : tie.After-check_room → tie.Start
+start-of-check_room c = start-of-check_lent c.before.before
 
 abbrev named : tie.Start → List ℕ
 named g = g.args.helper ∷ g.args.receiver ∷ []
@@ -58,141 +89,78 @@ whole : (g : tie.Start) → thens (stateds g) ≡ answer g
 unfolding helper_lines
 whole g = grouped (stateds g)
 
--- 1 SIZE, 3 LONG
-abbrev st-stated : tie.After-check-stated → tie.Start
-st-stated c = c.before.before.before.before
+no-stated : (c : tie.In-Refuse) → Refuse c.in-Refuse.stated ≡ answer (start-of-in-refuse c)
+no-stated c = refuses _ (whole (start-of-in-refuse c)) c.check_stated.ensures c.in-Refuse.is
 
-abbrev check-stated-at-stated : tie.After-stated → tie.After-check-stated
-check-stated-at-stated c = c.before.before
+stated-on : (c : tie.After-check_nodes) → Stated c.args.sizes c.args.len
+stated-on c = stated-facts _ _ _ (sym c.check_stated.ensures ∙ c.in_default.is)
 
-no-stated : (c : tie.After-stated) → Refuse c.stated.given.0.0 ≡ answer (st-stated (check-stated-at-stated c))
-no-stated c = let k = check-stated-at-stated c in refuses _ (whole (st-stated k)) k.check-stated.ensures c.stated.given.1
+on-node : (c : tie.After-check_nodes) → thens (nodes (start-of-check_nodes c)) ≡ answer (start-of-check_nodes c)
+on-node c = goes-on (whole (start-of-check_nodes c)) c.check_stated.ensures c.in_default.is
 
--- 5 NODE
-abbrev enum-told-at-check-nodes : tie.After-check-nodes → tie.After-enum-told
-enum-told-at-check-nodes c = c.before.before
+no_node : (c : tie.In-Refuse-check_nodes) → Refuse c.in-Refuse-check_nodes.node ≡ answer (start-of-in-refuse-check_nodes c)
+no_node c = refuses _ (on-node c.before) c.check_nodes.ensures c.in-Refuse-check_nodes.is
 
-abbrev at-stated : tie.After-check-nodes → tie.After-check-stated
-at-stated c = (enum-told-at-check-nodes c).before.before
+on-repeat : (c : tie.After-check_repeat) → thens (repeats (start-of-check_repeat c)) ≡ answer (start-of-check_repeat c)
+on-repeat c = goes-on (on-node c.before.before.before) c.check_nodes.ensures c.in_default-check_nodes.is
 
-abbrev st-node : tie.After-check-nodes → tie.Start
-st-node c = st-stated (at-stated c)
+no-repeat : (c : tie.In-Refuse-check_repeat) → Refuse c.in-Refuse-check_repeat.repeat ≡ answer (start-of-in-refuse-check_repeat c)
+no-repeat c = refuses _ (on-repeat c.before) c.check_repeat.ensures c.in-Refuse-check_repeat.is
 
-stated-on : (c : tie.After-check-nodes) → let g = st-node c in Stated g.args.sizes g.args.len
-stated-on c = stated-facts _ _ _ (sym (at-stated c).check-stated.ensures ∙ (enum-told-at-check-nodes c).enum_told.given.1)
-
-on-node : (c : tie.After-check-nodes) → thens (nodes (st-node c)) ≡ answer (st-node c)
-on-node c = goes-on (whole (st-node c)) (at-stated c).check-stated.ensures (enum-told-at-check-nodes c).enum_told.given.1
-
-abbrev check-nodes-at-node : tie.After-node → tie.After-check-nodes
-check-nodes-at-node c = c.before.before
-
-no_node : (c : tie.After-node) → Refuse c.node.given.0.0 ≡ answer (st-node (check-nodes-at-node c))
-no_node c = let k = check-nodes-at-node c in refuses _ (on-node k) k.check-nodes.ensures c.node.given.1
-
--- 6 REPEAT
-abbrev enum-told2-at-check-repeat : tie.After-check-repeat → tie.After-enum-told2
-enum-told2-at-check-repeat c = c.before.before
-
-abbrev at-node : tie.After-check-repeat → tie.After-check-nodes
-at-node c = (enum-told2-at-check-repeat c).before.before
-
-abbrev st-repeat : tie.After-check-repeat → tie.Start
-st-repeat c = st-node (at-node c)
-
-on-repeat : (c : tie.After-check-repeat) → thens (repeats (st-repeat c)) ≡ answer (st-repeat c)
-on-repeat c = goes-on (on-node (at-node c)) (at-node c).check-nodes.ensures (enum-told2-at-check-repeat c).enum-told2.given.1
-
-abbrev check-repeat-at-repeat : tie.After-repeat → tie.After-check-repeat
-check-repeat-at-repeat c = c.before.before
-
-no-repeat : (c : tie.After-repeat) → Refuse c.repeat.given.0.0 ≡ answer (st-repeat (check-repeat-at-repeat c))
-no-repeat c = let k = check-repeat-at-repeat c in refuses _ (on-repeat k) k.check-repeat.ensures c.repeat.given.1
-
--- 2 AREA
-abbrev enum-told3-at-share-len : tie.After-share-len → tie.After-enum-told3
-enum-told3-at-share-len c = c.before.before
-
-abbrev check-repeat-at-enum-told3 : tie.After-enum-told3 → tie.After-check-repeat
-check-repeat-at-enum-told3 c = c.before.before
-
-abbrev at-repeat : tie.After-share-len → tie.After-check-repeat
-at-repeat c = check-repeat-at-enum-told3 (enum-told3-at-share-len c)
-
-abbrev st-len : tie.After-share-len → tie.Start
-st-len c = st-repeat (at-repeat c)
-
-legal-on : (c : tie.After-share-len) → legal (st-len c).args.sizes ≡ true
-legal-on c = (stated-on (at-node (at-repeat c))).is-legal
+legal-on : (c : tie.After-share_len) → legal c.args.sizes ≡ true
+legal-on c = (stated-on (check_nodes-of-share_len c)).is-legal
 
 -- how long the share must be
-long-is : (c : tie.After-share-len) → c.before.stripe-count.result * c.share-len.result ≡ S (st-len c) * α (st-len c).args.sizes
-long-is c = as_many _ _ _ _ _ c.before.stripe-count.ensures.0 c.share-len.ensures (legal-on c)
+long-is : (c : tie.After-share_len) → c.stripe_count-stripes.result * c.share_len.result ≡ S (start-of-share_len c) * α c.args.sizes
+long-is c = as_many _ _ _ _ _ c.stripe_count-stripes.ensures.0 c.share_len.ensures (legal-on c)
 
-long-few : (c : tie.After-share-len) → c.before.stripe-count.result * c.share-len.result ≤ 253952
+long-few : (c : tie.After-share_len) → c.stripe_count-stripes.result * c.share_len.result ≤ 253952
 long-few c =
-    few_bytes _ _ _ _ c.before.stripe-count.ensures.1 c.share-len.ensures (legal-on c) (α-most _ (legal-facts _ (legal-on c)))
+    few_bytes _ _ _ _ c.stripe_count-stripes.ensures.1 c.share_len.ensures (legal-on c) (α-most _ (legal-facts _ (legal-on c)))
 
-on-lent : (c : tie.After-share-len) → thens (lents (st-len c)) ≡ answer (st-len c)
-on-lent c = goes-on (on-repeat (at-repeat c)) (at-repeat c).check-repeat.ensures (enum-told3-at-share-len c).enum-told3.given.1
+on-lent : (c : tie.After-share_len) → thens (lents (start-of-share_len c)) ≡ answer (start-of-share_len c)
+on-lent c = goes-on (on-repeat c.before.before.before) c.check_repeat.ensures c.in_default-check_repeat.is
 
-abbrev at_len : tie.After-check-lent → tie.After-share-len
-at_len c = c.before
-
-is-lent : (c : tie.After-check-lent) → c.check-lent.result ≡ asked (held_line (st-len (at_len c)))
+is-lent : (c : tie.After-check_lent) → c.check_lent.result ≡ asked (held_line (start-of-check_lent c))
 is-lent c =
-    let g = st-len (at_len c) in
-    c.check-lent.ensures ∙ ap (λ (m : ℕ). asked (area_line (eqb (length g.args.held.now) m ∷ []))) (long-is (at_len c))
+    c.check_lent.ensures ∙ ap (λ (m : ℕ). asked (area_line (eqb (length c.args.held.now) m ∷ []))) (long-is c.before)
 
-abbrev check-lent-at-lent : tie.After-lent → tie.After-check-lent
-check-lent-at-lent c = c.before.before
+no-lent : (c : tie.In-Refuse-check_lent) → Refuse c.in-Refuse-check_lent.lent ≡ answer (start-of-in-refuse-check_lent c)
+no-lent c = refuses _ (on-lent c.before.before) (is-lent c.before) c.in-Refuse-check_lent.is
 
-no-lent : (c : tie.After-lent) → Refuse c.lent.given.0.0 ≡ answer (st-len (at_len (check-lent-at-lent c)))
-no-lent c = let k = check-lent-at-lent c in refuses _ (on-lent (at_len k)) (is-lent k) c.lent.given.1
+on-short : (c : tie.After-check_room) → thens (shorts (start-of-check_room c)) ≡ answer (start-of-check_room c)
+on-short c = goes-on (on-lent c.before.before.before) (is-lent c.before.before) c.in_default-check_lent.is
 
--- 7 SHORT
-abbrev check-lent-at-enum-told4 : tie.After-enum-told4 → tie.After-check-lent
-check-lent-at-enum-told4 c = c.before.before
-
-abbrev at-lent : tie.After-check-room → tie.After-check-lent
-at-lent c = check-lent-at-enum-told4 c.before
-
-abbrev st-short : tie.After-check-room → tie.Start
-st-short c = st-len (at_len (at-lent c))
-
-on-short : (c : tie.After-check-room) → thens (shorts (st-short c)) ≡ answer (st-short c)
-on-short c = goes-on (on-lent (at_len (at-lent c))) (is-lent (at-lent c)) c.before.enum-told4.given.1
-
-is-short : (c : tie.After-check-room) → c.check-room.result ≡ asked (room_line (st-short c))
+is-short : (c : tie.After-check_room) → c.check_room.result ≡ asked (room_line (start-of-check_room c))
 is-short c =
-    c.check-room.ensures
-    ∙ ap (λ (m : ℕ). asked (short_line (st-short c).args.out.now (2 * m))) (at_len (at-lent c)).before.stripe-count.ensures.0
+    c.check_room.ensures
+    ∙ ap (λ (m : ℕ). asked (short_line c.args.out.now (2 * m))) c.stripe_count-stripes.ensures.0
 
-pub check-helper-spec : {M : Type 1} → statement M
-check-helper-spec =
+pub check_helper_spec : {M : Type 1} → statement M
+check_helper_spec =
     tie.close
     (tie.spec
     (λ c κs. search rules)
     (λ c. search rules)
-    (λ c. no-stated c.before)
+    (λ c. no-stated c)
     (λ c. search rules)
     (λ c. search rules)
     (λ c κs. search rules)
     (λ c. search rules)
-    (λ c. no_node c.before)
+    (λ c. no_node c)
     (λ c. search rules)
     (λ c. search rules)
     (λ c κs. search rules)
     (λ c. search rules)
-    (λ c. no-repeat c.before)
+    (λ c. no-repeat c)
     (λ c. search rules)
-    (λ c κs. stated-on (at-node (check-repeat-at-enum-told3 c)))
+    (λ c κs. stated-on c.before.before.before.before)
     (λ c κs. search rules)
     (λ c. omega (arith, long-few c))
     (λ c κs. search rules)
     (λ c. search rules)
-    (λ c. no-lent c.before)
+    (λ c. no-lent c)
     (λ c. search rules)
-    (λ c. omega (arith, (at_len (check-lent-at-enum-told4 c)).before.stripe-count.ensures.1))
+    (λ c. omega (arith, c.stripe_count-stripes.ensures.1))
     (λ c κs. search rules)
     (λ c. ends (on-short c) (is-short c)))

@@ -11,62 +11,54 @@ use Rattle.board_helper.proofs.Helps.{Helps, checked, helps, helper-refuses, hel
 use Rattle.board_helper.proofs.helper_packet.Statement.{statement}
 use Rattle.board_helper.proofs.helper_packet.Tie as tie
 
--- the places
-abbrev st : tie.After-check-helper → tie.Start
-st c = c.before.before.before.before.before
+-- places in the code
+abbrev start-of-in-default : tie.In_default → tie.Start
+start-of-in-default c = c.before.before.before.before.before
 
-abbrev check-helper-at-enum-told : tie.After-enum-told → tie.After-check-helper
-check-helper-at-enum-told c = c.before.before
+abbrev start-of-in-refuse : tie.In-Refuse → tie.Start
+start-of-in-refuse c = c.before.before.before.before.before
 
-abbrev at-check : tie.After-stripe-count → tie.After-check-helper
-at-check c = check-helper-at-enum-told c.before
+abbrev in-default-of-helper_packet-arg-1 : tie.After-helper_packet-arg-1 → tie.In_default
+in-default-of-helper_packet-arg-1 c = c.before.before.before.before.before.before.before
 
-abbrev at-inverses : tie.After-helper-packet-arg → tie.After-fill-inverses
-at-inverses c = c.before.before.before.before
+abbrev in-default-of-slice_known-2-1 : tie.After-slice_known-2-1 → tie.In_default
+in-default-of-slice_known-2-1 c = in-default-of-helper_packet-arg-1 c.before.before.before
 
-abbrev at_count : tie.After-helper-packet-arg → tie.After-stripe-count
-at_count c = (at-inverses c).before.before
+abbrev start-of-slice_known-2-1 : tie.After-slice_known-2-1 → tie.Start
+start-of-slice_known-2-1 c = start-of-in-default c.before.before.before.before.before.before.before.before.before.before
 
-abbrev at-packet : tie.After-slice-known2 → tie.After-helper-packet
-at-packet c = c.before.before
-
--- the points that it is given, its second argument
+-- the points that it is given
 abbrev given : tie.Start → List ℕ
-given g = g.args.t2
+given g = g.args.points
 
 -- what the check told
 abbrev answer : tie.Start → Check
 answer g = let a = g.args in checked a.sizes (given g) a.len a.helper a.receiver a.held.now a.out.now
 
-abbrev check-helper-at-x : tie.After-x → tie.After-check-helper
-check-helper-at-x c = c.before.before
+refusal : (c : tie.In-Refuse) → answer (start-of-in-refuse c) ≡ Refuse c.in-Refuse.x
+refusal c = sym c.check_helper.ensures ∙ c.in-Refuse.is
 
-refusal : (c : tie.After-x) → answer (st (check-helper-at-x c)) ≡ Refuse c.x.given.0.0
-refusal c = sym (check-helper-at-x c).check-helper.ensures ∙ c.x.given.1
+passed : (c : tie.In_default) → answer (start-of-in-default c) ≡ Pass
+passed c = sym c.check_helper.ensures ∙ c.in_default.is
 
-passed : (c : tie.After-enum-told) → answer (st (check-helper-at-enum-told c)) ≡ Pass
-passed c = sym (check-helper-at-enum-told c).check-helper.ensures ∙ c.enum_told.given.1
+facts : (c : tie.In_default)
+    → let a = c.args in Helps a.sizes (given (start-of-in-default c)) a.len a.helper a.receiver a.held.now a.out.now
+facts c = let a = c.args in helps a.sizes (given (start-of-in-default c)) a.len a.helper a.receiver a.held.now a.out.now (passed c)
 
-facts : (c : tie.After-enum-told)
-    → let g = st (check-helper-at-enum-told c) in let a = g.args in Helps a.sizes (given g) a.len a.helper a.receiver a.held.now a.out.now
-facts c = let g = st (check-helper-at-enum-told c) in let a = g.args in helps a.sizes (given g) a.len a.helper a.receiver a.held.now a.out.now (passed c)
-
-refused : tie.Need-returns
+refused : tie.Need-returns-in-Refuse
 refused c =
-    let g = st (check-helper-at-x c.before) in
-    let a = g.args in
-    helper-refuses a.sizes (given g) a.len a.helper a.receiver a.held.now a.out.now (refusal c.before)
+    let a = c.args in
+    helper-refuses a.sizes (given (start-of-in-refuse c)) a.len a.helper a.receiver a.held.now a.out.now (refusal c)
 
 -- the work
-packet-asks : tie.Need-helper-packet-requires
+packet-asks : tie.Need-helper_packet-requires
 packet-asks c κs =
-    let n = at_count c in
-    let f = facts n.before in
-    let e = n.stripe-count.ensures in (
+    let f = facts (in-default-of-helper_packet-arg-1 c) in
+    let e = c.stripe_count-stripes.ensures in (
       f.stated.is-legal,
       f.points-taken.long,
       f.points-taken.differ,
-      (at-inverses c).fill-inverses.ensures,
+      c.fill_inverses.ensures,
       e.1,
       f.helper-known,
       f.receiver-known,
@@ -74,17 +66,14 @@ packet-asks c κs =
       rw e.0 f.room,
     )
 
-done : tie.Need-returns-2
+done : tie.Need-returns
 done c =
-    let w = at-packet c in
-    let n = at_count w.before in
-    let g = st (at-check n) in
-    let a = g.args in
-    helper-works a.sizes (given g) a.len a.helper a.receiver a.held.now a.out.now _ _
-    (passed n.before) n.stripe-count.ensures.0 w.helper-packet.ensures
+    let a = c.args in
+    helper-works a.sizes (given (start-of-slice_known-2-1 c)) a.len a.helper a.receiver a.held.now a.out.now _ _
+    (passed (in-default-of-slice_known-2-1 c)) c.stripe_count-stripes.ensures.0 c.helper_packet.ensures
 
-pub helper-packet-spec : {M : Type 1} → statement M
-helper-packet-spec =
+pub helper_packet_spec : {M : Type 1} → statement M
+helper_packet_spec =
     tie.close
     (tie.spec
     (λ c. search rules)
@@ -99,6 +88,6 @@ helper-packet-spec =
     (λ c. search rules)
     (λ c. search rules)
     packet-asks
-    (λ c. omega (arith, (at_count (at-packet c).before).stripe-count.ensures.1))
+    (λ c. omega (arith, c.stripe_count-stripes.ensures.1))
     (λ c. search rules)
     done)

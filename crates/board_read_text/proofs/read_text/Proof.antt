@@ -1,11 +1,11 @@
 -- `board_read_text::read_text` meets its contract: each test is taken apart, and a refusal returned early.
 -- Assumes nothing.
-use mathlib.Core.Path.{◌≡◌, refl, sym, ap, ◌∙◌}
-use mathlib.Core.Bool.{true, false}
+use mathlib.Core.Path.{◌≡◌, ap, ◌∙◌}
+use mathlib.Core.Bool.{true}
 use mathlib.Core.List.{List, ◌++◌}
-use Prim.Native.Nat.{ℕ, ◌+◌, ◌*◌, ◌-◌, ◌≤◌, ◌<◌}
+use Prim.Native.Nat.{ℕ, ◌-◌}
 use native.Mathlib.Omega.{arith}
-use lib.ListN.{length, take, drop, length-append, length-drop}
+use lib.ListN.{length, drop}
 use lib.Seq.{length-take-le}
 use borrow.Author.Tests.{not-true, not-false}
 use Rattle.sizes.specs.Refusals.{said}
@@ -22,71 +22,71 @@ use Rattle.board_read_text.proofs.read_text.Tie as tie
 abbrev outcome : TextRead → List ℕ → ReadOutcome
 outcome r output = record { answer = said r.answer; sizes = r.sizes; points = r.points; node = r.node; length = r.length; output = output }
 
-abbrev st : tie.After-head-at → tie.Start
+abbrev st : tie.After-head_at-head → tie.Start
 st c = c.before.before.before
 
-abbrev h : tie.After-head-at → Head
-h c = c.head_at.result
+abbrev h : tie.After-head_at-head → Head
+h c = c.head_at-head.result
 
-abbrev text : tie.After-head-at → List ℕ
+abbrev text : tie.After-head_at-head → List ℕ
 text c = (st c).args.text.now
 
-abbrev out : tie.After-head-at → List ℕ
+abbrev out : tie.After-head_at-head → List ℕ
 out c = (st c).args.out.now
 
-stands : (c : tie.After-head-at) → Stands (text c) 0 (h c)
-stands c = c.head_at.ensures
+stands : (c : tie.After-head_at-head) → Stands (text c) 0 (h c)
+stands c = c.head_at-head.ensures
 
-returns : tie.Need-returns
+returns : tie.Need-returns-then-not-head
 returns c =
     let k = c.before.before.before in
-    ap (λ (r : TextRead). outcome r (out k)) c.refused.ensures ∙ refuses-lines (text k) (out k) (h k) (stands k) (not-true _ c.before.if1.true)
+    ap (λ (r : TextRead). outcome r (out k)) c.refused.ensures ∙ refuses-lines (text k) (out k) (h k) (stands k) (not-true _ c.before.if-not-head.true)
 
-abbrev head-at-at-else1 : tie.Else1 → tie.After-head-at
+abbrev head-at-at-else1 : tie.Else-not-head → tie.After-head_at-head
 head-at-at-else1 c = c.before.before
 
-there : (c : tie.Else1) → (h (head-at-at-else1 c)).ok ≡ true
-there c = not-false _ c.if1.false
+there : (c : tie.Else-not-head) → (h (head-at-at-else1 c)).ok ≡ true
+there c = not-false _ c.if-not-head.false
 
-returns-2 : tie.Need-returns-2
+returns-2 : tie.Need-returns-then-head-text
 returns-2 c =
     let e = c.before.before.before in
     let k = head-at-at-else1 e in
-    ap (λ (r : TextRead). outcome r (out k)) c.refused2.ensures ∙ refuses-behind (text k) (out k) (h k) (stands k) (there e) c.before.if2.true
+    ap (λ (r : TextRead). outcome r (out k)) c.refused-then-head-text.ensures ∙ refuses-behind (text k) (out k) (h k) (stands k) (there e) c.before.if-head-text.true
 
-abbrev else1-at-else2 : tie.Else2 → tie.Else1
+abbrev else1-at-else2 : tie.Else-head-text → tie.Else-not-head
 else1-at-else2 c = c.before.before
 
-whole : (c : tie.Else2) → let k = head-at-at-else1 (else1-at-else2 c) in (h k).next ≡ length (text k)
-whole c = c.if2.false
+whole : (c : tie.Else-head-text) → let k = head-at-at-else1 (else1-at-else2 c) in (h k).next ≡ length (text k)
+whole c = c.if-head-text.false
 
-returns-3 : tie.Need-returns-3
+returns-3 : tie.Need-returns-then-out-count
 returns-3 c =
     let w = c.before.before in
     let e = else1-at-else2 w in
     let k = head-at-at-else1 e in
-    ap (λ (r : TextRead). outcome r (out k)) c.refused3.ensures ∙ refuses-short (text k) (out k) (h k) (stands k) (there e) (whole w) c.before.if3.true
+    ap (λ (r : TextRead). outcome r (out k)) c.refused-then-out-count.ensures ∙ refuses-short (text k) (out k) (h k) (stands k) (there e) (whole w) c.before.if-out-count.true
 
-fill-pairs-requires : tie.Need-fill-pairs-requires
+fill-pairs-requires : tie.Need-fill_pairs-requires
 fill-pairs-requires c κs =
     let x = c.before in
     let e = else1-at-else2 x.before in
     let k = head-at-at-else1 e in
     let s = stands k in
-    let l = length-take-le (h k).count (out k) x.if3.false in
+    let l = length-take-le (h k).count (out k) x.if-out-count.false in
     omega (arith, s.within (there e), s.ends (there e), l)
 
-returns-4 : tie.Need-returns-4
+returns-4 : tie.Need-returns
 returns-4 c =
     let f = c.before.before.before.before in
     let x = f.before.before in
     let w = x.before in
     let e = else1-at-else2 w in
     let k = head-at-at-else1 e in
-    works (text k) (out k) (h k) (stands k) (there e) (whole w) x.if3.false _ (ap (λ (y : List ℕ). y ++ drop ((h k).count - 0) (out k)) f.fill-pairs.ensures)
+    works (text k) (out k) (h k) (stands k) (there e) (whole w) x.if-out-count.false _ (ap (λ (y : List ℕ). y ++ drop ((h k).count - 0) (out k)) f.fill_pairs.ensures)
 
-pub read-text-spec : {M : Type 1} → statement M
-read-text-spec =
+pub read_text_spec : {M : Type 1} → statement M
+read_text_spec =
     tie.close
     (tie.spec
     (λ c κs. search rules)

@@ -13,11 +13,27 @@ use Rattle.sizes.specs.Refusals.{Line, first, board_order}
 use Rattle.sizes.proofs.Legal.{legal-facts, α-most}
 use Rattle.board_spec.specs.Calls.{node_line, short_line, share_lines}
 use Rattle.line_checks.specs.Steps.{asked, stated_lines, Stated}
-use Rattle.checks.proofs.Chain.{thens, grouped, goes-on, refuses, ends}
-use Rattle.checks.proofs.Facts.{stated-facts}
-use Rattle.checks.proofs.Given.{as_many, few_bytes}
+use Rattle.board_lines.proofs.Chain.{thens, grouped, goes-on, refuses, ends}
+use Rattle.board_lines.proofs.Facts.{stated-facts}
+use Rattle.board_lines.proofs.Given.{as_many, few_bytes}
 use Rattle.board_share.proofs.check_share.Statement.{statement}
 use Rattle.board_share.proofs.check_share.Tie as tie
+
+-- places in the code
+abbrev start-of-in-refuse : tie.In-Refuse → tie.Start
+start-of-in-refuse c = c.before.before.before.before.before
+
+abbrev start-of-check_node : tie.After-check_node → tie.Start
+start-of-check_node c = c.before.before.before.before.before.before
+
+abbrev start-of-in-refuse-check_node : tie.In-Refuse-check_node → tie.Start
+start-of-in-refuse-check_node c = start-of-check_node c.before
+
+abbrev start-of-share_len : tie.After-share_len → tie.Start
+start-of-share_len c = start-of-check_node c.before.before.before
+
+abbrev start-of-check_room : tie.After-check_room → tie.Start
+start-of-check_room c = start-of-share_len c.before
 
 abbrev file : tie.Start → List ℕ
 file g = g.args.file.now
@@ -43,63 +59,44 @@ whole : (g : tie.Start) → thens (all g) ≡ answer g
 unfolding share_lines
 whole g = grouped (all g)
 
--- 1 SIZE, 3 LONG
-abbrev st-stated : tie.After-check-stated → tie.Start
-st-stated c = c.before.before.before.before
+no-stated : (c : tie.In-Refuse) → Refuse c.in-Refuse.stated ≡ answer (start-of-in-refuse c)
+no-stated c = refuses _ (whole (start-of-in-refuse c)) c.check_stated.ensures c.in-Refuse.is
 
-no-stated : (c : tie.After-stated) → Refuse c.stated.given.0.0 ≡ answer (st-stated c.before.before)
-no-stated c = let k = c.before.before in refuses _ (whole (st-stated k)) k.check-stated.ensures c.stated.given.1
+on-node : (c : tie.After-check_node) → thens (nodes (start-of-check_node c)) ≡ answer (start-of-check_node c)
+on-node c = goes-on (whole (start-of-check_node c)) c.check_stated.ensures c.in_default.is
 
--- 5 NODE
-abbrev at-stated : tie.After-check-node → tie.After-check-stated
-at-stated c = c.before.before.before
+no_node : (c : tie.In-Refuse-check_node) → Refuse c.in-Refuse-check_node.named ≡ answer (start-of-in-refuse-check_node c)
+no_node c = refuses _ (on-node c.before) c.check_node.ensures c.in-Refuse-check_node.is
 
-abbrev st-node : tie.After-check-node → tie.Start
-st-node c = st-stated (at-stated c)
+stated-on : (c : tie.After-check_node) → Stated c.args.sizes (length (file (start-of-check_node c)))
+stated-on c = stated-facts _ _ _ (sym c.check_stated.ensures ∙ c.in_default.is)
 
-on-node : (c : tie.After-check-node) → thens (nodes (st-node c)) ≡ answer (st-node c)
-on-node c = goes-on (whole (st-node c)) (at-stated c).check-stated.ensures c.before.enum_told.given.1
+on-short : (c : tie.After-share_len) → thens (shorts (start-of-share_len c)) ≡ answer (start-of-share_len c)
+on-short c = goes-on (on-node c.before.before.before) c.check_node.ensures c.in_default-check_node.is
 
-no_node : (c : tie.After-named) → Refuse c.named.given.0.0 ≡ answer (st-node c.before.before)
-no_node c = let k = c.before.before in refuses _ (on-node k) k.check-node.ensures c.named.given.1
-
-stated-on : (c : tie.After-check-node) → Stated (st-node c).args.sizes (length (file (st-node c)))
-stated-on c = stated-facts _ _ _ (sym (at-stated c).check-stated.ensures ∙ c.before.enum_told.given.1)
-
--- 7 SHORT
-abbrev at-node : tie.After-share-len → tie.After-check-node
-at-node c = c.before.before.before.before
-
-abbrev st-short : tie.After-share-len → tie.Start
-st-short c = st-node (at-node c)
-
-on-short : (c : tie.After-share-len) → thens (shorts (st-short c)) ≡ answer (st-short c)
-on-short c = let k = at-node c in goes-on (on-node k) k.check-node.ensures c.before.before.enum-told2.given.1
-
-few : (c : tie.After-share-len) → c.before.stripe-count.result * c.share-len.result ≤ 253952
+few : (c : tie.After-share_len) → c.stripe_count-stripes.result * c.share_len.result ≤ 253952
 few c =
-    let ok = (stated-on (at-node c)).is-legal in
-    few_bytes _ c.share-len.result _ _ c.before.stripe-count.ensures.1 c.share-len.ensures ok (α-most _ (legal-facts _ ok))
+    let ok = (stated-on c.before.before.before).is-legal in
+    few_bytes _ c.share_len.result _ _ c.stripe_count-stripes.ensures.1 c.share_len.ensures ok (α-most _ (legal-facts _ ok))
 
-is-short : (c : tie.After-check-room) → let g = st-short c.before in c.check-room.result ≡ asked (short_line g.args.out.now (count g))
+is-short : (c : tie.After-check_room) → c.check_room.result ≡ asked (short_line c.args.out.now (count (start-of-check_room c)))
 is-short c =
-    let k = c.before in
-    let many = as_many _ k.share-len.result _ _ _ k.before.stripe-count.ensures.0 k.share-len.ensures (stated-on (at-node k)).is-legal in
-    c.check-room.ensures ∙ ap (λ (m : ℕ). asked (short_line (st-short k).args.out.now m)) many
+    let many = as_many _ c.share_len.result _ _ _ c.stripe_count-stripes.ensures.0 c.share_len.ensures (stated-on c.before.before.before.before).is-legal in
+    c.check_room.ensures ∙ ap (λ (m : ℕ). asked (short_line c.args.out.now m)) many
 
-pub check-share-spec : {M : Type 1} → statement M
-check-share-spec =
+pub check_share_spec : {M : Type 1} → statement M
+check_share_spec =
     tie.close
     (tie.spec
     (λ c κs. search rules)
     (λ c. search rules)
-    (λ c. no-stated c.before)
+    (λ c. no-stated c)
     (λ c. search rules)
     (λ c κs. search rules)
     (λ c. search rules)
-    (λ c. no_node c.before)
+    (λ c. no_node c)
     (λ c. search rules)
-    (λ c κs. stated-on c.before.before)
+    (λ c κs. stated-on c.before)
     (λ c κs. search rules)
     (λ c. omega (arith, few c))
     (λ c κs. search rules)

@@ -7,64 +7,61 @@ use native.Mathlib.Omega.{arith}
 use borrow.Author.Rules.{rules}
 use Rattle.sizes.specs.declared.Check.TheVariants.{Pass}
 use Rattle.sizes.proofs.Legal.{legal-facts, α-most}
-use Rattle.checks.proofs.Given.{as_many, few_bytes}
+use Rattle.board_lines.proofs.Given.{as_many, few_bytes}
 use Rattle.board_share.proofs.ShareCall.{Shares, checked, share-facts, share-refuses, share-works}
 use Rattle.board_share.proofs.share.Statement.{statement}
 use Rattle.board_share.proofs.share.Tie as tie
 
--- the places
-abbrev st : tie.After-check-share → tie.Start
-st c = c.before.before.before.before.before
+-- places in the code
+abbrev start-of-in-default : tie.In_default → tie.Start
+start-of-in-default c = c.before.before.before.before.before
 
--- the points that it is given, its second argument
+abbrev start-of-in-refuse : tie.In-Refuse → tie.Start
+start-of-in-refuse c = c.before.before.before.before.before
+
+abbrev in-default-of-slice_known-2-1 : tie.After-slice_known-2-1 → tie.In_default
+in-default-of-slice_known-2-1 c = c.before.before.before.before.before.before.before
+
+abbrev start-of-slice_known-2-1 : tie.After-slice_known-2-1 → tie.Start
+start-of-slice_known-2-1 c = start-of-in-default c.before.before.before.before.before.before.before
+
+-- the points that it is given
 abbrev given : tie.Start → List ℕ
-given g = g.args.t2
-
-abbrev at_told : tie.After-share-len → tie.After-enum-told
-at_told c = c.before.before
-
-abbrev at-check : tie.After-enum-told → tie.After-check-share
-at-check c = c.before.before
+given g = g.args.points
 
 -- what the check told
-passed : (c : tie.After-enum-told) → let g = st (at-check c) in let a = g.args in checked a.sizes (given g) a.node a.file.now a.out.now ≡ Pass
-passed c = sym (at-check c).check-share.ensures ∙ c.enum_told.given.1
+passed : (c : tie.In_default) → let a = c.args in checked a.sizes (given (start-of-in-default c)) a.node a.file.now a.out.now ≡ Pass
+passed c = sym c.check_share.ensures ∙ c.in_default.is
 
-facts : (c : tie.After-enum-told) → let g = st (at-check c) in let a = g.args in Shares a.sizes (given g) a.node a.file.now a.out.now
-facts c = let g = st (at-check c) in let a = g.args in share-facts a.sizes (given g) a.node a.file.now a.out.now (passed c)
+facts : (c : tie.In_default) → let a = c.args in Shares a.sizes (given (start-of-in-default c)) a.node a.file.now a.out.now
+facts c = let a = c.args in share-facts a.sizes (given (start-of-in-default c)) a.node a.file.now a.out.now (passed c)
 
 -- the work
-few : (c : tie.After-share-len) → c.before.stripe-count.result * c.share-len.result ≤ 253952
+few : (c : tie.After-share_len) → c.stripe_count-stripes.result * c.share_len.result ≤ 253952
 few c =
-    let ok = (facts (at_told c)).stated.is-legal in
-    few_bytes _ c.share-len.result _ _ c.before.stripe-count.ensures.1 c.share-len.ensures ok (α-most _ (legal-facts _ ok))
+    let ok = (facts c.before.before).stated.is-legal in
+    few_bytes _ c.share_len.result _ _ c.stripe_count-stripes.ensures.1 c.share_len.ensures ok (α-most _ (legal-facts _ ok))
 
 share-asks : tie.Need-share-requires
 share-asks c κs =
-    let n = c.before.before.before in
-    let f = facts n.before in
-    let e = n.stripe-count.ensures in
+    let f = facts c.before.before.before.before in
+    let e = c.stripe_count-stripes.ensures in
     (f.stated.is-legal, f.known, omega (arith, (legal-facts _ f.stated.is-legal).few), e.0, e.1, rw e.0 f.room)
 
-share-done : tie.Need-returns-2
+share-done : tie.Need-returns
 share-done c =
-    let w = c.before.before in
-    let m = w.before.before.before in
-    let e = m.before.stripe-count.ensures.0 in
-    let g = st (at-check (at_told m)) in
-    let a = g.args in
-    let many = as_many _ m.share-len.result _ _ _ e m.share-len.ensures (facts (at_told m)).stated.is-legal in
-    share-works a.sizes (given g) a.node a.file.now a.out.now _ _ _ (passed (at_told m)) e many w.share.ensures
+    let e = c.stripe_count-stripes.ensures.0 in
+    let a = c.args in
+    let many = as_many _ c.share_len.result _ _ _ e c.share_len.ensures (facts (in-default-of-slice_known-2-1 c)).stated.is-legal in
+    share-works a.sizes (given (start-of-slice_known-2-1 c)) a.node a.file.now a.out.now _ _ _ (passed (in-default-of-slice_known-2-1 c)) e many c.share.ensures
 
-share-refused : tie.Need-returns
+share-refused : tie.Need-returns-in-Refuse
 share-refused c =
-    let k = c.before.before.before in
-    let g = st k in
-    let a = g.args in
-    share-refuses a.sizes (given g) a.node a.file.now a.out.now (sym k.check-share.ensures ∙ c.before.x.given.1)
+    let a = c.args in
+    share-refuses a.sizes (given (start-of-in-refuse c)) a.node a.file.now a.out.now (sym c.check_share.ensures ∙ c.in-Refuse.is)
 
-pub share-spec : {M : Type 1} → statement M
-share-spec =
+pub share_spec : {M : Type 1} → statement M
+share_spec =
     tie.close
     (tie.spec
     (λ c. search rules)

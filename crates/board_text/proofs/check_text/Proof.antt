@@ -15,13 +15,41 @@ use Rattle.sizes.proofs.Legal.{legal-facts, α-most}
 use Rattle.board_spec.specs.Text.{share_text}
 use Rattle.board_spec.specs.Calls.{node_line, area_line, short_line, text_lines}
 use Rattle.line_checks.specs.Steps.{asked, stated_lines, Stated}
-use Rattle.checks.proofs.Chain.{thens, grouped, goes-on, refuses, ends}
-use Rattle.checks.proofs.Facts.{stated-facts, taken-facts}
-use Rattle.checks.proofs.Given.{as_many, few_bytes}
+use Rattle.board_lines.proofs.Chain.{thens, grouped, goes-on, refuses, ends}
+use Rattle.board_lines.proofs.Facts.{stated-facts, taken-facts}
+use Rattle.board_lines.proofs.Given.{as_many, few_bytes}
 use Rattle.text_writer.specs.Steps.{Writes}
 use Rattle.board_text.proofs.TextCall.{writes}
 use Rattle.board_text.proofs.check_text.Statement.{statement}
 use Rattle.board_text.proofs.check_text.Tie as tie
+
+-- places in the code
+abbrev check_node-of-in-default-check_lent : tie.In_default-check_lent → tie.After-check_node
+check_node-of-in-default-check_lent c = c.before.before.before.before.before
+
+abbrev start-of-in-refuse : tie.In-Refuse → tie.Start
+start-of-in-refuse c = c.before.before.before.before.before
+
+abbrev start-of-check_node : tie.After-check_node → tie.Start
+start-of-check_node c = c.before.before.before.before.before.before
+
+abbrev start-of-in-refuse-check_node : tie.In-Refuse-check_node → tie.Start
+start-of-in-refuse-check_node c = start-of-check_node c.before
+
+abbrev start-of-share_len : tie.After-share_len → tie.Start
+start-of-share_len c = start-of-check_node c.before.before.before
+
+abbrev start-of-check_lent : tie.After-check_lent → tie.Start
+start-of-check_lent c = start-of-share_len c.before
+
+abbrev start-of-in-default-check_lent : tie.In_default-check_lent → tie.Start
+start-of-in-default-check_lent c = start-of-check_lent c.before
+
+abbrev start-of-in-refuse-check_lent : tie.In-Refuse-check_lent → tie.Start
+start-of-in-refuse-check_lent c = start-of-check_lent c.before
+
+abbrev start-of-check_room : tie.After-check_room → tie.Start
+start-of-check_room c = start-of-in-default-check_lent c.before.before
 
 abbrev text : tie.Start → List ℕ
 text g = share_text g.args.sizes g.args.points.now g.args.len g.args.node g.args.held.now
@@ -53,106 +81,71 @@ whole : (g : tie.Start) → thens (all g) ≡ answer g
 unfolding text_lines
 whole g = grouped (all g)
 
--- 1 SIZE, 3 LONG
-abbrev st-stated : tie.After-check-stated → tie.Start
-st-stated c = c.before.before.before.before
+no-stated : (c : tie.In-Refuse) → Refuse c.in-Refuse.stated ≡ answer (start-of-in-refuse c)
+no-stated c = refuses _ (whole (start-of-in-refuse c)) c.check_stated.ensures c.in-Refuse.is
 
-no-stated : (c : tie.After-stated) → Refuse c.stated.given.0.0 ≡ answer (st-stated c.before.before)
-no-stated c = let k = c.before.before in refuses _ (whole (st-stated k)) k.check-stated.ensures c.stated.given.1
+on-node : (c : tie.After-check_node) → thens (nodes (start-of-check_node c)) ≡ answer (start-of-check_node c)
+on-node c = goes-on (whole (start-of-check_node c)) c.check_stated.ensures c.in_default.is
 
--- 5 NODE
-abbrev at-stated : tie.After-check-node → tie.After-check-stated
-at-stated c = c.before.before.before
+no_node : (c : tie.In-Refuse-check_node) → Refuse c.in-Refuse-check_node.named ≡ answer (start-of-in-refuse-check_node c)
+no_node c = refuses _ (on-node c.before) c.check_node.ensures c.in-Refuse-check_node.is
 
-abbrev st-node : tie.After-check-node → tie.Start
-st-node c = st-stated (at-stated c)
+stated-on : (c : tie.After-check_node) → Stated c.args.sizes c.args.len
+stated-on c = stated-facts _ _ _ (sym c.check_stated.ensures ∙ c.in_default.is)
 
-on-node : (c : tie.After-check-node) → thens (nodes (st-node c)) ≡ answer (st-node c)
-on-node c = goes-on (whole (st-node c)) (at-stated c).check-stated.ensures c.before.enum_told.given.1
-
-no_node : (c : tie.After-named) → Refuse c.named.given.0.0 ≡ answer (st-node c.before.before)
-no_node c = let k = c.before.before in refuses _ (on-node k) k.check-node.ensures c.named.given.1
-
-stated-on : (c : tie.After-check-node) → Stated (st-node c).args.sizes (st-node c).args.len
-stated-on c = stated-facts _ _ _ (sym (at-stated c).check-stated.ensures ∙ c.before.enum_told.given.1)
-
-long-on : (c : tie.After-check-node) → length (st-node c).args.points.now ≡ 32
+long-on : (c : tie.After-check_node) → length c.args.points.now ≡ 32
 long-on c =
-    let a = (st-node c).args in
-    let e = sym (at-stated c).check-stated.ensures ∙ c.before.enum_told.given.1 in
+    let a = c.args in
+    let e = sym c.check_stated.ensures ∙ c.in_default.is in
     (taken-facts a.sizes a.points.now a.len e).long
 
--- 2 AREA
-abbrev enum-told2-at-share-len : tie.After-share-len → tie.After-enum-told2
-enum-told2-at-share-len c = c.before.before
+on-area : (c : tie.After-share_len) → thens (areas (start-of-share_len c)) ≡ answer (start-of-share_len c)
+on-area c = goes-on (on-node c.before.before.before) c.check_node.ensures c.in_default-check_node.is
 
-abbrev at-node : tie.After-share-len → tie.After-check-node
-at-node c = (enum-told2-at-share-len c).before.before
-
-abbrev st-area : tie.After-share-len → tie.Start
-st-area c = st-node (at-node c)
-
-on-area : (c : tie.After-share-len) → thens (areas (st-area c)) ≡ answer (st-area c)
-on-area c = let k = at-node c in goes-on (on-node k) k.check-node.ensures (enum-told2-at-share-len c).enum-told2.given.1
-
-few : (c : tie.After-share-len) → c.before.stripe-count.result * c.share-len.result ≤ 253952
+few : (c : tie.After-share_len) → c.stripe_count-stripes.result * c.share_len.result ≤ 253952
 few c =
-    let ok = (stated-on (at-node c)).is-legal in
-    few_bytes _ c.share-len.result _ _ c.before.stripe-count.ensures.1 c.share-len.ensures ok (α-most _ (legal-facts _ ok))
+    let ok = (stated-on c.before.before.before).is-legal in
+    few_bytes _ c.share_len.result _ _ c.stripe_count-stripes.ensures.1 c.share_len.ensures ok (α-most _ (legal-facts _ ok))
 
-is-area : (c : tie.After-check-lent) → c.check-lent.result ≡ asked (area-line (st-area c.before))
+is-area : (c : tie.After-check_lent) → c.check_lent.result ≡ asked (area-line (start-of-check_lent c))
 is-area c =
-    let k = c.before in
-    let many = as_many _ k.share-len.result _ _ _ k.before.stripe-count.ensures.0 k.share-len.ensures (stated-on (at-node k)).is-legal in
-    c.check-lent.ensures ∙ ap (λ (m : ℕ). asked (area_line (eqb (length (st-area k).args.held.now) m ∷ []))) many
+    let many = as_many _ c.share_len.result _ _ _ c.stripe_count-stripes.ensures.0 c.share_len.ensures (stated-on c.before.before.before.before).is-legal in
+    c.check_lent.ensures ∙ ap (λ (m : ℕ). asked (area_line (eqb (length c.args.held.now) m ∷ []))) many
 
-no-area : (c : tie.After-lent) → Refuse c.lent.given.0.0 ≡ answer (st-area c.before.before.before)
-no-area c = let k = c.before.before in refuses _ (on-area k.before) (is-area k) c.lent.given.1
+no-area : (c : tie.In-Refuse-check_lent) → Refuse c.in-Refuse-check_lent.lent ≡ answer (start-of-in-refuse-check_lent c)
+no-area c = refuses _ (on-area c.before.before) (is-area c.before) c.in-Refuse-check_lent.is
 
--- 7 SHORT
-abbrev at-area : tie.After-enum-told3 → tie.After-check-lent
-at-area c = c.before.before
+on-short : (c : tie.In_default-check_lent) → thens (shorts (start-of-in-default-check_lent c)) ≡ answer (start-of-in-default-check_lent c)
+on-short c = goes-on (on-area c.before.before) (is-area c.before) c.in_default-check_lent.is
 
-abbrev st-short : tie.After-enum-told3 → tie.Start
-st-short c = st-area (at-area c).before
-
-on-short : (c : tie.After-enum-told3) → thens (shorts (st-short c)) ≡ answer (st-short c)
-on-short c = let k = at-area c in goes-on (on-area k.before) (is-area k) c.enum-told3.given.1
-
-writes-on : (c : tie.After-enum-told3) → let a = (st-short c).args in Writes a.sizes a.points.now a.len a.node (length a.held.now)
+writes-on : (c : tie.In_default-check_lent) → let a = c.args in Writes a.sizes a.points.now a.len a.node (length a.held.now)
 writes-on c =
-    let k = at-area c in
-    let n = at-node k.before in
-    let named : asked (node-line (st-short c)) ≡ Pass = sym n.check-node.ensures ∙ (enum-told2-at-share-len k.before).enum-told2.given.1 in
-    writes _ _ _ _ _ (stated-on n) (long-on n) named (sym (is-area k) ∙ c.enum-told3.given.1)
+    let named : asked (node-line (start-of-in-default-check_lent c)) ≡ Pass = sym c.check_node.ensures ∙ c.in_default-check_node.is in
+    writes _ _ _ _ _ (stated-on (check_node-of-in-default-check_lent c)) (long-on (check_node-of-in-default-check_lent c)) named (sym (is-area c.before) ∙ c.in_default-check_lent.is)
 
-abbrev enum-told3-at-check-room : tie.After-check-room → tie.After-enum-told3
-enum-told3-at-check-room c = c.before.before
-
-is-short : (c : tie.After-check-room) → let g = st-short (enum-told3-at-check-room c) in c.check-room.result ≡ asked (short_line g.args.out.now (length (text g)))
+is-short : (c : tie.After-check_room) → c.check_room.result ≡ asked (short_line c.args.out.now (length (text (start-of-check_room c))))
 is-short c =
-    let g = st-short (enum-told3-at-check-room c) in
-    c.check-room.ensures ∙ ap (λ (m : ℕ). asked (short_line g.args.out.now m)) (c.before.text-len.ensures g.args.held.now refl)
+    c.check_room.ensures ∙ ap (λ (m : ℕ). asked (short_line c.args.out.now m)) (c.text_len.ensures c.args.held.now refl)
 
-pub check-text-spec : {M : Type 1} → statement M
-check-text-spec =
+pub check_text_spec : {M : Type 1} → statement M
+check_text_spec =
     tie.close
     (tie.spec
     (λ c κs. search rules)
     (λ c. search rules)
-    (λ c. no-stated c.before)
+    (λ c. no-stated c)
     (λ c. search rules)
     (λ c κs. search rules)
     (λ c. search rules)
-    (λ c. no_node c.before)
+    (λ c. no_node c)
     (λ c. search rules)
-    (λ c κs. stated-on c.before.before)
+    (λ c κs. stated-on c.before)
     (λ c κs. search rules)
     (λ c. omega (arith, few c))
     (λ c κs. search rules)
     (λ c. search rules)
-    (λ c. no-area c.before)
+    (λ c. no-area c)
     (λ c. search rules)
     (λ c κs. writes-on c)
     (λ c κs. search rules)
-    (λ c. ends (on-short (enum-told3-at-check-room c)) (is-short c)))
+    (λ c. ends (on-short c.before.before) (is-short c)))

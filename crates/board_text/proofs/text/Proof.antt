@@ -11,53 +11,51 @@ use Rattle.board_text.proofs.TextCall.{checked, text-writes, text-fits, text-ref
 use Rattle.board_text.proofs.text.Statement.{statement}
 use Rattle.board_text.proofs.text.Tie as tie
 
--- the places
-abbrev st : tie.After-check-text → tie.Start
-st c = c.before.before.before.before.before
+-- places in the code
+abbrev start-of-in-default : tie.In_default → tie.Start
+start-of-in-default c = c.before.before.before.before.before
 
-abbrev at-check : tie.After-enum-told → tie.After-check-text
-at-check c = c.before.before
+abbrev start-of-in-refuse : tie.In-Refuse → tie.Start
+start-of-in-refuse c = c.before.before.before.before.before
 
-abbrev at_told : tie.After-text-len → tie.After-enum-told
-at_told c = c.before.before
+abbrev in-default-of-slice_known-2-1 : tie.After-slice_known-2-1 → tie.In_default
+in-default-of-slice_known-2-1 c = c.before.before.before.before.before.before.before
 
--- the points that it is given, its second argument
+abbrev start-of-write_text-arg-1 : tie.After-write_text-arg-1 → tie.Start
+start-of-write_text-arg-1 c = start-of-in-default c.before.before.before.before
+
+abbrev start-of-slice_known-2-1 : tie.After-slice_known-2-1 → tie.Start
+start-of-slice_known-2-1 c = start-of-write_text-arg-1 c.before.before.before
+
+-- the points that it is given
 abbrev given : tie.Start → List ℕ
-given g = g.args.t2
+given g = g.args.points
 
 -- what the check told
-passed : (c : tie.After-enum-told) → let g = st (at-check c) in let a = g.args in checked a.sizes (given g) a.len a.node a.held.now a.out.now ≡ Pass
-passed c = sym (at-check c).check-text.ensures ∙ c.enum_told.given.1
+passed : (c : tie.In_default) → let a = c.args in checked a.sizes (given (start-of-in-default c)) a.len a.node a.held.now a.out.now ≡ Pass
+passed c = sym c.check_text.ensures ∙ c.in_default.is
 
-writes-on : (c : tie.After-enum-told) → let g = st (at-check c) in let a = g.args in Writes a.sizes (given g) a.len a.node (length a.held.now)
-writes-on c = let g = st (at-check c) in let a = g.args in text-writes a.sizes (given g) a.len a.node a.held.now a.out.now (passed c)
+writes-on : (c : tie.In_default) → let a = c.args in Writes a.sizes (given (start-of-in-default c)) a.len a.node (length a.held.now)
+writes-on c = let a = c.args in text-writes a.sizes (given (start-of-in-default c)) a.len a.node a.held.now a.out.now (passed c)
 
 -- the work
-write-asks : tie.Need-write-text-requires
+write-asks : tie.Need-write_text-requires
 write-asks c κs =
-    let t = at_told c.before.before in
-    let g = st (at-check t) in
-    let a = g.args in
-    text-fits a.sizes (given g) a.len a.node a.held.now a.out.now (passed t)
+    let a = c.args in
+    text-fits a.sizes (given (start-of-write_text-arg-1 c)) a.len a.node a.held.now a.out.now (passed c.before.before.before.before)
 
-text-done : tie.Need-returns-2
+text-done : tie.Need-returns
 text-done c =
-    let w = c.before.before in
-    let n = w.before.before.before in
-    let t = at_told n in
-    let g = st (at-check t) in
-    let a = g.args in
-    text-works a.sizes (given g) a.len a.node a.held.now a.out.now _ _ (passed t) (n.text-len.ensures a.held.now refl) w.write-text.ensures
+    let a = c.args in
+    text-works a.sizes (given (start-of-slice_known-2-1 c)) a.len a.node a.held.now a.out.now _ _ (passed (in-default-of-slice_known-2-1 c)) (c.text_len-text_len.ensures a.held.now refl) c.write_text.ensures
 
-text-refused : tie.Need-returns
+text-refused : tie.Need-returns-in-Refuse
 text-refused c =
-    let k = c.before.before.before in
-    let g = st k in
-    let a = g.args in
-    text-refuses a.sizes (given g) a.len a.node a.held.now a.out.now (sym k.check-text.ensures ∙ c.before.x.given.1)
+    let a = c.args in
+    text-refuses a.sizes (given (start-of-in-refuse c)) a.len a.node a.held.now a.out.now (sym c.check_text.ensures ∙ c.in-Refuse.is)
 
-pub text-spec : {M : Type 1} → statement M
-text-spec =
+pub text_spec : {M : Type 1} → statement M
+text_spec =
     tie.close
     (tie.spec
     (λ c. search rules)

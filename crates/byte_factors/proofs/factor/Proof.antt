@@ -12,36 +12,25 @@ use native.Mathlib.Omega.{arith}
 use Rattle.byte_factors.proofs.factor.Statement.{statement}
 use Rattle.byte_factors.proofs.factor.Tie as tie
 
--- the places
-abbrev here : tie.After-shared-slice-known4 → tie.After-product-but2
-here c = c.before
-
-abbrev own : tie.After-shared-slice-known4 → tie.After-product-but
-own c = (here c).before
-
-abbrev st : tie.After-shared-slice-known4 → tie.Start
-st c = (own c).before.before.before.before
-
 -- the product at the point itself is a byte
-byte : (c : tie.After-shared-slice-known4) → (own c).product-but.result < 256
+byte : (c : tie.After-product_but-here) → c.product_but-own.result < 256
 byte c =
-    let a = (st c).args in
-    product-byte (others a.xs.now a.t) _ _ (own c).product-but.ensures
+    let a = c.args in
+    product-byte (others a.xs.now a.t) _ _ c.product_but-own.ensures
 
-shared-slice-read-multiples-of : tie.Need-shared-slice-read-multiples-of
+shared-slice-read-multiples-of : tie.Need-bounds-inverses-own
 shared-slice-read-multiples-of c =
-    let n : length (st c).args.inverses.now ≡ 256 = ap length (st c).requires.0 ∙ length-tabulate 256 inverse in
-    omega (arith, n, byte c)
+    let n : length c.args.inverses.now ≡ 256 = ap length c.requires.0 ∙ length-tabulate 256 inverse in
+    omega (arith, n, byte c.before)
 
 returns : tie.Need-returns
 returns c =
-    let k = c.before.before in
-    let a = (st k).args in
-    factor-is a.xs.now a.inverses.now a.t a.y _ _ _ _ (st k).requires.0 (byte k) (own k).product-but.ensures (here k).product-but2.ensures
-    c.before.multiples-of.ensures.0 c.times.ensures
+    let a = c.args in
+    factor-is a.xs.now a.inverses.now a.t a.y _ _ _ _ c.requires.0 (byte c.before.before.before) c.product_but-own.ensures c.product_but-here.ensures
+    c.multiples_of.ensures.0 c.times.ensures
 
-pub factor-spec : {M : Type 1} → statement M
-factor-spec =
+pub factor_spec : {M : Type 1} → statement M
+factor_spec =
     tie.close
     (tie.spec
     (λ c. search rules)
@@ -50,5 +39,5 @@ factor-spec =
     (λ c. search rules)
     shared-slice-read-multiples-of
     (λ c κs. search rules)
-    (λ c κs. c.multiples-of.ensures.1)
+    (λ c κs. c.multiples_of.ensures.1)
     returns)

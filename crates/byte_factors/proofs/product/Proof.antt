@@ -2,7 +2,7 @@
 -- Assumes nothing.
 use mathlib.Core.Path.{◌≡◌}
 use Prim.Native.Nat.{◌≤◌, ◌<◌, ◌-◌}
-use lib.ListN.{length, drop}
+use lib.ListN.{drop}
 use Rattle.gf256.specs.Field.{add, mul}
 use Rattle.gf256.proofs.Field.{mul-lt}
 use Rattle.lagrange.specs.Steps.{differences}
@@ -12,40 +12,40 @@ use native.Mathlib.Omega.{arith}
 use Rattle.byte_factors.proofs.product.Statement.{statement}
 use Rattle.byte_factors.proofs.product.Tie as tie
 
-abbrev invariant-loop : tie.invariant-loop
+abbrev invariant-loop : tie.invariant-loop-u
 invariant-loop xs y m total₀ u₀ total u = (mul total (differences (drop u xs) y) ≡ differences xs y) × (u ≤ m) × (total < 256)
 
-abbrev decreases-loop : tie.decreases-loop
+abbrev decreases-loop : tie.decreases-loop-u
 decreases-loop xs y m total₀ u₀ total u = m - u
 
 -- the places
-abbrev loop-at-times : tie.After-times invariant-loop decreases-loop → tie.At-loop invariant-loop decreases-loop
+abbrev loop-at-times : tie.After-times-total invariant-loop decreases-loop → tie.At-loop-u invariant-loop decreases-loop
 loop-at-times c = c.before.before.before.before
 
-abbrev st-at-loop : tie.At-loop invariant-loop decreases-loop → tie.Start invariant-loop decreases-loop
+abbrev st-at-loop : tie.At-loop-u invariant-loop decreases-loop → tie.Start invariant-loop decreases-loop
 st-at-loop c = c.before.before
 
-loop-holds : tie.Need-loop-init invariant-loop decreases-loop
+loop-holds : tie.Need-loop-u-init invariant-loop decreases-loop
 loop-holds c = (product-first c.before.args.xs.now c.before.args.y, omega arith, omega arith)
 
-loop-again : tie.Need-loop-preserved invariant-loop decreases-loop
+loop-again : tie.Need-loop-u-preserved invariant-loop decreases-loop
 unfolding add
 loop-again c =
-    let l = (loop-at-times c).loop in
+    let l = (loop-at-times c).loop-u in
     let a = (st-at-loop (loop-at-times c)).args in (
-      product-turn a.xs.now a.y l.u l.total _ _ (omega arith) c.before.before.multiples-of.ensures.0 c.times.ensures l.inv.0,
+      product-turn a.xs.now a.y l.u l.total _ _ (omega arith) c.before.before.multiples_of-f.ensures.0 c.times-total.ensures l.invariant.0,
       omega arith,
-      rw c.times.ensures (mul-lt _ _),
+      rw c.times-total.ensures (mul-lt _ _),
     )
 
 returns : tie.Need-returns invariant-loop decreases-loop
 returns c =
-    let l = c.before.loop in
+    let l = c.before.loop-u in
     let a = (st-at-loop c.before).args in
     product-end a.xs.now a.y l.u l.total (omega arith) l.invariant.2 l.invariant.0
 
-pub product-spec : {M : Type 1} → statement M
-product-spec =
+pub product_spec : {M : Type 1} → statement M
+product_spec =
     tie.close
     (tie.spec
     invariant-loop
@@ -53,7 +53,7 @@ product-spec =
     loop-holds
     (λ c κs. search rules)
     (λ c. search rules)
-    (λ c κs. c.before.multiples-of.ensures.1)
+    (λ c κs. c.before.multiples_of-f.ensures.1)
     (λ c. search rules)
     (λ c. search rules)
     loop-again

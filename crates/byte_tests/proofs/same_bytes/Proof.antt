@@ -11,47 +11,47 @@ use Rattle.byte_tests.proofs.Compared.{same-lengths, same-no, same_next, same_en
 use Rattle.byte_tests.proofs.same_bytes.Statement.{statement}
 use Rattle.byte_tests.proofs.same_bytes.Tie as tie
 
-abbrev invariant-loop : tie.invariant-loop
+abbrev invariant-loop : tie.invariant-loop-i
 invariant-loop a b i₀ i = same (drop i a) (drop i b) ≡ same a b
 
-abbrev decreases-loop : tie.decreases-loop
+abbrev decreases-loop : tie.decreases-loop-i
 decreases-loop a b i₀ i = length a - i
 
 -- the places: the loop's turn, and the lists
-abbrev turn : tie.After-shared-slice-known2 invariant-loop decreases-loop → tie.In-loop invariant-loop decreases-loop
+abbrev turn : tie.After-shared_slice_known-in-loop-i-1 invariant-loop decreases-loop → tie.In-loop-i invariant-loop decreases-loop
 turn c = c.before.before
 
-abbrev a : tie.At-loop invariant-loop decreases-loop → List ℕ
+abbrev a : tie.At-loop-i invariant-loop decreases-loop → List ℕ
 a l = l.before.before.args.a.now
 
-abbrev b : tie.At-loop invariant-loop decreases-loop → List ℕ
+abbrev b : tie.At-loop-i invariant-loop decreases-loop → List ℕ
 b l = l.before.before.args.b.now
 
-returns : tie.Need-returns invariant-loop decreases-loop
-returns c = sym (same-lengths c.before.args.a.now c.before.args.b.now c.if1.true)
+returns : tie.Need-returns-then-a-b invariant-loop decreases-loop
+returns c = sym (same-lengths c.before.args.a.now c.before.args.b.now c.if-a-b.true)
 
-loop-holds : tie.Need-loop-init invariant-loop decreases-loop
+loop-holds : tie.Need-loop-i-init invariant-loop decreases-loop
 loop-holds c = refl
 
-returns-2 : tie.Need-returns-2 invariant-loop decreases-loop
+returns-2 : tie.Need-returns-then-a-i invariant-loop decreases-loop
 returns-2 c =
     let t = turn c.before in
     let l = t.before in
-    sym (sym l.loop.inv ∙ same-no (a l) (b l) l.loop.i t.loop-test.taken (omega (arith, l.before.if1.left, t.loop-test.taken)) c.if2.true)
+    sym (sym l.loop-i.invariant ∙ same-no (a l) (b l) l.loop-i.i t.loop-i-test.true (omega (arith, l.before.if-a-b.false, t.loop-i-test.true)) c.if-a-i.true)
 
-loop-again : tie.Need-loop-preserved invariant-loop decreases-loop
+loop-again : tie.Need-loop-i-preserved invariant-loop decreases-loop
 loop-again c =
     let t = turn c.before in
     let l = t.before in
-    same_next (a l) (b l) l.loop.i t.loop-test.taken (omega (arith, l.before.if1.left, t.loop-test.taken)) c.if2.false ∙ l.loop.inv
+    same_next (a l) (b l) l.loop-i.i t.loop-i-test.true (omega (arith, l.before.if-a-b.false, t.loop-i-test.true)) c.if-a-i.false ∙ l.loop-i.invariant
 
-returns-3 : tie.Need-returns-3 invariant-loop decreases-loop
+returns-3 : tie.Need-returns invariant-loop decreases-loop
 returns-3 c =
     let l = c.before in
-    sym (sym l.loop.invariant ∙ same_ends (a l) (b l) l.loop.i c.loop-test.false (omega (arith, l.before.if1.false, c.loop-test.false)))
+    sym (sym l.loop-i.invariant ∙ same_ends (a l) (b l) l.loop-i.i c.loop-i-test.false (omega (arith, l.before.if-a-b.false, c.loop-i-test.false)))
 
-pub same-bytes-spec : {M : Type 1} → statement M
-same-bytes-spec =
+pub same_bytes_spec : {M : Type 1} → statement M
+same_bytes_spec =
     tie.close
     (tie.spec
     invariant-loop

@@ -1,7 +1,7 @@
 -- `careful_pairs::told` meets its contract: by whether each of the two holds its share.
 -- Assumes nothing.
-use mathlib.Core.Path.{◌≡◌, refl}
-use mathlib.Core.Bool.{Bool, true, false}
+use mathlib.Core.Path.{◌≡◌, refl, ap}
+use mathlib.Core.Bool.{Bool, true, false, not}
 use Prim.Native.Nat.{ℕ, ◌+◌}
 use native.Mathlib.Omega.{arith}
 use borrow.Author.Rules.{rules}
@@ -20,12 +20,12 @@ second-not a b x y e h = rw (e, h) (refl, omega arith)
 both : (a b : Bool) (x y : ℕ) → a ≡ true → b ≡ true → (true ≡ found_of a b) × (◌≡◌ {A = ℕ} 0 (odd_of a b x y))
 both a b x y e h = rw (e, h) (refl, refl)
 
-pub told-spec : {M : Type 1} → statement M
-told-spec =
+pub told_spec : {M : Type 1} → statement M
+told_spec =
     tie.close
     (tie.spec
     (λ c. search rules)
-    (λ c. let a = c.before.args in first-not a.first a.second a.x a.y (not-true a.first c.if1.true))
+    (λ c. let a = c.args in first-not a.first a.second a.x a.y (not-true a.first (ap not c.if-not-first.true)))
     (λ c. search rules)
-    (λ c. let a = c.before.before.args in second-not a.first a.second a.x a.y (not-false a.first c.before.if1.false) (not-true a.second c.if2.true))
-    (λ c. let a = c.before.before.args in both a.first a.second a.x a.y (not-false a.first c.before.if1.false) (not-false a.second c.if2.false)))
+    (λ c. let a = c.args in second-not a.first a.second a.x a.y (not-false a.first (ap not c.if-not-first.false)) (not-true a.second (ap not c.if-not-second.true)))
+    (λ c. let a = c.args in both a.first a.second a.x a.y (not-false a.first (ap not c.if-not-first.false)) (not-false a.second (ap not c.if-not-second.false))))

@@ -3,7 +3,7 @@
 use mathlib.Core.Path.{◌≡◌, refl, sym, ◌∙◌, subst}
 use mathlib.Core.Bool.{true}
 use mathlib.Core.List.{List}
-use Prim.Native.Nat.{ℕ, ◌*◌, ◌-◌, ◌≤◌}
+use Prim.Native.Nat.{ℕ, ◌*◌, ◌≤◌}
 use native.Mathlib.Nat.{mul-le-mul_right}
 use native.Mathlib.Omega.{arith}
 use lib.ListN.{length, replicate}
@@ -18,21 +18,53 @@ use Rattle.record.specs.Records.{record_of}
 use Rattle.decode_stripe.specs.Steps.{Asked}
 use Rattle.decode_stripe.proofs.Made.{part-long}
 use Rattle.decode_setup.specs.Steps.{Made}
-use Rattle.store_holds.proofs.Stripes.{stripes-few, own-most, own_back}
+use Rattle.stripe_holds.proofs.Compared.{own-most, own_back}
+use Rattle.store_holds.proofs.Stripes.{stripes-few}
 use Rattle.careful_tries.specs.Steps.{Found}
 use Rattle.careful_tries.proofs.Found.{written_is}
 use Rattle.careful_tries.proofs.read_file.Statement.{statement}
 use Rattle.careful_tries.proofs.read_file.Tie as tie
 
 -- places in the code
-abbrev st : tie.After-stripe-count → tie.Start
+abbrev start-of-points-1 : tie.After-points-1 → tie.Start
+start-of-points-1 c = c.before.before.before.before.before
+
+abbrev tries-tried-of-points-2-1 : tie.After-points-2-1 → tie.After-tries-tried
+tries-tried-of-points-2-1 c = c.before.before.before.before.before
+
+abbrev start-of-stripe_count-stripes : tie.After-stripe_count-stripes → tie.Start
+start-of-stripe_count-stripes c = start-of-points-1 c.before
+
+abbrev else-not-tried-of-slice_known-2-1 : tie.After-slice_known-2-1 → tie.Else-not-tried
+else-not-tried-of-slice_known-2-1 c = c.before.before.before.before.before.before.before
+
+abbrev start-of-tables-1 : tie.After-tables-1 → tie.Start
+start-of-tables-1 c = start-of-stripe_count-stripes c.before.before
+
+abbrev tries-tried-of-write_file-arg-2-1 : tie.After-write_file-arg-2-1 → tie.After-tries-tried
+tries-tried-of-write_file-arg-2-1 c = tries-tried-of-points-2-1 c.before.before.before
+
+abbrev start-of-tries-tried : tie.After-tries-tried → tie.Start
+start-of-tries-tried c = start-of-tables-1 c.before
+
+abbrev stripe_count-stripes-of-write_file-arg-2-1 : tie.After-write_file-arg-2-1 → tie.After-stripe_count-stripes
+stripe_count-stripes-of-write_file-arg-2-1 c = c.before.before.before.before.before.before.before.before.before.before.before
+
+abbrev tries-tried-of-slice_known-2-1 : tie.After-slice_known-2-1 → tie.After-tries-tried
+tries-tried-of-slice_known-2-1 c = tries-tried-of-write_file-arg-2-1 c.before.before.before
+
+abbrev start-of-write_file-arg-2-1 : tie.After-write_file-arg-2-1 → tie.Start
+start-of-write_file-arg-2-1 c = start-of-tries-tried c.before.before.before.before.before.before.before.before
+
+abbrev start-of-slice_known-2-1 : tie.After-slice_known-2-1 → tie.Start
+start-of-slice_known-2-1 c = start-of-write_file-arg-2-1 c.before.before.before
+
+-- places in the code
+abbrev st : tie.After-stripe_count-stripes → tie.Start
 st c = c.before.before.before.before.before.before
 
-abbrev count-at-tries : tie.After-tries → tie.After-stripe-count
+abbrev count-at-tries : tie.After-tries-tried → tie.After-stripe_count-stripes
 count-at-tries c = c.before.before.before
-
-abbrev tries-at-file : tie.Else1 → tie.After-tries
-tries-at-file c = c.before.before.before.before
 
 -- ---- what is given
 
@@ -48,93 +80,84 @@ facts g = legal-facts _ (good g).is-legal
 not-long : (g : tie.Start) → g.args.kept.length ≤ 4096 * B g.args.kept.sizes
 not-long g =
     let q : g.args.kept.capacity * B g.args.kept.sizes ≤ 4096 * B g.args.kept.sizes = mul-le-mul_right (B g.args.kept.sizes) (good g).cap-high in
-    omega (arith, q, (good g).ranges)
+    omega (arith, q, (good g).fits)
 
-few : (c : tie.After-stripe-count) → c.stripe-count.result ≤ (st c).args.kept.capacity
-few c = omega (arith, c.stripe-count.ensures.0, stripes-few (R (st c)) (good (st c)))
+few : (c : tie.After-stripe_count-stripes) → c.stripe_count-stripes.result ≤ c.args.kept.capacity
+few c = omega (arith, c.stripe_count-stripes.ensures.0, stripes-few (R (start-of-stripe_count-stripes c)) (good (start-of-stripe_count-stripes c)))
 
 abbrev zeros : List ℕ
 zeros = replicate 32 0
 
 -- ---- the boards of the try that found the file, as they are lent again
-module _ (c : tie.After-tries) where
+module _ (c : tie.After-tries-tried) where
   abbrev g : tie.Start
   g = st (count-at-tries c)
 
   abbrev k : ℕ
-  k = g.args.kept.sizes.k
+  k = c.args.kept.sizes.k
 
   abbrev chosen : List ℕ
-  chosen = c.tries.new.1.1.1.1.0
+  chosen = c.tries-tried.new.chosen
 
   abbrev tables : List ℕ
-  tables = c.tries.new.1.1.1.1.1.0
+  tables = c.tries-tried.new.tables
 
   long : length chosen ≡ k
-  long = c.tries.auto.1.1.1.1.0 ∙ part-long k zeros (omega (arith, facts g))
+  long = c.tries-tried.auto.chosen ∙ part-long k zeros (omega (arith, facts (start-of-tries-tried c)))
 
-  module _ (yes : c.tries.result.found ≡ true) where
-    found : Found (R g) g.args.boards.now g.args.area.now chosen tables c.tries.result.odd
-    found = c.tries.ensures.1 yes
+  module _ (yes : c.tries-tried.result.found ≡ true) where
+    found : Found (R g) g.args.boards.now g.args.area.now chosen tables c.tries-tried.result.odd
+    found = c.tries-tried.ensures.1 yes
 
     lent-made : (l : List ℕ) → l ≡ chosen → Asked g.args.kept.sizes g.args.kept.points l × Made g.args.kept.sizes g.args.kept.points l tables
     lent-made l e =
         subst (λ (b : List ℕ). Asked g.args.kept.sizes g.args.kept.points b × Made g.args.kept.sizes g.args.kept.points b tables) (sym e)
         (record { sized = (good g).is-legal; distinct = sound-points (R g) (good g); counted = found.named.0; known = found.named.1; unlike = found.named.2 }, found.made)
 
-yes-at : (c : tie.Else1) → (tries-at-file c).tries.result.found ≡ true
-yes-at c = not-false (tries-at-file c).tries.result.found c.if1.false
+yes-at : (c : tie.Else-not-tried) → c.tries-tried.result.found ≡ true
+yes-at c = not-false c.tries-tried.result.found c.if-not-tried.false
 
-file-requires : tie.Need-file-requires
+file-requires : tie.Need-write_file-requires
 file-requires c κs =
-    let e = c.before.before.before.before.before in
-    let m = tries-at-file e in
-    let n = count-at-tries m in
-    let q = g m in
-    let w = lent-made m (yes-at e) _ (own_back (k m) zeros (chosen m) (long m)) in
-    (w.0, n.stripe-count.ensures.0, (good q).cap-high, few n, q.pre.0.area-is, w.1, q.pre.1)
+    let w = lent-made (tries-tried-of-write_file-arg-2-1 c) (yes-at c.before.before.before.before) _ (own_back (k (tries-tried-of-write_file-arg-2-1 c)) zeros (chosen (tries-tried-of-write_file-arg-2-1 c)) (long (tries-tried-of-write_file-arg-2-1 c))) in
+    (w.0, c.stripe_count-stripes.ensures.0, (good (start-of-write_file-arg-2-1 c)).cap-high, few (stripe_count-stripes-of-write_file-arg-2-1 c), c.requires.0.area-is, w.1, c.requires.1)
 
-returns : tie.Need-returns
+returns : tie.Need-returns-then-not-tried
 returns c =
-    let m = c.before.before.before.before in
-    let no = not-true m.tries.result.found c.if1.true in
-    (m.tries.ensures.0, ((λ h. absurd (true-false h no)), ((λ h. absurd (true-false h no)), (λ h. refl))))
+    let no = not-true c.tries-tried.result.found c.if-not-tried.true in
+    (c.tries-tried.ensures.0, ((λ h. absurd (true-false h no)), ((λ h. absurd (true-false h no)), (λ h. refl))))
 
-returns-2 : tie.Need-returns-2
+returns-2 : tie.Need-returns
 returns-2 c =
-    let n = c.before.before in
-    let e = n.before.before.before.before.before.before in
-    let m = tries-at-file e in
-    let q = g m in
-    let yes = yes-at e in
-    let f = found m yes in (
-      m.tries.ensures.0,
+    let yes = yes-at (else-not-tried-of-slice_known-2-1 c) in
+    let f = found (tries-tried-of-slice_known-2-1 c) yes in (
+      c.tries-tried.ensures.0,
       (
         (λ h. f.is_odd),
         (
           (λ h.
-              written_is (R q) (facts q) q.args.area.now q.args.boards.now (chosen m) _ (tables m) q.args.out.now _ _ f
-              (own_back (k m) zeros (chosen m) (long m)) n.file.ensures),
+              written_is (R (start-of-slice_known-2-1 c)) (facts (start-of-slice_known-2-1 c)) c.args.area.now c.args.boards.now (chosen (tries-tried-of-slice_known-2-1 c)) _ (tables (tries-tried-of-slice_known-2-1 c)) c.args.out.now _ _ f
+              (own_back (k (tries-tried-of-slice_known-2-1 c)) zeros (chosen (tries-tried-of-slice_known-2-1 c)) (long (tries-tried-of-slice_known-2-1 c))) c.write_file.ensures),
           (λ h. absurd (true-false yes h)),
         ),
       ),
     )
 
-pub read-file-spec : {M : Type 1} → statement M
-read-file-spec =
+pub read_file_spec : {M : Type 1} → statement M
+read_file_spec =
     tie.close
     (tie.spec
-    (λ c κs. let q = c.before.before.before.before.before in record { is-legal = (good q).is-legal; not-long = not-long q })
+    (λ c κs. record { is-legal = (good (start-of-points-1 c)).is-legal; not-long = not-long (start-of-points-1 c) })
     (λ c. search rules)
     (λ c. search rules)
-    (λ c. omega (arith, facts (st c)))
+    (λ c. omega (arith, facts (start-of-stripe_count-stripes c)))
     (λ c. search rules)
-    (λ c κs. let n = c.before.before in let q = st n in (q.pre.0, n.stripe-count.ensures.0, part-long _ _ (omega (arith, facts q)), search rules))
+    (λ c κs. (c.requires.0, c.stripe_count-stripes.ensures.0, part-long _ _ (omega (arith, facts (start-of-tables-1 c))), search rules))
     returns
     (λ c. search rules)
     (λ c. search rules)
     (λ c. search rules)
-    (λ c. let m = tries-at-file c.before.before in own-most (k m) zeros (chosen m) (long m))
+    (λ c. own-most (k (tries-tried-of-points-2-1 c)) zeros (chosen (tries-tried-of-points-2-1 c)) (long (tries-tried-of-points-2-1 c)))
     (λ c. search rules)
     file-requires
     (λ c. search rules)

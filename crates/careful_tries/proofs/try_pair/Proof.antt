@@ -31,23 +31,50 @@ use Rattle.careful_tries.proofs.try_pair.Statement.{statement}
 use Rattle.careful_tries.proofs.try_pair.Tie as tie
 
 -- places in the code
-abbrev st-arg : tie.After-leave-pair-arg → tie.Start
-st-arg c = c.before.before.before.before.before.before.before.before.before
+abbrev told-told-of-in-default : tie.In_default → tie.After-told-told
+told-told-of-in-default c = c.before.before.before.before.before
 
-abbrev st : tie.After-leave-pair → tie.Start
+abbrev told-told-of-in-refuse : tie.In-Refuse → tie.After-told-told
+told-told-of-in-refuse c = c.before.before.before.before.before
+
+abbrev leave_pair-of-slice_known-4-1 : tie.After-slice_known-4-1 → tie.After-leave_pair
+leave_pair-of-slice_known-4-1 c = c.before.before.before.before.before.before.before
+
+abbrev leave_pair-of-told-told : tie.After-told-told → tie.After-leave_pair
+leave_pair-of-told-told c = leave_pair-of-slice_known-4-1 c.before.before
+
+abbrev start-of-leave_pair-arg-1 : tie.After-leave_pair-arg-1 → tie.Start
+start-of-leave_pair-arg-1 c = c.before.before.before.before.before.before.before.before.before
+
+abbrev start-of-leave_pair : tie.After-leave_pair → tie.Start
+start-of-leave_pair c = start-of-leave_pair-arg-1 c.before
+
+abbrev leave_pair-of-points-3-1 : tie.After-points-3-1 → tie.After-leave_pair
+leave_pair-of-points-3-1 c = leave_pair-of-told-told c.before.before.before
+
+abbrev start-of-fill_tables-arg-1 : tie.After-fill_tables-arg-1 → tie.Start
+start-of-fill_tables-arg-1 c = start-of-leave_pair c.before.before.before.before
+
+abbrev start-of-slice_known-4-1 : tie.After-slice_known-4-1 → tie.Start
+start-of-slice_known-4-1 c = start-of-fill_tables-arg-1 c.before.before.before
+
+abbrev start-of-hold_two-held : tie.After-hold_two-held → tie.Start
+start-of-hold_two-held c = start-of-slice_known-4-1 c.before
+
+abbrev start-of-told-told : tie.After-told-told → tie.Start
+start-of-told-told c = start-of-hold_two-held c.before
+
+abbrev start-of-points-3-1 : tie.After-points-3-1 → tie.Start
+start-of-points-3-1 c = start-of-told-told c.before.before.before
+
+abbrev area-known : tie.After-leave_pair-arg-1 → tie.After-shared_slice_known-2-1
+area-known c = c.before.before.before.before.before.before.before
+
+abbrev st-arg : tie.After-leave_pair-arg-1 → tie.Start
+st-arg c = (area-known c).before.before
+
+abbrev st : tie.After-leave_pair → tie.Start
 st c = st-arg c.before
-
-abbrev left-at-fill : tie.After-fill-tables → tie.After-leave-pair
-left-at-fill c = c.before.before.before.before.before.before
-
-abbrev filled-at-hold : tie.After-hold-two → tie.After-fill-tables
-filled-at-hold c = c.before.before.before.before.before
-
-abbrev told-at-else : tie.Else1 → tie.After-told
-told-at-else c = c.before.before
-
-abbrev else-at-agrees : tie.After-check-agrees → tie.Else1
-else-at-agrees c = c.before.before.before.before
 
 -- ---- what is given
 
@@ -72,128 +99,108 @@ low : (g : tie.Start) (i : ℕ) → i < length g.args.boards.now → get_or g.ar
 low g i h = all-at (λ x. x < g.args.kept.sizes.n) 0 g.args.boards.now (below_all g.args.kept.sizes.n g.args.boards.now g.requires.0.named.1) i h
 
 -- the boards that are read
-module _ (c : tie.After-leave-pair) where
+module _ (c : tie.After-leave_pair) where
   abbrev g : tie.Start
   g = st c
 
   abbrev chosen : List ℕ
-  chosen = c.leave-pair.new.1.1.0
+  chosen = c.leave_pair.new.out
 
-  bytes : Bytes g.args.area.now
-  bytes = all_of (λ b. b < 256) 0 g.args.area.now (λ i h. omega (arith, c.before.before.before.before.before.before.before.before.shared-slice-known2.given i))
+  bytes : Bytes c.args.area.now
+  bytes = all_of (λ b. b < 256) 0 c.args.area.now (λ i h. omega (arith, c.shared_slice_known-2-1.given i))
 
-  chosen-are : chosen ≡ leaving_pair g.args.p g.args.boards.now
-  chosen-are = c.leave-pair.ensures
+  chosen-are : chosen ≡ leaving_pair c.args.p c.args.boards.now
+  chosen-are = c.leave_pair.ensures
 
-  named : Named g.args.kept.sizes g.args.kept.sizes.k chosen
+  named : Named c.args.kept.sizes c.args.kept.sizes.k chosen
   named =
-      subst (λ (l : List ℕ). Named g.args.kept.sizes g.args.kept.sizes.k l) (sym chosen-are)
-      (pair-named (R g) g.args.area.now (good g) g.pre.0.area-is bytes g.args.boards.now g.pre.0.named g.args.p g.pre.2)
+      subst (λ (l : List ℕ). Named c.args.kept.sizes c.args.kept.sizes.k l) (sym chosen-are)
+      (pair-named (R (start-of-leave_pair c)) c.args.area.now (good (start-of-leave_pair c)) c.requires.0.area-is bytes c.args.boards.now c.requires.0.named c.args.p c.requires.2)
 
-  asked : Asked g.args.kept.sizes g.args.kept.points chosen
-  asked = record { sized = (good g).is-legal; distinct = sound-points (R g) (good g); counted = named.0; known = named.1; unlike = named.2 }
+  asked : Asked c.args.kept.sizes c.args.kept.points chosen
+  asked = record { sized = (good (start-of-leave_pair c)).is-legal; distinct = sound-points (R (start-of-leave_pair c)) (good (start-of-leave_pair c)); counted = named.0; known = named.1; unlike = named.2 }
 
   -- the file that they hold
-  same-file : given (file_held (R g) g.args.area.now chosen) ≡ given (file_held (R g) g.args.area.now (leaving_pair g.args.p g.args.boards.now))
-  same-file = ap (λ (l : List ℕ). given (file_held (R g) g.args.area.now l)) chosen-are
+  same-file : given (file_held (R (start-of-leave_pair c)) c.args.area.now chosen) ≡ given (file_held (R (start-of-leave_pair c)) c.args.area.now (leaving_pair c.args.p c.args.boards.now))
+  same-file = ap (λ (l : List ℕ). given (file_held (R (start-of-leave_pair c)) c.args.area.now l)) chosen-are
 
-  same-holds : (i : ℕ) → holds_share (R g) g.args.area.now (file_of (file_held (R g) g.args.area.now chosen)) i
-      ≡ holds_share (R g) g.args.area.now (file_of (file_held (R g) g.args.area.now (leaving_pair g.args.p g.args.boards.now))) i
-  same-holds i = ap (λ (l : List ℕ). holds_share (R g) g.args.area.now (file_of (file_held (R g) g.args.area.now l)) i) chosen-are
+  same-holds : (i : ℕ) → holds_share (R (start-of-leave_pair c)) c.args.area.now (file_of (file_held (R (start-of-leave_pair c)) c.args.area.now chosen)) i
+      ≡ holds_share (R (start-of-leave_pair c)) c.args.area.now (file_of (file_held (R (start-of-leave_pair c)) c.args.area.now (leaving_pair c.args.p c.args.boards.now))) i
+  same-holds i = ap (λ (l : List ℕ). holds_share (R (start-of-leave_pair c)) c.args.area.now (file_of (file_held (R (start-of-leave_pair c)) c.args.area.now l)) i) chosen-are
 
-leave-pair-requires : tie.Need-leave-pair-requires
+leave-pair-requires : tie.Need-leave_pair-requires
 leave-pair-requires c κs =
-    let q = st-arg c in
-    (q.pre.2, omega (arith, q.pre.3, facts q), omega (arith, q.pre.3, q.pre.0.named.0))
+    (c.requires.2, omega (arith, c.requires.3, facts (start-of-leave_pair-arg-1 c)), omega (arith, c.requires.3, c.requires.0.named.0))
 
-fill-tables-requires : tie.Need-fill-tables-requires
+fill-tables-requires : tie.Need-fill_tables-requires
 fill-tables-requires c κs =
-    let k = c.before.before.before.before.before in
-    (asked k, points-long (g k), (g k).requires.4)
+    (asked c.before.before.before.before, points-long (start-of-fill_tables-arg-1 c), c.requires.4)
 
-hold-two-requires : tie.Need-hold-two-requires
+hold-two-requires : tie.Need-hold_two-held-requires
 hold-two-requires c κs =
-    let n = c.before.before.before.before in
-    let k = left-at-fill n in
-    let q = g k in
-    (q.pre.0.is-sound, q.pre.1, asked k, low q q.args.p (omega (arith, q.pre.2)), low q (q.args.p + 1) (omega (arith, q.pre.2)), q.pre.0.area-is, n.fill-tables.ensures)
+    (c.requires.0.is-sound, c.requires.1, asked (leave_pair-of-slice_known-4-1 c), low (start-of-slice_known-4-1 c) c.args.p (omega (arith, c.requires.2)), low (start-of-slice_known-4-1 c) (c.args.p + 1) (omega (arith, c.requires.2)), c.requires.0.area-is, c.fill_tables.ensures)
 
 -- what the two tell
-module _ (c : tie.After-told) where
-  abbrev h : tie.After-hold-two
+module _ (c : tie.After-told-told) where
+  abbrev h : tie.After-hold_two-held
   h = c.before
 
-  abbrev n : tie.After-fill-tables
-  n = filled-at-hold h
-
-  abbrev k : tie.After-leave-pair
-  k = left-at-fill n
-
-  abbrev q : tie.Start
-  q = g k
-
   abbrev there : Bool
-  there = given (file_held (R q) q.args.area.now (chosen k))
+  there = given (file_held (R (start-of-told-told c)) c.args.area.now (chosen (leave_pair-of-told-told c)))
 
   abbrev file : Option (List ℕ)
-  file = file_held (R q) q.args.area.now (leaving_pair q.args.p q.args.boards.now)
+  file = file_held (R (start-of-told-told c)) c.args.area.now (leaving_pair c.args.p c.args.boards.now)
 
   abbrev attempted : Bool
-  attempted = given (qualifying (R q) q.args.area.now q.args.boards.now file)
+  attempted = given (qualifying (R (start-of-told-told c)) c.args.area.now c.args.boards.now file)
 
   -- where the k boards hold a file
-  where-held : there ≡ true → (c.told.result.found ≡ attempted)
-      × (c.told.result.found ≡ true → c.told.result.odd ≡ odd_report (odd (R q) q.args.area.now (file_of file) q.args.boards.now))
+  where-held : there ≡ true → (c.told-told.result.found ≡ attempted)
+      × (c.told-told.result.found ≡ true → c.told-told.result.odd ≡ odd_report (odd (R (start-of-told-told c)) c.args.area.now (file_of file) c.args.boards.now))
   where-held holds =
-      let t = pair-told (R q) q.args.area.now (good q) q.pre.0.area-is (bytes k) q.args.boards.now q.pre.0.named q.args.p q.pre.2 (sym (same-file k) ∙ holds)
-      h.hold-two.result.first h.hold-two.result.second
-      (h.hold-two.ensures.0 holds ∙ same-holds k (get_or q.args.boards.now q.args.p 0)) (h.hold-two.ensures.1 holds ∙ same-holds k (get_or q.args.boards.now (q.args.p + 1) 0)) in
-      (c.told.ensures.0 ∙ t.0, (λ e. c.told.ensures.1 ∙ t.1 (sym c.told.ensures.0 ∙ e)))
+      let t = pair-told (R (start-of-told-told c)) c.args.area.now (good (start-of-told-told c)) c.requires.0.area-is (bytes (leave_pair-of-told-told c)) c.args.boards.now c.requires.0.named c.args.p c.requires.2 (sym (same-file (leave_pair-of-told-told c)) ∙ holds)
+      c.hold_two-held.result.first c.hold_two-held.result.second
+      (c.hold_two-held.ensures.0 holds ∙ same-holds (leave_pair-of-told-told c) (get_or c.args.boards.now c.args.p 0)) (c.hold_two-held.ensures.1 holds ∙ same-holds (leave_pair-of-told-told c) (get_or c.args.boards.now (c.args.p + 1) 0)) in
+      (c.told-told.ensures.0 ∙ t.0, (λ e. c.told-told.ensures.1 ∙ t.1 (sym c.told-told.ensures.0 ∙ e)))
 
   -- where they hold none
   not-held : there ≡ false → false ≡ attempted
-  not-held fails = none-held (R q) q.args.area.now q.args.boards.now q.args.p (sym (same-file k) ∙ fails)
+  not-held fails = none-held (R (start-of-told-told c)) c.args.area.now c.args.boards.now c.args.p (sym (same-file (leave_pair-of-told-told c)) ∙ fails)
 
   -- what is handed on with it
-  handed : (chosen k ≡ leaving_pair q.args.p q.args.boards.now) × Made q.args.kept.sizes q.args.kept.points (chosen k) n.fill-tables.last.1.1.1.0
-  handed = (chosen-are k, n.fill-tables.ensures)
+  handed : (chosen (leave_pair-of-told-told c) ≡ leaving_pair c.args.p c.args.boards.now) × Made c.args.kept.sizes c.args.kept.points (chosen (leave_pair-of-told-told c)) c.fill_tables.new.tables
+  handed = (chosen-are (leave_pair-of-told-told c), c.fill_tables.ensures)
 
   -- both are as long as they were
-  chosen-stay : length (chosen k) ≡ length q.args.chosen.now
-  chosen-stay = k.leave-pair.kept.1.1.0
+  chosen-stay : length (chosen (leave_pair-of-told-told c)) ≡ length c.args.chosen.now
+  chosen-stay = c.leave_pair.auto.out
 
-  tables-stay : length n.fill-tables.last.1.1.1.0 ≡ length q.args.tables.now
-  tables-stay = n.fill-tables.kept.1.1.1.0
+  tables-stay : length c.fill_tables.new.tables ≡ length c.args.tables.now
+  tables-stay = c.fill_tables.auto.tables
 
-check-agrees-requires : tie.Need-check-agrees-requires
+check-agrees-requires : tie.Need-check_agrees-requires
 check-agrees-requires c κs =
-    let t = told-at-else c.before.before.before in
-    (asked (k t), (q t).pre.1, (good (q t)).cap-high, few (q t), (q t).pre.0.area-is, (n t).fill-tables.ensures)
+    (asked (leave_pair-of-points-3-1 c), c.requires.1, (good (start-of-points-3-1 c)).cap-high, few (start-of-points-3-1 c), c.requires.0.area-is, c.fill_tables.ensures)
 
 -- neither of the two holds a share
-returns : tie.Need-returns
+returns : tie.Need-returns-then-not-told
 returns c =
-    let t = c.before.before in
-    let no = not-true t.told.result.found c.if1.true in
-    (either (there t) (λ e. (where-held t e).0) (λ e. no ∙ not-held t e), ((λ e. absurd (true-false e no)), handed t))
+    let no = not-true c.told-told.result.found c.if-not-told.true in
+    (either (there c.before.before) (λ e. (where-held c.before.before e).0) (λ e. no ∙ not-held c.before.before e), ((λ e. absurd (true-false e no)), handed c.before.before))
 
 -- the k boards hold no file
-returns-2 : tie.Need-returns-2
+returns-2 : tie.Need-returns-in-Refuse
 returns-2 c =
-    let m = c.before.before.before in
-    let t = told-at-else (else-at-agrees m) in
-    (not-held t (refused_none (there t) (sym m.check-agrees.ensures ∙ c.before.disagree.given.1)), ((λ e. absurd (true-false e refl)), handed t))
+    (not-held (told-told-of-in-refuse c) (refused_none (there (told-told-of-in-refuse c)) (sym c.check_agrees.ensures ∙ c.in-Refuse.is)), ((λ e. absurd (true-false e refl)), handed (told-told-of-in-refuse c)))
 
 -- they hold one
-returns-3 : tie.Need-returns-3
+returns-3 : tie.Need-returns
 returns-3 c =
-    let m = c.before.before in
-    let t = told-at-else (else-at-agrees m) in
-    let w = where-held t (passed-some (there t) (sym m.check-agrees.ensures ∙ c.enum_told.given.1)) in
-    (w.0, (w.1, handed t))
+    let w = where-held (told-told-of-in-default c) (passed-some (there (told-told-of-in-default c)) (sym c.check_agrees.ensures ∙ c.in_default.is)) in
+    (w.0, (w.1, handed (told-told-of-in-default c)))
 
-pub try-pair-spec : {M : Type 1} → statement M
-try-pair-spec =
+pub try_pair_spec : {M : Type 1} → statement M
+try_pair_spec =
     tie.close
     (tie.spec
     (λ c. search rules)
@@ -206,19 +213,18 @@ try-pair-spec =
     fill-tables-requires
     hold-two-requires
     (λ c κs.
-    let q = st (left-at-fill (filled-at-hold c)) in
-    let f = (facts q).few in
-    (omega (arith, f, low q q.args.p (omega (arith, q.pre.2))), omega (arith, f, low q (q.args.p + 1) (omega (arith, q.pre.2)))))
+    let f = (facts (start-of-hold_two-held c)).few in
+    (omega (arith, f, low (start-of-hold_two-held c) c.args.p (omega (arith, c.requires.2))), omega (arith, f, low (start-of-hold_two-held c) (c.args.p + 1) (omega (arith, c.requires.2)))))
     (λ c. search rules)
     (λ c. search rules)
     returns
-    (λ c. sym (points-long (q (told-at-else c.before))))
+    (λ c. sym (points-long (start-of-points-3-1 c)))
     check-agrees-requires
     (λ c. search rules)
-    (λ c. chosen-stay (told-at-else (else-at-agrees c.before.before.before)))
-    (λ c. tables-stay (told-at-else (else-at-agrees c.before.before.before)))
+    (λ c. chosen-stay (told-told-of-in-refuse c))
+    (λ c. tables-stay (told-told-of-in-refuse c))
     returns-2
     (λ c. search rules)
-    (λ c. chosen-stay (told-at-else (else-at-agrees c.before.before)))
-    (λ c. tables-stay (told-at-else (else-at-agrees c.before.before)))
+    (λ c. chosen-stay (told-told-of-in-default c))
+    (λ c. tables-stay (told-told-of-in-default c))
     returns-3)

@@ -20,67 +20,31 @@ use Rattle.column_sums.proofs.column_sum.Tie as tie
 abbrev bytes : List ℕ → ℕ → ℕ → List ℕ
 bytes lines j m = tabulate m (λ i. get_or lines (i * 32 + j) 0)
 
-abbrev invariant-loop : tie.invariant-loop
+abbrev invariant-loop : tie.invariant-loop-i
 invariant-loop tables lines j m sum₀ i₀ sum i =
     (i ≤ m) × ((rows : List (List ℕ)) → m ≤ length rows → Wide rows → Tabled rows tables
     → plus (row_bytes sum) (combined (drop i (bytes lines j m)) (drop i rows)) ≡ combined (bytes lines j m) rows)
 
-abbrev decreases-loop : tie.decreases-loop
+abbrev decreases-loop : tie.decreases-loop-i
 decreases-loop tables lines j m sum₀ i₀ sum i = m - i
 
 -- places in the code
-abbrev at-loop : tie.After-plus invariant-loop decreases-loop → tie.At-loop invariant-loop decreases-loop
+abbrev at-loop : tie.After-plus-sum invariant-loop decreases-loop → tie.At-loop-i invariant-loop decreases-loop
 at-loop c = c.before.before.before.before.before
 
-abbrev st-at-shared-slice-known2 : tie.After-shared-slice-known2 invariant-loop decreases-loop → tie.Start invariant-loop decreases-loop
+abbrev st-at-shared-slice-known2 : tie.After-shared_slice_known-2-1 invariant-loop decreases-loop → tie.Start invariant-loop decreases-loop
 st-at-shared-slice-known2 c = c.before.before
 
-abbrev st : tie.After-plus invariant-loop decreases-loop → tie.Start invariant-loop decreases-loop
+abbrev st : tie.After-plus-sum invariant-loop decreases-loop → tie.Start invariant-loop decreases-loop
 st c = st-at-shared-slice-known2 (at-loop c).before
 
-loop-holds : tie.Need-loop-init invariant-loop decreases-loop
+loop-holds : tie.Need-loop-i-init invariant-loop decreases-loop
 unfolding row_bytes
 loop-holds c = let a = (st-at-shared-slice-known2 c).args in (omega arith, λ rows l w e. sum-start (bytes a.lines.now a.j a.m) rows w)
 
-mul_at : tie.Need-overflow-mul-at invariant-loop decreases-loop
-mul_at c = search rules
-
-add-end : tie.Need-overflow-add-end invariant-loop decreases-loop
-add-end c = search rules
-
-mul-from : tie.Need-overflow-mul-from invariant-loop decreases-loop
-mul-from c = search rules
-
-add-from : tie.Need-overflow-add-from invariant-loop decreases-loop
-add-from c = search rules
-
-sub-product : tie.Need-overflow-sub-product invariant-loop decreases-loop
-sub-product c = search rules
-
-part-product-start : tie.Need-slice-bounds-product-start invariant-loop decreases-loop
-part-product-start c = search rules
-
-part-product-end : tie.Need-slice-bounds-product-end invariant-loop decreases-loop
-part-product-end c = search rules
-
-shared-slice-read-product : tie.Need-shared-slice-read-product invariant-loop decreases-loop
-shared-slice-read-product c = search rules
-
-product-requires : tie.Need-product-requires invariant-loop decreases-loop
-product-requires c κs = search rules
-
-plus-requires : tie.Need-plus-requires invariant-loop decreases-loop
-plus-requires c κs = search rules
-
-add-i : tie.Need-overflow-add-i invariant-loop decreases-loop
-add-i c = search rules
-
-loop-less : tie.Need-loop-smaller invariant-loop decreases-loop
-loop-less c = search rules
-
-loop-again : tie.Need-loop-preserved invariant-loop decreases-loop
+loop-again : tie.Need-loop-i-preserved invariant-loop decreases-loop
 loop-again c =
-    let l = (at-loop c).loop in
+    let l = (at-loop c).loop-i in
     let a = (st c).args in
     let cs : List ℕ = bytes a.lines.now a.j a.m in (
       omega arith,
@@ -88,24 +52,40 @@ loop-again c =
           let i : ℕ = l.i in
           let hc : i < length cs = omega (arith, length-tabulate a.m (λ i. get_or a.lines.now (i * 32 + a.j) 0)) in
           let hr : i < length rows = omega (arith, lr) in
-          ap (λ (k : ℕ). plus (row_bytes c.plus.result) (combined (drop k cs) (drop k rows))) (add-one i)
-          ∙ sum-turn (row_bytes l.sum) (row_bytes c.plus.result) (row_bytes c.before.product.result) cs rows i hc hr c.plus.ensures
-          (c.before.product.ensures (get_or rows i []) (wide_at rows i w hr) (part-piece 512 i a.tables.now ∙ e i hr)
+          ap (λ (k : ℕ). plus (row_bytes c.plus-sum.result) (combined (drop k cs) (drop k rows))) (add-one i)
+          ∙ sum-turn (row_bytes l.sum) (row_bytes c.plus-sum.result) (row_bytes c.before.product-p.result) cs rows i hc hr c.plus-sum.ensures
+          (c.before.product-p.ensures (get_or rows i []) (wide_at rows i w hr) (part-piece 512 i a.tables.now ∙ e i hr)
           ∙ ap (λ (b : ℕ). scale b (get_or rows i [])) (sym (tabulate-at a.m (λ i. get_or a.lines.now (i * 32 + a.j) 0) 0 i (omega arith))))
-          ∙ l.inv.1 rows lr w e,
+          ∙ l.invariant.1 rows lr w e,
     )
 
 returns : tie.Need-returns invariant-loop decreases-loop
 returns c = λ rows lr w e.
-    let l = c.before.loop in
+    let l = c.before.loop-i in
     let a = (st-at-shared-slice-known2 c.before.before).args in
     let cs : List ℕ = bytes a.lines.now a.j a.m in
     sym (sum-end (row_bytes l.sum) (drop l.i cs) (drop l.i rows) (length-row l.sum)
     (drop_of_length-le cs {i = l.i} (omega (arith, length-tabulate a.m (λ i. get_or a.lines.now (i * 32 + a.j) 0)))))
     ∙ l.invariant.1 rows lr w e
 
-pub column-sum-spec : {M : Type 1} → statement M
-column-sum-spec =
+pub column_sum_spec : {M : Type 1} → statement M
+column_sum_spec =
     tie.close
-    (tie.spec invariant-loop decreases-loop loop-holds mul_at add-end mul-from add-from sub-product part-product-start part-product-end shared-slice-read-product
-    product-requires plus-requires add-i loop-less loop-again returns)
+    (tie.spec
+    invariant-loop
+    decreases-loop
+    loop-holds
+    (λ c. search rules)
+    (λ c. search rules)
+    (λ c. search rules)
+    (λ c. search rules)
+    (λ c. search rules)
+    (λ c. search rules)
+    (λ c. search rules)
+    (λ c. search rules)
+    (λ c κs. search rules)
+    (λ c κs. search rules)
+    (λ c. search rules)
+    (λ c. search rules)
+    loop-again
+    returns)

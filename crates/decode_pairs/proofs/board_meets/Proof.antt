@@ -15,22 +15,22 @@ use Rattle.decode_laws.proofs.Loops.{alls-no, alls-next, alls-end}
 use Rattle.decode_pairs.proofs.board_meets.Statement.{statement}
 use Rattle.decode_pairs.proofs.board_meets.Tie as tie
 
-abbrev invariant-loop : tie.invariant-loop
+abbrev invariant-loop : tie.invariant-loop-j
 invariant-loop n d w p m boards ff gf fs gs i k j₀ j =
     let q : ℕ → Bool = λ j. eqb (value_at n w m boards boards ff fs i j) (value_at n d p boards boards gf gs j i) in
     (alls (drop j (tabulate k q)) ≡ alls (tabulate k q)) × (j ≤ k)
 
-abbrev decreases-loop : tie.decreases-loop
+abbrev decreases-loop : tie.decreases-loop-j
 decreases-loop n d w p m boards ff gf fs gs i k j₀ j = k - j
 
 -- places in the code
-abbrev st-loop : tie.At-loop invariant-loop decreases-loop → tie.Start invariant-loop decreases-loop
+abbrev st-loop : tie.At-loop-j invariant-loop decreases-loop → tie.Start invariant-loop decreases-loop
 st-loop c = c.before.before.before.before.before.before
 
-abbrev turn-at-then1 : tie.Then1 invariant-loop decreases-loop → tie.In-loop invariant-loop decreases-loop
+abbrev turn-at-then1 : tie.Then-f-g invariant-loop decreases-loop → tie.In-loop-j invariant-loop decreases-loop
 turn-at-then1 c = c.before.before.before
 
-abbrev turn-at-else1 : tie.Else1 invariant-loop decreases-loop → tie.In-loop invariant-loop decreases-loop
+abbrev turn-at-else1 : tie.Else-f-g invariant-loop decreases-loop → tie.In-loop-j invariant-loop decreases-loop
 turn-at-else1 c = c.before.before.before
 
 -- the tests
@@ -40,53 +40,47 @@ tests g =
     λ j. eqb (value_at a.n a.w a.m a.boards.now a.boards.now a.ff.now a.fs.now a.i j)
     (value_at a.n a.d a.p a.boards.now a.boards.now a.gf.now a.gs.now j a.i)
 
-loop-holds : tie.Need-loop-init invariant-loop decreases-loop
+loop-holds : tie.Need-loop-j-init invariant-loop decreases-loop
 loop-holds c = (refl, omega arith)
 
-value-at-requires : tie.Need-value-at-requires invariant-loop decreases-loop
+value-at-requires : tie.Need-value_at-f-requires invariant-loop decreases-loop
 value-at-requires c κs =
-    let p = (st-loop c.before).pre in
-    (p.0, p.2, p.4, p.5, p.6, p.7, p.9, p.11, c.loop-test.true)
+    let p = (st-loop c.before).requires in
+    (p.0, p.2, p.4, p.5, p.6, p.7, p.9, p.11, c.loop-j-test.true)
 
-value-at-requires-2 : tie.Need-value-at-requires-2 invariant-loop decreases-loop
+value-at-requires-2 : tie.Need-value_at-g-requires invariant-loop decreases-loop
 value-at-requires-2 c κs =
-    let p = (st-loop c.before.before).pre in
-    (p.0, p.1, p.3, p.5, p.6, p.8, p.10, c.before.loop-test.true, p.11)
+    let p = (st-loop c.before.before).requires in
+    (p.0, p.1, p.3, p.5, p.6, p.8, p.10, c.before.loop-j-test.true, p.11)
 
-returns : tie.Need-returns invariant-loop decreases-loop
+returns : tie.Need-returns-then-f-g invariant-loop decreases-loop
 unfolding board_meets
 returns c =
     let t = turn-at-then1 c in
     let g = st-loop t.before in
-    let l = t.before.loop in
-    sym (sym l.inv.0 ∙ alls-no (tests g) (length g.args.boards.now) l.j t.loop-test.taken
-    (sym (ap₂ eqb c.before.before.value-at.ensures c.before.value-at2.ensures) ∙ ne_eqb _ _ c.if1.true))
+    let l = t.before.loop-j in
+    sym (sym l.invariant.0 ∙ alls-no (tests g) (length g.args.boards.now) l.j t.loop-j-test.true
+    (sym (ap₂ eqb c.before.before.value_at-f.ensures c.before.value_at-g.ensures) ∙ ne_eqb _ _ c.if-f-g.true))
 
-add-j : tie.Need-overflow-add-j invariant-loop decreases-loop
-add-j c = search rules
-
-loop-less : tie.Need-loop-smaller invariant-loop decreases-loop
-loop-less c = search rules
-
-loop-again : tie.Need-loop-preserved invariant-loop decreases-loop
+loop-again : tie.Need-loop-j-preserved invariant-loop decreases-loop
 loop-again c =
     let t = turn-at-else1 c in
     let g = st-loop t.before in
-    let l = t.before.loop in (
-      alls-next (tests g) (length g.args.boards.now) l.j t.loop-test.taken
-          (sym (ap₂ eqb c.before.before.value-at.ensures c.before.value-at2.ensures) ∙ eq-eqb _ _ c.if1.false) ∙ l.inv.0,
+    let l = t.before.loop-j in (
+      alls-next (tests g) (length g.args.boards.now) l.j t.loop-j-test.true
+          (sym (ap₂ eqb c.before.before.value_at-f.ensures c.before.value_at-g.ensures) ∙ eq-eqb _ _ c.if-f-g.false) ∙ l.invariant.0,
       omega arith,
     )
 
-returns-2 : tie.Need-returns-2 invariant-loop decreases-loop
+returns-2 : tie.Need-returns invariant-loop decreases-loop
 unfolding board_meets
 returns-2 c =
     let g = st-loop c.before in
-    let l = c.before.loop in
-    sym (sym l.invariant.0 ∙ alls-end (tests g) (length g.args.boards.now) l.j c.loop-test.false)
+    let l = c.before.loop-j in
+    sym (sym l.invariant.0 ∙ alls-end (tests g) (length g.args.boards.now) l.j c.loop-j-test.false)
 
-pub board-meets-spec : {M : Type 1} → statement M
-board-meets-spec =
+pub board_meets_spec : {M : Type 1} → statement M
+board_meets_spec =
     tie.close
     (tie.spec
     invariant-loop
@@ -95,7 +89,7 @@ board-meets-spec =
     value-at-requires
     value-at-requires-2
     returns
-    add-j
-    loop-less
+    (λ c. search rules)
+    (λ c. search rules)
     loop-again
     returns-2)

@@ -1,6 +1,6 @@
 -- `decode_pairs::stripe_meets` meets its contract: the callees' contracts, put together.
 -- Assumes nothing.
-use mathlib.Core.Path.{◌≡◌, sym, ap, ◌∙◌}
+use mathlib.Core.Path.{sym, ap, ◌∙◌}
 use Prim.Native.Nat.{ℕ, ◌≤◌, ◌<◌, ◌-◌, ◌+◌, ◌*◌}
 use native.Mathlib.Omega.{arith}
 use borrow.Author.Rules.{rules}
@@ -13,25 +13,6 @@ use Rattle.decode_laws.proofs.Held.{f-long, g-long, length-factor-rows, at-few, 
 use Rattle.decode_pairs.proofs.stripe_meets.Statement.{statement}
 use Rattle.decode_pairs.proofs.stripe_meets.Tie as tie
 
--- places in the code
-abbrev st-lent-bytes : tie.After-shared-slice-known4 → tie.Start
-st-lent-bytes c = c.before.before.before.before
-
-abbrev lent-bytes-at-struct-known : tie.After-struct-known → tie.After-shared-slice-known4
-lent-bytes-at-struct-known c = c.before.before.before.before.before
-
-abbrev st-struct-known : tie.After-struct-known → tie.Start
-st-struct-known c = st-lent-bytes (lent-bytes-at-struct-known c)
-
-abbrev rows-of-at-boards-meet-arg2 : tie.After-boards-meet-arg2 → tie.After-rows-of
-rows-of-at-boards-meet-arg2 c = c.before.before.before.before.before.before
-
-abbrev whole-vectors2-at-rows-of : tie.After-rows-of → tie.After-whole-vectors2
-whole-vectors2-at-rows-of c = c.before.before.before
-
-abbrev struct-known-at-rows-of : tie.After-rows-of → tie.After-struct-known
-struct-known-at-rows-of c = (whole-vectors2-at-rows-of c).before.before
-
 -- the sizes are legal
 facts : (c : tie.Start) → Legal c.args.sizes
 facts c = legal-facts _ c.requires.0
@@ -41,90 +22,77 @@ known : (c : tie.Start) → All (λ i. i < c.args.sizes.n) c.args.boards.now
 known c = below_all c.args.sizes.n c.args.boards.now c.requires.3
 
 -- the bytes are bytes
-bytes : (c : tie.After-shared-slice-known4) → Bytes (st-lent-bytes c).args.bytes.now
-bytes c = all_of (λ b. b < 256) 0 (st-lent-bytes c).args.bytes.now (λ i h. omega (arith, c.shared-slice-known4.given i))
+bytes : (c : tie.After-shared_slice_known-4-1) → Bytes c.args.bytes.now
+bytes c = all_of (λ b. b < 256) 0 c.args.bytes.now (λ i h. omega (arith, c.shared_slice_known-4-1.given i))
 
 -- stripe s starts not too far behind
 few : (c : tie.Start) → let z = c.args.sizes in c.args.s * (z.d + z.r + (z.d - 1)) ≤ 253952
 few c = at-few c.args.sizes (facts c) c.args.s c.requires.6
 
-add-w : tie.Need-overflow-add-w
-add-w c = omega (arith, facts (st-struct-known c))
+add-w : tie.Need-overflow_add-w
+add-w c = omega (arith, facts c.before.before.before.before.before.before.before.before.before)
 
-sub_at : tie.Need-overflow-sub-at
-sub_at c = omega (arith, facts (st-struct-known c))
+sub_at : tie.Need-overflow_sub-at
+sub_at c = omega (arith, facts c.before.before.before.before.before.before.before.before.before)
 
-add_at : tie.Need-overflow-add-at
-add_at c = omega (arith, facts (st-struct-known c))
+add_at : tie.Need-overflow_add-at
+add_at c = omega (arith, facts c.before.before.before.before.before.before.before.before.before)
 
-mul_at : tie.Need-overflow-mul-at
-mul_at c = omega (arith, few (st-struct-known c))
+mul_at : tie.Need-overflow_mul-at
+mul_at c = omega (arith, few c.before.before.before.before.before.before.before.before.before)
 
-whole-vectors-requires : tie.Need-whole-vectors-requires
-whole-vectors-requires c κs = omega (arith, facts (st-struct-known c))
+whole-vectors-requires : tie.Need-whole_vectors-p-requires
+whole-vectors-requires c κs = omega (arith, facts c.before.before.before.before.before.before.before.before.before)
 
-whole-vectors-requires-2 : tie.Need-whole-vectors-requires-2
-whole-vectors-requires-2 c κs = omega (arith, facts (st-struct-known c.before))
+whole-vectors-requires-2 : tie.Need-whole_vectors-m-requires
+whole-vectors-requires-2 c κs = omega (arith, facts c.before.before.before.before.before.before.before.before.before.before)
 
-rows-of-requires : tie.Need-rows-of-requires
+rows-of-requires : tie.Need-rows_of-requires
 rows-of-requires c κs =
-    let g = st-struct-known c.before.before.before.before in
-    let f = facts g in (
+    let f = facts c.before.before.before.before.before.before.before.before.before.before.before.before.before in (
       omega (arith, f),
       omega (arith, f),
       omega (arith, f),
       omega (arith, f),
       omega (arith, f),
-      placed-part g.args.sizes f g.args.starts.now g.args.bytes.now g.args.s
-          g.pre.5,
-      g.pre.9 ∙ ap (λ (m : ℕ). m * 32) (sym g.pre.4),
-      g.pre.10 ∙ ap (λ (m : ℕ). m * 32) (sym g.pre.4),
+      placed-part c.args.sizes f c.args.starts.now c.args.bytes.now c.args.s
+          c.requires.5,
+      c.requires.9 ∙ ap (λ (m : ℕ). m * 32) (sym c.requires.4),
+      c.requires.10 ∙ ap (λ (m : ℕ). m * 32) (sym c.requires.4),
     )
 
-boards-meet-requires : tie.Need-boards-meet-requires
+boards-meet-requires : tie.Need-boards_meet-requires
 boards-meet-requires c κs =
-    let o = rows-of-at-boards-meet-arg2 c in
-    let v = whole-vectors2-at-rows-of o in
-    let g = st-struct-known (struct-known-at-rows-of o) in
-    let z = g.args.sizes in
-    let f = facts g in
-    let lb = g.pre.2 in
+    let z = c.args.sizes in
+    let f = facts c.before.before.before.before.before.before.before.before.before.before.before.before.before.before.before.before.before.before in
+    let lb = c.requires.2 in
     let a : ℕ = z.d + z.r + (z.d - 1) in (
       omega (arith, f),
       omega (arith, f),
       omega (arith, f),
-      v.before.whole-vectors.ensures.1,
-      v.whole-vectors2.ensures.1,
+      c.whole_vectors-p.ensures.1,
+      c.whole_vectors-m.ensures.1,
       omega (arith, f),
-      g.pre.3,
-      omega (arith, ap length g.pre.7, length-factor-rows z g.args.points.now (z.d + z.r) g.args.boards.now),
-      omega (arith, ap length g.pre.8, length-factor-rows z g.args.points.now z.d g.args.boards.now),
-      f-long g.args.starts.now g.args.bytes.now (z.d + z.r) a (g.args.s * a) _ o.rows_of.ensures.0 ∙ ap (λ (m : ℕ). m * 32) (g.pre.4 ∙ sym lb),
-      g-long g.args.starts.now g.args.bytes.now (z.d + z.r) a (g.args.s * a) _ o.rows_of.ensures.1 ∙ ap (λ (m : ℕ). m * 32) (g.pre.4 ∙ sym lb),
+      c.requires.3,
+      omega (arith, ap length c.requires.7, length-factor-rows z c.args.points.now (z.d + z.r) c.args.boards.now),
+      omega (arith, ap length c.requires.8, length-factor-rows z c.args.points.now z.d c.args.boards.now),
+      f-long c.args.starts.now c.args.bytes.now (z.d + z.r) a (c.args.s * a) _ c.rows_of.ensures.0 ∙ ap (λ (m : ℕ). m * 32) (c.requires.4 ∙ sym lb),
+      g-long c.args.starts.now c.args.bytes.now (z.d + z.r) a (c.args.s * a) _ c.rows_of.ensures.1 ∙ ap (λ (m : ℕ). m * 32) (c.requires.4 ∙ sym lb),
     )
-
-same_length : tie.Need-same-length
-same_length c = search rules
-
-same-length-2 : tie.Need-same-length-2
-same-length-2 c = search rules
 
 returns : tie.Need-returns
 returns c =
-    let o = rows-of-at-boards-meet-arg2 c.before in
-    let v = whole-vectors2-at-rows-of o in
-    let p = v.before.whole-vectors in
-    let m = v.whole-vectors2 in
-    let g = st-struct-known (struct-known-at-rows-of o) in
-    let a = g.args in
+    let p = c.whole_vectors-p in
+    let m = c.whole_vectors-m in
+    let a = c.args in
     let z = a.sizes in
-    let b = bytes (lent-bytes-at-struct-known (struct-known-at-rows-of o)) in
-    c.boards-meet.ensures
-    ∙ pairs_made z a.points.now (facts g) g.pre.1 a.boards.now (known g) g.pre.2 a.starts.now a.bytes.now g.pre.4 a.s g.pre.5 b a.ff.now a.gf.now _ _
-    g.pre.7 g.pre.8 o.rows_of.ensures.0 o.rows_of.ensures.1 p.result m.result p.ensures.0 p.ensures.1 m.ensures.0 m.ensures.1
+    let b = bytes c.before.before.before.before.before.before.before.before.before.before.before.before.before.before.before in
+    c.boards_meet.ensures
+    ∙ pairs_made z a.points.now (facts c.before.before.before.before.before.before.before.before.before.before.before.before.before.before.before.before.before.before.before) c.requires.1 a.boards.now (known c.before.before.before.before.before.before.before.before.before.before.before.before.before.before.before.before.before.before.before) c.requires.2 a.starts.now a.bytes.now c.requires.4 a.s c.requires.5 b a.ff.now a.gf.now _ _
+    c.requires.7 c.requires.8 c.rows_of.ensures.0 c.rows_of.ensures.1 p.result m.result p.ensures.0 p.ensures.1 m.ensures.0 m.ensures.1
 
-pub stripe-meets-spec : {M : Type 1} → statement M
-stripe-meets-spec =
+pub stripe_meets_spec : {M : Type 1} → statement M
+stripe_meets_spec =
     tie.close
     (tie.spec
     add-w
@@ -135,6 +103,6 @@ stripe-meets-spec =
     whole-vectors-requires-2
     rows-of-requires
     boards-meet-requires
-    same_length
-    same-length-2
+    (λ c. search rules)
+    (λ c. search rules)
     returns)

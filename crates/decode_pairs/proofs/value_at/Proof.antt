@@ -15,16 +15,16 @@ use Rattle.decode_pairs.proofs.value_at.Statement.{statement}
 use Rattle.decode_pairs.proofs.value_at.Tie as tie
 
 -- places in the code
-abbrev st-at-shared-slice-known5 : tie.After-shared-slice-known5 → tie.Start
+abbrev st-at-shared-slice-known5 : tie.After-shared_slice_known-5-1 → tie.Start
 st-at-shared-slice-known5 c = c.before.before.before.before.before
 
-abbrev st-offset : tie.After-offset → tie.Start
+abbrev st-offset : tie.After-offset-o → tie.Start
 st-offset c = st-at-shared-slice-known5 c.before
 
-abbrev offset-at-value-arg2 : tie.After-value-arg2 → tie.After-offset
+abbrev offset-at-value-arg2 : tie.After-value-arg-2-1 → tie.After-offset-o
 offset-at-value-arg2 c = c.before.before
 
-abbrev st-value-arg2 : tie.After-value-arg2 → tie.Start
+abbrev st-value-arg2 : tie.After-value-arg-2-1 → tie.Start
 st-value-arg2 c = st-offset (offset-at-value-arg2 c)
 
 -- the two boards are known
@@ -38,53 +38,17 @@ known-i g = board-below _ g.args.boards.now g.args.i g.requires.4 g.requires.8
 end : (g : tie.Start) → let a = g.args in a.t * ((a.n - a.c) * 32) + (a.n - a.c) * 32 ≤ length a.boards.now * ((a.n - a.c) * 32)
 end g = row_fits _ _ _ g.requires.7
 
-mul-offset : tie.Need-overflow-mul-offset
-mul-offset c = search rules
+offset-requires : tie.Need-offset-o-requires
+offset-requires c κs = let g = st-at-shared-slice-known5 c in (g.requires.0, known-t g, known-i g)
 
-shared-slice-read-offset : tie.Need-shared-slice-read-offset
-shared-slice-read-offset c = search rules
-
-mul-offset-2 : tie.Need-overflow-mul-offset-2
-mul-offset-2 c = search rules
-
-shared-slice-read-offset-2 : tie.Need-shared-slice-read-offset-2
-shared-slice-read-offset-2 c = search rules
-
-offset-requires : tie.Need-offset-requires
-offset-requires c κs = let g = st-at-shared-slice-known5 c in (g.pre.0, known-t g, known-i g)
-
-sub-from : tie.Need-overflow-sub-from
-sub-from c = search rules
-
-mul-from : tie.Need-overflow-mul-from
-mul-from c = search rules
-
-mul-from-2 : tie.Need-overflow-mul-from-2
+mul-from-2 : tie.Need-overflow_mul-from-2
 mul-from-2 c = omega (arith, end (st-offset c))
 
-mul-row : tie.Need-overflow-mul-row
-mul-row c = search rules
-
-add-end : tie.Need-overflow-add-end
-add-end c = search rules
-
-sub-value : tie.Need-overflow-sub-value
+sub-value : tie.Need-slice_bounds-value-count
 sub-value c = omega (arith, end (st-offset c))
 
-part-value-start : tie.Need-slice-bounds-value-start
+part-value-start : tie.Need-slice_bounds-value-start
 part-value-start c = omega (arith, end (st-offset c))
-
-part-value-end : tie.Need-slice-bounds-value-end
-part-value-end c = search rules
-
-sub-value-2 : tie.Need-overflow-sub-value-2
-sub-value-2 c = search rules
-
-part-value-start-2 : tie.Need-slice-bounds-value-start-2
-part-value-start-2 c = search rules
-
-part-value-end-2 : tie.Need-slice-bounds-value-end-2
-part-value-end-2 c = search rules
 
 value-requires : tie.Need-value-requires
 value-requires c κs =
@@ -92,10 +56,10 @@ value-requires c κs =
     let a = g.args in
     let e = end g in
     let below : offset a.n (get_or a.boards.now a.t 0) (get_or a.boards.now a.i 0) < a.n = offset-below a.n _ _ (known-t g) (known-i g) in (
-      g.pre.0,
-      g.pre.1,
-      g.pre.2,
-      omega (arith, below, (offset-at-value-arg2 c).offset.ensures),
+      g.requires.0,
+      g.requires.1,
+      g.requires.2,
+      omega (arith, below, (offset-at-value-arg2 c).offset-o.ensures),
       simp (length-take, length-drop) (omega arith),
       simp (length-take, length-drop) (omega arith),
     )
@@ -108,27 +72,27 @@ returns : tie.Need-returns
 returns c =
     let a = (st-value-arg2 c.before).args in
     c.value.ensures
-    ∙ same-value a.c a.m _ _ _ _ _ _ (offset-at-value-arg2 c.before).offset.ensures (rest_part (a.t * ((a.n - a.c) * 32)) a.factors.now) (part-piece 32 a.t a.rows.now)
+    ∙ same-value a.c a.m _ _ _ _ _ _ (offset-at-value-arg2 c.before).offset-o.ensures (rest_part (a.t * ((a.n - a.c) * 32)) a.factors.now) (part-piece 32 a.t a.rows.now)
 
-pub value-at-spec : {M : Type 1} → statement M
-value-at-spec =
+pub value_at_spec : {M : Type 1} → statement M
+value_at_spec =
     tie.close
     (tie.spec
-    mul-offset
-    shared-slice-read-offset
-    mul-offset-2
-    shared-slice-read-offset-2
+    (λ c. search rules)
+    (λ c. search rules)
+    (λ c. search rules)
+    (λ c. search rules)
     offset-requires
-    sub-from
-    mul-from
+    (λ c. search rules)
+    (λ c. search rules)
     mul-from-2
-    mul-row
-    add-end
+    (λ c. search rules)
+    (λ c. search rules)
     sub-value
     part-value-start
-    part-value-end
-    sub-value-2
-    part-value-start-2
-    part-value-end-2
+    (λ c. search rules)
+    (λ c. search rules)
+    (λ c. search rules)
+    (λ c. search rules)
     value-requires
     returns)

@@ -1,11 +1,11 @@
 -- `decode_rows::by_columns` meets its contract: the rows so far, before what was there.
 -- Assumes nothing.
-use mathlib.Core.Path.{◌≡◌, refl, sym, ap, ◌∙◌}
+use mathlib.Core.Path.{◌≡◌, refl, ◌∙◌}
 use mathlib.Core.List.{List, ◌++◌}
 use Prim.Native.Nat.{ℕ, ◌≤◌, ◌-◌, ◌+◌, ◌*◌}
 use native.Mathlib.Omega.{arith}
 use borrow.Author.Rules.{rules}
-use lib.ListN.{length, get_or, drop}
+use lib.ListN.{length, drop}
 use Rattle.lists.specs.Lists.{join}
 use Rattle.decode_laws.specs.Steps.{cell, sums, by_columns}
 use Rattle.decode_laws.proofs.Rows.{length-sums}
@@ -15,107 +15,74 @@ use Rattle.decode_rows.proofs.Made.{each, length-each, each-wide, each-tabled, c
 use Rattle.decode_rows.proofs.by_columns.Statement.{statement}
 use Rattle.decode_rows.proofs.by_columns.Tie as tie
 
-abbrev invariant-loop : tie.invariant-loop
+abbrev invariant-loop : tie.invariant-loop-i
 invariant-loop count from m a tables out₀ i₀ out i =
     ((rows : List ℕ) → m * 32 ≤ length rows → TabledRows m rows tables → out ≡ join i (λ i. sums m (λ s. cell a s (from + i)) rows) ++ drop (i * 32) out₀)
     × (i ≤ count) × (length out ≡ length out₀)
 
-abbrev decreases-loop : tie.decreases-loop
+abbrev decreases-loop : tie.decreases-loop-i
 decreases-loop count from m a tables out₀ i₀ out i = count - i
 
 -- places in the code
-abbrev after-column-sum-from-after-slice-known2 : tie.After-slice-known2 invariant-loop decreases-loop → tie.After-column-sum invariant-loop decreases-loop
+abbrev after-column-sum-from-after-slice-known2 : tie.After-slice_known-in-loop-i-1 invariant-loop decreases-loop → tie.After-column_sum-row invariant-loop decreases-loop
 after-column-sum-from-after-slice-known2 c = c.before.before.before.before
 
-abbrev at-loop-from-after-slice-known2 : tie.After-slice-known2 invariant-loop decreases-loop → tie.At-loop invariant-loop decreases-loop
+abbrev at-loop-from-after-slice-known2 : tie.After-slice_known-in-loop-i-1 invariant-loop decreases-loop → tie.At-loop-i invariant-loop decreases-loop
 at-loop-from-after-slice-known2 c = (after-column-sum-from-after-slice-known2 c).before.before
 
-abbrev st-at-loop : tie.At-loop invariant-loop decreases-loop → tie.Start invariant-loop decreases-loop
+abbrev st-at-loop : tie.At-loop-i invariant-loop decreases-loop → tie.Start invariant-loop decreases-loop
 st-at-loop c = c.before.before.before.before
 
-abbrev start-from-after-slice-known2 : tie.After-slice-known2 invariant-loop decreases-loop → tie.Start invariant-loop decreases-loop
+abbrev start-from-after-slice-known2 : tie.After-slice_known-in-loop-i-1 invariant-loop decreases-loop → tie.Start invariant-loop decreases-loop
 start-from-after-slice-known2 c = st-at-loop (at-loop-from-after-slice-known2 c)
 
-abbrev start-from-after-loop : tie.After-loop invariant-loop decreases-loop → tie.Start invariant-loop decreases-loop
+abbrev start-from-after-loop : tie.After-loop-i invariant-loop decreases-loop → tie.Start invariant-loop decreases-loop
 start-from-after-loop c = st-at-loop c.before
 
-loop-holds : tie.Need-loop-init invariant-loop decreases-loop
+loop-holds : tie.Need-loop-i-init invariant-loop decreases-loop
 loop-holds c = ((λ rows lr tr. refl), omega arith, refl)
 
-add-j : tie.Need-overflow-add-j invariant-loop decreases-loop
-add-j c = search rules
-
-mul_at : tie.Need-overflow-mul-at invariant-loop decreases-loop
-mul_at c = search rules
-
-add-end : tie.Need-overflow-add-end invariant-loop decreases-loop
-add-end c = search rules
-
-column-sum-requires : tie.Need-column-sum-requires invariant-loop decreases-loop
-column-sum-requires c κs = search rules
-
-sub-put-row : tie.Need-overflow-sub-put-row invariant-loop decreases-loop
-sub-put-row c = search rules
-
-part-put-row-start : tie.Need-slice-bounds-put-row-start invariant-loop decreases-loop
-part-put-row-start c = search rules
-
-part-put-row-end : tie.Need-slice-bounds-put-row-end invariant-loop decreases-loop
-part-put-row-end c = search rules
-
-put-row-requires : tie.Need-put-row-requires invariant-loop decreases-loop
-put-row-requires c κs = search rules
-
-add-i : tie.Need-overflow-add-i invariant-loop decreases-loop
-add-i c = search rules
-
-loop-less : tie.Need-loop-smaller invariant-loop decreases-loop
-loop-less c = search rules
-
-loop-again : tie.Need-loop-preserved invariant-loop decreases-loop
+loop-again : tie.Need-loop-i-preserved invariant-loop decreases-loop
 loop-again c =
     let g = (start-from-after-slice-known2 c) in
     let a = g.args in
-    let l = (at-loop-from-after-slice-known2 c).loop in (
+    let l = (at-loop-from-after-slice-known2 c).loop-i in (
       (λ rows lr tr.
           join-loop (λ i. sums a.m (λ s. cell a.a.now s (a.from + i)) rows) 32 l.i a.out.now l.out _ (λ i h. length-sums a.m _ rows)
-          (c.before.before.put-row.ensures
-          ∙ (after-column-sum-from-after-slice-known2 c).column-sum.ensures (each a.m rows a.tables.now lr tr) (omega (arith, length-each a.m rows a.tables.now lr tr))
+          (c.before.before.put_row.ensures
+          ∙ (after-column-sum-from-after-slice-known2 c).column_sum-row.ensures (each a.m rows a.tables.now lr tr) (omega (arith, length-each a.m rows a.tables.now lr tr))
           (each-wide a.m rows a.tables.now lr tr) (each-tabled a.m rows a.tables.now lr tr)
           ∙ column-made a.m rows a.tables.now lr tr (λ s. cell a.a.now s (a.from + l.i)))
-          (l.inv.0 rows lr tr)),
+          (l.invariant.0 rows lr tr)),
       omega arith,
       search rules,
     )
-
-same_length : tie.Need-same-length invariant-loop decreases-loop
-same_length c = search rules
 
 returns : tie.Need-returns invariant-loop decreases-loop
 unfolding by_columns
 returns c =
     let a = (start-from-after-loop c).args in
-    let l = c.before.loop in
-    λ rows lr tr. join-end (λ i. sums a.m (λ s. cell a.a.now s (a.from + i)) rows) 32 l.i a.count a.out.now l.out (omega arith) (start-from-after-loop c).pre.4
+    let l = c.before.loop-i in
+    λ rows lr tr. join-end (λ i. sums a.m (λ s. cell a.a.now s (a.from + i)) rows) 32 l.i a.count a.out.now l.out (omega arith) (start-from-after-loop c).requires.4
     (l.invariant.0 rows lr tr)
 
-pub by-columns-spec : {M : Type 1} → statement M
-by-columns-spec =
+pub by_columns_spec : {M : Type 1} → statement M
+by_columns_spec =
     tie.close
     (tie.spec
     invariant-loop
     decreases-loop
     loop-holds
-    add-j
-    mul_at
-    add-end
-    column-sum-requires
-    sub-put-row
-    part-put-row-start
-    part-put-row-end
-    put-row-requires
-    add-i
-    loop-less
+    (λ c. search rules)
+    (λ c. search rules)
+    (λ c. search rules)
+    (λ c κs. search rules)
+    (λ c. search rules)
+    (λ c. search rules)
+    (λ c. search rules)
+    (λ c κs. search rules)
+    (λ c. search rules)
+    (λ c. search rules)
     loop-again
-    same_length
+    (λ c. search rules)
     returns)

@@ -2,7 +2,7 @@
 -- Assumes nothing.
 use mathlib.Core.Path.{◌≡◌, refl, ◌∙◌}
 use mathlib.Core.List.{◌++◌}
-use Prim.Native.Nat.{ℕ, ◌≤◌, ◌-◌, ◌+◌}
+use Prim.Native.Nat.{ℕ, ◌≤◌, ◌-◌}
 use native.Mathlib.Omega.{arith}
 use borrow.Author.Rules.{rules}
 use lib.ListN.{length, get_or, drop, length-set}
@@ -11,43 +11,25 @@ use Rattle.lists.proofs.Pieces.{fill-loop, fill_end, fill-all, tabulate-take}
 use Rattle.decode_rows.proofs.copy.Statement.{statement}
 use Rattle.decode_rows.proofs.copy.Tie as tie
 
-abbrev invariant-loop : tie.invariant-loop
+abbrev invariant-loop : tie.invariant-loop-t
 invariant-loop a out₀ m t₀ out t = (out ≡ tabulate t (λ t. get_or a t 0) ++ drop t out₀) × (t ≤ m) × (length out ≡ length out₀)
 
-abbrev decreases-loop : tie.decreases-loop
+abbrev decreases-loop : tie.decreases-loop-t
 decreases-loop a out₀ m t₀ out t = m - t
 
-loop-holds : tie.Need-loop-init invariant-loop decreases-loop
-loop-holds c = search rules
-
-shared-slice-read-out : tie.Need-shared-slice-read-out invariant-loop decreases-loop
-shared-slice-read-out c = search rules
-
-slice-write-out : tie.Need-slice-write-out invariant-loop decreases-loop
-slice-write-out c = search rules
-
-add-t : tie.Need-overflow-add-t invariant-loop decreases-loop
-add-t c = search rules
-
-loop-less : tie.Need-loop-smaller invariant-loop decreases-loop
-loop-less c = search rules
-
-loop-again : tie.Need-loop-preserved invariant-loop decreases-loop
+loop-again : tie.Need-loop-t-preserved invariant-loop decreases-loop
 loop-again c =
-    let l = c.before.before.loop in (
+    let l = c.before.before.loop-t in (
       fill-loop _ c.before.before.before.args.out.now l.out l.t _ (omega arith) refl l.invariant.0,
       omega arith,
       length-set l.out l.t _ ∙ l.invariant.2,
     )
 
-same_length : tie.Need-same-length invariant-loop decreases-loop
-same_length c = search rules
-
 returns : tie.Need-returns invariant-loop decreases-loop
 returns c =
     let a = c.before.before.args in
     let m : ℕ = length a.out.now in
-    fill_end _ _ c.before.loop.out c.before.loop.t m (omega arith) c.before.loop.invariant.0
+    fill_end _ _ c.before.loop-t.out c.before.loop-t.t m (omega arith) c.before.loop-t.invariant.0
     ∙ fill-all _ a.out.now m (omega arith) ∙ tabulate-take m a.a.now c.before.before.requires
 
 pub copy_spec : {M : Type 1} → statement M
@@ -56,11 +38,11 @@ copy_spec =
     (tie.spec
     invariant-loop
     decreases-loop
-    loop-holds
-    shared-slice-read-out
-    slice-write-out
-    add-t
-    loop-less
+    (λ c. search rules)
+    (λ c. search rules)
+    (λ c. search rules)
+    (λ c. search rules)
+    (λ c. search rules)
     loop-again
-    same_length
+    (λ c. search rules)
     returns)

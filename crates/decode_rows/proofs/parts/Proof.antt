@@ -6,9 +6,9 @@ use Prim.Native.Nat.{ℕ, ◌≤◌, ◌<◌, ◌-◌, ◌+◌, ◌*◌}
 use native.Mathlib.Nat.{zero-mul}
 use native.Mathlib.Omega.{arith}
 use borrow.Author.Rules.{rules}
-use lib.ListN.{length, get_or, take, drop, length-take, length-drop}
+use lib.ListN.{length, take, drop, length-take, length-drop}
 use lib.Seq.{length-take-le}
-use Rattle.lists.specs.Lists.{tabulate, join, piece}
+use Rattle.lists.specs.Lists.{join, piece}
 use Rattle.lists.proofs.Pieces.{part-piece, length-piece}
 use Rattle.sizes.proofs.Legal.{row_fits}
 use Rattle.decode_laws.specs.Steps.{parts}
@@ -16,72 +16,51 @@ use Rattle.decode_laws.proofs.Loops.{join-loop, join-end}
 use Rattle.decode_rows.proofs.parts.Statement.{statement}
 use Rattle.decode_rows.proofs.parts.Tie as tie
 
-abbrev invariant-loop : tie.invariant-loop
+abbrev invariant-loop : tie.invariant-loop-i
 invariant-loop count m rows out₀ i₀ out i =
     (out ≡ join i (λ i. take m (drop 0 (piece 32 i rows))) ++ drop (i * m) out₀) × (i ≤ count) × (length out ≡ length out₀)
 
-abbrev decreases-loop : tie.decreases-loop
+abbrev decreases-loop : tie.decreases-loop-i
 decreases-loop count m rows out₀ i₀ out i = count - i
 
 -- places in the code
-abbrev st-at-slice-known : tie.After-slice-known invariant-loop decreases-loop → tie.Start invariant-loop decreases-loop
+abbrev st-at-slice-known : tie.After-slice_known-1 invariant-loop decreases-loop → tie.Start invariant-loop decreases-loop
 st-at-slice-known c = c.before.before
 
-abbrev start-from-in-loop : tie.In-loop invariant-loop decreases-loop → tie.Start invariant-loop decreases-loop
+abbrev start-from-in-loop : tie.In-loop-i invariant-loop decreases-loop → tie.Start invariant-loop decreases-loop
 start-from-in-loop c = st-at-slice-known c.before.before
 
-abbrev in-loop-from-after-slice-known2 : tie.After-slice-known2 invariant-loop decreases-loop → tie.In-loop invariant-loop decreases-loop
+abbrev in-loop-from-after-slice-known2 : tie.After-slice_known-in-loop-i-1 invariant-loop decreases-loop → tie.In-loop-i invariant-loop decreases-loop
 in-loop-from-after-slice-known2 c = c.before.before.before.before.before
 
-abbrev start-from-after-slice-known2 : tie.After-slice-known2 invariant-loop decreases-loop → tie.Start invariant-loop decreases-loop
+abbrev start-from-after-slice-known2 : tie.After-slice_known-in-loop-i-1 invariant-loop decreases-loop → tie.Start invariant-loop decreases-loop
 start-from-after-slice-known2 c = start-from-in-loop (in-loop-from-after-slice-known2 c)
 
-abbrev at-loop-from-after-slice-known2 : tie.After-slice-known2 invariant-loop decreases-loop → tie.At-loop invariant-loop decreases-loop
+abbrev at-loop-from-after-slice-known2 : tie.After-slice_known-in-loop-i-1 invariant-loop decreases-loop → tie.At-loop-i invariant-loop decreases-loop
 at-loop-from-after-slice-known2 c = (in-loop-from-after-slice-known2 c).before
 
-abbrev start-from-after-loop : tie.After-loop invariant-loop decreases-loop → tie.Start invariant-loop decreases-loop
+abbrev start-from-after-loop : tie.After-loop-i invariant-loop decreases-loop → tie.Start invariant-loop decreases-loop
 start-from-after-loop c = st-at-slice-known c.before.before
 
 -- where the part of a turn ends
-end : (c : tie.In-loop invariant-loop decreases-loop) → let a = (start-from-in-loop c).args in c.before.loop.i * a.m + a.m ≤ a.count * a.m
-end c = row_fits _ _ _ c.loop-test.true
+end : (c : tie.In-loop-i invariant-loop decreases-loop) → let a = (start-from-in-loop c).args in c.before.loop-i.i * a.m + a.m ≤ a.count * a.m
+end c = row_fits _ _ _ c.loop-i-test.true
 
 -- and how long it is
-long : (c : tie.In-loop invariant-loop decreases-loop) → let a = (start-from-in-loop c).args in let l = c.before.loop in
+long : (c : tie.In-loop-i invariant-loop decreases-loop) → let a = (start-from-in-loop c).args in let l = c.before.loop-i in
     length (take (l.i * a.m + a.m - l.i * a.m) (drop (l.i * a.m) l.out)) ≡ a.m
 long c = simp (length-take, length-drop) (omega (arith, end c))
 
-loop-holds : tie.Need-loop-init invariant-loop decreases-loop
+loop-holds : tie.Need-loop-i-init invariant-loop decreases-loop
 loop-holds c = (ap (λ (m : ℕ). drop m (st-at-slice-known c).args.out.now) (sym (zero-mul (st-at-slice-known c).args.m)), omega arith, refl)
 
-mul-from : tie.Need-overflow-mul-from invariant-loop decreases-loop
-mul-from c = search rules
-
-add-to : tie.Need-overflow-add-to invariant-loop decreases-loop
-add-to c = search rules
-
-mul_at : tie.Need-overflow-mul-at invariant-loop decreases-loop
+mul_at : tie.Need-overflow_mul-at invariant-loop decreases-loop
 mul_at c = omega (arith, end c)
 
-add-end : tie.Need-overflow-add-end invariant-loop decreases-loop
+add-end : tie.Need-overflow_add-end invariant-loop decreases-loop
 add-end c = omega (arith, end c)
 
-sub-copy : tie.Need-overflow-sub-copy invariant-loop decreases-loop
-sub-copy c = search rules
-
-part-copy-start : tie.Need-slice-bounds-copy-start invariant-loop decreases-loop
-part-copy-start c = search rules
-
-part-copy-end : tie.Need-slice-bounds-copy-end invariant-loop decreases-loop
-part-copy-end c = search rules
-
-sub-copy-2 : tie.Need-overflow-sub-copy-2 invariant-loop decreases-loop
-sub-copy-2 c = search rules
-
-part-copy-start-2 : tie.Need-slice-bounds-copy-start-2 invariant-loop decreases-loop
-part-copy-start-2 c = search rules
-
-part-copy-end-2 : tie.Need-slice-bounds-copy-end-2 invariant-loop decreases-loop
+part-copy-end-2 : tie.Need-slice_bounds-copy-end-in-loop-i invariant-loop decreases-loop
 part-copy-end-2 c = omega (arith, end c.before)
 
 copy-requires : tie.Need-copy-requires invariant-loop decreases-loop
@@ -89,56 +68,47 @@ copy-requires c κs =
     let e = long c.before.before in
     simp (length-take, length-drop) (omega arith)
 
-add-i : tie.Need-overflow-add-i invariant-loop decreases-loop
-add-i c = search rules
-
-loop-less : tie.Need-loop-smaller invariant-loop decreases-loop
-loop-less c = search rules
-
-loop-again : tie.Need-loop-preserved invariant-loop decreases-loop
+loop-again : tie.Need-loop-i-preserved invariant-loop decreases-loop
 loop-again c =
     let a = (start-from-after-slice-known2 c).args in
-    let l = (at-loop-from-after-slice-known2 c).loop in
+    let l = (at-loop-from-after-slice-known2 c).loop-i in
     let n : (i : ℕ) → i < a.count → length (take a.m (drop 0 (piece 32 i a.rows.now))) ≡ a.m =
     λ i h. length-take-le a.m (piece 32 i a.rows.now) (omega
-    (arith, (start-from-after-slice-known2 c).pre, length-piece 32 i a.rows.now (omega (arith, (start-from-after-slice-known2 c).pre, row_fits i a.count 32 h)))) in (
+    (arith, (start-from-after-slice-known2 c).requires, length-piece 32 i a.rows.now (omega (arith, (start-from-after-slice-known2 c).requires, row_fits i a.count 32 h)))) in (
       join-loop (λ i. take a.m (drop 0 (piece 32 i a.rows.now))) a.m l.i a.out.now l.out _ (λ i h. n i (omega arith))
           (c.before.before.copy.ensures ∙ ap₂ (λ (m : ℕ) (p : List ℕ). take m p) (long (in-loop-from-after-slice-known2 c)) (part-piece 32 l.i a.rows.now))
-          l.inv.0,
+          l.invariant.0,
       omega arith,
       search rules,
     )
-
-same_length : tie.Need-same-length invariant-loop decreases-loop
-same_length c = search rules
 
 returns : tie.Need-returns invariant-loop decreases-loop
 unfolding parts
 returns c =
     let a = (start-from-after-loop c).args in
-    let l = c.before.loop in
-    join-end (λ i. take a.m (drop 0 (piece 32 i a.rows.now))) a.m l.i a.count a.out.now l.out (omega arith) (start-from-after-loop c).pre.3 l.invariant.0
+    let l = c.before.loop-i in
+    join-end (λ i. take a.m (drop 0 (piece 32 i a.rows.now))) a.m l.i a.count a.out.now l.out (omega arith) (start-from-after-loop c).requires.3 l.invariant.0
 
-pub parts-spec : {M : Type 1} → statement M
-parts-spec =
+pub parts_spec : {M : Type 1} → statement M
+parts_spec =
     tie.close
     (tie.spec
     invariant-loop
     decreases-loop
     loop-holds
-    mul-from
-    add-to
+    (λ c. search rules)
+    (λ c. search rules)
     mul_at
     add-end
-    sub-copy
-    part-copy-start
-    part-copy-end
-    sub-copy-2
-    part-copy-start-2
+    (λ c. search rules)
+    (λ c. search rules)
+    (λ c. search rules)
+    (λ c. search rules)
+    (λ c. search rules)
     part-copy-end-2
     copy-requires
-    add-i
-    loop-less
+    (λ c. search rules)
+    (λ c. search rules)
     loop-again
-    same_length
+    (λ c. search rules)
     returns)

@@ -7,48 +7,63 @@ use Rattle.decode_stripe.proofs.Made.{part-long}
 use Rattle.decode_setup.proofs.Placed.{f-few, g-few}
 use Rattle.setup_rows.proofs.Near.{near_again}
 use Rattle.stripes_cut.proofs.Made.{tables-lent, targets-are}
-use mathlib.Core.Path.{◌≡◌, refl, sym, ap, ap₂, ◌∙◌}
-use mathlib.Core.List.{List, ◌++◌}
-use Prim.Native.Nat.{ℕ, ◌≤◌, ◌<◌, ◌-◌, ◌+◌, ◌*◌}
+use mathlib.Core.Path.{◌≡◌, refl, ◌∙◌}
+use Prim.Native.Nat.{◌<◌, ◌+◌}
 use native.Mathlib.Omega.{arith}
-use lib.ListN.{length, get_or, take, drop, length-take, length-drop, length-append}
+use lib.ListN.{length, get_or, length-append}
 use borrow.Author.Rules.{rules}
 use Rattle.decode_stripes.proofs.stripes.Statement.{statement}
 use Rattle.decode_stripes.proofs.stripes.Tie as tie
 
 -- places in the code
-abbrev st-struct-known : tie.After-struct-known → tie.Start
+abbrev start-of-struct_known-1 : tie.After-struct_known-1 → tie.Start
+start-of-struct_known-1 c = c.before.before.before.before.before.before.before
+
+abbrev start-of-struct_known-2-1 : tie.After-struct_known-2-1 → tie.Start
+start-of-struct_known-2-1 c = start-of-struct_known-1 c.before
+
+abbrev start-of-struct_known-3-1 : tie.After-struct_known-3-1 → tie.Start
+start-of-struct_known-3-1 c = start-of-struct_known-2-1 c.before
+
+abbrev start-of-shared_slice_known-6-1 : tie.After-shared_slice_known-6-1 → tie.Start
+start-of-shared_slice_known-6-1 c = start-of-struct_known-3-1 c.before
+
+abbrev start-of-shared_slice_known-6-1-unread : tie.After-shared_slice_known-6-1-unread → tie.Start
+start-of-shared_slice_known-6-1-unread c = start-of-struct_known-3-1 c.before
+
+abbrev start-of-targets-1 : tie.After-targets-1 → tie.Start
+start-of-targets-1 c = start-of-shared_slice_known-6-1 c.before
+
+abbrev start-of-boards_from : tie.After-boards_from → tie.Start
+start-of-boards_from c = start-of-targets-1 c.before
+
+abbrev start-of-targets-2-1 : tie.After-targets-2-1 → tie.Start
+start-of-targets-2-1 c = start-of-boards_from c.before
+
+abbrev start-of-stripes_by-arg-1 : tie.After-stripes_by-arg-1 → tie.Start
+start-of-stripes_by-arg-1 c = start-of-targets-2-1 c.before
+
+abbrev start-of-stripes_by-arg-2-1 : tie.After-stripes_by-arg-2-1 → tie.Start
+start-of-stripes_by-arg-2-1 c = start-of-stripes_by-arg-1 c.before
+
+abbrev start-of-stripes_by-arg-3-1 : tie.After-stripes_by-arg-3-1 → tie.Start
+start-of-stripes_by-arg-3-1 c = start-of-stripes_by-arg-2-1 c.before
+
+abbrev start-of-stripes_by-arg-4-1 : tie.After-stripes_by-arg-4-1 → tie.Start
+start-of-stripes_by-arg-4-1 c = start-of-stripes_by-arg-3-1 c.before
+
+abbrev start-of-stripes_by-arg-5-1 : tie.After-stripes_by-arg-5-1 → tie.Start
+start-of-stripes_by-arg-5-1 c = start-of-stripes_by-arg-4-1 c.before
+
+abbrev start-of-stripes_by-arg-7-1 : tie.After-stripes_by-arg-7-1 → tie.Start
+start-of-stripes_by-arg-7-1 c = start-of-stripes_by-arg-5-1 c.before.before
+
+-- places in the code
+abbrev st-struct-known : tie.After-struct_known-1 → tie.Start
 st-struct-known c = c.before.before.before.before.before.before.before
 
-abbrev st-struct-known2 : tie.After-struct-known2 → tie.Start
+abbrev st-struct-known2 : tie.After-struct_known-2-1 → tie.Start
 st-struct-known2 c = st-struct-known c.before
-
-abbrev st-struct-known3 : tie.After-struct-known3 → tie.Start
-st-struct-known3 c = st-struct-known2 c.before
-
-abbrev st-targets : tie.After-targets → tie.Start
-st-targets c = st-struct-known3 c.before.before
-
-abbrev st-boards-from : tie.After-boards-from → tie.Start
-st-boards-from c = st-targets c.before
-
-abbrev boards-from-at-targets3 : tie.After-targets3 → tie.After-boards-from
-boards-from-at-targets3 c = c.before.before
-
-abbrev st-stripes-by-arg : tie.After-stripes-by-arg → tie.Start
-st-stripes-by-arg c = st-boards-from (boards-from-at-targets3 c.before)
-
-abbrev st-stripes-by-arg3 : tie.After-stripes-by-arg3 → tie.Start
-st-stripes-by-arg3 c = st-stripes-by-arg c.before.before
-
-abbrev st-stripes-by-arg5 : tie.After-stripes-by-arg5 → tie.Start
-st-stripes-by-arg5 c = st-stripes-by-arg3 c.before.before
-
-abbrev boards-from-at-stripes-by-arg7 : tie.After-stripes-by-arg7 → tie.After-boards-from
-boards-from-at-stripes-by-arg7 c = boards-from-at-targets3 c.before.before.before.before.before.before.before
-
-abbrev st-stripes-by-arg7 : tie.After-stripes-by-arg7 → tie.Start
-st-stripes-by-arg7 c = st-boards-from (boards-from-at-stripes-by-arg7 c)
 
 -- the sizes are legal
 facts : (c : tie.Start) → Legal c.args.sizes
@@ -61,140 +76,97 @@ first-known : (c : tie.Start) → get_or c.args.boards.now 0 0 < c.args.sizes.n
 first-known c = all-at (λ i. i < c.args.sizes.n) 0 c.args.boards.now (below_all c.args.sizes.n c.args.boards.now c.requires.0.known) 0 (some-board c)
 
 -- the boards at which values are taken
-near-made : (c : tie.After-boards-from) → length c.boards-from.new.1.1.0 ≡ (st-boards-from c).args.sizes.d + (st-boards-from c).args.sizes.r
-near-made c = c.boards-from.auto.1.1.0 ∙ part-long _ _ (omega (arith, facts (st-boards-from c)))
+near-made : (c : tie.After-boards_from) → length c.boards_from.new.out ≡ c.args.sizes.d + c.args.sizes.r
+near-made c = c.boards_from.auto.out ∙ part-long _ _ (omega (arith, facts (start-of-boards_from c)))
 
-add-w : tie.Need-overflow-add-w
-add-w c = omega (arith, facts (st-struct-known c))
+add-w : tie.Need-overflow_add-w
+add-w c = omega (arith, facts (start-of-struct_known-1 c))
 
-sub-f-end : tie.Need-overflow-sub-f-end
-sub-f-end c = omega (arith, facts (st-struct-known2 c))
+sub-f-end : tie.Need-overflow_sub-f_end
+sub-f-end c = omega (arith, facts (start-of-struct_known-2-1 c))
 
-mul-f-end : tie.Need-overflow-mul-f-end
-mul-f-end c = omega (arith, facts (st-struct-known2 c))
+mul-f-end : tie.Need-overflow_mul-f_end
+mul-f-end c = omega (arith, facts (start-of-struct_known-2-1 c))
 
-mul-f-end-2 : tie.Need-overflow-mul-f-end-2
-mul-f-end-2 c = omega (arith, f-few _ (facts (st-struct-known2 c)))
+mul-f-end-2 : tie.Need-overflow_mul-f_end-2
+mul-f-end-2 c = omega (arith, f-few _ (facts (start-of-struct_known-2-1 c)))
 
-sub-g-end : tie.Need-overflow-sub-g-end
-sub-g-end c = omega (arith, facts (st-struct-known3 c))
+sub-g-end : tie.Need-overflow_sub-g_end
+sub-g-end c = omega (arith, facts (start-of-struct_known-3-1 c))
 
-mul-g-end : tie.Need-overflow-mul-g-end
-mul-g-end c = omega (arith, facts (st-struct-known3 c))
+mul-g-end : tie.Need-overflow_mul-g_end
+mul-g-end c = omega (arith, facts (start-of-struct_known-3-1 c))
 
-mul-g-end-2 : tie.Need-overflow-mul-g-end-2
-mul-g-end-2 c = omega (arith, g-few _ (facts (st-struct-known3 c)))
+mul-g-end-2 : tie.Need-overflow_mul-g_end-2
+mul-g-end-2 c = omega (arith, g-few _ (facts (start-of-struct_known-3-1 c)))
 
-add-g-end : tie.Need-overflow-add-g-end
-add-g-end c = omega (arith, g-few _ (facts (st-struct-known3 c)))
+add-g-end : tie.Need-overflow_add-g_end
+add-g-end c = omega (arith, g-few _ (facts (start-of-struct_known-3-1 c)))
 
-mul-unit-end : tie.Need-overflow-mul-unit-end
-mul-unit-end c = omega (arith, facts (st-struct-known3 c))
+mul-unit-end : tie.Need-overflow_mul-unit_end
+mul-unit-end c = omega (arith, facts (start-of-struct_known-3-1 c))
 
-add-unit-end : tie.Need-overflow-add-unit-end
-add-unit-end c = omega (arith, facts (st-struct-known3 c))
+add-unit-end : tie.Need-overflow_add-unit_end
+add-unit-end c = omega (arith, facts (start-of-struct_known-3-1 c))
 
-mul-seed-end : tie.Need-overflow-mul-seed-end
-mul-seed-end c = omega (arith, facts (st-struct-known3 c))
+mul-seed-end : tie.Need-overflow_mul-seed_end
+mul-seed-end c = omega (arith, facts (start-of-struct_known-3-1 c))
 
-add-seed-end : tie.Need-overflow-add-seed-end
-add-seed-end c = omega (arith, facts (st-struct-known3 c))
+add-seed-end : tie.Need-overflow_add-seed_end
+add-seed-end c = omega (arith, facts (start-of-struct_known-3-1 c))
 
-sub-top-end : tie.Need-overflow-sub-top-end
-sub-top-end c = omega (arith, facts (st-struct-known3 c))
+sub-top-end : tie.Need-overflow_sub-top_end
+sub-top-end c = omega (arith, facts (start-of-struct_known-3-1 c))
 
-mul-top-end : tie.Need-overflow-mul-top-end
-mul-top-end c = omega (arith, facts (st-struct-known3 c))
+mul-top-end : tie.Need-overflow_mul-top_end
+mul-top-end c = omega (arith, facts (start-of-struct_known-3-1 c))
 
-add-top-end : tie.Need-overflow-add-top-end
-add-top-end c = omega (arith, facts (st-struct-known3 c))
+add-top-end : tie.Need-overflow_add-top_end
+add-top-end c = omega (arith, facts (start-of-struct_known-3-1 c))
 
-shared-slice-read-boards-from : tie.Need-shared-slice-read-boards-from
-shared-slice-read-boards-from c = some-board (st-struct-known3 c.before)
+shared-slice-read-boards-from : tie.Need-bounds-boards-0
+shared-slice-read-boards-from c = some-board (start-of-shared_slice_known-6-1-unread c)
 
-sub-boards-from : tie.Need-overflow-sub-boards-from
-sub-boards-from c = search rules
+part-targets-end : tie.Need-slice_bounds-targets-end
+part-targets-end c = omega (arith, facts (start-of-shared_slice_known-6-1 c))
 
-part-targets-start : tie.Need-slice-bounds-targets-start
-part-targets-start c = search rules
+boards-from-requires : tie.Need-boards_from-requires
+boards-from-requires c κs = (first-known (start-of-targets-1 c), (facts (start-of-targets-1 c)).few)
 
-part-targets-end : tie.Need-slice-bounds-targets-end
-part-targets-end c = omega (arith, facts (st-struct-known3 c.before))
+part-stripes-by-end : tie.Need-slice_bounds-stripes_by-end
+part-stripes-by-end c = simp length-append (omega (arith, facts (start-of-targets-2-1 c), near-made c.before))
 
-boards-from-requires : tie.Need-boards-from-requires
-boards-from-requires c κs = (first-known (st-targets c), (facts (st-targets c)).few)
+part-stripes-by-end-2 : tie.Need-slice_bounds-stripes_by-end-2
+part-stripes-by-end-2 c = omega (arith, f-few _ (facts (start-of-stripes_by-arg-1 c)), c.requires.4.long)
 
-sub-stripes-by : tie.Need-overflow-sub-stripes-by
-sub-stripes-by c = search rules
+part-stripes-by-end-3 : tie.Need-slice_bounds-stripes_by-end-3
+part-stripes-by-end-3 c = omega (arith, g-few _ (facts (start-of-stripes_by-arg-2-1 c)), c.requires.4.long)
 
-part-stripes-by-start : tie.Need-slice-bounds-stripes-by-start
-part-stripes-by-start c = search rules
+part-stripes-by-end-4 : tie.Need-slice_bounds-stripes_by-end-4
+part-stripes-by-end-4 c = omega (arith, facts (start-of-stripes_by-arg-3-1 c), c.requires.4.long)
 
-part-stripes-by-end : tie.Need-slice-bounds-stripes-by-end
-part-stripes-by-end c = simp length-append (omega (arith, facts (st-boards-from (boards-from-at-targets3 c)), near-made (boards-from-at-targets3 c)))
+part-stripes-by-end-5 : tie.Need-slice_bounds-stripes_by-end-5
+part-stripes-by-end-5 c = omega (arith, facts (start-of-stripes_by-arg-4-1 c), c.requires.4.long)
 
-sub-stripes-by-2 : tie.Need-overflow-sub-stripes-by-2
-sub-stripes-by-2 c = search rules
+part-stripes-by-start-6 : tie.Need-slice_bounds-stripes_by-start-6
+part-stripes-by-start-6 c = omega (arith, c.requires)
 
-part-stripes-by-start-2 : tie.Need-slice-bounds-stripes-by-start-2
-part-stripes-by-start-2 c = search rules
+part-stripes-by-end-6 : tie.Need-slice_bounds-stripes_by-end-6
+part-stripes-by-end-6 c = omega (arith, facts (start-of-stripes_by-arg-5-1 c), c.requires.4.long)
 
-part-stripes-by-end-2 : tie.Need-slice-bounds-stripes-by-end-2
-part-stripes-by-end-2 c = omega (arith, f-few _ (facts (st-stripes-by-arg c)), (st-stripes-by-arg c).requires.4.long)
-
-sub-stripes-by-3 : tie.Need-overflow-sub-stripes-by-3
-sub-stripes-by-3 c = search rules
-
-part-stripes-by-start-3 : tie.Need-slice-bounds-stripes-by-start-3
-part-stripes-by-start-3 c = search rules
-
-part-stripes-by-end-3 : tie.Need-slice-bounds-stripes-by-end-3
-part-stripes-by-end-3 c = omega (arith, g-few _ (facts (st-stripes-by-arg c.before)), (st-stripes-by-arg c.before).requires.4.long)
-
-sub-stripes-by-4 : tie.Need-overflow-sub-stripes-by-4
-sub-stripes-by-4 c = search rules
-
-part-stripes-by-start-4 : tie.Need-slice-bounds-stripes-by-start-4
-part-stripes-by-start-4 c = search rules
-
-part-stripes-by-end-4 : tie.Need-slice-bounds-stripes-by-end-4
-part-stripes-by-end-4 c = omega (arith, facts (st-stripes-by-arg3 c), (st-stripes-by-arg3 c).requires.4.long)
-
-sub-stripes-by-5 : tie.Need-overflow-sub-stripes-by-5
-sub-stripes-by-5 c = search rules
-
-part-stripes-by-start-5 : tie.Need-slice-bounds-stripes-by-start-5
-part-stripes-by-start-5 c = search rules
-
-part-stripes-by-end-5 : tie.Need-slice-bounds-stripes-by-end-5
-part-stripes-by-end-5 c = omega (arith, facts (st-stripes-by-arg3 c.before), (st-stripes-by-arg3 c.before).requires.4.long)
-
-sub-stripes-by-6 : tie.Need-overflow-sub-stripes-by-6
-sub-stripes-by-6 c = search rules
-
-part-stripes-by-start-6 : tie.Need-slice-bounds-stripes-by-start-6
-part-stripes-by-start-6 c = omega (arith, (st-stripes-by-arg5 c).requires)
-
-part-stripes-by-end-6 : tie.Need-slice-bounds-stripes-by-end-6
-part-stripes-by-end-6 c = omega (arith, facts (st-stripes-by-arg5 c), (st-stripes-by-arg5 c).requires.4.long)
-
-stripes-by-requires : tie.Need-stripes-by-requires
+stripes-by-requires : tie.Need-stripes_by-requires
 stripes-by-requires c κs =
-    let g = st-stripes-by-arg7 c in
-    let a = g.args in
-    let p = g.pre in
-    let f = facts g in
-    let e = near_again a.sizes f (get_or a.boards.now 0 0) _ (boards-from-at-stripes-by-arg7 c).boards-from.new.1.1.0 refl (boards-from-at-stripes-by-arg7 c).boards-from.ensures in
-    (p.0, targets-are a.sizes f a.boards.now _ (first-known g) e, p.1, p.2, p.3, tables-lent a.sizes a.points.now a.boards.now a.tables.now _ e p.4, p.5, p.6)
+    let a = c.args in
+    let p = c.requires in
+    let f = facts (start-of-stripes_by-arg-7-1 c) in
+    let e = near_again a.sizes f (get_or a.boards.now 0 0) _ c.boards_from.new.out refl c.boards_from.ensures in
+    (p.0, targets-are a.sizes f a.boards.now _ (first-known (start-of-stripes_by-arg-7-1 c)) e, p.1, p.2, p.3, tables-lent a.sizes a.points.now a.boards.now a.tables.now _ e p.4, p.5, p.6)
 
-same_length : tie.Need-same-length
-same_length c = c.before.out.given
+same_length : tie.Need-shape_of-out
+same_length c = c.out-1.given
 
-returns : tie.Need-returns
-returns c = search rules
-
-pub stripes-spec : {M : Type 1} → statement M
-stripes-spec =
+pub stripes_spec : {M : Type 1} → statement M
+stripes_spec =
     tie.close
     (tie.spec
     add-w
@@ -213,28 +185,28 @@ stripes-spec =
     mul-top-end
     add-top-end
     shared-slice-read-boards-from
-    sub-boards-from
-    part-targets-start
+    (λ c. search rules)
+    (λ c. search rules)
     part-targets-end
     boards-from-requires
-    sub-stripes-by
-    part-stripes-by-start
+    (λ c. search rules)
+    (λ c. search rules)
     part-stripes-by-end
-    sub-stripes-by-2
-    part-stripes-by-start-2
+    (λ c. search rules)
+    (λ c. search rules)
     part-stripes-by-end-2
-    sub-stripes-by-3
-    part-stripes-by-start-3
+    (λ c. search rules)
+    (λ c. search rules)
     part-stripes-by-end-3
-    sub-stripes-by-4
-    part-stripes-by-start-4
+    (λ c. search rules)
+    (λ c. search rules)
     part-stripes-by-end-4
-    sub-stripes-by-5
-    part-stripes-by-start-5
+    (λ c. search rules)
+    (λ c. search rules)
     part-stripes-by-end-5
-    sub-stripes-by-6
+    (λ c. search rules)
     part-stripes-by-start-6
     part-stripes-by-end-6
     stripes-by-requires
     same_length
-    returns)
+    (λ c. search rules))

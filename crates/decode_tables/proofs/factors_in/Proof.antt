@@ -1,6 +1,6 @@
 -- `decode_tables::factors_in` meets its contract.
 -- Assumes nothing.
-use mathlib.Core.Path.{◌≡◌, refl, sym, ap, ap₂, ◌∙◌}
+use mathlib.Core.Path.{sym, ap, ◌∙◌}
 use mathlib.Core.List.{List}
 use Prim.Native.Nat.{ℕ, ◌-◌, ◌+◌, ◌*◌, ◌%◌}
 use native.Mathlib.Omega.{arith}
@@ -16,76 +16,70 @@ use Rattle.decode_tables.proofs.factors_in.Statement.{statement}
 use Rattle.decode_tables.proofs.factors_in.Tie as tie
 
 -- places in the code
-abbrev near-at-lagrange-rows-arg2 : tie.After-lagrange-rows-arg2 → tie.After-near
-near-at-lagrange-rows-arg2 c = c.before.before.before
+abbrev near-at-lagrange-rows-arg2 : tie.After-lagrange_rows-arg-1 → tie.After-near-1
+near-at-lagrange-rows-arg2 c = c.before.before
 
-abbrev after-boards-from-from-after-lagrange-rows-arg2 : tie.After-lagrange-rows-arg2 → tie.After-boards-from
+abbrev after-boards-from-from-after-lagrange-rows-arg2 : tie.After-lagrange_rows-arg-1 → tie.After-boards_from
 after-boards-from-from-after-lagrange-rows-arg2 c = (near-at-lagrange-rows-arg2 c).before
 
-abbrev start-from-after-lagrange-rows-arg2 : tie.After-lagrange-rows-arg2 → tie.Start
+abbrev start-from-after-lagrange-rows-arg2 : tie.After-lagrange_rows-arg-1 → tie.Start
 start-from-after-lagrange-rows-arg2 c = (after-boards-from-from-after-lagrange-rows-arg2 c).before.before.before.before.before.before.before
 
-abbrev lagrange-rows-at-board-factors-arg2 : tie.After-board-factors-arg2 → tie.After-lagrange-rows
-lagrange-rows-at-board-factors-arg2 c = c.before.before.before.before
+abbrev lagrange-rows-at-board-factors-arg2 : tie.After-board_factors-arg-1 → tie.After-lagrange_rows
+lagrange-rows-at-board-factors-arg2 c = c.before.before.before
 
-abbrev start-from-after-board-factors-arg2 : tie.After-board-factors-arg2 → tie.Start
+abbrev start-from-after-board-factors-arg2 : tie.After-board_factors-arg-1 → tie.Start
 start-from-after-board-factors-arg2 c = start-from-after-lagrange-rows-arg2 (lagrange-rows-at-board-factors-arg2 c).before
 
-abbrev board-factors-at-slice-known6 : tie.After-slice-known6 → tie.After-board-factors
+abbrev board-factors-at-slice-known6 : tie.After-slice_known-6-1 → tie.After-board_factors
 board-factors-at-slice-known6 c = c.before.before
 
-abbrev after-lagrange-rows-from-after-slice-known6 : tie.After-slice-known6 → tie.After-lagrange-rows
+abbrev after-lagrange-rows-from-after-slice-known6 : tie.After-slice_known-6-1 → tie.After-lagrange_rows
 after-lagrange-rows-from-after-slice-known6 c = lagrange-rows-at-board-factors-arg2 (board-factors-at-slice-known6 c).before
 
-abbrev start-from-after-slice-known6 : tie.After-slice-known6 → tie.Start
+abbrev start-from-after-slice-known6 : tie.After-slice_known-6-1 → tie.Start
 start-from-after-slice-known6 c = start-from-after-lagrange-rows-arg2 (after-lagrange-rows-from-after-slice-known6 c).before
 
-abbrev after-boards-from-from-after-slice-known6 : tie.After-slice-known6 → tie.After-boards-from
+abbrev after-boards-from-from-after-slice-known6 : tie.After-slice_known-6-1 → tie.After-boards_from
 after-boards-from-from-after-slice-known6 c = after-boards-from-from-after-lagrange-rows-arg2 (after-lagrange-rows-from-after-slice-known6 c).before
 
-boards-from-requires : tie.Need-boards-from-requires
-boards-from-requires c κs = search rules
-
-lagrange-rows-requires : tie.Need-lagrange-rows-requires
+lagrange-rows-requires : tie.Need-lagrange_rows-requires
 lagrange-rows-requires c κs =
     let g = (start-from-after-lagrange-rows-arg2 c) in
     let a = g.args in
-    let e = (after-boards-from-from-after-lagrange-rows-arg2 c).boards-from.ensures ∙ ap (λ (m : ℕ). tabulate m (λ t. (a.b + t) % a.sizes.n)) g.pre.5 in
+    let e = (after-boards-from-from-after-lagrange-rows-arg2 c).boards_from.ensures ∙ ap (λ (m : ℕ). tabulate m (λ t. (a.b + t) % a.sizes.n)) g.requires.5 in
     let l = ap length e ∙ length-tabulate a.c (λ t. (a.b + t) % a.sizes.n) in
-    (g.pre.0, g.pre.1, ap (below 32) e ∙ near-below a.sizes a.c a.b g.pre.2 g.pre.4, omega arith, g.pre.6 ∙ ap (λ (m : ℕ). m * 32) (sym l))
+    (g.requires.0, g.requires.1, ap (below 32) e ∙ near-below a.sizes a.c a.b g.requires.2 g.requires.4, omega arith, g.requires.6 ∙ ap (λ (m : ℕ). m * 32) (sym l))
 
-board-factors-requires : tie.Need-board-factors-requires
+board-factors-requires : tie.Need-board_factors-requires
 board-factors-requires c κs =
     let g = (start-from-after-board-factors-arg2 c) in
-    (g.pre.2, g.pre.3, g.pre.4, omega arith, g.pre.7)
+    (g.requires.2, g.requires.3, g.requires.4, omega arith, g.requires.7)
 
-same_length : tie.Need-same-length
-same_length c = (near-at-lagrange-rows-arg2 (after-lagrange-rows-from-after-slice-known6 c).before).near.given
+same_length : tie.Need-shape_of-near
+same_length c = (near-at-lagrange-rows-arg2 (after-lagrange-rows-from-after-slice-known6 c).before).near-1.given
 
-same-length-2 : tie.Need-same-length-2
-same-length-2 c = search rules
-
-same-length-3 : tie.Need-same-length-3
-same-length-3 c = c.before.out.given
+same-length-3 : tie.Need-shape_of-out
+same-length-3 c = c.before.out-1.given
 
 returns : tie.Need-returns
 returns c =
     let g = (start-from-after-slice-known6 c) in
     let a = g.args in
-    let e = (after-boards-from-from-after-slice-known6 c).boards-from.ensures ∙ ap (λ (m : ℕ). tabulate m (λ t. (a.b + t) % a.sizes.n)) g.pre.5 in
-    (board-factors-at-slice-known6 c).board-factors.ensures
+    let e = (after-boards-from-from-after-slice-known6 c).boards_from.ensures ∙ ap (λ (m : ℕ). tabulate m (λ t. (a.b + t) % a.sizes.n)) g.requires.5 in
+    (board-factors-at-slice-known6 c).board_factors.ensures
     ∙ ap (λ (rows : List ℕ). join (a.sizes.n - a.c) (λ o. fit 32 (tabulate a.c (λ t. cell rows t ((a.b + (a.c + o)) % a.sizes.n)))))
-    ((after-lagrange-rows-from-after-slice-known6 c).lagrange-rows.ensures ∙ ap (lagrange_rows a.points.now) e)
-    ∙ factors-made a.sizes a.points.now a.c a.b g.pre.2 g.pre.4 g.pre.3
+    ((after-lagrange-rows-from-after-slice-known6 c).lagrange_rows.ensures ∙ ap (lagrange_rows a.points.now) e)
+    ∙ factors-made a.sizes a.points.now a.c a.b g.requires.2 g.requires.4 g.requires.3
 
-pub factors-in-spec : {M : Type 1} → statement M
-factors-in-spec =
+pub factors_in_spec : {M : Type 1} → statement M
+factors_in_spec =
     tie.close
     (tie.spec
-    boards-from-requires
+    (λ c κs. search rules)
     lagrange-rows-requires
     board-factors-requires
     same_length
-    same-length-2
+    (λ c. search rules)
     same-length-3
     returns)

@@ -11,65 +11,65 @@ use Rattle.lists.proofs.Pieces.{part-piece}
 use Rattle.row_dots.proofs.Rows.{join-loop}
 use Rattle.row_values.specs.Steps.{row_sums}
 use Rattle.row_values.proofs.Sums.{length-sums}
-use Rattle.edit_stripe.proofs.Rows.{row-long}
+use Rattle.edit_powers.proofs.Rows.{row-long}
 use Rattle.edit_stripe.proofs.values_in.Statement.{statement}
 use Rattle.edit_stripe.proofs.values_in.Tie as tie
 
-abbrev invariant-loop : tie.invariant-loop
+abbrev invariant-loop : tie.invariant-loop-t
 invariant-loop powers count rows out₀ t₀ out t =
     (out ≡ join t (λ t. row_sums 32 (piece 32 t rows) powers) ++ drop (t * 32) out₀) × (t ≤ count) × (length out ≡ length out₀)
 
-abbrev decreases-loop : tie.decreases-loop
+abbrev decreases-loop : tie.decreases-loop-t
 decreases-loop powers count rows out₀ t₀ out t = count - t
 
 -- places in the code
-abbrev made : tie.After-slice-known2 invariant-loop decreases-loop → tie.After-sums invariant-loop decreases-loop
+abbrev made : tie.After-slice_known-in-loop-t-1 invariant-loop decreases-loop → tie.After-sums invariant-loop decreases-loop
 made c = c.before.before
 
-abbrev turn-at-sums-arg2 : tie.After-sums-arg2 invariant-loop decreases-loop → tie.In-loop invariant-loop decreases-loop
+abbrev turn-at-sums-arg2 : tie.After-sums-arg-in-loop-t-1 invariant-loop decreases-loop → tie.In-loop-t invariant-loop decreases-loop
 turn-at-sums-arg2 c = c.before.before
 
-abbrev turn : tie.After-sums invariant-loop decreases-loop → tie.In-loop invariant-loop decreases-loop
+abbrev turn : tie.After-sums invariant-loop decreases-loop → tie.In-loop-t invariant-loop decreases-loop
 turn c = turn-at-sums-arg2 c.before
 
-abbrev st : tie.At-loop invariant-loop decreases-loop → tie.Start invariant-loop decreases-loop
+abbrev st : tie.At-loop-t invariant-loop decreases-loop → tie.Start invariant-loop decreases-loop
 st c = c.before.before.before.before
 
 sums-requires : tie.Need-sums-requires invariant-loop decreases-loop
 sums-requires c κs =
     let t = turn-at-sums-arg2 c in
-    let l = t.before.loop in
+    let l = t.before.loop-t in
     let s = st t.before in
-    let h = t.loop-test.taken in
-    let lr = row-long l.t s.args.rows.now s.pre.2 (omega (arith, h, s.pre.1)) in
-    let lo = row-long l.t l.out (l.inv.2 ∙ s.pre.3) (omega (arith, h, s.pre.1)) in
-    (omega (arith, lr, s.pre.0), omega (arith, lr), omega (arith, lo))
+    let h = t.loop-t-test.true in
+    let lr = row-long l.t s.args.rows.now s.requires.2 (omega (arith, h, s.requires.1)) in
+    let lo = row-long l.t l.out (l.invariant.2 ∙ s.requires.3) (omega (arith, h, s.requires.1)) in
+    (omega (arith, lr, s.requires.0), omega (arith, lr), omega (arith, lo))
 
-loop-again : tie.Need-loop-preserved invariant-loop decreases-loop
+loop-again : tie.Need-loop-t-preserved invariant-loop decreases-loop
 loop-again c =
     let k = made c in
     let t = turn k in
-    let l = t.before.loop in
+    let l = t.before.loop-t in
     let s = st t.before in
     let a = s.args in
-    let h = t.loop-test.taken in (
+    let h = t.loop-t-test.true in (
       join-loop (λ t. row_sums 32 (piece 32 t a.rows.now) a.powers.now) 32 l.t a.out.now l.out _ (λ i h. length-sums 32 (piece 32 i a.rows.now) a.powers.now)
           (k.sums.ensures
-          ∙ ap₂ {C = List ℕ} (λ (n : ℕ) (cs : List ℕ). row_sums n cs a.powers.now) (row-long l.t l.out (l.inv.2 ∙ s.pre.3) (omega (arith, h, s.pre.1)))
-          (part-piece 32 l.t a.rows.now)) l.inv.0,
+          ∙ ap₂ {C = List ℕ} (λ (n : ℕ) (cs : List ℕ). row_sums n cs a.powers.now) (row-long l.t l.out (l.invariant.2 ∙ s.requires.3) (omega (arith, h, s.requires.1)))
+          (part-piece 32 l.t a.rows.now)) l.invariant.0,
       omega (arith, h),
-      c.before.out.given.1 ∙ l.inv.2,
+      c.before.out-1.given.1 ∙ l.invariant.2,
     )
 
 returns : tie.Need-returns invariant-loop decreases-loop
 returns c =
-    let l = c.before.loop in
+    let l = c.before.loop-t in
     let a = (st c.before).args in
-    let e : l.t ≡ a.count = omega (arith, c.loop-test.false, l.invariant.1) in
+    let e : l.t ≡ a.count = omega (arith, c.loop-t-test.false, l.invariant.1) in
     l.invariant.0 ∙ ap (λ (m : ℕ). join m (λ t. row_sums 32 (piece 32 t a.rows.now) a.powers.now) ++ drop (m * 32) a.out.now) e
 
-pub values-in-spec : {M : Type 1} → statement M
-values-in-spec =
+pub values_in_spec : {M : Type 1} → statement M
+values_in_spec =
     tie.close
     (tie.spec
     invariant-loop
@@ -84,8 +84,8 @@ values-in-spec =
     (λ c. search rules)
     (λ c. search rules)
     sums-requires
-    (λ c. let t = turn (made c) in omega (arith, t.before.loop.inv, t.loop-test.taken, (st t.before).pre))
-    (λ c. omega (arith, (turn (made c)).loop-test.taken))
+    (λ c. let t = turn (made c) in omega (arith, t.before.loop-t.invariant, t.loop-t-test.true, (st t.before).requires))
+    (λ c. omega (arith, (turn (made c)).loop-t-test.true))
     loop-again
     (λ c. search rules)
     returns)

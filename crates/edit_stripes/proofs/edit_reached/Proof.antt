@@ -2,12 +2,12 @@
 -- Assumes nothing.
 use mathlib.Core.Path.{◌≡◌, sym, ap, ap₂, ◌∙◌}
 use mathlib.Core.List.{List}
-use Prim.Native.Nat.{ℕ, ◌+◌, ◌-◌, ◌*◌, ◌/◌, ◌≤◌}
+use Prim.Native.Nat.{ℕ, ◌+◌, ◌-◌, ◌/◌, ◌≤◌}
 use native.Mathlib.Omega.{arith}
 use lib.ListN.{length}
 use borrow.Author.Rules.{rules}
 use Rattle.lists.specs.Tests.{pick}
-use Rattle.sizes.specs.Sizing.{α, B, stripes}
+use Rattle.sizes.specs.Sizing.{B, stripes}
 use Rattle.sizes.proofs.Legal.{Legal, legal-facts, B-pos, B-most}
 use Rattle.edit_laws.specs.Steps.{stripes_edited}
 use Rattle.edit_stripes.proofs.Reach.{end}
@@ -15,17 +15,17 @@ use Rattle.edit_stripes.proofs.edit_reached.Statement.{statement}
 use Rattle.edit_stripes.proofs.edit_reached.Tie as tie
 
 -- places in the code
-abbrev st : tie.After-stripe-len → tie.Start
+abbrev st : tie.After-stripe_len-b → tie.Start
 st c = c.before.before.before.before.before.before.before.before
 
 facts : (c : tie.Start) → Legal c.args.sizes
 facts c = legal-facts _ c.requires.0.sized
 
 -- the length of a stripe
-long : (c : tie.After-stripe-len) → c.stripe-len.result ≡ B (st c).args.sizes
-long c = c.stripe-len.ensures ∙ ap (λ b. pick b (B (st c).args.sizes) 0) (st c).requires.0.sized
+long : (c : tie.After-stripe_len-b) → c.stripe_len-b.result ≡ B (st c).args.sizes
+long c = c.stripe_len-b.ensures ∙ ap (λ b. pick b (B (st c).args.sizes) 0) (st c).requires.0.sized
 
-some : (c : tie.After-stripe-len) → 1 ≤ c.stripe-len.result
+some : (c : tie.After-stripe_len-b) → 1 ≤ c.stripe_len-b.result
 some c = omega (arith, long c, B-pos _ (facts (st c)))
 
 -- the file is at most 4,096 stripes
@@ -33,9 +33,9 @@ ends : (c : tie.Start) → c.args.offset + length c.args.bytes.now ≤ 4063232
 ends c = omega (arith, c.requires.3, B-most _ (facts c))
 
 -- from which stripe on, and how many
-reached : (c : tie.After-stripe-count) → let k = c.before in let a = (st k).args in let z = a.sizes in
-    stripes_edited z a.points.now a.boards.now a.starts.now a.part a.on.now a.offset a.bytes.now (a.offset / k.stripe-len.result)
-    (c.stripe-count.result - a.offset / k.stripe-len.result) a.area.now
+reached : (c : tie.After-stripe_count-stop) → let k = c.before in let a = (st k).args in let z = a.sizes in
+    stripes_edited z a.points.now a.boards.now a.starts.now a.part a.on.now a.offset a.bytes.now (a.offset / k.stripe_len-b.result)
+    (c.stripe_count-stop.result - a.offset / k.stripe_len-b.result) a.area.now
     ≡ stripes_edited z a.points.now a.boards.now a.starts.now a.part a.on.now a.offset a.bytes.now (a.offset / B z)
     (stripes z (a.offset + length a.bytes.now) - a.offset / B z) a.area.now
 reached c =
@@ -44,25 +44,25 @@ reached c =
     let z = a.sizes in
     ap₂ {C = List ℕ} (λ (b m : ℕ).
     stripes_edited z a.points.now a.boards.now a.starts.now a.part a.on.now a.offset a.bytes.now (a.offset / b) (m - a.offset / b) a.area.now)
-    (long k) c.stripe-count.ensures.0
+    (long k) c.stripe_count-stop.ensures.0
 
-edit-stripes-requires : tie.Need-edit-stripes-requires
+edit-stripes-requires : tie.Need-edit_stripes-requires
 edit-stripes-requires c κs =
     let n = c.before.before in
     let p = (st n.before).requires in
-    let e = n.stripe-count.ensures.0 in
-    (p.0, p.1, rw e p.2, n.stripe-count.ensures.1, p.4, p.5, p.6, c.before.if1.true, rw e p.7, p.8, p.9, p.10)
+    let e = n.stripe_count-stop.ensures.0 in
+    (p.0, p.1, rw e p.2, n.stripe_count-stop.ensures.1, p.4, p.5, p.6, c.before.if-first-stop.true, rw e p.7, p.8, p.9, p.10)
 
-returns : tie.Need-returns
-returns c = let e = c.before.before in e.edit-stripes.ensures ∙ reached e.before.before.before
+returns : tie.Need-returns-then-first-stop
+returns c = let e = c.before.before in e.edit_stripes.ensures ∙ reached e.before.before.before
 
-returns-2 : tie.Need-returns-2
+returns-2 : tie.Need-returns-else-first-stop
 returns-2 c =
     let a = (st c.before.before).args in
-    sym (end a.sizes a.points.now a.boards.now a.starts.now a.part a.on.now a.offset a.bytes.now _ _ a.area.now c.if1.false) ∙ reached c.before
+    sym (end a.sizes a.points.now a.boards.now a.starts.now a.part a.on.now a.offset a.bytes.now _ _ a.area.now c.if-first-stop.false) ∙ reached c.before
 
-pub edit-reached-spec : {M : Type 1} → statement M
-edit-reached-spec =
+pub edit_reached_spec : {M : Type 1} → statement M
+edit_reached_spec =
     tie.close
     (tie.spec
     (λ c κs. search rules)

@@ -25,89 +25,73 @@ column_values xs d rows l = evals (tabulate d (λ i. get_or rows (i * 32 + l) 0)
 length-column : (xs : List ℕ) (d : ℕ) (rows : List ℕ) (l : ℕ) → length xs ≡ 32 → length (column_values xs d rows l) ≡ 32
 length-column xs d rows l h = length-values (tabulate d (λ i. get_or rows (i * 32 + l) 0)) xs h
 
-abbrev invariant-loop : tie.invariant-loop
+abbrev invariant-loop : tie.invariant-loop-l
 invariant-loop tables d n rows values₀ l₀ values l =
     ((xs : List ℕ) → length xs ≡ 32 → Tabled (power_rows xs d) tables → values ≡ join l (column_values xs d rows) ++ drop (l * 32) values₀)
     × (l ≤ n) × (length values ≡ length values₀)
 
-abbrev decreases-loop : tie.decreases-loop
+abbrev decreases-loop : tie.decreases-loop-l
 decreases-loop tables d n rows values₀ l₀ values l = n - l
 
 -- places in the code
-abbrev column-sum-at-slice-known2 : tie.After-slice-known2 invariant-loop decreases-loop → tie.After-column-sum invariant-loop decreases-loop
+abbrev column-sum-at-slice-known2 : tie.After-slice_known-in-loop-l-1 invariant-loop decreases-loop → tie.After-column_sum invariant-loop decreases-loop
 column-sum-at-slice-known2 c = c.before.before.before.before
 
-abbrev at-loop : tie.After-slice-known2 invariant-loop decreases-loop → tie.At-loop invariant-loop decreases-loop
+abbrev at-loop : tie.After-slice_known-in-loop-l-1 invariant-loop decreases-loop → tie.At-loop-l invariant-loop decreases-loop
 at-loop c = (column-sum-at-slice-known2 c).before.before
 
-abbrev shared-slice-known2 : tie.After-slice-known2 invariant-loop decreases-loop → tie.After-shared-slice-known2 invariant-loop decreases-loop
+abbrev shared-slice-known2 : tie.After-slice_known-in-loop-l-1 invariant-loop decreases-loop → tie.After-shared_slice_known-2-1 invariant-loop decreases-loop
 shared-slice-known2 c = (at-loop c).before.before
 
-abbrev st : tie.After-slice-known2 invariant-loop decreases-loop → tie.Start invariant-loop decreases-loop
+abbrev st : tie.After-slice_known-in-loop-l-1 invariant-loop decreases-loop → tie.Start invariant-loop decreases-loop
 st c = (shared-slice-known2 c).before.before
 
-abbrev st_2 : tie.After-loop invariant-loop decreases-loop → tie.Start invariant-loop decreases-loop
+abbrev st_2 : tie.After-loop-l invariant-loop decreases-loop → tie.Start invariant-loop decreases-loop
 st_2 c = c.before.before.before.before.before
 
-loop-holds : tie.Need-loop-init invariant-loop decreases-loop
+loop-holds : tie.Need-loop-l-init invariant-loop decreases-loop
 loop-holds c = ((λ xs l t. refl), omega arith, refl)
 
-mul_at : tie.Need-overflow-mul-at invariant-loop decreases-loop
-mul_at c = search rules
-
-add-end : tie.Need-overflow-add-end invariant-loop decreases-loop
-add-end c = search rules
-
-column-sum-requires : tie.Need-column-sum-requires invariant-loop decreases-loop
-column-sum-requires c κs = search rules
-
-sub-put-row : tie.Need-overflow-sub-put-row invariant-loop decreases-loop
-sub-put-row c = search rules
-
-part-put-row-start : tie.Need-slice-bounds-put-row-start invariant-loop decreases-loop
-part-put-row-start c = search rules
-
-part-put-row-end : tie.Need-slice-bounds-put-row-end invariant-loop decreases-loop
-part-put-row-end c = search rules
-
-put-row-requires : tie.Need-put-row-requires invariant-loop decreases-loop
-put-row-requires c κs = search rules
-
-add-l : tie.Need-overflow-add-l invariant-loop decreases-loop
-add-l c = search rules
-
-loop-less : tie.Need-loop-smaller invariant-loop decreases-loop
-loop-less c = search rules
-
-loop-again : tie.Need-loop-preserved invariant-loop decreases-loop
+loop-again : tie.Need-loop-l-preserved invariant-loop decreases-loop
 loop-again c =
-    let l = (at-loop c).loop in
+    let l = (at-loop c).loop-l in
     let s = st c in
     let a = s.args in
     let f : ℕ → ℕ = λ i. get_or a.rows.now (i * 32 + l.l) 0 in (
       (λ xs lx t.
           let lr : length (power_rows xs a.d) ≡ a.d = length-tabulate a.d (power_row xs) in
           join-loop (column_values xs a.d a.rows.now) 32 l.l a.values.now l.values _ (λ i h. length-column xs a.d a.rows.now i lx)
-          (c.before.before.put-row.ensures ∙ (column-sum-at-slice-known2 c).column-sum.ensures (power_rows xs a.d) (omega (arith, lr)) (powers-wide xs a.d lx) t
+          (c.before.before.put_row.ensures ∙ (column-sum-at-slice-known2 c).column_sum.ensures (power_rows xs a.d) (omega (arith, lr)) (powers-wide xs a.d lx) t
           ∙ values-sum (tabulate a.d f) xs a.d lx (omega (arith, length-tabulate a.d f))
-          (tabulate-all (λ b. b < 256) a.d f (λ i h. omega (arith, (shared-slice-known2 c).shared-slice-known2.given (i * 32 + l.l))))) (l.inv.0 xs lx t)),
+          (tabulate-all (λ b. b < 256) a.d f (λ i h. omega (arith, (shared-slice-known2 c).shared_slice_known-2-1.given (i * 32 + l.l))))) (l.invariant.0 xs lx t)),
       omega arith,
       search rules,
     )
 
-same_length : tie.Need-same-length invariant-loop decreases-loop
-same_length c = search rules
-
 returns : tie.Need-returns invariant-loop decreases-loop
 returns c =
     λ xs lx t.
-    let l = c.before.loop in
+    let l = c.before.loop-l in
     let a = (st_2 c).args in
     let e : l.l ≡ a.n = omega arith in
     l.invariant.0 xs lx t ∙ ap (λ (m : ℕ). join m (column_values xs a.d a.rows.now) ++ drop (m * 32) a.values.now) e
 
-pub column-values-spec : {M : Type 1} → statement M
-column-values-spec =
+pub column_values_spec : {M : Type 1} → statement M
+column_values_spec =
     tie.close
-    (tie.spec invariant-loop decreases-loop loop-holds mul_at add-end column-sum-requires sub-put-row part-put-row-start part-put-row-end put-row-requires add-l
-    loop-less loop-again same_length returns)
+    (tie.spec
+    invariant-loop
+    decreases-loop
+    loop-holds
+    (λ c. search rules)
+    (λ c. search rules)
+    (λ c κs. search rules)
+    (λ c. search rules)
+    (λ c. search rules)
+    (λ c. search rules)
+    (λ c κs. search rules)
+    (λ c. search rules)
+    (λ c. search rules)
+    loop-again
+    (λ c. search rules)
+    returns)

@@ -1,10 +1,10 @@
 -- `gather_told::gather_told` meets its contract: each test is taken apart, and a refusal returned early; DISAGREE is asked before a byte is written.
 -- Assumes nothing.
 use mathlib.Core.Path.{◌≡◌, sym, ap, subst, ◌∙◌}
-use mathlib.Core.Bool.{Bool, true, false}
+use mathlib.Core.Bool.{true, not}
 use mathlib.Core.List.{List, ◌++◌}
-use Prim.Native.Nat.{ℕ, ◌*◌, ◌≤◌}
-use lib.ListN.{length, drop}
+use Prim.Native.Nat.{ℕ, ◌*◌}
+use lib.ListN.{drop}
 use borrow.Author.Tests.{not-true, not-false}
 use borrow.Author.Rules.{rules}
 use native.Mathlib.Omega.{arith}
@@ -22,46 +22,46 @@ use Rattle.gather_told.proofs.gather_told.Tie as tie
 abbrev st : tie.After-different → tie.Start
 st c = c.before.before.before.before.before.before
 
-abbrev else1-at-stripe-count : tie.After-stripe-count → tie.Else1
+abbrev else1-at-stripe-count : tie.After-stripe_count-stripes → tie.Else-not-different
 else1-at-stripe-count c = c.before.before
 
-abbrev at-different : tie.After-stripe-count → tie.After-different
+abbrev at-different : tie.After-stripe_count-stripes → tie.After-different
 at-different c = (else1-at-stripe-count c).before
 
-abbrev fill-inverses-at-tables : tie.After-tables → tie.After-fill-inverses
+abbrev fill-inverses-at-tables : tie.After-tables-1 → tie.After-fill_inverses
 fill-inverses-at-tables c = c.before.before.before
 
-abbrev stripe-count-at-fill-inverses : tie.After-fill-inverses → tie.After-stripe-count
+abbrev stripe-count-at-fill-inverses : tie.After-fill_inverses → tie.After-stripe_count-stripes
 stripe-count-at-fill-inverses c = c.before.before
 
-abbrev at_count : tie.After-fill → tie.After-stripe-count
+abbrev at_count : tie.After-fill → tie.After-stripe_count-stripes
 at_count c = stripe-count-at-fill-inverses (fill-inverses-at-tables c.before)
 
 abbrev at_fill : tie.After-agrees → tie.After-fill
 at_fill c = c.before.before.before
 
-abbrev else3-at-file-arg : tie.After-file-arg → tie.Else3
+abbrev else3-at-file-arg : tie.After-write_file-arg-1 → tie.Else-not-agrees
 else3-at-file-arg c = c.before.before
 
-abbrev at-agrees : tie.After-file → tie.After-agrees
+abbrev at-agrees : tie.After-write_file → tie.After-agrees
 at-agrees c = (else3-at-file-arg c.before).before
 
 ready : (g : tie.Start) → let a = g.args in Ready a.text.now a.sizes a.points.now a.len a.boards.now a.places.now
 ready g = g.requires
 
 -- no board stands twice
-unlike : (c : tie.Else1) → different (st c.before).args.boards.now ≡ true
-unlike c = sym c.before.different.ensures ∙ not-false _ c.if1.false
+unlike : (c : tie.Else-not-different) → different (st c.before).args.boards.now ≡ true
+unlike c = sym c.before.different.ensures ∙ not-false _ (ap not c.if-not-different.false)
 
-asks : (c : tie.After-stripe-count) → let a = (st (at-different c)).args in Asked a.sizes a.points.now a.boards.now
+asks : (c : tie.After-stripe_count-stripes) → let a = (st (at-different c)).args in Asked a.sizes a.points.now a.boards.now
 asks c = let g = st (at-different c) in let a = g.args in
     law.asked-told a.text.now a.sizes a.points.now a.len a.boards.now a.places.now a.out.now (ready g) (unlike (else1-at-stripe-count c))
 
 -- the number of stripes
-many : (c : tie.After-stripe-count) → let a = (st (at-different c)).args in c.stripe-count.result ≡ stripes a.sizes a.len
-many c = c.stripe-count.ensures.0
+many : (c : tie.After-stripe_count-stripes) → let a = (st (at-different c)).args in c.stripe_count-stripes.result ≡ stripes a.sizes a.len
+many c = c.stripe_count-stripes.ensures.0
 
-spelt : (c : tie.After-stripe-count) → let a = (st (at-different c)).args in Spelled a.text.now a.places.now 0 (c.stripe-count.result * α a.sizes)
+spelt : (c : tie.After-stripe_count-stripes) → let a = (st (at-different c)).args in Spelled a.text.now a.places.now 0 (c.stripe_count-stripes.result * α a.sizes)
 spelt c = let g = st (at-different c) in let a = g.args in subst (λ (S : ℕ). Spelled a.text.now a.places.now 0 (S * α a.sizes)) (sym (many c)) (ready g).spelt
 
 -- the shares, by what the definitions say
@@ -76,19 +76,19 @@ found c =
     let a = g.args in
     c.agrees.ensures ∙ ap (λ (S : ℕ). given (read_file a.sizes a.points.now a.len a.boards.now (shares g S))) (many k)
 
-repeated : tie.Need-returns
+repeated : tie.Need-returns-then-not-different
 repeated c =
     let k = c.before in
     let a = (st k).args in
     law.refuses-repeat a.text.now a.sizes a.points.now a.len a.boards.now a.places.now a.out.now (ready (st k))
-    (sym k.different.ensures ∙ not-true _ c.if1.true)
+    (sym k.different.ensures ∙ not-true _ (ap not c.if-not-different.true))
 
-short : tie.Need-returns-2
+short : tie.Need-returns-then-out-len
 short c =
     let e = c.before in
     let g = st e.before in
     let a = g.args in
-    law.refuses-short a.text.now a.sizes a.points.now a.len a.boards.now a.places.now a.out.now (ready g) (unlike e) c.if2.true
+    law.refuses-short a.text.now a.sizes a.points.now a.len a.boards.now a.places.now a.out.now (ready g) (unlike e) c.if-out-len.true
 
 fill-asks : tie.Need-fill-requires
 fill-asks c κs =
@@ -97,31 +97,31 @@ fill-asks c κs =
     let g = st (at-different k) in
     let a = g.args in
     let t = law.points-taken a.text.now a.sizes a.points.now a.len a.boards.now a.places.now a.out.now (ready g) in
-    (asks k, i.fill-inverses.ensures, t.long, omega (arith, (st (at-different (stripe-count-at-fill-inverses (i)))).requires))
+    (asks k, i.fill_inverses.ensures, t.long, omega (arith, (st (at-different (stripe-count-at-fill-inverses (i)))).requires))
 
 agrees-ask : tie.Need-agrees-requires
 agrees-ask c κs =
     let f = c.before.before in
     let k = at_count f in
-    (asks k, f.fill.ensures, k.stripe-count.ensures.1, many k, (ready (st (at-different k))).as_many, spelt k)
+    (asks k, f.fill.ensures, k.stripe_count-stripes.ensures.1, many k, (ready (st (at-different k))).as_many, spelt k)
 
-disagrees : tie.Need-returns-3
+disagrees : tie.Need-returns-then-not-agrees
 disagrees c =
     let w = c.before in
     let k = at_count (at_fill w) in
     let g = st (at-different k) in
     let a = g.args in
-    law.refuses-disagree a.text.now a.sizes a.points.now a.len a.boards.now a.places.now a.out.now (ready g) (unlike (else1-at-stripe-count k)) k.before.if2.left
-    (sym (found w) ∙ not-true _ c.if3.true)
+    law.refuses-disagree a.text.now a.sizes a.points.now a.len a.boards.now a.places.now a.out.now (ready g) (unlike (else1-at-stripe-count k)) k.before.if-out-len.false
+    (sym (found w) ∙ not-true _ (ap not c.if-not-agrees.true))
 
-file-asks : tie.Need-file-requires
+file-asks : tie.Need-write_file-requires
 file-asks c κs =
     let w = (else3-at-file-arg c).before in
     let f = at_fill w in
     let k = at_count f in
-    (asks k, f.fill.ensures, k.stripe-count.ensures.1, many k, (ready (st (at-different k))).as_many, spelt k, k.before.if2.left)
+    (asks k, f.fill.ensures, k.stripe_count-stripes.ensures.1, many k, (ready (st (at-different k))).as_many, spelt k, k.before.if-out-len.false)
 
-works : tie.Need-returns-4
+works : tie.Need-returns
 works c =
     let t = c.before.before in
     let e = else3-at-file-arg t.before in
@@ -129,12 +129,12 @@ works c =
     let k = at_count (at_fill w) in
     let g = st (at-different k) in
     let a = g.args in
-    law.works a.text.now a.sizes a.points.now a.len a.boards.now a.places.now a.out.now (ready g) (unlike (else1-at-stripe-count k)) k.before.if2.left
-    (sym (found w) ∙ not-false _ e.if3.left) _
-    (t.file.ensures ∙ ap (λ (S : ℕ). decoded_file a.sizes a.points.now a.len a.boards.now (shares g S) ++ drop a.len a.out.now) (many k))
+    law.works a.text.now a.sizes a.points.now a.len a.boards.now a.places.now a.out.now (ready g) (unlike (else1-at-stripe-count k)) k.before.if-out-len.false
+    (sym (found w) ∙ not-false _ (ap not e.if-not-agrees.false)) _
+    (t.write_file.ensures ∙ ap (λ (S : ℕ). decoded_file a.sizes a.points.now a.len a.boards.now (shares g S) ++ drop a.len a.out.now) (many k))
 
-pub gather-told-spec : {M : Type 1} → statement M
-gather-told-spec =
+pub gather_told_spec : {M : Type 1} → statement M
+gather_told_spec =
     tie.close
     (tie.spec
     (λ c κs. search rules)
@@ -151,5 +151,5 @@ gather-told-spec =
     disagrees
     (λ c. omega (arith, (st (at-different (at_count (at_fill c.before.before)))).requires))
     file-asks
-    (λ c. c.before.out.given)
+    (λ c. c.before.out-1.given)
     works)

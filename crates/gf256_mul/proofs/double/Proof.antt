@@ -6,12 +6,11 @@ use Rattle.gf256_mul.proofs.Steps.{double-is}
 use Rattle.gf256_mul.proofs.double.Statement.{statement}
 use Rattle.gf256_mul.proofs.double.Tie as tie
 
-mul-result : tie.Need-overflow-mul-result
-mul-result c = search rules
-
 returns : tie.Need-returns
 unfolding add
 returns c = double-is c.args.a (search rules)
 
-pub double-spec : {M : Type 1} → statement M
-double-spec = tie.close (tie.spec mul-result returns)
+pub double_spec : {M : Type 1} → statement M
+double_spec = tie.close (tie.spec
+    (λ c. search rules)
+    returns)

@@ -4,11 +4,11 @@ use Rattle.gf256_mul.proofs.Steps.{even, odd}
 use Rattle.gf256_mul.proofs.if_odd.Statement.{statement}
 use Rattle.gf256_mul.proofs.if_odd.Tie as tie
 
-returns : tie.Need-returns
-returns c = even c.before.args.v c.before.args.m c.if1.true
+returns : tie.Need-returns-then-v-eq0
+returns c = even c.before.args.v c.before.args.m c.if-v-eq0.true
 
-returns-2 : tie.Need-returns-2
-returns-2 c = odd c.before.args.v c.before.args.m c.if1.false
+returns-2 : tie.Need-returns-else-v-eq0
+returns-2 c = odd c.before.args.v c.before.args.m c.if-v-eq0.false
 
-pub if-odd-spec : {M : Type 1} → statement M
-if-odd-spec = tie.close (tie.spec returns returns-2)
+pub if_odd_spec : {M : Type 1} → statement M
+if_odd_spec = tie.close (tie.spec returns returns-2)

@@ -12,79 +12,61 @@ use Rattle.gf256_mul.proofs.Powers.{logarithm-place, product_at}
 use Rattle.gf256_mul.proofs.mul.Statement.{statement}
 use Rattle.gf256_mul.proofs.mul.Tie as tie
 
-abbrev st : tie.After-log2 → tie.Start
+abbrev st : tie.After-log-2 → tie.Start
 st p = p.before.before.before.before
 
 -- both factors are bytes other than 00
-factors : (p : tie.After-log2) → (0 < (st p).args.a) × ((st p).args.a < 256) × (0 < (st p).args.b) × ((st p).args.b < 256)
+factors : (p : tie.After-log-2) → (0 < (st p).args.a) × ((st p).args.a < 256) × (0 < (st p).args.b) × ((st p).args.b < 256)
 factors p = (omega arith, search rules, omega arith, search rules)
 
 -- what the code adds: two logarithms, each below 255
-abbrev sum : tie.After-log2 → ℕ
-sum p = p.before.log.result + p.log2.result
+abbrev sum : tie.After-log-2 → ℕ
+sum p = p.before.log.result + p.log-2.result
 
-sum_is : (p : tie.After-log2) → sum p ≡ logarithm (st p).args.a + logarithm (st p).args.b
+sum_is : (p : tie.After-log-2) → sum p ≡ logarithm (st p).args.a + logarithm (st p).args.b
 sum_is p = cc
 
-sum_lt : (p : tie.After-log2) → sum p < 509
+sum_lt : (p : tie.After-log-2) → sum p < 509
 sum_lt p =
     let (pa, la, pb, lb) = factors p in omega (arith, sum_is p, logarithm-place _ pa la, logarithm-place _ pb lb)
 
 -- the product is the power at what is left of the sum
-product_is : (p : tie.After-log2) → get_or powers (sum p % 255) 0 ≡ mul (st p).args.a (st p).args.b
+product_is : (p : tie.After-log-2) → get_or powers (sum p % 255) 0 ≡ mul (st p).args.a (st p).args.b
 product_is p = let (pa, la, pb, lb) = factors p in cc (sum_is p, product_at _ _ pa la pb lb)
 
-returns : tie.Need-returns
+returns : tie.Need-returns-then-a-eq0
 returns c = cc (zero-mul c.before.args.b)
 
-returns-2 : tie.Need-returns-2
+returns-2 : tie.Need-returns-then-b-eq0
 returns-2 c = cc (mul-zero c.before.before.args.a)
 
-log-requires : tie.Need-log-requires
-log-requires c κs = search rules
-
-cast-n : tie.Need-overflow-cast-n
-cast-n c = search rules
-
-log-requires-2 : tie.Need-log-requires-2
-log-requires-2 c κs = search rules
-
-cast-n-2 : tie.Need-overflow-cast-n-2
-cast-n-2 c = search rules
-
-add-n : tie.Need-overflow-add-n
-add-n c = search rules
-
-exp-requires : tie.Need-exp-requires
-exp-requires c κs = search rules
-
-exp-requires-2 : tie.Need-exp-requires-2
+exp-requires-2 : tie.Need-exp-requires-else-n-lt255
 exp-requires-2 c κs = omega (arith, sum_lt c.before)
 
-returns-3 : tie.Need-returns-3
+returns-3 : tie.Need-returns-then-n-lt255
 returns-3 c =
     let p = c.before.before in
     let whole : sum p % 255 ≡ sum p = omega arith in
     cc (product_is p)
 
-returns-4 : tie.Need-returns-4
+returns-4 : tie.Need-returns-else-n-lt255
 returns-4 c =
     let p = c.before.before in
     let less : sum p % 255 ≡ sum p - 255 = omega (arith, sum_lt p) in
     cc (product_is p)
 
-pub mul-spec : {M : Type 1} → statement M
-mul-spec =
+pub mul_spec : {M : Type 1} → statement M
+mul_spec =
     tie.close
     (tie.spec
     returns
     returns-2
-    log-requires
-    cast-n
-    log-requires-2
-    cast-n-2
-    add-n
-    exp-requires
+    (λ c κs. search rules)
+    (λ c. search rules)
+    (λ c κs. search rules)
+    (λ c. search rules)
+    (λ c. search rules)
+    (λ c κs. search rules)
     exp-requires-2
     returns-3
     returns-4)

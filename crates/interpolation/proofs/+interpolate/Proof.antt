@@ -46,7 +46,7 @@ abbrev st : (t : ℕ) → interpolate-lts.After-slopes (
 ) (interpolate-at t) interpolate.Post
 st t c = c.before.before.before.before.before.before.before.before.before
 
-interpolate-shared-slice-read-a : (t : ℕ) → interpolate-lts.Need-shared-slice-read-a (
+interpolate-shared-slice-read-a : (t : ℕ) → interpolate-lts.Need-bounds-xs-0 (
   slopes-reads.Asked,
   slopes-reads.Learnt,
   interpolate-below t,
@@ -56,7 +56,7 @@ interpolate-shared-slice-read-a : (t : ℕ) → interpolate-lts.Need-shared-slic
 ) (interpolate-at t) interpolate.Post
 interpolate-shared-slice-read-a t c = search rules
 
-interpolate-slice-read-v : (t : ℕ) → interpolate-lts.Need-slice-read-v (
+interpolate-slice-read-v : (t : ℕ) → interpolate-lts.Need-bounds-vs-0 (
   slopes-reads.Asked,
   slopes-reads.Learnt,
   interpolate-below t,
@@ -66,7 +66,7 @@ interpolate-slice-read-v : (t : ℕ) → interpolate-lts.Need-slice-read-v (
 ) (interpolate-at t) interpolate.Post
 interpolate-slice-read-v t c = search rules
 
-interpolate-sub-slopes : (t : ℕ) → interpolate-lts.Need-overflow-sub-slopes (
+interpolate-sub-slopes : (t : ℕ) → interpolate-lts.Need-slice_bounds-slopes-count (
   slopes-reads.Asked,
   slopes-reads.Learnt,
   interpolate-below t,
@@ -76,7 +76,7 @@ interpolate-sub-slopes : (t : ℕ) → interpolate-lts.Need-overflow-sub-slopes 
 ) (interpolate-at t) interpolate.Post
 interpolate-sub-slopes t c = search rules
 
-interpolate-part-slopes-start : (t : ℕ) → interpolate-lts.Need-slice-bounds-slopes-start (
+interpolate-part-slopes-start : (t : ℕ) → interpolate-lts.Need-slice_bounds-slopes-start (
   slopes-reads.Asked,
   slopes-reads.Learnt,
   interpolate-below t,
@@ -86,7 +86,7 @@ interpolate-part-slopes-start : (t : ℕ) → interpolate-lts.Need-slice-bounds-
 ) (interpolate-at t) interpolate.Post
 interpolate-part-slopes-start t c = search rules
 
-interpolate-part-slopes-end : (t : ℕ) → interpolate-lts.Need-slice-bounds-slopes-end (
+interpolate-part-slopes-end : (t : ℕ) → interpolate-lts.Need-slice_bounds-slopes-end (
   slopes-reads.Asked,
   slopes-reads.Learnt,
   interpolate-below t,
@@ -96,7 +96,7 @@ interpolate-part-slopes-end : (t : ℕ) → interpolate-lts.Need-slice-bounds-sl
 ) (interpolate-at t) interpolate.Post
 interpolate-part-slopes-end t c = search rules
 
-interpolate-sub-slopes-2 : (t : ℕ) → interpolate-lts.Need-overflow-sub-slopes-2 (
+interpolate-sub-slopes-2 : (t : ℕ) → interpolate-lts.Need-slice_bounds-slopes-count-then-vs-gt0 (
   slopes-reads.Asked,
   slopes-reads.Learnt,
   interpolate-below t,
@@ -106,7 +106,7 @@ interpolate-sub-slopes-2 : (t : ℕ) → interpolate-lts.Need-overflow-sub-slope
 ) (interpolate-at t) interpolate.Post
 interpolate-sub-slopes-2 t c = search rules
 
-interpolate-part-slopes-start-2 : (t : ℕ) → interpolate-lts.Need-slice-bounds-slopes-start-2 (
+interpolate-part-slopes-start-2 : (t : ℕ) → interpolate-lts.Need-slice_bounds-slopes-start-then-vs-gt0 (
   slopes-reads.Asked,
   slopes-reads.Learnt,
   interpolate-below t,
@@ -116,7 +116,7 @@ interpolate-part-slopes-start-2 : (t : ℕ) → interpolate-lts.Need-slice-bound
 ) (interpolate-at t) interpolate.Post
 interpolate-part-slopes-start-2 t c = search rules
 
-interpolate-part-slopes-end-2 : (t : ℕ) → interpolate-lts.Need-slice-bounds-slopes-end-2 (
+interpolate-part-slopes-end-2 : (t : ℕ) → interpolate-lts.Need-slice_bounds-slopes-end-then-vs-gt0 (
   slopes-reads.Asked,
   slopes-reads.Learnt,
   interpolate-below t,
@@ -136,7 +136,7 @@ interpolate-slopes-requires : (t : ℕ) → interpolate-lts.Need-slopes-requires
 ) (interpolate-at t) interpolate.Post
 interpolate-slopes-requires t c κs = search rules
 
-interpolate-sub-interpolate : (t : ℕ) → interpolate-lts.Need-overflow-sub-interpolate (
+interpolate-sub-interpolate : (t : ℕ) → interpolate-lts.Need-slice_bounds-interpolate-count (
   slopes-reads.Asked,
   slopes-reads.Learnt,
   interpolate-below t,
@@ -146,7 +146,7 @@ interpolate-sub-interpolate : (t : ℕ) → interpolate-lts.Need-overflow-sub-in
 ) (interpolate-at t) interpolate.Post
 interpolate-sub-interpolate t c = search rules
 
-interpolate-part-interpolate-start : (t : ℕ) → interpolate-lts.Need-slice-bounds-interpolate-start (
+interpolate-part-interpolate-start : (t : ℕ) → interpolate-lts.Need-slice_bounds-interpolate-start (
   slopes-reads.Asked,
   slopes-reads.Learnt,
   interpolate-below t,
@@ -156,7 +156,7 @@ interpolate-part-interpolate-start : (t : ℕ) → interpolate-lts.Need-slice-bo
 ) (interpolate-at t) interpolate.Post
 interpolate-part-interpolate-start t c = search rules
 
-interpolate-part-interpolate-end : (t : ℕ) → interpolate-lts.Need-slice-bounds-interpolate-end (
+interpolate-part-interpolate-end : (t : ℕ) → interpolate-lts.Need-slice_bounds-interpolate-end (
   slopes-reads.Asked,
   slopes-reads.Learnt,
   interpolate-below t,
@@ -166,7 +166,7 @@ interpolate-part-interpolate-end : (t : ℕ) → interpolate-lts.Need-slice-boun
 ) (interpolate-at t) interpolate.Post
 interpolate-part-interpolate-end t c = search rules
 
-interpolate-sub-interpolate-2 : (t : ℕ) → interpolate-lts.Need-overflow-sub-interpolate-2 (
+interpolate-sub-interpolate-2 : (t : ℕ) → interpolate-lts.Need-slice_bounds-interpolate-count-then-vs-gt0 (
   slopes-reads.Asked,
   slopes-reads.Learnt,
   interpolate-below t,
@@ -176,7 +176,7 @@ interpolate-sub-interpolate-2 : (t : ℕ) → interpolate-lts.Need-overflow-sub-
 ) (interpolate-at t) interpolate.Post
 interpolate-sub-interpolate-2 t c = search rules
 
-interpolate-part-interpolate-start-2 : (t : ℕ) → interpolate-lts.Need-slice-bounds-interpolate-start-2 (
+interpolate-part-interpolate-start-2 : (t : ℕ) → interpolate-lts.Need-slice_bounds-interpolate-start-then-vs-gt0 (
   slopes-reads.Asked,
   slopes-reads.Learnt,
   interpolate-below t,
@@ -186,7 +186,7 @@ interpolate-part-interpolate-start-2 : (t : ℕ) → interpolate-lts.Need-slice-
 ) (interpolate-at t) interpolate.Post
 interpolate-part-interpolate-start-2 t c = search rules
 
-interpolate-part-interpolate-end-2 : (t : ℕ) → interpolate-lts.Need-slice-bounds-interpolate-end-2 (
+interpolate-part-interpolate-end-2 : (t : ℕ) → interpolate-lts.Need-slice_bounds-interpolate-end-then-vs-gt0 (
   slopes-reads.Asked,
   slopes-reads.Learnt,
   interpolate-below t,
@@ -206,7 +206,7 @@ interpolate-interpolate-requires : (t : ℕ) → interpolate-lts.Need-interpolat
 ) (interpolate-at t) interpolate.Post
 interpolate-interpolate-requires t c κs =
     let g = st t c.before.before.before.before in
-    (search rules, (g.pre.1.0, search rules))
+    (search rules, (g.requires.1.0, search rules))
 
 interpolate-step-requires : (t : ℕ) → interpolate-lts.Need-step-requires (
   slopes-reads.Asked,
@@ -218,7 +218,7 @@ interpolate-step-requires : (t : ℕ) → interpolate-lts.Need-step-requires (
 ) (interpolate-at t) interpolate.Post
 interpolate-step-requires t c κs = search rules
 
-interpolate-same-length : (t : ℕ) → interpolate-lts.Need-same-length (
+interpolate-same-length : (t : ℕ) → interpolate-lts.Need-shape_of-vs (
   slopes-reads.Asked,
   slopes-reads.Learnt,
   interpolate-below t,
@@ -228,7 +228,7 @@ interpolate-same-length : (t : ℕ) → interpolate-lts.Need-same-length (
 ) (interpolate-at t) interpolate.Post
 interpolate-same-length t c = search rules
 
-interpolate-returns : (t : ℕ) → interpolate-lts.Need-returns (
+interpolate-returns : (t : ℕ) → interpolate-lts.Need-returns-then-vs-gt0 (
   slopes-reads.Asked,
   slopes-reads.Learnt,
   interpolate-below t,
@@ -243,9 +243,9 @@ interpolate-returns t c =
     let s = a.before.before.before.before in
     let g = st t s in
     e.step.ensures
-    ∙ interpolate-some g.args.xs.now g.args.vs.now _ _ g.pre.1.1 (omega arith) s.slopes.ensures i.interpolate.ensures
+    ∙ interpolate-some g.args.xs.now g.args.vs.now _ _ g.requires.1.1 (omega arith) s.slopes.ensures i.interpolate.ensures
 
-interpolate-returns-2 : (t : ℕ) → interpolate-lts.Need-returns-2 (
+interpolate-returns-2 : (t : ℕ) → interpolate-lts.Need-returns-else-vs-gt0 (
   slopes-reads.Asked,
   slopes-reads.Learnt,
   interpolate-below t,
@@ -255,10 +255,10 @@ interpolate-returns-2 : (t : ℕ) → interpolate-lts.Need-returns-2 (
 ) (interpolate-at t) interpolate.Post
 interpolate-returns-2 t c =
     let g = c.before.before.before.before in
-    interpolate-none g.args.xs.now g.args.vs.now g.requires.1.1 c.if1.false
+    interpolate-none g.args.xs.now g.args.vs.now g.requires.1.1 c.if-vs-gt0.false
 
-pub +interpolate-spec : {M : Type 1} → statement M
-+interpolate-spec = close μ-interpolate λ t. interpolate-lts.spec (
+pub +interpolate_spec : {M : Type 1} → statement M
++interpolate_spec = close μ-interpolate λ t. interpolate-lts.spec (
   slopes-reads.Asked,
   slopes-reads.Learnt,
   interpolate-below t,

@@ -4,7 +4,6 @@ use mathlib.Core.Path.{refl}
 use Rattle.gf256.specs.Field.{add}
 use Rattle.inverse_walk.specs.Steps.{halved}
 use borrow.Author.Rules.{rules}
-use native.Mathlib.Omega.{arith}
 use Rattle.inverses.proofs.half.Statement.{statement}
 use Rattle.inverses.proofs.half.Tie as tie
 

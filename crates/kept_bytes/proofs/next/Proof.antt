@@ -9,17 +9,17 @@ use Prim.Native.Nat.{◌%◌}
 use Rattle.kept_bytes.proofs.next.Statement.{statement}
 use Rattle.kept_bytes.proofs.next.Tie as tie
 
-add-c : tie.Need-overflow-add-c
-add-c c = search rules
+returns : tie.Need-returns-then-c-n
+returns c = sym (mod-eq_of_lt c.if-c-n.true)
 
-returns : tie.Need-returns
-returns c = sym (mod-eq_of_lt c.if1.true)
-
-returns-2 : tie.Need-returns-2
+returns-2 : tie.Need-returns-else-c-n
 returns-2 c =
     let s = c.before in
     let e : s.args.b + 1 ≡ s.args.n = omega arith in
     sym (ap (λ (m : ℕ). m % s.args.n) e ∙ mod_self s.args.n)
 
-pub next-spec : {M : Type 1} → statement M
-next-spec = tie.close (tie.spec add-c returns returns-2)
+pub next_spec : {M : Type 1} → statement M
+next_spec = tie.close (tie.spec
+    (λ c. search rules)
+    returns
+    returns-2)

@@ -9,21 +9,19 @@ use Rattle.lists.specs.Tests.{pick}
 use Rattle.kept_rows.proofs.offset.Statement.{statement}
 use Rattle.kept_rows.proofs.offset.Tie as tie
 
-add-result : tie.Need-overflow-add-result
-add-result c = search rules
-
-sub-result : tie.Need-overflow-sub-result
-sub-result c = search rules
-
-returns : tie.Need-returns
+returns : tie.Need-returns-then-a-b
 returns c =
     let a = c.before.args in
-    sym (ap (λ (t : Bool). pick t (a.b - a.a) (a.b + a.n - a.a)) (le-leb a.a a.b c.if1.true))
+    sym (ap (λ (t : Bool). pick t (a.b - a.a) (a.b + a.n - a.a)) (le-leb a.a a.b c.if-a-b.true))
 
-returns-2 : tie.Need-returns-2
+returns-2 : tie.Need-returns-else-a-b
 returns-2 c =
     let a = c.before.args in
-    sym (ap (λ (t : Bool). pick t (a.b - a.a) (a.b + a.n - a.a)) (lt-leb a.a a.b c.if1.false))
+    sym (ap (λ (t : Bool). pick t (a.b - a.a) (a.b + a.n - a.a)) (lt-leb a.a a.b c.if-a-b.false))
 
-pub offset-spec : {M : Type 1} → statement M
-offset-spec = tie.close (tie.spec add-result sub-result returns returns-2)
+pub offset_spec : {M : Type 1} → statement M
+offset_spec = tie.close (tie.spec
+    (λ c. search rules)
+    (λ c. search rules)
+    returns
+    returns-2)

@@ -12,33 +12,21 @@ at_clear c = c.before.before.before.before
 abbrev start : tie.After-clear → tie.Start
 start c = c.before.before.before.before
 
-sub-copy : tie.Need-overflow-sub-copy
-sub-copy c = search rules
-
-part-copy-start : tie.Need-slice-bounds-copy-start
-part-copy-start c = search rules
-
-part-copy-end : tie.Need-slice-bounds-copy-end
-part-copy-end c = search rules
-
-copy-requires : tie.Need-copy-requires
-copy-requires c κs = search rules
-
 returns : tie.Need-returns
 returns c =
     let w = c.before.before in
     let z = at_clear w in
     let a = (start z).args in
-    padded-made a.a.now a.out.now _ _ (start z).pre z.clear.ensures w.copy.ensures
+    padded-made a.a.now a.out.now _ _ (start z).requires z.clear.ensures w.copy.ensures
 
-pub padded-spec : {M : Type 1} → statement M
-padded-spec =
+pub padded_spec : {M : Type 1} → statement M
+padded_spec =
     tie.close
     (tie.spec
     (λ c κs. search rules)
-    sub-copy
-    part-copy-start
-    part-copy-end
-    copy-requires
+    (λ c. search rules)
+    (λ c. search rules)
+    (λ c. search rules)
+    (λ c κs. search rules)
     (λ c. search rules)
     returns)

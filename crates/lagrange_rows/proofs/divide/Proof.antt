@@ -11,39 +11,42 @@ use Rattle.lagrange_rows.proofs.divide.Statement.{statement}
 use Rattle.lagrange_rows.proofs.divide.Tie as tie
 
 -- the places
-abbrev st-at-slice-known3 : tie.After-slice-known3 → tie.Start
+abbrev st-at-slice-known3 : tie.After-slice_known-3-1 → tie.Start
 st-at-slice-known3 c = c.before.before.before.before.before.before.before.before
 
-abbrev st-at-shared-slice-known3 : tie.After-shared-slice-known3 → tie.Start
+abbrev st-at-shared-slice-known3 : tie.After-shared_slice_known-3-1 → tie.Start
 st-at-shared-slice-known3 c = st-at-slice-known3 c.before
 
-abbrev shared-slice-known3-at-slice-known4 : tie.After-slice-known4 → tie.After-shared-slice-known3
+abbrev shared-slice-known3-at-slice-known4 : tie.After-slice_known-4-1 → tie.After-shared_slice_known-3-1
 shared-slice-known3-at-slice-known4 c = c.before.before.before.before
 
-abbrev st-at-slice-known4 : tie.After-slice-known4 → tie.Start
+abbrev st-at-slice-known4 : tie.After-slice_known-4-1 → tie.Start
 st-at-slice-known4 c = st-at-shared-slice-known3 (shared-slice-known3-at-slice-known4 c)
 
-abbrev scale-by-at-slice-known4 : tie.After-slice-known4 → tie.After-scale-by
+abbrev scale-by-at-slice-known4 : tie.After-slice_known-4-1 → tie.After-scale_by
 scale-by-at-slice-known4 c = (shared-slice-known3-at-slice-known4 c).before.before.before.before
 
-shared-slice-read-scale : tie.Need-shared-slice-read-scale
+abbrev st-at-shared-slice-known3-unread : tie.After-shared_slice_known-3-1-unread → tie.Start
+st-at-shared-slice-known3-unread c = st-at-slice-known3 c.before
+
+shared-slice-read-scale : tie.Need-bounds-inverses-v
 shared-slice-read-scale c =
-    let n : length (st-at-shared-slice-known3 c).args.inverses.now ≡ 256 = ap length (st-at-shared-slice-known3 c).requires.0 ∙ length-tabulate 256 inverse in
-    omega (arith, c.before.before.slice-known2.given (st-at-shared-slice-known3 c).args.own_val)
+    let n : length (st-at-shared-slice-known3-unread c).args.inverses.now ≡ 256 = ap length (st-at-shared-slice-known3-unread c).requires.0 ∙ length-tabulate 256 inverse in
+    omega (arith, c.before.before.slice_known-2-1.given (st-at-shared-slice-known3-unread c).args.own)
 
 returns : tie.Need-returns
 returns c =
     let a = (st-at-slice-known4 c).args in
-    divided a.row.now a.after.now a.inverses.now _ _ a.own_val _ (st-at-slice-known4 c).requires.0 (omega arith) (omega arith)
-    (scale-by-at-slice-known4 c).scale-by.ensures refl c.before.before.scale.ensures
+    divided a.row.now a.after.now a.inverses.now _ _ a.own _ (st-at-slice-known4 c).requires.0 (omega arith) (omega arith)
+    (scale-by-at-slice-known4 c).scale_by.ensures refl c.before.before.scale.ensures
 
-pub divide-spec : {M : Type 1} → statement M
-divide-spec =
+pub divide_spec : {M : Type 1} → statement M
+divide_spec =
     tie.close
     (tie.spec
     (λ c κs. search rules)
     (λ c. search rules)
-    (λ c. omega (arith, c.before.slice-known2.given (st-at-slice-known3 c).args.own_val))
+    (λ c. omega (arith, c.before.slice_known-2-1.given (st-at-slice-known3 c).args.own))
     shared-slice-read-scale
     (λ c κs. search rules)
     (λ c. search rules)

@@ -15,35 +15,35 @@ use native.Mathlib.Omega.{arith}
 use Rattle.lagrange_rows.proofs.points_of.Statement.{statement}
 use Rattle.lagrange_rows.proofs.points_of.Tie as tie
 
-abbrev invariant-loop : tie.invariant-loop
+abbrev invariant-loop : tie.invariant-loop-t
 invariant-loop points boards out₀ m t₀ out t = (out ≡ tabulate t (λ t. get_or points (get_or boards t 0) 0) ++ drop t out₀) × (t ≤ m) × (length out ≡ length out₀)
 
-abbrev decreases-loop : tie.decreases-loop
+abbrev decreases-loop : tie.decreases-loop-t
 decreases-loop points boards out₀ m t₀ out t = m - t
 
 -- the places
-abbrev loop-at-shared-slice-known2 : tie.After-shared-slice-known2 invariant-loop decreases-loop → tie.At-loop invariant-loop decreases-loop
+abbrev loop-at-shared-slice-known2 : tie.After-shared_slice_known-in-loop-t-1 invariant-loop decreases-loop → tie.At-loop-t invariant-loop decreases-loop
 loop-at-shared-slice-known2 c = c.before.before.before
 
-shared-slice-read-out : tie.Need-shared-slice-read-out invariant-loop decreases-loop
+shared-slice-read-out : tie.Need-bounds-points-b invariant-loop decreases-loop
 shared-slice-read-out c =
     let a = (loop-at-shared-slice-known2 c).before.args in
-    all-at (λ b. b < length a.points.now) 0 a.boards.now (below_all _ a.boards.now (loop-at-shared-slice-known2 c).before.requires.0) (loop-at-shared-slice-known2 c).loop.t (omega arith)
+    all-at (λ b. b < length a.points.now) 0 a.boards.now (below_all _ a.boards.now (loop-at-shared-slice-known2 c).before.requires.0) (loop-at-shared-slice-known2 c).loop-t.t (omega arith)
 
-loop-again : tie.Need-loop-preserved invariant-loop decreases-loop
+loop-again : tie.Need-loop-t-preserved invariant-loop decreases-loop
 loop-again c =
-    let l = (loop-at-shared-slice-known2 c).loop in
-    (fill-loop _ (loop-at-shared-slice-known2 c).before.args.out.now l.out l.t _ (omega arith) refl l.inv.0, omega arith, length-set l.out l.t _ ∙ l.inv.2)
+    let l = (loop-at-shared-slice-known2 c).loop-t in
+    (fill-loop _ (loop-at-shared-slice-known2 c).before.args.out.now l.out l.t _ (omega arith) refl l.invariant.0, omega arith, length-set l.out l.t _ ∙ l.invariant.2)
 
 returns : tie.Need-returns invariant-loop decreases-loop
 returns c =
-    let l = c.before.loop in
+    let l = c.before.loop-t in
     let a = c.before.before.args in
     changed _ a.out.now l.out l.t (omega arith) (omega arith) l.invariant.0
     ∙ tabulate-map (λ b. get_or a.points.now b 0) (length a.out.now) a.boards.now 0 (omega arith)
 
-pub points-of-spec : {M : Type 1} → statement M
-points-of-spec =
+pub points_of_spec : {M : Type 1} → statement M
+points_of_spec =
     tie.close
     (tie.spec
     invariant-loop

@@ -5,11 +5,11 @@ use borrow.Author.Tests.{lt-ltb, le-ltb}
 use Rattle.line_checks.proofs.check_node.Statement.{statement}
 use Rattle.line_checks.proofs.check_node.Tie as tie
 
-returns : tie.Need-returns
-returns c = rw (lt-ltb _ _ c.if1.true) refl
+returns : tie.Need-returns-then-node-sizes
+returns c = rw (lt-ltb _ _ c.if-node-sizes.true) refl
 
-returns-2 : tie.Need-returns-2
-returns-2 c = rw (le-ltb _ _ c.if1.false) refl
+returns-2 : tie.Need-returns-else-node-sizes
+returns-2 c = rw (le-ltb _ _ c.if-node-sizes.false) refl
 
-pub check-node-spec : {M : Type 1} → statement M
-check-node-spec = tie.close (tie.spec returns returns-2)
+pub check_node_spec : {M : Type 1} → statement M
+check_node_spec = tie.close (tie.spec returns returns-2)

@@ -5,14 +5,14 @@ use mathlib.Core.Path.{refl, sym, ◌∙◌}
 use Rattle.line_checks.proofs.check_repeat.Statement.{statement}
 use Rattle.line_checks.proofs.check_repeat.Tie as tie
 
-returns : tie.Need-returns
-returns c = rw (sym c.before.different.ensures ∙ c.if1.true) refl
+returns : tie.Need-returns-then-different
+returns c = rw (sym c.before.different.ensures ∙ c.if-different.true) refl
 
-returns-2 : tie.Need-returns-2
-returns-2 c = rw (sym c.before.different.ensures ∙ c.if1.false) refl
+returns-2 : tie.Need-returns-else-different
+returns-2 c = rw (sym c.before.different.ensures ∙ c.if-different.false) refl
 
-pub check-repeat-spec : {M : Type 1} → statement M
-check-repeat-spec =
+pub check_repeat_spec : {M : Type 1} → statement M
+check_repeat_spec =
     tie.close
     (tie.spec
     (λ c κs. search rules)

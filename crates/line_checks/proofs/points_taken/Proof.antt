@@ -12,38 +12,38 @@ use Rattle.line_checks.proofs.points_taken.Statement.{statement}
 use Rattle.line_checks.proofs.points_taken.Tie as tie
 
 -- the places
-abbrev known : tie.Else1 → tie.After-shared-slice-known
+abbrev known : tie.Else-points-ne-MAX_BOARDS → tie.After-shared_slice_known-1
 known c = c.before
 
-abbrev at_long : tie.After-points-differ → tie.Else1
+abbrev at_long : tie.After-points_differ → tie.Else-points-ne-MAX_BOARDS
 at_long c = c.before.before
 
-abbrev st : tie.After-points-differ → tie.Start
+abbrev st : tie.After-points_differ → tie.Start
 st c = (known (at_long c)).before
 
 -- bytes, by their type
-bytes : (c : tie.After-shared-slice-known) → Bytes c.before.args.points.now
-bytes c = all_of (λ x. x < 256) 0 c.before.args.points.now (λ i l. omega (arith, c.shared-slice-known.given i))
+bytes : (c : tie.After-shared_slice_known-1) → Bytes c.before.args.points.now
+bytes c = all_of (λ x. x < 256) 0 c.before.args.points.now (λ i l. omega (arith, c.shared_slice_known-1.given i))
 
-wrong-length : tie.Need-returns
-wrong-length c = not-32 _ _ c.if1.true
+wrong-length : tie.Need-returns-then-points-ne-MAX_BOARDS
+wrong-length c = not-32 _ _ c.if-points-ne-MAX_BOARDS.true
 
-part_end : tie.Need-slice-bounds-points-differ-end
-part_end c = omega (arith, (legal-facts _ (known c).before.requires).few, c.if1.false)
+part_end : tie.Need-slice_bounds-points_differ-end
+part_end c = omega (arith, (legal-facts _ (known c).before.requires).few, c.if-points-ne-MAX_BOARDS.false)
 
-decided-by-rest : tie.Need-returns-2
+decided-by-rest : tie.Need-returns-then-points_differ
 decided-by-rest c =
     let k = c.before.before in
-    c.zero-from.ensures
-    ∙ by-rest (st k).args.sizes (st k).args.points.now (at_long k).if1.false (bytes (known (at_long k))) (sym k.points-differ.ensures ∙ c.before.if2.true)
+    c.zero_from.ensures
+    ∙ by-rest (st k).args.sizes (st k).args.points.now (at_long k).if-points-ne-MAX_BOARDS.false (bytes (known (at_long k))) (sym k.points_differ.ensures ∙ c.before.if-points_differ.true)
 
-point-repeated : tie.Need-returns-3
+point-repeated : tie.Need-returns
 point-repeated c =
     let k = c.before in
-    repeated (st k).args.sizes (st k).args.points.now (at_long k).if1.false (bytes (known (at_long k))) (sym k.points-differ.ensures ∙ c.if2.false)
+    repeated (st k).args.sizes (st k).args.points.now (at_long k).if-points-ne-MAX_BOARDS.false (bytes (known (at_long k))) (sym k.points_differ.ensures ∙ c.if-points_differ.false)
 
-pub points-taken-spec : {M : Type 1} → statement M
-points-taken-spec =
+pub points_taken_spec : {M : Type 1} → statement M
+points_taken_spec =
     tie.close
     (tie.spec
     wrong-length

@@ -1,6 +1,6 @@
 -- `list_tests::both_differ` meets its contract.
 -- Assumes nothing.
-use mathlib.Core.Path.{◌≡◌, sym, ◌∙◌}
+use mathlib.Core.Path.{sym, ◌∙◌}
 use borrow.Author.Rules.{rules}
 use Rattle.list_tests.proofs.Lists.{twice-left, twice-right, both-different}
 use Rattle.list_tests.proofs.both_differ.Statement.{statement}
@@ -10,27 +10,27 @@ use Rattle.list_tests.proofs.both_differ.Tie as tie
 abbrev st : tie.After-different → tie.Start
 st c = c.before.before.before
 
-abbrev at-boards : tie.After-different2 → tie.After-different
+abbrev at-boards : tie.After-different-then-different → tie.After-different
 at-boards c = c.before.before
 
-returns : tie.Need-returns
+returns : tie.Need-returns-then-different-2
 returns c =
     let k = c.before.before in
     let a = (st (at-boards k)).args in
     c.apart.ensures
-    ∙ both-different a.boards.now a.others.now (sym (at-boards k).different.ensures ∙ k.before.if1.true) (sym k.different2.ensures ∙ c.before.if2.true)
+    ∙ both-different a.boards.now a.others.now (sym (at-boards k).different.ensures ∙ k.before.if-different.true) (sym k.different-then-different.ensures ∙ c.before.if-different-2.true)
 
-returns-2 : tie.Need-returns-2
+returns-2 : tie.Need-returns-else-different-2
 returns-2 c =
     let k = c.before in
     let a = (st (at-boards k)).args in
-    sym (twice-right a.boards.now a.others.now (sym k.different2.ensures ∙ c.if2.false))
+    sym (twice-right a.boards.now a.others.now (sym k.different-then-different.ensures ∙ c.if-different-2.false))
 
-returns-3 : tie.Need-returns-3
+returns-3 : tie.Need-returns-else-different
 returns-3 c =
     let a = (st c.before).args in
-    sym (twice-left a.boards.now a.others.now (sym c.before.different.ensures ∙ c.if1.false))
+    sym (twice-left a.boards.now a.others.now (sym c.before.different.ensures ∙ c.if-different.false))
 
-pub both-differ-spec : {M : Type 1} → statement M
-both-differ-spec =
+pub both_differ_spec : {M : Type 1} → statement M
+both_differ_spec =
     tie.close (tie.spec (λ c κs. search rules) (λ c κs. search rules) (λ c κs. search rules) returns returns-2 returns-3)

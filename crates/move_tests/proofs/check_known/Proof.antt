@@ -1,9 +1,8 @@
 -- `move_tests::check_known` meets its contract.
 -- Assumes nothing.
-use Prim.Native.Nat.{ℕ}
-use mathlib.Core.Path.{◌≡◌, refl, sym, ap, ◌∙◌}
+use mathlib.Core.Path.{refl, sym, ap, ◌∙◌}
 use mathlib.Core.Bool.{Bool, false, not}
-use mathlib.Core.List.{List, ◌∷◌, ◌++◌}
+use mathlib.Core.List.{◌∷◌, ◌++◌}
 use borrow.Author.Rules.{rules}
 use borrow.Author.Tests.{lt-ltb, le-ltb}
 use Rattle.lists.specs.Tests.{pick, below}
@@ -16,17 +15,17 @@ use Rattle.move_tests.proofs.check_known.Statement.{statement}
 use Rattle.move_tests.proofs.check_known.Tie as tie
 
 -- the others' answer is that of all
-is-node : tie.Need-returns
+is-node : tie.Need-returns-then-board-sizes
 is-node c =
     let k = c.before in
     let a = k.before.before.before.before.args in
-    c.check-two-lists.ensures
-    ∙ ap (λ (t : Bool). asked (Node when not (pick t (below a.sizes.n (a.helpers.now ++ a.partners.now)) false))) (sym (lt-ltb a.board a.sizes.n k.if1.true))
+    c.check_two_lists.ensures
+    ∙ ap (λ (t : Bool). asked (Node when not (pick t (below a.sizes.n (a.helpers.now ++ a.partners.now)) false))) (sym (lt-ltb a.board a.sizes.n k.if-board-sizes.true))
 
-no_node : tie.Need-returns-2
+no_node : tie.Need-returns
 no_node c =
     let a = c.before.before.before.before.args in
-    refuses (node_line a.sizes (a.board ∷ (a.helpers.now ++ a.partners.now))) (rw (le-ltb a.board a.sizes.n c.if1.false) refl)
+    refuses (node_line a.sizes (a.board ∷ (a.helpers.now ++ a.partners.now))) (rw (le-ltb a.board a.sizes.n c.if-board-sizes.false) refl)
 
-pub check-known-spec : {M : Type 1} → statement M
-check-known-spec = tie.close (tie.spec (λ c κs. search rules) is-node no_node)
+pub check_known_spec : {M : Type 1} → statement M
+check_known_spec = tie.close (tie.spec (λ c κs. search rules) is-node no_node)

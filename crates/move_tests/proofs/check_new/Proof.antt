@@ -14,39 +14,39 @@ use Rattle.move_tests.proofs.check_new.Statement.{statement}
 use Rattle.move_tests.proofs.check_new.Tie as tie
 
 -- the places
-abbrev st : tie.After-all-differ → tie.Start
+abbrev st : tie.After-all_differ → tie.Start
 st c = c.before.before.before.before
 
-abbrev at_named : tie.After-point-from → tie.After-all-differ
+abbrev at_named : tie.After-point_from → tie.After-all_differ
 at_named c = c.before.before.before
 
 abbrev line : tie.Start → Line
 line g = let a = g.args in new_line a.n a.points.now a.board a.point a.helpers.now a.partners.now
 
 -- what is known past the first, and what the second tells
-differ-on : (c : tie.Then1) → let a = (st c.before).args in different (a.board ∷ (a.helpers.now ++ a.partners.now)) ≡ true
-differ-on c = sym c.before.all-differ.ensures ∙ c.if1.true
+differ-on : (c : tie.Then-all_differ) → let a = (st c.before).args in different (a.board ∷ (a.helpers.now ++ a.partners.now)) ≡ true
+differ-on c = sym c.before.all_differ.ensures ∙ c.if-all_differ.true
 
-asks-first : (c : tie.After-point-from) → let a = (st (at_named c)).args in among (take a.n a.points.now) a.point ≡ c.point-from.result
-asks-first c = let a = (st (at_named c)).args in first_of a.n a.points.now a.point ∙ sym c.point-from.ensures
+asks-first : (c : tie.After-point_from) → let a = (st (at_named c)).args in among (take a.n a.points.now) a.point ≡ c.point_from.result
+asks-first c = let a = (st (at_named c)).args in first_of a.n a.points.now a.point ∙ sym c.point_from.ensures
 
-point-had : tie.Need-returns
+point-had : tie.Need-returns-then-point_from
 point-had c =
     let k = c.before in
-    refuses (line (st (at_named k))) (second-fails _ _ (differ-on k.before.before) (asks-first k ∙ c.if2.true))
+    refuses (line (st (at_named k))) (second-fails _ _ (differ-on k.before.before) (asks-first k ∙ c.if-point_from.true))
 
-point-new : tie.Need-returns-2
+point-new : tie.Need-returns-then-all_differ
 point-new c =
     let k = c.before in
-    passes (line (st (at_named k))) (two-hold _ _ (differ-on k.before.before) (asks-first k ∙ c.if2.false))
+    passes (line (st (at_named k))) (two-hold _ _ (differ-on k.before.before) (asks-first k ∙ c.if-point_from.false))
 
-one-twice : tie.Need-returns-3
+one-twice : tie.Need-returns
 one-twice c =
     let a = (st c.before).args in
-    refuses (line (st c.before)) (first-fails _ (among (take a.n a.points.now) a.point) (sym c.before.all-differ.ensures ∙ c.if1.false))
+    refuses (line (st c.before)) (first-fails _ (among (take a.n a.points.now) a.point) (sym c.before.all_differ.ensures ∙ c.if-all_differ.false))
 
-pub check-new-spec : {M : Type 1} → statement M
-check-new-spec =
+pub check_new_spec : {M : Type 1} → statement M
+check_new_spec =
     tie.close
     (tie.spec
     (λ c κs. search rules)

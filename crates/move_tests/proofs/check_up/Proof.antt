@@ -16,35 +16,35 @@ use Rattle.move_tests.proofs.check_up.Tie as tie
 abbrev up : List Bool → ℕ → Bool
 up marks i = get_or marks i false
 
-abbrev invariant-loop : tie.invariant-loop
+abbrev invariant-loop : tie.invariant-loop-i
 invariant-loop n marks i₀ i = every (up marks) (drop i (all (up marks) n)) ≡ every (up marks) (all (up marks) n)
 
-abbrev decreases-loop : tie.decreases-loop
+abbrev decreases-loop : tie.decreases-loop-i
 decreases-loop n marks i₀ i = n - i
 
 -- the places
-abbrev st : tie.At-loop invariant-loop decreases-loop → tie.Start invariant-loop decreases-loop
+abbrev st : tie.At-loop-i invariant-loop decreases-loop → tie.Start invariant-loop decreases-loop
 st c = c.before.before
 
-abbrev turn : tie.After-mark-of invariant-loop decreases-loop → tie.In-loop invariant-loop decreases-loop
+abbrev turn : tie.After-mark_of invariant-loop decreases-loop → tie.In-loop-i invariant-loop decreases-loop
 turn c = c.before
 
-loop-again : tie.Need-loop-preserved invariant-loop decreases-loop
+loop-again : tie.Need-loop-i-preserved invariant-loop decreases-loop
 loop-again c =
     let k = turn c.before in
-    walk-next _ _ _ k.loop-test.taken (sym c.before.mark_of.ensures ∙ c.if1.true) ∙ k.before.loop.inv
+    walk-next _ _ _ k.loop-i-test.true (sym c.before.mark_of.ensures ∙ c.if-mark_of.true) ∙ k.before.loop-i.invariant
 
-one_down : tie.Need-returns invariant-loop decreases-loop
+one_down : tie.Need-returns-else-mark_of invariant-loop decreases-loop
 one_down c =
     let k = turn c.before in
     refuses (up_line (st k.before).args.n (st k.before).args.marks.now)
-    (ap not (sym k.before.loop.inv ∙ walk_no _ _ _ k.loop-test.taken (sym c.before.mark_of.ensures ∙ c.if1.false)))
+    (ap not (sym k.before.loop-i.invariant ∙ walk_no _ _ _ k.loop-i-test.true (sym c.before.mark_of.ensures ∙ c.if-mark_of.false)))
 
-all_up : tie.Need-returns-2 invariant-loop decreases-loop
-all_up c = passes (up_line (st c.before).args.n (st c.before).args.marks.now) (ap not (sym c.before.loop.invariant ∙ walk_ends _ _ _ c.loop-test.false))
+all_up : tie.Need-returns invariant-loop decreases-loop
+all_up c = passes (up_line (st c.before).args.n (st c.before).args.marks.now) (ap not (sym c.before.loop-i.invariant ∙ walk_ends _ _ _ c.loop-i-test.false))
 
-pub check-up-spec : {M : Type 1} → statement M
-check-up-spec =
+pub check_up_spec : {M : Type 1} → statement M
+check_up_spec =
     tie.close
     (tie.spec
     invariant-loop

@@ -1,10 +1,9 @@
 -- `number_lines::feed_digits` meets its contract, by the tests.
 -- Assumes nothing.
 use mathlib.Core.Path.{◌≡◌, sym, ap, ◌∙◌}
-use mathlib.Core.Bool.{true, false}
+use mathlib.Core.Bool.{true}
 use Prim.Native.Nat.{ℕ}
 use native.Mathlib.Omega.{arith}
-use Rattle.number_lines.specs.declared.Read.{Read}
 use Rattle.number_lines.specs.declared.Read.TheVariants.{More, Whole}
 use Rattle.number_lines.specs.Lines.{digit}
 use Rattle.number_lines.proofs.Picks.{if-eq, if-ne, yes, no}
@@ -13,28 +12,28 @@ use borrow.Author.Rules.{rules}
 use Rattle.number_lines.proofs.feed_digits.Statement.{statement}
 use Rattle.number_lines.proofs.feed_digits.Tie as tie
 
-abbrev st : tie.After-is-digit → tie.Start
+abbrev st : tie.After-is_digit → tie.Start
 st c = c.before.before
 
-is_digit : (c : tie.Then2) → digit (st c.before).args.b ≡ true
-is_digit c = sym c.before.is_digit.ensures ∙ c.if2.true
+is_digit : (c : tie.Then-is_digit) → digit (st c.before).args.b ≡ true
+is_digit c = sym c.before.is_digit.ensures ∙ c.if-is_digit.true
 
-returns : tie.Need-returns
-returns c = ap Whole c.least.ensures ∙ sym (if-eq _ 10 _ _ c.before.if1.true)
+returns : tie.Need-returns-then-b-eq10
+returns c = ap Whole c.least.ensures ∙ sym (if-eq _ 10 _ _ c.before.if-b-eq10.true)
 
-returns-2 : tie.Need-returns-2
+returns-2 : tie.Need-returns-then-is_digit
 returns-2 c =
     let at = c.before in
     let s = st at.before in
     ap (λ (v : ℕ). More (record { part = 2; at = s.args.r.at; value = v })) c.grown.ensures
-    ∙ sym (if-ne s.args.b 10 _ _ at.before.before.if1.false ∙ yes _ _ _ (is_digit at))
+    ∙ sym (if-ne s.args.b 10 _ _ at.before.before.if-b-eq10.false ∙ yes _ _ _ (is_digit at))
 
-returns-3 : tie.Need-returns-3
+returns-3 : tie.Need-returns
 returns-3 c =
-    sym (if-ne (st c.before).args.b 10 _ _ c.before.before.if1.false ∙ no _ _ _ (sym c.before.is_digit.ensures ∙ c.if2.false))
+    sym (if-ne (st c.before).args.b 10 _ _ c.before.before.if-b-eq10.false ∙ no _ _ _ (sym c.before.is_digit.ensures ∙ c.if-is_digit.false))
 
-pub feed-digits-spec : {M : Type 1} → statement M
-feed-digits-spec =
+pub feed_digits_spec : {M : Type 1} → statement M
+feed_digits_spec =
     tie.close
     (tie.spec
     (λ c κs. search rules)

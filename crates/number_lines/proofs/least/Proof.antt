@@ -5,5 +5,5 @@ use Rattle.number_lines.proofs.Capped.{capped-low, capped-high}
 use Rattle.number_lines.proofs.least.Statement.{statement}
 use Rattle.number_lines.proofs.least.Tie as tie
 
-pub least-spec : {M : Type 1} → statement M
-least-spec = tie.close (tie.spec (λ c. sym (capped-low _ _ c.if1.true)) (λ c. sym (capped-high _ _ c.if1.false)))
+pub least_spec : {M : Type 1} → statement M
+least_spec = tie.close (tie.spec (λ c. sym (capped-low _ _ c.if-v-most.true)) (λ c. sym (capped-high _ _ c.if-v-most.false)))

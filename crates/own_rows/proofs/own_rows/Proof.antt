@@ -1,6 +1,6 @@
 -- `own_rows::own_rows` meets its contract: the callees' contracts, put together.
 -- Assumes nothing.
-use mathlib.Core.Path.{◌≡◌, ◌∙◌}
+use mathlib.Core.Path.{◌∙◌}
 use lib.ListN.{length-set}
 use Rattle.own_rows.proofs.Kept.{f-row, g-row}
 use borrow.Author.Rules.{rules}
@@ -9,10 +9,10 @@ use Rattle.own_rows.proofs.own_rows.Statement.{statement}
 use Rattle.own_rows.proofs.own_rows.Tie as tie
 
 -- the places
-abbrev copy-at-slice-known4 : tie.After-slice-known4 → tie.After-copy
+abbrev copy-at-slice-known4 : tie.After-slice_known-4-1 → tie.After-copy
 copy-at-slice-known4 c = c.before.before.before.before.before.before.before.before
 
-abbrev st-at-slice-known4 : tie.After-slice-known4 → tie.Start
+abbrev st-at-slice-known4 : tie.After-slice_known-4-1 → tie.Start
 st-at-slice-known4 c = (copy-at-slice-known4 c).before.before.before.before.before.before
 
 returns : tie.Need-returns
@@ -20,11 +20,11 @@ returns c =
     let a = (st-at-slice-known4 c).args in
     let p = (st-at-slice-known4 c).requires in (
       f-row a.w a.held.now a.f.now _ (omega arith) (omega arith) (copy-at-slice-known4 c).copy.ensures,
-      g-row a.d a.w a.held.now a.g.now _ p.0 p.1 p.2 p.4 c.before.before.copy2.ensures,
+      g-row a.d a.w a.held.now a.g.now _ p.0 p.1 p.2 p.4 c.before.before.copy-2.ensures,
     )
 
-pub own-rows-spec : {M : Type 1} → statement M
-own-rows-spec =
+pub own_rows_spec : {M : Type 1} → statement M
+own_rows_spec =
     tie.close
     (tie.spec
     (λ c. search rules)
@@ -44,5 +44,5 @@ own-rows-spec =
     (λ c. search rules)
     (λ c κs. search rules)
     (λ c. search rules)
-    (λ c. c.before.g.given.1 ∙ length-set (st-at-slice-known4 c).args.g.now 0 _)
+    (λ c. c.before.g-1.given.1 ∙ length-set (st-at-slice-known4 c).args.g.now 0 _)
     returns)

@@ -6,14 +6,11 @@ use lib.ListN.{get_or-eq_default}
 use Rattle.padded.proofs.byte.Statement.{statement}
 use Rattle.padded.proofs.byte.Tie as tie
 
-shared-slice-read-result : tie.Need-shared-slice-read-result
-shared-slice-read-result c = search rules
+returns-2 : tie.Need-returns-else-at-file
+returns-2 c = sym (get_or-eq_default c.before.args.file.now 0 c.if-at-file.false)
 
-returns : tie.Need-returns
-returns c = search rules
-
-returns-2 : tie.Need-returns-2
-returns-2 c = sym (get_or-eq_default c.before.args.file.now 0 c.if1.false)
-
-pub byte-spec : {M : Type 1} → statement M
-byte-spec = tie.close (tie.spec shared-slice-read-result returns returns-2)
+pub byte_spec : {M : Type 1} → statement M
+byte_spec = tie.close (tie.spec
+    (λ c. search rules)
+    (λ c. search rules)
+    returns-2)

@@ -13,54 +13,47 @@ use Rattle.padded.proofs.Bytes.{pad-end}
 use Rattle.padded.proofs.pad.Statement.{statement}
 use Rattle.padded.proofs.pad.Tie as tie
 
-abbrev invariant-loop : tie.invariant-loop
+abbrev invariant-loop : tie.invariant-loop-t
 invariant-loop file base out₀ m t₀ out t =
     (out ≡ tabulate t (λ t. get_or file (base + t) 0) ++ drop t out₀) × (t ≤ m) × (length out ≡ length out₀)
 
-abbrev decreases-loop : tie.decreases-loop
+abbrev decreases-loop : tie.decreases-loop-t
 decreases-loop file base out₀ m t₀ out t = m - t
 
 -- places in the code
 abbrev st : tie.After-byte invariant-loop decreases-loop → tie.Start invariant-loop decreases-loop
 st c = c.before.before.before.before.before
 
-loop-holds : tie.Need-loop-init invariant-loop decreases-loop
+loop-holds : tie.Need-loop-t-init invariant-loop decreases-loop
 loop-holds c = (refl, omega arith, refl)
 
-add-byte : tie.Need-overflow-add-byte invariant-loop decreases-loop
-add-byte c = search rules
-
-byte-requires : tie.Need-byte-requires invariant-loop decreases-loop
-byte-requires c κs = search rules
-
-slice-write-out : tie.Need-slice-write-out invariant-loop decreases-loop
-slice-write-out c = search rules
-
-add-t : tie.Need-overflow-add-t invariant-loop decreases-loop
-add-t c = search rules
-
-loop-less : tie.Need-loop-smaller invariant-loop decreases-loop
-loop-less c = search rules
-
-loop-again : tie.Need-loop-preserved invariant-loop decreases-loop
+loop-again : tie.Need-loop-t-preserved invariant-loop decreases-loop
 loop-again c =
-    let l = c.before.before.loop in
+    let l = c.before.before.loop-t in
     let a = (st c).args in (
       fill-loop (λ t. get_or a.file.now (a.base + t) 0) a.out.now l.out l.t _ (omega arith) c.byte.ensures l.invariant.0,
       omega arith,
       length-set l.out l.t _ ∙ l.invariant.2,
     )
 
-same_length : tie.Need-same-length invariant-loop decreases-loop
-same_length c = search rules
-
 returns : tie.Need-returns invariant-loop decreases-loop
 returns c =
-    let l = c.before.loop in
+    let l = c.before.loop-t in
     let a = c.before.before.before.before.args in
     pad-end l.t a.base a.file.now a.out.now l.out (omega arith) l.invariant.0
 
-pub pad-spec : {M : Type 1} → statement M
-pad-spec =
+pub pad_spec : {M : Type 1} → statement M
+pad_spec =
     tie.close
-    (tie.spec invariant-loop decreases-loop loop-holds add-byte byte-requires slice-write-out add-t loop-less loop-again same_length returns)
+    (tie.spec
+    invariant-loop
+    decreases-loop
+    loop-holds
+    (λ c. search rules)
+    (λ c κs. search rules)
+    (λ c. search rules)
+    (λ c. search rules)
+    (λ c. search rules)
+    loop-again
+    (λ c. search rules)
+    returns)

@@ -12,50 +12,50 @@ use Rattle.point_lines.proofs.feed_high.Statement.{statement}
 use Rattle.point_lines.proofs.feed_high.Tie as tie
 
 -- the places
-abbrev st : tie.After-struct-known → tie.Start
+abbrev st : tie.After-struct_known-1 → tie.Start
 st c = c.before
 
-abbrev at-digit : tie.After-is-hexadecimal → tie.Else1
+abbrev at-digit : tie.After-is_hexadecimal → tie.Else-r-n
 at-digit c = c.before
 
-abbrev st-digit : tie.After-is-hexadecimal → tie.Start
+abbrev st-digit : tie.After-is_hexadecimal → tie.Start
 st-digit c = st (at-digit c).before
 
 -- behind the last pair
-ended : (c : tie.Then1) (q : PointReader) → let a = (st c.before).args in q ≡ fed_end a.r a.b → q ≡ fed_high a.n a.r a.b
-ended c q e = e ∙ sym (if-eq (st c.before).args.r.pairs _ _ _ c.if1.true)
+ended : (c : tie.Then-r-n) (q : PointReader) → let a = (st c.before).args in q ≡ fed_end a.r a.b → q ≡ fed_high a.n a.r a.b
+ended c q e = e ∙ sym (if-eq (st c.before).args.r.pairs _ _ _ c.if-r-n.true)
 
-returns : tie.Need-returns
+returns : tie.Need-returns-then-b-eq10
 returns c =
     let at = c.before in
     let a = (st at.before.before).args in
-    ended at.before _ (c.turned.ensures ∙ sym (if-eq a.b 0x0A _ _ at.if2.true))
+    ended at.before _ (c.turned.ensures ∙ sym (if-eq a.b 0x0A _ _ at.if-b-eq10.true))
 
-returns-2 : tie.Need-returns-2
+returns-2 : tie.Need-returns-then-r-n
 returns-2 c =
     let at = c.before in
     let a = (st at.before.before).args in
-    ended at.before _ (c.turned2.ensures ∙ sym (if-ne a.b 0x0A _ _ at.if2.false))
+    ended at.before _ (c.turned-then-r-n.ensures ∙ sym (if-ne a.b 0x0A _ _ at.if-b-eq10.false))
 
-is_digit : (c : tie.Then3) → hexadecimal (st-digit c.before).args.b ≡ true
-is_digit c = sym c.before.is-hexadecimal.ensures ∙ c.if3.true
+is_digit : (c : tie.Then-is_hexadecimal) → hexadecimal (st-digit c.before).args.b ≡ true
+is_digit c = sym c.before.is_hexadecimal.ensures ∙ c.if-is_hexadecimal.true
 
-returns-3 : tie.Need-returns-3
+returns-3 : tie.Need-returns-then-is_hexadecimal
 returns-3 c =
     let k = c.before in
     let g = at-digit k.before in
     let a = (st g.before).args in
-    ap (λ (v : ℕ). begun a.r v) c.digit_value.ensures ∙ sym (if-ne a.r.pairs _ _ _ g.if1.left ∙ yes _ _ _ (is_digit k))
+    ap (λ (v : ℕ). begun a.r v) c.digit_value.ensures ∙ sym (if-ne a.r.pairs _ _ _ g.if-r-n.false ∙ yes _ _ _ (is_digit k))
 
-returns-4 : tie.Need-returns-4
+returns-4 : tie.Need-returns
 returns-4 c =
     let k = c.before in
     let g = at-digit k.before in
     let a = (st g.before).args in
-    c.turned3.ensures ∙ sym (if-ne a.r.pairs _ _ _ g.if1.left ∙ no _ _ _ (sym k.before.is-hexadecimal.ensures ∙ k.if3.false))
+    c.turned-2.ensures ∙ sym (if-ne a.r.pairs _ _ _ g.if-r-n.false ∙ no _ _ _ (sym k.before.is_hexadecimal.ensures ∙ k.if-is_hexadecimal.false))
 
-pub feed-high-spec : {M : Type 1} → statement M
-feed-high-spec =
+pub feed_high_spec : {M : Type 1} → statement M
+feed_high_spec =
     tie.close
     (tie.spec
     (λ c κs. search rules)

@@ -2,7 +2,6 @@
 -- Assumes nothing.
 use mathlib.Core.Path.{◌≡◌, sym, ap, ◌∙◌}
 use mathlib.Core.Bool.{true}
-use Prim.Native.Nat.{ℕ, ◌+◌, ◌*◌, ◌%◌}
 use native.Mathlib.Nat.{mod-lt}
 use native.Mathlib.Omega.{arith}
 use Rattle.point_lines.specs.Lines.{hexadecimal}
@@ -14,41 +13,41 @@ use Rattle.point_lines.proofs.feed_low.Statement.{statement}
 use Rattle.point_lines.proofs.feed_low.Tie as tie
 
 -- the places
-abbrev at-digit : tie.After-is-hexadecimal → tie.Else1
+abbrev at-digit : tie.After-is_hexadecimal → tie.Else-at-ge32
 at-digit c = c.before
 
-abbrev st : tie.After-is-hexadecimal → tie.Start
+abbrev st : tie.After-is_hexadecimal → tie.Start
 st c = (at-digit c).before
 
-is_digit : (c : tie.Then2) → hexadecimal (st c.before).args.b ≡ true
-is_digit c = sym c.before.is-hexadecimal.ensures ∙ c.if2.true
+is_digit : (c : tie.Then-is_hexadecimal) → hexadecimal (st c.before).args.b ≡ true
+is_digit c = sym c.before.is_hexadecimal.ensures ∙ c.if-is_hexadecimal.true
 
-returns : tie.Need-returns
-returns c = let at = c.before in c.turned.ensures ∙ sym (if-le at.before.args.r.pairs 32 _ _ at.if1.true)
+returns : tie.Need-returns-then-at-ge32
+returns c = let at = c.before in c.turned.ensures ∙ sym (if-le at.before.args.r.pairs 32 _ _ at.if-at-ge32.true)
 
-add-q-2 : tie.Need-overflow-add-q-2
+add-q-2 : tie.Need-overflow_add-q-then-is_hexadecimal
 add-q-2 c =
     let at = c.before.before in
     let a = (st at.before).args in
     let h = mod-lt a.r.high {m = 16} (omega arith) in
     record { fits = omega (arith, h, c.digit_value.ensures, digit_low a.b (is_digit at)) }
 
-returns-2 : tie.Need-returns-2
+returns-2 : tie.Need-returns-then-is_hexadecimal
 returns-2 c =
     let at = c.before.before in
     let k = at.before in
     let a = (st k).args in
-    ap (paired a.r) c.digit_value.ensures ∙ sym (if-lt a.r.pairs 32 _ _ (at-digit k).if1.false ∙ yes _ _ _ (is_digit at))
+    ap (paired a.r) c.digit_value.ensures ∙ sym (if-lt a.r.pairs 32 _ _ (at-digit k).if-at-ge32.false ∙ yes _ _ _ (is_digit at))
 
-returns-3 : tie.Need-returns-3
+returns-3 : tie.Need-returns
 returns-3 c =
     let at = c.before in
     let k = at.before in
-    c.turned2.ensures
-    ∙ sym (if-lt (st k).args.r.pairs 32 _ _ (at-digit k).if1.false ∙ no _ _ _ (sym k.is-hexadecimal.ensures ∙ at.if2.false))
+    c.turned-2.ensures
+    ∙ sym (if-lt (st k).args.r.pairs 32 _ _ (at-digit k).if-at-ge32.false ∙ no _ _ _ (sym k.is_hexadecimal.ensures ∙ at.if-is_hexadecimal.false))
 
-pub feed-low-spec : {M : Type 1} → statement M
-feed-low-spec =
+pub feed_low_spec : {M : Type 1} → statement M
+feed_low_spec =
     tie.close
     (tie.spec
     (λ c κs. search rules)

@@ -23,69 +23,46 @@ named : (text : List ℕ) (at x y : ℕ) (w : Went) → name_of x ≡ name_of y 
     → Goes text at (λ go. name_on (name_of x) (drop at text) (go 0)) w
 named text at x y w e h = subst (λ (l : List ℕ). Goes text at (λ go. name_on l (drop at text) (go 0)) w) (sym e) h
 
--- the places
-abbrev at-match-keys1-at-name-on : tie.After-name-on → tie.At-match-keys1
-at-match-keys1-at-name-on c = c.before.before
-
-returns : tie.Need-returns
+returns : tie.Need-returns-in-0
 returns c =
-    let a = (at-match-keys1-at-name-on c).before.before.args in
-    named a.text.now a.at a.which 0 c.name-on.result (ap name_of (at-match-keys1-at-name-on c).match.keys1) c.name-on.ensures
+    let a = c.args in
+    named a.text.now a.at a.which 0 c.name_on.result (ap name_of c.in-0.is) c.name_on.ensures
 
-abbrev at-match-keys2-at-name-on2 : tie.After-name-on2 → tie.At-match-keys2
-at-match-keys2-at-name-on2 c = c.before.before
-
-returns-2 : tie.Need-returns-2
+returns-2 : tie.Need-returns-in-1
 returns-2 c =
-    let a = (at-match-keys2-at-name-on2 c).before.before.args in
-    named a.text.now a.at a.which 1 c.name-on2.result (ap name_of (at-match-keys2-at-name-on2 c).match.keys2) c.name-on2.ensures
+    let a = c.args in
+    named a.text.now a.at a.which 1 c.name_on-in-1.result (ap name_of c.in-1.is) c.name_on-in-1.ensures
 
-abbrev at-match-keys3-at-name-on3 : tie.After-name-on3 → tie.At-match-keys3
-at-match-keys3-at-name-on3 c = c.before.before
-
-returns-3 : tie.Need-returns-3
+returns-3 : tie.Need-returns-in-2
 returns-3 c =
-    let a = (at-match-keys3-at-name-on3 c).before.before.args in
-    named a.text.now a.at a.which 2 c.name-on3.result (ap name_of (at-match-keys3-at-name-on3 c).match.keys3) c.name-on3.ensures
+    let a = c.args in
+    named a.text.now a.at a.which 2 c.name_on-in-2.result (ap name_of c.in-2.is) c.name_on-in-2.ensures
 
-abbrev at-match-keys4-at-name-on4 : tie.After-name-on4 → tie.At-match-keys4
-at-match-keys4-at-name-on4 c = c.before.before
-
-returns-4 : tie.Need-returns-4
+returns-4 : tie.Need-returns-in-3
 returns-4 c =
-    let a = (at-match-keys4-at-name-on4 c).before.before.args in
-    named a.text.now a.at a.which 3 c.name-on4.result (ap name_of (at-match-keys4-at-name-on4 c).match.keys4) c.name-on4.ensures
+    let a = c.args in
+    named a.text.now a.at a.which 3 c.name_on-in-3.result (ap name_of c.in-3.is) c.name_on-in-3.ensures
 
-abbrev at-match-keys5-at-name-on5 : tie.After-name-on5 → tie.At-match-keys5
-at-match-keys5-at-name-on5 c = c.before.before
-
-returns-5 : tie.Need-returns-5
+returns-5 : tie.Need-returns-in-4
 returns-5 c =
-    let a = (at-match-keys5-at-name-on5 c).before.before.args in
-    named a.text.now a.at a.which 4 c.name-on5.result (ap name_of (at-match-keys5-at-name-on5 c).match.keys5) c.name-on5.ensures
+    let a = c.args in
+    named a.text.now a.at a.which 4 c.name_on-in-4.result (ap name_of c.in-4.is) c.name_on-in-4.ensures
 
-returns-6 : tie.Need-returns-6
+returns-6 : tie.Need-returns-in_default
 returns-6 c =
-    let at = c.before.before in
-    let a = at.before.before.args in
-    let r = at.match.rest in
-    named a.text.now a.at a.which 5 c.name-on6.result (other _ r.0.0.0.0.1 r.0.0.0.1 r.0.0.1 r.0.1 r.1) c.name-on6.ensures
+    let a = c.args in
+    let r = c.in_default.in_default-own.rest in
+    named a.text.now a.at a.which 5 c.name_on-in_default.result (other _ r.0.0.0.0.1 r.0.0.0.1 r.0.0.1 r.0.1 r.1) c.name_on-in_default.ensures
 
-pub head-on-spec : {M : Type 1} → statement M
-head-on-spec =
+pub head_on_spec : {M : Type 1} → statement M
+head_on_spec =
     tie.close
     (tie.spec
-    (λ c. search rules)
     (λ c κs. search rules)
-    (λ c. search rules)
     (λ c κs. search rules)
-    (λ c. search rules)
     (λ c κs. search rules)
-    (λ c. search rules)
     (λ c κs. search rules)
-    (λ c. search rules)
     (λ c κs. search rules)
-    (λ c. search rules)
     (λ c κs. search rules)
     returns
     returns-2

@@ -9,25 +9,25 @@ use Rattle.prefix_lines.proofs.line_on.Statement.{statement}
 use Rattle.prefix_lines.proofs.line_on.Tie as tie
 
 -- the places
-abbrev st-at-head-on : tie.After-head-on → tie.Start
+abbrev st-at-head-on : tie.After-head_on-name → tie.Start
 st-at-head-on c = c.before.before
 
-returns : tie.Need-returns
+returns : tie.Need-returns-then-not-name
 returns c =
     let h = c.before.before in
     let a = (st-at-head-on h).args in
-    let e = not-true _ c.if1.true in
-    (goes-no a.text.now a.at _ h.head-on.result h.head-on.ensures e (λ go v rest. number_on a.lo a.hi rest go), λ ok. absurd (true-false ok e))
+    let e = not-true _ c.if-not-name.true in
+    (goes-no a.text.now a.at _ h.head_on-name.result h.head_on-name.ensures e (λ go v rest. number_on a.lo a.hi rest go), λ ok. absurd (true-false ok e))
 
-returns-2 : tie.Need-returns-2
+returns-2 : tie.Need-returns
 returns-2 c =
     let f = c.before in
     let h = f.before.before in
     let a = (st-at-head-on h).args in (
-      goes-yes a.text.now a.at _ h.head-on.result c.number-on.result h.head-on.ensures (not-false _ f.if1.false) (λ go v rest. number_on a.lo a.hi rest go)
-          c.number-on.ensures.0,
-      c.number-on.ensures.1,
+      goes-yes a.text.now a.at _ h.head_on-name.result c.number_on.result h.head_on-name.ensures (not-false _ f.if-not-name.false) (λ go v rest. number_on a.lo a.hi rest go)
+          c.number_on.ensures.0,
+      c.number_on.ensures.1,
     )
 
-pub line-on-spec : {M : Type 1} → statement M
-line-on-spec = tie.close (tie.spec (λ c κs. search rules) returns (λ c κs. search rules) returns-2)
+pub line_on_spec : {M : Type 1} → statement M
+line_on_spec = tie.close (tie.spec (λ c κs. search rules) returns (λ c κs. search rules) returns-2)

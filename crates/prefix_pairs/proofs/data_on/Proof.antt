@@ -1,7 +1,7 @@
 -- `prefix_pairs::data_on` meets its contract. The loop's invariant: from the place reached on, the pairs that are left count on to what all count.
 -- Assumes nothing.
 use mathlib.Core.Path.{◌≡◌, refl, sym, ap, ◌∙◌}
-use mathlib.Core.Bool.{true}
+use mathlib.Core.Bool.{true, not}
 use mathlib.Core.List.{List, []}
 use Prim.Native.Nat.{ℕ, ◌+◌}
 use native.Mathlib.Omega.{arith}
@@ -16,75 +16,75 @@ use Rattle.prefix_pairs.proofs.Pairs.{any, data-high, data-low, data-more}
 use Rattle.prefix_pairs.proofs.data_on.Statement.{statement}
 use Rattle.prefix_pairs.proofs.data_on.Tie as tie
 
-abbrev invariant-loop : tie.invariant-loop
+abbrev invariant-loop : tie.invariant-loop-left
 invariant-loop text at count i₀ left₀ i left = (go : List ℕ → ℕ) → i + pairs_on any left [] (drop i text) go ≡ at + pairs_on any count [] (drop at text) go
 
-abbrev decreases-loop : tie.decreases-loop
+abbrev decreases-loop : tie.decreases-loop-left
 decreases-loop text at count i₀ left₀ i left = left
 
-abbrev st : tie.At-loop invariant-loop decreases-loop → tie.Start invariant-loop decreases-loop
+abbrev st : tie.At-loop-left invariant-loop decreases-loop → tie.Start invariant-loop decreases-loop
 st c = c.before.before
 
-abbrev turn-at-else1 : tie.Else1 invariant-loop decreases-loop → tie.In-loop invariant-loop decreases-loop
+abbrev turn-at-else1 : tie.Else-not-digit_at invariant-loop decreases-loop → tie.In-loop-left invariant-loop decreases-loop
 turn-at-else1 c = c.before.before
 
-abbrev loop-at-else1 : tie.Else1 invariant-loop decreases-loop → tie.At-loop invariant-loop decreases-loop
+abbrev loop-at-else1 : tie.Else-not-digit_at invariant-loop decreases-loop → tie.At-loop-left invariant-loop decreases-loop
 loop-at-else1 c = (turn-at-else1 c).before
 
-high : (c : tie.Else1 invariant-loop decreases-loop) → let l = loop-at-else1 c in hexadecimal (get_or (st l).args.text.now l.loop.i 0) ≡ true
-high c = sym c.before.digit_at.ensures ∙ not-false _ c.if1.false
+high : (c : tie.Else-not-digit_at invariant-loop decreases-loop) → let l = loop-at-else1 c in hexadecimal (get_or (st l).args.text.now l.loop-left.i 0) ≡ true
+high c = sym c.before.digit_at.ensures ∙ not-false _ (ap not c.if-not-digit_at.false)
 
-abbrev else1-at-else2 : tie.Else2 invariant-loop decreases-loop → tie.Else1 invariant-loop decreases-loop
+abbrev else1-at-else2 : tie.Else-not-digit_at-2 invariant-loop decreases-loop → tie.Else-not-digit_at invariant-loop decreases-loop
 else1-at-else2 c = c.before.before
 
-low : (c : tie.Else2 invariant-loop decreases-loop) → let l = loop-at-else1 (else1-at-else2 c) in hexadecimal (get_or (st l).args.text.now (l.loop.i + 1) 0) ≡ true
-low c = sym c.before.digit-at2.ensures ∙ not-false _ c.if2.false
+low : (c : tie.Else-not-digit_at-2 invariant-loop decreases-loop) → let l = loop-at-else1 (else1-at-else2 c) in hexadecimal (get_or (st l).args.text.now (l.loop-left.i + 1) 0) ≡ true
+low c = sym c.before.digit_at-in-loop-left.ensures ∙ not-false _ (ap not c.if-not-digit_at-2.false)
 
-returns : tie.Need-returns invariant-loop decreases-loop
+returns : tie.Need-returns-then-not-digit_at invariant-loop decreases-loop
 returns c =
     let d = c.before.before in
     let l = d.before.before in
     let a = (st l).args in
-    goes-stop a.text.now a.at _ c.stopped.result l.loop.i c.stopped.ensures
-    (λ go. sym (l.loop.invariant (go 0))
-    ∙ data-high a.text.now l.loop.i l.loop.left d.before.loop-test.true (go 0) (sym d.digit_at.ensures ∙ not-true _ c.before.if1.true))
+    goes-stop a.text.now a.at _ c.stopped.result l.loop-left.i c.stopped.ensures
+    (λ go. sym (l.loop-left.invariant (go 0))
+    ∙ data-high a.text.now l.loop-left.i l.loop-left.left d.before.loop-left-test.true (go 0) (sym d.digit_at.ensures ∙ not-true _ (ap not c.before.if-not-digit_at.true)))
 
-add-digit-at : tie.Need-overflow-add-digit-at invariant-loop decreases-loop
+add-digit-at : tie.Need-overflow_add-i invariant-loop decreases-loop
 add-digit-at c =
     let l = loop-at-else1 c in
-    record { fits = omega (arith, digit-within (st l).args.text.now l.loop.i (high c)) }
+    record { fits = omega (arith, digit-within (st l).args.text.now l.loop-left.i (high c)) }
 
-returns-2 : tie.Need-returns-2 invariant-loop decreases-loop
+returns-2 : tie.Need-returns-then-not-digit_at-2 invariant-loop decreases-loop
 returns-2 c =
     let d = c.before.before in
     let e = d.before in
     let l = loop-at-else1 e in
     let a = (st l).args in
-    goes-stop a.text.now a.at _ c.stopped2.result (l.loop.i + 1) c.stopped2.ensures
-    (λ go. sym (l.loop.inv (go 0)) ∙ data-low a.text.now l.loop.i l.loop.left (turn-at-else1 e).loop-test.true (go 0) (high e)
-    (sym d.digit-at2.ensures ∙ not-true _ c.before.if2.true))
+    goes-stop a.text.now a.at _ c.stopped-then-not-digit_at-2.result (l.loop-left.i + 1) c.stopped-then-not-digit_at-2.ensures
+    (λ go. sym (l.loop-left.invariant (go 0)) ∙ data-low a.text.now l.loop-left.i l.loop-left.left (turn-at-else1 e).loop-left-test.true (go 0) (high e)
+    (sym d.digit_at-in-loop-left.ensures ∙ not-true _ (ap not c.before.if-not-digit_at-2.true)))
 
-add-i : tie.Need-overflow-add-i invariant-loop decreases-loop
+add-i : tie.Need-overflow_add-i-in-loop-left invariant-loop decreases-loop
 add-i c =
     let l = loop-at-else1 (else1-at-else2 c) in
-    record { fits = omega (arith, digit-within (st l).args.text.now (l.loop.i + 1) (low c)) }
+    record { fits = omega (arith, digit-within (st l).args.text.now (l.loop-left.i + 1) (low c)) }
 
-loop-again : tie.Need-loop-preserved invariant-loop decreases-loop
+loop-again : tie.Need-loop-left-preserved invariant-loop decreases-loop
 loop-again c go =
     let e = else1-at-else2 c in
     let l = loop-at-else1 e in
     let a = (st l).args in
-    data-more a.text.now l.loop.i l.loop.left (turn-at-else1 e).loop-test.taken go (high e) (low c) ∙ l.loop.inv go
+    data-more a.text.now l.loop-left.i l.loop-left.left (turn-at-else1 e).loop-left-test.true go (high e) (low c) ∙ l.loop-left.invariant go
 
-returns-3 : tie.Need-returns-3 invariant-loop decreases-loop
+returns-3 : tie.Need-returns invariant-loop decreases-loop
 returns-3 c go =
     let l = c.before.before in
     let a = (st l).args in
-    let z : 0 ≡ l.loop.left = omega (arith, c.before.loop-test.false) in
-    sym (l.loop.invariant (go 0)) ∙ ap (λ (m : ℕ). l.loop.i + pairs_on any m [] (drop l.loop.i a.text.now) (go 0)) (sym z) ∙ c.end_on.ensures go
+    let z : 0 ≡ l.loop-left.left = omega (arith, c.before.loop-left-test.false) in
+    sym (l.loop-left.invariant (go 0)) ∙ ap (λ (m : ℕ). l.loop-left.i + pairs_on any m [] (drop l.loop-left.i a.text.now) (go 0)) (sym z) ∙ c.end_on.ensures go
 
-pub data-on-spec : {M : Type 1} → statement M
-data-on-spec =
+pub data_on_spec : {M : Type 1} → statement M
+data_on_spec =
     tie.close
     (tie.spec
     invariant-loop

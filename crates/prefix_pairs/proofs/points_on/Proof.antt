@@ -15,74 +15,60 @@ use Rattle.prefix_pairs.proofs.Pairs.{points-step, part-long, part-before, part-
 use Rattle.prefix_pairs.proofs.points_on.Statement.{statement}
 use Rattle.prefix_pairs.proofs.points_on.Tie as tie
 
-abbrev invariant-loop : tie.invariant-loop
+abbrev invariant-loop : tie.invariant-loop-j
 invariant-loop text at n points₀ i₀ j₀ points i j =
     ((go : List ℕ → ℕ) → i + pairs_on (may_point n) (n - j) (take j points) (drop i text) go ≡ at + pairs_on (may_point n) n [] (drop at text) go)
     × (length points ≡ 32) × (j ≤ n)
 
-abbrev decreases-loop : tie.decreases-loop
+abbrev decreases-loop : tie.decreases-loop-j
 decreases-loop text at n points₀ i₀ j₀ points i j = n - j
 
-abbrev turn-at-pair-on : tie.After-pair-on invariant-loop decreases-loop → tie.In-loop invariant-loop decreases-loop
-turn-at-pair-on c = c.before.before
-
-abbrev loop : tie.After-pair-on invariant-loop decreases-loop → tie.At-loop invariant-loop decreases-loop
-loop c = (turn-at-pair-on c).before
-
-abbrev st : tie.At-loop invariant-loop decreases-loop → tie.Start invariant-loop decreases-loop
-st l = l.before.before
-
-room : (c : tie.After-pair-on invariant-loop decreases-loop) → (loop c).loop.j + 1 ≤ length (loop c).loop.points
-room c = let l = loop c in let h = (st l).pre in omega (arith, (turn-at-pair-on c).loop-test.true, h, l.loop.inv.1)
+room : (c : tie.After-pair_on-pair invariant-loop decreases-loop) → c.loop-j.j + 1 ≤ length c.loop-j.points
+room c = let h = c.requires in omega (arith, c.loop-j-test.true, h, c.loop-j.invariant.1)
 
 -- a pair more
-one : (c : tie.After-pair-on invariant-loop decreases-loop) → let l = loop c in let a = (st l).args in let w = c.pair-on.result in
-    (go : List ℕ → ℕ) → l.loop.i + pairs_on (may_point a.n) (a.n - l.loop.j) (take l.loop.j l.loop.points) (drop l.loop.i a.text.now) go
-    ≡ pick w.ok (w.at + pairs_on (may_point a.n) (a.n - (l.loop.j + 1)) (take l.loop.j l.loop.points ++ (w.value ∷ [])) (drop w.at a.text.now) go) w.at
+one : (c : tie.After-pair_on-pair invariant-loop decreases-loop) → let a = c.args in let w = c.pair_on-pair.result in
+    (go : List ℕ → ℕ) → c.loop-j.i + pairs_on (may_point a.n) (a.n - c.loop-j.j) (take c.loop-j.j c.loop-j.points) (drop c.loop-j.i a.text.now) go
+    ≡ pick w.ok (w.at + pairs_on (may_point a.n) (a.n - (c.loop-j.j + 1)) (take c.loop-j.j c.loop-j.points ++ (w.value ∷ [])) (drop w.at a.text.now) go) w.at
 one c =
-    let l = loop c in
-    let a = (st l).args in
-    points-step a.text.now (take l.loop.j l.loop.points) (take (l.loop.j + 1 - 0) l.loop.points) a.n l.loop.i l.loop.j (turn-at-pair-on c).loop-test.true
-    (part-long l.loop.points l.loop.j (room c)) (part-before l.loop.points l.loop.j (room c)) c.pair-on.result c.pair-on.ensures.0
+    let a = c.args in
+    points-step a.text.now (take c.loop-j.j c.loop-j.points) (take (c.loop-j.j + 1 - 0) c.loop-j.points) a.n c.loop-j.i c.loop-j.j c.loop-j-test.true
+    (part-long c.loop-j.points c.loop-j.j (room c)) (part-before c.loop-j.points c.loop-j.j (room c)) c.pair_on-pair.result c.pair_on-pair.ensures.0
 
-returns : tie.Need-returns invariant-loop decreases-loop
+returns : tie.Need-returns-then-not-pair invariant-loop decreases-loop
 returns c go =
-    let p = c.before.before.before in
-    let e = not-true _ c.if1.true in
-    sym ((loop p).loop.invariant.0 (go 0)) ∙ one p (go 0) ∙ no p.pair-on.result.ok _ _ e ∙ sym (no p.pair-on.result.ok _ _ e)
+    let e = not-true _ c.if-not-pair.true in
+    sym (c.loop-j.invariant.0 (go 0)) ∙ one c.before.before.before (go 0) ∙ no c.pair_on-pair.result.ok _ _ e ∙ sym (no c.pair_on-pair.result.ok _ _ e)
 
-loop-again : tie.Need-loop-preserved invariant-loop decreases-loop
+loop-again : tie.Need-loop-j-preserved invariant-loop decreases-loop
 loop-again c =
-    let p = c.before.before.before in
-    let l = loop p in
-    let a = (st l).args in
-    let w = p.pair-on.result in
-    let ok = not-false _ c.if1.false in
-    let new = part-new l.loop.points p.pair-on.new.1.1.0 l.loop.j w.value (room p) (p.pair-on.ensures.1 ok) in (
+    let a = c.args in
+    let w = c.pair_on-pair.result in
+    let ok = not-false _ c.if-not-pair.false in
+    let new = part-new c.loop-j.points c.pair_on-pair.new.points c.loop-j.j w.value (room c.before.before.before) (c.pair_on-pair.ensures.1 ok) in (
       λ go.
-          ap (λ (xs : List ℕ). w.at + pairs_on (may_point a.n) (a.n - (l.loop.j + 1)) xs (drop w.at a.text.now) go)
-          (part-back l.loop.points p.pair-on.new.1.1.0 l.loop.j new.1 ∙ new.0)
-          ∙ sym (one p go ∙ yes w.ok _ w.at ok) ∙ l.loop.inv.0 go,
-      part-whole l.loop.points p.pair-on.new.1.1.0 l.loop.j new.1 (room p) ∙ l.loop.inv.1,
-      omega (arith, (turn-at-pair-on p).loop-test.true),
+          ap (λ (xs : List ℕ). w.at + pairs_on (may_point a.n) (a.n - (c.loop-j.j + 1)) xs (drop w.at a.text.now) go)
+          (part-back c.loop-j.points c.pair_on-pair.new.points c.loop-j.j new.1 ∙ new.0)
+          ∙ sym (one c.before.before.before go ∙ yes w.ok _ w.at ok) ∙ c.loop-j.invariant.0 go,
+      part-whole c.loop-j.points c.pair_on-pair.new.points c.loop-j.j new.1 (room c.before.before.before) ∙ c.loop-j.invariant.1,
+      omega (arith, c.loop-j-test.true),
     )
 
-returns-2 : tie.Need-returns-2 invariant-loop decreases-loop
+returns-2 : tie.Need-returns invariant-loop decreases-loop
 returns-2 c go =
-    let l = c.before.before in
-    let a = (st l).args in
-    let z : 0 ≡ a.n - l.loop.j = omega (arith, c.before.loop-test.false) in
-    sym (l.loop.invariant.0 (go 0))
-    ∙ ap (λ (m : ℕ). l.loop.i + pairs_on (may_point a.n) m (take l.loop.j l.loop.points) (drop l.loop.i a.text.now) (go 0)) (sym z)
+    let a = c.args in
+    let z : 0 ≡ a.n - c.loop-j.j = omega (arith, c.loop-j-test.false) in
+    sym (c.loop-j.invariant.0 (go 0))
+    ∙ ap (λ (m : ℕ). c.loop-j.i + pairs_on (may_point a.n) m (take c.loop-j.j c.loop-j.points) (drop c.loop-j.i a.text.now) (go 0)) (sym z)
     ∙ c.end_on.ensures go
 
-pub points-on-spec : {M : Type 1} → statement M
-points-on-spec =
+pub points_on_spec : {M : Type 1} → statement M
+points_on_spec =
     tie.close
     (tie.spec
     invariant-loop
     decreases-loop
-    (λ c. let a = c.before.args in (
+    (λ c. let a = c.args in (
       λ go. let e : a.n - 0 ≡ a.n = omega arith in
           ap (λ (m : ℕ). a.at + pairs_on (may_point a.n) m [] (drop a.at a.text.now) go) e,
       refl,
@@ -91,11 +77,11 @@ points-on-spec =
     (λ c. search rules)
     (λ c. search rules)
     (λ c. search rules)
-    (λ c. let l = c.before in let h = (st l).requires in omega (arith, c.loop-test.true, h, l.loop.invariant.1))
+    (λ c. let h = c.requires in omega (arith, c.loop-j-test.true, h, c.loop-j.invariant.1))
     (λ c. search rules)
-    (λ c κs. let l = c.before.before in let h = (st l).requires in
-    let r : l.loop.j + 1 ≤ length l.loop.points = omega (arith, c.before.loop-test.true, h, l.loop.invariant.1) in
-    omega (arith, part-long l.loop.points l.loop.j r))
+    (λ c κs. let h = c.requires in
+    let r : c.loop-j.j + 1 ≤ length c.loop-j.points = omega (arith, c.loop-j-test.true, h, c.loop-j.invariant.1) in
+    omega (arith, part-long c.loop-j.points c.loop-j.j r))
     returns
     (λ c. search rules)
     loop-again

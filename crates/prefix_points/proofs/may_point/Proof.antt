@@ -24,29 +24,29 @@ whole xs left d e =
     one true = refl
     one false = refl
 
-abbrev differ : tie.Else1 → tie.After-points-differ
+abbrev differ : tie.Else-not-points_differ → tie.After-points_differ
 differ c = c.before
 
 -- the places
-abbrev st-at-else1 : tie.Else1 → tie.Start
+abbrev st-at-else1 : tie.Else-not-points_differ → tie.Start
 st-at-else1 c = c.before.before.before
 
-is-different : (c : tie.Else1) → different (st-at-else1 c).args.points.now ≡ true
-is-different c = sym c.before.points-differ.ensures ∙ not-false _ c.if1.false
+is-different : (c : tie.Else-not-points_differ) → different (st-at-else1 c).args.points.now ≡ true
+is-different c = sym c.before.points_differ.ensures ∙ not-false _ (ap not c.if-not-points_differ.false)
 
-returns : tie.Need-returns
-returns c = sym (rw (sym c.before.points-differ.ensures ∙ not-true _ c.if1.true))
+returns : tie.Need-returns-then-not-points_differ
+returns c = sym (rw (sym c.before.points_differ.ensures ∙ not-true _ (ap not c.if-not-points_differ.true)))
 
-returns-2 : tie.Need-returns-2
+returns-2 : tie.Need-returns-then-left-eq0
 returns-2 c =
     let e = c.before.before in
     let a = (st-at-else1 e).args in
-    ap not c.in_order.ensures ∙ whole a.points.now a.left (is-different e) c.before.if2.true
+    ap not c.in_order.ensures ∙ whole a.points.now a.left (is-different e) c.before.if-left-eq0.true
 
-returns-3 : tie.Need-returns-3
+returns-3 : tie.Need-returns
 returns-3 c =
     let a = (st-at-else1 c.before).args in
-    sym (rw (is-different c.before, ne_eqb a.left 0 c.if2.false))
+    sym (rw (is-different c.before, ne_eqb a.left 0 c.if-left-eq0.false))
 
-pub may-point-spec : {M : Type 1} → statement M
-may-point-spec = tie.close (tie.spec (λ c κs. search rules) returns (λ c κs. search rules) returns-2 returns-3)
+pub may_point_spec : {M : Type 1} → statement M
+may_point_spec = tie.close (tie.spec (λ c κs. search rules) returns (λ c κs. search rules) returns-2 returns-3)

@@ -15,12 +15,12 @@ use Rattle.prefix_points.proofs.some_low.Tie as tie
 abbrev may : List ℕ → ℕ → ℕ → ℕ → Bool
 may points₀ high left low = may_point (length points₀ + left) left (take (length points₀ - 1) points₀ ++ ((16 * high + low) ∷ []))
 
-abbrev invariant-loop : tie.invariant-loop
+abbrev invariant-loop : tie.invariant-loop-low
 invariant-loop points₀ high left last low₀ points low =
     (some 16 (may points₀ high left) ≡ some low (may points₀ high left)) × (take (length points₀ - 1) points ≡ take (length points₀ - 1) points₀)
     × (length points ≡ length points₀) × (low ≤ 16) × (last ≡ length points₀ - 1)
 
-abbrev decreases-loop : tie.decreases-loop
+abbrev decreases-loop : tie.decreases-loop-low
 decreases-loop points₀ high left last low₀ points low = low
 
 -- what is asked of the last byte
@@ -31,46 +31,33 @@ tried : (points₀ points : List ℕ) (high left low : ℕ) → length points �
 tried points₀ points high left low e h t r q =
     q ∙ ap₂ (λ (m : ℕ) (l : List ℕ). may_point (m + left) left l) (length-set points (length points₀ - 1) (16 * high + low) ∙ e) (last_set points points₀ (16 * high + low) e h t)
 
--- the places
-abbrev st-at-loop : tie.At-loop invariant-loop decreases-loop → tie.Start invariant-loop decreases-loop
-st-at-loop c = c.before.before
-
-returns : tie.Need-returns invariant-loop decreases-loop
+returns : tie.Need-returns-then-may_point invariant-loop decreases-loop
 returns c =
-    let m = c.before in
-    let t = m.before.before in
-    let l = t.before in
-    let g = st-at-loop l in
-    let a = g.args in
-    let asked = tried a.points.now l.loop.points a.high a.left (l.loop.low - 1) l.loop.invariant.2 g.pre.0 l.loop.invariant.1 m.may-point.result m.may-point.ensures in (
-      sym (l.loop.invariant.0 ∙ (some-last l.loop.low (may a.points.now a.high a.left) t.loop-test.true).0 (sym asked ∙ c.if1.true)),
-      last-kept l.loop.points a.points.now (16 * a.high + (l.loop.low - 1)) l.loop.invariant.1,
+    let a = c.args in
+    let asked = tried a.points.now c.loop-low.points a.high a.left (c.loop-low.low - 1) c.loop-low.invariant.2 c.requires.0 c.loop-low.invariant.1 c.may_point.result c.may_point.ensures in (
+      sym (c.loop-low.invariant.0 ∙ (some-last c.loop-low.low (may a.points.now a.high a.left) c.loop-low-test.true).0 (sym asked ∙ c.if-may_point.true)),
+      last-kept c.loop-low.points a.points.now (16 * a.high + (c.loop-low.low - 1)) c.loop-low.invariant.1,
     )
 
-loop-again : tie.Need-loop-preserved invariant-loop decreases-loop
+loop-again : tie.Need-loop-low-preserved invariant-loop decreases-loop
 loop-again c =
-    let m = c.before in
-    let t = m.before.before in
-    let l = t.before in
-    let g = st-at-loop l in
-    let a = g.args in
-    let asked = tried a.points.now l.loop.points a.high a.left (l.loop.low - 1) l.loop.invariant.2 g.pre.0 l.loop.invariant.1 m.may-point.result m.may-point.ensures in (
-      l.loop.invariant.0 ∙ (some-last l.loop.low (may a.points.now a.high a.left) t.loop-test.true).1 (sym asked ∙ c.if1.false),
-      last-kept l.loop.points a.points.now (16 * a.high + (l.loop.low - 1)) l.loop.invariant.1,
-      length-set l.loop.points (length a.points.now - 1) (16 * a.high + (l.loop.low - 1)) ∙ l.loop.invariant.2,
-      omega (arith, l.loop.invariant.3),
+    let a = c.args in
+    let asked = tried a.points.now c.loop-low.points a.high a.left (c.loop-low.low - 1) c.loop-low.invariant.2 c.requires.0 c.loop-low.invariant.1 c.may_point.result c.may_point.ensures in (
+      c.loop-low.invariant.0 ∙ (some-last c.loop-low.low (may a.points.now a.high a.left) c.loop-low-test.true).1 (sym asked ∙ c.if-may_point.false),
+      last-kept c.loop-low.points a.points.now (16 * a.high + (c.loop-low.low - 1)) c.loop-low.invariant.1,
+      length-set c.loop-low.points (length a.points.now - 1) (16 * a.high + (c.loop-low.low - 1)) ∙ c.loop-low.invariant.2,
+      omega (arith, c.loop-low.invariant.3),
       refl,
     )
 
-returns-2 : tie.Need-returns-2 invariant-loop decreases-loop
+returns-2 : tie.Need-returns invariant-loop decreases-loop
 returns-2 c =
-    let l = c.before in
-    let a = (st-at-loop l).args in
-    let z : l.loop.low ≡ 0 = omega (arith, c.loop-test.false) in
-    (sym (l.loop.invariant.0 ∙ ap (λ (m : ℕ). some m (may a.points.now a.high a.left)) z), l.loop.invariant.1)
+    let a = c.args in
+    let z : c.loop-low.low ≡ 0 = omega (arith, c.loop-low-test.false) in
+    (sym (c.loop-low.invariant.0 ∙ ap (λ (m : ℕ). some m (may a.points.now a.high a.left)) z), c.loop-low.invariant.1)
 
-pub some-low-spec : {M : Type 1} → statement M
-some-low-spec =
+pub some_low_spec : {M : Type 1} → statement M
+some_low_spec =
     tie.close
     (tie.spec
     invariant-loop
@@ -80,7 +67,7 @@ some-low-spec =
     (λ c. search rules)
     (λ c. search rules)
     (λ c. search rules)
-    (λ c. let l = c.before in let h = (st-at-loop l).requires.0 in omega (arith, l.loop.invariant.2, h))
+    (λ c. let h = c.requires.0 in omega (arith, c.loop-low.invariant.2, h))
     (λ c κs. search rules)
     (λ c. search rules)
     returns

@@ -3,7 +3,6 @@
 use mathlib.Core.Path.{◌∙◌}
 use mathlib.Core.Bool.{true}
 use mathlib.Core.List.{[]}
-use native.Mathlib.Omega.{arith}
 use borrow.Author.Rules.{rules}
 use borrow.Author.Tests.{not-true, not-false}
 use Rattle.prefix_spec.specs.Prefix.{pairs_on}
@@ -11,19 +10,23 @@ use Rattle.prefix_steps.proofs.Steps.{place, goes-from, goes_end}
 use Rattle.prefix_rest.proofs.data_line.Statement.{statement}
 use Rattle.prefix_rest.proofs.data_line.Tie as tie
 
-returns : tie.Need-returns
+returns : tie.Need-returns-then-not-name
 returns c =
     let k = c.before.before in
     let a = k.before.before.before.args in
-    goes_end a.text.now a.at _ k.name-on.result k.name-on.ensures (not-true _ c.if1.true) (λ v input. pairs_on (λ m xs. true) a.count [] input (λ rest. 0))
+    goes_end a.text.now a.at _ k.name_on-name.result k.name_on-name.ensures (not-true _ c.if-not-name.true) (λ v input. pairs_on (λ m xs. true) a.count [] input (λ rest. 0))
 
-returns-2 : tie.Need-returns-2
+returns-2 : tie.Need-returns
 returns-2 c =
     let f = c.before in
     let k = f.before.before in
     let a = k.before.before.before.args in
-    place a.text.now k.name-on.result.at _ c.data-on.result c.data-on.ensures
-    ∙ goes-from a.text.now a.at _ k.name-on.result k.name-on.ensures (not-false _ f.if1.false) (λ v input. pairs_on (λ m xs. true) a.count [] input (λ rest. 0))
+    place a.text.now k.name_on-name.result.at _ c.data_on-data.result c.data_on-data.ensures
+    ∙ goes-from a.text.now a.at _ k.name_on-name.result k.name_on-name.ensures (not-false _ f.if-not-name.false) (λ v input. pairs_on (λ m xs. true) a.count [] input (λ rest. 0))
 
-pub data-line-spec : {M : Type 1} → statement M
-data-line-spec = tie.close (tie.spec (λ c. search rules) (λ c κs. search rules) returns (λ c κs. search rules) returns-2)
+pub data_line_spec : {M : Type 1} → statement M
+data_line_spec = tie.close (tie.spec
+    (λ c κs. search rules)
+    returns
+    (λ c κs. search rules)
+    returns-2)

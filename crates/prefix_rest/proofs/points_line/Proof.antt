@@ -21,42 +21,48 @@ on_data count input = name_on data_name input (λ input. pairs_on (λ m xs. true
 abbrev on_points : ℕ → ℕ → List ℕ → ℕ
 on_points n count input = pairs_on (may_point n) n [] input (on_data count)
 
-abbrev st : tie.After-name-on → tie.Start
-st c = c.before.before.before
+abbrev st : tie.After-name_on-name → tie.Start
+st c = c.before.before.before.before
 
-abbrev name-on-at-else1 : tie.Else1 → tie.After-name-on
+abbrev name-on-at-else1 : tie.Else-not-name → tie.After-name_on-name
 name-on-at-else1 c = c.before.before
 
-from-name : (c : tie.Else1) → let k = name-on-at-else1 c in let a = (st k).args in let w = k.name-on.result in
+from-name : (c : tie.Else-not-name) → let k = name-on-at-else1 c in let a = (st k).args in let w = k.name_on-name.result in
     w.at + on_points a.n a.count (drop w.at a.text.now) ≡ a.at + name_on points_name (drop a.at a.text.now) (on_points a.n a.count)
 from-name c =
     let k = name-on-at-else1 c in
     let a = (st k).args in
-    goes-from a.text.now a.at _ k.name-on.result k.name-on.ensures (not-false _ c.if1.false) (λ v input. on_points a.n a.count input)
+    goes-from a.text.now a.at _ k.name_on-name.result k.name_on-name.ensures (not-false _ c.if-not-name.false) (λ v input. on_points a.n a.count input)
 
-returns : tie.Need-returns
+returns : tie.Need-returns-then-not-name
 returns c =
     let k = c.before.before in
     let a = (st k).args in
-    goes_end a.text.now a.at _ k.name-on.result k.name-on.ensures (not-true _ c.if1.true) (λ v input. on_points a.n a.count input)
+    goes_end a.text.now a.at _ k.name_on-name.result k.name_on-name.ensures (not-true _ c.if-not-name.true) (λ v input. on_points a.n a.count input)
 
-returns-2 : tie.Need-returns-2
+returns-2 : tie.Need-returns-then-not-points
 returns-2 c =
     let p = c.before.before in
     let k = name-on-at-else1 p.before in
     let a = (st k).args in
-    goes_end a.text.now k.name-on.result.at _ p.Points-on.result p.Points-on.ensures (not-true _ c.if2.true) (λ v input. on_data a.count input)
+    goes_end a.text.now k.name_on-name.result.at _ p.points_on-points.result p.points_on-points.ensures (not-true _ c.if-not-points.true) (λ v input. on_data a.count input)
     ∙ from-name p.before
 
-returns-3 : tie.Need-returns-3
+returns-3 : tie.Need-returns
 returns-3 c =
     let f = c.before in
     let p = f.before.before in
     let k = name-on-at-else1 p.before in
     let a = (st k).args in
-    c.data-line.ensures
-    ∙ goes-from a.text.now k.name-on.result.at _ p.Points-on.result p.Points-on.ensures (not-false _ f.if2.false) (λ v input. on_data a.count input)
+    c.data_line.ensures
+    ∙ goes-from a.text.now k.name_on-name.result.at _ p.points_on-points.result p.points_on-points.ensures (not-false _ f.if-not-points.false) (λ v input. on_data a.count input)
     ∙ from-name p.before
 
-pub points-line-spec : {M : Type 1} → statement M
-points-line-spec = tie.close (tie.spec (λ c. search rules) (λ c κs. search rules) returns (λ c κs. search rules) returns-2 (λ c κs. search rules) returns-3)
+pub points_line_spec : {M : Type 1} → statement M
+points_line_spec = tie.close (tie.spec
+    (λ c κs. search rules)
+    returns
+    (λ c κs. search rules)
+    returns-2
+    (λ c κs. search rules)
+    returns-3)

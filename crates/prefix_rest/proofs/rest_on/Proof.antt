@@ -39,49 +39,49 @@ without : (z : Sizes) (L count : ℕ) (text : List ℕ) (at : ℕ) → count ≡
 unfolding points_on
 without z L count text at e b = ap (λ (m : ℕ). at + on_data m (drop at text)) e ∙ sym (ap (λ (m : ℕ). at + m) (if-ne (get_or (drop at text) 0 0) 0x70 _ _ b))
 
-abbrev st : tie.After-share-len → tie.Start
+abbrev st : tie.After-share_len → tie.Start
 st c = c.before.before.before
 
-share : (c : tie.After-share-len) → c.share-len.result ≡ α (st c).args.sizes
-share c = c.share-len.ensures ∙ yes _ _ _ (st c).requires.0
+share : (c : tie.After-share_len) → c.share_len.result ≡ α (st c).args.sizes
+share c = c.share_len.ensures ∙ yes _ _ _ (st c).requires.0
 
-is-count : (c : tie.After-share-len) → c.before.stripe-count.result * c.share-len.result ≡ stripes (st c).args.sizes (st c).args.length * α (st c).args.sizes
-is-count c = ap₂ (λ (a b : ℕ). a * b) c.before.stripe-count.ensures.0 (share c)
+is-count : (c : tie.After-share_len) → c.before.stripe_count.result * c.share_len.result ≡ stripes (st c).args.sizes (st c).args.length * α (st c).args.sizes
+is-count c = ap₂ (λ (a b : ℕ). a * b) c.before.stripe_count.ensures.0 (share c)
 
-mul-count : tie.Need-overflow-mul-count
+mul-count : tie.Need-overflow_mul-count
 mul-count c =
     let a = α-most (st c).args.sizes (legal-facts _ (st c).requires.0) in
-    let s : c.share-len.result ≤ 62 = omega (arith, a, share c) in
-    record { fits = omega (arith, mul-le-mul c.before.stripe-count.ensures.1 s) }
+    let s : c.share_len.result ≤ 62 = omega (arith, a, share c) in
+    record { fits = omega (arith, mul-le-mul c.before.stripe_count.ensures.1 s) }
 
-returns : tie.Need-returns
+returns : tie.Need-returns-then-text-at
 returns c =
     let k = c.before.before in
     let a = (st k).args in
-    c.data-line.ensures
+    c.data_line.ensures
     ∙ without a.sizes a.length _ a.text.now a.at (is-count k)
-    (λ e. let z = ap (λ (l : List ℕ). get_or l 0 0) (past a.text.now a.at c.before.if1.true) in omega (arith, e, z))
+    (λ e. let z = ap (λ (l : List ℕ). get_or l 0 0) (past a.text.now a.at c.before.if-text-at.true) in omega (arith, e, z))
 
-returns-2 : tie.Need-returns-2
+returns-2 : tie.Need-returns-then-text-at-eq112
 returns-2 c =
     let t = c.before in
     let e = t.before.before in
     let k = e.before in
     let a = (st k).args in
-    c.points-line.ensures ∙ with-points a.sizes a.length _ a.text.now a.at (is-count k) e.if1.false t.if2.true
+    c.points_line.ensures ∙ with-points a.sizes a.length _ a.text.now a.at (is-count k) e.if-text-at.false t.if-text-at-eq112.true
 
-returns-3 : tie.Need-returns-3
+returns-3 : tie.Need-returns
 returns-3 c =
     let t = c.before in
     let e = t.before.before in
     let k = e.before in
     let a = (st k).args in
-    c.data-line2.ensures
+    c.data_line-2.ensures
     ∙ without a.sizes a.length _ a.text.now a.at (is-count k)
-    (λ q. t.if2.false (sym (ap (λ (l : List ℕ). get_or l 0 0) (at_byte a.text.now a.at e.if1.false)) ∙ q))
+    (λ q. t.if-text-at-eq112.false (sym (ap (λ (l : List ℕ). get_or l 0 0) (at_byte a.text.now a.at e.if-text-at.false)) ∙ q))
 
-pub rest-on-spec : {M : Type 1} → statement M
-rest-on-spec =
+pub rest_on_spec : {M : Type 1} → statement M
+rest_on_spec =
     tie.close
     (tie.spec
     (λ c κs. search rules)

@@ -12,11 +12,11 @@ one : (t : Bool) → t ≡ pick t true false
 one true = mathlib.Core.Path.refl
 one false = mathlib.Core.Path.refl
 
-returns : tie.Need-returns
-returns c = rw (le-leb c.before.args.a c.before.args.b c.if1.true) (one _)
+returns : tie.Need-returns-then-a-b
+returns c = rw (le-leb c.before.args.a c.before.args.b c.if-a-b.true) (one _)
 
-returns-2 : tie.Need-returns-2
+returns-2 : tie.Need-returns
 returns-2 c = rw (lt-leb c.before.args.a c.before.args.b (omega arith))
 
-pub both-spec : {M : Type 1} → statement M
-both-spec = tie.close (tie.spec returns returns-2)
+pub both_spec : {M : Type 1} → statement M
+both_spec = tie.close (tie.spec returns returns-2)

@@ -24,39 +24,39 @@ turn q q1 input file file1 t h e k =
     ∙ ap (λ (m : ℕ). feed_all (record { parser = q; file = file }) (get_or input t 0 ∷ drop m input)) (add-one t)
     ∙ ap (feed_all (record { parser = q; file = file })) (sym (drop-cons input t 0 h))
 
-abbrev invariant-loop : tie.invariant-loop
+abbrev invariant-loop : tie.invariant-loop-t
 invariant-loop input file₀ q₀ t₀ file q t =
     (length file ≡ length file₀)
     × (t ≤ length input)
     × (feed_all (record { parser = q; file = file }) (drop t input) ≡ feed_all (record { parser = q₀; file = file₀ }) input)
 
-abbrev decreases-loop : tie.decreases-loop
+abbrev decreases-loop : tie.decreases-loop-t
 decreases-loop input file₀ q₀ t₀ file q t = length input - t
 
-loop-holds : tie.Need-loop-init invariant-loop decreases-loop
+loop-holds : tie.Need-loop-t-init invariant-loop decreases-loop
 loop-holds c = (refl, omega arith, refl)
 
-loop-again : tie.Need-loop-preserved invariant-loop decreases-loop
+loop-again : tie.Need-loop-t-preserved invariant-loop decreases-loop
 loop-again c =
     let kept = c.before.before.before in
     let head = kept.before.before.before.before in
     let a = head.before.before.before.args in
-    let l = head.loop in
+    let l = head.loop-t in
     let k = kept.keep.ensures in (
       ap length k ∙ in-length l.q _ l.file ∙ l.invariant.0,
       omega arith,
-      turn l.q c.feed.result a.input.now l.file _ l.t (omega arith) c.feed.ensures k ∙ l.invariant.2,
+      turn l.q c.feed-q.result a.input.now l.file _ l.t (omega arith) c.feed-q.ensures k ∙ l.invariant.2,
     )
 
 returns : tie.Need-returns invariant-loop decreases-loop
 returns c =
-    let l = c.before.loop in
+    let l = c.before.loop-t in
     let input = c.before.before.before.before.args.input.now in
     let e : length input ≤ l.t = omega arith in
     ap (feed_all (record { parser = l.q; file = l.file })) (sym (drop_of_length-le input e)) ∙ l.invariant.2
 
-pub feed-all-spec : {M : Type 1} → statement M
-feed-all-spec =
+pub feed_all_spec : {M : Type 1} → statement M
+feed_all_spec =
     tie.close
     (tie.spec
     invariant-loop

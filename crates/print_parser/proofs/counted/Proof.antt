@@ -7,10 +7,10 @@ use borrow.Author.Rules.{rules}
 use Rattle.print_parser.proofs.counted.Statement.{statement}
 use Rattle.print_parser.proofs.counted.Tie as tie
 
-returns : tie.Need-returns
-returns c = rw (lt-ltb max_file c.before.before.args.p.count c.if1.true)
+returns : tie.Need-returns-then-p-gt-MOST
+returns c = rw (lt-ltb max_file c.before.before.args.p.count c.if-p-gt-MOST.true)
 
-returns-2 : tie.Need-returns-2
+returns-2 : tie.Need-returns
 returns-2 c = rw (le-ltb max_file c.before.before.before.args.p.count (omega arith))
 
 pub counted_spec : {M : Type 1} → statement M

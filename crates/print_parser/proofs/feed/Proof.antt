@@ -9,30 +9,23 @@ use borrow.Author.Rules.{rules}
 use Rattle.print_parser.proofs.feed.Statement.{statement}
 use Rattle.print_parser.proofs.feed.Tie as tie
 
-abbrev st : tie.After-struct-known → tie.Start
-st c = c.before.before
-
-abbrev st-line : tie.After-feed-line → tie.Start
-st-line c = let at = c.before.before in st at.before
-
 -- a byte of a line, and what it gave
-line-fed : (c : tie.After-feed-line) → let a = (st-line c).args in taken a.p c.feed-line.result ≡ fed a.p a.b
+line-fed : (c : tie.After-feed_line-x) → let a = c.args in taken a.p c.feed_line-x.result ≡ fed a.p a.b
 line-fed c =
-    let at = c.before.before in
-    let a = (st-line c).args in
-    ap (taken a.p) c.feed-line.ensures ∙ sym (fed-line a.p a.b at.before.before.if1.false at.if2.false)
+    let a = c.args in
+    ap (taken a.p) c.feed_line-x.ensures ∙ sym (fed-line a.p a.b c.if-p.false c.if-p-eq0.false)
 
-gave : (c : tie.After-feed-line) (x : Read) (q : Parser) → let a = (st-line c).args in q ≡ taken a.p x → c.feed-line.result ≡ x → q ≡ fed a.p a.b
-gave c x q e g = e ∙ sym (ap (taken (st-line c).args.p) g) ∙ line-fed c
+gave : (c : tie.After-feed_line-x) (x : Read) (q : Parser) → let a = c.args in q ≡ taken a.p x → c.feed_line-x.result ≡ x → q ≡ fed a.p a.b
+gave c x q e g = e ∙ sym (ap (taken c.args.p) g) ∙ line-fed c
 
-returns-2 : tie.Need-returns-2
-returns-2 c = let at = c.before in c.feed-behind.ensures ∙ sym (fed-behind _ (st at.before).args.b at.before.before.if1.false at.if2.true)
+returns-2 : tie.Need-returns-then-p-eq0
+returns-2 c = c.feed_behind.ensures ∙ sym (fed-behind _ c.args.b c.if-p.false c.if-p-eq0.true)
 
-pub feed-spec : {M : Type 1} → statement M
-feed-spec =
+pub feed_spec : {M : Type 1} → statement M
+feed_spec =
     tie.close
     (tie.spec
-    (λ c. sym (fed-bad _ _ c.if1.true))
+    (λ c. sym (fed-bad _ _ c.if-p.true))
     (λ c κs. search rules)
     returns-2
     (λ c κs. search rules)
@@ -41,6 +34,6 @@ feed-spec =
     (λ c κs. search rules)
     (λ c. search rules)
     (λ c κs. search rules)
-    (λ c. let at = c.before in gave at.before.before _ _ refl at.x.given.1)
-    (λ c. let at = c.before.before in gave at.before.before _ _ c.stored.ensures at.x2.given.1)
-    (λ c. let at = c.before in gave at.before.before _ _ c.wrong.ensures at.enum_told.given.1))
+    (λ c. gave c.before _ _ refl c.in-More.is)
+    (λ c. gave c.before.before _ _ c.stored.ensures c.in-Whole.is)
+    (λ c. gave c.before.before _ _ c.wrong.ensures c.in-Malformed.is))

@@ -10,38 +10,32 @@ use borrow.Author.Rules.{rules}
 use Rattle.print_parser.proofs.feed_line.Statement.{statement}
 use Rattle.print_parser.proofs.feed_line.Tie as tie
 
-returns : tie.Need-returns
-returns c = c.feed.ensures ∙ (rw c.before.before.match.keys1)
+returns : tie.Need-returns-in-5
+returns c = c.feed.ensures ∙ (rw c.in-5.is)
 
-returns-2 : tie.Need-returns-2
-returns-2 c = c.feed2.ensures ∙ (rw c.before.before.match.keys2)
+returns-2 : tie.Need-returns-in-4
+returns-2 c = c.feed-in-4.ensures ∙ (rw c.in-4.is)
 
-returns-3 : tie.Need-returns-3
-returns-3 c = c.feed3.ensures ∙ (rw c.before.before.match.keys3)
+returns-3 : tie.Need-returns-in-3
+returns-3 c = c.feed-in-3.ensures ∙ (rw c.in-3.is)
 
-returns-4 : tie.Need-returns-4
-returns-4 c = c.feed4.ensures ∙ (rw c.before.before.match.keys4)
+returns-4 : tie.Need-returns-in-2
+returns-4 c = c.feed-in-2.ensures ∙ (rw c.in-2.is)
 
-returns-5 : tie.Need-returns-5
+returns-5 : tie.Need-returns-in_default
 returns-5 c =
-    let at = c.before.before in
-    let a = at.before.args in
-    let r = at.match.rest in
-    c.feed5.ensures ∙ ap (λ (l : List ℕ). steps.fed l max_number a.line a.b) (sym (name-rest _ r.0.0.0.1 r.0.0.1 r.0.1 r.1))
+    let a = c.args in
+    let r = c.in_default.in_default-own.rest in
+    c.feed-in_default.ensures ∙ ap (λ (l : List ℕ). steps.fed l max_number a.line a.b) (sym (name-rest _ r.0.0.0.1 r.0.0.1 r.0.1 r.1))
 
-pub feed-line-spec : {M : Type 1} → statement M
-feed-line-spec =
+pub feed_line_spec : {M : Type 1} → statement M
+feed_line_spec =
     tie.close
     (tie.spec
-    (λ c. search rules)
     (λ c κs. search rules)
-    (λ c. search rules)
     (λ c κs. search rules)
-    (λ c. search rules)
     (λ c κs. search rules)
-    (λ c. search rules)
     (λ c κs. search rules)
-    (λ c. search rules)
     (λ c κs. search rules)
     returns
     returns-2

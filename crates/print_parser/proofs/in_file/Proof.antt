@@ -5,11 +5,11 @@ use Rattle.number_lines.proofs.Picks.{if-eq, if-ne}
 use Rattle.print_parser.proofs.in_file.Statement.{statement}
 use Rattle.print_parser.proofs.in_file.Tie as tie
 
-returns : tie.Need-returns
-returns c = sym (if-ne c.before.before.args.p.left 0 _ _ c.if1.true)
+returns : tie.Need-returns-then-p-ne0
+returns c = sym (if-ne c.before.before.args.p.left 0 _ _ c.if-p-ne0.true)
 
-returns-2 : tie.Need-returns-2
-returns-2 c = let at = c.before.before in sym (if-eq at.before.before.args.p.left 0 _ _ at.if1.false)
+returns-2 : tie.Need-returns
+returns-2 c = let at = c.before.before in sym (if-eq at.before.before.args.p.left 0 _ _ at.if-p-ne0.false)
 
-pub in-file-spec : {M : Type 1} → statement M
-in-file-spec = tie.close (tie.spec returns returns-2)
+pub in_file_spec : {M : Type 1} → statement M
+in_file_spec = tie.close (tie.spec returns returns-2)

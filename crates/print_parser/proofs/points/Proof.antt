@@ -7,14 +7,14 @@ use borrow.Author.Rules.{rules}
 use Rattle.print_parser.proofs.points.Statement.{statement}
 use Rattle.print_parser.proofs.points.Tie as tie
 
-returns : tie.Need-returns
-returns c = let at = c.before.before in sym (yes at.before.args.p.asked _ _ at.if1.true)
+returns : tie.Need-returns-then-p
+returns c = let at = c.before.before in sym (yes at.before.args.p.asked _ _ at.if-p.true)
 
-returns-2 : tie.Need-returns-2
+returns-2 : tie.Need-returns
 returns-2 c =
     let at = c.before in
     let k = at.before in
-    c.standard-points.ensures ∙ ap standard at.sizes.ensures ∙ sym (no k.before.args.p.asked _ _ k.if1.false)
+    c.standard_points.ensures ∙ ap standard at.sizes.ensures ∙ sym (no k.before.args.p.asked _ _ k.if-p.false)
 
-pub points-spec : {M : Type 1} → statement M
-points-spec = tie.close (tie.spec returns (λ c κs. search rules) (λ c κs. search rules) returns-2)
+pub points_spec : {M : Type 1} → statement M
+points_spec = tie.close (tie.spec returns (λ c κs. search rules) (λ c κs. search rules) returns-2)

@@ -6,19 +6,19 @@ use Rattle.print_parser.proofs.stored.Statement.{statement}
 use Rattle.print_parser.proofs.stored.Tie as tie
 
 -- the places
-abbrev at-r : tie.After-choose5 → tie.After-choose4
+abbrev at-r : tie.After-choose-5 → tie.After-choose-4
 at-r c = c.before.before
 
-abbrev at-d : tie.After-choose5 → tie.After-choose3
+abbrev at-d : tie.After-choose-5 → tie.After-choose-3
 at-d c = let at = at-r c in at.before.before
 
-abbrev at-k : tie.After-choose5 → tie.After-choose2
+abbrev at-k : tie.After-choose-5 → tie.After-choose-2
 at-k c = let at = at-d c in at.before.before
 
-abbrev at_n : tie.After-choose5 → tie.After-choose
+abbrev at_n : tie.After-choose-5 → tie.After-choose
 at_n c = let at = at-k c in at.before.before
 
-abbrev at-line : tie.After-choose → tie.After-start
+abbrev at-line : tie.After-choose → tie.After-start-line
 at-line c = c.before.before.before.before
 
 returns : tie.Need-returns
@@ -26,11 +26,11 @@ returns c =
     let n = at_n c in
     let l = at-line n in
     let a = l.before.args in
-    stored-by a.p a.p.left a.v _ _ _ _ _ _ l.start.ensures n.choose.ensures (at-k c).choose2.ensures (at-d c).choose3.ensures
-    (at-r c).choose4.ensures c.choose5.ensures
+    stored-by a.p a.p.left a.v _ _ _ _ _ _ l.start-line.ensures n.choose.ensures (at-k c).choose-2.ensures (at-d c).choose-3.ensures
+    (at-r c).choose-4.ensures c.choose-5.ensures
 
-pub stored-spec : {M : Type 1} → statement M
-stored-spec =
+pub stored_spec : {M : Type 1} → statement M
+stored_spec =
     tie.close
     (tie.spec
     (λ c κs. search rules)

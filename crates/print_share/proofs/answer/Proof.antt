@@ -13,40 +13,34 @@ use borrow.Author.Rules.{rules}
 use Rattle.print_share.proofs.answer.Statement.{statement}
 use Rattle.print_share.proofs.answer.Tie as tie
 
-returns : tie.Need-returns
+returns : tie.Need-returns-then-x-ne0
 returns c =
-    let at = c.before.before.before.before in
-    let a = at.before.before.before.before.args in
-    let x = at.before.refusal.ensures in
-    c.before.before.refused.ensures ∙ ap (λ (x : ℕ). placed (refused_line x) a.out.now) x
-    ∙ ap (λ (l : List ℕ). placed l a.out.now) (sym (output-refused a.p a.file.now (λ q. at.if1.true (x ∙ q))))
+    let a = c.args in
+    let x = c.refusal-x.ensures in
+    c.refused.ensures ∙ ap (λ (x : ℕ). placed (refused_line x) a.out.now) x
+    ∙ ap (λ (l : List ℕ). placed l a.out.now) (sym (output-refused a.p a.file.now (λ q. c.if-x-ne0.true (x ∙ q))))
 
-returns-2 : tie.Need-returns-2
+returns-2 : tie.Need-returns-then-file-count
 returns-2 c =
-    let at = c.before.before in
-    let a = at.before.before.before.args in
-    let e = sym at.refusal.ensures ∙ c.before.if1.false in
-    nothing a.out.now ∙ ap (λ (l : List ℕ). placed l a.out.now) (sym (output-lacks a.p a.file.now e c.if2.true))
+    let a = c.args in
+    let e = sym c.refusal-x.ensures ∙ c.if-x-ne0.false in
+    nothing a.out.now ∙ ap (λ (l : List ℕ). placed l a.out.now) (sym (output-lacks a.p a.file.now e c.if-file-count.true))
 
-slice-aggregate-told : tie.Need-slice-aggregate-told
-slice-aggregate-told c = sym (length-take-le _ _ c.before.before.before.if2.false)
+slice-aggregate-told : tie.Need-slice_bounds-told-end
+slice-aggregate-told c = sym (length-take-le _ _ c.if-file-count.false)
 
-returns-3 : tie.Need-returns-3
+returns-3 : tie.Need-returns
 returns-3 c =
-    let wrote = c.before.before.before in
-    let xs = wrote.before.before.before.before in
-    let at = xs.before in
-    let decided = at.before.before.before in
-    let a = decided.before.before.before.args in
-    let e = sym decided.refusal.ensures ∙ at.before.before.if1.false in
+    let a = c.args in
+    let e = sym c.refusal-x.ensures ∙ c.if-x-ne0.false in
     let kept = take a.p.count a.file.now in
     let area = replicate {A = ℕ} 17376 0 in
-    wrote.told.ensures.1
-    ∙ ap₂ {C = Written} (λ z xs. placed (told z xs (length kept) a.p.node (share_call z xs a.p.node kept area)) a.out.now) at.sizes.ensures xs.points.ensures
-    ∙ ap (λ (l : List ℕ). placed l a.out.now) (sym (output-told a.p a.file.now e at.before.if2.false area (length-replicate {A = ℕ} 17376 0)))
+    c.told.ensures.1
+    ∙ ap₂ {C = Written} (λ z xs. placed (told z xs (length kept) a.p.node (share_call z xs a.p.node kept area)) a.out.now) c.sizes-z.ensures c.points-points.ensures
+    ∙ ap (λ (l : List ℕ). placed l a.out.now) (sym (output-told a.p a.file.now e c.if-file-count.false area (length-replicate {A = ℕ} 17376 0)))
 
-pub answer-spec : {M : Type 1} → statement M
-answer-spec =
+pub answer_spec : {M : Type 1} → statement M
+answer_spec =
     tie.close
     (tie.spec
     (λ c κs. search rules)

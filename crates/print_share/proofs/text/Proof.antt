@@ -2,25 +2,24 @@
 -- Assumes nothing.
 use mathlib.Core.Path.{sym, ap, ◌∙◌}
 use Rattle.sizes.specs.declared.Answer.{Answer}
-use Rattle.checks.specs.Outcomes.{outcome}
+use Rattle.board_lines.specs.Outcomes.{outcome}
 use Rattle.print_share.specs.Steps.{wrote_in}
 use borrow.Author.Rules.{rules}
 use Rattle.print_share.proofs.text.Statement.{statement}
 use Rattle.print_share.proofs.text.Tie as tie
 
-returns : tie.Need-returns
+returns : tie.Need-returns-in-Done
 returns c =
-    let at = c.before in
-    let t = at.before.before.before.before.text in
-    ap (λ (x : Answer). wrote_in (outcome x t.new.1.1.1.1.1.0)) (sym at.answer.given.1) ∙ ap wrote_in t.ensures
+    let t = c.text-answer in
+    ap (λ (x : Answer). wrote_in (outcome x t.new.out)) (sym c.in-Done.is) ∙ ap wrote_in t.ensures
 
-returns-2 : tie.Need-returns-2
+returns-2 : tie.Need-returns-in-Refused
 returns-2 c =
-    let t = c.before.before.before.before.text in
-    ap (λ (x : Answer). wrote_in (outcome x t.new.1.1.1.1.1.0)) (sym c.enum_told.given.1) ∙ ap wrote_in t.ensures
+    let t = c.text-answer in
+    ap (λ (x : Answer). wrote_in (outcome x t.new.out)) (sym c.in-Refused.is) ∙ ap wrote_in t.ensures
 
-pub text-spec : {M : Type 1} → statement M
-text-spec =
+pub text_spec : {M : Type 1} → statement M
+text_spec =
     tie.close
     (tie.spec
     (λ c κs. search rules)

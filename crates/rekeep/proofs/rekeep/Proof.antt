@@ -1,7 +1,7 @@
 -- `rekeep::rekeep` meets its contract: board after board is the list of the other boards.
 -- Assumes nothing.
 use mathlib.Core.Path.{◌≡◌, ap, ◌∙◌}
-use Prim.Native.Nat.{ℕ, ◌*◌, ◌<◌, ◌≤◌}
+use Prim.Native.Nat.{ℕ, ◌<◌, ◌≤◌}
 use native.Mathlib.Omega.{arith}
 use lib.ListN.{length}
 use borrow.Author.Rules.{rules}
@@ -19,13 +19,13 @@ use Rattle.rekeep.proofs.rekeep.Statement.{statement}
 use Rattle.rekeep.proofs.rekeep.Tie as tie
 
 -- places in the code
-abbrev lent : tie.After-struct-known → tie.After-slice-known
+abbrev lent : tie.After-struct_known-1 → tie.After-slice_known-1
 lent c = c.before.before.before
 
-abbrev st : tie.After-struct-known → tie.Start
+abbrev st : tie.After-struct_known-1 → tie.Start
 st c = (lent c).before.before
 
-abbrev sizes-at-call : tie.After-rekeep-boards-arg → tie.After-struct-known
+abbrev sizes-at-call : tie.After-rekeep_boards-arg-1 → tie.After-struct_known-1
 sizes-at-call c = c.before.before.before.before
 
 abbrev R : tie.Start → Record
@@ -44,10 +44,10 @@ short g = part-most (α g.args.kept.sizes) g.args.kept.capacity (good g).cap-hig
 points-long : (g : tie.Start) → length g.args.kept.points ≡ 32
 points-long g = search rules
 
-rekeep-boards-requires : tie.Need-rekeep-boards-requires
+rekeep-boards-requires : tie.Need-rekeep_boards-requires
 rekeep-boards-requires c κs =
     let g = st (sizes-at-call c) in
-    let p = g.pre in (
+    let p = g.requires in (
       (good g).is-legal,
       points-long g,
       sound-points _ (good g),
@@ -66,14 +66,14 @@ returns c =
     let g = st k in
     let a = g.args in
     let r = a.kept in
-    let p = g.pre in
-    let bytes : Bytes a.area.now = all_of (λ b. b < 256) 0 a.area.now (λ i h. omega (arith, (lent k).slice-known.given i)) in
-    m.rekeep-boards.ensures
+    let p = g.requires in
+    let bytes : Bytes a.area.now = all_of (λ b. b < 256) 0 a.area.now (λ i h. omega (arith, (lent k).slice_known-1.given i)) in
+    m.rekeep_boards.ensures
     ∙ ap (λ (S : ℕ). rekept r.sizes r.points (part_len (R g)) S a.board a.point r.sizes.n a.area.now) p.1
     ∙ rekept-all (R g) (good g) a.area.now bytes p.4 a.board a.point p.3
 
-pub rekeep-spec : {M : Type 1} → statement M
-rekeep-spec =
+pub rekeep_spec : {M : Type 1} → statement M
+rekeep_spec =
     tie.close
     (tie.spec
     (λ c. omega (arith, facts (st c)))

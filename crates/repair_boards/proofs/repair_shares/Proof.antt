@@ -9,7 +9,7 @@ use borrow.Author.Rules.{rules}
 use Rattle.lists.specs.Lists.{join, piece}
 use Rattle.sizes.specs.Sizing.{α}
 use Rattle.sizes.proofs.Legal.{Legal, legal-facts}
-use Rattle.puts.specs.Steps.{puts}
+use Rattle.area_puts.specs.Steps.{puts}
 use Rattle.repair_hear.specs.Steps.{Naming}
 use Rattle.repair_hear.proofs.Heard.{few-runs}
 use Rattle.repair_stripe.specs.Steps.{DifferentRuns, rebuilt}
@@ -17,16 +17,16 @@ use Rattle.repair_boards.proofs.repair_shares.Statement.{statement}
 use Rattle.repair_boards.proofs.repair_shares.Tie as tie
 
 -- the places
-abbrev st_1 : tie.After-struct-known → tie.Start
+abbrev st_1 : tie.After-struct_known-1 → tie.Start
 st_1 c = c.before.before.before.before.before.before.before
 
-abbrev st : tie.After-struct-known2 → tie.Start
+abbrev st : tie.After-struct_known-2-1 → tie.Start
 st c = st_1 c.before
 
-abbrev st-at-call : tie.After-repair-lists-arg → tie.Start
+abbrev st-at-call : tie.After-repair_lists-arg-1 → tie.Start
 st-at-call c = st c.before.before
 
-abbrev st-at-end : tie.After-slice-known2 → tie.Start
+abbrev st-at-end : tie.After-slice_known-2-1 → tie.Start
 st-at-end c = st-at-call c.before.before.before.before
 
 facts : (g : tie.Start) → Legal g.args.sizes
@@ -51,11 +51,11 @@ few g = few-runs g.args.sizes (facts g) (length g.args.fresh.now) (count g) (nam
 abbrev list : tie.Start → ℕ → List ℕ
 list g e = let a = g.args in join (length a.fresh.now) (λ b. piece a.sizes.d b a.helpers.now ++ piece e b a.standins.now)
 
-lists-requires : tie.Need-repair-lists-requires
+lists-requires : tie.Need-repair_lists-requires
 lists-requires c κs =
     let g = st-at-call c in
     let a = g.args in
-    let p = g.pre in
+    let p = g.requires in
     let e = sym (stand-in g) in
     let t = length a.fresh.now in (
       p.0,
@@ -83,14 +83,14 @@ returns c =
     let g = st-at-end c in
     let a = g.args in
     let w = a.capacity * α a.sizes in
-    c.before.before.before.repair-lists.ensures
+    c.before.before.before.repair_lists.ensures
     ∙ ap (λ (m : ℕ). puts (λ b. get_or a.fresh.now b 0 * w)
     (λ b. join a.stripes (λ s. rebuilt a.sizes a.points.now (λ j. piece (α a.sizes) s (drop (j * w) a.area.now)) a.fresh.now (count g) (list g m) b))
     (length a.fresh.now) a.area.now)
     (stand-in g)
 
-pub repair-shares-spec : {M : Type 1} → statement M
-repair-shares-spec =
+pub repair_shares_spec : {M : Type 1} → statement M
+repair_shares_spec =
     tie.close
     (tie.spec
     (λ c. omega (arith, (st_1 c).requires.5))

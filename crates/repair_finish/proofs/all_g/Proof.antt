@@ -19,36 +19,36 @@ use native.Mathlib.Omega.{arith}
 use Rattle.repair_finish.proofs.all_g.Statement.{statement}
 use Rattle.repair_finish.proofs.all_g.Tie as tie
 
-abbrev invariant-loop : tie.invariant-loop
+abbrev invariant-loop : tie.invariant-loop-a
 invariant-loop lanes t run rows firsts gs₀ d one a₀ gs a =
     (gs ≡ join a (g_row d one run lanes rows firsts) ++ drop (a * lanes) gs₀) × (a ≤ t) × (length gs ≡ length gs₀)
 
-abbrev decreases-loop : tie.decreases-loop
+abbrev decreases-loop : tie.decreases-loop-a
 decreases-loop lanes t run rows firsts gs₀ d one a₀ gs a = t - a
 
 -- the places
-abbrev st-at-entry : tie.After-struct-known invariant-loop decreases-loop → tie.Start invariant-loop decreases-loop
+abbrev st-at-entry : tie.After-struct_known-1 invariant-loop decreases-loop → tie.Start invariant-loop decreases-loop
 st-at-entry c = c.before.before.before.before
 
-abbrev st-at-turn : tie.In-loop invariant-loop decreases-loop → tie.Start invariant-loop decreases-loop
+abbrev st-at-turn : tie.In-loop-a invariant-loop decreases-loop → tie.Start invariant-loop decreases-loop
 st-at-turn c = st-at-entry c.before.before
 
-abbrev turn-at-first : tie.After-row-sums-arg invariant-loop decreases-loop → tie.In-loop invariant-loop decreases-loop
+abbrev turn-at-first : tie.After-row_sums-arg-1 invariant-loop decreases-loop → tie.In-loop-a invariant-loop decreases-loop
 turn-at-first c = c.before
 
-abbrev turn-at-second : tie.After-row-sums-arg2 invariant-loop decreases-loop → tie.In-loop invariant-loop decreases-loop
+abbrev turn-at-second : tie.After-row_sums-arg-in-loop-a-1 invariant-loop decreases-loop → tie.In-loop-a invariant-loop decreases-loop
 turn-at-second c = turn-at-first c.before
 
-abbrev turn-at-call : tie.After-row-sums-arg3 invariant-loop decreases-loop → tie.In-loop invariant-loop decreases-loop
+abbrev turn-at-call : tie.After-row_sums-arg-in-loop-a-2-1 invariant-loop decreases-loop → tie.In-loop-a invariant-loop decreases-loop
 turn-at-call c = turn-at-second c.before
 
-abbrev sums-at-end : tie.After-slice-known2 invariant-loop decreases-loop → tie.After-row-sums invariant-loop decreases-loop
+abbrev sums-at-end : tie.After-slice_known-in-loop-a-1 invariant-loop decreases-loop → tie.After-row_sums invariant-loop decreases-loop
 sums-at-end c = c.before.before
 
-abbrev turn-at-end : tie.After-slice-known2 invariant-loop decreases-loop → tie.In-loop invariant-loop decreases-loop
+abbrev turn-at-end : tie.After-slice_known-in-loop-a-1 invariant-loop decreases-loop → tie.In-loop-a invariant-loop decreases-loop
 turn-at-end c = turn-at-call (sums-at-end c).before
 
-abbrev st-at-loop : tie.After-loop invariant-loop decreases-loop → tie.Start invariant-loop decreases-loop
+abbrev st-at-loop : tie.After-loop-a invariant-loop decreases-loop → tie.Start invariant-loop decreases-loop
 st-at-loop c = st-at-entry c.before.before
 
 facts : (c : tie.Start invariant-loop decreases-loop) → Legal c.args.sizes
@@ -69,60 +69,60 @@ few c =
     (few-rows a.sizes f a.t a.c h, few-runs a.sizes f a.t a.c h, mul-few a.t a.lanes (omega arith) c.requires.1 refl, q)
 
 -- where those of a turn end: of the rows, of the run, of the row that is made
-ends : (c : tie.In-loop invariant-loop decreases-loop)
-    → let a = (st-at-turn c).args in let t = c.before.loop.a in
+ends : (c : tie.In-loop-a invariant-loop decreases-loop)
+    → let a = (st-at-turn c).args in let t = c.before.loop-a.a in
     (t * one (st-at-turn c) + one (st-at-turn c) ≤ a.t * one (st-at-turn c)) × (t * a.c + a.c ≤ a.t * a.c)
     × (t * a.lanes + a.lanes ≤ a.t * a.lanes)
 ends c =
     let a = (st-at-turn c).args in
-    let t = c.before.loop.a in
-    let h = c.loop-test.true in
+    let t = c.before.loop-a.a in
+    let h = c.loop-a-test.true in
     (part_end t (one (st-at-turn c)) a.t h, part_end t a.c a.t h, part_end t a.lanes a.t h)
 
-loop-holds : tie.Need-loop-init invariant-loop decreases-loop
+loop-holds : tie.Need-loop-a-init invariant-loop decreases-loop
 loop-holds c = (ap (λ (m : ℕ). drop m (st-at-entry c).args.gs.now) (sym (zero-mul (st-at-entry c).args.lanes)), omega arith, refl)
 
-row-sums-requires : tie.Need-row-sums-requires invariant-loop decreases-loop
+row-sums-requires : tie.Need-row_sums-requires invariant-loop decreases-loop
 row-sums-requires c κs =
     let t = turn-at-call c in
     let a = (st-at-turn t).args in
-    let p = (st-at-turn t).pre in
+    let p = (st-at-turn t).requires in
     let f = facts (st-at-turn t) in
     let e = ends t in
-    let l = t.before.loop in
+    let l = t.before.loop-a in
     let q = few (st-at-turn t) in
     let from : ℕ = l.a * a.c in
     let lf : length (take (from + a.sizes.d - from) (drop from a.firsts.now)) ≡ a.sizes.d = simp (length-take, length-drop) (omega (arith, e.1, q.3, p.3)) in
-    let lg = cut-long a.lanes l.a a.t l.gs t.loop-test.taken (l.inv.2 ∙ p.4) in
+    let lg = cut-long a.lanes l.a a.t l.gs t.loop-a-test.true (l.invariant.2 ∙ p.4) in
     let at : ℕ = l.a * one (st-at-turn t) in
     let lr : length (take (at + a.sizes.d * 32 - at) (drop at a.rows.now)) ≡ a.sizes.d * 32 = simp (length-take, length-drop) (omega (arith, e.0, p.2)) in
     (omega (arith, lf, lr), omega (arith, lf, f.enough, f.few), omega (arith, lg, p.1))
 
-loop-again : tie.Need-loop-preserved invariant-loop decreases-loop
+loop-again : tie.Need-loop-a-preserved invariant-loop decreases-loop
 loop-again c =
     let t = turn-at-end c in
     let a = (st-at-turn t).args in
-    let p = (st-at-turn t).pre in
-    let l = t.before.loop in
+    let p = (st-at-turn t).requires in
+    let l = t.before.loop-a in
     let z = a.sizes in
-    let lg = cut-long a.lanes l.a a.t l.gs t.loop-test.taken (l.inv.2 ∙ p.4) in (
+    let lg = cut-long a.lanes l.a a.t l.gs t.loop-a-test.true (l.invariant.2 ∙ p.4) in (
       join-loop (g_row z.d (one (st-at-turn t)) a.c a.lanes a.rows.now a.firsts.now) a.lanes l.a a.gs.now l.gs _
           (λ i k. length-g z.d (one (st-at-turn t)) a.c a.lanes a.rows.now a.firsts.now i)
           (g-made z.d (one (st-at-turn t)) a.c a.lanes l.a _ a.rows.now a.firsts.now _ _ _ lg (row-part a.c l.a z.d a.firsts.now p.5.helps)
-          (row-part (one (st-at-turn t)) l.a (z.d * 32) a.rows.now (omega arith)) (sums-at-end c).row-sums.ensures)
-          l.inv.0,
-      omega (arith, t.loop-test.taken),
-      c.before.gs.given.1 ∙ l.inv.2,
+          (row-part (one (st-at-turn t)) l.a (z.d * 32) a.rows.now (omega arith)) (sums-at-end c).row_sums.ensures)
+          l.invariant.0,
+      omega (arith, t.loop-a-test.true),
+      c.before.gs-1.given.1 ∙ l.invariant.2,
     )
 
 returns : tie.Need-returns invariant-loop decreases-loop
 returns c =
-    let l = c.before.loop in
+    let l = c.before.loop-a in
     let a = (st-at-loop c).args in
     join-end _ a.lanes l.a a.t a.gs.now l.gs (omega arith) (omega (arith, (st-at-loop c).requires.4)) l.invariant.0
 
-pub all-g-spec : {M : Type 1} → statement M
-all-g-spec =
+pub all_g_spec : {M : Type 1} → statement M
+all_g_spec =
     tie.close
     (tie.spec
     invariant-loop
@@ -143,13 +143,13 @@ all-g-spec =
     (λ c. omega (arith, ends c, few (st-at-turn c), (st-at-turn c).requires.3))
     (λ c. search rules)
     (λ c. search rules)
-    (λ c. omega (arith, ends (turn-at-first c), (st-at-turn (turn-at-first c)).pre.2))
+    (λ c. omega (arith, ends (turn-at-first c), (st-at-turn (turn-at-first c)).requires.2))
     (λ c. search rules)
     (λ c. search rules)
-    (λ c. omega (arith, ends (turn-at-second c), (st-at-turn (turn-at-second c)).pre.4, (turn-at-second c).before.loop.invariant.2))
+    (λ c. omega (arith, ends (turn-at-second c), (st-at-turn (turn-at-second c)).requires.4, (turn-at-second c).before.loop-a.invariant.2))
     row-sums-requires
     (λ c. search rules)
-    (λ c. omega (arith, (turn-at-end c).loop-test.true))
+    (λ c. omega (arith, (turn-at-end c).loop-a-test.true))
     loop-again
     (λ c. search rules)
     returns)

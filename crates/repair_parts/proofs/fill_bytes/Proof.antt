@@ -16,57 +16,57 @@ use Rattle.repair_parts.proofs.Parts.{words-done}
 use Rattle.repair_parts.proofs.fill_bytes.Statement.{statement}
 use Rattle.repair_parts.proofs.fill_bytes.Tie as tie
 
-abbrev invariant-loop : tie.invariant-loop
+abbrev invariant-loop : tie.invariant-loop-q
 invariant-loop words out₀ q₀ out q = (out ≡ join q (λ t. bytes 8 (get_or words t 0)) ++ drop (q * 8) out₀) × (q ≤ length words) × (length out ≡ length out₀)
 
-abbrev decreases-loop : tie.decreases-loop
+abbrev decreases-loop : tie.decreases-loop-q
 decreases-loop words out₀ q₀ out q = length words - q
 
 -- the places
-abbrev st-at-loop : tie.At-loop invariant-loop decreases-loop → tie.Start invariant-loop decreases-loop
+abbrev st-at-loop : tie.At-loop-q invariant-loop decreases-loop → tie.Start invariant-loop decreases-loop
 st-at-loop c = c.before.before.before
 
-abbrev st : tie.In-loop invariant-loop decreases-loop → tie.Start invariant-loop decreases-loop
+abbrev st : tie.In-loop-q invariant-loop decreases-loop → tie.Start invariant-loop decreases-loop
 st c = st-at-loop c.before
 
-abbrev turn-at-put-word-arg : tie.After-put-word-arg invariant-loop decreases-loop → tie.In-loop invariant-loop decreases-loop
+abbrev turn-at-put-word-arg : tie.After-put_word-arg-1 invariant-loop decreases-loop → tie.In-loop-q invariant-loop decreases-loop
 turn-at-put-word-arg c = c.before.before
 
-abbrev put-word-at-slice-known2 : tie.After-slice-known2 invariant-loop decreases-loop → tie.After-put-word invariant-loop decreases-loop
+abbrev put-word-at-slice-known2 : tie.After-slice_known-in-loop-q-1 invariant-loop decreases-loop → tie.After-put_word invariant-loop decreases-loop
 put-word-at-slice-known2 c = c.before.before
 
-abbrev turn-at-end : tie.After-slice-known2 invariant-loop decreases-loop → tie.In-loop invariant-loop decreases-loop
+abbrev turn-at-end : tie.After-slice_known-in-loop-q-1 invariant-loop decreases-loop → tie.In-loop-q invariant-loop decreases-loop
 turn-at-end c = turn-at-put-word-arg (put-word-at-slice-known2 c).before
 
 -- where the bytes of a turn end
-end : (c : tie.In-loop invariant-loop decreases-loop) → c.before.loop.q * 8 + 8 ≤ length c.before.loop.out
-end c = omega (arith, part_end c.before.loop.q 8 (length (st c).args.words.now) c.loop-test.true, (st c).requires, c.before.loop.invariant.2)
+end : (c : tie.In-loop-q invariant-loop decreases-loop) → c.before.loop-q.q * 8 + 8 ≤ length c.before.loop-q.out
+end c = omega (arith, part_end c.before.loop-q.q 8 (length (st c).args.words.now) c.loop-q-test.true, (st c).requires, c.before.loop-q.invariant.2)
 
-put-word-requires : tie.Need-put-word-requires invariant-loop decreases-loop
+put-word-requires : tie.Need-put_word-requires invariant-loop decreases-loop
 put-word-requires c κs =
     let k = turn-at-put-word-arg c in
-    let l = k.before.loop in
+    let l = k.before.loop-q in
     ap length (part-piece 8 l.q l.out) ∙ length-piece 8 l.q l.out (end k)
 
-loop-again : tie.Need-loop-preserved invariant-loop decreases-loop
+loop-again : tie.Need-loop-q-preserved invariant-loop decreases-loop
 loop-again c =
     let k = turn-at-end c in
     let a = (st k).args in
-    let l = k.before.loop in (
+    let l = k.before.loop-q in (
       join-loop (λ t. bytes 8 (get_or a.words.now t 0)) 8 l.q a.out.now l.out _ (λ i h. length-bytes 8 (get_or a.words.now i 0)) (put-word-at-slice-known2 c).put_word.ensures
-          l.inv.0,
-      omega (arith, k.loop-test.taken),
-      c.before.out.given.1 ∙ l.inv.2,
+          l.invariant.0,
+      omega (arith, k.loop-q-test.true),
+      c.before.out-1.given.1 ∙ l.invariant.2,
     )
 
 returns : tie.Need-returns invariant-loop decreases-loop
 returns c =
-    let l = c.before.loop in
+    let l = c.before.loop-q in
     let g = st-at-loop c.before in
-    words-done g.args.words.now g.args.out.now l.out l.q (omega (arith, l.invariant.1)) g.pre l.invariant.0
+    words-done g.args.words.now g.args.out.now l.out l.q (omega (arith, l.invariant.1)) g.requires l.invariant.0
 
-pub fill-bytes-spec : {M : Type 1} → statement M
-fill-bytes-spec =
+pub fill_bytes_spec : {M : Type 1} → statement M
+fill_bytes_spec =
     tie.close
     (tie.spec
     invariant-loop
@@ -83,5 +83,5 @@ fill-bytes-spec =
     (λ c. search rules)
     (λ c. search rules)
     loop-again
-    (λ c. c.before.loop.invariant.2)
+    (λ c. c.before.loop-q.invariant.2)
     returns)

@@ -11,30 +11,30 @@ use Rattle.repair_parts.proofs.Parts.{rest as left, fill-next, part-next, fill_d
 use Rattle.repair_parts.proofs.put_word.Statement.{statement}
 use Rattle.repair_parts.proofs.put_word.Tie as tie
 
-abbrev invariant-loop : tie.invariant-loop
+abbrev invariant-loop : tie.invariant-loop-i
 invariant-loop word out₀ rest₀ i₀ out rest i = (out ≡ bytes i word ++ drop i out₀) × (rest ≡ left i word) × (i ≤ 8) × (length out ≡ length out₀)
 
-abbrev decreases-loop : tie.decreases-loop
+abbrev decreases-loop : tie.decreases-loop-i
 decreases-loop word out₀ rest₀ i₀ out rest i = 8 - i
 
-loop-again : tie.Need-loop-preserved invariant-loop decreases-loop
+loop-again : tie.Need-loop-i-preserved invariant-loop decreases-loop
 loop-again c =
     let g = c.before.before in
-    let l = c.before.loop in (
-      fill-next l.i g.args.word g.args.out.now l.out l.rest (omega (arith, g.requires, c.loop-test.true)) l.invariant.1 l.invariant.0,
+    let l = c.before.loop-i in (
+      fill-next l.i g.args.word g.args.out.now l.out l.rest (omega (arith, g.requires, c.loop-i-test.true)) l.invariant.1 l.invariant.0,
       part-next l.i g.args.word l.rest l.invariant.1,
-      omega (arith, c.loop-test.true),
+      omega (arith, c.loop-i-test.true),
       length-set l.out l.i _ ∙ l.invariant.3,
     )
 
 returns : tie.Need-returns invariant-loop decreases-loop
 returns c =
     let g = c.before.before in
-    let l = c.before.loop in
+    let l = c.before.loop-i in
     fill_done l.i g.args.word g.args.out.now l.out (omega arith) g.requires l.invariant.0
 
-pub put-word-spec : {M : Type 1} → statement M
-put-word-spec =
+pub put_word_spec : {M : Type 1} → statement M
+put_word_spec =
     tie.close
     (tie.spec
     invariant-loop

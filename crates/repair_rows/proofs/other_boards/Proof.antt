@@ -13,51 +13,51 @@ use native.Mathlib.Omega.{arith}
 use Rattle.repair_rows.proofs.other_boards.Statement.{statement}
 use Rattle.repair_rows.proofs.other_boards.Tie as tie
 
-abbrev invariant-loop : tie.invariant-loop
+abbrev invariant-loop : tie.invariant-loop-u
 invariant-loop fresh a out₀ m u₀ out u = (out ≡ tabulate u (λ u. get_or fresh (past a u) 0) ++ drop u out₀) × (u ≤ m) × (length out ≡ length out₀)
 
-abbrev decreases-loop : tie.decreases-loop
+abbrev decreases-loop : tie.decreases-loop-u
 decreases-loop fresh a out₀ m u₀ out u = m - u
 
 -- the places
-abbrev st-at-loop : tie.At-loop invariant-loop decreases-loop → tie.Start invariant-loop decreases-loop
+abbrev st-at-loop : tie.At-loop-u invariant-loop decreases-loop → tie.Start invariant-loop decreases-loop
 st-at-loop c = c.before.before.before
 
-abbrev loop-at-past : tie.After-past invariant-loop decreases-loop → tie.At-loop invariant-loop decreases-loop
+abbrev loop-at-past : tie.After-past-b invariant-loop decreases-loop → tie.At-loop-u invariant-loop decreases-loop
 loop-at-past c = c.before.before
 
-abbrev st-at-past : tie.After-past invariant-loop decreases-loop → tie.Start invariant-loop decreases-loop
+abbrev st-at-past : tie.After-past-b invariant-loop decreases-loop → tie.Start invariant-loop decreases-loop
 st-at-past c = st-at-loop (loop-at-past c)
 
-abbrev st-at-shared-slice-known2 : tie.After-shared-slice-known2 invariant-loop decreases-loop → tie.Start invariant-loop decreases-loop
+abbrev st-at-shared-slice-known2 : tie.After-shared_slice_known-in-loop-u-1 invariant-loop decreases-loop → tie.Start invariant-loop decreases-loop
 st-at-shared-slice-known2 c = st-at-past c.before
 
 -- the place of a turn is within the fresh boards
-within : (c : tie.After-past invariant-loop decreases-loop) → c.past.result < length (st-at-past c).args.fresh.now
+within : (c : tie.After-past-b invariant-loop decreases-loop) → c.past-b.result < length (st-at-past c).args.fresh.now
 within c =
     let a = (st-at-past c).args in
-    let l = (loop-at-past c).loop in
-    omega (arith, c.past.ensures, past-below a.a l.u (length a.fresh.now) (omega arith))
+    let l = (loop-at-past c).loop-u in
+    omega (arith, c.past-b.ensures, past-below a.a l.u (length a.fresh.now) (omega arith))
 
-past-requires : tie.Need-past-requires invariant-loop decreases-loop
-past-requires c κs = let p = (st-at-loop c.before).pre in omega arith
+past-requires : tie.Need-past-b-requires invariant-loop decreases-loop
+past-requires c κs = let p = (st-at-loop c.before).requires in omega arith
 
-loop-again : tie.Need-loop-preserved invariant-loop decreases-loop
+loop-again : tie.Need-loop-u-preserved invariant-loop decreases-loop
 loop-again c =
-    let l = (loop-at-past c.before).loop in
+    let l = (loop-at-past c.before).loop-u in
     let a = (st-at-shared-slice-known2 c).args in
-    let e = ap (λ (b : ℕ). get_or a.fresh.now b 0) c.before.past.ensures in
-    (fill-loop _ a.out.now l.out l.u _ (omega arith) e l.inv.0, omega arith, length-set l.out l.u _ ∙ l.inv.2)
+    let e = ap (λ (b : ℕ). get_or a.fresh.now b 0) c.before.past-b.ensures in
+    (fill-loop _ a.out.now l.out l.u _ (omega arith) e l.invariant.0, omega arith, length-set l.out l.u _ ∙ l.invariant.2)
 
 returns : tie.Need-returns invariant-loop decreases-loop
 returns c =
-    let l = c.before.loop in
+    let l = c.before.loop-u in
     let a = (st-at-loop c.before).args in
-    let p = (st-at-loop c.before).pre in
+    let p = (st-at-loop c.before).requires in
     fill_end _ a.out.now l.out l.u (length a.fresh.now - 1) (omega arith) l.invariant.0 ∙ fill-all _ a.out.now (length a.fresh.now - 1) (omega arith)
 
-pub other-boards-spec : {M : Type 1} → statement M
-other-boards-spec =
+pub other_boards_spec : {M : Type 1} → statement M
+other_boards_spec =
     tie.close
     (tie.spec
     invariant-loop

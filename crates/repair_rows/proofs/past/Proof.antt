@@ -4,14 +4,13 @@ use mathlib.Core.Path.{◌∙◌}
 use native.Mathlib.Numerals.{add-one}
 use Rattle.repair_rows.proofs.Others.{past-under, past-over}
 use borrow.Author.Rules.{rules}
-use native.Mathlib.Omega.{arith}
 use Rattle.repair_rows.proofs.past.Statement.{statement}
 use Rattle.repair_rows.proofs.past.Tie as tie
 
-pub past-spec : {M : Type 1} → statement M
-past-spec =
+pub past_spec : {M : Type 1} → statement M
+past_spec =
     tie.close
     (tie.spec
     (λ c. search rules)
-    (λ c. past-under _ _ c.if1.true)
-    (λ c. add-one _ ∙ past-over _ _ c.if1.false))
+    (λ c. past-under _ _ c.if-u-a.true)
+    (λ c. add-one _ ∙ past-over _ _ c.if-u-a.false))

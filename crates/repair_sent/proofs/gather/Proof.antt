@@ -2,7 +2,7 @@
 -- Assumes nothing.
 use mathlib.Core.Path.{◌≡◌, sym, ap, ◌∙◌}
 use Prim.Native.Nat.{ℕ, ◌+◌, ◌*◌, ◌-◌, ◌≤◌}
-use lib.ListN.{length, take, drop, length-take, length-drop}
+use lib.ListN.{length, take, drop, length-take}
 use Rattle.lists.specs.Lists.{piece}
 use Rattle.lists.proofs.Put.{part_end}
 use Rattle.lists.proofs.Pieces.{part-piece, length-piece}
@@ -15,31 +15,31 @@ use Rattle.repair_sent.proofs.gather.Statement.{statement}
 use Rattle.repair_sent.proofs.gather.Tie as tie
 
 -- the places
-abbrev st-at-entry : tie.After-slice-known → tie.Start
+abbrev st-at-entry : tie.After-slice_known-1 → tie.Start
 st-at-entry c = c.before.before.before
 
-abbrev st-at-copy-arg : tie.After-copy-arg → tie.Start
+abbrev st-at-copy-arg : tie.After-copy-arg-1 → tie.Start
 st-at-copy-arg c = st-at-entry c.before
 
-abbrev st-at-copy : tie.After-copy-arg2 → tie.Start
+abbrev st-at-copy : tie.After-copy-arg-2-1 → tie.Start
 st-at-copy c = st-at-copy-arg c.before
 
-abbrev st-at-got : tie.After-slice-known2 → tie.Start
+abbrev st-at-got : tie.After-slice_known-2-1 → tie.Start
 st-at-got c = st-at-copy c.before.before.before
 
-abbrev st-at-sent : tie.After-sent-arg → tie.Start
+abbrev st-at-sent : tie.After-sent-arg-1 → tie.Start
 st-at-sent c = st-at-got c.before
 
-abbrev copy-at-sent : tie.After-sent-arg → tie.After-copy
+abbrev copy-at-sent : tie.After-sent-arg-1 → tie.After-copy
 copy-at-sent c = c.before.before.before
 
-abbrev st-at-end : tie.After-slice-known3 → tie.Start
+abbrev st-at-end : tie.After-slice_known-3-1 → tie.Start
 st-at-end c = st-at-sent c.before.before.before
 
-abbrev copy-at-end : tie.After-slice-known3 → tie.After-copy
+abbrev copy-at-end : tie.After-slice_known-3-1 → tie.After-copy
 copy-at-end c = copy-at-sent c.before.before.before
 
-abbrev sent-at-end : tie.After-slice-known3 → tie.After-sent
+abbrev sent-at-end : tie.After-slice_known-3-1 → tie.After-sent
 sent-at-end c = c.before.before
 
 facts : (c : tie.Start) → Legal c.args.sizes
@@ -82,8 +82,8 @@ returns c =
     gather-made a.c a.t a.a a.seconds.now a.got.now _ _ e.3 (p.6 ∙ sym e.2) (run_long (st-at-end c))
     (part-piece a.c a.a a.seconds.now) (copy-at-end c).copy.ensures a.lanes a.i a.gs.now _ (sent-at-end c).sent.ensures
 
-pub gather-spec : {M : Type 1} → statement M
-gather-spec =
+pub gather_spec : {M : Type 1} → statement M
+gather_spec =
     tie.close
     (tie.spec
     (λ c. omega (arith, ends (st-at-entry c)))

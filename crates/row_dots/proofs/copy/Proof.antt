@@ -12,21 +12,21 @@ use native.Mathlib.Omega.{arith}
 use Rattle.row_dots.proofs.copy.Statement.{statement}
 use Rattle.row_dots.proofs.copy.Tie as tie
 
-abbrev invariant-loop : tie.invariant-loop
+abbrev invariant-loop : tie.invariant-loop-j
 invariant-loop a out₀ n j₀ out j = (out ≡ tabulate j (λ j. get_or a j 0) ++ drop j out₀) × (j ≤ n) × (length out ≡ length out₀)
 
-abbrev decreases-loop : tie.decreases-loop
+abbrev decreases-loop : tie.decreases-loop-j
 decreases-loop a out₀ n j₀ out j = n - j
 
-loop-again : tie.Need-loop-preserved invariant-loop decreases-loop
+loop-again : tie.Need-loop-j-preserved invariant-loop decreases-loop
 loop-again c =
-    let l = c.before.before.loop in
+    let l = c.before.before.loop-j in
     let a = c.before.before.before.args.out.now in
     (fill-loop _ a l.out l.j _ (omega arith) refl l.invariant.0, omega arith, length-set l.out l.j _ ∙ l.invariant.2)
 
 returns : tie.Need-returns invariant-loop decreases-loop
 returns c =
-    let l = c.before.loop in
+    let l = c.before.loop-j in
     let a = c.before.before.args in
     changed _ a.out.now l.out l.j (omega arith) (omega arith) l.invariant.0 ∙ tabulate-take _ a.a.now c.before.before.requires
 

@@ -12,38 +12,38 @@ use native.Mathlib.Omega.{arith}
 use Rattle.row_dots.proofs.scale.Statement.{statement}
 use Rattle.row_dots.proofs.scale.Tie as tie
 
-abbrev invariant-loop : tie.invariant-loop
+abbrev invariant-loop : tie.invariant-loop-j
 invariant-loop c a₀ m n j₀ a j = (a ≡ tabulate j (λ j. mul c (get_or a₀ j 0)) ++ drop j a₀) × (j ≤ n) × (length a ≡ length a₀)
 
-abbrev decreases-loop : tie.decreases-loop
+abbrev decreases-loop : tie.decreases-loop-j
 decreases-loop c a₀ m n j₀ a j = n - j
 
 -- the places
-abbrev loop-at-times : tie.After-times invariant-loop decreases-loop → tie.At-loop invariant-loop decreases-loop
+abbrev loop-at-times : tie.After-times invariant-loop decreases-loop → tie.At-loop-j invariant-loop decreases-loop
 loop-at-times c = c.before.before.before
 
-abbrev st-at-loop : tie.At-loop invariant-loop decreases-loop → tie.Start invariant-loop decreases-loop
+abbrev st-at-loop : tie.At-loop-j invariant-loop decreases-loop → tie.Start invariant-loop decreases-loop
 st-at-loop c = c.before.before.before
 
 abbrev st-at-times : tie.After-times invariant-loop decreases-loop → tie.Start invariant-loop decreases-loop
 st-at-times c = st-at-loop (loop-at-times c)
 
-loop-again : tie.Need-loop-preserved invariant-loop decreases-loop
+loop-again : tie.Need-loop-j-preserved invariant-loop decreases-loop
 loop-again c =
-    let l = (loop-at-times c).loop in
+    let l = (loop-at-times c).loop-j in
     let a = (st-at-times c).args in (
-      change (λ j x. mul a.c x) a.a.now l.a l.j _ (omega arith) (cc (loop-at-times c).before.multiples-of.ensures.0) l.inv.0,
+      change (λ j x. mul a.c x) a.a.now l.a l.j _ (omega arith) (cc (loop-at-times c).before.multiples_of-m.ensures.0) l.invariant.0,
       omega arith,
-      length-set l.a l.j _ ∙ l.inv.2,
+      length-set l.a l.j _ ∙ l.invariant.2,
     )
 
 returns : tie.Need-returns invariant-loop decreases-loop
 returns c =
-    let l = c.before.loop in
+    let l = c.before.loop-j in
     changed _ (st-at-loop c.before).args.a.now l.a l.j (omega arith) (omega arith) l.invariant.0
 
-pub scale-spec : {M : Type 1} → statement M
-scale-spec =
+pub scale_spec : {M : Type 1} → statement M
+scale_spec =
     tie.close
     (tie.spec
     invariant-loop
@@ -51,7 +51,7 @@ scale-spec =
     (λ c κs. search rules)
     (λ c. search rules)
     (λ c. search rules)
-    (λ c κs. c.before.before.before.multiples-of.ensures.1)
+    (λ c κs. c.before.before.before.multiples_of-m.ensures.1)
     (λ c. search rules)
     (λ c. search rules)
     (λ c. search rules)

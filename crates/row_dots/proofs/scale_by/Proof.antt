@@ -12,38 +12,38 @@ use native.Mathlib.Omega.{arith}
 use Rattle.row_dots.proofs.scale_by.Statement.{statement}
 use Rattle.row_dots.proofs.scale_by.Tie as tie
 
-abbrev invariant-loop : tie.invariant-loop
+abbrev invariant-loop : tie.invariant-loop-j
 invariant-loop b a₀ n j₀ a j = (a ≡ tabulate j (λ j. mul (get_or a₀ j 0) (get_or b j 0)) ++ drop j a₀) × (j ≤ n) × (length a ≡ length a₀)
 
-abbrev decreases-loop : tie.decreases-loop
+abbrev decreases-loop : tie.decreases-loop-j
 decreases-loop b a₀ n j₀ a j = n - j
 
 -- the places
-abbrev loop-at-times : tie.After-times invariant-loop decreases-loop → tie.At-loop invariant-loop decreases-loop
+abbrev loop-at-times : tie.After-times invariant-loop decreases-loop → tie.At-loop-j invariant-loop decreases-loop
 loop-at-times c = c.before.before.before.before.before
 
-abbrev st-at-loop : tie.At-loop invariant-loop decreases-loop → tie.Start invariant-loop decreases-loop
+abbrev st-at-loop : tie.At-loop-j invariant-loop decreases-loop → tie.Start invariant-loop decreases-loop
 st-at-loop c = c.before.before.before
 
 abbrev st-at-times : tie.After-times invariant-loop decreases-loop → tie.Start invariant-loop decreases-loop
 st-at-times c = st-at-loop (loop-at-times c)
 
-loop-again : tie.Need-loop-preserved invariant-loop decreases-loop
+loop-again : tie.Need-loop-j-preserved invariant-loop decreases-loop
 loop-again c =
-    let l = (loop-at-times c).loop in
+    let l = (loop-at-times c).loop-j in
     let a = (st-at-times c).args in (
-      change (λ j x. mul x (get_or a.b.now j 0)) a.a.now l.a l.j _ (omega arith) (cc c.before.before.multiples-of.ensures.0) l.inv.0,
+      change (λ j x. mul x (get_or a.b.now j 0)) a.a.now l.a l.j _ (omega arith) (cc c.before.before.multiples_of.ensures.0) l.invariant.0,
       omega arith,
-      length-set l.a l.j _ ∙ l.inv.2,
+      length-set l.a l.j _ ∙ l.invariant.2,
     )
 
 returns : tie.Need-returns invariant-loop decreases-loop
 returns c =
-    let l = c.before.loop in
+    let l = c.before.loop-j in
     changed _ (st-at-loop c.before).args.a.now l.a l.j (omega arith) (omega arith) l.invariant.0
 
-pub scale-by-spec : {M : Type 1} → statement M
-scale-by-spec =
+pub scale_by_spec : {M : Type 1} → statement M
+scale_by_spec =
     tie.close
     (tie.spec
     invariant-loop
@@ -52,7 +52,7 @@ scale-by-spec =
     (λ c. search rules)
     (λ c κs. search rules)
     (λ c. search rules)
-    (λ c κs. c.before.multiples-of.ensures.1)
+    (λ c κs. c.before.multiples_of.ensures.1)
     (λ c. search rules)
     (λ c. search rules)
     (λ c. search rules)

@@ -5,7 +5,7 @@ use Rattle.row_sums.proofs.plus.Statement.{statement}
 use Rattle.row_sums.proofs.plus.Tie as tie
 
 -- places in the code
-abbrev st : tie.After-struct-known8 → tie.Start
+abbrev st : tie.After-struct_known-8-1 → tie.Start
 st c = c.before.before.before.before.before.before.before.before
 
 returns : tie.Need-returns
@@ -13,5 +13,5 @@ returns c =
     let s = st c in
     row-plus s.args.x s.args.y
 
-pub plus-spec : {M : Type 1} → statement M
-plus-spec = tie.close (tie.spec returns)
+pub plus_spec : {M : Type 1} → statement M
+plus_spec = tie.close (tie.spec returns)

@@ -11,44 +11,39 @@ use borrow.Author.Rules.{rules}
 use Rattle.row_sums.proofs.put_word.Statement.{statement}
 use Rattle.row_sums.proofs.put_word.Tie as tie
 
-abbrev invariant-loop : tie.invariant-loop
+abbrev invariant-loop : tie.invariant-loop-j
 invariant-loop x out₀ v₀ j₀ out v j = (j ≤ 8) × (length out ≡ 8) × (take j out ++ bytes_of (8 - j) v ≡ bytes_of 8 x)
 
-abbrev decreases-loop : tie.decreases-loop
+abbrev decreases-loop : tie.decreases-loop-j
 decreases-loop x out₀ v₀ j₀ out v j = 8 - j
 
-loop-holds : tie.Need-loop-init invariant-loop decreases-loop
+loop-holds : tie.Need-loop-j-init invariant-loop decreases-loop
 loop-holds c = (omega arith, search rules, refl)
 
-cast-out : tie.Need-overflow-cast-out invariant-loop decreases-loop
-cast-out c = search rules
-
-slice-write-out : tie.Need-slice-write-out invariant-loop decreases-loop
-slice-write-out c = search rules
-
-add-j : tie.Need-overflow-add-j invariant-loop decreases-loop
-add-j c = search rules
-
-loop-less : tie.Need-loop-smaller invariant-loop decreases-loop
-loop-less c = search rules
-
-loop-again : tie.Need-loop-preserved invariant-loop decreases-loop
+loop-again : tie.Need-loop-j-preserved invariant-loop decreases-loop
 loop-again c =
-    let l = c.before.loop in (
+    let l = c.before.loop-j in (
       omega arith,
       length-set l.out l.j _ ∙ l.invariant.1,
       word-turn l.out c.before.before.args.x l.v l.j _ (omega arith) l.invariant.1 refl l.invariant.2,
     )
 
-same_length : tie.Need-same-length invariant-loop decreases-loop
-same_length c = search rules
-
 returns : tie.Need-returns invariant-loop decreases-loop
 returns c =
-    let l = c.before.loop in
+    let l = c.before.loop-j in
     word_end l.out c.before.before.args.x l.v l.j (omega arith) l.invariant.1 l.invariant.2
 
-pub put-word-spec : {M : Type 1} → statement M
-put-word-spec =
+pub put_word_spec : {M : Type 1} → statement M
+put_word_spec =
     tie.close
-    (tie.spec invariant-loop decreases-loop loop-holds cast-out slice-write-out add-j loop-less loop-again same_length returns)
+    (tie.spec
+    invariant-loop
+    decreases-loop
+    loop-holds
+    (λ c. search rules)
+    (λ c. search rules)
+    (λ c. search rules)
+    (λ c. search rules)
+    loop-again
+    (λ c. search rules)
+    returns)

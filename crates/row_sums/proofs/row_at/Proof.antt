@@ -6,41 +6,28 @@ use Rattle.row_sums.proofs.row_at.Statement.{statement}
 use Rattle.row_sums.proofs.row_at.Tie as tie
 
 -- places in the code
-abbrev word-at2-at-word-at4 : tie.After-word-at4 → tie.After-word-at2
+abbrev word-at2-at-word-at4 : tie.After-word_at-d → tie.After-word_at-b
 word-at2-at-word-at4 c = c.before.before
 
-abbrev st : tie.After-word-at4 → tie.Start
+abbrev st : tie.After-word_at-d → tie.Start
 st c = (word-at2-at-word-at4 c).before.before.before
-
-word-at-requires : tie.Need-word-at-requires
-word-at-requires c κs = search rules
-
-add-word-at : tie.Need-overflow-add-word-at
-add-word-at c = search rules
-
-word-at-requires-2 : tie.Need-word-at-requires-2
-word-at-requires-2 c κs = search rules
-
-add-word-at-2 : tie.Need-overflow-add-word-at-2
-add-word-at-2 c = search rules
-
-word-at-requires-3 : tie.Need-word-at-requires-3
-word-at-requires-3 c κs = search rules
-
-add-word-at-3 : tie.Need-overflow-add-word-at-3
-add-word-at-3 c = search rules
-
-word-at-requires-4 : tie.Need-word-at-requires-4
-word-at-requires-4 c κs = search rules
 
 returns : tie.Need-returns
 returns c =
     let s = st c in
     row-run s.args.t.now s.args.i
-    (record { a = (word-at2-at-word-at4 c).before.word_at.result; b = (word-at2-at-word-at4 c).word-at2.result; c = c.before.word-at3.result; d = c.word-at4.result })
-    (word-at2-at-word-at4 c).before.word_at.ensures (word-at2-at-word-at4 c).word-at2.ensures c.before.word-at3.ensures c.word-at4.ensures
+    (record { a = (word-at2-at-word-at4 c).before.word_at-a.result; b = (word-at2-at-word-at4 c).word_at-b.result; c = c.before.word_at-c.result; d = c.word_at-d.result })
+    (word-at2-at-word-at4 c).before.word_at-a.ensures (word-at2-at-word-at4 c).word_at-b.ensures c.before.word_at-c.ensures c.word_at-d.ensures
 
-pub row-at-spec : {M : Type 1} → statement M
-row-at-spec =
+pub row_at_spec : {M : Type 1} → statement M
+row_at_spec =
     tie.close
-    (tie.spec word-at-requires add-word-at word-at-requires-2 add-word-at-2 word-at-requires-3 add-word-at-3 word-at-requires-4 returns)
+    (tie.spec
+    (λ c κs. search rules)
+    (λ c. search rules)
+    (λ c κs. search rules)
+    (λ c. search rules)
+    (λ c κs. search rules)
+    (λ c. search rules)
+    (λ c κs. search rules)
+    returns)

@@ -4,10 +4,8 @@ use mathlib.Core.Path.{◌≡◌, ap, ap₂, ◌∙◌}
 use mathlib.Core.Bool.{true}
 use mathlib.Core.List.{List}
 use Prim.Native.Nat.{ℕ}
-use lib.ListN.{length}
 use borrow.Author.Rules.{rules}
-use Rattle.lists.specs.Lists.{fit}
-use Rattle.store_spec.specs.Running.{Running, running_by}
+use Rattle.beside_spec.specs.Running.{Running}
 use Rattle.running_lists.proofs.started.Statement.{statement}
 use Rattle.running_lists.proofs.started.Tie as tie
 
@@ -19,26 +17,26 @@ same : (t : ℕ) {a b c x y z : List ℕ} → a ≡ x → b ≡ y → c ≡ z �
 same t {a} {b} {c} {x} {y} {z} e f g = ap₂ (λ (a b : List ℕ). by t a b c) e f ∙ ap (by t x y) g
 
 -- the places
-abbrev bytes-of2-at-c : tie.After-c → tie.After-bytes-of2
+abbrev bytes-of2-at-c : tie.After-c-1 → tie.After-bytes_of-2
 bytes-of2-at-c c = c.before.before
 
-abbrev at_b : tie.After-bytes-of3 → tie.After-bytes-of2
+abbrev at_b : tie.After-bytes_of-3 → tie.After-bytes_of-2
 at_b c = bytes-of2-at-c c.before
 
-abbrev bytes-of-at-b : tie.After-b → tie.After-bytes-of
+abbrev bytes-of-at-b : tie.After-b-1 → tie.After-bytes_of
 bytes-of-at-b c = c.before.before
 
-abbrev at_a : tie.After-bytes-of2 → tie.After-bytes-of
+abbrev at_a : tie.After-bytes_of-2 → tie.After-bytes_of
 at_a c = bytes-of-at-b c.before
 
-abbrev st-at-a : tie.After-a → tie.Start
+abbrev st-at-a : tie.After-a-1 → tie.Start
 st-at-a c = c.before.before.before.before
 
-abbrev st : tie.After-bytes-of → tie.Start
+abbrev st : tie.After-bytes_of → tie.Start
 st c = st-at-a c.before
 
-pub started-spec : {M : Type 1} → statement M
-started-spec =
+pub started_spec : {M : Type 1} → statement M
+started_spec =
     tie.close
     (tie.spec
     (λ c. search rules)
@@ -47,4 +45,4 @@ started-spec =
     (λ c κs. (st (bytes-of-at-b c)).requires.1)
     (λ c. search rules)
     (λ c κs. (st (at_a (bytes-of2-at-c c))).requires.2)
-    (λ c. let k = c.before in let j = at_b k in let i = at_a j in same _ i.bytes_of.ensures j.bytes-of2.ensures k.bytes-of3.ensures))
+    (λ c. let k = c.before in let j = at_b k in let i = at_a j in same _ i.bytes_of.ensures j.bytes_of-2.ensures k.bytes_of-3.ensures))

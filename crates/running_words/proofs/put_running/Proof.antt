@@ -14,33 +14,36 @@ use Rattle.running_words.proofs.Words71.{flag_word, three-long, part-long, words
 use Rattle.running_words.proofs.put_running.Statement.{statement}
 use Rattle.running_words.proofs.put_running.Tie as tie
 
--- the places
-abbrev st-at-fresh2 : tie.After-fresh2 → tie.Start
-st-at-fresh2 c = c.before.before.before.before.before.before
+-- places in the code
+abbrev words-1-of-words-2-1 : tie.After-words-2-1 → tie.After-words-1
+words-1-of-words-2-1 c = c.before.before.before.before.before
 
-abbrev st : tie.After-put-packed-arg → tie.Start
-st c = st-at-fresh2 c.before
+abbrev start-of-fresh-2-1 : tie.After-fresh-2-1 → tie.Start
+start-of-fresh-2-1 c = c.before.before.before.before.before.before
 
-abbrev words-at-helpers2 : tie.After-helpers2 → tie.After-words
-words-at-helpers2 c = c.before.before
+abbrev words-2-1-of-slice_known-4-1 : tie.After-slice_known-4-1 → tie.After-words-2-1
+words-2-1-of-slice_known-4-1 c = c.before.before.before.before.before.before
 
-abbrev at_first : tie.After-put-packed-arg2 → tie.After-words
-at_first c = words-at-helpers2 c.before
+abbrev start-of-put_packed-arg-1 : tie.After-put_packed-arg-1 → tie.Start
+start-of-put_packed-arg-1 c = start-of-fresh-2-1 c.before
 
-abbrev words2-at-stand-ins2 : tie.After-stand-ins2 → tie.After-words2
-words2-at-stand-ins2 c = c.before.before
+abbrev start-of-words-1 : tie.After-words-1 → tie.Start
+start-of-words-1 c = start-of-put_packed-arg-1 c.before.before
 
-abbrev at_second : tie.After-put-packed-arg3 → tie.After-words2
-at_second c = words2-at-stand-ins2 c.before
+abbrev words-1-of-slice_known-4-1 : tie.After-slice_known-4-1 → tie.After-words-1
+words-1-of-slice_known-4-1 c = words-1-of-words-2-1 c.before.before.before.before.before.before
+
+abbrev start-of-slice_known-4-1 : tie.After-slice_known-4-1 → tie.Start
+start-of-slice_known-4-1 c = start-of-words-1 c.before.before.before.before.before.before.before.before.before.before.before
 
 -- the arrays have their lengths
-fresh-long : tie.Need-slice-aggregate-put-packed
+fresh-long : tie.Need-slice_bounds-put_packed-end
 fresh-long c = search rules
 
-helpers-long : tie.Need-slice-aggregate-put-packed-2
+helpers-long : tie.Need-slice_bounds-put_packed-end-3
 helpers-long c = search rules
 
-stand-ins-long : tie.Need-slice-aggregate-put-packed-3
+stand-ins-long : tie.Need-slice_bounds-put_packed-end-5
 stand-ins-long c = search rules
 
 -- the words after the three numbers, and after each array
@@ -50,44 +53,28 @@ three g = set (set (set g.args.words.now 0 (bool_byte g.args.running.running)) 1
 all_three : (g : tie.Start) → length (three g) ≡ 71
 all_three g = three-long g.args.words.now (bool_byte g.args.running.running) g.args.running.count g.args.running.carried g.requires
 
-abbrev put-packed-arg-at-words : tie.After-words → tie.After-put-packed-arg
-put-packed-arg-at-words c = c.before.before
+abbrev one : tie.After-words-1 → List ℕ
+one c = put_mid 3 4 (three (start-of-words-1 c)) c.put_packed.new.words
 
-abbrev one : tie.After-words → List ℕ
-one c = put_mid 3 4 (three (st (put-packed-arg-at-words c))) c.before.put-packed.new.1.0
+one-long : (c : tie.After-words-1) → length (one c) ≡ 71
+one-long c = c.words-1.given.1 ∙ all_three (start-of-words-1 c)
 
-one-long : (c : tie.After-words) → length (one c) ≡ 71
-one-long c = c.words.given.1 ∙ all_three (st (put-packed-arg-at-words c))
+abbrev two : tie.After-words-2-1 → List ℕ
+two c = put_mid 7 32 (one (words-1-of-words-2-1 c)) c.put_packed-2.new.words
 
-abbrev put-packed-arg2-at-words2 : tie.After-words2 → tie.After-put-packed-arg2
-put-packed-arg2-at-words2 c = c.before.before
-
-abbrev two : tie.After-words2 → List ℕ
-two c = put_mid 7 32 (one (at_first (put-packed-arg2-at-words2 c))) c.before.put-packed2.new.1.0
-
-two-long : (c : tie.After-words2) → length (two c) ≡ 71
-two-long c = c.words2.given.1 ∙ one-long (at_first (put-packed-arg2-at-words2 c))
-
-abbrev st-at-second : tie.After-words2 → tie.Start
-st-at-second c = st (put-packed-arg-at-words (at_first (put-packed-arg2-at-words2 c)))
-
-abbrev put-packed3-at-slice-known4 : tie.After-slice-known4 → tie.After-put-packed3
-put-packed3-at-slice-known4 c = c.before.before
+two-long : (c : tie.After-words-2-1) → length (two c) ≡ 71
+two-long c = c.words-2-1.given.1 ∙ one-long (words-1-of-words-2-1 c)
 
 returns : tie.Need-returns
 returns c =
-    let k = put-packed3-at-slice-known4 c in
-    let j = (at_second k.before).before in
-    let i = (at_first j.before).before in
-    let g = st i.before in
-    let p = running_in g.args.running in
-    words-put p g.args.words.now _ _ _ (bool_byte g.args.running.running) g.pre (flag_word g.args.running.running)
-    (i.put-packed.ensures ∙ ap (λ (m : ℕ). pack m p.fresh) (part-long (three g) 3 4 (omega (arith, all_three g))))
-    (j.put-packed2.ensures ∙ ap (λ (m : ℕ). pack m p.helpers) (part-long (one (at_first j.before)) 7 32 (omega (arith, one-long (at_first j.before)))))
-    (k.put-packed3.ensures ∙ ap (λ (m : ℕ). pack m p.stand_ins) (part-long (two (at_second k.before)) 39 32 (omega (arith, two-long (at_second k.before)))))
+    let p = running_in c.args.running in
+    words-put p c.args.words.now _ _ _ (bool_byte c.args.running.running) c.requires (flag_word c.args.running.running)
+    (c.put_packed.ensures ∙ ap (λ (m : ℕ). pack m p.fresh) (part-long (three (start-of-slice_known-4-1 c)) 3 4 (omega (arith, all_three (start-of-slice_known-4-1 c)))))
+    (c.put_packed-2.ensures ∙ ap (λ (m : ℕ). pack m p.helpers) (part-long (one (words-1-of-slice_known-4-1 c)) 7 32 (omega (arith, one-long (words-1-of-slice_known-4-1 c)))))
+    (c.put_packed-3.ensures ∙ ap (λ (m : ℕ). pack m p.stand_ins) (part-long (two (words-2-1-of-slice_known-4-1 c)) 39 32 (omega (arith, two-long (words-2-1-of-slice_known-4-1 c)))))
 
-pub put-running-spec : {M : Type 1} → statement M
-put-running-spec =
+pub put_running_spec : {M : Type 1} → statement M
+put_running_spec =
     tie.close
     (tie.spec
     (λ c. search rules)
@@ -97,17 +84,17 @@ put-running-spec =
     fresh-long
     (λ c. search rules)
     (λ c. search rules)
-    (λ c. omega (arith, all_three (st-at-fresh2 c)))
-    (λ c κs. let l = three (st c) in omega (arith, fresh-long c.before, part-long l 3 4 (omega (arith, all_three (st c)))))
+    (λ c. omega (arith, all_three (start-of-fresh-2-1 c)))
+    (λ c κs. let l = three (start-of-put_packed-arg-1 c) in omega (arith, fresh-long c.before, part-long l 3 4 (omega (arith, all_three (start-of-put_packed-arg-1 c)))))
     helpers-long
     (λ c. search rules)
     (λ c. search rules)
-    (λ c. omega (arith, one-long (words-at-helpers2 c)))
-    (λ c κs. let l = one (at_first c) in omega (arith, helpers-long c.before, part-long l 7 32 (omega (arith, one-long (at_first c)))))
+    (λ c. omega (arith, one-long c.before.before))
+    (λ c κs. let l = one c.before.before.before in omega (arith, helpers-long c.before, part-long l 7 32 (omega (arith, one-long c.before.before.before))))
     stand-ins-long
     (λ c. search rules)
     (λ c. search rules)
-    (λ c. omega (arith, two-long (words2-at-stand-ins2 c)))
-    (λ c κs. let l = two (at_second c) in omega (arith, stand-ins-long c.before, part-long l 39 32 (omega (arith, two-long (at_second c)))))
-    (λ c. let k = at_second (put-packed3-at-slice-known4 c).before in c.before.words3.given.1 ∙ two-long k ∙ sym (st-at-second k).pre)
+    (λ c. omega (arith, two-long c.before.before))
+    (λ c κs. let l = two c.before.before.before in omega (arith, stand-ins-long c.before, part-long l 39 32 (omega (arith, two-long c.before.before.before))))
+    (λ c. c.words-3-1.given.1 ∙ two-long (words-2-1-of-slice_known-4-1 c) ∙ sym c.requires)
     returns)

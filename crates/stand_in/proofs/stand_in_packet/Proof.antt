@@ -1,6 +1,5 @@
 -- `stand_in::stand_in_packet` meets its contract: space for the factors is lent.
 -- Assumes nothing.
-use lib.ListN.{length}
 use Rattle.sizes.proofs.Legal.{Legal, legal-facts}
 use borrow.Author.Rules.{rules}
 use native.Mathlib.Omega.{arith}
@@ -8,22 +7,22 @@ use Rattle.stand_in.proofs.stand_in_packet.Statement.{statement}
 use Rattle.stand_in.proofs.stand_in_packet.Tie as tie
 
 -- the places
-abbrev st-slice-known : tie.After-slice-known → tie.Start
+abbrev st-slice-known : tie.After-slice_known-1 → tie.Start
 st-slice-known c = c.before.before.before.before
 
-abbrev st-packet-in-arg : tie.After-packet-in-arg → tie.Start
+abbrev st-packet-in-arg : tie.After-packet_in-arg-1 → tie.Start
 st-packet-in-arg c = st-slice-known c.before.before.before
 
 facts : (c : tie.Start) → Legal c.args.sizes
 facts c = legal-facts _ c.requires.0
 
-packet-in-requires : tie.Need-packet-in-requires
+packet-in-requires : tie.Need-packet_in-requires
 packet-in-requires c κs =
     let p = (st-packet-in-arg c).requires in
     (p.0, p.1, p.2, p.3, p.4, p.5, p.6, p.7, p.8, search rules, search rules)
 
-pub stand-in-packet-spec : {M : Type 1} → statement M
-stand-in-packet-spec =
+pub stand_in_packet_spec : {M : Type 1} → statement M
+stand_in_packet_spec =
     tie.close
     (tie.spec
     (λ c κs. let f = facts (st-slice-known c) in omega (arith, f.enough, f.few))

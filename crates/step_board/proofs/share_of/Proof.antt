@@ -6,7 +6,6 @@ use Prim.Native.Nat.{ℕ, ◌+◌, ◌-◌, ◌*◌, ◌≤◌}
 use lib.ListN.{length, get_or, take, drop, length-take, length-drop}
 use Rattle.lists.specs.Lists.{piece}
 use Rattle.lists.proofs.Pieces.{part-piece}
-use Rattle.sizes.specs.Sizing.{α}
 use Rattle.sizes.proofs.Legal.{Legal, legal-facts}
 use Rattle.mbcr.specs.Rebuild.{finished_share}
 use Rattle.repair_rows.specs.Steps.{others_at}
@@ -17,34 +16,34 @@ use Rattle.step_board.proofs.share_of.Statement.{statement}
 use Rattle.step_board.proofs.share_of.Tie as tie
 
 -- the places
-abbrev st-w : tie.After-slice-known → tie.Start
+abbrev st-w : tie.After-slice_known-1 → tie.Start
 st-w c = c.before.before.before.before.before.before.before
 
-abbrev st-known : tie.After-struct-known → tie.Start
+abbrev st-known : tie.After-struct_known-1 → tie.Start
 st-known c = st-w c.before
 
-abbrev st-m : tie.After-struct-known2 → tie.Start
+abbrev st-m : tie.After-struct_known-2-1 → tie.Start
 st-m c = st-known c.before
 
-abbrev st-m2 : tie.After-struct-known3 → tie.Start
+abbrev st-m2 : tie.After-struct_known-3-1 → tie.Start
 st-m2 c = st-m c.before
 
-abbrev st_2 : tie.After-share-in-arg → tie.Start
+abbrev st_2 : tie.After-share_in-arg-1 → tie.Start
 st_2 c = st-m2 c.before
 
-abbrev st_3 : tie.After-share-in-arg2 → tie.Start
+abbrev st_3 : tie.After-share_in-arg-2-1 → tie.Start
 st_3 c = st_2 c.before
 
-abbrev st_4 : tie.After-share-in-arg3 → tie.Start
+abbrev st_4 : tie.After-share_in-arg-3-1 → tie.Start
 st_4 c = st_3 c.before
 
-abbrev st-arg : tie.After-share-in-arg4 → tie.Start
+abbrev st-arg : tie.After-share_in-arg-4-1 → tie.Start
 st-arg c = st_4 c.before.before
 
-abbrev in_end : tie.After-slice-known2 → tie.After-share-in
+abbrev in_end : tie.After-slice_known-2-1 → tie.After-share_in
 in_end c = c.before.before.before
 
-abbrev st-end : tie.After-slice-known2 → tie.Start
+abbrev st-end : tie.After-slice_known-2-1 → tie.Start
 st-end c = st-arg (in_end c).before
 
 facts : (c : tie.Start) → Legal c.args.sizes
@@ -87,7 +86,7 @@ longs c =
       part_length (t * w + t * v + a.a * ((t - 1) * a.stripes)) ((t - 1) * a.stripes) a.packets.now n.third,
     )
 
-share-in-requires : tie.Need-share-in-requires
+share-in-requires : tie.Need-share_in-requires
 share-in-requires c κs =
     let p = (st-arg c).requires in
     let f = facts (st-arg c) in
@@ -112,8 +111,8 @@ returns c =
     (piece v a.a (drop (t * w) a.packets.now) ++ y))
     (part-behind (t * w + t * v) ((t - 1) * a.stripes) a.a a.packets.now)
 
-pub share-of-spec : {M : Type 1} → statement M
-share-of-spec =
+pub share_of_spec : {M : Type 1} → statement M
+share_of_spec =
     tie.close
     (tie.spec
     (λ c. omega (arith, (st-w c).requires.4))

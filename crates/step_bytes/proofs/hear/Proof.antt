@@ -6,19 +6,19 @@ use Rattle.step_bytes.proofs.hear.Statement.{statement}
 use Rattle.step_bytes.proofs.hear.Tie as tie
 
 -- the places
-abbrev st-received : tie.After-received-arg → tie.Start
+abbrev st-received : tie.After-received-arg-1 → tie.Start
 st-received c = c.before.before.before.before.before.before
 
-abbrev received-at-gather-arg : tie.After-gather-arg → tie.After-received
+abbrev received-at-gather-arg : tie.After-gather-arg-1 → tie.After-received
 received-at-gather-arg c = c.before.before.before
 
-abbrev st-gather : tie.After-gather-arg → tie.Start
+abbrev st-gather : tie.After-gather-arg-1 → tie.Start
 st-gather c = st-received (received-at-gather-arg c).before
 
-abbrev gather-at-slice-known4 : tie.After-slice-known4 → tie.After-gather
+abbrev gather-at-slice-known4 : tie.After-slice_known-4-1 → tie.After-gather
 gather-at-slice-known4 c = c.before.before
 
-abbrev received-end : tie.After-slice-known4 → tie.After-received
+abbrev received-end : tie.After-slice_known-4-1 → tie.After-received
 received-end c = received-at-gather-arg (gather-at-slice-known4 c).before
 
 received-requires : tie.Need-received-requires
@@ -30,8 +30,8 @@ gather-requires c κs = let p = (st-gather c).requires in (p.0, p.1, p.2, p.3, p
 returns : tie.Need-returns
 returns c = ((received-end c).received.ensures, (gather-at-slice-known4 c).gather.ensures)
 
-pub hear-spec : {M : Type 1} → statement M
-hear-spec =
+pub hear_spec : {M : Type 1} → statement M
+hear_spec =
     tie.close
     (tie.spec
     received-requires

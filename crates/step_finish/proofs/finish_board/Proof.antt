@@ -3,7 +3,7 @@
 use mathlib.Core.Path.{◌≡◌, ap, ◌∙◌}
 use mathlib.Core.Bool.{true}
 use mathlib.Core.List.{List, [], ◌∷◌, ◌++◌}
-use Prim.Native.Nat.{ℕ, ◌+◌, ◌-◌, ◌*◌, ◌<◌, ◌≤◌}
+use Prim.Native.Nat.{ℕ, ◌+◌, ◌-◌, ◌*◌, ◌<◌}
 use lib.ListN.{length, get_or, take, drop}
 use Rattle.lists.specs.Lists.{piece}
 use Rattle.lists.specs.Tests.{below, different}
@@ -19,28 +19,28 @@ use Rattle.step_finish.proofs.finish_board.Statement.{statement}
 use Rattle.step_finish.proofs.finish_board.Tie as tie
 
 -- the places
-abbrev st-w : tie.After-struct-known → tie.Start
+abbrev st-w : tie.After-struct_known-1 → tie.Start
 st-w c = c.before.before.before.before.before.before.before.before
 
-abbrev st-e : tie.After-struct-known3 → tie.Start
+abbrev st-e : tie.After-struct_known-3-1 → tie.Start
 st-e c = st-w c.before.before
 
-abbrev st-at : tie.After-shared-slice-known7 → tie.Start
+abbrev st-at : tie.After-shared_slice_known-7-1 → tie.Start
 st-at c = st-e c.before
 
-abbrev st_1 : tie.After-share-of-arg → tie.Start
+abbrev st_1 : tie.After-share_of-arg-1 → tie.Start
 st_1 c = st-at c.before
 
-abbrev st_2 : tie.After-share-of-arg2 → tie.Start
+abbrev st_2 : tie.After-share_of-arg-2-1 → tie.Start
 st_2 c = st_1 c.before
 
-abbrev st-arg : tie.After-share-of-arg3 → tie.Start
+abbrev st-arg : tie.After-share_of-arg-3-1 → tie.Start
 st-arg c = st_2 c.before
 
-abbrev share-end : tie.After-slice-known2 → tie.After-share-of
+abbrev share-end : tie.After-slice_known-2-1 → tie.After-share_of
 share-end c = c.before.before
 
-abbrev st-end : tie.After-slice-known2 → tie.Start
+abbrev st-end : tie.After-slice_known-2-1 → tie.Start
 st-end c = st-arg (share-end c).before
 
 facts : (c : tie.Start) → Legal c.args.sizes
@@ -95,12 +95,12 @@ party-with : (c : tie.Start) (P : List ℕ → List ℕ → Type 0) → let a = 
     P (piece a.sizes.d a.a a.helpers.now) (piece (a.sizes.r - length a.fresh.now) a.a a.standins.now) → P (helper-run c) (stand-in-run c)
 party-with c P h = rw ((helpers-are c).0, (stand-ins-are c).0) h
 
-share-of-requires : tie.Need-share-of-requires
+share-of-requires : tie.Need-share_of-requires
 share-of-requires c κs =
     let s = st-arg c in
     let a = s.args in
     let z = a.sizes in
-    let p = s.pre in
+    let p = s.requires in
     let l = p.4 in
     let t : ℕ = length a.fresh.now in (
       p.0,
@@ -125,10 +125,13 @@ returns c =
     let s = st-end c in
     let a = s.args in
     share-put a.sizes (facts s) a.points.now a.capacity a.stripes a.fresh.now a.helpers.now a.standins.now a.packets.now a.area.now a.a
-    (helper-run s) (stand-in-run s) _ (helpers-are s).0 (stand-ins-are s).0 (stand-ins-are s).1 (share-end c).share-of.ensures
+    (helper-run s) (stand-in-run s) _ (helpers-are s).0 (stand-ins-are s).0 (stand-ins-are s).1 (share-end c).share_of.ensures
 
-pub finish-board-spec : {M : Type 1} → statement M
-finish-board-spec =
+abbrev st-at-unread : tie.After-shared_slice_known-7-1-unread → tie.Start
+st-at-unread c = st-e c.before
+
+pub finish_board_spec : {M : Type 1} → statement M
+finish_board_spec =
     tie.close
     (tie.spec
     (λ c. let f = facts (st-w c) in omega (arith, f.enough, f.few))
@@ -140,7 +143,7 @@ finish-board-spec =
     (λ c. let r = run_ends (st-e c) in omega (arith, r.stand-ins-end, r.stand-ins-few))
     (λ c. let r = run_ends (st-e c) in omega (arith, r.stand-ins-end, r.stand-ins-few))
     (λ c. search rules)
-    (λ c. omega (arith, (st-at c).requires.9))
+    (λ c. omega (arith, (st-at-unread c).requires.9))
     (λ c. let h = held (st-at c) in omega (arith, h.few))
     (λ c. let h = held (st-at c) in omega (arith, h.ends, (own (st-at c)).ends, h.all))
     (λ c. let h = held (st-at c) in omega (arith, h.used, h.few))

@@ -1,8 +1,7 @@
 -- `step_kinds::carry_stand_in` meets its contract: the stand-in and the fresh board that it serves.
 -- Assumes nothing.
-use mathlib.Core.Path.{◌≡◌}
 use Prim.Native.Nat.{◌/◌, ◌<◌, ◌-◌}
-use lib.ListN.{length, get_or}
+use lib.ListN.{length}
 use Rattle.step_laws.specs.Steps.{stand_in_at}
 use Rattle.step_laws.proofs.Facts.{serves, some-each, board-low, served-low}
 use borrow.Author.Rules.{rules}
@@ -11,22 +10,22 @@ use Rattle.step_kinds.proofs.carry_stand_in.Statement.{statement}
 use Rattle.step_kinds.proofs.carry_stand_in.Tie as tie
 
 -- the places
-abbrev st-struct-known : tie.After-struct-known → tie.Start
+abbrev st-struct-known : tie.After-struct_known-1 → tie.Start
 st-struct-known c = c.before.before.before.before.before.before.before
 
-abbrev st-known6 : tie.After-shared-slice-known6 → tie.Start
+abbrev st-known6 : tie.After-shared_slice_known-6-1 → tie.Start
 st-known6 c = st-struct-known c.before
 
-abbrev st-known7 : tie.After-shared-slice-known7 → tie.Start
+abbrev st-known7 : tie.After-shared_slice_known-7-1 → tie.Start
 st-known7 c = st-known6 c.before
 
-abbrev st-arg : tie.After-stand-in-at-arg → tie.Start
+abbrev st-arg : tie.After-stand_in_at-arg-1 → tie.Start
 st-arg c = st-known7 c.before
 
-abbrev stand-in-at-at-slice-known2 : tie.After-slice-known2 → tie.After-stand-in-at
+abbrev stand-in-at-at-slice-known2 : tie.After-slice_known-2-1 → tie.After-stand_in_at
 stand-in-at-at-slice-known2 c = c.before.before
 
-abbrev st-end : tie.After-slice-known2 → tie.Start
+abbrev st-end : tie.After-slice_known-2-1 → tie.Start
 st-end c = st-arg (stand-in-at-at-slice-known2 c).before
 
 -- the fresh board that is served
@@ -36,7 +35,7 @@ served c = let a = c.args in serves a.sizes.n (a.sizes.r - length a.fresh.now) a
 some : (c : tie.Start) → let a = c.args in 0 < (a.sizes.r - length a.fresh.now)
 some c = let a = c.args in some-each a.sizes.n (a.sizes.r - length a.fresh.now) a.fresh.now a.standins.now c.requires.7 a.p c.requires.9
 
-stand-in-at-requires : tie.Need-stand-in-at-requires
+stand-in-at-requires : tie.Need-stand_in_at-requires
 stand-in-at-requires c κs =
     let a = (st-arg c).args in
     let p = (st-arg c).requires in (
@@ -54,10 +53,13 @@ stand-in-at-requires c κs =
 
 returns : tie.Need-returns
 unfolding stand_in_at
-returns c = (stand-in-at-at-slice-known2 c).stand-in-at.ensures
+returns c = (stand-in-at-at-slice-known2 c).stand_in_at.ensures
 
-pub carry-stand-in-spec : {M : Type 1} → statement M
-carry-stand-in-spec =
+abbrev st-known7-unread : tie.After-shared_slice_known-7-1-unread → tie.Start
+st-known7-unread c = st-known6 c.before
+
+pub carry_stand_in_spec : {M : Type 1} → statement M
+carry_stand_in_spec =
     tie.close
     (tie.spec
     (λ c. search rules)
@@ -65,7 +67,7 @@ carry-stand-in-spec =
     (λ c. search rules)
     (λ c. search rules)
     (λ c. omega (arith, served (st-known6 c)))
-    (λ c. omega (arith, served (st-known7 c)))
+    (λ c. omega (arith, served (st-known7-unread c)))
     stand-in-at-requires
     (λ c. search rules)
     returns)

@@ -1,6 +1,6 @@
 -- `step_packet::place` meets its contract.
 -- Assumes nothing.
-use mathlib.Core.Path.{◌≡◌, sym, ap}
+use mathlib.Core.Path.{sym, ap}
 use Prim.Native.Nat.{ℕ, ◌+◌, ◌*◌, ◌≤◌}
 use native.Mathlib.Nat.{mul-le-mul, min-eq_left, min-eq_right}
 use borrow.Author.Rules.{rules}
@@ -12,20 +12,20 @@ use Rattle.step_packet.proofs.place.Tie as tie
 few : (m S : ℕ) → m ≤ 4096 → S ≤ 4096 → m * S ≤ 16777216
 few m S h k = mul-le-mul h k
 
-returns : tie.Need-returns
+returns : tie.Need-returns-then-q-h
 returns c =
     let a = c.before.args in
-    let k : a.q ≤ a.h = omega (arith, c.if1.true) in
+    let k : a.q ≤ a.h = omega (arith, c.if-q-h.true) in
     ap (λ (x : ℕ). (a.q + x) * a.stripes) (sym (min-eq_left k))
 
-returns-2 : tie.Need-returns-2
+returns-2 : tie.Need-returns-else-q-h
 returns-2 c =
     let a = c.before.args in
-    let k : a.h ≤ a.q = omega (arith, c.if1.false) in
+    let k : a.h ≤ a.q = omega (arith, c.if-q-h.false) in
     ap (λ (x : ℕ). (a.q + x) * a.stripes) (sym (min-eq_right k))
 
-pub place-spec : {M : Type 1} → statement M
-place-spec =
+pub place_spec : {M : Type 1} → statement M
+place_spec =
     tie.close
     (tie.spec
     (λ c. search rules)

@@ -1,10 +1,9 @@
 -- `step_sent::stand_in_at` meets its contract: the packet by what the stand-in holds, put at its place.
 -- Assumes nothing.
-use mathlib.Core.Path.{◌≡◌, ap, ◌∙◌}
+use mathlib.Core.Path.{ap, ◌∙◌}
 use mathlib.Core.List.{List, ◌++◌}
-use Prim.Native.Nat.{ℕ, ◌+◌, ◌-◌, ◌*◌, ◌≤◌}
-use lib.ListN.{length, take, drop}
-use Rattle.sizes.specs.Sizing.{α}
+use Prim.Native.Nat.{ℕ, ◌+◌, ◌-◌}
+use lib.ListN.{take, drop}
 use Rattle.sizes.proofs.Legal.{Legal, legal-facts}
 use Rattle.mbcr.specs.Rebuild.{stand_in_packet}
 use Rattle.mbcr.proofs.Repair.{length-stand-in}
@@ -16,19 +15,19 @@ use Rattle.step_sent.proofs.stand_in_at.Statement.{statement}
 use Rattle.step_sent.proofs.stand_in_at.Tie as tie
 
 -- the places
-abbrev st-struct-known : tie.After-struct-known → tie.Start
+abbrev st-struct-known : tie.After-struct_known-1 → tie.Start
 st-struct-known c = c.before.before.before.before.before
 
-abbrev st-struct-known2 : tie.After-struct-known2 → tie.Start
+abbrev st-struct-known2 : tie.After-struct_known-2-1 → tie.Start
 st-struct-known2 c = st-struct-known c.before
 
-abbrev st-packet-arg2 : tie.After-stand-in-packet-arg2 → tie.Start
+abbrev st-packet-arg2 : tie.After-stand_in_packet-arg-2-1 → tie.Start
 st-packet-arg2 c = st-struct-known2 c.before.before
 
-abbrev packet-end : tie.After-slice-known2 → tie.After-stand-in-packet
+abbrev packet-end : tie.After-slice_known-2-1 → tie.After-stand_in_packet
 packet-end c = c.before.before
 
-abbrev st-end : tie.After-slice-known2 → tie.Start
+abbrev st-end : tie.After-slice_known-2-1 → tie.Start
 st-end c = st-packet-arg2 (packet-end c).before
 
 facts : (c : tie.Start) → Legal c.args.sizes
@@ -37,11 +36,11 @@ facts c = legal-facts _ c.requires.0
 own : (c : tie.Start) → let a = c.args in Held a.sizes a.capacity a.stripes a.j
 own c = let a = c.args in let p = c.requires in held_in a.sizes (facts c) a.capacity a.stripes a.j p.4 p.5 p.6
 
-stand-in-packet-requires : tie.Need-stand-in-packet-requires
+stand-in-packet-requires : tie.Need-stand_in_packet-requires
 stand-in-packet-requires c κs =
     let s = st-packet-arg2 c in
     let a = s.args in
-    let p = s.pre in (
+    let p = s.requires in (
       p.0,
       p.1,
       p.2,
@@ -61,11 +60,11 @@ returns c =
     let b : List ℕ → List ℕ = stand_in_packet z a.points.now a.stripes a.j a.i in
     put-made a.at a.stripes a.packets.now _ (b (held_at z a.capacity a.stripes a.area.now a.j))
     (length-stand-in z a.points.now a.stripes a.j a.i _)
-    ((packet-end c).stand-in-packet.ensures
+    ((packet-end c).stand_in_packet.ensures
     ∙ ap (λ (l : List ℕ). b l ++ drop a.stripes (take (a.at + a.stripes - a.at) (drop a.at a.packets.now))) (held-part z a.capacity a.stripes a.j a.area.now))
 
-pub stand-in-at-spec : {M : Type 1} → statement M
-stand-in-at-spec =
+pub stand_in_at_spec : {M : Type 1} → statement M
+stand_in_at_spec =
     tie.close
     (tie.spec
     (λ c. let f = facts (st-struct-known c) in omega (arith, f.enough, f.few))

@@ -1,11 +1,10 @@
 -- `step_share::finish_stripe` meets its contract: the callees' contracts, put together.
 -- Assumes nothing.
-use mathlib.Core.Path.{◌≡◌, ap, ◌∙◌}
-use Prim.Native.Nat.{ℕ, ◌+◌, ◌*◌, ◌-◌, ◌≤◌}
+use mathlib.Core.Path.{◌≡◌, ap}
+use Prim.Native.Nat.{ℕ, ◌+◌, ◌*◌, ◌-◌}
 use native.Mathlib.Nat.{sub-zero}
 use lib.ListN.{length, take, drop, length-take, length-drop}
 use lib.Seq.{take_all}
-use Rattle.sizes.specs.Sizing.{α}
 use Rattle.sizes.proofs.Legal.{Legal, legal-facts}
 use Rattle.step_share.proofs.Stripes.{finished-step}
 use borrow.Author.Rules.{rules}
@@ -13,45 +12,36 @@ use native.Mathlib.Omega.{arith}
 use Rattle.step_share.proofs.finish_stripe.Statement.{statement}
 use Rattle.step_share.proofs.finish_stripe.Tie as tie
 
--- the places
-abbrev st-known : tie.After-struct-known → tie.Start
-st-known c = c.before.before.before.before.before.before.before
+-- places in the code
+abbrev start-of-struct_known-1 : tie.After-struct_known-1 → tie.Start
+start-of-struct_known-1 c = c.before.before.before.before.before.before.before
 
-abbrev st-row-sums : tie.After-row-sums-arg2 → tie.Start
-st-row-sums c = st-known c.before.before
+abbrev start-of-row_sums-arg-2-1 : tie.After-row_sums-arg-2-1 → tie.Start
+start-of-row_sums-arg-2-1 c = start-of-struct_known-1 c.before.before
 
-abbrev g-finish : tie.After-finish-arg5 → tie.After-g
-g-finish c = c.before.before.before.before.before.before
+abbrev start-of-finish-arg-4-1 : tie.After-finish-arg-4-1 → tie.Start
+start-of-finish-arg-4-1 c = start-of-row_sums-arg-2-1 c.before.before.before.before.before.before.before
 
-abbrev st-finish : tie.After-finish-arg5 → tie.Start
-st-finish c = st-row-sums (g-finish c).before.before
-
-abbrev finish-end : tie.After-slice-known8 → tie.After-finish
-finish-end c = c.before.before.before.before.before.before
-
-abbrev row-sums-end : tie.After-slice-known8 → tie.After-row-sums
-row-sums-end c = (g-finish (finish-end c).before).before
-
-abbrev st-end : tie.After-slice-known8 → tie.Start
-st-end c = st-finish (finish-end c).before
+abbrev start-of-slice_known-8-1 : tie.After-slice_known-8-1 → tie.Start
+start-of-slice_known-8-1 c = start-of-finish-arg-4-1 c.before.before.before.before.before.before.before
 
 facts : (c : tie.Start) → Legal c.args.sizes
 facts c = legal-facts _ c.requires.0
 
-row-sums-requires : tie.Need-row-sums-requires
+row-sums-requires : tie.Need-row_sums-requires
 row-sums-requires c κs =
-    let f = facts (st-row-sums c) in
-    let p = (st-row-sums c).requires in
-    let a = (st-row-sums c).args in
+    let f = facts (start-of-row_sums-arg-2-1 c) in
+    let p = c.requires in
+    let a = c.args in
     let r : length (take (a.sizes.d * 32 - 0) (drop 0 a.rows.now)) ≡ a.sizes.d * 32 = simp length-take (omega (arith, p.2)) in
     (omega (arith, r, p.3), omega (arith, p.3, f.enough, f.few), omega (arith, p.6, p.7))
 
 finish-requires : tie.Need-finish-requires
 finish-requires c κs =
-    let f = facts (st-finish c) in
-    let p = (st-finish c).requires in
-    let a = (st-finish c).args in
-    let g = (g-finish c).g.given in
+    let f = facts (start-of-finish-arg-4-1 c) in
+    let p = c.requires in
+    let a = c.args in
+    let g = c.g-1.given in
     let r : length (take (length a.rows.now - a.sizes.d * 32) (drop (a.sizes.d * 32) a.rows.now)) ≡ (a.sizes.d + a.sizes.r) * 32 =
     simp (length-take, length-drop) (omega (arith, p.2)) in (
       p.1,
@@ -67,21 +57,21 @@ finish-requires c κs =
 
 returns : tie.Need-returns
 returns c =
-    let f = facts (st-end c) in
-    let p = (st-end c).requires in
-    let a = (st-end c).args in
+    let f = facts (start-of-slice_known-8-1 c) in
+    let p = c.requires in
+    let a = c.args in
     let z = a.sizes in
     let m : ℕ = z.d * 32 in
     finished-step z a.i (length a.f.now) (length a.g.now) _ a.rows.now a.firsts.now (take (length a.got.now - 1) a.got.now) _ _ _ _
-    (finish-end c).finish.ensures (row-sums-end c).row-sums.ensures p.7
+    c.finish.ensures c.row_sums.ensures p.7
     (ap (λ (k : ℕ). take k a.rows.now) (sub-zero m)) (take_all (length a.rows.now - m) (drop m a.rows.now) (simp length-drop (omega arith)))
     (omega (arith, p.4, p.8, f.some_read, f.read-helpers, f.some-fresh))
 
-pub finish-stripe-spec : {M : Type 1} → statement M
-finish-stripe-spec =
+pub finish_stripe_spec : {M : Type 1} → statement M
+finish_stripe_spec =
     tie.close
     (tie.spec
-    (λ c. let f = facts (st-known c) in omega (arith, f.enough, f.few))
+    (λ c. let f = facts (start-of-struct_known-1 c) in omega (arith, f.enough, f.few))
     (λ c. search rules)
     (λ c. search rules)
     (λ c. search rules)

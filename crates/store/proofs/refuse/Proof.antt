@@ -4,5 +4,5 @@ use mathlib.Core.Path.{refl}
 use Rattle.store.proofs.refuse.Statement.{statement}
 use Rattle.store.proofs.refuse.Tie as tie
 
-pub refuse-spec : {M : Type 1} → statement M
-refuse-spec = tie.close (tie.spec (λ c area output packets. refl))
+pub refuse_spec : {M : Type 1} → statement M
+refuse_spec = tie.close (tie.spec (λ c area output packets. refl))

@@ -10,5 +10,5 @@ counted_spec =
     tie.close
     (tie.spec
     (λ c. search rules)
-    (λ c. one_more c.before.args.m c.before.args.on c.if1.true)
-    (λ c. no_more c.before.args.m c.before.args.on c.if1.false))
+    (λ c. one_more c.before.args.m c.before.args.on c.if-on.true)
+    (λ c. no_more c.before.args.m c.before.args.on c.if-on.false))

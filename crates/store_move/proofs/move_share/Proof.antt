@@ -1,7 +1,7 @@
 -- `store_move::move_share` meets its contract: the stripes of the repair, over what the others hold afresh, are the share of the move.
 -- Assumes nothing.
 use Prim.Native.Nat.{◌<◌}
-use mathlib.Core.Path.{◌≡◌, ap, ◌∙◌}
+use mathlib.Core.Path.{ap, ◌∙◌}
 use mathlib.Core.List.{[], ◌∷◌}
 use native.Mathlib.Omega.{arith}
 use lib.ListN.{length}
@@ -10,28 +10,22 @@ use Rattle.sizes.proofs.Legal.{legal-facts}
 use Rattle.store_spec.specs.Record.{Record}
 use Rattle.store_spec.specs.Move.{afresh_area}
 use Rattle.store_spec.proofs.Records.{Moves, move-facts, sound-facts}
-use Rattle.repair_check.proofs.Repairable.{Repairable}
+use Rattle.check_repair.proofs.Repairable.{Repairable}
 use Rattle.record.specs.Records.{record_of}
 use Rattle.store_move.proofs.Runs.{runs-named}
 use Rattle.store_move.proofs.Moved.{lost, board-known, asks, moved-put}
 use Rattle.store_move.proofs.move_share.Statement.{statement}
 use Rattle.store_move.proofs.move_share.Tie as tie
 
--- the places
-abbrev st : tie.After-points → tie.Start
-st c = c.before.before.before.before
+-- places in the code
+abbrev start-of-rekeep-arg-1 : tie.After-rekeep-arg-1 → tie.Start
+start-of-rekeep-arg-1 c = c.before.before.before.before.before.before.before.before.before
 
-abbrev at-filled : tie.After-rekeep-arg → tie.After-fill-inverses
-at-filled c = c.before.before.before
+abbrev start-of-repair_shares-arg-2-1 : tie.After-repair_shares-arg-2-1 → tie.Start
+start-of-repair_shares-arg-2-1 c = start-of-rekeep-arg-1 c.before.before.before.before.before.before.before.before
 
-abbrev st-filled : tie.After-rekeep-arg → tie.Start
-st-filled c = st (at-filled c).before.before
-
-abbrev at_others : tie.After-repair-shares-arg → tie.After-rekeep
-at_others c = c.before.before.before.before.before.before
-
-abbrev st-shares : tie.After-repair-shares-arg → tie.Start
-st-shares c = st-filled (at_others c).before
+abbrev start-of-slice_known-3-1 : tie.After-slice_known-3-1 → tie.Start
+start-of-slice_known-3-1 c = start-of-repair_shares-arg-2-1 c.before.before.before
 
 abbrev R : tie.Start → Record
 R g = record_of g.args.kept
@@ -54,20 +48,17 @@ repairs g = let a = g.args in asks (R g) a.area.now a.board a.point a.helpers.no
 -- what the first pass asks, and the second
 others-ask : tie.Need-rekeep-requires
 others-ask c κs =
-    let g = st-filled c in
-    let f = facts g in
-    (f.is-sound, g.pre.1, (at-filled c).fill-inverses.ensures, known g, f.area-is)
+    let f = facts (start-of-rekeep-arg-1 c) in
+    (f.is-sound, c.requires.1, c.fill_inverses.ensures, known (start-of-rekeep-arg-1 c), f.area-is)
 
-shares-ask : tie.Need-repair-shares-requires
+shares-ask : tie.Need-repair_shares-requires
 shares-ask c κs =
-    let w = at_others c in
-    let g = st-shares c in
-    let f = repairs g in
+    let f = repairs (start-of-repair_shares-arg-2-1 c) in
     let r = f.is-ready in (
       r.stated.is-legal,
       r.points-taken.long,
       r.points-taken.differ,
-      (at-filled w.before).fill-inverses.ensures,
+      c.fill_inverses.ensures,
       f.some-fresh,
       f.few-fresh,
       f.fresh-known,
@@ -80,23 +71,20 @@ shares-ask c κs =
       f.none-stands-in,
       runs-named _ _ _ _ _ f,
       r.cap-high,
-      rw g.pre.1 r.few-stripes,
-      ap length w.rekeep.ensures ∙ f.area-is,
+      rw c.requires.1 r.few-stripes,
+      ap length c.rekeep.ensures ∙ f.area-is,
     )
 
 moved : tie.Need-returns
 moved c =
-    let q = c.before.before in
-    let w = at_others q.before in
-    let g = st-shares q.before in
-    let a = g.args in
-    moved-put (R g) a.area.now a.board a.point a.helpers.now a.partners.now (facts g) (byte g) _ _ _ g.pre.1 w.rekeep.ensures q.repair-shares.ensures
+    let a = c.args in
+    moved-put (R (start-of-slice_known-3-1 c)) a.area.now a.board a.point a.helpers.now a.partners.now (facts (start-of-slice_known-3-1 c)) (byte (start-of-slice_known-3-1 c)) _ _ _ c.requires.1 c.rekeep.ensures c.repair_shares.ensures
 
-pub move-share-spec : {M : Type 1} → statement M
-move-share-spec =
+pub move_share_spec : {M : Type 1} → statement M
+move_share_spec =
     tie.close
     (tie.spec
-    (λ c. let g = st c in omega (arith, known g, (legal-facts _ (sound-facts (R g) (facts g).is-sound).is-legal).few))
+    (λ c. omega (arith, known c.before.before.before.before, (legal-facts _ (sound-facts (R c.before.before.before.before) (facts c.before.before.before.before).is-sound).is-legal).few))
     (λ c. search rules)
     (λ c κs. search rules)
     (λ c. search rules)

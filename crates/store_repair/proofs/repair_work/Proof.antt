@@ -15,25 +15,25 @@ use Rattle.store_repair.proofs.repair_work.Statement.{statement}
 use Rattle.store_repair.proofs.repair_work.Tie as tie
 
 -- the places
-abbrev st-at-rows : tie.After-slice-known → tie.Start
+abbrev st-at-rows : tie.After-slice_known-1 → tie.Start
 st-at-rows c = c.before.before.before.before.before.before
 
-abbrev st-at-sum : tie.After-struct-known → tie.Start
+abbrev st-at-sum : tie.After-struct_known-1 → tie.Start
 st-at-sum c = st-at-rows c.before
 
-abbrev st-at-firsts : tie.After-firsts → tie.Start
+abbrev st-at-firsts : tie.After-firsts-1 → tie.Start
 st-at-firsts c = st-at-sum c.before
 
-abbrev st-at-seconds : tie.After-seconds → tie.Start
+abbrev st-at-seconds : tie.After-seconds-1 → tie.Start
 st-at-seconds c = st-at-firsts c.before
 
-abbrev st-at-gs : tie.After-gs → tie.Start
+abbrev st-at-gs : tie.After-gs-1 → tie.Start
 st-at-gs c = st-at-seconds c.before
 
-abbrev st-at-got : tie.After-got → tie.Start
+abbrev st-at-got : tie.After-got-1 → tie.Start
 st-at-got c = st-at-gs c.before
 
-abbrev st-at-call : tie.After-repair-stripes-arg → tie.Start
+abbrev st-at-call : tie.After-repair_stripes-arg-1 → tie.Start
 st-at-call c = st-at-got c.before.before
 
 -- a part from the beginning on is as long as it is asked
@@ -53,7 +53,7 @@ few c =
     let q = c.requires.11.helps in
     (few-runs a.sizes f t a.c c.requires.11, mul-few t a.lanes (omega arith) c.requires.4 refl, omega arith)
 
-repair-stripes-requires : tie.Need-repair-stripes-requires
+repair-stripes-requires : tie.Need-repair_stripes-requires
 repair-stripes-requires c κs =
     let p = (st-at-call c).requires in
     let a = (st-at-call c).args in
@@ -84,8 +84,8 @@ repair-stripes-requires c κs =
       p.17,
     )
 
-pub repair-work-spec : {M : Type 1} → statement M
-repair-work-spec =
+pub repair_work_spec : {M : Type 1} → statement M
+repair_work_spec =
     tie.close
     (tie.spec
     (λ c. omega (arith, few (st-at-rows c)))
@@ -106,5 +106,5 @@ repair-work-spec =
     (λ c. search rules)
     (λ c. omega (arith, (st-at-got c).requires))
     repair-stripes-requires
-    (λ c. c.before.area.given)
+    (λ c. c.before.area-1.given)
     (λ c. search rules))

@@ -7,7 +7,7 @@ use borrow.Author.Rules.{rules}
 use Rattle.sizes.specs.Sizing.{α}
 use Rattle.store_spec.specs.Record.{Record}
 use Rattle.record.specs.Records.{record_of}
-use Rattle.store_step.proofs.Going.{Ready, ready}
+use Rattle.store_lines.proofs.Ready.{Ready, ready}
 use Rattle.store_step.proofs.carry_on.Statement.{statement}
 use Rattle.store_step.proofs.carry_on.Tie as tie
 
@@ -22,26 +22,26 @@ points-long : (g : tie.Start) → length g.args.kept.points ≡ 32
 points-long g = search rules
 
 -- the places
-abbrev st : tie.After-points → tie.Start
+abbrev st : tie.After-points-1 → tie.Start
 st c = c.before.before.before.before.before.before.before
 
-abbrev at_count : tie.After-carry-packets-arg → tie.After-stripe-count
+abbrev at_count : tie.After-carry_packets-arg-1 → tie.After-stripe_count-stripes
 at_count c = c.before.before
 
-abbrev at-end : tie.After-slice-known2 → tie.After-carry-packets
+abbrev at-end : tie.After-slice_known-2-1 → tie.After-carry_packets
 at-end c = c.before.before
 
-carry-packets-requires : tie.Need-carry-packets-requires
+carry-packets-requires : tie.Need-carry_packets-requires
 carry-packets-requires c κs =
     let n = at_count c in
     let g = st n.before in
     let r = asks g in
-    let p = g.pre in
+    let p = g.requires in
     let t : ℕ = length g.args.fresh.now in
-    let e = n.stripe-count.ensures.0 in (
+    let e = n.stripe_count-stripes.ensures.0 in (
       r.stated.is-legal,
       points-long g,
-      r.differ,
+      r.points-taken.differ,
       p.0.listed,
       r.cap-high,
       rw e r.few-stripes,
@@ -54,10 +54,10 @@ returns : tie.Need-returns
 returns c =
     let w = at-end c in
     let n = at_count w.before in
-    w.carry-packets.ensures (R (st n.before)) refl refl refl (sym n.stripe-count.ensures.0)
+    w.carry_packets.ensures (R (st n.before)) refl refl refl (sym n.stripe_count-stripes.ensures.0)
 
-pub carry-on-spec : {M : Type 1} → statement M
-carry-on-spec =
+pub carry_on_spec : {M : Type 1} → statement M
+carry_on_spec =
     tie.close
     (tie.spec
     (λ c κs. (asks (st c)).stated)

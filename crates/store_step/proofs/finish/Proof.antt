@@ -7,11 +7,11 @@ use lib.ListN.{length}
 use borrow.Author.Rules.{rules}
 use Rattle.sizes.specs.Sizing.{α}
 use Rattle.sizes.proofs.Legal.{legal-facts}
-use Rattle.factors.proofs.Values.{below_more}
+use Rattle.lagrange_factors.proofs.Values.{below_more}
 use Rattle.store_spec.specs.Record.{Record, with_marks}
 use Rattle.step_laws.proofs.Facts.{fresh-below}
 use Rattle.record.specs.Records.{record_of}
-use Rattle.store_step.proofs.Going.{Ready, ready}
+use Rattle.store_lines.proofs.Ready.{Ready, ready}
 use Rattle.store_step.proofs.finish.Statement.{statement}
 use Rattle.store_step.proofs.finish.Tie as tie
 
@@ -29,29 +29,29 @@ marks-long : (g : tie.Start) → length g.args.kept.marks ≡ 32
 marks-long g = search rules
 
 -- the places
-abbrev st : tie.After-marks → tie.Start
+abbrev st : tie.After-marks-1 → tie.Start
 st c = c.before.before.before.before.before.before.before.before
 
-abbrev at_count : tie.After-finish-shares-arg → tie.After-stripe-count
+abbrev at_count : tie.After-finish_shares-arg-1 → tie.After-stripe_count-stripes
 at_count c = c.before.before
 
-abbrev at-shares : tie.After-marks2 → tie.After-finish-shares
+abbrev at-shares : tie.After-marks-2-1 → tie.After-finish_shares
 at-shares c = c.before.before.before
 
-abbrev st-marks : tie.After-marks2 → tie.Start
+abbrev st-marks : tie.After-marks-2-1 → tie.Start
 st-marks c = st (at_count (at-shares c).before).before
 
-finish-shares-requires : tie.Need-finish-shares-requires
+finish-shares-requires : tie.Need-finish_shares-requires
 finish-shares-requires c κs =
     let n = at_count c in
     let g = st n.before in
     let r = asks g in
-    let p = g.pre in
+    let p = g.requires in
     let t : ℕ = length g.args.fresh.now in
-    let e = n.stripe-count.ensures.0 in (
+    let e = n.stripe_count-stripes.ensures.0 in (
       r.stated.is-legal,
       points-long g,
-      r.differ,
+      r.points-taken.differ,
       p.listed,
       r.cap-high,
       rw e r.few-stripes,
@@ -59,12 +59,12 @@ finish-shares-requires c κs =
       p.area-is,
     )
 
-marks-on-requires : tie.Need-marks-on-requires
+marks-on-requires : tie.Need-marks_on-requires
 marks-on-requires c κs =
     let g = st-marks c in
     let a = g.args in
     below_more (R g).sizes.n (length (R g).marks) a.fresh.now (omega (arith, marks-long g, (legal-facts _ (asks g).stated.is-legal).few))
-    (fresh-below (R g).sizes a.fresh.now a.helpers.now a.standins.now g.pre.listed)
+    (fresh-below (R g).sizes a.fresh.now a.helpers.now a.standins.now g.requires.listed)
 
 returns : tie.Need-returns
 returns c =
@@ -72,7 +72,7 @@ returns c =
     let w = at-shares m.before in
     let n = at_count w.before in
     let g = st n.before in
-    (ap (with_marks (R g)) m.marks-on.ensures, w.finish-shares.ensures (R g) refl refl refl (sym n.stripe-count.ensures.0))
+    (ap (with_marks (R g)) m.marks_on.ensures, w.finish_shares.ensures (R g) refl refl refl (sym n.stripe_count-stripes.ensures.0))
 
 pub finish_spec : {M : Type 1} → statement M
 finish_spec =

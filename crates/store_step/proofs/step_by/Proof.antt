@@ -6,13 +6,32 @@ use lib.ListN.{length}
 use borrow.Author.Rules.{rules}
 use Rattle.sizes.proofs.Legal.{Legal, legal-facts}
 use Rattle.store_spec.specs.Record.{Record}
-use Rattle.store_spec.specs.Running.{Running, packet_count}
+use Rattle.beside_spec.specs.Running.{Running, packet_count}
 use Rattle.store_spec.proofs.Records.{sound-facts}
 use Rattle.step_laws.proofs.Facts.{few-packets}
 use Rattle.record.specs.Records.{record_of, running_in}
 use Rattle.store_step.proofs.Going.{still-going, goes-on, finishes}
 use Rattle.store_step.proofs.step_by.Statement.{statement}
 use Rattle.store_step.proofs.step_by.Tie as tie
+
+-- places in the code
+abbrev start-of-struct_known-1 : tie.After-struct_known-1 → tie.Start
+start-of-struct_known-1 c = c.before.before.before.before.before.before.before
+
+abbrev start-of-then-allowance-left : tie.Then-allowance-left → tie.Start
+start-of-then-allowance-left c = start-of-struct_known-1 c.before
+
+abbrev start-of-carry_on-arg-2-1 : tie.After-carry_on-arg-2-1 → tie.Start
+start-of-carry_on-arg-2-1 c = start-of-struct_known-1 c.before.before
+
+abbrev start-of-slice_known-then-allowance-left-1 : tie.After-slice_known-then-allowance-left-1 → tie.Start
+start-of-slice_known-then-allowance-left-1 c = start-of-then-allowance-left c.before.before.before.before
+
+abbrev start-of-finish-arg-1 : tie.After-finish-arg-1 → tie.Start
+start-of-finish-arg-1 c = start-of-carry_on-arg-2-1 c.before.before.before.before
+
+abbrev start-of-idle-idle : tie.After-idle-idle → tie.Start
+start-of-idle-idle c = start-of-finish-arg-1 c.before.before.before.before
 
 abbrev R : tie.Start → Record
 R g = record_of g.args.kept
@@ -30,79 +49,49 @@ few g = (few-packets (R g).sizes (facts g) (length g.args.fresh.now) g.requires.
 some_left : (g : tie.Start) → (P g).carried < packet_count (R g).sizes (length g.args.fresh.now)
 some_left g = g.requires.1.some_left
 
--- the places
-abbrev st : tie.After-struct-known → tie.Start
-st c = c.before.before.before.before.before.before.before
-
-abbrev at-then : tie.After-carry-on-arg2 → tie.Then1
-at-then c = c.before.before
-
-abbrev at_carried : tie.After-slice-known3 → tie.After-carry-on
-at_carried c = c.before.before
-
-abbrev then-end : tie.After-slice-known3 → tie.Then1
-then-end c = at-then (at_carried c).before
-
-abbrev at-else : tie.After-carry-on-arg4 → tie.Else1
-at-else c = c.before.before
-
-abbrev at-packets : tie.After-finish-arg2 → tie.After-packets2
-at-packets c = c.before.before.before
-
-abbrev at-finish : tie.After-idle → tie.After-finish
-at-finish c = c.before.before.before
-
 -- what is carried stays within the count
-allowed : (c : tie.Then1) → let g = st c.before in (P g).carried + g.args.allowance ≤ packet_count (R g).sizes (length g.args.fresh.now)
-allowed c = omega (arith, c.if1.true, some_left (st c.before))
+allowed : (c : tie.Then-allowance-left) → (P (start-of-then-allowance-left c)).carried + c.args.allowance ≤ packet_count (R (start-of-then-allowance-left c)).sizes (length c.args.fresh.now)
+allowed c = omega (arith, c.if-allowance-left.true, some_left (start-of-then-allowance-left c))
 
-carry-on-requires : tie.Need-carry-on-requires
-carry-on-requires c κs = ((st (at-then c).before).requires.0, allowed (at-then c))
+carry-on-requires : tie.Need-carry_on-requires
+carry-on-requires c κs = (c.requires.0, allowed c.before)
 
-returns : tie.Need-returns
+returns : tie.Need-returns-then-allowance-left
 returns c =
-    let t = then-end c in
-    let g = st t.before in
-    let a = g.args in
-    goes-on (R g) (P g) a.area.now a.packets.now a.allowance a.fresh.now a.helpers.now a.standins.now g.pre.1 _ t.if1.taken
-    (at_carried c).carry-on.ensures
+    let a = c.args in
+    goes-on (R (start-of-slice_known-then-allowance-left-1 c)) (P (start-of-slice_known-then-allowance-left-1 c)) a.area.now a.packets.now a.allowance a.fresh.now a.helpers.now a.standins.now c.requires.1 _ c.if-allowance-left.true
+    c.carry_on.ensures
 
-carry-on-requires-2 : tie.Need-carry-on-requires-2
-carry-on-requires-2 c κs = let g = st (at-else c).before in (g.pre.0, omega (arith, some_left g))
+carry-on-requires-2 : tie.Need-carry_on-requires-2
+carry-on-requires-2 c κs = (c.requires.0, omega (arith, some_left (start-of-carry_on-arg-2-1 c)))
 
-finish-requires : tie.Need-finish-requires
+finish-requires : tie.Need-finish-last-requires
 finish-requires c κs =
-    let k = at-packets c in
-    let g = st (at-else k.before.before).before in
-    let a = g.args in
-    still-going (R g) a.fresh.now a.helpers.now a.standins.now a.area.now a.packets.now _ g.pre.0 k.packets2.given
+    let a = c.args in
+    still-going (R (start-of-finish-arg-1 c)) a.fresh.now a.helpers.now a.standins.now a.area.now a.packets.now _ c.requires.0 c.packets-2-1.given
 
-returns-2 : tie.Need-returns-2
+returns-2 : tie.Need-returns
 returns-2 c =
-    let f = at-finish c in
-    let k = (at-packets f.before).before in
-    let t = at-else k.before in
-    let g = st t.before in
-    let a = g.args in
-    finishes (R g) (P g) a.area.now a.packets.now a.allowance a.fresh.now a.helpers.now a.standins.now g.pre.1 _ _ _ _
-    (omega (arith, t.if1.left)) k.carry-on2.ensures f.finish.ensures.1 f.finish.ensures.0 c.idle.ensures
+    let a = c.args in
+    finishes (R (start-of-idle-idle c)) (P (start-of-idle-idle c)) a.area.now a.packets.now a.allowance a.fresh.now a.helpers.now a.standins.now c.requires.1 _ _ _ _
+    (omega (arith, c.if-allowance-left.false)) c.carry_on-2.ensures c.finish-last.ensures.1 c.finish-last.ensures.0 c.idle-idle.ensures
 
-pub step-by-spec : {M : Type 1} → statement M
-step-by-spec =
+pub step_by_spec : {M : Type 1} → statement M
+step_by_spec =
     tie.close
     (tie.spec
-    (λ c. let f = facts (st c) in omega (arith, f.enough, f.few))
-    (λ c. let f = facts (st c) in omega (arith, f.some-fresh))
-    (λ c. omega (arith, few (st c)))
-    (λ c. omega (arith, some_left (st c)))
+    (λ c. let f = facts (start-of-struct_known-1 c) in omega (arith, f.enough, f.few))
+    (λ c. let f = facts (start-of-struct_known-1 c) in omega (arith, f.some-fresh))
+    (λ c. omega (arith, few (start-of-struct_known-1 c)))
+    (λ c. omega (arith, some_left (start-of-struct_known-1 c)))
     carry-on-requires
-    (λ c. let t = then-end c in let g = st t.before in omega (arith, allowed t, few g, some_left g))
+    (λ c. omega (arith, allowed c.before.before.before.before, few (start-of-slice_known-then-allowance-left-1 c), some_left (start-of-slice_known-then-allowance-left-1 c)))
     (λ c. search rules)
-    (λ c. c.before.packets.given)
+    (λ c. c.packets-1.given)
     returns
     carry-on-requires-2
     finish-requires
     (λ c κs. search rules)
-    (λ c. c.before.before.area.given)
-    (λ c. (at-packets (at-finish c).before).packets2.given)
+    (λ c. c.area-1.given)
+    (λ c. c.packets-2-1.given)
     returns-2)

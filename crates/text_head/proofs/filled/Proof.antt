@@ -1,7 +1,7 @@
 -- `text_head::filled` meets its contract: the pairs' bytes, and what is left of 32 times 00.
 -- Assumes nothing.
 use mathlib.Core.Path.{◌≡◌, refl, sym, ap, ap₂, ◌∙◌}
-use mathlib.Core.List.{List, [], ◌∷◌, ◌++◌}
+use mathlib.Core.List.{List, ◌++◌}
 use Prim.Native.Nat.{ℕ, ◌+◌, ◌*◌, ◌-◌, ◌≤◌}
 use native.Mathlib.Omega.{arith}
 use lib.ListN.{length, take, drop, replicate, length-replicate}
@@ -33,7 +33,7 @@ returns : tie.Need-returns
 returns c =
     let f = c.before in
     let g = f.before.before.before in
-    whole g.args.text.now g.args.at g.args.n _ _ refl g.requires.0 f.fill-pairs.ensures
+    whole g.args.text.now g.args.at g.args.n _ _ refl g.requires.0 f.fill_pairs.ensures
 
-pub filled-spec : {M : Type 1} → statement M
-filled-spec = tie.close (tie.spec (λ c. search rules) (λ c. search rules) (λ c. search rules) (λ c κs. search rules) returns)
+pub filled_spec : {M : Type 1} → statement M
+filled_spec = tie.close (tie.spec (λ c. search rules) (λ c. search rules) (λ c. search rules) (λ c κs. search rules) returns)

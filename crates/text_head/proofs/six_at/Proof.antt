@@ -1,6 +1,6 @@
 -- `text_head::six_at` meets its contract: each line from behind the last.
 -- Assumes nothing.
-use mathlib.Core.Path.{◌≡◌, refl, sym, ap, ◌∙◌}
+use mathlib.Core.Path.{◌≡◌, ap, ◌∙◌}
 use mathlib.Core.List.{List}
 use Prim.Native.Nat.{ℕ}
 use Rattle.text_in.specs.declared.Told.{Told}
@@ -42,12 +42,12 @@ returns c =
     let c2 = c3.before in
     let c1 = c2.before in
     let a = c1.before.before.args in
-    lines a.text.now a.at c1.number-from.result c2.number-from2.result c3.number-from3.result c4.number-from4.result c5.number-from5.result
-    c.number-from6.result c1.number-from.ensures c2.number-from2.ensures c3.number-from3.ensures c4.number-from4.ensures c5.number-from5.ensures
-    c.number-from6.ensures
+    lines a.text.now a.at c1.number_from-n.result c2.number_from-k.result c3.number_from-d.result c4.number_from-r.result c5.number_from-node.result
+    c.number_from-length.result c1.number_from-n.ensures c2.number_from-k.ensures c3.number_from-d.ensures c4.number_from-r.ensures c5.number_from-node.ensures
+    c.number_from-length.ensures
 
-pub six-at-spec : {M : Type 1} → statement M
-six-at-spec =
+pub six_at_spec : {M : Type 1} → statement M
+six_at_spec =
     tie.close
     (tie.spec
     (λ c κs. search rules)

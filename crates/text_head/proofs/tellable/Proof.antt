@@ -2,13 +2,11 @@
 -- Assumes nothing.
 use mathlib.Core.Path.{◌≡◌, refl, sym, ap, ◌∙◌}
 use mathlib.Core.Bool.{Bool, true, false, not}
-use mathlib.Core.List.{List, [], ◌∷◌}
 use Prim.Native.Nat.{ℕ, ◌-◌, ◌≤◌}
 use native.Mathlib.Omega.{arith}
-use lib.ListN.{length, take, drop}
+use lib.ListN.{length, take}
 use borrow.Author.Tests.{not-true, not-false}
 use Rattle.lists.specs.Tests.{pick}
-use Rattle.sizes.specs.declared.Sizes.{Sizes}
 use Rattle.sizes.proofs.Legal.{legal-facts}
 use Rattle.mbcr.specs.Share.{pointed}
 use Rattle.mbcr.proofs.PointLaws.{pointed-facts}
@@ -17,27 +15,27 @@ use borrow.Author.Rules.{rules}
 use Rattle.text_head.proofs.tellable.Statement.{statement}
 use Rattle.text_head.proofs.tellable.Tie as tie
 
-abbrev st : tie.After-points-taken → tie.Start
+abbrev st : tie.After-points_taken → tie.Start
 st c = c.before.before
 
-returns : tie.Need-returns
-returns c = let e = sym c.before.points-taken.ensures ∙ not-true _ c.if1.true in sym (rw e)
+returns : tie.Need-returns-then-not-points_taken
+returns c = let e = sym c.before.points_taken.ensures ∙ not-true _ (ap not c.if-not-points_taken.true) in sym (rw e)
 
-is-pointed : (c : tie.Else1) → let a = (st c.before).args in pointed a.sizes a.points.now ≡ true
-is-pointed c = sym c.before.points-taken.ensures ∙ not-false _ c.if1.false
+is-pointed : (c : tie.Else-not-points_taken) → let a = (st c.before).args in pointed a.sizes a.points.now ≡ true
+is-pointed c = sym c.before.points_taken.ensures ∙ not-false _ (ap not c.if-not-points_taken.false)
 
 -- there are 32 points
-enough : (c : tie.Else1) → let a = (st c.before).args in a.sizes.n ≤ length a.points.now
+enough : (c : tie.Else-not-points_taken) → let a = (st c.before).args in a.sizes.n ≤ length a.points.now
 enough c =
     let s = st c.before in
-    let few = (legal-facts s.args.sizes s.pre).few in
+    let few = (legal-facts s.args.sizes s.requires).few in
     omega (arith, few, (pointed-facts s.args.sizes s.args.points.now few (is-pointed c)).long)
 
 last : (t : Bool) → t ≡ pick t true false
 last true = refl
 last false = refl
 
-returns-2 : tie.Need-returns-2
+returns-2 : tie.Need-returns
 returns-2 c =
     let e = c.before.before in
     let a = (st e.before).args in
@@ -46,8 +44,8 @@ returns-2 c =
     ∙ last (not (in_order (take a.sizes.n a.points.now)))
     ∙ sym (ap (λ (t : Bool). pick t (pick (not (in_order (take a.sizes.n a.points.now))) true false) false) (is-pointed e))
 
-pub tellable-spec : {M : Type 1} → statement M
-tellable-spec =
+pub tellable_spec : {M : Type 1} → statement M
+tellable_spec =
     tie.close
     (tie.spec
     (λ c κs. search rules)

@@ -10,7 +10,7 @@ use Rattle.text_head.proofs.unsaid.Statement.{statement}
 use Rattle.text_head.proofs.unsaid.Tie as tie
 
 returns : tie.Need-returns
-returns c = ap {B = Pointed} (λ (l : List ℕ). record { ok = true; points = l; next = c.before.args.at }) c.standard-points.ensures
+returns c = ap {B = Pointed} (λ (l : List ℕ). record { ok = true; points = l; next = c.before.args.at }) c.standard_points.ensures
 
-pub unsaid-spec : {M : Type 1} → statement M
-unsaid-spec = tie.close (tie.spec (λ c κs. search rules) returns)
+pub unsaid_spec : {M : Type 1} → statement M
+unsaid_spec = tie.close (tie.spec (λ c κs. search rules) returns)

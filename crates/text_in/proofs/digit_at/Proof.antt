@@ -7,8 +7,8 @@ use borrow.Author.Rules.{rules}
 use Rattle.text_in.proofs.digit_at.Statement.{statement}
 use Rattle.text_in.proofs.digit_at.Tie as tie
 
-returns-2 : tie.Need-returns-2
-returns-2 c = let a = c.before.before.args in ap hexadecimal (sym (get_or-eq_default a.text.now 0 {n = a.at} c.if1.false))
+returns-2 : tie.Need-returns-else-at-text
+returns-2 c = let a = c.before.before.args in ap hexadecimal (sym (get_or-eq_default a.text.now 0 {n = a.at} c.if-at-text.false))
 
-pub digit-at-spec : {M : Type 1} → statement M
-digit-at-spec = tie.close (tie.spec (λ c. search rules) (λ c κs. search rules) (λ c. search rules) returns-2)
+pub digit_at_spec : {M : Type 1} → statement M
+digit_at_spec = tie.close (tie.spec (λ c. search rules) (λ c κs. search rules) (λ c. search rules) returns-2)

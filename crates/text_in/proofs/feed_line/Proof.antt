@@ -15,43 +15,36 @@ use Rattle.text_in.proofs.feed_line.Tie as tie
 other : (x : ℕ) → x ≢ 0 → x ≢ 1 → x ≢ 2 → x ≢ 3 → x ≢ 4 → name_of x ≡ name_of 5
 other x a b c d e = rw (ne_eqb x 0 a, ne_eqb x 1 b, ne_eqb x 2 c, ne_eqb x 3 d, ne_eqb x 4 e)
 
-returns : tie.Need-returns
-returns c = c.feed.ensures ∙ (rw c.before.before.match.keys1)
+returns : tie.Need-returns-in-0
+returns c = c.feed.ensures ∙ (rw c.in-0.is)
 
-returns-2 : tie.Need-returns-2
-returns-2 c = c.feed2.ensures ∙ (rw c.before.before.match.keys2)
+returns-2 : tie.Need-returns-in-1
+returns-2 c = c.feed-in-1.ensures ∙ (rw c.in-1.is)
 
-returns-3 : tie.Need-returns-3
-returns-3 c = c.feed3.ensures ∙ (rw c.before.before.match.keys3)
+returns-3 : tie.Need-returns-in-2
+returns-3 c = c.feed-in-2.ensures ∙ (rw c.in-2.is)
 
-returns-4 : tie.Need-returns-4
-returns-4 c = c.feed4.ensures ∙ (rw c.before.before.match.keys4)
+returns-4 : tie.Need-returns-in-3
+returns-4 c = c.feed-in-3.ensures ∙ (rw c.in-3.is)
 
-returns-5 : tie.Need-returns-5
-returns-5 c = c.feed5.ensures ∙ (rw c.before.before.match.keys5)
+returns-5 : tie.Need-returns-in-4
+returns-5 c = c.feed-in-4.ensures ∙ (rw c.in-4.is)
 
-returns-6 : tie.Need-returns-6
+returns-6 : tie.Need-returns-in_default
 returns-6 c =
-    let at = c.before.before in
-    let a = at.before.args in
-    let r = at.match.rest in
-    c.feed6.ensures ∙ ap (λ (l : List ℕ). steps.fed l most a.line a.b) (sym (other _ r.0.0.0.0.1 r.0.0.0.1 r.0.0.1 r.0.1 r.1))
+    let a = c.args in
+    let r = c.in_default.in_default-own.rest in
+    c.feed-in_default.ensures ∙ ap (λ (l : List ℕ). steps.fed l most a.line a.b) (sym (other _ r.0.0.0.0.1 r.0.0.0.1 r.0.0.1 r.0.1 r.1))
 
-pub feed-line-spec : {M : Type 1} → statement M
-feed-line-spec =
+pub feed_line_spec : {M : Type 1} → statement M
+feed_line_spec =
     tie.close
     (tie.spec
-    (λ c. search rules)
     (λ c κs. search rules)
-    (λ c. search rules)
     (λ c κs. search rules)
-    (λ c. search rules)
     (λ c κs. search rules)
-    (λ c. search rules)
     (λ c κs. search rules)
-    (λ c. search rules)
     (λ c κs. search rules)
-    (λ c. search rules)
     (λ c κs. search rules)
     returns
     returns-2

@@ -1,11 +1,11 @@
 -- `text_in::pairs_at` meets its contract. The loop's invariant: the pairs that are left, from the place reached on, give what all of them give.
 -- Assumes nothing.
 use mathlib.Core.Path.{◌≡◌, refl, sym, ap, ◌∙◌}
-use mathlib.Core.Bool.{true, false}
+use mathlib.Core.Bool.{true, not}
 use mathlib.Core.List.{List}
-use Prim.Native.Nat.{ℕ, ◌+◌, ◌*◌, ◌-◌, ◌≤◌, ◌<◌}
+use Prim.Native.Nat.{ℕ, ◌+◌, ◌*◌, ◌-◌, ◌≤◌}
 use native.Mathlib.Omega.{arith}
-use lib.ListN.{length, get_or, drop}
+use lib.ListN.{get_or, drop}
 use borrow.Author.Tests.{not-true, not-false}
 use Rattle.point_lines.specs.Lines.{hexadecimal, read_pairs}
 use Rattle.text_in.specs.declared.Told.{Told}
@@ -22,116 +22,85 @@ told at count = record { ok = true; value = at; next = at + 2 * count + 1 }
 abbrev reading : List ℕ → ℕ → ℕ → ℕ → ℕ → Told
 reading text at count i left = read_pairs (lost text) left (drop i text) (λ xs rest. told at count)
 
-abbrev invariant-loop : tie.invariant-loop
+abbrev invariant-loop : tie.invariant-loop-left
 invariant-loop text at count i₀ left₀ i left = (left ≤ count) × (i ≡ at + 2 * (count - left)) × (reading text at count i left ≡ reading text at count at count)
 
-abbrev decreases-loop : tie.decreases-loop
+abbrev decreases-loop : tie.decreases-loop-left
 decreases-loop text at count i₀ left₀ i left = left
 
-abbrev st : tie.At-loop invariant-loop decreases-loop → tie.Start invariant-loop decreases-loop
-st c = c.before.before
-
-abbrev turn-at-else1 : tie.Else1 invariant-loop decreases-loop → tie.In-loop invariant-loop decreases-loop
-turn-at-else1 c = c.before.before
-
-abbrev loop-at-else1 : tie.Else1 invariant-loop decreases-loop → tie.At-loop invariant-loop decreases-loop
-loop-at-else1 c = (turn-at-else1 c).before
-
 -- the two digits
-high : (c : tie.Else1 invariant-loop decreases-loop) → let l = loop-at-else1 c in hexadecimal (get_or (st l).args.text.now l.loop.i 0) ≡ true
-high c = sym c.before.digit_at.ensures ∙ not-false _ c.if1.false
+high : (c : tie.Else-not-digit_at invariant-loop decreases-loop) → hexadecimal (get_or c.args.text.now c.loop-left.i 0) ≡ true
+high c = sym c.digit_at.ensures ∙ not-false _ (ap not c.if-not-digit_at.false)
 
-abbrev else1-at-else2 : tie.Else2 invariant-loop decreases-loop → tie.Else1 invariant-loop decreases-loop
-else1-at-else2 c = c.before.before
+low : (c : tie.Else-not-digit_at-2 invariant-loop decreases-loop) → hexadecimal (get_or c.args.text.now (c.loop-left.i + 1) 0) ≡ true
+low c = sym c.digit_at-in-loop-left.ensures ∙ not-false _ (ap not c.if-not-digit_at-2.false)
 
-low : (c : tie.Else2 invariant-loop decreases-loop) → let l = loop-at-else1 (else1-at-else2 c) in hexadecimal (get_or (st l).args.text.now (l.loop.i + 1) 0) ≡ true
-low c = sym c.before.digit-at2.ensures ∙ not-false _ c.if2.false
-
-loop-holds : tie.Need-loop-init invariant-loop decreases-loop
+loop-holds : tie.Need-loop-left-init invariant-loop decreases-loop
 loop-holds c = (omega arith, omega arith, refl)
 
-returns : tie.Need-returns invariant-loop decreases-loop
+returns : tie.Need-returns-then-not-digit_at invariant-loop decreases-loop
 unfolding pairs_at
 returns c =
-    let d = c.before.before in
-    let l = d.before.before in
-    let a = (st l).args in
+    let a = c.args in
     c.lost.ensures
-    ∙ sym (high-none (lost a.text.now) a.text.now l.loop.i l.loop.left (told a.at a.count)
-    d.before.loop-test.true (sym d.digit_at.ensures ∙ not-true _ c.before.if1.true))
-    ∙ l.loop.invariant.2
+    ∙ sym (high-none (lost a.text.now) a.text.now c.loop-left.i c.loop-left.left (told a.at a.count)
+    c.loop-left-test.true (sym c.digit_at.ensures ∙ not-true _ (ap not c.if-not-digit_at.true)))
+    ∙ c.loop-left.invariant.2
 
-add-digit-at : tie.Need-overflow-add-digit-at invariant-loop decreases-loop
+add-digit-at : tie.Need-overflow_add-i invariant-loop decreases-loop
 add-digit-at c =
-    let l = loop-at-else1 c in
-    let a = st l in
-    record { fits = omega (arith, digit-within a.args.text.now l.loop.i (high c)) }
+    record { fits = omega (arith, digit-within c.args.text.now c.loop-left.i (high c)) }
 
-returns-2 : tie.Need-returns-2 invariant-loop decreases-loop
+returns-2 : tie.Need-returns-then-not-digit_at-2 invariant-loop decreases-loop
 unfolding pairs_at
 returns-2 c =
-    let d = c.before.before in
-    let e = d.before in
-    let l = loop-at-else1 e in
-    let a = (st l).args in
-    c.lost2.ensures
-    ∙ sym (low-none (lost a.text.now) a.text.now l.loop.i l.loop.left (told a.at a.count)
-    (turn-at-else1 e).loop-test.true (high e) (sym d.digit-at2.ensures ∙ not-true _ c.before.if2.true))
-    ∙ l.loop.inv.2
+    let a = c.args in
+    c.lost-then-not-digit_at-2.ensures
+    ∙ sym (low-none (lost a.text.now) a.text.now c.loop-left.i c.loop-left.left (told a.at a.count)
+    c.loop-left-test.true (high c.before.before.before) (sym c.digit_at-in-loop-left.ensures ∙ not-true _ (ap not c.if-not-digit_at-2.true)))
+    ∙ c.loop-left.invariant.2
 
-add-i : tie.Need-overflow-add-i invariant-loop decreases-loop
+add-i : tie.Need-overflow_add-i-in-loop-left invariant-loop decreases-loop
 add-i c =
-    let l = loop-at-else1 (else1-at-else2 c) in
-    record { fits = omega (arith, digit-within (st l).args.text.now (l.loop.i + 1) (low c)) }
+    record { fits = omega (arith, digit-within c.args.text.now (c.loop-left.i + 1) (low c)) }
 
-loop-again : tie.Need-loop-preserved invariant-loop decreases-loop
+loop-again : tie.Need-loop-left-preserved invariant-loop decreases-loop
 loop-again c =
-    let e = else1-at-else2 c in
-    let l = loop-at-else1 e in
-    let a = (st l).args in
-    let t = (turn-at-else1 e).loop-test.taken in (
-      omega (arith, l.loop.inv.0),
-      omega (arith, l.loop.inv.0, l.loop.inv.1, t),
-      pair-more (lost a.text.now) a.text.now l.loop.i l.loop.left (told a.at a.count) t (high e) (low c) ∙ l.loop.inv.2,
+    let a = c.args in
+    let t = c.loop-left-test.true in (
+      omega (arith, c.loop-left.invariant.0),
+      omega (arith, c.loop-left.invariant.0, c.loop-left.invariant.1, t),
+      pair-more (lost a.text.now) a.text.now c.loop-left.i c.loop-left.left (told a.at a.count) t (high c.before.before) (low c) ∙ c.loop-left.invariant.2,
     )
 
 -- behind the last pair
-none_left : (c : tie.After-loop invariant-loop decreases-loop) → let l = c.before in let a = (st l).args in reading a.text.now a.at a.count l.loop.i 0 ≡ pairs_at a.text.now a.at a.count
+none_left : (c : tie.After-loop-left invariant-loop decreases-loop) → let a = c.args in reading a.text.now a.at a.count c.loop-left.i 0 ≡ pairs_at a.text.now a.at a.count
 unfolding pairs_at
 none_left c =
-    let l = c.before in
-    let a = (st l).args in
-    let z : 0 ≡ l.loop.left = omega (arith, c.loop-test.false) in
-    ap (λ (m : ℕ). reading a.text.now a.at a.count l.loop.i m) z ∙ l.loop.invariant.2
+    let a = c.args in
+    let z : 0 ≡ c.loop-left.left = omega (arith, c.loop-left-test.false) in
+    ap (λ (m : ℕ). reading a.text.now a.at a.count c.loop-left.i m) z ∙ c.loop-left.invariant.2
 
-returns-3 : tie.Need-returns-3 invariant-loop decreases-loop
+returns-3 : tie.Need-returns-then-text-i invariant-loop decreases-loop
 returns-3 c =
-    let k = c.before.before in
-    let l = k.before in
-    let a = (st l).args in
-    c.lost3.ensures ∙ sym (end-past (lost a.text.now) a.text.now l.loop.i (told a.at a.count) c.before.if3.true) ∙ none_left k
+    let a = c.args in
+    c.lost-then-text-i.ensures ∙ sym (end-past (lost a.text.now) a.text.now c.loop-left.i (told a.at a.count) c.if-text-i.true) ∙ none_left c.before.before
 
-returns-4 : tie.Need-returns-4 invariant-loop decreases-loop
+returns-4 : tie.Need-returns-then-text-i-ne10 invariant-loop decreases-loop
 returns-4 c =
-    let e = c.before.before.before in
-    let k = e.before in
-    let l = k.before in
-    let a = (st l).args in
-    c.lost4.ensures
-    ∙ sym (end-other (lost a.text.now) a.text.now l.loop.i (told a.at a.count) e.if3.false c.before.if4.true) ∙ none_left k
+    let a = c.args in
+    c.lost-then-text-i-ne10.ensures
+    ∙ sym (end-other (lost a.text.now) a.text.now c.loop-left.i (told a.at a.count) c.if-text-i.false c.if-text-i-ne10.true) ∙ none_left c.before.before.before.before
 
-returns-5 : tie.Need-returns-5 invariant-loop decreases-loop
+returns-5 : tie.Need-returns invariant-loop decreases-loop
 returns-5 c =
-    let e = c.before.before in
-    let k = e.before in
-    let l = k.before in
-    let a = (st l).args in
-    let place : l.loop.i + 1 ≡ a.at + 2 * a.count + 1 = omega (arith, l.loop.invariant.1, k.loop-test.false) in
+    let a = c.args in
+    let place : c.loop-left.i + 1 ≡ a.at + 2 * a.count + 1 = omega (arith, c.loop-left.invariant.1, c.loop-left-test.false) in
     ap (λ (n : ℕ). record { ok = true; value = a.at; next = n }) place
-    ∙ sym (end-there (lost a.text.now) a.text.now l.loop.i (told a.at a.count) e.if3.false c.if4.false) ∙ none_left k
+    ∙ sym (end-there (lost a.text.now) a.text.now c.loop-left.i (told a.at a.count) c.if-text-i.false c.if-text-i-ne10.false) ∙ none_left c.before.before.before
 
-pub pairs-at-spec : {M : Type 1} → statement M
-pairs-at-spec =
+pub pairs_at_spec : {M : Type 1} → statement M
+pairs_at_spec =
     tie.close
     (tie.spec
     invariant-loop

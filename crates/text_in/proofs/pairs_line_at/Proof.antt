@@ -16,34 +16,25 @@ behind : (text : List ℕ) (at count : ℕ) (name name' : List ℕ) (t r : Told)
 behind text at count name name' t r p n e =
     p ∙ ap (λ (t : Told). pairs_at text t.next count) n ∙ ap (λ (l : List ℕ). pairs_at text (name_at text at l).next count) (sym e)
 
--- the places
-abbrev then1-at-pairs-at : tie.After-pairs-at → tie.Then1
-then1-at-pairs-at c = c.before.before.before
-
-returns : tie.Need-returns
+returns : tie.Need-returns-then-which-eq0
 returns c =
-    let a = (then1-at-pairs-at c).before.before.args in
-    behind a.text.now a.at a.count _ _ c.before.name-at.result c.pairs-at.result c.pairs-at.ensures c.before.name-at.ensures
-    (if-eq a.which 0 _ _ (then1-at-pairs-at c).if1.true)
+    let a = c.args in
+    behind a.text.now a.at a.count _ _ c.name_at-points.result c.pairs_at.result c.pairs_at.ensures c.name_at-points.ensures
+    (if-eq a.which 0 _ _ c.if-which-eq0.true)
 
-abbrev else1-at-pairs-at2 : tie.After-pairs-at2 → tie.Else1
-else1-at-pairs-at2 c = c.before.before.before
-
-returns-2 : tie.Need-returns-2
+returns-2 : tie.Need-returns
 returns-2 c =
-    let a = (else1-at-pairs-at2 c).before.before.args in
-    behind a.text.now a.at a.count _ _ c.before.name-at2.result c.pairs-at2.result c.pairs-at2.ensures c.before.name-at2.ensures
-    (if-ne a.which 0 _ _ (else1-at-pairs-at2 c).if1.false)
+    let a = c.args in
+    behind a.text.now a.at a.count _ _ c.name_at-data.result c.pairs_at-2.result c.pairs_at-2.ensures c.name_at-data.ensures
+    (if-ne a.which 0 _ _ c.if-which-eq0.false)
 
-pub pairs-line-at-spec : {M : Type 1} → statement M
-pairs-line-at-spec =
+pub pairs_line_at_spec : {M : Type 1} → statement M
+pairs_line_at_spec =
     tie.close
     (tie.spec
-    (λ c. search rules)
     (λ c κs. search rules)
     (λ c κs. search rules)
     returns
-    (λ c. search rules)
     (λ c κs. search rules)
     (λ c κs. search rules)
     returns-2)

@@ -11,39 +11,25 @@ use borrow.Author.Rules.{rules}
 use Rattle.text_lines.proofs.put_line.Statement.{statement}
 use Rattle.text_lines.proofs.put_line.Tie as tie
 
--- the places
-abbrev st : tie.After-slice-known2 → tie.Start
-st c = c.before.before.before.before.before.before
-
-abbrev at-equals : tie.After-put-decimal → tie.After-slice-known2
-at-equals c = c.before.before
-
-abbrev at-end : tie.After-slice-known3 → tie.After-put-decimal
-at-end c = c.before.before
-
-abbrev st-end : tie.After-slice-known3 → tie.Start
-st-end c = st (at-equals (at-end c))
-
 -- the name, the equals sign and the decimal
-front : (c : tie.After-put-decimal)
-    → let a = (st (at-equals c)).args in Wrote a.out.now a.at (a.name.now ++ (0x3D ∷ []) ++ decimal a.x) c.put-decimal.new.1.1.0 c.put-decimal.result
+front : (c : tie.After-put_decimal-end)
+    → let a = c.args in Wrote a.out.now a.at (a.name.now ++ (0x3D ∷ []) ++ decimal a.x) c.put_decimal-end.new.out c.put_decimal-end.result
 front c =
-    let k = at-equals c in
-    let a = (st k).args in
-    line-front _ _ a.name.now (decimal a.x) (st k).pre k.before.before.put-bytes.ensures c.put-decimal.ensures
+    let a = c.args in
+    line-front _ _ a.name.now (decimal a.x) c.requires c.put_bytes-equals.ensures c.put_decimal-end.ensures
 
 returns : tie.Need-returns
-returns c = let g = st-end c in line _ _ g.args.name.now (decimal g.args.x) g.pre (front (at-end c))
+returns c = line _ _ c.args.name.now (decimal c.args.x) c.requires (front c.before.before)
 
-pub put-line-spec : {M : Type 1} → statement M
-put-line-spec =
+pub put_line_spec : {M : Type 1} → statement M
+put_line_spec =
     tie.close
     (tie.spec
-    (λ c κs. let a = c.before.before.before.args in omega (arith, length-line a.name.now (decimal a.x)))
-    (λ c. let a = (st c).args in omega (arith, length-line a.name.now (decimal a.x)))
+    (λ c κs. let a = c.args in omega (arith, length-line a.name.now (decimal a.x)))
+    (λ c. let a = c.args in omega (arith, length-line a.name.now (decimal a.x)))
     (λ c. search rules)
-    (λ c κs. let a = (st c.before).args in simp length-set (omega (arith, length-line a.name.now (decimal a.x))))
-    (λ c. let g = st-end c in line-room _ _ g.args.name.now (decimal g.args.x) g.pre (front (at-end c)))
-    (λ c. let w = returns c in omega (arith, w.ends, (st-end c).requires))
-    (λ c. same-room (returns c) (st-end c).requires)
+    (λ c κs. let a = c.args in simp length-set (omega (arith, length-line a.name.now (decimal a.x))))
+    (λ c. line-room _ _ c.args.name.now (decimal c.args.x) c.requires (front c.before.before))
+    (λ c. let w = returns c in omega (arith, w.ends, c.requires))
+    (λ c. same-room (returns c) c.requires)
     returns)

@@ -12,39 +12,25 @@ use borrow.Author.Rules.{rules}
 use Rattle.text_lines.proofs.put_pairs_line.Statement.{statement}
 use Rattle.text_lines.proofs.put_pairs_line.Tie as tie
 
--- the places
-abbrev st : tie.After-slice-known2 → tie.Start
-st c = c.before.before.before.before.before.before.before
-
-abbrev at-equals : tie.After-put-pairs → tie.After-slice-known2
-at-equals c = c.before.before
-
-abbrev at-end : tie.After-slice-known3 → tie.After-put-pairs
-at-end c = c.before.before
-
-abbrev st-end : tie.After-slice-known3 → tie.Start
-st-end c = st (at-equals (at-end c))
-
 -- the name, the equals sign and the pairs
-front : (c : tie.After-put-pairs)
-    → let a = (st (at-equals c)).args in Wrote a.out.now a.at (a.name.now ++ (0x3D ∷ []) ++ joined hex_pair a.bytes.now) c.put-pairs.new.1.1.0 c.put-pairs.result
+front : (c : tie.After-put_pairs-end)
+    → let a = c.args in Wrote a.out.now a.at (a.name.now ++ (0x3D ∷ []) ++ joined hex_pair a.bytes.now) c.put_pairs-end.new.out c.put_pairs-end.result
 front c =
-    let k = at-equals c in
-    let a = (st k).args in
-    line-front _ _ a.name.now (joined hex_pair a.bytes.now) (st k).pre k.before.before.put-bytes.ensures c.put-pairs.ensures
+    let a = c.args in
+    line-front _ _ a.name.now (joined hex_pair a.bytes.now) c.requires c.put_bytes-equals.ensures c.put_pairs-end.ensures
 
 returns : tie.Need-returns
-returns c = let g = st-end c in line _ _ g.args.name.now (joined hex_pair g.args.bytes.now) g.pre (front (at-end c))
+returns c = line _ _ c.args.name.now (joined hex_pair c.args.bytes.now) c.requires (front c.before.before)
 
-pub put-pairs-line-spec : {M : Type 1} → statement M
-put-pairs-line-spec =
+pub put_pairs_line_spec : {M : Type 1} → statement M
+put_pairs_line_spec =
     tie.close
     (tie.spec
-    (λ c κs. let a = c.before.before.before.before.args in omega (arith, length-line a.name.now (joined hex_pair a.bytes.now)))
-    (λ c. let a = (st c).args in omega (arith, length-line a.name.now (joined hex_pair a.bytes.now)))
+    (λ c κs. let a = c.args in omega (arith, length-line a.name.now (joined hex_pair a.bytes.now)))
+    (λ c. let a = c.args in omega (arith, length-line a.name.now (joined hex_pair a.bytes.now)))
     (λ c. search rules)
-    (λ c κs. let a = (st c.before).args in simp length-set (omega (arith, length-line a.name.now (joined hex_pair a.bytes.now))))
-    (λ c. let g = st-end c in line-room _ _ g.args.name.now (joined hex_pair g.args.bytes.now) g.pre (front (at-end c)))
-    (λ c. let w = returns c in omega (arith, w.ends, (st-end c).requires))
-    (λ c. same-room (returns c) (st-end c).requires)
+    (λ c κs. let a = c.args in simp length-set (omega (arith, length-line a.name.now (joined hex_pair a.bytes.now))))
+    (λ c. line-room _ _ c.args.name.now (joined hex_pair c.args.bytes.now) c.requires (front c.before.before))
+    (λ c. let w = returns c in omega (arith, w.ends, c.requires))
+    (λ c. same-room (returns c) c.requires)
     returns)

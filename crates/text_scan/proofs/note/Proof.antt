@@ -6,8 +6,8 @@ use borrow.Author.Rules.{rules}
 use Rattle.text_scan.proofs.note.Statement.{statement}
 use Rattle.text_scan.proofs.note.Tie as tie
 
-returns-2 : tie.Need-returns-2
-returns-2 c = sym (set_out _ _ _ c.if1.false)
+returns-2 : tie.Need-returns-else-at-list
+returns-2 c = sym (set_out _ _ _ c.if-at-list.false)
 
-pub note-spec : {M : Type 1} → statement M
-note-spec = tie.close (tie.spec (λ c. search rules) (λ c. search rules) (λ c. search rules) (λ c. search rules) returns-2)
+pub note_spec : {M : Type 1} → statement M
+note_spec = tie.close (tie.spec (λ c. search rules) (λ c. search rules) (λ c. search rules) (λ c. search rules) returns-2)

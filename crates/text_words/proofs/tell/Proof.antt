@@ -8,45 +8,35 @@ use Rattle.text_words.proofs.Told.{done-picks, refused-picks, six-set, all-point
 use Rattle.text_words.proofs.tell.Statement.{statement}
 use Rattle.text_words.proofs.tell.Tie as tie
 
--- the places
-abbrev at_row : tie.After-slice-known3 → tie.After-row-at
-at_row c = c.before.before.before.before
-
-abbrev at_told : tie.After-row-at → tie.After-enum-told
-at_told c = c.before.before.before
-
-abbrev st : tie.After-word-of → tie.Start
-st c = c.before.before.before
+-- places in the code
+abbrev xs-in-done-1-of-slice_known-in-done-1 : tie.After-slice_known-in-Done-1 → tie.After-xs-in-Done-1
+xs-in-done-1-of-slice_known-in-done-1 c = c.before.before.before.before.before
 
 -- the points are 32
-all_are : tie.Need-slice-aggregate-row-at
+all_are : tie.Need-slice_bounds-row_at-end
 all_are c = search rules
 
-done : tie.Need-returns
+done : tie.Need-returns-in-Done
 done c =
-    let r = at_row c in
-    let k = at_told r in
-    let w = k.before.before in
-    let a = (st w).args in
-    let e = k.enum_told.given.1 in (
-      w.word_of.ensures,
-      six-set a.head.now _ _ _ _ _ _ (st w).pre.0 ∙ done-picks a.read.answer _ _ a.head.now e,
-      c.before.before.put-row.ensures ∙ all-points a.read.points _ (sym (all_are r.before)) r.row_at.ensures
+    let a = c.args in
+    let e = c.in-Done.is in (
+      c.word_of-word.ensures,
+      six-set a.head.now _ _ _ _ _ _ c.requires.0 ∙ done-picks a.read.answer _ _ a.head.now e,
+      c.put_row.ensures ∙ all-points a.read.points _ (sym (all_are (xs-in-done-1-of-slice_known-in-done-1 c))) c.row_at-row.ensures
           ∙ done-picks a.read.answer _ _ a.points.now e,
     )
 
-refused : tie.Need-returns-2
+refused : tie.Need-returns-in_default
 refused c =
-    let w = c.before.before in
-    let a = (st w).args in
-    let e = c.enum-told2.given.1 in (
-      w.word_of.ensures,
+    let a = c.args in
+    let e = c.in_default.is in (
+      c.word_of-word.ensures,
       refused-picks a.read.answer _ _ a.head.now e,
       refused-picks a.read.answer _ _ a.points.now e,
     )
 
-pub tell-spec : {M : Type 1} → statement M
-tell-spec =
+pub tell_spec : {M : Type 1} → statement M
+tell_spec =
     tie.close
     (tie.spec
     (λ c κs. search rules)

@@ -22,6 +22,19 @@ record Small (n k d r node total : ℕ) : Type 0 where
   for-node : length (decimal node) ≤ 33
   for-length : length (decimal total) ≤ 4063233
 
+-- places in the code
+abbrev start-of-decimal_len-4 : tie.After-decimal_len-4 → tie.Start
+start-of-decimal_len-4 c = c.before.before.before.before.before
+
+abbrev start-of-points_len-line : tie.After-points_len-line → tie.Start
+start-of-points_len-line c = start-of-decimal_len-4 c.before
+
+abbrev start-of-decimal_len-5 : tie.After-decimal_len-5 → tie.Start
+start-of-decimal_len-5 c = start-of-points_len-line c.before
+
+abbrev start-of-decimal_len-6 : tie.After-decimal_len-6 → tie.Start
+start-of-decimal_len-6 c = start-of-decimal_len-5 c.before
+
 small : (c : tie.Start) → let a = c.args in Small a.sizes.n a.sizes.k a.sizes.d a.sizes.r a.node a.total
 small c =
     let a = c.args in
@@ -35,25 +48,6 @@ small c =
       for-length = omega (arith, decimal-most a.total);
     }
 
--- where the call began
-abbrev st-at-decimal-len2 : tie.After-decimal-len2 → tie.Start
-st-at-decimal-len2 c = c.before.before.before
-
-abbrev st : tie.After-decimal-len4 → tie.Start
-st c = st-at-decimal-len2 c.before.before
-
-abbrev st-points : tie.After-points-len → tie.Start
-st-points c = let at = c.before.before in st at
-
-abbrev st-node : tie.After-decimal-len5 → tie.Start
-st-node c = st-points c.before
-
-abbrev points-len-at-decimal-len6 : tie.After-decimal-len6 → tie.After-points-len
-points-len-at-decimal-len6 c = c.before.before
-
-abbrev st-length : tie.After-decimal-len6 → tie.Start
-st-length c = st-points (points-len-at-decimal-len6 c)
-
 -- the points of n boards
 lent : (c : tie.Start) → length (take c.args.sizes.n c.args.points.now) ≡ c.args.sizes.n
 lent c = length-take-le _ _ c.requires.has-points
@@ -62,37 +56,36 @@ few : (c : tie.Start) → c.args.sizes.n ≤ 32
 few c = (legal-facts c.args.sizes c.requires.is-legal).few
 
 -- the length of the points' line
-line : (c : tie.After-points-len) → let a = (st-points c).args in (c.points-len.result ≡ length (points_line a.sizes a.points.now)) × (c.points-len.result ≤ 72)
+line : (c : tie.After-points_len-line) → let a = c.args in (c.points_len-line.result ≡ length (points_line a.sizes a.points.now)) × (c.points_len-line.result ≤ 72)
 line c =
-    let g = st-points c in
-    let e = c.points-len.ensures ∙ ap length (sym (points-line g.args.sizes g.args.points.now g.pre.has-points)) in
-    (e, omega (arith, c.points-len.ensures, said-most (take g.args.sizes.n g.args.points.now), lent g, few g))
+    let e = c.points_len-line.ensures ∙ ap length (sym (points-line c.args.sizes c.args.points.now c.requires.has-points)) in
+    (e, omega (arith, c.points_len-line.ensures, said-most (take c.args.sizes.n c.args.points.now), lent (start-of-points_len-line c), few (start-of-points_len-line c)))
 
 returns : tie.Need-returns
 returns c share e =
-    let a = (st-length c).args in
-    let l = (line (points-len-at-decimal-len6 c)).0 in
+    let a = c.args in
+    let l = (line c.before.before).0 in
     omega (arith, length-text a.sizes a.points.now a.total a.node share)
 
-pub text-len-spec : {M : Type 1} → statement M
-text-len-spec =
+pub text_len_spec : {M : Type 1} → statement M
+text_len_spec =
     tie.close
     (tie.spec
     (λ c κs. search rules)
     (λ c κs. search rules)
-    (λ c. let s = small (st-at-decimal-len2 c) in omega arith)
+    (λ c. let s = small c.before.before.before in omega arith)
     (λ c κs. search rules)
-    (λ c. let s = small (st-at-decimal-len2 c.before) in omega arith)
+    (λ c. let s = small c.before.before.before.before in omega arith)
     (λ c κs. search rules)
-    (λ c. let s = small (st c) in omega arith)
-    (λ c. sym (lent (st c.before)))
-    (λ c κs. let g = st c.before in omega (arith, lent g, few g))
-    (λ c. let s = small (st-points c) in omega arith)
+    (λ c. let s = small (start-of-decimal_len-4 c) in omega arith)
+    (λ c. sym (lent (start-of-decimal_len-4 c)))
+    (λ c κs. omega (arith, lent (start-of-decimal_len-4 c), few (start-of-decimal_len-4 c)))
+    (λ c. let s = small (start-of-points_len-line c) in omega arith)
     (λ c κs. search rules)
-    (λ c. let s = small (st-node c) in omega arith)
+    (λ c. let s = small (start-of-decimal_len-5 c) in omega arith)
     (λ c κs. search rules)
-    (λ c. let s = small (st-length c) in omega arith)
-    (λ c. let s = small (st-length c) in let l = (line (points-len-at-decimal-len6 c)).1 in omega arith)
+    (λ c. let s = small (start-of-decimal_len-6 c) in omega arith)
+    (λ c. let s = small (start-of-decimal_len-6 c) in let l = (line c.before.before).1 in omega arith)
     (λ c. search rules)
-    (λ c. let s = small (st-length c) in let l = (line (points-len-at-decimal-len6 c)).1 in omega arith)
+    (λ c. let s = small (start-of-decimal_len-6 c) in let l = (line c.before.before).1 in omega arith)
     returns)

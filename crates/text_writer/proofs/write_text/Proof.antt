@@ -14,87 +14,112 @@ use borrow.Author.Rules.{rules}
 use Rattle.text_writer.proofs.write_text.Statement.{statement}
 use Rattle.text_writer.proofs.write_text.Tie as tie
 
+-- places in the code
+abbrev put_line-board-of-put_line-arg-15-1 : tie.After-put_line-arg-15-1 → tie.After-put_line-board
+put_line-board-of-put_line-arg-15-1 c = c.before.before.before.before.before
+
+abbrev put_line-d-of-put_line-arg-9-1 : tie.After-put_line-arg-9-1 → tie.After-put_line-d
+put_line-d-of-put_line-arg-9-1 c = c.before.before.before.before.before
+
+abbrev put_line-k-of-put_line-arg-6-1 : tie.After-put_line-arg-6-1 → tie.After-put_line-k
+put_line-k-of-put_line-arg-6-1 c = c.before.before.before.before.before
+
+abbrev put_line-length-of-put_line-arg-18-1 : tie.After-put_line-arg-18-1 → tie.After-put_line-length
+put_line-length-of-put_line-arg-18-1 c = c.before.before.before.before.before
+
+abbrev put_line-r-of-put_line-arg-12-1 : tie.After-put_line-arg-12-1 → tie.After-put_line-r
+put_line-r-of-put_line-arg-12-1 c = c.before.before.before.before.before
+
+abbrev put_points-data-of-put_pairs_line-arg-3-1 : tie.After-put_pairs_line-arg-3-1 → tie.After-put_points-data
+put_points-data-of-put_pairs_line-arg-3-1 c = c.before.before.before.before.before
+
+abbrev put_line-board-of-put_line-length : tie.After-put_line-length → tie.After-put_line-board
+put_line-board-of-put_line-length c = put_line-board-of-put_line-arg-15-1 c.before
+
+abbrev put_line-d-of-put_line-r : tie.After-put_line-r → tie.After-put_line-d
+put_line-d-of-put_line-r c = put_line-d-of-put_line-arg-9-1 c.before
+
+abbrev put_line-k-of-put_line-d : tie.After-put_line-d → tie.After-put_line-k
+put_line-k-of-put_line-d c = put_line-k-of-put_line-arg-6-1 c.before
+
+abbrev put_line-length-of-put_line-places : tie.After-put_line-places → tie.After-put_line-length
+put_line-length-of-put_line-places c = put_line-length-of-put_line-arg-18-1 c.before
+
+abbrev put_line-r-of-put_line-board : tie.After-put_line-board → tie.After-put_line-r
+put_line-r-of-put_line-board c = put_line-r-of-put_line-arg-12-1 c.before
+
+abbrev put_points-data-of-put_pairs_line : tie.After-put_pairs_line → tie.After-put_points-data
+put_points-data-of-put_pairs_line c = put_points-data-of-put_pairs_line-arg-3-1 c.before
+
+abbrev start-of-put_line-arg-3-1 : tie.After-put_line-arg-3-1 → tie.Start
+start-of-put_line-arg-3-1 c = c.before.before.before.before.before.before
+
+abbrev start-of-put_line-arg-6-1 : tie.After-put_line-arg-6-1 → tie.Start
+start-of-put_line-arg-6-1 c = start-of-put_line-arg-3-1 c.before.before.before.before.before.before
+
+abbrev start-of-put_line-d : tie.After-put_line-d → tie.Start
+start-of-put_line-d c = start-of-put_line-arg-6-1 c.before
+
+abbrev start-of-put_line-arg-9-1 : tie.After-put_line-arg-9-1 → tie.Start
+start-of-put_line-arg-9-1 c = start-of-put_line-d c.before.before.before.before.before
+
+abbrev start-of-put_line-r : tie.After-put_line-r → tie.Start
+start-of-put_line-r c = start-of-put_line-arg-9-1 c.before
+
+abbrev start-of-put_line-arg-12-1 : tie.After-put_line-arg-12-1 → tie.Start
+start-of-put_line-arg-12-1 c = start-of-put_line-r c.before.before.before.before.before
+
+abbrev start-of-put_line-board : tie.After-put_line-board → tie.Start
+start-of-put_line-board c = start-of-put_line-arg-12-1 c.before
+
+abbrev start-of-put_line-arg-15-1 : tie.After-put_line-arg-15-1 → tie.Start
+start-of-put_line-arg-15-1 c = start-of-put_line-board c.before.before.before.before.before
+
+abbrev start-of-put_line-length : tie.After-put_line-length → tie.Start
+start-of-put_line-length c = start-of-put_line-arg-15-1 c.before
+
+abbrev start-of-put_line-arg-18-1 : tie.After-put_line-arg-18-1 → tie.Start
+start-of-put_line-arg-18-1 c = start-of-put_line-length c.before.before.before.before.before
+
+abbrev start-of-put_line-places : tie.After-put_line-places → tie.Start
+start-of-put_line-places c = start-of-put_line-arg-18-1 c.before
+
+abbrev start-of-put_points-arg-1 : tie.After-put_points-arg-1 → tie.Start
+start-of-put_points-arg-1 c = start-of-put_line-places c.before.before.before
+
+abbrev start-of-put_points-data : tie.After-put_points-data → tie.Start
+start-of-put_points-data c = start-of-put_points-arg-1 c.before
+
+abbrev start-of-put_pairs_line-arg-3-1 : tie.After-put_pairs_line-arg-3-1 → tie.Start
+start-of-put_pairs_line-arg-3-1 c = start-of-put_points-data c.before.before.before.before.before
+
+abbrev start-of-put_pairs_line : tie.After-put_pairs_line → tie.Start
+start-of-put_pairs_line c = start-of-put_pairs_line-arg-3-1 c.before
+
+abbrev start-of-slice_known-9-1 : tie.After-slice_known-9-1 → tie.Start
+start-of-slice_known-9-1 c = start-of-put_pairs_line c.before.before
+
 fits : (c : tie.Start) → let a = c.args in Rooms a.sizes a.points.now a.total a.node a.share.now (length a.out.now)
 fits c = let a = c.args in rooms a.sizes a.points.now a.total a.node a.share.now _ c.requires.has_room
 
 -- past each line: where the call began, and what is written so far
-abbrev st-at-put-line-arg2 : tie.After-put-line-arg2 → tie.Start
-st-at-put-line-arg2 c = c.before.before.before.before.before
+by_n : (c : tie.After-put_line-k) → let a = c.args in Wrote a.out.now 0 (to_n a.sizes) c.put_line-k.new.out c.put_line-k.result
+by_n c = c.put_line-k.ensures
 
-abbrev st-n : tie.After-put-line → tie.Start
-st-n c = st-at-put-line-arg2 c.before
+by-k : (c : tie.After-put_line-d) → let a = c.args in Wrote a.out.now 0 (to_k a.sizes) c.put_line-d.new.out c.put_line-d.result
+by-k c = then (by_n (put_line-k-of-put_line-d c)) c.put_line-d.ensures (fits (start-of-put_line-d c)).k
 
-by_n : (c : tie.After-put-line) → let a = (st-n c).args in Wrote a.out.now 0 (to_n a.sizes) c.put-line.new.1.1.1.0 c.put-line.result
-by_n c = c.put-line.ensures
+by-d : (c : tie.After-put_line-r) → let a = c.args in Wrote a.out.now 0 (to_d a.sizes) c.put_line-r.new.out c.put_line-r.result
+by-d c = then (by-k (put_line-d-of-put_line-r c)) c.put_line-r.ensures (fits (start-of-put_line-r c)).d
 
-abbrev put-line-at-put-line-arg4 : tie.After-put-line-arg4 → tie.After-put-line
-put-line-at-put-line-arg4 c = c.before.before.before.before
+by-r : (c : tie.After-put_line-board) → let a = c.args in Wrote a.out.now 0 (to_r a.sizes) c.put_line-board.new.out c.put_line-board.result
+by-r c = then (by-d (put_line-r-of-put_line-board c)) c.put_line-board.ensures (fits (start-of-put_line-board c)).r
 
-abbrev at_n : tie.After-put-line2 → tie.After-put-line
-at_n c = put-line-at-put-line-arg4 c.before
+by-node : (c : tie.After-put_line-length) → let a = c.args in Wrote a.out.now 0 (to_node a.sizes a.node) c.put_line-length.new.out c.put_line-length.result
+by-node c = then (by-r (put_line-board-of-put_line-length c)) c.put_line-length.ensures (fits (start-of-put_line-length c)).node-too
 
-abbrev st-k : tie.After-put-line2 → tie.Start
-st-k c = st-n (at_n c)
-
-by-k : (c : tie.After-put-line2) → let a = (st-k c).args in Wrote a.out.now 0 (to_k a.sizes) c.put-line2.new.1.1.1.0 c.put-line2.result
-by-k c = then (by_n (at_n c)) c.put-line2.ensures (fits (st-k c)).k
-
-abbrev put-line2-at-put-line-arg6 : tie.After-put-line-arg6 → tie.After-put-line2
-put-line2-at-put-line-arg6 c = c.before.before.before.before
-
-abbrev at-k : tie.After-put-line3 → tie.After-put-line2
-at-k c = put-line2-at-put-line-arg6 c.before
-
-abbrev st-d : tie.After-put-line3 → tie.Start
-st-d c = st-k (at-k c)
-
-by-d : (c : tie.After-put-line3) → let a = (st-d c).args in Wrote a.out.now 0 (to_d a.sizes) c.put-line3.new.1.1.1.0 c.put-line3.result
-by-d c = then (by-k (at-k c)) c.put-line3.ensures (fits (st-d c)).d
-
-abbrev put-line3-at-put-line-arg8 : tie.After-put-line-arg8 → tie.After-put-line3
-put-line3-at-put-line-arg8 c = c.before.before.before.before
-
-abbrev at-d : tie.After-put-line4 → tie.After-put-line3
-at-d c = put-line3-at-put-line-arg8 c.before
-
-abbrev st-r : tie.After-put-line4 → tie.Start
-st-r c = st-d (at-d c)
-
-by-r : (c : tie.After-put-line4) → let a = (st-r c).args in Wrote a.out.now 0 (to_r a.sizes) c.put-line4.new.1.1.1.0 c.put-line4.result
-by-r c = then (by-d (at-d c)) c.put-line4.ensures (fits (st-r c)).r
-
-abbrev put-line4-at-put-line-arg10 : tie.After-put-line-arg10 → tie.After-put-line4
-put-line4-at-put-line-arg10 c = c.before.before.before.before
-
-abbrev at-r : tie.After-put-line5 → tie.After-put-line4
-at-r c = put-line4-at-put-line-arg10 c.before
-
-abbrev st-node : tie.After-put-line5 → tie.Start
-st-node c = st-r (at-r c)
-
-by-node : (c : tie.After-put-line5) → let a = (st-node c).args in Wrote a.out.now 0 (to_node a.sizes a.node) c.put-line5.new.1.1.1.0 c.put-line5.result
-by-node c = then (by-r (at-r c)) c.put-line5.ensures (fits (st-node c)).node-too
-
-abbrev put-line5-at-put-line-arg12 : tie.After-put-line-arg12 → tie.After-put-line5
-put-line5-at-put-line-arg12 c = c.before.before.before.before
-
-abbrev at-node : tie.After-put-line6 → tie.After-put-line5
-at-node c = put-line5-at-put-line-arg12 c.before
-
-abbrev st-length : tie.After-put-line6 → tie.Start
-st-length c = st-node (at-node c)
-
-by_length : (c : tie.After-put-line6) → let a = (st-length c).args in Wrote a.out.now 0 (to_length a.sizes a.total a.node) c.put-line6.new.1.1.1.0 c.put-line6.result
-by_length c = then (by-node (at-node c)) c.put-line6.ensures (fits (st-length c)).length-too
-
-abbrev put-line6-at-put-points-arg : tie.After-put-points-arg → tie.After-put-line6
-put-line6-at-put-points-arg c = c.before.before.before
-
-abbrev at_length : tie.After-put-points → tie.After-put-line6
-at_length c = put-line6-at-put-points-arg c.before.before
-
-abbrev st-points : tie.After-put-points → tie.Start
-st-points c = st-length (at_length c)
+by_length : (c : tie.After-put_line-places) → let a = c.args in Wrote a.out.now 0 (to_length a.sizes a.total a.node) c.put_line-places.new.out c.put_line-places.result
+by_length c = then (by-node (put_line-length-of-put_line-places c)) c.put_line-places.ensures (fits (start-of-put_line-places c)).length-too
 
 -- the points' line is that of the points of n boards
 line : (c : tie.Start) → let a = c.args in points_said (take a.sizes.n a.points.now) ≡ points_line a.sizes a.points.now
@@ -104,47 +129,31 @@ said-line : (g : tie.Start) {l l1 : List ℕ} {at e : ℕ} → Wrote l at (point
     → Wrote l at (points_line g.args.sizes g.args.points.now) l1 e
 said-line g w = rw (line g) at w
 
-by-points : (c : tie.After-put-points)
-    → let a = (st-points c).args in Wrote a.out.now 0 (to_points a.sizes a.points.now a.total a.node) c.put-points.new.1.1.0 c.put-points.result
-by-points c = let g = st-points c in then (by_length (at_length c)) (said-line g c.put-points.ensures) (fits g).points-too
+by-points : (c : tie.After-put_points-data)
+    → let a = c.args in Wrote a.out.now 0 (to_points a.sizes a.points.now a.total a.node) c.put_points-data.new.out c.put_points-data.result
+by-points c = then (by_length c.before.before.before.before) (said-line (start-of-put_points-data c) c.put_points-data.ensures) (fits (start-of-put_points-data c)).points-too
 
-abbrev put-points-at-put-pairs-line-arg2 : tie.After-put-pairs-line-arg2 → tie.After-put-points
-put-points-at-put-pairs-line-arg2 c = c.before.before.before.before
-
-abbrev at-points : tie.After-put-pairs-line → tie.After-put-points
-at-points c = put-points-at-put-pairs-line-arg2 c.before
-
-abbrev st-data : tie.After-put-pairs-line → tie.Start
-st-data c = st-points (at-points c)
-
-by-data : (c : tie.After-put-pairs-line)
-    → let a = (st-data c).args in
-    Wrote a.out.now 0 (to_data a.sizes a.points.now a.total a.node a.share.now) c.put-pairs-line.new.1.1.1.0 c.put-pairs-line.result
-by-data c = then (by-points (at-points c)) c.put-pairs-line.ensures (fits (st-data c)).data-too
+by-data : (c : tie.After-put_pairs_line)
+    → let a = c.args in
+    Wrote a.out.now 0 (to_data a.sizes a.points.now a.total a.node a.share.now) c.put_pairs_line.new.out c.put_pairs_line.result
+by-data c = then (by-points (put_points-data-of-put_pairs_line c)) c.put_pairs_line.ensures (fits (start-of-put_pairs_line c)).data-too
 
 returns : tie.Need-returns
 unfolding share_text
 returns c = from_start (by-data c.before.before)
 
-pub write-text-spec : {M : Type 1} → statement M
-write-text-spec =
+pub write_text_spec : {M : Type 1} → statement M
+write_text_spec =
     tie.close
     (tie.spec
-    (λ c. search rules)
-    (λ c κs. (fits (st-at-put-line-arg2 c)).n)
-    (λ c. search rules)
-    (λ c κs. let p = put-line-at-put-line-arg4 c in room (by_n p) _ (fits (st-n p)).k)
-    (λ c. search rules)
-    (λ c κs. let p = put-line2-at-put-line-arg6 c in room (by-k p) _ (fits (st-k p)).d)
-    (λ c. search rules)
-    (λ c κs. let p = put-line3-at-put-line-arg8 c in room (by-d p) _ (fits (st-d p)).r)
-    (λ c. search rules)
-    (λ c κs. let p = put-line4-at-put-line-arg10 c in room (by-r p) _ (fits (st-r p)).node-too)
-    (λ c. search rules)
-    (λ c κs. let p = put-line5-at-put-line-arg12 c in room (by-node p) _ (fits (st-node p)).length-too)
-    (λ c. sym (length-take-le _ _ (st-length (put-line6-at-put-points-arg c)).requires.has-points))
-    (λ c κs. let p = put-line6-at-put-points-arg c.before in let g = st-length p in rw (line g) (room (by_length p) _ (fits g).points-too))
-    (λ c. search rules)
-    (λ c κs. let p = put-points-at-put-pairs-line-arg2 c in room (by-points p) _ (fits (st-points p)).data-too)
-    (λ c. let p = c.before.before in same-room (by-data p) (fits (st-data p)).data-too)
+    (λ c κs. (fits (start-of-put_line-arg-3-1 c)).n)
+    (λ c κs. room (by_n (put_line-k-of-put_line-arg-6-1 c)) _ (fits (start-of-put_line-arg-6-1 c)).k)
+    (λ c κs. room (by-k (put_line-d-of-put_line-arg-9-1 c)) _ (fits (start-of-put_line-arg-9-1 c)).d)
+    (λ c κs. room (by-d (put_line-r-of-put_line-arg-12-1 c)) _ (fits (start-of-put_line-arg-12-1 c)).r)
+    (λ c κs. room (by-r (put_line-board-of-put_line-arg-15-1 c)) _ (fits (start-of-put_line-arg-15-1 c)).node-too)
+    (λ c κs. room (by-node (put_line-length-of-put_line-arg-18-1 c)) _ (fits (start-of-put_line-arg-18-1 c)).length-too)
+    (λ c. sym (length-take-le _ _ c.requires.has-points))
+    (λ c κs. rw (line (start-of-put_points-arg-1 c)) (room (by_length c.before.before.before) _ (fits (start-of-put_points-arg-1 c)).points-too))
+    (λ c κs. room (by-points (put_points-data-of-put_pairs_line-arg-3-1 c)) _ (fits (start-of-put_pairs_line-arg-3-1 c)).data-too)
+    (λ c. same-room (by-data c.before.before) (fits (start-of-slice_known-9-1 c)).data-too)
     returns)

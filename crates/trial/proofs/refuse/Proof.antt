@@ -5,5 +5,7 @@ use borrow.Author.Rules.{rules}
 use Rattle.trial.proofs.refuse.Statement.{statement}
 use Rattle.trial.proofs.refuse.Tie as tie
 
-pub refuse-spec : {M : Type 1} → statement M
-refuse-spec = tie.close (tie.spec (λ c. search rules) (λ c κs. search rules) (λ c. refused-line _))
+pub refuse_spec : {M : Type 1} → statement M
+refuse_spec = tie.close (tie.spec
+    (λ c κs. search rules)
+    (λ c. refused-line _))

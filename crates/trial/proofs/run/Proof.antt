@@ -1,7 +1,7 @@
 -- `trial::run` meets its contract, by what is loaded.
 -- Assumes nothing.
-use mathlib.Core.Path.{◌≡◌, subst}
-use mathlib.Core.Option.{some, none}
+use mathlib.Core.Path.{subst}
+use mathlib.Core.Option.{none}
 use mathlib.Core.List.{List}
 use Prim.Native.Nat.{ℕ}
 use Rattle.trial.specs.Printing.{Printing}
@@ -12,21 +12,15 @@ use Rattle.trial.proofs.run.Tie as tie
 
 print-requires : tie.Need-print-requires
 print-requires c κs =
-    let k = c.before in
-    let r = k.before.before in
-    load-taken _ _ (loaded-load _ _ _ r.read-load.ensures k.loaded.given.1)
+    load-taken _ _ (loaded-load _ _ _ c.read_load-loaded.ensures c.in-Taken.is)
 
-returns : tie.Need-returns
+returns : tie.Need-returns-in-Taken
 returns c =
-    let k = c.before.before in
-    let r = k.before.before in
-    subst (λ (text : List ℕ). Printing text c.print.result) (text-loaded _ _ (loaded-load _ _ _ r.read-load.ensures k.loaded.given.1)) c.print.ensures
+    subst (λ (text : List ℕ). Printing text c.print.result) (text-loaded _ _ (loaded-load _ _ _ c.read_load-loaded.ensures c.in-Taken.is)) c.print.ensures
 
-returns-2 : tie.Need-returns-2
+returns-2 : tie.Need-returns-in-Refused
 returns-2 c =
-    let k = c.before in
-    let r = k.before.before in
-    subst (λ (text : List ℕ). Printing text c.refuse.result) (text-loaded _ none (loaded-none _ _ r.read-load.ensures k.enum_told.given.1)) c.refuse.ensures
+    subst (λ (text : List ℕ). Printing text c.refuse.result) (text-loaded _ none (loaded-none _ _ c.read_load-loaded.ensures c.in-Refused.is)) c.refuse.ensures
 
 pub run_spec : {M : Type 1} → statement M
 run_spec =

@@ -1,7 +1,7 @@
 -- `trial::run_turn` meets its contract, by that of a turn; its line lies within the array.
 -- Assumes nothing.
-use mathlib.Core.Path.{◌≡◌, sym, ◌∙◌}
-use Prim.Native.Nat.{ℕ, ◌≤◌}
+use mathlib.Core.Path.{sym, ◌∙◌}
+use Prim.Native.Nat.{◌≤◌}
 use native.Mathlib.Nat.{zero-add}
 use native.Mathlib.Omega.{arith}
 use lib.ListN.{length}
@@ -11,23 +11,22 @@ use borrow.Author.Rules.{rules}
 use Rattle.trial.proofs.run_turn.Statement.{statement}
 use Rattle.trial.proofs.run_turn.Tie as tie
 
-few : (c : tie.After-run-one) → c.run-one.result.count ≤ 48
-few c = wrote-few _ _ _ _ c.run-one.ensures.1.1 c.run-one.auto.1.1.1.1.1.0
+-- places in the code
+abbrev run_one-ran-of-beside-1 : tie.After-beside-1 → tie.After-run_one-ran
+run_one-ran-of-beside-1 c = c.before.before.before.before.before.before.before
 
-inside : (c : tie.After-run-one) → c.run-one.result.count ≤ length c.run-one.new.1.1.1.1.1.0
-inside c = omega (arith, few c, c.run-one.auto.1.1.1.1.1.0)
+few : (c : tie.After-run_one-ran) → c.run_one-ran.result.count ≤ 48
+few c = wrote-few _ _ _ _ c.run_one-ran.ensures.1.1 c.run_one-ran.auto.line
 
--- past the call
-abbrev ran : tie.After-beside → tie.After-run-one
-ran c = c.before.before.before.before.before.before.before
+inside : (c : tie.After-run_one-ran) → c.run_one-ran.result.count ≤ length c.run_one-ran.new.line
+inside c = omega (arith, few c, c.run_one-ran.auto.line)
 
 returns : tie.Need-returns
 returns c =
-    let r = ran c in
-    (r.run-one.ensures.0, (r.run-one.ensures.1.0, (r.run-one.ensures.1.1.ends ∙ zero-add _, few r)))
+    (c.run_one-ran.ensures.0, (c.run_one-ran.ensures.1.0, (c.run_one-ran.ensures.1.1.ends ∙ zero-add _, few (run_one-ran-of-beside-1 c))))
 
-pub run-turn-spec : {M : Type 1} → statement M
-run-turn-spec =
+pub run_turn_spec : {M : Type 1} → statement M
+run_turn_spec =
     tie.close
     (tie.spec
     (λ c. search rules)

@@ -1,7 +1,7 @@
 -- `trial_calls::repair_drawn` meets its contract: the beginnings of two arrays are lent.
 -- Assumes nothing.
-use mathlib.Core.Path.{◌≡◌, sym}
-use Prim.Native.Nat.{ℕ, ◌*◌, ◌≤◌}
+use mathlib.Core.Path.{sym}
+use Prim.Native.Nat.{◌*◌, ◌≤◌}
 use native.Mathlib.Omega.{arith}
 use Rattle.sizes.proofs.Legal.{legal-facts}
 use Rattle.trial_calls.proofs.Made.{length_front, few-helpers}
@@ -16,21 +16,21 @@ few : (c : tie.Start) → c.args.sizes.r * c.args.sizes.d ≤ 256
 few c = let f = legal-facts c.args.sizes c.requires.0 in few-helpers c.args.sizes.r c.args.sizes.d (omega (arith, f.few, f.enough))
 
 -- the places
-abbrev st-at-struct-known : tie.After-struct-known → tie.Start
+abbrev st-at-struct-known : tie.After-struct_known-1 → tie.Start
 st-at-struct-known c = c.before.before
 
-repair-into-requires : tie.Need-repair-into-requires
+repair-into-requires : tie.Need-repair_into-requires
 repair-into-requires c κs =
     let s = st-at-struct-known c.before.before.before in
     record {
-      is-legal = s.pre.0;
-      low = s.pre.1;
+      is-legal = s.requires.0;
+      low = s.requires.1;
       fresh-long = sym (length_front s.args.sizes.r 32 (few-fresh s));
       helpers-long = sym (length_front (s.args.sizes.r * s.args.sizes.d) 256 (few s));
     }
 
-pub repair-drawn-spec : {M : Type 1} → statement M
-repair-drawn-spec =
+pub repair_drawn_spec : {M : Type 1} → statement M
+repair_drawn_spec =
     tie.close
     (tie.spec
     (λ c. record { fits = omega (arith, few (st-at-struct-known c)) })

@@ -1,11 +1,11 @@
 -- `trial_calls::write_into` meets its contract: the file written is the one drawn.
 -- Assumes nothing.
-use mathlib.Core.Path.{◌≡◌, ap, ◌∙◌}
+use mathlib.Core.Path.{ap, ◌∙◌}
 use mathlib.Core.List.{List}
 use Prim.Native.Nat.{ℕ}
 use lib.ListN.{length}
 use Rattle.generator.specs.Generator.{emitted}
-use Rattle.store_spec.specs.Both.{write_both}
+use Rattle.beside_spec.specs.Both.{write_both}
 use Rattle.record.specs.Records.{running_in}
 use Rattle.store.specs.Handing.{record_in}
 use Rattle.trial_calls.proofs.Made.{write-acts}
@@ -14,10 +14,10 @@ use Rattle.trial_calls.proofs.write_into.Statement.{statement}
 use Rattle.trial_calls.proofs.write_into.Tie as tie
 
 -- past the draw; where the call began
-abbrev drew : tie.After-write → tie.After-fill
-drew c = c.before.before.before.before.before
+abbrev drew : tie.After-write-handed → tie.After-fill-next
+drew c = c.before.before.before.before
 
-abbrev st : tie.After-fill → tie.Start
+abbrev st : tie.After-fill-next → tie.Start
 st c = c.before.before.before.before
 
 returns : tie.Need-returns
@@ -27,8 +27,8 @@ returns c =
     let a = (st f).args in
     let area = a.area.now in (
       write-acts a.kept a.running area (emitted (length a.file.now) a.state)
-          (w.write.ensures ∙ ap (λ (file : List ℕ). write_both (record_in a.kept) (running_in a.running) area file) f.fill.ensures.0),
-      f.fill.ensures.1,
+          (w.write-handed.ensures ∙ ap (λ (file : List ℕ). write_both (record_in a.kept) (running_in a.running) area file) f.fill-next.ensures.0),
+      f.fill-next.ensures.1,
     )
 
 pub write_into_spec : {M : Type 1} → statement M

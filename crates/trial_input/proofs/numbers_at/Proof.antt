@@ -39,25 +39,16 @@ module _ (text : List ℕ) where
 
 returns : tie.Need-returns
 returns c =
-    let k4 = c.before in
-    let k3 = k4.before.before in
-    let k2 = k3.before.before in
-    let k1 = k2.before.before in
-    let k0 = k1.before.before in
-    lines k0.before.before.args.text.now k0.sizes-at.result k1.line_at_lem.result k2.line-at2.result k3.line-at3.result k4.line-at4.result
-    k0.sizes-at.ensures k1.line_at_lem.ensures k2.line-at2.ensures k3.line-at3.ensures k4.line-at4.ensures
+    lines c.args.text.now c.sizes_at-four.result c.line_at-capacity.result c.line_at-seed.result c.line_at-length.result c.line_at-calls.result
+    c.sizes_at-four.ensures c.line_at-capacity.ensures c.line_at-seed.ensures c.line_at-length.ensures c.line_at-calls.ensures
 
-pub numbers-at-spec : {M : Type 1} → statement M
-numbers-at-spec =
+pub numbers_at_spec : {M : Type 1} → statement M
+numbers_at_spec =
     tie.close
     (tie.spec
     (λ c κs. search rules)
-    (λ c. search rules)
     (λ c κs. search rules)
-    (λ c. search rules)
     (λ c κs. search rules)
-    (λ c. search rules)
     (λ c κs. search rules)
-    (λ c. search rules)
     (λ c κs. search rules)
     returns)

@@ -24,22 +24,15 @@ module _ (text : List ℕ) where
 
 returns : tie.Need-returns
 returns c =
-    let k3 = c.before.before in
-    let k2 = k3.before.before in
-    let k1 = k2.before.before in
-    lines k1.before.before.before.args.text.now k1.line_at_lem.result k2.line-at2.result k3.line-at3.result c.line-at4.result
-    k1.line_at_lem.ensures k2.line-at2.ensures k3.line-at3.ensures c.line-at4.ensures
+    lines c.args.text.now c.line_at-n.result c.line_at-k.result c.line_at-d.result c.line_at-r.result
+    c.line_at-n.ensures c.line_at-k.ensures c.line_at-d.ensures c.line_at-r.ensures
 
-pub sizes-at-spec : {M : Type 1} → statement M
-sizes-at-spec =
+pub sizes_at_spec : {M : Type 1} → statement M
+sizes_at_spec =
     tie.close
     (tie.spec
-    (λ c. search rules)
     (λ c κs. search rules)
-    (λ c. search rules)
     (λ c κs. search rules)
-    (λ c. search rules)
     (λ c κs. search rules)
-    (λ c. search rules)
     (λ c κs. search rules)
     returns)

@@ -1,80 +1,62 @@
 -- `trial_line::put_call` meets its contract: the pieces, one behind the other.
 -- Assumes nothing.
-use mathlib.Core.Path.{◌≡◌, ap₂, subst, ◌∙◌}
-use mathlib.Core.List.{List, [], ◌∷◌, ◌++◌}
-use Prim.Native.Nat.{ℕ, ◌+◌, ◌≤◌, ◌<◌}
+use mathlib.Core.Path.{ap₂, subst, ◌∙◌}
+use mathlib.Core.List.{List, ◌++◌}
+use Prim.Native.Nat.{ℕ, ◌+◌, ◌≤◌}
 use native.Mathlib.Omega.{arith}
 use lib.ListN.{length, length-append}
-use Rattle.sizes.specs.Refusals.{said}
 use Rattle.board_spec.specs.Text.{decimal}
 use Rattle.text_lines.specs.Steps.{Wrote}
-use Rattle.text_lines.proofs.Writes.{same-room, room, then, less}
-use Rattle.trial_line.specs.Line.{opening, moved_end, line_of}
+use Rattle.text_lines.proofs.Writes.{same-room, room, then}
+use Rattle.trial_line.specs.Line.{opening, moved_end}
 use Rattle.trial_line.proofs.Line.{opening-most, byte-digits, moved-most}
 use borrow.Author.Rules.{rules}
 use Rattle.trial_line.proofs.put_call.Statement.{statement}
 use Rattle.trial_line.proofs.put_call.Tie as tie
 
--- where the call began; past the beginning of the line, the refusal, its end
-abbrev st : tie.After-put-opening → tie.Start
-st c = c.before.before.before
+-- places in the code
+abbrev refusal-of-put_moved-arg-1 : tie.After-put_moved-arg-1 → tie.After-refusal
+refusal-of-put_moved-arg-1 c = c.before.before.before.before.before.before
 
-abbrev opened : tie.After-refusal → tie.After-put-opening
-opened c = c.before.before.before
+abbrev put_decimal-end-of-slice_known-4-1 : tie.After-slice_known-4-1 → tie.After-put_decimal-end
+put_decimal-end-of-slice_known-4-1 c = c.before.before.before.before.before.before.before
 
-abbrev refused : tie.After-put-decimal → tie.After-refusal
-refused c = c.before.before
-
-abbrev put-decimal-at-put-moved-arg : tie.After-put-moved-arg → tie.After-put-decimal
-put-decimal-at-put-moved-arg c = c.before.before.before.before
-
-abbrev answered : tie.After-put-moved → tie.After-put-decimal
-answered c = put-decimal-at-put-moved-arg c.before
+abbrev refusal-of-slice_known-4-1 : tie.After-slice_known-4-1 → tie.After-refusal
+refusal-of-slice_known-4-1 c = refusal-of-put_moved-arg-1 c.before.before.before
 
 -- the beginning and the refusal
 abbrev to_refusal : ℕ → ℕ → List ℕ
 to_refusal op x = opening op ++ decimal x
 
-few : (c : tie.After-refusal) → let s = st (opened c) in 0 + length (to_refusal s.args.op c.refusal.result) ≤ 20
+few : (c : tie.After-refusal) → 0 + length (to_refusal c.args.op c.refusal.result) ≤ 20
 few c =
-    let s = st (opened c) in
-    omega (arith, length-append (opening s.args.op) (decimal c.refusal.result), opening-most s.args.op, byte-digits c.refusal.result c.refusal.type-inv)
+    omega (arith, length-append (opening c.args.op) (decimal c.refusal.result), opening-most c.args.op, byte-digits c.refusal.result c.refusal.type_inv)
 
-by-refusal : (c : tie.After-put-decimal) → let x = refused c in let a = (st (opened x)).args in
-    Wrote a.line.now 0 (to_refusal a.op x.refusal.result) c.put-decimal.new.1.1.0 c.put-decimal.result
+by-refusal : (c : tie.After-put_decimal-end) → let a = c.args in
+    Wrote a.line.now 0 (to_refusal a.op c.refusal.result) c.put_decimal-end.new.out c.put_decimal-end.result
 by-refusal c =
-    let x = refused c in
-    then (opened x).put-opening.ensures c.put-decimal.ensures (omega (arith, few x, (st (opened x)).requires))
+    then c.put_opening-place.ensures c.put_decimal-end.ensures (omega (arith, few c.before.before, c.requires))
 
-put-decimal-requires : tie.Need-put-decimal-requires
+put-decimal-requires : tie.Need-put_decimal-end-requires
 put-decimal-requires c κs =
-    let x = c.before in
-    room (opened x).put-opening.ensures (decimal x.refusal.result) (omega (arith, few x, (st (opened x)).requires))
+    room c.put_opening-place.ensures (decimal c.refusal.result) (omega (arith, few c.before, c.requires))
 
-put-moved-requires : tie.Need-put-moved-requires
+put-moved-requires : tie.Need-put_moved-requires
 put-moved-requires c κs =
-    let d = put-decimal-at-put-moved-arg c in
-    let x = refused d in
-    let s = st (opened x) in
-    let w = by-refusal d in
-    (omega (arith, w.ends, few x), same-room w (omega (arith, few x, s.pre)) ∙ s.pre)
+    let w = by-refusal c.before.before.before.before in
+    (omega (arith, w.ends, few (refusal-of-put_moved-arg-1 c)), same-room w (omega (arith, few (refusal-of-put_moved-arg-1 c), c.requires)) ∙ c.requires)
 
 returns : tie.Need-returns
 returns c =
-    let m = c.before.before in
-    let d = answered m in
-    let x = refused d in
-    let s = st (opened x) in
-    let v = m.before.before in
-    let a = s.args in
-    let fits : 0 + length (to_refusal a.op x.refusal.result ++ moved_end v.reported.result) ≤ length a.line.now =
-    omega (arith, length-append (to_refusal a.op x.refusal.result) (moved_end v.reported.result), few x, moved-most v.reported.result v.reported.type-inv, s.pre) in
-    subst (λ (l : List ℕ). Wrote a.line.now 0 l m.put-moved.new.1.1.0 m.put-moved.result)
-    (ap₂ {C = List ℕ} (λ (p q : ℕ). to_refusal a.op p ++ moved_end q) x.refusal.ensures v.reported.ensures)
-    (then (by-refusal d) m.put-moved.ensures fits)
+    let a = c.args in
+    let fits : 0 + length (to_refusal a.op c.refusal.result ++ moved_end c.reported.result) ≤ length a.line.now =
+    omega (arith, length-append (to_refusal a.op c.refusal.result) (moved_end c.reported.result), few (refusal-of-slice_known-4-1 c), moved-most c.reported.result c.reported.type_inv, c.requires) in
+    subst (λ (l : List ℕ). Wrote a.line.now 0 l c.put_moved.new.line c.put_moved.result)
+    (ap₂ {C = List ℕ} (λ (p q : ℕ). to_refusal a.op p ++ moved_end q) c.refusal.ensures c.reported.ensures)
+    (then (by-refusal (put_decimal-end-of-slice_known-4-1 c)) c.put_moved.ensures fits)
 
-pub put-call-spec : {M : Type 1} → statement M
-put-call-spec =
+pub put_call_spec : {M : Type 1} → statement M
+put_call_spec =
     tie.close
     (tie.spec
     (λ c κs. search rules)

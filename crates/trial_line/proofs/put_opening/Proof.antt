@@ -19,51 +19,30 @@ other x a b c = rw (ne_eqb x 0 a, ne_eqb x 1 b, ne_eqb x 2 c)
 by_arm : {l l2 : List ℕ} {e : ℕ} (op k : ℕ) → opening op ≡ opening k → Wrote l 0 (opening k) l2 e → Wrote l 0 (opening op) l2 e
 by_arm {l} {l2} {e} op k q w = subst (λ (a : List ℕ). Wrote l 0 a l2 e) (sym q) w
 
--- the places
-abbrev put-bytes-at-slice-known2 : tie.After-slice-known2 → tie.After-put-bytes
-put-bytes-at-slice-known2 c = c.before.before
-
-returns : tie.Need-returns
+returns : tie.Need-returns-in-0
 returns c =
-    let m = (put-bytes-at-slice-known2 c).before.before.before in
-    by_arm m.before.before.args.op 0 (ap opening m.match.keys1) (put-bytes-at-slice-known2 c).put-bytes.ensures
+    by_arm c.args.op 0 (ap opening c.in-0.is) c.put_bytes.ensures
 
-abbrev put-bytes2-at-slice-known3 : tie.After-slice-known3 → tie.After-put-bytes2
-put-bytes2-at-slice-known3 c = c.before.before
-
-returns-2 : tie.Need-returns-2
+returns-2 : tie.Need-returns-in-1
 returns-2 c =
-    let m = (put-bytes2-at-slice-known3 c).before.before.before in
-    by_arm m.before.before.args.op 1 (ap opening m.match.keys2) (put-bytes2-at-slice-known3 c).put-bytes2.ensures
+    by_arm c.args.op 1 (ap opening c.in-1.is) c.put_bytes-in-1.ensures
 
-abbrev put-bytes3-at-slice-known4 : tie.After-slice-known4 → tie.After-put-bytes3
-put-bytes3-at-slice-known4 c = c.before.before
-
-returns-3 : tie.Need-returns-3
+returns-3 : tie.Need-returns-in-2
 returns-3 c =
-    let m = (put-bytes3-at-slice-known4 c).before.before.before in
-    by_arm m.before.before.args.op 2 (ap opening m.match.keys3) (put-bytes3-at-slice-known4 c).put-bytes3.ensures
+    by_arm c.args.op 2 (ap opening c.in-2.is) c.put_bytes-in-2.ensures
 
-abbrev put-bytes4-at-slice-known5 : tie.After-slice-known5 → tie.After-put-bytes4
-put-bytes4-at-slice-known5 c = c.before.before
-
-returns-4 : tie.Need-returns-4
+returns-4 : tie.Need-returns-in_default
 returns-4 c =
-    let m = (put-bytes4-at-slice-known5 c).before.before.before in
-    let r = m.match.rest in
-    by_arm m.before.before.args.op 3 (other _ r.0.0.1 r.0.1 r.1) (put-bytes4-at-slice-known5 c).put-bytes4.ensures
+    let r = c.in_default.in_default-own.rest in
+    by_arm c.args.op 3 (other _ r.0.0.1 r.0.1 r.1) c.put_bytes-in_default.ensures
 
-pub put-opening-spec : {M : Type 1} → statement M
-put-opening-spec =
+pub put_opening_spec : {M : Type 1} → statement M
+put_opening_spec =
     tie.close
     (tie.spec
-    (λ c. search rules)
     (λ c κs. search rules)
-    (λ c. search rules)
     (λ c κs. search rules)
-    (λ c. search rules)
     (λ c κs. search rules)
-    (λ c. search rules)
     (λ c κs. search rules)
     (λ c. search rules)
     returns

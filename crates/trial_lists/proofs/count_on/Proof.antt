@@ -1,14 +1,12 @@
 -- `trial_lists::count_on` meets its contract. The loop's invariant: the first i boards are those counted, and the rest is as it was.
 -- Assumes nothing.
-use mathlib.Core.Path.{◌≡◌, refl, sym, ap, ◌∙◌}
+use mathlib.Core.Path.{◌≡◌, refl, ap, ◌∙◌}
 use mathlib.Core.List.{◌++◌}
 use Prim.Native.Nat.{ℕ, ◌+◌, ◌-◌, ◌%◌, ◌≤◌, ◌<◌}
-use native.Mathlib.Nat.{mod-lt}
 use native.Mathlib.Omega.{arith}
 use lib.ListN.{length, drop, length-set}
 use Rattle.lists.specs.Lists.{tabulate}
 use Rattle.lists.proofs.Pieces.{fill-loop, fill-all}
-use Rattle.trial_spec.specs.Trial.{counted}
 use borrow.Author.Rules.{rules}
 use Rattle.trial_lists.proofs.count_on.Statement.{statement}
 use Rattle.trial_lists.proofs.count_on.Tie as tie
@@ -17,15 +15,15 @@ use Rattle.trial_lists.proofs.count_on.Tie as tie
 abbrev board : ℕ → ℕ → ℕ → ℕ
 board n first i = (first + i) % n
 
-abbrev invariant-loop : tie.invariant-loop
+abbrev invariant-loop : tie.invariant-loop-i
 invariant-loop n first out₀ i₀ out i = (out ≡ tabulate i (board n first) ++ drop i out₀) × (i ≤ length out₀) × (length out ≡ length out₀)
 
-abbrev decreases-loop : tie.decreases-loop
+abbrev decreases-loop : tie.decreases-loop-i
 decreases-loop n first out₀ i₀ out i = length out₀ - i
 
-loop-again : tie.Need-loop-preserved invariant-loop decreases-loop
+loop-again : tie.Need-loop-i-preserved invariant-loop decreases-loop
 loop-again c =
-    let l = c.before.loop in
+    let l = c.before.loop-i in
     let a = c.before.before.args in
     let inside : l.i < length a.out.now = omega (arith, l.invariant.2) in (
       fill-loop (board a.n a.first) a.out.now l.out l.i (board a.n a.first l.i) inside refl l.invariant.0,
@@ -35,14 +33,14 @@ loop-again c =
 
 returns : tie.Need-returns invariant-loop decreases-loop
 returns c =
-    let l = c.before.loop in
+    let l = c.before.loop-i in
     let a = c.before.before.args in
     let done : length a.out.now ≤ l.i = omega (arith, l.invariant.2) in
     let i : l.i ≡ length a.out.now = omega (arith, done, l.invariant.1) in
     l.invariant.0 ∙ fill-all (board a.n a.first) a.out.now l.i done ∙ ap (λ (m : ℕ). tabulate m (board a.n a.first)) i
 
-pub count-on-spec : {M : Type 1} → statement M
-count-on-spec =
+pub count_on_spec : {M : Type 1} → statement M
+count_on_spec =
     tie.close
     (tie.spec
     invariant-loop
@@ -55,5 +53,5 @@ count-on-spec =
     (λ c. search rules)
     (λ c. search rules)
     loop-again
-    (λ c. c.before.loop.invariant.2)
+    (λ c. c.before.loop-i.invariant.2)
     returns)

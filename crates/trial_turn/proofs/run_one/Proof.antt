@@ -1,6 +1,6 @@
 -- `trial_turn::run_one` meets its contract: the call picked is the call drawn, and its line the definition's.
 -- Assumes nothing.
-use mathlib.Core.Path.{◌≡◌, subst, ◌∙◌}
+use mathlib.Core.Path.{subst, ◌∙◌}
 use mathlib.Core.List.{List}
 use Prim.Native.Nat.{ℕ}
 use Rattle.text_lines.specs.Steps.{Wrote}
@@ -10,40 +10,26 @@ use borrow.Author.Rules.{rules}
 use Rattle.trial_turn.proofs.run_one.Statement.{statement}
 use Rattle.trial_turn.proofs.run_one.Tie as tie
 
--- past the call, past the kind, where the turn began
-abbrev called : tie.After-put-call → tie.After-take-turn
-called c = c.before.before.before.before.before.before.before
-
-abbrev picked : tie.After-take-turn → tie.After-top-byte
-picked c = c.before.before
-
-abbrev st : tie.After-top-byte → tie.Start
-st c = c.before.before.before.before
-
 returns : tie.Need-returns
 returns c =
-    let p = c.before.before in
-    let t = called p in
-    let b = picked t in
-    let k = b.before in
-    let a = (st b).args in
+    let a = c.args in
     let l = load_in a.load in
-    let state = k.step.result in
-    let byte = b.top_byte.result in
-    let acts = as_call (call-picked l a.state state byte k.step.ensures b.top_byte.ensures) t.take-turn.ensures.0 in (
+    let state = c.pick_kind-kind.result.state in
+    let op = c.pick_kind-kind.result.op in
+    let kind = c.pick_kind-kind.ensures in
+    let acts = as_call (call-picked l a.state state op kind.1 kind.0) c.take_turn-turned.ensures.0 in (
       acts.after,
       (
-        t.take-turn.ensures.1 ∙ state-picked l a.state state byte k.step.ensures b.top_byte.ensures,
-        subst (λ (text : List ℕ). Wrote a.line.now 0 text p.put-call.new.1.1.0 p.put-call.result)
-            (line-picked l a.state state byte k.step.ensures b.top_byte.ensures acts.answer) p.put-call.ensures,
+        c.take_turn-turned.ensures.1 ∙ state-picked l a.state state op kind.1 kind.0,
+        subst (λ (text : List ℕ). Wrote a.line.now 0 text c.put_call-count.new.line c.put_call-count.result)
+            (line-picked l a.state state op kind.1 kind.0 acts.answer) c.put_call-count.ensures,
       ),
     )
 
-pub run-one-spec : {M : Type 1} → statement M
-run-one-spec =
+pub run_one_spec : {M : Type 1} → statement M
+run_one_spec =
     tie.close
     (tie.spec
-    (λ c κs. search rules)
     (λ c κs. search rules)
     (λ c κs. search rules)
     (λ c κs. search rules)

@@ -22,16 +22,16 @@ second r a b t e h k = k ∙ last b ∙ sym (ap (λ (x : Bool). alls (x ∷ b �
     last false = refl
 
 -- the places
-abbrev st-at-is-record : tie.After-is-record → tie.Start
+abbrev st-at-is-record : tie.After-is_record → tie.Start
 st-at-is-record c = c.before.before.before
 
-pub are-records-spec : {M : Type 1} → statement M
-are-records-spec =
+pub are_records_spec : {M : Type 1} → statement M
+are_records_spec =
     tie.close
     (tie.spec
     (λ c κs. search rules)
     (λ c. let k = c.before in let g = (st-at-is-record k).args in
-    first_off k.is-record.result (is_record g.words.now) (is_repair g.beside.now) k.is-record.ensures c.if1.true)
+    first_off k.is_record.result (is_record g.words.now) (is_repair g.beside.now) k.is_record.ensures (ap not c.if-not-is_record.true))
     (λ c κs. search rules)
     (λ c. let e = c.before in let k = e.before in let g = (st-at-is-record k).args in
-    second k.is-record.result (is_record g.words.now) (is_repair g.beside.now) c.is-repair.result k.is-record.ensures e.if1.false c.is-repair.ensures))
+    second k.is_record.result (is_record g.words.now) (is_repair g.beside.now) c.is_repair.result k.is_record.ensures (ap not e.if-not-is_record.false) c.is_repair.ensures))

@@ -6,8 +6,12 @@ use Rattle.word_parts.proofs.Twelve.{row-points}
 use Rattle.words.proofs.points_of.Statement.{statement}
 use Rattle.words.proofs.points_of.Tie as tie
 
-pub points-of-spec : {M : Type 1} → statement M
-points-of-spec =
+-- places in the code
+abbrev st-at-points2 : tie.After-points-2-1 → tie.Start
+st-at-points2 c = c.before.before.before.before.before.before.before.before
+
+pub points_of_spec : {M : Type 1} → statement M
+points_of_spec =
     tie.close
     (tie.spec
     (λ c. search rules)
@@ -16,4 +20,4 @@ points-of-spec =
     (λ c. search rules)
     (λ c. search rules)
     (λ c κs. search rules)
-    (λ c. let g = c.before.before.before.before.before.before.before.before in c.before.put-row.ensures ∙ row-points g.args.words.now g.requires))
+    (λ c. let g = st-at-points2 c in c.before.put_row.ensures ∙ row-points g.args.words.now g.requires))

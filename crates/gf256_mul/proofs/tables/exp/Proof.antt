@@ -8,12 +8,11 @@ use Rattle.gf256_mul.specs.Tables.{doubled, powers}
 use Rattle.gf256_mul.proofs.tables.exp.Statement.{statement}
 use Rattle.gf256_mul.proofs.tables.exp.Tie as tie
 
-array-read-result : tie.Need-array-read-result
-array-read-result c = search rules
-
 returns : tie.Need-returns
 unfolding add product reduce mul doubled powers
 returns c = refl
 
-pub exp-spec : {M : Type 1} → statement M
-exp-spec = tie.close (tie.spec array-read-result returns)
+pub exp_spec : {M : Type 1} → statement M
+exp_spec = tie.close (tie.spec
+    (λ c. search rules)
+    returns)

@@ -8,12 +8,11 @@ use Rattle.gf256_mul.proofs.Powers.{logarithms, logarithm-table, table_at}
 use Rattle.gf256_mul.proofs.tables.log.Statement.{statement}
 use Rattle.gf256_mul.proofs.tables.log.Tie as tie
 
-array-read-result : tie.Need-array-read-result
-array-read-result c = search rules
-
 returns : tie.Need-returns
 unfolding add product reduce mul doubled powers place logarithm logarithms logarithm-table
 returns c = table_at c.args.a c.requires (search rules)
 
-pub log-spec : {M : Type 1} → statement M
-log-spec = tie.close (tie.spec array-read-result returns)
+pub log_spec : {M : Type 1} → statement M
+log_spec = tie.close (tie.spec
+    (λ c. search rules)
+    returns)

@@ -7,27 +7,30 @@ use Rattle.sizes.proofs.Legal.{Legal, legal-facts}
 use Rattle.sizes.proofs.Sizes.share_len.Statement.{statement}
 use Rattle.sizes.proofs.Sizes.share_len.Tie as tie
 
-facts : (c : tie.Then1) → Legal c.before.before.args.self
-facts c = legal-facts _ (sym c.before.legal.ensures ∙ c.if1.true)
+facts : (c : tie.Then-legal) → Legal c.before.before.args.self
+facts c = legal-facts _ (sym c.before.legal.ensures ∙ c.if-legal.true)
 
-legal-requires : tie.Need-legal-requires
-legal-requires c κs = search rules
-
-mul-result : tie.Need-overflow-mul-result
+mul-result : tie.Need-overflow_mul-result
 mul-result c = omega (arith, facts c.before)
 
-add-result : tie.Need-overflow-add-result
+add-result : tie.Need-overflow_add-result
 add-result c = omega (arith, facts c.before.before)
 
-sub-result : tie.Need-overflow-sub-result
+sub-result : tie.Need-overflow_sub-result
 sub-result c = omega (arith, facts c.before.before)
 
-returns : tie.Need-returns
-returns c = simp (← c.before.before.before.legal.ensures, c.before.before.if1.true)
+returns : tie.Need-returns-then-legal
+returns c = simp (← c.before.before.before.legal.ensures, c.before.before.if-legal.true)
 
-returns-2 : tie.Need-returns-2
-returns-2 c = simp (← c.before.legal.ensures, c.if1.false)
+returns-2 : tie.Need-returns-else-legal
+returns-2 c = simp (← c.before.legal.ensures, c.if-legal.false)
 
-pub share-len-spec : {M : Type 1} → statement M
-share-len-spec =
-    tie.close (tie.spec legal-requires mul-result add-result sub-result returns returns-2)
+pub share_len_spec : {M : Type 1} → statement M
+share_len_spec =
+    tie.close (tie.spec
+    (λ c κs. search rules)
+    mul-result
+    add-result
+    sub-result
+    returns
+    returns-2)

@@ -8,124 +8,96 @@ use Rattle.sizes.specs.declared.Check.TheVariants.{Pass}
 use Rattle.sizes.specs.Refusals.{first, store_order}
 use Rattle.store_spec.specs.Record.{Record}
 use Rattle.store_spec.specs.Edit.{edit_lines}
-use Rattle.store_spec.specs.Running.{Running}
-use Rattle.store_spec.specs.Both.{edit_both}
+use Rattle.beside_spec.specs.Running.{Running}
+use Rattle.beside_spec.specs.Both.{edit_both}
 use Rattle.record.specs.Records.{running_in}
-use Rattle.store.specs.Handing.{record_in, turned_down}
-use Rattle.store.specs.Steps.{Readable}
-use Rattle.store.proofs.Readable.{read_asked}
-use Rattle.store.proofs.EditCall.{checked, begins, edit-refuses, edit-disagrees, edit-passes, edit-asks, edit-alone, edit-works}
+use Rattle.store_work.specs.Handing.{turned_down}
+use Rattle.store.specs.Handing.{record_in}
+use Rattle.store_work.specs.Steps.{Readable}
+use Rattle.store_work.proofs.Readable.{read_asked}
+use Rattle.store_work.proofs.EditCall.{checked, begins, edit-refuses, edit-disagrees, edit-passes, edit-asks, edit-alone, edit-works}
 use Rattle.store.proofs.Store.edit.Statement.{statement}
 use Rattle.store.proofs.Store.edit.Tie as tie
 
--- the places
-abbrev st : tie.After-check-edit → tie.Start
-st c = c.before.before.before.before.before
+-- places in the code
+abbrev in-default-check_agrees-of-slice_known-2-1 : tie.After-slice_known-2-1 → tie.In_default-check_agrees
+in-default-check_agrees-of-slice_known-2-1 c = c.before.before.before.before.before
 
-abbrev at-check : tie.After-enum-told → tie.After-check-edit
-at-check c = c.before.before
+abbrev check_edit-of-in-default-check_agrees : tie.In_default-check_agrees → tie.After-check_edit
+check_edit-of-in-default-check_agrees c = c.before.before.before.before.before.before.before
 
-abbrev fill-tables-at-tables3 : tie.After-tables3 → tie.After-fill-tables
-fill-tables-at-tables3 c = c.before.before.before
+abbrev check_edit-of-in-refuse-check_agrees : tie.In-Refuse-check_agrees → tie.After-check_edit
+check_edit-of-in-refuse-check_agrees c = c.before.before.before.before.before.before.before
 
-abbrev at-filled : tie.After-check-agrees → tie.After-fill-tables
-at-filled c = fill-tables-at-tables3 c.before
+abbrev check_edit-of-slice_known-2-1 : tie.After-slice_known-2-1 → tie.After-check_edit
+check_edit-of-slice_known-2-1 c = check_edit-of-in-default-check_agrees c.before.before.before.before.before
 
-abbrev enum-told-at-fill-tables : tie.After-fill-tables → tie.After-enum-told
-enum-told-at-fill-tables c = c.before.before
+abbrev R : tie.After-check_edit → Record
+R c = record_in c.args.self
 
--- from where DISAGREE was asked to where the first check had passed
-abbrev told : tie.After-check-agrees → tie.After-enum-told
-told c = enum-told-at-fill-tables (at-filled c)
-
-abbrev at-agrees : tie.After-enum-told2 → tie.After-check-agrees
-at-agrees c = c.before.before
-
-abbrev R : tie.After-check-edit → Record
-R c = record_in (st c).args.self
-
-abbrev P : tie.After-check-edit → Running
-P c = running_in (st c).args.running
+abbrev P : tie.After-check_edit → Running
+P c = running_in c.args.running
 
 -- what the first check told
-begun : (c : tie.After-enum-told) → let k = at-check c in let a = (st k).args in begins (R k) (P k) a.area.now a.offset a.bytes.now a.boards.now ≡ Pass
-begun c = sym (at-check c).check-edit.ensures ∙ c.enum_told.given.1
+begun : (c : tie.In_default) → let a = c.args in begins (R c.before) (P c.before) a.area.now a.offset a.bytes.now a.boards.now ≡ Pass
+begun c = sym c.check_edit.ensures ∙ c.in_default.is
 
-asks : (c : tie.After-enum-told) → let k = at-check c in let a = (st k).args in Readable (R k) (length a.area.now) a.boards.now
-asks c = let k = at-check c in let a = (st k).args in edit-asks (R k) (P k) a.area.now a.offset a.bytes.now a.boards.now (begun c)
+asks : (c : tie.In_default) → let a = c.args in Readable (R c.before) (length a.area.now) a.boards.now
+asks c = let a = c.args in edit-asks (R c.before) (P c.before) a.area.now a.offset a.bytes.now a.boards.now (begun c)
 
 -- and both
-passed : (c : tie.After-enum-told2)
-    → let k = at-check (told (at-agrees c)) in let a = (st k).args in checked (R k) (P k) a.area.now a.offset a.bytes.now a.boards.now ≡ Pass
+passed : (c : tie.In_default-check_agrees)
+    → let a = c.args in checked (R (check_edit-of-in-default-check_agrees c)) (P (check_edit-of-in-default-check_agrees c)) a.area.now a.offset a.bytes.now a.boards.now ≡ Pass
 passed c =
-    let t = told (at-agrees c) in
-    let k = at-check t in
-    let a = (st k).args in
-    edit-passes (R k) (P k) a.area.now a.offset a.bytes.now a.boards.now k.check-edit.ensures t.enum_told.given.1 (at-agrees c).check-agrees.ensures c.enum-told2.given.1
+    let a = c.args in
+    edit-passes (R (check_edit-of-in-default-check_agrees c)) (P (check_edit-of-in-default-check_agrees c)) a.area.now a.offset a.bytes.now a.boards.now c.check_edit.ensures c.in_default.is c.check_agrees.ensures c.in_default-check_agrees.is
 
-abbrev enum-told2-at-edit-boards-arg : tie.After-edit-boards-arg → tie.After-enum-told2
-enum-told2-at-edit-boards-arg c = c.before.before
-
-edit-done : tie.Need-returns-3
+edit-done : tie.Need-returns
 edit-done c =
-    let w = c.before.before in
-    let q = enum-told2-at-edit-boards-arg w.before in
-    let k = at-check (told (at-agrees q)) in
-    let a = (st k).args in
-    edit-works (R k) (P k) a.area.now a.offset a.bytes.now a.boards.now _ (passed q) w.edit-boards.ensures
+    let a = c.args in
+    edit-works (R (check_edit-of-slice_known-2-1 c)) (P (check_edit-of-slice_known-2-1 c)) a.area.now a.offset a.bytes.now a.boards.now _ (passed (in-default-check_agrees-of-slice_known-2-1 c)) c.edit_boards.ensures
 
 -- the call alone passes too
-alone : (c : tie.After-enum-told2)
-    → let k = at-check (told (at-agrees c)) in let a = (st k).args in
-    first store_order (edit_lines (R k) a.area.now a.offset a.bytes.now a.boards.now) ≡ Pass
+alone : (c : tie.In_default-check_agrees)
+    → let a = c.args in
+    first store_order (edit_lines (R (check_edit-of-in-default-check_agrees c)) a.area.now a.offset a.bytes.now a.boards.now) ≡ Pass
 alone c =
-    let k = at-check (told (at-agrees c)) in
-    let a = (st k).args in
-    edit-alone (R k) (P k) a.area.now a.offset a.bytes.now a.boards.now (passed c)
+    let a = c.args in
+    edit-alone (R (check_edit-of-in-default-check_agrees c)) (P (check_edit-of-in-default-check_agrees c)) a.area.now a.offset a.bytes.now a.boards.now (passed c)
 
-abbrev check-edit-at-x : tie.After-x → tie.After-check-edit
-check-edit-at-x c = c.before.before
-
-edit-refused : (c : tie.After-x)
-    → let k = check-edit-at-x c in let a = (st k).args in
-    turned_down (R k) (P k) a.area.now [] [] c.x.given.0.0 ≡ edit_both (R k) (P k) a.area.now a.offset a.bytes.now a.boards.now
+edit-refused : (c : tie.In-Refuse)
+    → let a = c.args in
+    turned_down (R c.before) (P c.before) a.area.now [] [] c.in-Refuse.x ≡ edit_both (R c.before) (P c.before) a.area.now a.offset a.bytes.now a.boards.now
 edit-refused c =
-    let k = check-edit-at-x c in
-    let a = (st k).args in
-    edit-refuses (R k) (P k) a.area.now a.offset a.bytes.now a.boards.now k.check-edit.ensures c.x.given.1
+    let a = c.args in
+    edit-refuses (R c.before) (P c.before) a.area.now a.offset a.bytes.now a.boards.now c.check_edit.ensures c.in-Refuse.is
 
-abbrev check-agrees-at-disagree : tie.After-disagree → tie.After-check-agrees
-check-agrees-at-disagree c = c.before.before
-
-edit-disagreed : (c : tie.After-disagree)
-    → let k = at-check (told (check-agrees-at-disagree c)) in let a = (st k).args in
-    turned_down (R k) (P k) a.area.now [] [] c.disagree.given.0.0 ≡ edit_both (R k) (P k) a.area.now a.offset a.bytes.now a.boards.now
+edit-disagreed : (c : tie.In-Refuse-check_agrees)
+    → let a = c.args in
+    turned_down (R (check_edit-of-in-refuse-check_agrees c)) (P (check_edit-of-in-refuse-check_agrees c)) a.area.now [] [] c.in-Refuse-check_agrees.disagree ≡ edit_both (R (check_edit-of-in-refuse-check_agrees c)) (P (check_edit-of-in-refuse-check_agrees c)) a.area.now a.offset a.bytes.now a.boards.now
 edit-disagreed c =
-    let n = check-agrees-at-disagree c in
-    let t = told n in
-    let k = at-check t in
-    let a = (st k).args in
-    edit-disagrees (R k) (P k) a.area.now a.offset a.bytes.now a.boards.now k.check-edit.ensures t.enum_told.given.1 n.check-agrees.ensures c.disagree.given.1
+    let a = c.args in
+    edit-disagrees (R (check_edit-of-in-refuse-check_agrees c)) (P (check_edit-of-in-refuse-check_agrees c)) a.area.now a.offset a.bytes.now a.boards.now c.check_edit.ensures c.in_default.is c.check_agrees.ensures c.in-Refuse-check_agrees.is
 
-pub edit-spec : {M : Type 1} → statement M
-edit-spec =
+pub edit_spec : {M : Type 1} → statement M
+edit_spec =
     tie.close
     (tie.spec
     (λ c κs. search rules)
     (λ c. search rules)
     (λ c κs. search rules)
-    (λ c. c.refuse.ensures _ [] [] ∙ edit-refused c.before.before)
+    (λ c. c.refuse.ensures _ [] [] ∙ edit-refused c.before)
     (λ c. search rules)
     (λ c. search rules)
     (λ c κs. (read_asked _ _ _ (asks c.before), search rules))
     (λ c. search rules)
-    (λ c κs. let w = fill-tables-at-tables3 c in (asks (enum-told-at-fill-tables w), w.fill-tables.ensures))
+    (λ c κs. (asks c.before.before.before.before, c.fill_tables.ensures))
     (λ c. search rules)
     (λ c κs. search rules)
     (λ c. search rules)
-    (λ c. c.refuse2.ensures _ [] [] ∙ edit-disagreed c.before.before)
+    (λ c. c.refuse-in-Refuse-check_agrees.ensures _ [] [] ∙ edit-disagreed c.before)
     (λ c. search rules)
     (λ c. search rules)
-    (λ c κs. let q = enum-told2-at-edit-boards-arg c in (alone q, (at-filled (at-agrees q)).fill-tables.ensures))
+    (λ c κs. (alone c.before.before, c.fill_tables.ensures))
     (λ c. search rules)
     edit-done)

@@ -6,41 +6,38 @@ use Prim.Native.Nat.{ℕ}
 use borrow.Author.Rules.{rules}
 use Rattle.sizes.specs.declared.Check.TheVariants.{Pass}
 use Rattle.store_spec.specs.Record.{Record}
-use Rattle.store_spec.specs.Running.{Running}
-use Rattle.store_spec.specs.Both.{lose_both}
+use Rattle.beside_spec.specs.Running.{Running}
+use Rattle.beside_spec.specs.Both.{lose_both}
 use Rattle.record.specs.Records.{running_in}
-use Rattle.store.specs.Handing.{record_in, turned_down}
-use Rattle.store.proofs.Settled.{lost, lose-refuses, lose-works, lose-beside, lose-marked, lose-legal}
+use Rattle.store_work.specs.Handing.{turned_down}
+use Rattle.store.specs.Handing.{record_in}
+use Rattle.store_work.proofs.Settled.{lost, lose-refuses, lose-works, lose-beside, lose-marked, lose-legal}
 use Rattle.store.proofs.Store.lose.Statement.{statement}
 use Rattle.store.proofs.Store.lose.Tie as tie
 
--- the places
-abbrev st : tie.After-check-lose → tie.Start
-st c = c.before.before
+abbrev R : tie.After-check_lose → Record
+R c = record_in c.args.self
 
-abbrev R : tie.After-check-lose → Record
-R c = record_in (st c).args.self
-
-abbrev P : tie.After-check-lose → Running
-P c = running_in (st c).args.running
+abbrev P : tie.After-check_lose → Running
+P c = running_in c.args.running
 
 -- what the check told
-passed : (c : tie.After-enum-told) → let k = c.before.before in lost (R k) (P k) (st k).args.board ≡ Pass
-passed c = sym c.before.before.check-lose.ensures ∙ c.enum_told.given.1
+passed : (c : tie.In_default) → lost (R c.before) (P c.before) c.args.board ≡ Pass
+passed c = sym c.check_lose.ensures ∙ c.in_default.is
 
-lose-refused : (c : tie.After-x) (area : List ℕ)
-    → let k = c.before.before in turned_down (R k) (P k) area [] [] c.x.given.0.0 ≡ lose_both (R k) (P k) area (st k).args.board
-lose-refused c area = let k = c.before.before in lose-refuses (R k) (P k) (st k).args.board k.check-lose.ensures c.x.given.1 area
+lose-refused : (c : tie.In-Refuse) (area : List ℕ)
+    → turned_down (R c.before) (P c.before) area [] [] c.in-Refuse.x ≡ lose_both (R c.before) (P c.before) area c.args.board
+lose-refused c area = lose-refuses (R c.before) (P c.before) c.args.board c.check_lose.ensures c.in-Refuse.is area
 
-pub lose-spec : {M : Type 1} → statement M
-lose-spec =
+pub lose_spec : {M : Type 1} → statement M
+lose_spec =
     tie.close
     (tie.spec
     (λ c κs. search rules)
     (λ c. search rules)
     (λ c κs. search rules)
-    (λ c area. c.refuse.ensures area [] [] ∙ lose-refused c.before.before area)
+    (λ c area. c.refuse.ensures area [] [] ∙ lose-refused c.before area)
     (λ c. search rules)
     (λ c κs. let h = passed c in (lose-legal _ _ _ h, lose-beside _ _ _ h, lose-marked _ _ _ h))
     (λ c. lose-marked _ _ _ (passed c.before))
-    (λ c area. lose-works _ _ _ _ (passed c.before) c.lost-beside.ensures area))
+    (λ c area. lose-works _ _ _ _ (passed c.before) c.lost_beside-beside.ensures area))

@@ -8,101 +8,73 @@ use Rattle.sizes.specs.declared.Check.TheVariants.{Pass}
 use Rattle.sizes.specs.Refusals.{first, store_order}
 use Rattle.store_spec.specs.Record.{Record}
 use Rattle.store_spec.specs.Calls.{read_lines}
-use Rattle.store_spec.specs.Running.{Running}
-use Rattle.store_spec.specs.Both.{read_both}
+use Rattle.beside_spec.specs.Running.{Running}
+use Rattle.beside_spec.specs.Both.{read_both}
 use Rattle.record.specs.Records.{running_in}
-use Rattle.store.specs.Handing.{record_in, turned_down}
-use Rattle.store.specs.Steps.{Readable}
-use Rattle.store.proofs.Readable.{read_asked}
-use Rattle.store.proofs.ReadCall.{checked, begins, read-refuses, read-disagrees, read-passes, read-asks, read-alone, read-works}
+use Rattle.store_work.specs.Handing.{turned_down}
+use Rattle.store.specs.Handing.{record_in}
+use Rattle.store_work.specs.Steps.{Readable}
+use Rattle.store_work.proofs.Readable.{read_asked}
+use Rattle.store_work.proofs.ReadCall.{checked, begins, read-refuses, read-disagrees, read-passes, read-asks, read-alone, read-works}
 use Rattle.store.proofs.Store.read.Statement.{statement}
 use Rattle.store.proofs.Store.read.Tie as tie
 
--- the places
-abbrev st : tie.After-check-read → tie.Start
-st c = c.before.before.before.before.before.before
+-- places in the code
+abbrev in-default-check_agrees-of-slice_known-2-1 : tie.After-slice_known-2-1 → tie.In_default-check_agrees
+in-default-check_agrees-of-slice_known-2-1 c = c.before.before.before.before.before
 
-abbrev at-check : tie.After-enum-told → tie.After-check-read
-at-check c = c.before.before
+abbrev check_read-of-in-default-check_agrees : tie.In_default-check_agrees → tie.After-check_read
+check_read-of-in-default-check_agrees c = c.before.before.before.before.before.before.before
 
-abbrev fill-tables-at-tables3 : tie.After-tables3 → tie.After-fill-tables
-fill-tables-at-tables3 c = c.before.before
+abbrev check_read-of-in-refuse-check_agrees : tie.In-Refuse-check_agrees → tie.After-check_read
+check_read-of-in-refuse-check_agrees c = c.before.before.before.before.before.before.before
 
-abbrev at-filled : tie.After-check-agrees → tie.After-fill-tables
-at-filled c = fill-tables-at-tables3 c.before
+abbrev check_read-of-slice_known-2-1 : tie.After-slice_known-2-1 → tie.After-check_read
+check_read-of-slice_known-2-1 c = check_read-of-in-default-check_agrees c.before.before.before.before.before
 
-abbrev enum-told-at-fill-tables : tie.After-fill-tables → tie.After-enum-told
-enum-told-at-fill-tables c = c.before.before
+abbrev R : tie.After-check_read → Record
+R c = record_in c.args.self
 
--- from where DISAGREE was asked to where the first check had passed
-abbrev told : tie.After-check-agrees → tie.After-enum-told
-told c = enum-told-at-fill-tables (at-filled c)
-
-abbrev at-agrees : tie.After-enum-told2 → tie.After-check-agrees
-at-agrees c = c.before.before
-
-abbrev R : tie.After-check-read → Record
-R c = record_in (st c).args.self
-
-abbrev P : tie.After-check-read → Running
-P c = running_in (st c).args.running
+abbrev P : tie.After-check_read → Running
+P c = running_in c.args.running
 
 -- what the first check told
-begun : (c : tie.After-enum-told) → let k = at-check c in begins (R k) (P k) (st k).args.area.now (st k).args.boards.now (st k).args.out.now ≡ Pass
-begun c = sym (at-check c).check-read.ensures ∙ c.enum_told.given.1
+begun : (c : tie.In_default) → begins (R c.before) (P c.before) c.args.area.now c.args.boards.now c.args.out.now ≡ Pass
+begun c = sym c.check_read.ensures ∙ c.in_default.is
 
-asks : (c : tie.After-enum-told) → let k = at-check c in Readable (R k) (length (st k).args.area.now) (st k).args.boards.now
-asks c = let k = at-check c in read-asks (R k) (P k) (st k).args.area.now (st k).args.boards.now (st k).args.out.now (begun c)
+asks : (c : tie.In_default) → Readable (R c.before) (length c.args.area.now) c.args.boards.now
+asks c = read-asks (R c.before) (P c.before) c.args.area.now c.args.boards.now c.args.out.now (begun c)
 
 -- and both
-passed : (c : tie.After-enum-told2)
-    → let k = at-check (told (at-agrees c)) in checked (R k) (P k) (st k).args.area.now (st k).args.boards.now (st k).args.out.now ≡ Pass
+passed : (c : tie.In_default-check_agrees)
+    → checked (R (check_read-of-in-default-check_agrees c)) (P (check_read-of-in-default-check_agrees c)) c.args.area.now c.args.boards.now c.args.out.now ≡ Pass
 passed c =
-    let t = told (at-agrees c) in
-    let k = at-check t in
-    let a = (st k).args in
-    read-passes (R k) (P k) a.area.now a.boards.now a.out.now k.check-read.ensures t.enum_told.given.1 (at-agrees c).check-agrees.ensures c.enum-told2.given.1
+    let a = c.args in
+    read-passes (R (check_read-of-in-default-check_agrees c)) (P (check_read-of-in-default-check_agrees c)) a.area.now a.boards.now a.out.now c.check_read.ensures c.in_default.is c.check_agrees.ensures c.in_default-check_agrees.is
 
-abbrev enum-told2-at-read-file-arg : tie.After-read-file-arg → tie.After-enum-told2
-enum-told2-at-read-file-arg c = c.before.before
-
-read-done : tie.Need-returns-3
+read-done : tie.Need-returns
 read-done c =
-    let w = c.before.before in
-    let q = enum-told2-at-read-file-arg w.before in
-    let k = at-check (told (at-agrees q)) in
-    read-works (R k) (P k) (st k).args.area.now (st k).args.boards.now (st k).args.out.now _ (passed q) w.read-file.ensures
+    read-works (R (check_read-of-slice_known-2-1 c)) (P (check_read-of-slice_known-2-1 c)) c.args.area.now c.args.boards.now c.args.out.now _ (passed (in-default-check_agrees-of-slice_known-2-1 c)) c.read_file.ensures
 
 -- the call alone passes too
-alone : (c : tie.After-enum-told2)
-    → let k = at-check (told (at-agrees c)) in first store_order (read_lines (R k) (st k).args.area.now (st k).args.boards.now (st k).args.out.now) ≡ Pass
+alone : (c : tie.In_default-check_agrees)
+    → first store_order (read_lines (R (check_read-of-in-default-check_agrees c)) c.args.area.now c.args.boards.now c.args.out.now) ≡ Pass
 alone c =
-    let k = at-check (told (at-agrees c)) in
-    read-alone (R k) (P k) (st k).args.area.now (st k).args.boards.now (st k).args.out.now (passed c)
+    read-alone (R (check_read-of-in-default-check_agrees c)) (P (check_read-of-in-default-check_agrees c)) c.args.area.now c.args.boards.now c.args.out.now (passed c)
 
-abbrev check-read-at-x : tie.After-x → tie.After-check-read
-check-read-at-x c = c.before.before
-
-read-refused : (c : tie.After-x)
-    → let k = check-read-at-x c in let a = (st k).args in
-    turned_down (R k) (P k) a.area.now a.out.now [] c.x.given.0.0 ≡ read_both (R k) (P k) a.area.now a.boards.now a.out.now
+read-refused : (c : tie.In-Refuse)
+    → let a = c.args in
+    turned_down (R c.before) (P c.before) a.area.now a.out.now [] c.in-Refuse.x ≡ read_both (R c.before) (P c.before) a.area.now a.boards.now a.out.now
 read-refused c =
-    let k = check-read-at-x c in
-    let a = (st k).args in
-    read-refuses (R k) (P k) a.area.now a.boards.now a.out.now k.check-read.ensures c.x.given.1
+    let a = c.args in
+    read-refuses (R c.before) (P c.before) a.area.now a.boards.now a.out.now c.check_read.ensures c.in-Refuse.is
 
-abbrev check-agrees-at-disagree : tie.After-disagree → tie.After-check-agrees
-check-agrees-at-disagree c = c.before.before
-
-read-disagreed : (c : tie.After-disagree)
-    → let k = at-check (told (check-agrees-at-disagree c)) in let a = (st k).args in
-    turned_down (R k) (P k) a.area.now a.out.now [] c.disagree.given.0.0 ≡ read_both (R k) (P k) a.area.now a.boards.now a.out.now
+read-disagreed : (c : tie.In-Refuse-check_agrees)
+    → let a = c.args in
+    turned_down (R (check_read-of-in-refuse-check_agrees c)) (P (check_read-of-in-refuse-check_agrees c)) a.area.now a.out.now [] c.in-Refuse-check_agrees.disagree ≡ read_both (R (check_read-of-in-refuse-check_agrees c)) (P (check_read-of-in-refuse-check_agrees c)) a.area.now a.boards.now a.out.now
 read-disagreed c =
-    let n = check-agrees-at-disagree c in
-    let t = told n in
-    let k = at-check t in
-    let a = (st k).args in
-    read-disagrees (R k) (P k) a.area.now a.boards.now a.out.now k.check-read.ensures t.enum_told.given.1 n.check-agrees.ensures c.disagree.given.1
+    let a = c.args in
+    read-disagrees (R (check_read-of-in-refuse-check_agrees c)) (P (check_read-of-in-refuse-check_agrees c)) a.area.now a.boards.now a.out.now c.check_read.ensures c.in_default.is c.check_agrees.ensures c.in-Refuse-check_agrees.is
 
 pub read_spec : {M : Type 1} → statement M
 read_spec =
@@ -112,18 +84,18 @@ read_spec =
     (λ c. search rules)
     (λ c κs. search rules)
     (λ c. search rules)
-    (λ c. c.refuse.ensures _ _ [] ∙ read-refused c.before.before)
+    (λ c. c.refuse.ensures _ _ [] ∙ read-refused c.before)
     (λ c. search rules)
     (λ c. search rules)
     (λ c κs. (read_asked _ _ _ (asks c.before), search rules))
     (λ c. search rules)
-    (λ c κs. let w = fill-tables-at-tables3 c in (asks (enum-told-at-fill-tables w), w.fill-tables.ensures))
+    (λ c κs. (asks c.before.before.before.before, c.fill_tables.ensures))
     (λ c. search rules)
     (λ c κs. search rules)
     (λ c. search rules)
-    (λ c. c.refuse2.ensures _ _ [] ∙ read-disagreed c.before.before)
+    (λ c. c.refuse-in-Refuse-check_agrees.ensures _ _ [] ∙ read-disagreed c.before)
     (λ c. search rules)
     (λ c. search rules)
-    (λ c κs. let q = enum-told2-at-read-file-arg c in (alone q, (at-filled (at-agrees q)).fill-tables.ensures))
+    (λ c κs. (alone c.before.before, c.fill_tables.ensures))
     (λ c. search rules)
     read-done)

@@ -1,0 +1,9 @@
+pub mod Lying
+pub mod Running
+pub mod Both
+pub mod Acting
+pub mod HandedLaws
+pub mod BesideLaws
+pub mod BothCalls
+pub mod AloneLaws
+pub mod StepLaws

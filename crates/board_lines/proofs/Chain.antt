@@ -1,0 +1,63 @@
+-- Checks one after another: the first refusal, or Pass. And that the lines of a call are such a chain.
+-- Assumes nothing.
+use mathlib.Core.Path.{◌≡◌, refl, sym, ap, ◌∙◌}
+use mathlib.Core.Bool.{Bool, true, false, not}
+use mathlib.Core.List.{List, [], ◌∷◌, ◌++◌}
+use Rattle.lists.specs.Lists.{concat}
+use Rattle.lists.specs.Tests.{pick}
+use Rattle.sizes.specs.declared.Refusal.{Refusal}
+use Rattle.sizes.specs.declared.Refusal.TheVariants.{Area, Count}
+use Rattle.sizes.specs.declared.Check.{Check}
+use Rattle.sizes.specs.declared.Check.TheVariants.{Pass, Refuse}
+use Rattle.sizes.specs.Refusals.{Line, ◌when◌}
+use Rattle.board_spec.specs.Calls.{area_line, count_line}
+use Rattle.line_checks.specs.Steps.{asked}
+use Rattle.board_lines.proofs.Given.{chain}
+
+-- a check, and where it passes what comes after it
+abbrev pub then : Check → Check → Check
+then Pass rest = rest
+then (Refuse x) rest = Refuse x
+
+pub last : (a : Check) → then a Pass ≡ a
+last Pass = refl
+last (Refuse x) = refl
+
+-- a call answers w, and its next check r: where r passes, w is what comes after it; where r refuses, that refusal
+pub goes-on : {a b w r : Check} → then a b ≡ w → r ≡ a → r ≡ Pass → b ≡ w
+goes-on {a} {b} p e h = sym (ap (λ (c : Check). then c b) (sym e ∙ h)) ∙ p
+
+pub refuses : {a w r : Check} (b : Check) {x : Refusal} → then a b ≡ w → r ≡ a → r ≡ Refuse x → Refuse x ≡ w
+refuses b p e h = sym (ap (λ (c : Check). then c b) (sym e ∙ h)) ∙ p
+
+-- the last check's answer is the call's
+pub ends : {a w r : Check} → then a Pass ≡ w → r ≡ a → r ≡ w
+ends {a} p e = e ∙ sym (last a) ∙ p
+
+-- lines in two parts
+pub split : (ls ms : List Line) → chain (ls ++ ms) ≡ then (chain ls) (chain ms)
+split [] ms = refl
+split (l ∷ ls) ms = go l.applies (split ls ms)
+  where
+    go : (t : Bool) → chain (ls ++ ms) ≡ then (chain ls) (chain ms)
+        → pick t (Refuse l.refusal) (chain (ls ++ ms)) ≡ then (pick t (Refuse l.refusal) (chain ls)) (chain ms)
+    go true e = refl
+    go false e = e
+
+-- lines in groups, one for each check of a call
+abbrev pub thens : List (List Line) → Check
+thens [] = Pass
+thens (ls ∷ groups) = then (chain ls) (thens groups)
+
+pub grouped : (groups : List (List Line)) → thens groups ≡ chain (concat groups)
+grouped [] = refl
+grouped (ls ∷ groups) = ap (then (chain ls)) (grouped groups) ∙ sym (split ls (concat groups))
+
+-- a line with one test
+pub one-count : (b : Bool) → asked (count_line (b ∷ [])) ≡ asked (Count when not b)
+one-count true = refl
+one-count false = refl
+
+pub one-area : (b : Bool) → asked (area_line (b ∷ [])) ≡ asked (Area when not b)
+one-area true = refl
+one-area false = refl

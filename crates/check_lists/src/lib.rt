@@ -1,0 +1,137 @@
+//! The check of the lists of a repair: who is named fresh, who helps and who stands in, in document 01's order. Each check's answer is taken apart,
+//! and a refusal returned early.
+
+#![tactic(auto)]
+
+ghost use Rattle.std.specs.Prelude.{◌≡◌, true, false, not, ◌++◌, ◌-◌, ◌*◌, get_or};
+ghost use Rattle.lists.specs.Tests.{every, alls, different, apart};
+ghost use Rattle.sizes.specs.declared.Refusal.TheVariants.{Repeat, Down, Serving};
+ghost use Rattle.sizes.specs.Sizing.{legal};
+ghost use Rattle.sizes.specs.Refusals.{◌when◌, first, store_order};
+ghost use Rattle.board_spec.specs.Calls.{node_line};
+ghost use Rattle.store_spec.specs.Packets.{hear_named};
+ghost use Rattle.store_spec.specs.Calls.{list_lines};
+ghost use Rattle.line_checks.specs.Steps.{asked};
+ghost use Rattle.list_tests.specs.Steps.{Runs, named, repeat_tests};
+
+use sizes::{Check, Refusal, Sizes};
+
+// 5 NODE of three lists.
+pub fn check_three_lists(sizes: Sizes, boards: &[usize], others: &[usize], more: &[usize]) -> Check
+    ensures { result ≡ asked (node_line sizes (boards.now ++ (others.now ++ more.now))) }
+{
+    if line_tests::below(sizes.n, boards) {
+        return store_lines::check_two_lists(sizes, others, more);
+    }
+    Check::Refuse(Refusal::Node)
+}
+
+// Whether no board stands twice among the d helpers and e stand-ins of one fresh board.
+fn runs_differ(d: usize, e: usize, fresh: &[usize], helpers: &[usize], standins: &[usize]) -> bool
+    requires { Runs d e fresh.now helpers.now standins.now }
+    ensures { result ≡ every (λ h. different h.senders) (hear_named d e fresh.now helpers.now standins.now) }
+{
+    let mut a: usize = 0;
+    while a < fresh.len() {
+        let from = a * d;
+        let to = from + d;
+        let start = a * e;
+        let end = start + e;
+        if list_tests::both_differ(&helpers[from..to], &standins[start..end]) {
+            a += 1;
+        } else {
+            return false;
+        }
+    }
+    true
+}
+
+// 6 REPEAT of a repair.
+pub fn check_named(
+    d: usize,
+    e: usize,
+    fresh: &[usize],
+    helpers: &[usize],
+    standins: &[usize],
+) -> Check
+    requires { Runs d e fresh.now helpers.now standins.now }
+    ensures { result ≡ asked (Repeat when not (alls (repeat_tests d e fresh.now helpers.now standins.now))) }
+{
+    if line_tests::different(fresh) {
+        if runs_differ(d, e, fresh, helpers, standins) {
+            if line_tests::apart(fresh, helpers) {
+                if line_tests::apart(fresh, standins) {
+                    return Check::Pass;
+                }
+            }
+        }
+    }
+    Check::Refuse(Refusal::Repeat)
+}
+
+// Whether each board is out of service.
+fn all_out(marks: &[bool], boards: &[usize]) -> bool
+    ensures { result ≡ every (λ i. not (get_or marks.now i false)) boards.now }
+{
+    let mut t: usize = 0;
+    while t < boards.len() {
+        if store_lines::mark_of(marks, boards[t]) {
+            return false;
+        }
+        t += 1;
+    }
+    true
+}
+
+// 14 SERVING.
+pub fn check_out(marks: &[bool], boards: &[usize]) -> Check
+    ensures { result ≡ asked (Serving when not (every (λ i. not (get_or marks.now i false)) boards.now)) }
+{
+    if all_out(marks, boards) {
+        Check::Pass
+    } else {
+        Check::Refuse(Refusal::Serving)
+    }
+}
+
+// 9 DOWN of two lists.
+pub fn check_both_service(marks: &[bool], boards: &[usize], others: &[usize]) -> Check
+    ensures { result ≡ asked (Down when not (every (λ i. get_or marks.now i false) (boards.now ++ others.now))) }
+{
+    if store_lines::all_on(marks, boards) {
+        return store_lines::check_service(marks, others);
+    }
+    Check::Refuse(Refusal::Down)
+}
+
+// The first refusal of the lists of a repair, on a record of these sizes and marks.
+pub fn check_lists(
+    sizes: Sizes,
+    marks: &[bool],
+    fresh: &[usize],
+    helpers: &[usize],
+    standins: &[usize],
+) -> Check
+    requires { legal sizes ≡ true }
+    ensures { result ≡ first store_order (list_lines (named sizes marks.now) fresh.now helpers.now standins.now) }
+{
+    if let Check::Refuse(count) = list_tests::check_named_counts(
+        sizes,
+        fresh.len(),
+        helpers.len(),
+        standins.len(),
+    ) {
+        return Check::Refuse(count);
+    }
+    if let Check::Refuse(node) = check_three_lists(sizes, fresh, helpers, standins) {
+        return Check::Refuse(node);
+    }
+    let each = sizes.r - fresh.len();
+    if let Check::Refuse(repeat) = check_named(sizes.d, each, fresh, helpers, standins) {
+        return Check::Refuse(repeat);
+    }
+    if let Check::Refuse(serving) = check_out(marks, fresh) {
+        return Check::Refuse(serving);
+    }
+    check_both_service(marks, helpers, standins)
+}

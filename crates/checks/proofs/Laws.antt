@@ -1,7 +1,0 @@
--- An outcome by its parts.
--- Assumes nothing.
-use mathlib.Core.Path.{refl}
-use Rattle.checks.specs.Laws.{OutcomeIs}
-
-pub outcome-is : OutcomeIs
-outcome-is a output = refl

@@ -1,9 +1,0 @@
--- What a call answered and left in its output, by its parts. proofs/Laws.antt has `outcome-is`.
--- Assumes nothing.
-use Rattle.std.specs.Prelude.{◌≡◌, List, ℕ}
-use Rattle.sizes.specs.declared.Answer.{Answer}
-use Rattle.sizes.specs.Refusals.{said}
-use Rattle.checks.specs.Outcomes.{outcome}
-
-abbrev pub OutcomeIs : Type 0
-OutcomeIs = (a : Answer) (output : List ℕ) → outcome a output ≡ record { answer = said a; output = output }

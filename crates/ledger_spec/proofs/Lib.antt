@@ -1,0 +1,14 @@
+pub mod Agree
+pub mod Step
+pub mod StepRepair
+pub mod StepRead
+pub mod StepEdit
+pub mod StepCareful
+pub mod StepMove
+pub mod StepCarry
+pub mod Whole
+pub mod Demand3
+pub mod LedgerLaws
+pub mod ListLaws
+pub mod Tested
+pub mod Premises

@@ -1,0 +1,4 @@
+pub mod WornLaws
+pub mod TurnListLaws
+pub mod Stepped
+pub mod Follows

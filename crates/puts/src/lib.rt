@@ -1,2 +1,0 @@
-// Bytes put at many places: definitions and laws only.
-// Assumes nothing.

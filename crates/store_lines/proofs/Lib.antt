@@ -1,0 +1,4 @@
+pub mod Walks
+pub mod Sound
+pub mod Repairs
+pub mod Ready

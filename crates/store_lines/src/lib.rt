@@ -1,0 +1,204 @@
+//! The checks of the store's lines, over its record, and the marks that its calls turn on. A check answers the refusal where its
+//! line holds.
+
+#![tactic(auto)]
+
+ghost use Rattle.std.specs.Prelude.{◌≡◌, true, false, not, ◌++◌, ◌*◌, ltb, length, get_or, drop};
+ghost use Rattle.lists.specs.Lists.{tabulate};
+ghost use Rattle.lists.specs.Tests.{every, below};
+ghost use Rattle.sizes.specs.declared.Refusal.TheVariants.{Long, Empty, Busy, Idle, Down};
+ghost use Rattle.sizes.specs.Sizing.{legal, B};
+ghost use Rattle.sizes.specs.Refusals.{◌when◌};
+ghost use Rattle.board_spec.specs.Calls.{node_line};
+ghost use Rattle.store_spec.specs.Record.{all_off, sound, turn_on};
+ghost use Rattle.store_spec.specs.Calls.{record_line};
+ghost use Rattle.line_checks.specs.Steps.{asked};
+ghost use Rattle.record.specs.Records.{record_of};
+ghost use Rattle.store_lines.specs.Steps.{Bounded};
+
+use record::Kept;
+use sizes::{Check, Refusal, Sizes};
+
+// Whether some mark at place `from` or after it is on.
+pub fn some_on(marks: &[bool], from: usize) -> bool
+    ensures { not result ≡ all_off (drop from marks.now) }
+{
+    let mut i = from;
+    while i < marks.len() {
+        if marks[i] {
+            return true;
+        }
+        i += 1;
+    }
+    false
+}
+
+// Whether a record with legal sizes is one that calls return.
+fn sound_in(kept: Kept) -> bool
+    requires { legal kept.sizes ≡ true }
+    ensures { result ≡ sound (record_of kept) }
+{
+    let sizes = kept.sizes;
+    let points = kept.points;
+    let marks = kept.marks;
+    if !line_checks::points_taken(sizes, &points) {
+        return false;
+    }
+    if kept.capacity < 1 {
+        return false;
+    }
+    if Sizes::MAX_STRIPES < kept.capacity {
+        return false;
+    }
+    if kept.capacity * sizes.stripe_len() < kept.length {
+        return false;
+    }
+    if some_on(&marks, sizes.n) {
+        return false;
+    }
+    if kept.written {
+        return true;
+    }
+    if 0 < kept.length {
+        return false;
+    }
+    if some_on(&marks, 0) {
+        return false;
+    }
+    true
+}
+
+// 1 SIZE of a record.
+pub fn check_record(kept: Kept) -> Check
+    ensures { result ≡ asked (record_line (record_of kept)) }
+{
+    let sizes = kept.sizes;
+    if sizes.legal() {
+        if sound_in(kept) {
+            return Check::Pass;
+        }
+    }
+    Check::Refuse(Refusal::Size)
+}
+
+// 3 LONG, the store.
+pub fn check_fits(sizes: Sizes, capacity: usize, got: usize) -> Check
+    requires { Bounded sizes capacity }
+    ensures { result ≡ asked (Long when ltb (capacity * B sizes) got) }
+{
+    if capacity * sizes.stripe_len() < got {
+        Check::Refuse(Refusal::Long)
+    } else {
+        Check::Pass
+    }
+}
+
+// 5 NODE of two lists.
+pub fn check_two_lists(sizes: Sizes, boards: &[usize], others: &[usize]) -> Check
+    ensures { result ≡ asked (node_line sizes (boards.now ++ others.now)) }
+{
+    if line_tests::below(sizes.n, boards) {
+        return board_lines::check_nodes(sizes, others);
+    }
+    Check::Refuse(Refusal::Node)
+}
+
+// 8 EMPTY.
+pub fn check_written(written: bool) -> Check
+    ensures { result ≡ asked (Empty when not written) }
+{
+    if !written {
+        return Check::Refuse(Refusal::Empty);
+    }
+    Check::Pass
+}
+
+// 16 BUSY.
+pub fn check_busy(running: bool) -> Check
+    ensures { result ≡ asked (Busy when running) }
+{
+    if running {
+        return Check::Refuse(Refusal::Busy);
+    }
+    Check::Pass
+}
+
+// 17 IDLE.
+pub fn check_idle(running: bool) -> Check
+    ensures { result ≡ asked (Idle when not running) }
+{
+    if !running {
+        return Check::Refuse(Refusal::Idle);
+    }
+    Check::Pass
+}
+
+// The mark of a board; off where it has none.
+pub fn mark_of(marks: &[bool], board: usize) -> bool
+    ensures { result ≡ get_or marks.now board false }
+{
+    if board < marks.len() {
+        marks[board]
+    } else {
+        false
+    }
+}
+
+// Whether each board is in service.
+pub fn all_on(marks: &[bool], boards: &[usize]) -> bool
+    ensures { result ≡ every (λ i. get_or marks.now i false) boards.now }
+{
+    let mut t: usize = 0;
+    while t < boards.len() {
+        if mark_of(marks, boards[t]) {
+            t += 1;
+        } else {
+            return false;
+        }
+    }
+    true
+}
+
+// 9 DOWN.
+pub fn check_service(marks: &[bool], boards: &[usize]) -> Check
+    ensures { result ≡ asked (Down when not (every (λ i. get_or marks.now i false) boards.now)) }
+{
+    if all_on(marks, boards) {
+        Check::Pass
+    } else {
+        Check::Refuse(Refusal::Down)
+    }
+}
+
+// The marks of the first n boards on, the others off.
+pub fn first_on(n: usize) -> [bool; 32]
+    ensures { result ≡ tabulate 32 (λ i. ltb i n) }
+{
+    let mut marks = [false; 32];
+    turn_on(n, &mut marks);
+    marks
+}
+
+// Each mark by its board's number.
+fn turn_on(n: usize, marks: &mut [bool])
+    ensures { marks.new ≡ tabulate (length marks.old) (λ i. ltb i n) }
+{
+    let mut i: usize = 0;
+    while i < marks.len() {
+        marks[i] = i < n;
+        i += 1;
+    }
+}
+
+// The marks of these boards go on.
+pub fn marks_on(boards: &[usize], marks: &mut [bool])
+    requires { below (length marks.old) boards.now ≡ true }
+    ensures { marks.new ≡ turn_on boards.now marks.old }
+{
+    let mut t: usize = 0;
+    while t < boards.len() {
+        let b = boards[t];
+        marks[b] = true;
+        t += 1;
+    }
+}
