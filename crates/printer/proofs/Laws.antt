@@ -52,7 +52,7 @@ lines-said asked then h input =
     on (name_of 3) _ _ (λ d input.
     on (name_of 2) _ _ (λ r input.
     on (name_of 1) _ _ (λ node input.
-    h (record { n = n; k = k; d = d; r = r }) node input) input) input) input) input) input
+    h _ node input) input) input) input) input) input
   where
     on : (name : List ℕ) (go then : ℕ → List ℕ → List ℕ) → ((v : ℕ) (rest : List ℕ) → go (held v) rest ≡ then v rest)
         → (input : List ℕ) → steps.reads (refused_line 1) name max_number steps.begin input go ≡ line (refused_line 1) name input then

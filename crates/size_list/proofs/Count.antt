@@ -7,7 +7,7 @@ use native.Mathlib.Nat.{add-zero, mul-add, mul_assoc, mul_comm, mul_left_comm, s
 use native.Mathlib.Omega.{arith}
 use lib.ListN.{length, length-append}
 use Rattle.size_list.specs.Combinations.{each, combinations}
-use Rattle.size_list.proofs.Places.{one, of_d, of_k, of_n}
+use Rattle.size_list.proofs.Levels.{one, of_d, of_k, of_n}
 
 -- ---- algebra over plain numbers
 
@@ -82,10 +82,10 @@ module _ {A : Type 0} where
 -- ---- the levels
 
 of-d : (n k d : ℕ) → length (of_d n k d) ≡ n - d
-of-d n k d = length-ones 1 (n - d) (one n k d) (λ r. refl)
+of-d n k d = length-ones _ _ (one n k d) (λ r. refl)
 
 of-k : (n k : ℕ) → k ≤ n → 2 * length (of_k n k) ≡ (n - k) * (n - k + 1)
-of-k n k h = length-twos k (n - k) (of_d n k) (λ d l u. of-d n k d ∙ omega arith)
+of-k n k h = length-twos _ _ (of_d n k) (λ d l u. of-d n k d ∙ omega arith)
 
 of-n : (n : ℕ) → 6 * length (of_n (suc n)) ≡ n * (n + 1) * (n + 2)
 of-n n =

@@ -4,7 +4,8 @@ use Rattle.size_list.specs.Laws.{ListLaws}
 use Rattle.size_list.proofs.Places.{all-stand, once, no_other, rising}
 use Rattle.size_list.proofs.Count.{count, two, three, most}
 use Rattle.size_list.proofs.Limits.{short, taken}
-use Rattle.size_list.proofs.Inputs.{limit_is, row_is, listed-is, listed-else}
+use Rattle.size_list.proofs.Limited.{limit_is}
+use Rattle.size_list.proofs.Inputs.{row_is, listed-is, listed-else}
 
 pub list-laws : ListLaws
 list-laws = record {

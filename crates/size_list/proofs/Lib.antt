@@ -1,7 +1,9 @@
 pub mod Each
+pub mod Levels
 pub mod Places
 pub mod Count
 pub mod Limits
+pub mod Limited
 pub mod Inputs
 pub mod Laws
 pub mod Figures

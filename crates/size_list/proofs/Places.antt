@@ -13,21 +13,10 @@ use Rattle.lists.proofs.Alls.{all-imp}
 use Rattle.sizes.specs.declared.Sizes.{Sizes}
 use Rattle.sizes.specs.Sizing.{legal}
 use Rattle.sizes.proofs.Legal.{Legal, legal-facts, legal-yes}
-use Rattle.size_list.specs.Combinations.{each, combinations}
+use Rattle.size_list.specs.Combinations.{combinations}
 use Rattle.size_list.specs.Laws.{Before, Stands}
+use Rattle.size_list.proofs.Levels.{one, of_d, of_k, of_n}
 use Rattle.size_list.proofs.Each.{In, Rising, all-each, in-each, rising-each, rising-there}
-
-abbrev pub one : ℕ → ℕ → ℕ → ℕ → List Sizes
-one n k d r = record { n = n; k = k; d = d; r = r } ∷ []
-
-abbrev pub of_d : ℕ → ℕ → ℕ → List Sizes
-of_d n k d = each 1 (n - d) (one n k d)
-
-abbrev pub of_k : ℕ → ℕ → List Sizes
-of_k n k = each k (n - k) (of_d n k)
-
-abbrev pub of_n : ℕ → List Sizes
-of_n n = each 1 (n - 1) (of_k n)
 
 -- ---- what holds of each element
 
@@ -40,7 +29,7 @@ pub record Fits (n k d : ℕ) (z : Sizes) : Type 0 where
 
 fits-d : (n k d : ℕ) → d < n → All (Fits n k d) (of_d n k d)
 fits-d n k d h =
-    all-each (Fits n k d) 1 (n - d) (one n k d)
+    all-each (Fits n k d) _ _ (one n k d)
     (λ r l u. (record { boards = refl; read = refl; helpers = refl; some = l; room = omega arith }, tt))
 
 pub record FitsK (n k : ℕ) (z : Sizes) : Type 0 where
@@ -52,7 +41,7 @@ pub record FitsK (n k : ℕ) (z : Sizes) : Type 0 where
 
 fits-k : (n k : ℕ) → k < n → All (FitsK n k) (of_k n k)
 fits-k n k h =
-    all-each (FitsK n k) k (n - k) (of_d n k)
+    all-each (FitsK n k) _ _ (of_d n k)
     (λ d l u. all-imp (Fits n k d) (FitsK n k)
     (λ z f. record { boards = f.boards; read = f.read; enough = omega (arith, f.helpers); some = f.some; room = omega (arith, f.helpers, f.room) })
     (of_d n k d) (fits-d n k d (omega arith)))
@@ -89,8 +78,8 @@ unfolding combinations
 in_all N z f h =
     in-each z 2 (N - 1) of_n z.n (omega (arith, f.some_read, f.read-helpers, f.some-fresh, f.enough)) (omega (arith, f.some_read, f.read-helpers, f.some-fresh, f.enough))
     (in-each z 1 (z.n - 1) (of_k z.n) z.k f.some_read (omega (arith, f.some_read, f.read-helpers, f.some-fresh, f.enough))
-    (in-each z z.k (z.n - z.k) (of_d z.n z.k) z.d f.read-helpers (omega (arith, f.read-helpers, f.some-fresh, f.enough))
-    (in-each z 1 (z.n - z.d) (one z.n z.k z.d) z.r f.some-fresh (omega (arith, f.some-fresh, f.enough)) (inl refl))))
+    (in-each z _ _ (of_d z.n z.k) z.d (omega (arith, f.some_read, f.read-helpers)) (omega (arith, f.read-helpers, f.some-fresh, f.enough))
+    (in-each z _ _ (one z.n z.k z.d) z.r (omega (arith, f.some-fresh)) (omega (arith, f.some-fresh, f.enough)) (inl refl))))
 
 stands-in : (z : Sizes) (l : List Sizes) → In z l → (i : ℕ) × Stands z l i
 stands-in z [] h = absurd h
@@ -114,13 +103,13 @@ rising-d n k d =
         inr (ap (λ (z : Sizes). z.d) e ∙ sym (ap (λ (z : Sizes). z.d) g), omega (arith, ap (λ (z : Sizes). z.r) e, ap (λ (z : Sizes). z.r) g)),
       ),
     ))
-    1 (n - d) (one n k d) (λ r l u. (refl, tt)) (λ r l u. (tt, tt))
+    _ _ (one n k d) (λ r l u. (refl, tt)) (λ r l u. (tt, tt))
 
 rising-k : (n k : ℕ) → k < n → Rising Before (of_k n k)
 rising-k n k h =
     rising-each Before (λ d z. Fits n k d z)
     (λ x y u v l f g. inr (f.boards ∙ sym g.boards, inr (f.read ∙ sym g.read, inl (omega (arith, f.helpers, g.helpers)))))
-    k (n - k) (of_d n k) (λ d l u. fits-d n k d (omega arith)) (λ d l u. rising-d n k d)
+    _ _ (of_d n k) (λ d l u. fits-d n k d (omega arith)) (λ d l u. rising-d n k d)
 
 rising-n : (n : ℕ) → Rising Before (of_n n)
 rising-n n =

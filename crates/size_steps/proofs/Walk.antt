@@ -18,7 +18,7 @@ use Rattle.sizes.specs.declared.Sizes.{Sizes}
 use Rattle.sizes.specs.Sizing.{legal}
 use Rattle.sizes.proofs.Legal.{Legal, legal-facts, legal-yes}
 use Rattle.size_list.specs.Combinations.{each, combinations, row, rows}
-use Rattle.size_list.proofs.Places.{one, of_d, of_k, of_n}
+use Rattle.size_list.proofs.Levels.{one, of_d, of_k, of_n}
 use Rattle.size_list.proofs.Count.{count}
 use Rattle.size_steps.specs.declared.Place.{Place}
 use Rattle.size_steps.specs.declared.Place.TheVariants.{At, End}

@@ -1,7 +1,7 @@
 -- A limit that is not refused is 2 to 32.
 use Rattle.std.proofs.Common.{◌≤◌, sym, subst, arith}
 use mathlib.Core.Logic.{⊎_elim}
-use Rattle.size_list.proofs.Inputs.{limit-range}
+use Rattle.size_list.proofs.Limited.{limit-range}
 use Rattle.size_printer.proofs.main.Goals as goal
 
 pub print-requires : goal.print-requires
