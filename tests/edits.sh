@@ -24,7 +24,8 @@ adds() {
 
 # what was said of each edit: 'NAME/LABEL.edit WORDS'
 sed -n 's/^rt: must-fail \([^ ]*\.edit\): /\1 /p' "$output" >"$work/said"
-shape='has no field|has no `|is not in scope|can be named from here|this tuple has|expected type `(tie|goal)\.|error\['
+# (`rt ci` shows the first error that does not only name what is missing; that a declaration depends on a rejected one follows from an error before it)
+shape='has no field|has no `|is not in scope|can be named from here|this tuple has|expected type `(tie|goal)\.|error\[|declarations? that depends? on'
 edits=0
 bad=0
 complain() {
