@@ -61,16 +61,22 @@ for f in $(grep -lv -e '^file: ' -e '^old: ' -e '^new:' -e '^#' -e '^$' crates/*
     complain "$f has a line that the prover passes over"
 done
 
-# the text that an edit replaces stands in its file, and there once
+# the text that an edit replaces stands in its file, and there once, when the pairs before it have been put in, as the prover does
 awk '
-    FNR == 1 { split(FILENAME, part, "/") }
+    FNR == 1 { split(FILENAME, part, "/"); split("", now) }
     /^file: / { path = "crates/" part[2] "/" substr($0, 7) }
     /^old: / {
         old = substr($0, 6)
         if (!(path in text)) { RS = "\001"; text[path] = ""; getline text[path] <path; close(path); RS = "\n" }
-        rest = text[path]; count = 0
+        if (!(path in now)) now[path] = text[path]
+        rest = now[path]; count = 0
         while ((at = index(rest, old)) > 0) { count++; rest = substr(rest, at + length(old)) }
         if (count != 1) { print FILENAME ": " path " has its text " count " times"; bad = 1 }
+    }
+    /^new:/ {
+        new = substr($0, 5); sub(/^ /, "", new)
+        at = index(now[path], old)
+        if (at > 0) now[path] = substr(now[path], 1, at - 1) new substr(now[path], at + length(old))
     }
     END { exit bad }' crates/*/must-fail/*.edit crates/*/neutral/*.edit || bad=1
 
