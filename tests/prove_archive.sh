@@ -97,7 +97,7 @@ first=$(made_of zebrankai)
 jobs=$(sh tests/jobs.sh)
 outcome=0
 (cd crates/zebrankai && rt all check --jobs "$jobs") >"$log" 2>&1 || outcome=$?
-if [ "$outcome" -eq 0 ]; then (cd crates/zebrankai && rm -f out/libzebrankai.a && rt lib) >>"$log" 2>&1 || outcome=$?; fi
+if [ "$outcome" -eq 0 ]; then (cd crates/zebrankai && rm -f out/libzebrankai.a && rt lib --cpu=x86-64) >>"$log" 2>&1 || outcome=$?; fi
 if [ "$outcome" -eq 0 ]; then cp crates/zebrankai/out/libzebrankai.a "$archive" 2>>"$log" || outcome=$?; fi
 if [ "$outcome" -ne 0 ]; then
     quiet
