@@ -12,7 +12,7 @@ ghost use Rattle.board_spec.specs.Calls.{file_lines, file_call};
 ghost use Rattle.board_lines.specs.Outcomes.{outcome};
 ghost use Rattle.decode_setup.specs.Steps.{Made};
 
-use sizes::{Answer, Check, Sizes};
+use sizes::{Refusal, Sizes};
 
 // The first refusal of a file of so many bytes from these shares. Each check's answer is taken apart, and a refusal returned early. Where there
 // is none the tables of the read are made.
@@ -25,29 +25,29 @@ fn check_file(
     held: &[u8],
     out: &[u8],
     tables: &mut [u8],
-) -> Check
+) -> Result<(), Refusal>
     requires { (inverses.now ≡ tabulate 256 inverse) × (length tables.old ≡ 49152) }
-    ensures { (result ≡ first board_order (file_lines sizes points.now len boards.now held.now out.now)) × (result ≡ Check.Pass → Made sizes points.now boards.now tables.new) }
+    ensures { (result ≡ first board_order (file_lines sizes points.now len boards.now held.now out.now)) × (result ≡ Ok tt → Made sizes points.now boards.now tables.new) }
 {
-    if let Check::Refuse(stated) = board_lines::check_stated(sizes, points, len) {
-        return Check::Refuse(stated);
+    if let Err(stated) = board_lines::check_stated(sizes, points, len) {
+        return Err(stated);
     }
-    if let Check::Refuse(miscounted) = board_lines::check_count(boards.len(), sizes.k) {
-        return Check::Refuse(miscounted);
+    if let Err(miscounted) = board_lines::check_count(boards.len(), sizes.k) {
+        return Err(miscounted);
     }
-    if let Check::Refuse(named) = board_lines::check_nodes(sizes, boards) {
-        return Check::Refuse(named);
+    if let Err(named) = board_lines::check_nodes(sizes, boards) {
+        return Err(named);
     }
-    if let Check::Refuse(repeated) = line_checks::check_repeat(boards) {
-        return Check::Refuse(repeated);
+    if let Err(repeated) = line_checks::check_repeat(boards) {
+        return Err(repeated);
     }
     let stripes = board_lines::stripe_count(sizes, len);
     let share_len = stripes * sizes.share_len();
-    if let Check::Refuse(lent) = board_lines::check_lent(held.len(), sizes.k * share_len) {
-        return Check::Refuse(lent);
+    if let Err(lent) = board_lines::check_lent(held.len(), sizes.k * share_len) {
+        return Err(lent);
     }
-    if let Check::Refuse(short) = line_checks::check_room(out, len) {
-        return Check::Refuse(short);
+    if let Err(short) = line_checks::check_room(out, len) {
+        return Err(short);
     }
     decode_shares::check_agrees(sizes, points, inverses, len, stripes, boards, held, tables)
 }
@@ -60,13 +60,13 @@ pub fn file(
     boards: &[usize],
     held: &[u8],
     out: &mut [u8],
-) -> Answer
+) -> Result<usize, Refusal>
     ensures { outcome result out.new ≡ file_call sizes points len boards.now held.now out.old }
 {
     let mut inverses = [0u8; 256];
     inverses::fill_inverses(&mut inverses);
     let mut tables = [0u8; 49152];
-    if let Check::Refuse(x) = check_file(
+    if let Err(x) = check_file(
         sizes,
         &points,
         &inverses,
@@ -76,9 +76,9 @@ pub fn file(
         out,
         &mut tables,
     ) {
-        return Answer::Refused(x);
+        return Err(x);
     }
     let stripes = board_lines::stripe_count(sizes, len);
     decode_shares::write_file(sizes, &points, len, stripes, boards, held, &tables, out);
-    Answer::Done(len)
+    Ok(len)
 }

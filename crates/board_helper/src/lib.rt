@@ -9,7 +9,7 @@ ghost use Rattle.sizes.specs.Refusals.{first, board_order};
 ghost use Rattle.board_spec.specs.Calls.{helper_lines, helper_call};
 ghost use Rattle.board_lines.specs.Outcomes.{outcome};
 
-use sizes::{Answer, Check, Sizes};
+use sizes::{Refusal, Sizes};
 
 // The first refusal of a helper packet: its lines in document 01's order. Each check's answer is taken apart, and a refusal returned early.
 fn check_helper(
@@ -20,22 +20,22 @@ fn check_helper(
     receiver: usize,
     held: &[u8],
     out: &[u8],
-) -> Check
+) -> Result<(), Refusal>
     ensures { result ≡ first board_order (helper_lines sizes points.now len helper receiver held.now out.now) }
 {
-    if let Check::Refuse(stated) = board_lines::check_stated(sizes, points, len) {
-        return Check::Refuse(stated);
+    if let Err(stated) = board_lines::check_stated(sizes, points, len) {
+        return Err(stated);
     }
     let named = [helper, receiver];
-    if let Check::Refuse(node) = board_lines::check_nodes(sizes, &named) {
-        return Check::Refuse(node);
+    if let Err(node) = board_lines::check_nodes(sizes, &named) {
+        return Err(node);
     }
-    if let Check::Refuse(repeat) = line_checks::check_repeat(&named) {
-        return Check::Refuse(repeat);
+    if let Err(repeat) = line_checks::check_repeat(&named) {
+        return Err(repeat);
     }
     let stripes = board_lines::stripe_count(sizes, len);
-    if let Check::Refuse(lent) = board_lines::check_lent(held.len(), stripes * sizes.share_len()) {
-        return Check::Refuse(lent);
+    if let Err(lent) = board_lines::check_lent(held.len(), stripes * sizes.share_len()) {
+        return Err(lent);
     }
     let count = 2 * stripes;
     line_checks::check_room(out, count)
@@ -50,11 +50,11 @@ pub fn helper_packet(
     receiver: usize,
     held: &[u8],
     out: &mut [u8],
-) -> Answer
+) -> Result<usize, Refusal>
     ensures { outcome result out.new ≡ helper_call sizes points len helper receiver held.now out.old }
 {
-    if let Check::Refuse(x) = check_helper(sizes, &points, len, helper, receiver, held, out) {
-        return Answer::Refused(x);
+    if let Err(x) = check_helper(sizes, &points, len, helper, receiver, held, out) {
+        return Err(x);
     }
     let stripes = board_lines::stripe_count(sizes, len);
     let mut inverses = [0u8; 256];
@@ -62,5 +62,5 @@ pub fn helper_packet(
     stripe_helper::helper_packet(
         sizes, &points, &inverses, stripes, helper, receiver, held, out,
     );
-    Answer::Done(2 * stripes)
+    Ok(2 * stripes)
 }

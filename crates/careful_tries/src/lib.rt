@@ -18,7 +18,7 @@ ghost use Rattle.careful_tries.specs.Steps.{Careful, Found};
 
 use careful_pairs::Tried;
 use record::Kept;
-use sizes::Check;
+
 
 // One try, without the boards at places p and p + 1: whether the others hold a file, and one of the two, at least, its share of it. Stripes are looked at
 // from one on. The others go to chosen, and the tables of a read from them to tables.
@@ -49,7 +49,7 @@ fn try_pair(
     if !told.found {
         return told;
     }
-    if let Check::Refuse(disagree) = decode_area::check_agrees(
+    if let Err(disagree) = decode_area::check_agrees(
         sizes,
         kept.capacity,
         &points,

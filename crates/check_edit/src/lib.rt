@@ -9,7 +9,7 @@ ghost use Rattle.record.specs.Records.{record_of, running_in};
 ghost use Rattle.check_edit.specs.Steps.{asked_lines};
 
 use record::{Kept, Running};
-use sizes::Check;
+use sizes::Refusal;
 
 // The first refusal of an edit of so many bytes at an offset, with these boards to read from, DISAGREE aside, to an area of so many bytes.
 pub fn check_edit(
@@ -19,22 +19,22 @@ pub fn check_edit(
     offset: usize,
     count: usize,
     boards: &[usize],
-) -> Check
+) -> Result<(), Refusal>
     ensures { result ≡ first store_order (asked_lines (record_of kept) (running_in running) lent offset count boards.now) }
 {
     let sizes = kept.sizes;
     let marks = kept.marks;
-    if let Check::Refuse(area) = check_begin::check_area(kept, running, lent) {
-        return Check::Refuse(area);
+    if let Err(area) = check_begin::check_area(kept, running, lent) {
+        return Err(area);
     }
-    if let Check::Refuse(empty) = store_lines::check_written(kept.written) {
-        return Check::Refuse(empty);
+    if let Err(empty) = store_lines::check_written(kept.written) {
+        return Err(empty);
     }
-    if let Check::Refuse(busy) = store_lines::check_busy(running.running) {
-        return Check::Refuse(busy);
+    if let Err(busy) = store_lines::check_busy(running.running) {
+        return Err(busy);
     }
-    if let Check::Refuse(beyond) = check_range::check_range(kept.length, offset, count) {
-        return Check::Refuse(beyond);
+    if let Err(beyond) = check_range::check_range(kept.length, offset, count) {
+        return Err(beyond);
     }
     check_begin::check_boards(sizes, sizes.k, &marks, boards)
 }

@@ -14,16 +14,16 @@ ghost use Rattle.store_spec.specs.Calls.{list_lines};
 ghost use Rattle.line_checks.specs.Steps.{asked};
 ghost use Rattle.list_tests.specs.Steps.{Runs, named, repeat_tests};
 
-use sizes::{Check, Refusal, Sizes};
+use sizes::{Refusal, Sizes};
 
 // 5 NODE of three lists.
-pub fn check_three_lists(sizes: Sizes, boards: &[usize], others: &[usize], more: &[usize]) -> Check
+pub fn check_three_lists(sizes: Sizes, boards: &[usize], others: &[usize], more: &[usize]) -> Result<(), Refusal>
     ensures { result ≡ asked (node_line sizes (boards.now ++ (others.now ++ more.now))) }
 {
     if line_tests::below(sizes.n, boards) {
         return store_lines::check_two_lists(sizes, others, more);
     }
-    Check::Refuse(Refusal::Node)
+    Err(Refusal::Node)
 }
 
 // Whether no board stands twice among the d helpers and e stand-ins of one fresh board.
@@ -53,7 +53,7 @@ pub fn check_named(
     fresh: &[usize],
     helpers: &[usize],
     standins: &[usize],
-) -> Check
+) -> Result<(), Refusal>
     requires { Runs d e fresh.now helpers.now standins.now }
     ensures { result ≡ asked (Repeat when not (alls (repeat_tests d e fresh.now helpers.now standins.now))) }
 {
@@ -61,12 +61,12 @@ pub fn check_named(
         if runs_differ(d, e, fresh, helpers, standins) {
             if line_tests::apart(fresh, helpers) {
                 if line_tests::apart(fresh, standins) {
-                    return Check::Pass;
+                    return Ok(());
                 }
             }
         }
     }
-    Check::Refuse(Refusal::Repeat)
+    Err(Refusal::Repeat)
 }
 
 // Whether each board is out of service.
@@ -84,24 +84,24 @@ fn all_out(marks: &[bool], boards: &[usize]) -> bool
 }
 
 // 14 SERVING.
-pub fn check_out(marks: &[bool], boards: &[usize]) -> Check
+pub fn check_out(marks: &[bool], boards: &[usize]) -> Result<(), Refusal>
     ensures { result ≡ asked (Serving when not (every (λ i. not (get_or marks.now i false)) boards.now)) }
 {
     if all_out(marks, boards) {
-        Check::Pass
+        Ok(())
     } else {
-        Check::Refuse(Refusal::Serving)
+        Err(Refusal::Serving)
     }
 }
 
 // 9 DOWN of two lists.
-pub fn check_both_service(marks: &[bool], boards: &[usize], others: &[usize]) -> Check
+pub fn check_both_service(marks: &[bool], boards: &[usize], others: &[usize]) -> Result<(), Refusal>
     ensures { result ≡ asked (Down when not (every (λ i. get_or marks.now i false) (boards.now ++ others.now))) }
 {
     if store_lines::all_on(marks, boards) {
         return store_lines::check_service(marks, others);
     }
-    Check::Refuse(Refusal::Down)
+    Err(Refusal::Down)
 }
 
 // The first refusal of the lists of a repair, on a record of these sizes and marks.
@@ -111,27 +111,27 @@ pub fn check_lists(
     fresh: &[usize],
     helpers: &[usize],
     standins: &[usize],
-) -> Check
+) -> Result<(), Refusal>
     requires { legal sizes ≡ true }
     ensures { result ≡ first store_order (list_lines (named sizes marks.now) fresh.now helpers.now standins.now) }
 {
-    if let Check::Refuse(count) = list_tests::check_named_counts(
+    if let Err(count) = list_tests::check_named_counts(
         sizes,
         fresh.len(),
         helpers.len(),
         standins.len(),
     ) {
-        return Check::Refuse(count);
+        return Err(count);
     }
-    if let Check::Refuse(node) = check_three_lists(sizes, fresh, helpers, standins) {
-        return Check::Refuse(node);
+    if let Err(node) = check_three_lists(sizes, fresh, helpers, standins) {
+        return Err(node);
     }
     let each = sizes.r - fresh.len();
-    if let Check::Refuse(repeat) = check_named(sizes.d, each, fresh, helpers, standins) {
-        return Check::Refuse(repeat);
+    if let Err(repeat) = check_named(sizes.d, each, fresh, helpers, standins) {
+        return Err(repeat);
     }
-    if let Check::Refuse(serving) = check_out(marks, fresh) {
-        return Check::Refuse(serving);
+    if let Err(serving) = check_out(marks, fresh) {
+        return Err(serving);
     }
     check_both_service(marks, helpers, standins)
 }

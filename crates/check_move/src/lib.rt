@@ -8,7 +8,7 @@ ghost use Rattle.beside_spec.specs.Both.{move_lines_both};
 ghost use Rattle.record.specs.Records.{record_of, running_in};
 
 use record::{Kept, Running};
-use sizes::{Check, Refusal};
+use sizes::Refusal;
 
 // The first refusal of a move of a board to a new point by these helpers and partners, in an area of so many bytes.
 pub fn check_move(
@@ -19,20 +19,20 @@ pub fn check_move(
     point: u8,
     helpers: &[usize],
     partners: &[usize],
-) -> Check
+) -> Result<(), Refusal>
     ensures { result ≡ first store_order (move_lines_both (record_of kept) (running_in running) lent board point helpers.now partners.now) }
 {
     let sizes = kept.sizes;
     let points = kept.points;
     let marks = kept.marks;
-    if let Check::Refuse(area) = check_begin::check_area(kept, running, lent) {
-        return Check::Refuse(area);
+    if let Err(area) = check_begin::check_area(kept, running, lent) {
+        return Err(area);
     }
-    if let Check::Refuse(empty) = store_lines::check_written(kept.written) {
-        return Check::Refuse(empty);
+    if let Err(empty) = store_lines::check_written(kept.written) {
+        return Err(empty);
     }
-    if let Check::Refuse(busy) = store_lines::check_busy(running.running) {
-        return Check::Refuse(busy);
+    if let Err(busy) = store_lines::check_busy(running.running) {
+        return Err(busy);
     }
     move_names::check_named(sizes, &points, &marks, board, point, helpers, partners)
 }

@@ -8,7 +8,7 @@ ghost use Rattle.beside_spec.specs.Both.{repair_lines_both};
 ghost use Rattle.record.specs.Records.{record_of, running_in};
 
 use record::{Kept, Running};
-use sizes::Check;
+use sizes::Refusal;
 
 // The first refusal of a repair, or a start, of these fresh boards by these helpers and stand-ins, to an area of so many bytes.
 pub fn check_repair(
@@ -18,19 +18,19 @@ pub fn check_repair(
     fresh: &[usize],
     helpers: &[usize],
     standins: &[usize],
-) -> Check
+) -> Result<(), Refusal>
     ensures { result ≡ first store_order (repair_lines_both (record_of kept) (running_in running) lent fresh.now helpers.now standins.now) }
 {
     let sizes = kept.sizes;
     let marks = kept.marks;
-    if let Check::Refuse(area) = check_begin::check_area(kept, running, lent) {
-        return Check::Refuse(area);
+    if let Err(area) = check_begin::check_area(kept, running, lent) {
+        return Err(area);
     }
-    if let Check::Refuse(empty) = store_lines::check_written(kept.written) {
-        return Check::Refuse(empty);
+    if let Err(empty) = store_lines::check_written(kept.written) {
+        return Err(empty);
     }
-    if let Check::Refuse(busy) = store_lines::check_busy(running.running) {
-        return Check::Refuse(busy);
+    if let Err(busy) = store_lines::check_busy(running.running) {
+        return Err(busy);
     }
     check_lists::check_lists(sizes, &marks, fresh, helpers, standins)
 }

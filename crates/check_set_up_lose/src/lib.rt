@@ -11,10 +11,10 @@ ghost use Rattle.beside_spec.specs.Both.{lose_lines_both};
 ghost use Rattle.record.specs.Records.{record_of, running_in};
 
 use record::{Kept, Running};
-use sizes::{Check, Sizes};
+use sizes::{Refusal, Sizes};
 
 // The first refusal of setting up a store of these sizes, these points and this capacity.
-pub fn check_set_up(sizes: Sizes, points: [u8; 32], capacity: usize) -> Check
+pub fn check_set_up(sizes: Sizes, points: [u8; 32], capacity: usize) -> Result<(), Refusal>
     ensures { result ≡ first store_order (record_line (new_record sizes points capacity) ∷ []) }
 {
     let kept = record::new_kept(sizes, points, capacity);
@@ -22,11 +22,11 @@ pub fn check_set_up(sizes: Sizes, points: [u8; 32], capacity: usize) -> Check
 }
 
 // The first refusal of losing this board.
-pub fn check_lose(kept: Kept, running: Running, board: usize) -> Check
+pub fn check_lose(kept: Kept, running: Running, board: usize) -> Result<(), Refusal>
     ensures { result ≡ first store_order (lose_lines_both (record_of kept) (running_in running) board) }
 {
-    if let Check::Refuse(size) = running::check_both(kept, running) {
-        return Check::Refuse(size);
+    if let Err(size) = running::check_both(kept, running) {
+        return Err(size);
     }
     let sizes = kept.sizes;
     line_checks::check_node(sizes, board)

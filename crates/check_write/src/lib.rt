@@ -8,18 +8,18 @@ ghost use Rattle.beside_spec.specs.Both.{write_lines_both};
 ghost use Rattle.record.specs.Records.{record_of, running_in};
 
 use record::{Kept, Running};
-use sizes::Check;
+use sizes::Refusal;
 
 // The first refusal of a write of this file, to an area of so many bytes.
-pub fn check_write(kept: Kept, running: Running, lent: usize, file: &[u8]) -> Check
+pub fn check_write(kept: Kept, running: Running, lent: usize, file: &[u8]) -> Result<(), Refusal>
     ensures { result ≡ first store_order (write_lines_both (record_of kept) (running_in running) lent file.now) }
 {
-    if let Check::Refuse(area) = check_begin::check_area(kept, running, lent) {
-        return Check::Refuse(area);
+    if let Err(area) = check_begin::check_area(kept, running, lent) {
+        return Err(area);
     }
     let sizes = kept.sizes;
-    if let Check::Refuse(long) = store_lines::check_fits(sizes, kept.capacity, file.len()) {
-        return Check::Refuse(long);
+    if let Err(long) = store_lines::check_fits(sizes, kept.capacity, file.len()) {
+        return Err(long);
     }
     store_lines::check_busy(running.running)
 }

@@ -18,7 +18,7 @@ use Rattle.lists.proofs.Boards.{among-not, distinct, distinct-different, distinc
 use Rattle.lists.proofs.Tests.{true-false, is_false, not-no, every-all, all-every, alls-hold, hold-alls}
 use Rattle.sizes.specs.declared.Sizes.{Sizes}
 use Rattle.sizes.specs.declared.Refusal.TheVariants.{Count}
-use Rattle.sizes.specs.declared.Check.TheVariants.{Pass}
+use Rattle.std.specs.Prelude.{Ok}
 use Rattle.sizes.specs.Refusals.{◌when◌}
 use Rattle.sizes.specs.Sizing.{legal}
 use Rattle.sizes.proofs.Legal.{legal-facts}
@@ -159,7 +159,7 @@ pub record Counted (z : Sizes) (fresh helpers stand_ins : ℕ) : Type 0 where
   pub helper-count : helpers ≡ fresh * z.d
   pub stand-in-count : stand_ins ≡ fresh * (z.r - fresh)
 
-pub counted : (z : Sizes) (fresh helpers stand_ins : ℕ) → asked (Count when not (alls (count_tests z fresh helpers stand_ins))) ≡ Pass → Counted z fresh helpers stand_ins
+pub counted : (z : Sizes) (fresh helpers stand_ins : ℕ) → asked (Count when not (alls (count_tests z fresh helpers stand_ins))) ≡ Ok tt → Counted z fresh helpers stand_ins
 counted z fresh helpers stand_ins h =
     let e = alls-hold (count_tests z fresh helpers stand_ins) (not-no _ (passed (Count when not (alls (count_tests z fresh helpers stand_ins))) h)) in
     record {

@@ -12,10 +12,9 @@ use lib.Seq.{length-take-le}
 use Rattle.lists.proofs.Tests.{is_false}
 use Rattle.sizes.specs.declared.Refusal.{Refusal}
 use Rattle.sizes.specs.declared.Refusal.TheVariants.{Size}
-use Rattle.sizes.specs.declared.Check.{Check}
-use Rattle.sizes.specs.declared.Check.TheVariants.{Pass, Refuse}
+use Rattle.std.specs.Prelude.{Ok, Err}
 use Rattle.sizes.specs.Sizing.{legal}
-use Rattle.sizes.specs.Refusals.{◌when◌, first, store_order}
+use Rattle.sizes.specs.Refusals.{◌when◌, first, store_order, Check}
 use Rattle.store_spec.specs.Record.{Record}
 use Rattle.store_spec.specs.Calls.{list_lines}
 use Rattle.beside_spec.specs.Running.{Running, fresh_of, packet_count, passed, sound_beside}
@@ -60,10 +59,10 @@ module _ (s : Record) (p : Running) where
           ∷ []))
           (length-take-le p.count p.fresh fits))
 
-      pub lists-refused : {c : Check} {x : Refusal} → c ≡ arrays_pass s p.count p.fresh p.helpers p.stand_ins → c ≡ Refuse x → false ≡ sound_beside s p
+      pub lists-refused : {c : Check} {x : Refusal} → c ≡ arrays_pass s p.count p.fresh p.helpers p.stand_ins → c ≡ Err x → false ≡ sound_beside s p
       lists-refused e h = sym (by_tests ∙ ap (λ (c : Check). alls (tests c)) (sym e ∙ h))
 
-      pub lists-passed : {c : Check} → c ≡ arrays_pass s p.count p.fresh p.helpers p.stand_ins → c ≡ Pass
+      pub lists-passed : {c : Check} → c ≡ arrays_pass s p.count p.fresh p.helpers p.stand_ins → c ≡ Ok tt
           → ltb p.carried (packet_count s.sizes p.count) ≡ sound_beside s p
       lists-passed e h = sym (by_tests ∙ ap (λ (c : Check). alls (tests c)) (sym e ∙ h) ∙ alone (ltb p.carried (packet_count s.sizes p.count)))
         where

@@ -28,20 +28,6 @@ pub enum Refusal {
     Idle,
 }
 
-// What a check answers: nothing is wrong, or the refusal to give.
-#[derive(Clone, Copy)]
-pub enum Check {
-    Pass,
-    Refuse(Refusal),
-}
-
-// What a call answers: it is done, with the number that it reports, or it is refused.
-#[derive(Clone, Copy)]
-pub enum Answer {
-    Done(usize),
-    Refused(Refusal),
-}
-
 // n boards, k read, d helpers, r fresh boards.
 #[derive(Clone, Copy)]
 pub struct Sizes {

@@ -17,7 +17,7 @@ ghost use Rattle.record.specs.Records.{record_of};
 ghost use Rattle.store_lines.specs.Steps.{Bounded};
 
 use record::Kept;
-use sizes::{Check, Refusal, Sizes};
+use sizes::{Refusal, Sizes};
 
 // Whether some mark at place `from` or after it is on.
 pub fn some_on(marks: &[bool], from: usize) -> bool
@@ -69,68 +69,68 @@ fn sound_in(kept: Kept) -> bool
 }
 
 // 1 SIZE of a record.
-pub fn check_record(kept: Kept) -> Check
+pub fn check_record(kept: Kept) -> Result<(), Refusal>
     ensures { result ≡ asked (record_line (record_of kept)) }
 {
     let sizes = kept.sizes;
     if sizes.legal() {
         if sound_in(kept) {
-            return Check::Pass;
+            return Ok(());
         }
     }
-    Check::Refuse(Refusal::Size)
+    Err(Refusal::Size)
 }
 
 // 3 LONG, the store.
-pub fn check_fits(sizes: Sizes, capacity: usize, got: usize) -> Check
+pub fn check_fits(sizes: Sizes, capacity: usize, got: usize) -> Result<(), Refusal>
     requires { Bounded sizes capacity }
     ensures { result ≡ asked (Long when ltb (capacity * B sizes) got) }
 {
     if capacity * sizes.stripe_len() < got {
-        Check::Refuse(Refusal::Long)
+        Err(Refusal::Long)
     } else {
-        Check::Pass
+        Ok(())
     }
 }
 
 // 5 NODE of two lists.
-pub fn check_two_lists(sizes: Sizes, boards: &[usize], others: &[usize]) -> Check
+pub fn check_two_lists(sizes: Sizes, boards: &[usize], others: &[usize]) -> Result<(), Refusal>
     ensures { result ≡ asked (node_line sizes (boards.now ++ others.now)) }
 {
     if line_tests::below(sizes.n, boards) {
         return board_lines::check_nodes(sizes, others);
     }
-    Check::Refuse(Refusal::Node)
+    Err(Refusal::Node)
 }
 
 // 8 EMPTY.
-pub fn check_written(written: bool) -> Check
+pub fn check_written(written: bool) -> Result<(), Refusal>
     ensures { result ≡ asked (Empty when not written) }
 {
     if !written {
-        return Check::Refuse(Refusal::Empty);
+        return Err(Refusal::Empty);
     }
-    Check::Pass
+    Ok(())
 }
 
 // 16 BUSY.
-pub fn check_busy(running: bool) -> Check
+pub fn check_busy(running: bool) -> Result<(), Refusal>
     ensures { result ≡ asked (Busy when running) }
 {
     if running {
-        return Check::Refuse(Refusal::Busy);
+        return Err(Refusal::Busy);
     }
-    Check::Pass
+    Ok(())
 }
 
 // 17 IDLE.
-pub fn check_idle(running: bool) -> Check
+pub fn check_idle(running: bool) -> Result<(), Refusal>
     ensures { result ≡ asked (Idle when not running) }
 {
     if !running {
-        return Check::Refuse(Refusal::Idle);
+        return Err(Refusal::Idle);
     }
-    Check::Pass
+    Ok(())
 }
 
 // The mark of a board; off where it has none.
@@ -160,13 +160,13 @@ pub fn all_on(marks: &[bool], boards: &[usize]) -> bool
 }
 
 // 9 DOWN.
-pub fn check_service(marks: &[bool], boards: &[usize]) -> Check
+pub fn check_service(marks: &[bool], boards: &[usize]) -> Result<(), Refusal>
     ensures { result ≡ asked (Down when not (every (λ i. get_or marks.now i false) boards.now)) }
 {
     if all_on(marks, boards) {
-        Check::Pass
+        Ok(())
     } else {
-        Check::Refuse(Refusal::Down)
+        Err(Refusal::Down)
     }
 }
 

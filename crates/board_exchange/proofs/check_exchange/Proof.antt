@@ -8,10 +8,9 @@ use lib.Dec.{eqb}
 use lib.ListN.{length}
 use borrow.Author.Rules.{rules}
 use Rattle.lists.proofs.Tests.{not-no}
-use Rattle.sizes.specs.declared.Check.{Check}
-use Rattle.sizes.specs.declared.Check.TheVariants.{Pass, Refuse}
+use Rattle.std.specs.Prelude.{Ok, Err}
 use Rattle.sizes.specs.Sizing.{stripes}
-use Rattle.sizes.specs.Refusals.{Line, first, board_order}
+use Rattle.sizes.specs.Refusals.{Line, first, board_order, Check}
 use Rattle.sizes.proofs.Legal.{Legal, legal-facts}
 use Rattle.mbcr.proofs.Points.{Boards, boards-of}
 use Rattle.board_spec.specs.Calls.{count_line, node_line, repeat_line, area_line, short_line, exchange_lines}
@@ -30,25 +29,25 @@ check_count-of-in-default-check_repeat_with c = c.before.before.before.before.be
 abbrev check_count-of-stripe_count-stripes : tie.After-stripe_count-stripes → tie.After-check_count
 check_count-of-stripe_count-stripes c = check_count-of-in-default-check_repeat_with c.before
 
-abbrev start-of-in-refuse : tie.In-Refuse → tie.Start
+abbrev start-of-in-refuse : tie.In-Err → tie.Start
 start-of-in-refuse c = c.before.before.before.before.before.before
 
 abbrev start-of-check_count : tie.After-check_count → tie.Start
 start-of-check_count c = c.before.before.before.before.before.before.before
 
-abbrev start-of-in-refuse-check_count : tie.In-Refuse-check_count → tie.Start
+abbrev start-of-in-refuse-check_count : tie.In-Err-check_count → tie.Start
 start-of-in-refuse-check_count c = start-of-check_count c.before
 
 abbrev start-of-check_nodes_with : tie.After-check_nodes_with → tie.Start
 start-of-check_nodes_with c = start-of-check_count c.before.before
 
-abbrev start-of-in-refuse-check_nodes_with : tie.In-Refuse-check_nodes_with → tie.Start
+abbrev start-of-in-refuse-check_nodes_with : tie.In-Err-check_nodes_with → tie.Start
 start-of-in-refuse-check_nodes_with c = start-of-check_nodes_with c.before
 
 abbrev start-of-check_repeat_with : tie.After-check_repeat_with → tie.Start
 start-of-check_repeat_with c = start-of-check_nodes_with c.before.before
 
-abbrev start-of-in-refuse-check_repeat_with : tie.In-Refuse-check_repeat_with → tie.Start
+abbrev start-of-in-refuse-check_repeat_with : tie.In-Err-check_repeat_with → tie.Start
 start-of-in-refuse-check_repeat_with c = start-of-check_repeat_with c.before
 
 abbrev start-of-stripe_count-stripes : tie.After-stripe_count-stripes → tie.Start
@@ -57,7 +56,7 @@ start-of-stripe_count-stripes c = start-of-check_repeat_with c.before.before
 abbrev start-of-check_lent : tie.After-check_lent → tie.Start
 start-of-check_lent c = start-of-stripe_count-stripes c.before.before
 
-abbrev start-of-in-refuse-check_lent : tie.In-Refuse-check_lent → tie.Start
+abbrev start-of-in-refuse-check_lent : tie.In-Err-check_lent → tie.Start
 start-of-in-refuse-check_lent c = start-of-check_lent c.before
 
 abbrev start-of-check_room : tie.After-check_room → tie.Start
@@ -103,8 +102,8 @@ whole : (g : tie.Start) → thens (stateds g) ≡ answer g
 unfolding exchange_lines
 whole g = grouped (stateds g)
 
-no-stated : (c : tie.In-Refuse) → Refuse c.in-Refuse.stated ≡ answer (start-of-in-refuse c)
-no-stated c = refuses _ (whole (start-of-in-refuse c)) c.check_stated.ensures c.in-Refuse.is
+no-stated : (c : tie.In-Err) → Err c.in-Err.stated ≡ answer (start-of-in-refuse c)
+no-stated c = refuses _ (whole (start-of-in-refuse c)) c.check_stated.ensures c.in-Err.is
 
 stated-on : (c : tie.After-check_count) → Stated c.args.sizes c.args.len
 stated-on c = stated-facts _ _ _ (sym c.check_stated.ensures ∙ c.in_default.is)
@@ -112,20 +111,20 @@ stated-on c = stated-facts _ _ _ (sym c.check_stated.ensures ∙ c.in_default.is
 on-count : (c : tie.After-check_count) → thens (counts (start-of-check_count c)) ≡ answer (start-of-check_count c)
 on-count c = goes-on (whole (start-of-check_count c)) c.check_stated.ensures c.in_default.is
 
-no-count : (c : tie.In-Refuse-check_count) → Refuse c.in-Refuse-check_count.count ≡ answer (start-of-in-refuse-check_count c)
-no-count c = refuses _ (on-count c.before) c.check_count.ensures c.in-Refuse-check_count.is
+no-count : (c : tie.In-Err-check_count) → Err c.in-Err-check_count.count ≡ answer (start-of-in-refuse-check_count c)
+no-count c = refuses _ (on-count c.before) c.check_count.ensures c.in-Err-check_count.is
 
 on-node : (c : tie.After-check_nodes_with) → thens (nodes (start-of-check_nodes_with c)) ≡ answer (start-of-check_nodes_with c)
 on-node c = goes-on (on-count c.before.before) c.check_count.ensures c.in_default-check_count.is
 
-no_node : (c : tie.In-Refuse-check_nodes_with) → Refuse c.in-Refuse-check_nodes_with.node ≡ answer (start-of-in-refuse-check_nodes_with c)
-no_node c = refuses _ (on-node c.before) c.check_nodes_with.ensures c.in-Refuse-check_nodes_with.is
+no_node : (c : tie.In-Err-check_nodes_with) → Err c.in-Err-check_nodes_with.node ≡ answer (start-of-in-refuse-check_nodes_with c)
+no_node c = refuses _ (on-node c.before) c.check_nodes_with.ensures c.in-Err-check_nodes_with.is
 
 on-repeat : (c : tie.After-check_repeat_with) → thens (repeats (start-of-check_repeat_with c)) ≡ answer (start-of-check_repeat_with c)
 on-repeat c = goes-on (on-node c.before.before) c.check_nodes_with.ensures c.in_default-check_nodes_with.is
 
-no-repeat : (c : tie.In-Refuse-check_repeat_with) → Refuse c.in-Refuse-check_repeat_with.repeat ≡ answer (start-of-in-refuse-check_repeat_with c)
-no-repeat c = refuses _ (on-repeat c.before) c.check_repeat_with.ensures c.in-Refuse-check_repeat_with.is
+no-repeat : (c : tie.In-Err-check_repeat_with) → Err c.in-Err-check_repeat_with.repeat ≡ answer (start-of-in-refuse-check_repeat_with c)
+no-repeat c = refuses _ (on-repeat c.before) c.check_repeat_with.ensures c.in-Err-check_repeat_with.is
 
 on-lent : (c : tie.After-stripe_count-stripes) → thens (lents (start-of-stripe_count-stripes c)) ≡ answer (start-of-stripe_count-stripes c)
 on-lent c = goes-on (on-repeat c.before.before) c.check_repeat_with.ensures c.in_default-check_repeat_with.is
@@ -134,10 +133,10 @@ on-lent c = goes-on (on-repeat c.before.before) c.check_repeat_with.ensures c.in
 sizes-on : (c : tie.After-stripe_count-stripes) → Legal c.args.sizes
 sizes-on c = legal-facts _ (stated-on (check_count-of-stripe_count-stripes c)).is-legal
 
-nodes-on : (c : tie.After-stripe_count-stripes) → asked (node_line c.args.sizes (named (start-of-stripe_count-stripes c))) ≡ Pass
+nodes-on : (c : tie.After-stripe_count-stripes) → asked (node_line c.args.sizes (named (start-of-stripe_count-stripes c))) ≡ Ok tt
 nodes-on c = sym c.check_nodes_with.ensures ∙ c.in_default-check_nodes_with.is
 
-repeats-on : (c : tie.After-stripe_count-stripes) → asked (repeat_line (named (start-of-stripe_count-stripes c))) ≡ Pass
+repeats-on : (c : tie.After-stripe_count-stripes) → asked (repeat_line (named (start-of-stripe_count-stripes c))) ≡ Ok tt
 repeats-on c = sym c.check_repeat_with.ensures ∙ c.in_default-check_repeat_with.is
 
 boards-on : (c : tie.After-stripe_count-stripes) → Boards c.args.sizes (named (start-of-stripe_count-stripes c))
@@ -158,8 +157,8 @@ is-lent c =
     c.check_lent.ensures
     ∙ ap (λ (m : ℕ). asked (area_line (eqb (length a.packets.now) (a.sizes.d * (2 * m)) ∷ []))) c.stripe_count-stripes.ensures.0
 
-no-lent : (c : tie.In-Refuse-check_lent) → Refuse c.in-Refuse-check_lent.lent ≡ answer (start-of-in-refuse-check_lent c)
-no-lent c = refuses _ (on-lent c.before.before.before) (is-lent c.before) c.in-Refuse-check_lent.is
+no-lent : (c : tie.In-Err-check_lent) → Err c.in-Err-check_lent.lent ≡ answer (start-of-in-refuse-check_lent c)
+no-lent c = refuses _ (on-lent c.before.before.before) (is-lent c.before) c.in-Err-check_lent.is
 
 on-short : (c : tie.After-check_room) → thens (shorts (start-of-check_room c)) ≡ answer (start-of-check_room c)
 on-short c = goes-on (on-lent c.before.before.before.before) (is-lent c.before.before) c.in_default-check_lent.is

@@ -4,8 +4,8 @@ use Prim.Native.Nat.{ℕ}
 use mathlib.Core.Path.{◌≡◌, sym, ◌∙◌}
 use mathlib.Core.List.{List}
 use borrow.Author.Rules.{rules}
-use Rattle.sizes.specs.declared.Check.{Check}
-use Rattle.sizes.specs.declared.Check.TheVariants.{Pass, Refuse}
+use Rattle.sizes.specs.Refusals.{Check}
+use Rattle.std.specs.Prelude.{Ok, Err}
 use Rattle.board_exchange.proofs.Exchanges.{Exchanges, checked, exchanges, exchange-refuses, exchange-works}
 use Rattle.board_exchange.proofs.exchange_packet.Statement.{statement}
 use Rattle.board_exchange.proofs.exchange_packet.Tie as tie
@@ -14,7 +14,7 @@ use Rattle.board_exchange.proofs.exchange_packet.Tie as tie
 abbrev start-of-in-default : tie.In_default → tie.Start
 start-of-in-default c = c.before.before.before.before.before.before
 
-abbrev start-of-in-refuse : tie.In-Refuse → tie.Start
+abbrev start-of-in-refuse : tie.In-Err → tie.Start
 start-of-in-refuse c = c.before.before.before.before.before.before
 
 abbrev in-default-of-exchange_packet-arg-1 : tie.After-exchange_packet-arg-1 → tie.In_default
@@ -34,10 +34,10 @@ given g = g.args.points
 abbrev answer : tie.Start → Check
 answer g = let a = g.args in checked a.sizes (given g) a.len a.board a.helpers.now a.packets.now a.receiver a.out.now
 
-refusal : (c : tie.In-Refuse) → answer (start-of-in-refuse c) ≡ Refuse c.in-Refuse.x
-refusal c = sym c.check_exchange.ensures ∙ c.in-Refuse.is
+refusal : (c : tie.In-Err) → answer (start-of-in-refuse c) ≡ Err c.in-Err.x
+refusal c = sym c.check_exchange.ensures ∙ c.in-Err.is
 
-passed : (c : tie.In_default) → answer (start-of-in-default c) ≡ Pass
+passed : (c : tie.In_default) → answer (start-of-in-default c) ≡ Ok tt
 passed c = sym c.check_exchange.ensures ∙ c.in_default.is
 
 facts : (c : tie.In_default)
@@ -46,7 +46,7 @@ facts c =
     let a = c.args in
     exchanges a.sizes (given (start-of-in-default c)) a.len a.board a.helpers.now a.packets.now a.receiver a.out.now (passed c)
 
-refused : tie.Need-returns-in-Refuse
+refused : tie.Need-returns-in-Err
 refused c =
     let a = c.args in
     exchange-refuses a.sizes (given (start-of-in-refuse c)) a.len a.board a.helpers.now a.packets.now a.receiver a.out.now (refusal c)

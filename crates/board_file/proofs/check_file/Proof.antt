@@ -11,10 +11,9 @@ use lib.ListN.{length}
 use borrow.Author.Rules.{rules}
 use Rattle.lists.specs.Tests.{given}
 use Rattle.sizes.specs.declared.Refusal.TheVariants.{Disagree}
-use Rattle.sizes.specs.declared.Check.{Check}
-use Rattle.sizes.specs.declared.Check.TheVariants.{Refuse}
+use Rattle.std.specs.Prelude.{Err}
 use Rattle.sizes.specs.Sizing.{α, stripes}
-use Rattle.sizes.specs.Refusals.{Line, ◌when◌, first, board_order}
+use Rattle.sizes.specs.Refusals.{Line, ◌when◌, first, board_order, Check}
 use Rattle.sizes.proofs.Legal.{legal-facts, α-most}
 use Rattle.mbcr.specs.Read.{read_file}
 use Rattle.board_spec.specs.Calls.{count_line, node_line, repeat_line, area_line, short_line, file_lines}
@@ -34,25 +33,25 @@ check_repeat-of-check_lent c = c.before.before.before.before.before
 abbrev check_repeat-of-check_room : tie.After-check_room → tie.After-check_repeat
 check_repeat-of-check_room c = check_repeat-of-check_lent c.before.before
 
-abbrev start-of-in-refuse : tie.In-Refuse → tie.Start
+abbrev start-of-in-refuse : tie.In-Err → tie.Start
 start-of-in-refuse c = c.before.before.before.before.before.before.before.before
 
 abbrev start-of-check_count : tie.After-check_count → tie.Start
 start-of-check_count c = c.before.before.before.before.before.before.before.before.before
 
-abbrev start-of-in-refuse-check_count : tie.In-Refuse-check_count → tie.Start
+abbrev start-of-in-refuse-check_count : tie.In-Err-check_count → tie.Start
 start-of-in-refuse-check_count c = start-of-check_count c.before
 
 abbrev start-of-check_nodes : tie.After-check_nodes → tie.Start
 start-of-check_nodes c = start-of-check_count c.before.before
 
-abbrev start-of-in-refuse-check_nodes : tie.In-Refuse-check_nodes → tie.Start
+abbrev start-of-in-refuse-check_nodes : tie.In-Err-check_nodes → tie.Start
 start-of-in-refuse-check_nodes c = start-of-check_nodes c.before
 
 abbrev start-of-check_repeat : tie.After-check_repeat → tie.Start
 start-of-check_repeat c = start-of-check_nodes c.before.before
 
-abbrev start-of-in-refuse-check_repeat : tie.In-Refuse-check_repeat → tie.Start
+abbrev start-of-in-refuse-check_repeat : tie.In-Err-check_repeat → tie.Start
 start-of-in-refuse-check_repeat c = start-of-check_repeat c.before
 
 abbrev start-of-share_len : tie.After-share_len → tie.Start
@@ -61,13 +60,13 @@ start-of-share_len c = start-of-check_repeat c.before.before.before
 abbrev start-of-check_lent : tie.After-check_lent → tie.Start
 start-of-check_lent c = start-of-share_len c.before.before
 
-abbrev start-of-in-refuse-check_lent : tie.In-Refuse-check_lent → tie.Start
+abbrev start-of-in-refuse-check_lent : tie.In-Err-check_lent → tie.Start
 start-of-in-refuse-check_lent c = start-of-check_lent c.before
 
 abbrev start-of-check_room : tie.After-check_room → tie.Start
 start-of-check_room c = start-of-check_lent c.before.before
 
-abbrev start-of-in-refuse-check_room : tie.In-Refuse-check_room → tie.Start
+abbrev start-of-in-refuse-check_room : tie.In-Err-check_room → tie.Start
 start-of-in-refuse-check_room c = start-of-check_room c.before
 
 abbrev start-of-check_agrees : tie.After-check_agrees → tie.Start
@@ -115,27 +114,27 @@ unfolding file_lines
 whole g = grouped (all g)
 
 -- 1 SIZE, 3 LONG
-no-stated : (c : tie.In-Refuse) → Refuse c.in-Refuse.stated ≡ answer (start-of-in-refuse c)
-no-stated c = refuses _ (whole (start-of-in-refuse c)) c.check_stated.ensures c.in-Refuse.is
+no-stated : (c : tie.In-Err) → Err c.in-Err.stated ≡ answer (start-of-in-refuse c)
+no-stated c = refuses _ (whole (start-of-in-refuse c)) c.check_stated.ensures c.in-Err.is
 
 -- 4 COUNT
 on-count : (c : tie.After-check_count) → thens (counts (start-of-check_count c)) ≡ answer (start-of-check_count c)
 on-count c = goes-on (whole (start-of-check_count c)) c.check_stated.ensures c.in_default.is
 
-no-count : (c : tie.In-Refuse-check_count) → Refuse c.in-Refuse-check_count.miscounted ≡ answer (start-of-in-refuse-check_count c)
-no-count c = refuses _ (on-count c.before) c.check_count.ensures c.in-Refuse-check_count.is
+no-count : (c : tie.In-Err-check_count) → Err c.in-Err-check_count.miscounted ≡ answer (start-of-in-refuse-check_count c)
+no-count c = refuses _ (on-count c.before) c.check_count.ensures c.in-Err-check_count.is
 
 on-nodes : (c : tie.After-check_nodes) → thens (nodes (start-of-check_nodes c)) ≡ answer (start-of-check_nodes c)
 on-nodes c = goes-on (on-count c.before.before) c.check_count.ensures c.in_default-check_count.is
 
-no-nodes : (c : tie.In-Refuse-check_nodes) → Refuse c.in-Refuse-check_nodes.named ≡ answer (start-of-in-refuse-check_nodes c)
-no-nodes c = refuses _ (on-nodes c.before) c.check_nodes.ensures c.in-Refuse-check_nodes.is
+no-nodes : (c : tie.In-Err-check_nodes) → Err c.in-Err-check_nodes.named ≡ answer (start-of-in-refuse-check_nodes c)
+no-nodes c = refuses _ (on-nodes c.before) c.check_nodes.ensures c.in-Err-check_nodes.is
 
 on-repeat : (c : tie.After-check_repeat) → thens (repeats (start-of-check_repeat c)) ≡ answer (start-of-check_repeat c)
 on-repeat c = goes-on (on-nodes c.before.before) c.check_nodes.ensures c.in_default-check_nodes.is
 
-no-repeat : (c : tie.In-Refuse-check_repeat) → Refuse c.in-Refuse-check_repeat.repeated ≡ answer (start-of-in-refuse-check_repeat c)
-no-repeat c = refuses _ (on-repeat c.before) c.check_repeat.ensures c.in-Refuse-check_repeat.is
+no-repeat : (c : tie.In-Err-check_repeat) → Err c.in-Err-check_repeat.repeated ≡ answer (start-of-in-refuse-check_repeat c)
+no-repeat c = refuses _ (on-repeat c.before) c.check_repeat.ensures c.in-Err-check_repeat.is
 
 taken-on : (c : tie.After-check_repeat) → Taken c.args.sizes c.args.points.now
 taken-on c =
@@ -166,14 +165,14 @@ is-area c =
     let many = as_many _ c.share_len.result _ _ _ c.stripe_count-stripes.ensures.0 c.share_len.ensures (stated-on (check_repeat-of-check_lent c)).is-legal in
     c.check_lent.ensures ∙ ap (λ (m : ℕ). asked (area_line (eqb (length a.held.now) (a.sizes.k * m) ∷ []))) many
 
-no-area : (c : tie.In-Refuse-check_lent) → Refuse c.in-Refuse-check_lent.lent ≡ answer (start-of-in-refuse-check_lent c)
-no-area c = refuses _ (on-area c.before.before.before) (is-area c.before) c.in-Refuse-check_lent.is
+no-area : (c : tie.In-Err-check_lent) → Err c.in-Err-check_lent.lent ≡ answer (start-of-in-refuse-check_lent c)
+no-area c = refuses _ (on-area c.before.before.before) (is-area c.before) c.in-Err-check_lent.is
 
 on-short : (c : tie.After-check_room) → thens (shorts (start-of-check_room c)) ≡ answer (start-of-check_room c)
 on-short c = goes-on (on-area c.before.before.before.before) (is-area c.before.before) c.in_default-check_lent.is
 
-no_short : (c : tie.In-Refuse-check_room) → Refuse c.in-Refuse-check_room.short ≡ answer (start-of-in-refuse-check_room c)
-no_short c = refuses _ (on-short c.before) c.check_room.ensures c.in-Refuse-check_room.is
+no_short : (c : tie.In-Err-check_room) → Err c.in-Err-check_room.short ≡ answer (start-of-in-refuse-check_room c)
+no_short c = refuses _ (on-short c.before) c.check_room.ensures c.in-Err-check_room.is
 
 -- what the checks so far told
 readable-on : (c : tie.After-check_room) → let a = c.args in Readable a.sizes a.points.now a.len a.boards.now (length a.held.now)

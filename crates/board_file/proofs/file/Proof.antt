@@ -5,7 +5,7 @@ use mathlib.Core.Path.{◌≡◌, sym, ◌∙◌}
 use mathlib.Core.List.{List}
 use lib.ListN.{length}
 use borrow.Author.Rules.{rules}
-use Rattle.sizes.specs.declared.Check.TheVariants.{Pass}
+use Rattle.std.specs.Prelude.{Ok}
 use Rattle.decode_setup.specs.Steps.{Made}
 use Rattle.board_file.proofs.FileCall.{Readable, asked_of, checked, file-readable, file-room, file-refuses, file-works}
 use Rattle.board_file.proofs.file.Statement.{statement}
@@ -18,7 +18,7 @@ in-default-of-slice_known-2-1 c = c.before.before.before.before.before.before.be
 abbrev start-of-in-default : tie.In_default → tie.Start
 start-of-in-default c = c.before.before.before.before.before.before.before.before.before.before.before.before
 
-abbrev start-of-in-refuse : tie.In-Refuse → tie.Start
+abbrev start-of-in-refuse : tie.In-Err → tie.Start
 start-of-in-refuse c = c.before.before.before.before.before.before.before.before.before.before.before.before
 
 abbrev start-of-write_file-arg-1 : tie.After-write_file-arg-1 → tie.Start
@@ -32,7 +32,7 @@ abbrev given : tie.Start → List ℕ
 given g = g.args.points
 
 -- what the check told
-passed : (c : tie.In_default) → let a = c.args in checked a.sizes (given (start-of-in-default c)) a.len a.boards.now a.held.now a.out.now ≡ Pass
+passed : (c : tie.In_default) → let a = c.args in checked a.sizes (given (start-of-in-default c)) a.len a.boards.now a.held.now a.out.now ≡ Ok tt
 passed c = sym c.check_file.ensures.0 ∙ c.in_default.is
 
 facts : (c : tie.In_default) → let a = c.args in Readable a.sizes (given (start-of-in-default c)) a.len a.boards.now (length a.held.now)
@@ -61,10 +61,10 @@ file-done c =
     let a = c.args in
     file-works a.sizes (given (start-of-slice_known-2-1 c)) a.len a.boards.now a.held.now a.out.now _ (passed (in-default-of-slice_known-2-1 c)) c.write_file.ensures
 
-file-refused : tie.Need-returns-in-Refuse
+file-refused : tie.Need-returns-in-Err
 file-refused c =
     let a = c.args in
-    file-refuses a.sizes (given (start-of-in-refuse c)) a.len a.boards.now a.held.now a.out.now (sym c.check_file.ensures.0 ∙ c.in-Refuse.is)
+    file-refuses a.sizes (given (start-of-in-refuse c)) a.len a.boards.now a.held.now a.out.now (sym c.check_file.ensures.0 ∙ c.in-Err.is)
 
 pub file_spec : {M : Type 1} → statement M
 file_spec =

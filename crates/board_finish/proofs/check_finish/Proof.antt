@@ -10,10 +10,9 @@ use lib.Dec.{eqb}
 use lib.ListN.{length}
 use borrow.Author.Rules.{rules}
 use Rattle.lists.proofs.Tests.{not-no}
-use Rattle.sizes.specs.declared.Check.{Check}
-use Rattle.sizes.specs.declared.Check.TheVariants.{Refuse}
+use Rattle.std.specs.Prelude.{Err}
 use Rattle.sizes.specs.Sizing.{α, stripes}
-use Rattle.sizes.specs.Refusals.{Line, first, board_order}
+use Rattle.sizes.specs.Refusals.{Line, first, board_order, Check}
 use Rattle.sizes.proofs.Legal.{Legal, legal-facts, α-most}
 use Rattle.mbcr.proofs.Points.{Boards, boards-of}
 use Rattle.board_spec.specs.Calls.{count_line, node_line, repeat_line, area_line, short_line, finished_lines}
@@ -32,25 +31,25 @@ in-default-check_repeat_joined-of-share_len c = c.before.before.before.before.be
 abbrev in-default-of-in-default-check_repeat_joined : tie.In_default-check_repeat_joined → tie.In_default
 in-default-of-in-default-check_repeat_joined c = c.before.before.before.before.before.before.before
 
-abbrev start-of-in-refuse : tie.In-Refuse → tie.Start
+abbrev start-of-in-refuse : tie.In-Err → tie.Start
 start-of-in-refuse c = c.before.before.before.before.before.before.before.before
 
 abbrev start-of-check_counts : tie.After-check_counts → tie.Start
 start-of-check_counts c = c.before.before.before.before.before.before.before.before.before.before
 
-abbrev start-of-in-refuse-check_counts : tie.In-Refuse-check_counts → tie.Start
+abbrev start-of-in-refuse-check_counts : tie.In-Err-check_counts → tie.Start
 start-of-in-refuse-check_counts c = start-of-check_counts c.before
 
 abbrev start-of-check_nodes_joined : tie.After-check_nodes_joined → tie.Start
 start-of-check_nodes_joined c = start-of-check_counts c.before.before
 
-abbrev start-of-in-refuse-check_nodes_joined : tie.In-Refuse-check_nodes_joined → tie.Start
+abbrev start-of-in-refuse-check_nodes_joined : tie.In-Err-check_nodes_joined → tie.Start
 start-of-in-refuse-check_nodes_joined c = start-of-check_nodes_joined c.before
 
 abbrev start-of-check_repeat_joined : tie.After-check_repeat_joined → tie.Start
 start-of-check_repeat_joined c = start-of-check_nodes_joined c.before.before
 
-abbrev start-of-in-refuse-check_repeat_joined : tie.In-Refuse-check_repeat_joined → tie.Start
+abbrev start-of-in-refuse-check_repeat_joined : tie.In-Err-check_repeat_joined → tie.Start
 start-of-in-refuse-check_repeat_joined c = start-of-check_repeat_joined c.before
 
 abbrev start-of-stripe_count-stripes : tie.After-stripe_count-stripes → tie.Start
@@ -59,7 +58,7 @@ start-of-stripe_count-stripes c = start-of-check_repeat_joined c.before.before
 abbrev start-of-check_two_lent : tie.After-check_two_lent → tie.Start
 start-of-check_two_lent c = start-of-stripe_count-stripes c.before.before
 
-abbrev start-of-in-refuse-check_two_lent : tie.In-Refuse-check_two_lent → tie.Start
+abbrev start-of-in-refuse-check_two_lent : tie.In-Err-check_two_lent → tie.Start
 start-of-in-refuse-check_two_lent c = start-of-check_two_lent c.before
 
 abbrev start-of-share_len : tie.After-share_len → tie.Start
@@ -117,8 +116,8 @@ whole : (g : tie.Start) → thens (stateds g) ≡ answer g
 unfolding finished_lines
 whole g = grouped (stateds g)
 
-no-stated : (c : tie.In-Refuse) → Refuse c.in-Refuse.stated ≡ answer (start-of-in-refuse c)
-no-stated c = refuses _ (whole (start-of-in-refuse c)) c.check_stated.ensures c.in-Refuse.is
+no-stated : (c : tie.In-Err) → Err c.in-Err.stated ≡ answer (start-of-in-refuse c)
+no-stated c = refuses _ (whole (start-of-in-refuse c)) c.check_stated.ensures c.in-Err.is
 
 stated-on : (c : tie.In_default) → let a = c.args in Stated a.sizes a.len
 stated-on c = stated-facts _ _ _ (sym c.check_stated.ensures ∙ c.in_default.is)
@@ -127,8 +126,8 @@ stated-on c = stated-facts _ _ _ (sym c.check_stated.ensures ∙ c.in_default.is
 on-count : (c : tie.After-check_counts) → thens (counts (start-of-check_counts c)) ≡ answer (start-of-check_counts c)
 on-count c = goes-on (whole (start-of-check_counts c)) c.check_stated.ensures c.in_default.is
 
-no-count : (c : tie.In-Refuse-check_counts) → Refuse c.in-Refuse-check_counts.count ≡ answer (start-of-in-refuse-check_counts c)
-no-count c = refuses _ (on-count c.before) c.check_counts.ensures c.in-Refuse-check_counts.is
+no-count : (c : tie.In-Err-check_counts) → Err c.in-Err-check_counts.count ≡ answer (start-of-in-refuse-check_counts c)
+no-count c = refuses _ (on-count c.before) c.check_counts.ensures c.in-Err-check_counts.is
 
 on-node : (c : tie.After-check_nodes_joined) → thens (nodes (start-of-check_nodes_joined c)) ≡ answer (start-of-check_nodes_joined c)
 on-node c = goes-on (on-count c.before.before) c.check_counts.ensures c.in_default-check_counts.is
@@ -136,14 +135,14 @@ on-node c = goes-on (on-count c.before.before) c.check_counts.ensures c.in_defau
 is-node : (c : tie.After-check_nodes_joined) → c.check_nodes_joined.result ≡ asked (node_line c.args.sizes (named (start-of-check_nodes_joined c)))
 is-node c = c.check_nodes_joined.ensures
 
-no_node : (c : tie.In-Refuse-check_nodes_joined) → Refuse c.in-Refuse-check_nodes_joined.node ≡ answer (start-of-in-refuse-check_nodes_joined c)
-no_node c = refuses _ (on-node c.before) (is-node c.before) c.in-Refuse-check_nodes_joined.is
+no_node : (c : tie.In-Err-check_nodes_joined) → Err c.in-Err-check_nodes_joined.node ≡ answer (start-of-in-refuse-check_nodes_joined c)
+no_node c = refuses _ (on-node c.before) (is-node c.before) c.in-Err-check_nodes_joined.is
 
 on-repeat : (c : tie.After-check_repeat_joined) → thens (repeats (start-of-check_repeat_joined c)) ≡ answer (start-of-check_repeat_joined c)
 on-repeat c = goes-on (on-node c.before.before) (is-node c.before.before) c.in_default-check_nodes_joined.is
 
-no-repeat : (c : tie.In-Refuse-check_repeat_joined) → Refuse c.in-Refuse-check_repeat_joined.repeat ≡ answer (start-of-in-refuse-check_repeat_joined c)
-no-repeat c = refuses _ (on-repeat c.before) c.check_repeat_joined.ensures c.in-Refuse-check_repeat_joined.is
+no-repeat : (c : tie.In-Err-check_repeat_joined) → Err c.in-Err-check_repeat_joined.repeat ≡ answer (start-of-in-refuse-check_repeat_joined c)
+no-repeat c = refuses _ (on-repeat c.before) c.check_repeat_joined.ensures c.in-Err-check_repeat_joined.is
 
 on-lent : (c : tie.After-stripe_count-stripes) → thens (lents (start-of-stripe_count-stripes c)) ≡ answer (start-of-stripe_count-stripes c)
 on-lent c = goes-on (on-repeat c.before.before) c.check_repeat_joined.ensures c.in_default-check_repeat_joined.is
@@ -179,8 +178,8 @@ exchanges-few c =
 is-lent : (c : tie.After-check_two_lent) → c.check_two_lent.result ≡ asked (sent_line (start-of-check_two_lent c) (S (start-of-check_two_lent c)))
 is-lent c = c.check_two_lent.ensures ∙ ap (λ (s : ℕ). asked (sent_line (start-of-check_two_lent c) s)) c.stripe_count-stripes.ensures.0
 
-no-lent : (c : tie.In-Refuse-check_two_lent) → Refuse c.in-Refuse-check_two_lent.lent ≡ answer (start-of-in-refuse-check_two_lent c)
-no-lent c = refuses _ (on-lent c.before.before.before) (is-lent c.before) c.in-Refuse-check_two_lent.is
+no-lent : (c : tie.In-Err-check_two_lent) → Err c.in-Err-check_two_lent.lent ≡ answer (start-of-in-refuse-check_two_lent c)
+no-lent c = refuses _ (on-lent c.before.before.before) (is-lent c.before) c.in-Err-check_two_lent.is
 
 on-short : (c : tie.After-share_len) → thens (shorts (start-of-share_len c)) ≡ answer (start-of-share_len c)
 on-short c = goes-on (on-lent c.before.before.before.before) (is-lent c.before.before) c.in_default-check_two_lent.is

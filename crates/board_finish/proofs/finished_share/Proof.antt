@@ -5,8 +5,8 @@ use mathlib.Core.Path.{◌≡◌, sym, ◌∙◌}
 use mathlib.Core.List.{List}
 use native.Mathlib.Omega.{arith}
 use borrow.Author.Rules.{rules}
-use Rattle.sizes.specs.declared.Check.{Check}
-use Rattle.sizes.specs.declared.Check.TheVariants.{Pass, Refuse}
+use Rattle.sizes.specs.Refusals.{Check}
+use Rattle.std.specs.Prelude.{Ok, Err}
 use Rattle.sizes.proofs.Legal.{legal-facts, α-most}
 use Rattle.board_lines.proofs.Given.{as_many, few_bytes}
 use Rattle.board_finish.proofs.Finishes.{Finishes, checked, finishes, finish-refuses, finish-works}
@@ -20,7 +20,7 @@ in-default-of-finished_share-arg-1 c = c.before.before.before.before.before.befo
 abbrev start-of-in-default : tie.In_default → tie.Start
 start-of-in-default c = c.before.before.before.before.before.before.before.before
 
-abbrev start-of-in-refuse : tie.In-Refuse → tie.Start
+abbrev start-of-in-refuse : tie.In-Err → tie.Start
 start-of-in-refuse c = c.before.before.before.before.before.before.before.before
 
 abbrev in-default-of-share_len : tie.After-share_len → tie.In_default
@@ -39,10 +39,10 @@ answer g =
     let a = g.args in
     checked a.sizes (given g) a.len a.board a.helpers.now a.packets.now a.partners.now a.exchanges.now a.out.now
 
-refusal : (c : tie.In-Refuse) → answer (start-of-in-refuse c) ≡ Refuse c.in-Refuse.x
-refusal c = sym c.check_finish.ensures ∙ c.in-Refuse.is
+refusal : (c : tie.In-Err) → answer (start-of-in-refuse c) ≡ Err c.in-Err.x
+refusal c = sym c.check_finish.ensures ∙ c.in-Err.is
 
-passed : (c : tie.In_default) → answer (start-of-in-default c) ≡ Pass
+passed : (c : tie.In_default) → answer (start-of-in-default c) ≡ Ok tt
 passed c = sym c.check_finish.ensures ∙ c.in_default.is
 
 facts : (c : tie.In_default) → let a = c.args in
@@ -51,7 +51,7 @@ facts c =
     let a = c.args in
     finishes a.sizes (given (start-of-in-default c)) a.len a.board a.helpers.now a.packets.now a.partners.now a.exchanges.now a.out.now (passed c)
 
-refused : tie.Need-returns-in-Refuse
+refused : tie.Need-returns-in-Err
 refused c =
     let a = c.args in
     finish-refuses a.sizes (given (start-of-in-refuse c)) a.len a.board a.helpers.now a.packets.now a.partners.now a.exchanges.now a.out.now

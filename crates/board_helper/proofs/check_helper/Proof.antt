@@ -8,10 +8,9 @@ use native.Mathlib.Omega.{arith}
 use lib.Dec.{eqb}
 use lib.ListN.{length}
 use borrow.Author.Rules.{rules}
-use Rattle.sizes.specs.declared.Check.{Check}
-use Rattle.sizes.specs.declared.Check.TheVariants.{Refuse}
+use Rattle.std.specs.Prelude.{Err}
 use Rattle.sizes.specs.Sizing.{legal, α, stripes}
-use Rattle.sizes.specs.Refusals.{Line, first, board_order}
+use Rattle.sizes.specs.Refusals.{Line, first, board_order, Check}
 use Rattle.sizes.proofs.Legal.{legal-facts, α-most}
 use Rattle.board_spec.specs.Calls.{node_line, repeat_line, area_line, short_line, helper_lines}
 use Rattle.line_checks.specs.Steps.{asked, stated_lines, Stated}
@@ -22,7 +21,7 @@ use Rattle.board_helper.proofs.check_helper.Statement.{statement}
 use Rattle.board_helper.proofs.check_helper.Tie as tie
 
 -- places in the code
-abbrev start-of-in-refuse : tie.In-Refuse → tie.Start
+abbrev start-of-in-refuse : tie.In-Err → tie.Start
 start-of-in-refuse c = c.before.before.before.before.before
 
 abbrev check_nodes-of-share_len : tie.After-share_len → tie.After-check_nodes
@@ -31,13 +30,13 @@ check_nodes-of-share_len c = c.before.before.before.before.before.before
 abbrev start-of-check_nodes : tie.After-check_nodes → tie.Start
 start-of-check_nodes c = c.before.before.before.before.before.before.before
 
-abbrev start-of-in-refuse-check_nodes : tie.In-Refuse-check_nodes → tie.Start
+abbrev start-of-in-refuse-check_nodes : tie.In-Err-check_nodes → tie.Start
 start-of-in-refuse-check_nodes c = start-of-check_nodes c.before
 
 abbrev start-of-check_repeat : tie.After-check_repeat → tie.Start
 start-of-check_repeat c = start-of-check_nodes c.before.before.before
 
-abbrev start-of-in-refuse-check_repeat : tie.In-Refuse-check_repeat → tie.Start
+abbrev start-of-in-refuse-check_repeat : tie.In-Err-check_repeat → tie.Start
 start-of-in-refuse-check_repeat c = start-of-check_repeat c.before
 
 abbrev start-of-share_len : tie.After-share_len → tie.Start
@@ -46,7 +45,7 @@ start-of-share_len c = start-of-check_repeat c.before.before.before
 abbrev start-of-check_lent : tie.After-check_lent → tie.Start
 start-of-check_lent c = start-of-share_len c.before
 
-abbrev start-of-in-refuse-check_lent : tie.In-Refuse-check_lent → tie.Start
+abbrev start-of-in-refuse-check_lent : tie.In-Err-check_lent → tie.Start
 start-of-in-refuse-check_lent c = start-of-check_lent c.before
 
 abbrev start-of-check_room : tie.After-check_room → tie.Start
@@ -89,8 +88,8 @@ whole : (g : tie.Start) → thens (stateds g) ≡ answer g
 unfolding helper_lines
 whole g = grouped (stateds g)
 
-no-stated : (c : tie.In-Refuse) → Refuse c.in-Refuse.stated ≡ answer (start-of-in-refuse c)
-no-stated c = refuses _ (whole (start-of-in-refuse c)) c.check_stated.ensures c.in-Refuse.is
+no-stated : (c : tie.In-Err) → Err c.in-Err.stated ≡ answer (start-of-in-refuse c)
+no-stated c = refuses _ (whole (start-of-in-refuse c)) c.check_stated.ensures c.in-Err.is
 
 stated-on : (c : tie.After-check_nodes) → Stated c.args.sizes c.args.len
 stated-on c = stated-facts _ _ _ (sym c.check_stated.ensures ∙ c.in_default.is)
@@ -98,14 +97,14 @@ stated-on c = stated-facts _ _ _ (sym c.check_stated.ensures ∙ c.in_default.is
 on-node : (c : tie.After-check_nodes) → thens (nodes (start-of-check_nodes c)) ≡ answer (start-of-check_nodes c)
 on-node c = goes-on (whole (start-of-check_nodes c)) c.check_stated.ensures c.in_default.is
 
-no_node : (c : tie.In-Refuse-check_nodes) → Refuse c.in-Refuse-check_nodes.node ≡ answer (start-of-in-refuse-check_nodes c)
-no_node c = refuses _ (on-node c.before) c.check_nodes.ensures c.in-Refuse-check_nodes.is
+no_node : (c : tie.In-Err-check_nodes) → Err c.in-Err-check_nodes.node ≡ answer (start-of-in-refuse-check_nodes c)
+no_node c = refuses _ (on-node c.before) c.check_nodes.ensures c.in-Err-check_nodes.is
 
 on-repeat : (c : tie.After-check_repeat) → thens (repeats (start-of-check_repeat c)) ≡ answer (start-of-check_repeat c)
 on-repeat c = goes-on (on-node c.before.before.before) c.check_nodes.ensures c.in_default-check_nodes.is
 
-no-repeat : (c : tie.In-Refuse-check_repeat) → Refuse c.in-Refuse-check_repeat.repeat ≡ answer (start-of-in-refuse-check_repeat c)
-no-repeat c = refuses _ (on-repeat c.before) c.check_repeat.ensures c.in-Refuse-check_repeat.is
+no-repeat : (c : tie.In-Err-check_repeat) → Err c.in-Err-check_repeat.repeat ≡ answer (start-of-in-refuse-check_repeat c)
+no-repeat c = refuses _ (on-repeat c.before) c.check_repeat.ensures c.in-Err-check_repeat.is
 
 legal-on : (c : tie.After-share_len) → legal c.args.sizes ≡ true
 legal-on c = (stated-on (check_nodes-of-share_len c)).is-legal
@@ -125,8 +124,8 @@ is-lent : (c : tie.After-check_lent) → c.check_lent.result ≡ asked (held_lin
 is-lent c =
     c.check_lent.ensures ∙ ap (λ (m : ℕ). asked (area_line (eqb (length c.args.held.now) m ∷ []))) (long-is c.before)
 
-no-lent : (c : tie.In-Refuse-check_lent) → Refuse c.in-Refuse-check_lent.lent ≡ answer (start-of-in-refuse-check_lent c)
-no-lent c = refuses _ (on-lent c.before.before) (is-lent c.before) c.in-Refuse-check_lent.is
+no-lent : (c : tie.In-Err-check_lent) → Err c.in-Err-check_lent.lent ≡ answer (start-of-in-refuse-check_lent c)
+no-lent c = refuses _ (on-lent c.before.before) (is-lent c.before) c.in-Err-check_lent.is
 
 on-short : (c : tie.After-check_room) → thens (shorts (start-of-check_room c)) ≡ answer (start-of-check_room c)
 on-short c = goes-on (on-lent c.before.before.before) (is-lent c.before.before) c.in_default-check_lent.is

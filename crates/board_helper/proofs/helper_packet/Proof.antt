@@ -5,8 +5,8 @@ use mathlib.Core.Path.{◌≡◌, sym, ◌∙◌}
 use mathlib.Core.List.{List}
 use native.Mathlib.Omega.{arith}
 use borrow.Author.Rules.{rules}
-use Rattle.sizes.specs.declared.Check.{Check}
-use Rattle.sizes.specs.declared.Check.TheVariants.{Pass, Refuse}
+use Rattle.sizes.specs.Refusals.{Check}
+use Rattle.std.specs.Prelude.{Ok, Err}
 use Rattle.board_helper.proofs.Helps.{Helps, checked, helps, helper-refuses, helper-works}
 use Rattle.board_helper.proofs.helper_packet.Statement.{statement}
 use Rattle.board_helper.proofs.helper_packet.Tie as tie
@@ -15,7 +15,7 @@ use Rattle.board_helper.proofs.helper_packet.Tie as tie
 abbrev start-of-in-default : tie.In_default → tie.Start
 start-of-in-default c = c.before.before.before.before.before
 
-abbrev start-of-in-refuse : tie.In-Refuse → tie.Start
+abbrev start-of-in-refuse : tie.In-Err → tie.Start
 start-of-in-refuse c = c.before.before.before.before.before
 
 abbrev in-default-of-helper_packet-arg-1 : tie.After-helper_packet-arg-1 → tie.In_default
@@ -35,17 +35,17 @@ given g = g.args.points
 abbrev answer : tie.Start → Check
 answer g = let a = g.args in checked a.sizes (given g) a.len a.helper a.receiver a.held.now a.out.now
 
-refusal : (c : tie.In-Refuse) → answer (start-of-in-refuse c) ≡ Refuse c.in-Refuse.x
-refusal c = sym c.check_helper.ensures ∙ c.in-Refuse.is
+refusal : (c : tie.In-Err) → answer (start-of-in-refuse c) ≡ Err c.in-Err.x
+refusal c = sym c.check_helper.ensures ∙ c.in-Err.is
 
-passed : (c : tie.In_default) → answer (start-of-in-default c) ≡ Pass
+passed : (c : tie.In_default) → answer (start-of-in-default c) ≡ Ok tt
 passed c = sym c.check_helper.ensures ∙ c.in_default.is
 
 facts : (c : tie.In_default)
     → let a = c.args in Helps a.sizes (given (start-of-in-default c)) a.len a.helper a.receiver a.held.now a.out.now
 facts c = let a = c.args in helps a.sizes (given (start-of-in-default c)) a.len a.helper a.receiver a.held.now a.out.now (passed c)
 
-refused : tie.Need-returns-in-Refuse
+refused : tie.Need-returns-in-Err
 refused c =
     let a = c.args in
     helper-refuses a.sizes (given (start-of-in-refuse c)) a.len a.helper a.receiver a.held.now a.out.now (refusal c)

@@ -7,7 +7,7 @@ use mathlib.Core.List.{List, [], ◌∷◌, ◌++◌}
 use borrow.Author.Rules.{rules}
 use Rattle.lists.specs.Tests.{below}
 use Rattle.sizes.specs.declared.Refusal.TheVariants.{Node}
-use Rattle.sizes.specs.declared.Check.TheVariants.{Refuse}
+use Rattle.std.specs.Prelude.{Err}
 use Rattle.sizes.specs.Refusals.{◌when◌}
 use Rattle.board_spec.specs.Calls.{node_line}
 use Rattle.line_checks.specs.Steps.{asked}
@@ -26,7 +26,7 @@ at-boards c = c.before.before
 abbrev named : tie.Start → List ℕ
 named g = g.args.boards.now ++ g.args.others.now ++ (g.args.last ∷ [])
 
-unknown : (g : tie.Start) → below g.args.sizes.n (named g) ≡ false → Refuse Node ≡ asked (node_line g.args.sizes (named g))
+unknown : (g : tie.Start) → below g.args.sizes.n (named g) ≡ false → Err Node ≡ asked (node_line g.args.sizes (named g))
 unknown g e = refuses (node_line g.args.sizes (named g)) (ap not e)
 
 returns : tie.Need-returns-then-below-2

@@ -4,10 +4,9 @@ use mathlib.Core.Path.{◌≡◌, sym, ◌∙◌}
 use mathlib.Core.Bool.{true}
 use mathlib.Core.List.{List, [], ◌∷◌}
 use borrow.Author.Rules.{rules}
-use Rattle.sizes.specs.declared.Check.{Check}
-use Rattle.sizes.specs.declared.Check.TheVariants.{Refuse}
+use Rattle.std.specs.Prelude.{Err}
 use Rattle.sizes.specs.Sizing.{legal}
-use Rattle.sizes.specs.Refusals.{Line, first, board_order}
+use Rattle.sizes.specs.Refusals.{Line, first, board_order, Check}
 use Rattle.board_spec.specs.Calls.{size_line, long_line}
 use Rattle.board_spec.proofs.Runs.{size-facts}
 use Rattle.line_checks.specs.Steps.{stated_lines}
@@ -29,8 +28,8 @@ answer g = first board_order (stated_lines g.args.sizes g.args.points.now g.args
 whole : (g : tie.Start) → thens (stated g) ≡ answer g
 whole g = grouped (stated g)
 
-no_size : (c : tie.In-Refuse) → Refuse c.in-Refuse.size ≡ answer c.before.before.before
-no_size c = refuses _ (whole c.before.before.before) c.check_sizes.ensures c.in-Refuse.is
+no_size : (c : tie.In-Err) → Err c.in-Err.size ≡ answer c.before.before.before
+no_size c = refuses _ (whole c.before.before.before) c.check_sizes.ensures c.in-Err.is
 
 legal-on : (c : tie.In_default) → legal c.args.sizes ≡ true
 legal-on c =

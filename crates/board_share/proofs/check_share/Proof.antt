@@ -6,10 +6,9 @@ use mathlib.Core.List.{List, [], ◌∷◌}
 use lib.ListN.{length}
 use native.Mathlib.Omega.{arith}
 use borrow.Author.Rules.{rules}
-use Rattle.sizes.specs.declared.Check.{Check}
-use Rattle.sizes.specs.declared.Check.TheVariants.{Refuse}
+use Rattle.std.specs.Prelude.{Err}
 use Rattle.sizes.specs.Sizing.{α, stripes}
-use Rattle.sizes.specs.Refusals.{Line, first, board_order}
+use Rattle.sizes.specs.Refusals.{Line, first, board_order, Check}
 use Rattle.sizes.proofs.Legal.{legal-facts, α-most}
 use Rattle.board_spec.specs.Calls.{node_line, short_line, share_lines}
 use Rattle.line_checks.specs.Steps.{asked, stated_lines, Stated}
@@ -20,13 +19,13 @@ use Rattle.board_share.proofs.check_share.Statement.{statement}
 use Rattle.board_share.proofs.check_share.Tie as tie
 
 -- places in the code
-abbrev start-of-in-refuse : tie.In-Refuse → tie.Start
+abbrev start-of-in-refuse : tie.In-Err → tie.Start
 start-of-in-refuse c = c.before.before.before.before.before
 
 abbrev start-of-check_node : tie.After-check_node → tie.Start
 start-of-check_node c = c.before.before.before.before.before.before
 
-abbrev start-of-in-refuse-check_node : tie.In-Refuse-check_node → tie.Start
+abbrev start-of-in-refuse-check_node : tie.In-Err-check_node → tie.Start
 start-of-in-refuse-check_node c = start-of-check_node c.before
 
 abbrev start-of-share_len : tie.After-share_len → tie.Start
@@ -59,14 +58,14 @@ whole : (g : tie.Start) → thens (all g) ≡ answer g
 unfolding share_lines
 whole g = grouped (all g)
 
-no-stated : (c : tie.In-Refuse) → Refuse c.in-Refuse.stated ≡ answer (start-of-in-refuse c)
-no-stated c = refuses _ (whole (start-of-in-refuse c)) c.check_stated.ensures c.in-Refuse.is
+no-stated : (c : tie.In-Err) → Err c.in-Err.stated ≡ answer (start-of-in-refuse c)
+no-stated c = refuses _ (whole (start-of-in-refuse c)) c.check_stated.ensures c.in-Err.is
 
 on-node : (c : tie.After-check_node) → thens (nodes (start-of-check_node c)) ≡ answer (start-of-check_node c)
 on-node c = goes-on (whole (start-of-check_node c)) c.check_stated.ensures c.in_default.is
 
-no_node : (c : tie.In-Refuse-check_node) → Refuse c.in-Refuse-check_node.named ≡ answer (start-of-in-refuse-check_node c)
-no_node c = refuses _ (on-node c.before) c.check_node.ensures c.in-Refuse-check_node.is
+no_node : (c : tie.In-Err-check_node) → Err c.in-Err-check_node.named ≡ answer (start-of-in-refuse-check_node c)
+no_node c = refuses _ (on-node c.before) c.check_node.ensures c.in-Err-check_node.is
 
 stated-on : (c : tie.After-check_node) → Stated c.args.sizes (length (file (start-of-check_node c)))
 stated-on c = stated-facts _ _ _ (sym c.check_stated.ensures ∙ c.in_default.is)

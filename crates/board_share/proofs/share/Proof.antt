@@ -5,7 +5,7 @@ use mathlib.Core.Path.{◌≡◌, sym, ◌∙◌}
 use mathlib.Core.List.{List}
 use native.Mathlib.Omega.{arith}
 use borrow.Author.Rules.{rules}
-use Rattle.sizes.specs.declared.Check.TheVariants.{Pass}
+use Rattle.std.specs.Prelude.{Ok}
 use Rattle.sizes.proofs.Legal.{legal-facts, α-most}
 use Rattle.board_lines.proofs.Given.{as_many, few_bytes}
 use Rattle.board_share.proofs.ShareCall.{Shares, checked, share-facts, share-refuses, share-works}
@@ -16,7 +16,7 @@ use Rattle.board_share.proofs.share.Tie as tie
 abbrev start-of-in-default : tie.In_default → tie.Start
 start-of-in-default c = c.before.before.before.before.before
 
-abbrev start-of-in-refuse : tie.In-Refuse → tie.Start
+abbrev start-of-in-refuse : tie.In-Err → tie.Start
 start-of-in-refuse c = c.before.before.before.before.before
 
 abbrev in-default-of-slice_known-2-1 : tie.After-slice_known-2-1 → tie.In_default
@@ -30,7 +30,7 @@ abbrev given : tie.Start → List ℕ
 given g = g.args.points
 
 -- what the check told
-passed : (c : tie.In_default) → let a = c.args in checked a.sizes (given (start-of-in-default c)) a.node a.file.now a.out.now ≡ Pass
+passed : (c : tie.In_default) → let a = c.args in checked a.sizes (given (start-of-in-default c)) a.node a.file.now a.out.now ≡ Ok tt
 passed c = sym c.check_share.ensures ∙ c.in_default.is
 
 facts : (c : tie.In_default) → let a = c.args in Shares a.sizes (given (start-of-in-default c)) a.node a.file.now a.out.now
@@ -55,10 +55,10 @@ share-done c =
     let many = as_many _ c.share_len.result _ _ _ e c.share_len.ensures (facts (in-default-of-slice_known-2-1 c)).stated.is-legal in
     share-works a.sizes (given (start-of-slice_known-2-1 c)) a.node a.file.now a.out.now _ _ _ (passed (in-default-of-slice_known-2-1 c)) e many c.share.ensures
 
-share-refused : tie.Need-returns-in-Refuse
+share-refused : tie.Need-returns-in-Err
 share-refused c =
     let a = c.args in
-    share-refuses a.sizes (given (start-of-in-refuse c)) a.node a.file.now a.out.now (sym c.check_share.ensures ∙ c.in-Refuse.is)
+    share-refuses a.sizes (given (start-of-in-refuse c)) a.node a.file.now a.out.now (sym c.check_share.ensures ∙ c.in-Err.is)
 
 pub share_spec : {M : Type 1} → statement M
 share_spec =

@@ -7,10 +7,9 @@ use native.Mathlib.Omega.{arith}
 use lib.Dec.{eqb}
 use lib.ListN.{length}
 use borrow.Author.Rules.{rules}
-use Rattle.sizes.specs.declared.Check.{Check}
-use Rattle.sizes.specs.declared.Check.TheVariants.{Pass, Refuse}
+use Rattle.std.specs.Prelude.{Ok, Err}
 use Rattle.sizes.specs.Sizing.{α, stripes}
-use Rattle.sizes.specs.Refusals.{Line, first, board_order}
+use Rattle.sizes.specs.Refusals.{Line, first, board_order, Check}
 use Rattle.sizes.proofs.Legal.{legal-facts, α-most}
 use Rattle.board_spec.specs.Text.{share_text}
 use Rattle.board_spec.specs.Calls.{node_line, area_line, short_line, text_lines}
@@ -27,13 +26,13 @@ use Rattle.board_text.proofs.check_text.Tie as tie
 abbrev check_node-of-in-default-check_lent : tie.In_default-check_lent → tie.After-check_node
 check_node-of-in-default-check_lent c = c.before.before.before.before.before
 
-abbrev start-of-in-refuse : tie.In-Refuse → tie.Start
+abbrev start-of-in-refuse : tie.In-Err → tie.Start
 start-of-in-refuse c = c.before.before.before.before.before
 
 abbrev start-of-check_node : tie.After-check_node → tie.Start
 start-of-check_node c = c.before.before.before.before.before.before
 
-abbrev start-of-in-refuse-check_node : tie.In-Refuse-check_node → tie.Start
+abbrev start-of-in-refuse-check_node : tie.In-Err-check_node → tie.Start
 start-of-in-refuse-check_node c = start-of-check_node c.before
 
 abbrev start-of-share_len : tie.After-share_len → tie.Start
@@ -45,7 +44,7 @@ start-of-check_lent c = start-of-share_len c.before
 abbrev start-of-in-default-check_lent : tie.In_default-check_lent → tie.Start
 start-of-in-default-check_lent c = start-of-check_lent c.before
 
-abbrev start-of-in-refuse-check_lent : tie.In-Refuse-check_lent → tie.Start
+abbrev start-of-in-refuse-check_lent : tie.In-Err-check_lent → tie.Start
 start-of-in-refuse-check_lent c = start-of-check_lent c.before
 
 abbrev start-of-check_room : tie.After-check_room → tie.Start
@@ -81,14 +80,14 @@ whole : (g : tie.Start) → thens (all g) ≡ answer g
 unfolding text_lines
 whole g = grouped (all g)
 
-no-stated : (c : tie.In-Refuse) → Refuse c.in-Refuse.stated ≡ answer (start-of-in-refuse c)
-no-stated c = refuses _ (whole (start-of-in-refuse c)) c.check_stated.ensures c.in-Refuse.is
+no-stated : (c : tie.In-Err) → Err c.in-Err.stated ≡ answer (start-of-in-refuse c)
+no-stated c = refuses _ (whole (start-of-in-refuse c)) c.check_stated.ensures c.in-Err.is
 
 on-node : (c : tie.After-check_node) → thens (nodes (start-of-check_node c)) ≡ answer (start-of-check_node c)
 on-node c = goes-on (whole (start-of-check_node c)) c.check_stated.ensures c.in_default.is
 
-no_node : (c : tie.In-Refuse-check_node) → Refuse c.in-Refuse-check_node.named ≡ answer (start-of-in-refuse-check_node c)
-no_node c = refuses _ (on-node c.before) c.check_node.ensures c.in-Refuse-check_node.is
+no_node : (c : tie.In-Err-check_node) → Err c.in-Err-check_node.named ≡ answer (start-of-in-refuse-check_node c)
+no_node c = refuses _ (on-node c.before) c.check_node.ensures c.in-Err-check_node.is
 
 stated-on : (c : tie.After-check_node) → Stated c.args.sizes c.args.len
 stated-on c = stated-facts _ _ _ (sym c.check_stated.ensures ∙ c.in_default.is)
@@ -112,15 +111,15 @@ is-area c =
     let many = as_many _ c.share_len.result _ _ _ c.stripe_count-stripes.ensures.0 c.share_len.ensures (stated-on c.before.before.before.before).is-legal in
     c.check_lent.ensures ∙ ap (λ (m : ℕ). asked (area_line (eqb (length c.args.held.now) m ∷ []))) many
 
-no-area : (c : tie.In-Refuse-check_lent) → Refuse c.in-Refuse-check_lent.lent ≡ answer (start-of-in-refuse-check_lent c)
-no-area c = refuses _ (on-area c.before.before) (is-area c.before) c.in-Refuse-check_lent.is
+no-area : (c : tie.In-Err-check_lent) → Err c.in-Err-check_lent.lent ≡ answer (start-of-in-refuse-check_lent c)
+no-area c = refuses _ (on-area c.before.before) (is-area c.before) c.in-Err-check_lent.is
 
 on-short : (c : tie.In_default-check_lent) → thens (shorts (start-of-in-default-check_lent c)) ≡ answer (start-of-in-default-check_lent c)
 on-short c = goes-on (on-area c.before.before) (is-area c.before) c.in_default-check_lent.is
 
 writes-on : (c : tie.In_default-check_lent) → let a = c.args in Writes a.sizes a.points.now a.len a.node (length a.held.now)
 writes-on c =
-    let named : asked (node-line (start-of-in-default-check_lent c)) ≡ Pass = sym c.check_node.ensures ∙ c.in_default-check_node.is in
+    let named : asked (node-line (start-of-in-default-check_lent c)) ≡ (Ok tt) = sym c.check_node.ensures ∙ c.in_default-check_node.is in
     writes _ _ _ _ _ (stated-on (check_node-of-in-default-check_lent c)) (long-on (check_node-of-in-default-check_lent c)) named (sym (is-area c.before) ∙ c.in_default-check_lent.is)
 
 is-short : (c : tie.After-check_room) → c.check_room.result ≡ asked (short_line c.args.out.now (length (text (start-of-check_room c))))

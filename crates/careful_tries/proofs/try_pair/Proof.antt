@@ -34,7 +34,7 @@ use Rattle.careful_tries.proofs.try_pair.Tie as tie
 abbrev told-told-of-in-default : tie.In_default → tie.After-told-told
 told-told-of-in-default c = c.before.before.before.before.before
 
-abbrev told-told-of-in-refuse : tie.In-Refuse → tie.After-told-told
+abbrev told-told-of-in-refuse : tie.In-Err → tie.After-told-told
 told-told-of-in-refuse c = c.before.before.before.before.before
 
 abbrev leave_pair-of-slice_known-4-1 : tie.After-slice_known-4-1 → tie.After-leave_pair
@@ -189,9 +189,9 @@ returns c =
     (either (there c.before.before) (λ e. (where-held c.before.before e).0) (λ e. no ∙ not-held c.before.before e), ((λ e. absurd (true-false e no)), handed c.before.before))
 
 -- the k boards hold no file
-returns-2 : tie.Need-returns-in-Refuse
+returns-2 : tie.Need-returns-in-Err
 returns-2 c =
-    (not-held (told-told-of-in-refuse c) (refused_none (there (told-told-of-in-refuse c)) (sym c.check_agrees.ensures ∙ c.in-Refuse.is)), ((λ e. absurd (true-false e refl)), handed (told-told-of-in-refuse c)))
+    (not-held (told-told-of-in-refuse c) (refused_none (there (told-told-of-in-refuse c)) (sym c.check_agrees.ensures ∙ c.in-Err.is)), ((λ e. absurd (true-false e refl)), handed (told-told-of-in-refuse c)))
 
 -- they hold one
 returns-3 : tie.Need-returns

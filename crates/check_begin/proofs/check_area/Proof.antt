@@ -9,10 +9,9 @@ use native.Mathlib.Omega.{arith}
 use lib.Dec.{eqb}
 use borrow.Author.Rules.{rules}
 use Rattle.sizes.specs.declared.Refusal.TheVariants.{Area}
-use Rattle.sizes.specs.declared.Check.{Check}
-use Rattle.sizes.specs.declared.Check.TheVariants.{Refuse}
+use Rattle.std.specs.Prelude.{Err}
 use Rattle.sizes.specs.Sizing.{α}
-use Rattle.sizes.specs.Refusals.{Line, ◌when◌, first, store_order}
+use Rattle.sizes.specs.Refusals.{Line, ◌when◌, first, store_order, Check}
 use Rattle.sizes.proofs.Legal.{legal-facts, α-most}
 use Rattle.store_spec.specs.Record.{Record}
 use Rattle.store_spec.specs.Calls.{lent_line}
@@ -52,8 +51,8 @@ answer g = first store_order (area_lines (R g) (P g) g.args.lent)
 whole : (g : tie.Start) → thens (records g) ≡ answer g
 whole g = grouped (records g)
 
-no_size : (c : tie.In-Refuse) → Refuse c.in-Refuse.size ≡ answer c.before.before
-no_size c = refuses _ (whole c.before.before) c.check_both.ensures c.in-Refuse.is
+no_size : (c : tie.In-Err) → Err c.in-Err.size ≡ answer c.before.before
+no_size c = refuses _ (whole c.before.before) c.check_both.ensures c.in-Err.is
 
 sound-on : (c : tie.After-share_len) → Sound (R c.before.before.before.before)
 sound-on c =

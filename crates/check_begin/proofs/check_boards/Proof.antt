@@ -8,9 +8,8 @@ use lib.ListN.{length, get_or}
 use borrow.Author.Rules.{rules}
 use Rattle.lists.specs.Tests.{every}
 use Rattle.sizes.specs.declared.Refusal.TheVariants.{Count, Down}
-use Rattle.sizes.specs.declared.Check.{Check}
-use Rattle.sizes.specs.declared.Check.TheVariants.{Refuse}
-use Rattle.sizes.specs.Refusals.{Line, ◌when◌, first, store_order}
+use Rattle.std.specs.Prelude.{Err}
+use Rattle.sizes.specs.Refusals.{Line, ◌when◌, first, store_order, Check}
 use Rattle.board_spec.specs.Calls.{node_line, repeat_line}
 use Rattle.line_checks.specs.Steps.{asked}
 use Rattle.check_begin.specs.Steps.{board_lines}
@@ -22,13 +21,13 @@ use Rattle.check_begin.proofs.check_boards.Tie as tie
 abbrev start-of-check_nodes : tie.After-check_nodes → tie.Start
 start-of-check_nodes c = c.before.before.before.before.before
 
-abbrev start-of-in-refuse-check_nodes : tie.In-Refuse-check_nodes → tie.Start
+abbrev start-of-in-refuse-check_nodes : tie.In-Err-check_nodes → tie.Start
 start-of-in-refuse-check_nodes c = start-of-check_nodes c.before
 
 abbrev start-of-check_repeat : tie.After-check_repeat → tie.Start
 start-of-check_repeat c = start-of-check_nodes c.before.before
 
-abbrev start-of-in-refuse-check_repeat : tie.In-Refuse-check_repeat → tie.Start
+abbrev start-of-in-refuse-check_repeat : tie.In-Err-check_repeat → tie.Start
 start-of-in-refuse-check_repeat c = start-of-check_repeat c.before
 
 abbrev start-of-check_service : tie.After-check_service → tie.Start
@@ -56,20 +55,20 @@ whole g = grouped (counts g)
 is-count : (c : tie.After-check_count) → c.check_count.result ≡ asked (Count when not (eqb (length c.args.boards.now) c.args.want))
 is-count c = c.check_count.ensures ∙ one-count (eqb (length c.args.boards.now) c.args.want)
 
-no-count : (c : tie.In-Refuse) → Refuse c.in-Refuse.count ≡ answer c.before.before.before.before
-no-count c = refuses _ (whole c.before.before.before.before) (is-count c.before) c.in-Refuse.is
+no-count : (c : tie.In-Err) → Err c.in-Err.count ≡ answer c.before.before.before.before
+no-count c = refuses _ (whole c.before.before.before.before) (is-count c.before) c.in-Err.is
 
 on-node : (c : tie.After-check_nodes) → thens (nodes (start-of-check_nodes c)) ≡ answer (start-of-check_nodes c)
 on-node c = goes-on (whole (start-of-check_nodes c)) (is-count c.before.before) c.in_default.is
 
-no_node : (c : tie.In-Refuse-check_nodes) → Refuse c.in-Refuse-check_nodes.node ≡ answer (start-of-in-refuse-check_nodes c)
-no_node c = refuses _ (on-node c.before) c.check_nodes.ensures c.in-Refuse-check_nodes.is
+no_node : (c : tie.In-Err-check_nodes) → Err c.in-Err-check_nodes.node ≡ answer (start-of-in-refuse-check_nodes c)
+no_node c = refuses _ (on-node c.before) c.check_nodes.ensures c.in-Err-check_nodes.is
 
 on-repeat : (c : tie.After-check_repeat) → thens (repeats (start-of-check_repeat c)) ≡ answer (start-of-check_repeat c)
 on-repeat c = goes-on (on-node c.before.before) c.check_nodes.ensures (cc)
 
-no-repeat : (c : tie.In-Refuse-check_repeat) → Refuse c.in-Refuse-check_repeat.repeat ≡ answer (start-of-in-refuse-check_repeat c)
-no-repeat c = refuses _ (on-repeat c.before) c.check_repeat.ensures c.in-Refuse-check_repeat.is
+no-repeat : (c : tie.In-Err-check_repeat) → Err c.in-Err-check_repeat.repeat ≡ answer (start-of-in-refuse-check_repeat c)
+no-repeat c = refuses _ (on-repeat c.before) c.check_repeat.ensures c.in-Err-check_repeat.is
 
 on-down : (c : tie.After-check_service) → thens (downs (start-of-check_service c)) ≡ answer (start-of-check_service c)
 on-down c = goes-on (on-repeat c.before.before) c.check_repeat.ensures (cc)

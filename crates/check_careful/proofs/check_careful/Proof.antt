@@ -4,9 +4,8 @@ use mathlib.Core.Path.{◌≡◌, sym}
 use mathlib.Core.List.{List, [], ◌∷◌}
 use lib.ListN.{length}
 use borrow.Author.Rules.{rules}
-use Rattle.sizes.specs.declared.Check.{Check}
-use Rattle.sizes.specs.declared.Check.TheVariants.{Refuse}
-use Rattle.sizes.specs.Refusals.{Line, first, store_order}
+use Rattle.std.specs.Prelude.{Err}
+use Rattle.sizes.specs.Refusals.{Line, first, store_order, Check}
 use Rattle.board_spec.specs.Calls.{short_line}
 use Rattle.store_spec.specs.Record.{Record}
 use Rattle.store_spec.specs.Calls.{empty_line}
@@ -19,13 +18,13 @@ use Rattle.check_careful.proofs.check_careful.Statement.{statement}
 use Rattle.check_careful.proofs.check_careful.Tie as tie
 
 -- places in the code
-abbrev start-of-in-refuse : tie.In-Refuse → tie.Start
+abbrev start-of-in-refuse : tie.In-Err → tie.Start
 start-of-in-refuse c = c.before.before.before.before.before.before
 
 abbrev start-of-check_written : tie.After-check_written → tie.Start
 start-of-check_written c = c.before.before.before.before.before.before.before
 
-abbrev start-of-in-refuse-check_written : tie.In-Refuse-check_written → tie.Start
+abbrev start-of-in-refuse-check_written : tie.In-Err-check_written → tie.Start
 start-of-in-refuse-check_written c = start-of-check_written c.before
 
 abbrev start-of-marks-2-1 : tie.After-marks-2-1 → tie.Start
@@ -34,7 +33,7 @@ start-of-marks-2-1 c = start-of-check_written c.before.before
 abbrev start-of-check_many : tie.After-check_many → tie.Start
 start-of-check_many c = start-of-marks-2-1 c.before
 
-abbrev start-of-in-refuse-check_many : tie.In-Refuse-check_many → tie.Start
+abbrev start-of-in-refuse-check_many : tie.In-Err-check_many → tie.Start
 start-of-in-refuse-check_many c = start-of-check_many c.before
 
 abbrev start-of-check_room : tie.After-check_room → tie.Start
@@ -69,20 +68,20 @@ whole g = grouped (areas g)
 marks-long : (g : tie.Start) → length g.args.kept.marks ≡ 32
 marks-long g = search rules
 
-no-area : (c : tie.In-Refuse) → Refuse c.in-Refuse.area ≡ answer (start-of-in-refuse c)
-no-area c = refuses _ (whole (start-of-in-refuse c)) c.check_area.ensures c.in-Refuse.is
+no-area : (c : tie.In-Err) → Err c.in-Err.area ≡ answer (start-of-in-refuse c)
+no-area c = refuses _ (whole (start-of-in-refuse c)) c.check_area.ensures c.in-Err.is
 
 on-empty : (c : tie.After-check_written) → thens (empties (start-of-check_written c)) ≡ answer (start-of-check_written c)
 on-empty c = goes-on (whole (start-of-check_written c)) c.check_area.ensures (cc)
 
-no-empty : (c : tie.In-Refuse-check_written) → Refuse c.in-Refuse-check_written.empty ≡ answer (start-of-in-refuse-check_written c)
-no-empty c = refuses _ (on-empty c.before) c.check_written.ensures c.in-Refuse-check_written.is
+no-empty : (c : tie.In-Err-check_written) → Err c.in-Err-check_written.empty ≡ answer (start-of-in-refuse-check_written c)
+no-empty c = refuses _ (on-empty c.before) c.check_written.ensures c.in-Err-check_written.is
 
 on-boards : (c : tie.After-check_many) → thens (boards (start-of-check_many c)) ≡ answer (start-of-check_many c)
 on-boards c = goes-on (on-empty c.before.before.before) c.check_written.ensures (cc)
 
-no-boards : (c : tie.In-Refuse-check_many) → Refuse c.in-Refuse-check_many.named ≡ answer (start-of-in-refuse-check_many c)
-no-boards c = refuses _ (on-boards c.before) c.check_many.ensures c.in-Refuse-check_many.is
+no-boards : (c : tie.In-Err-check_many) → Err c.in-Err-check_many.named ≡ answer (start-of-in-refuse-check_many c)
+no-boards c = refuses _ (on-boards c.before) c.check_many.ensures c.in-Err-check_many.is
 
 on-short : (c : tie.After-check_room) → thens (shorts (start-of-check_room c)) ≡ answer (start-of-check_room c)
 on-short c = goes-on (on-boards c.before.before) c.check_many.ensures (cc)

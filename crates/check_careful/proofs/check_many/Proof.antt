@@ -13,7 +13,7 @@ use Rattle.lists.specs.Tests.{alls}
 use Rattle.lists.proofs.Tests.{is_false}
 use Rattle.sizes.specs.declared.Sizes.{Sizes}
 use Rattle.sizes.specs.declared.Refusal.TheVariants.{Count}
-use Rattle.sizes.specs.declared.Check.TheVariants.{Refuse}
+use Rattle.std.specs.Prelude.{Err}
 use Rattle.sizes.specs.Refusals.{Line, ◌when◌, first, store_order}
 use Rattle.check_begin.specs.Steps.{board_lines}
 use Rattle.check_careful.specs.Steps.{careful_board_lines}
@@ -25,7 +25,7 @@ module _ (z : Sizes) (marks : List Bool) (boards : List ℕ) where
   abbrev rest : List Line
   rest = drop 1 (careful_board_lines z marks boards)
 
-  too_few : z.n < z.k + 2 → Refuse Count ≡ first store_order (careful_board_lines z marks boards)
+  too_few : z.n < z.k + 2 → Err Count ≡ first store_order (careful_board_lines z marks boards)
   too_few h =
       let e : leb (z.k + 2) z.n ≡ false = is_false (leb (z.k + 2) z.n) (λ t. absurd (omega (arith, h, leb-true (z.k + 2) z.n t))) in
       sym (ap (λ (b : Bool). first store_order (Count when not (alls (b ∷ eqb (length boards) (z.k + 2) ∷ [])) ∷ rest)) e)

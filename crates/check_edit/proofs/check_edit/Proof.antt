@@ -7,9 +7,8 @@ use lib.Dec.{ltb}
 use lib.ListN.{length}
 use borrow.Author.Rules.{rules}
 use Rattle.sizes.specs.declared.Refusal.TheVariants.{Range}
-use Rattle.sizes.specs.declared.Check.{Check}
-use Rattle.sizes.specs.declared.Check.TheVariants.{Refuse}
-use Rattle.sizes.specs.Refusals.{Line, ◌when◌, first, store_order}
+use Rattle.std.specs.Prelude.{Err}
+use Rattle.sizes.specs.Refusals.{Line, ◌when◌, first, store_order, Check}
 use Rattle.store_spec.specs.Record.{Record}
 use Rattle.store_spec.specs.Calls.{empty_line}
 use Rattle.beside_spec.specs.Running.{Running}
@@ -22,25 +21,25 @@ use Rattle.check_edit.proofs.check_edit.Statement.{statement}
 use Rattle.check_edit.proofs.check_edit.Tie as tie
 
 -- places in the code
-abbrev start-of-in-refuse : tie.In-Refuse → tie.Start
+abbrev start-of-in-refuse : tie.In-Err → tie.Start
 start-of-in-refuse c = c.before.before.before.before.before
 
 abbrev start-of-check_written : tie.After-check_written → tie.Start
 start-of-check_written c = c.before.before.before.before.before.before
 
-abbrev start-of-in-refuse-check_written : tie.In-Refuse-check_written → tie.Start
+abbrev start-of-in-refuse-check_written : tie.In-Err-check_written → tie.Start
 start-of-in-refuse-check_written c = start-of-check_written c.before
 
 abbrev start-of-check_busy : tie.After-check_busy → tie.Start
 start-of-check_busy c = start-of-check_written c.before.before
 
-abbrev start-of-in-refuse-check_busy : tie.In-Refuse-check_busy → tie.Start
+abbrev start-of-in-refuse-check_busy : tie.In-Err-check_busy → tie.Start
 start-of-in-refuse-check_busy c = start-of-check_busy c.before
 
 abbrev start-of-check_range : tie.After-check_range → tie.Start
 start-of-check_range c = start-of-check_busy c.before.before
 
-abbrev start-of-in-refuse-check_range : tie.In-Refuse-check_range → tie.Start
+abbrev start-of-in-refuse-check_range : tie.In-Err-check_range → tie.Start
 start-of-in-refuse-check_range c = start-of-check_range c.before
 
 abbrev start-of-marks-2-1 : tie.After-marks-2-1 → tie.Start
@@ -81,26 +80,26 @@ whole g = grouped (areas g)
 marks-long : (g : tie.Start) → length g.args.kept.marks ≡ 32
 marks-long g = search rules
 
-no-area : (c : tie.In-Refuse) → Refuse c.in-Refuse.area ≡ answer (start-of-in-refuse c)
-no-area c = refuses _ (whole (start-of-in-refuse c)) c.check_area.ensures c.in-Refuse.is
+no-area : (c : tie.In-Err) → Err c.in-Err.area ≡ answer (start-of-in-refuse c)
+no-area c = refuses _ (whole (start-of-in-refuse c)) c.check_area.ensures c.in-Err.is
 
 on-empty : (c : tie.After-check_written) → thens (empties (start-of-check_written c)) ≡ answer (start-of-check_written c)
 on-empty c = goes-on (whole (start-of-check_written c)) c.check_area.ensures (cc)
 
-no-empty : (c : tie.In-Refuse-check_written) → Refuse c.in-Refuse-check_written.empty ≡ answer (start-of-in-refuse-check_written c)
-no-empty c = refuses _ (on-empty c.before) c.check_written.ensures c.in-Refuse-check_written.is
+no-empty : (c : tie.In-Err-check_written) → Err c.in-Err-check_written.empty ≡ answer (start-of-in-refuse-check_written c)
+no-empty c = refuses _ (on-empty c.before) c.check_written.ensures c.in-Err-check_written.is
 
 on-busy : (c : tie.After-check_busy) → thens (busies (start-of-check_busy c)) ≡ answer (start-of-check_busy c)
 on-busy c = goes-on (on-empty c.before.before) c.check_written.ensures (cc)
 
-no-busy : (c : tie.In-Refuse-check_busy) → Refuse c.in-Refuse-check_busy.busy ≡ answer (start-of-in-refuse-check_busy c)
-no-busy c = refuses _ (on-busy c.before) c.check_busy.ensures c.in-Refuse-check_busy.is
+no-busy : (c : tie.In-Err-check_busy) → Err c.in-Err-check_busy.busy ≡ answer (start-of-in-refuse-check_busy c)
+no-busy c = refuses _ (on-busy c.before) c.check_busy.ensures c.in-Err-check_busy.is
 
 on-range : (c : tie.After-check_range) → thens (ranges (start-of-check_range c)) ≡ answer (start-of-check_range c)
 on-range c = goes-on (on-busy c.before.before) c.check_busy.ensures (cc)
 
-no-range : (c : tie.In-Refuse-check_range) → Refuse c.in-Refuse-check_range.beyond ≡ answer (start-of-in-refuse-check_range c)
-no-range c = refuses _ (on-range c.before) c.check_range.ensures c.in-Refuse-check_range.is
+no-range : (c : tie.In-Err-check_range) → Err c.in-Err-check_range.beyond ≡ answer (start-of-in-refuse-check_range c)
+no-range c = refuses _ (on-range c.before) c.check_range.ensures c.in-Err-check_range.is
 
 on-boards : (c : tie.After-check_boards) → thens (boards (start-of-check_boards c)) ≡ answer (start-of-check_boards c)
 on-boards c = goes-on (on-range c.before.before.before) c.check_range.ensures (cc)

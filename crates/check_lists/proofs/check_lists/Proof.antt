@@ -8,10 +8,9 @@ use native.Mathlib.Omega.{arith}
 use lib.ListN.{length}
 use borrow.Author.Rules.{rules}
 use Rattle.lists.specs.Tests.{every, alls}
-use Rattle.sizes.specs.declared.Check.{Check}
-use Rattle.sizes.specs.declared.Check.TheVariants.{Refuse}
+use Rattle.std.specs.Prelude.{Err}
 use Rattle.sizes.specs.declared.Refusal.TheVariants.{Count, Repeat, Serving}
-use Rattle.sizes.specs.Refusals.{Line, ◌when◌, first, store_order}
+use Rattle.sizes.specs.Refusals.{Line, ◌when◌, first, store_order, Check}
 use Rattle.board_spec.specs.Calls.{node_line}
 use Rattle.store_spec.specs.Record.{Record, in_service}
 use Rattle.store_spec.specs.Calls.{down_line, list_lines}
@@ -55,8 +54,8 @@ whole : (g : tie.Start) → thens (counts g) ≡ answer g
 unfolding list_lines
 whole g = grouped (counts g)
 
-no-count : (c : tie.In-Refuse) → Refuse c.in-Refuse.count ≡ answer c.before.before.before.before.before.before
-no-count c = refuses _ (whole c.before.before.before.before.before.before) c.check_named_counts.ensures c.in-Refuse.is
+no-count : (c : tie.In-Err) → Err c.in-Err.count ≡ answer c.before.before.before.before.before.before
+no-count c = refuses _ (whole c.before.before.before.before.before.before) c.check_named_counts.ensures c.in-Err.is
 
 -- what is known past it
 counts-on : (c : tie.In_default)
@@ -68,14 +67,14 @@ counts-on c =
 on-node : (c : tie.After-check_three_lists) → thens (nodes c.before.before.before.before.before.before.before) ≡ answer c.before.before.before.before.before.before.before
 on-node c = goes-on (whole c.before.before.before.before.before.before.before) c.check_named_counts.ensures (cc)
 
-no_node : (c : tie.In-Refuse-check_three_lists) → Refuse c.in-Refuse-check_three_lists.node ≡ answer c.before.before.before.before.before.before.before.before
-no_node c = refuses _ (on-node c.before) c.check_three_lists.ensures c.in-Refuse-check_three_lists.is
+no_node : (c : tie.In-Err-check_three_lists) → Err c.in-Err-check_three_lists.node ≡ answer c.before.before.before.before.before.before.before.before
+no_node c = refuses _ (on-node c.before) c.check_three_lists.ensures c.in-Err-check_three_lists.is
 
 on-repeat : (c : tie.After-check_named) → thens (repeats c.before.before.before.before.before.before.before.before.before.before) ≡ answer c.before.before.before.before.before.before.before.before.before.before
 on-repeat c = goes-on (on-node c.before.before.before) c.check_three_lists.ensures (cc)
 
-no-repeat : (c : tie.In-Refuse-check_named) → Refuse c.in-Refuse-check_named.repeat ≡ answer c.before.before.before.before.before.before.before.before.before.before.before
-no-repeat c = refuses _ (on-repeat c.before) c.check_named.ensures c.in-Refuse-check_named.is
+no-repeat : (c : tie.In-Err-check_named) → Err c.in-Err-check_named.repeat ≡ answer c.before.before.before.before.before.before.before.before.before.before.before
+no-repeat c = refuses _ (on-repeat c.before) c.check_named.ensures c.in-Err-check_named.is
 
 most-on : (c : tie.After-struct_known-1) → let a = c.args in length a.fresh.now ≤ a.sizes.r
 most-on c = (counts-on c.before.before.before).most
@@ -95,8 +94,8 @@ named-asks c κs =
 on-serving : (c : tie.After-check_out) → thens (servings c.before.before.before.before.before.before.before.before.before.before.before.before) ≡ answer c.before.before.before.before.before.before.before.before.before.before.before.before
 on-serving c = goes-on (on-repeat c.before.before) c.check_named.ensures (cc)
 
-no-serving : (c : tie.In-Refuse-check_out) → Refuse c.in-Refuse-check_out.serving ≡ answer c.before.before.before.before.before.before.before.before.before.before.before.before.before
-no-serving c = refuses _ (on-serving c.before) c.check_out.ensures c.in-Refuse-check_out.is
+no-serving : (c : tie.In-Err-check_out) → Err c.in-Err-check_out.serving ≡ answer c.before.before.before.before.before.before.before.before.before.before.before.before.before
+no-serving c = refuses _ (on-serving c.before) c.check_out.ensures c.in-Err-check_out.is
 
 on-down : (c : tie.After-check_both_service) → thens (downs c.before.before.before.before.before.before.before.before.before.before.before.before.before.before) ≡ answer c.before.before.before.before.before.before.before.before.before.before.before.before.before.before
 on-down c = goes-on (on-serving c.before.before) c.check_out.ensures (cc)

@@ -5,10 +5,9 @@ use mathlib.Core.Bool.{true}
 use mathlib.Core.List.{List, [], ◌∷◌}
 use lib.ListN.{length}
 use borrow.Author.Rules.{rules}
-use Rattle.sizes.specs.declared.Check.{Check}
-use Rattle.sizes.specs.declared.Check.TheVariants.{Refuse}
+use Rattle.std.specs.Prelude.{Err}
 use Rattle.sizes.specs.Sizing.{legal}
-use Rattle.sizes.specs.Refusals.{Line, first, store_order}
+use Rattle.sizes.specs.Refusals.{Line, first, store_order, Check}
 use Rattle.store_spec.specs.Record.{Record}
 use Rattle.store_spec.proofs.Records.{sound-facts}
 use Rattle.store_spec.specs.Calls.{empty_line}
@@ -30,19 +29,19 @@ in-default-of-marks-2-1 c = c.before.before.before.before.before.before
 abbrev start-of-in-default : tie.In_default → tie.Start
 start-of-in-default c = c.before.before.before.before.before.before.before
 
-abbrev start-of-in-refuse : tie.In-Refuse → tie.Start
+abbrev start-of-in-refuse : tie.In-Err → tie.Start
 start-of-in-refuse c = c.before.before.before.before.before.before.before
 
 abbrev start-of-check_written : tie.After-check_written → tie.Start
 start-of-check_written c = start-of-in-default c.before
 
-abbrev start-of-in-refuse-check_written : tie.In-Refuse-check_written → tie.Start
+abbrev start-of-in-refuse-check_written : tie.In-Err-check_written → tie.Start
 start-of-in-refuse-check_written c = start-of-check_written c.before
 
 abbrev start-of-check_busy : tie.After-check_busy → tie.Start
 start-of-check_busy c = start-of-check_written c.before.before
 
-abbrev start-of-in-refuse-check_busy : tie.In-Refuse-check_busy → tie.Start
+abbrev start-of-in-refuse-check_busy : tie.In-Err-check_busy → tie.Start
 start-of-in-refuse-check_busy c = start-of-check_busy c.before
 
 abbrev start-of-points-2-1 : tie.After-points-2-1 → tie.Start
@@ -87,8 +86,8 @@ points-long g = search rules
 marks-long : (g : tie.Start) → length g.args.kept.marks ≡ 32
 marks-long g = search rules
 
-no-area : (c : tie.In-Refuse) → Refuse c.in-Refuse.area ≡ answer (start-of-in-refuse c)
-no-area c = refuses _ (whole (start-of-in-refuse c)) c.check_area.ensures c.in-Refuse.is
+no-area : (c : tie.In-Err) → Err c.in-Err.area ≡ answer (start-of-in-refuse c)
+no-area c = refuses _ (whole (start-of-in-refuse c)) c.check_area.ensures c.in-Err.is
 
 -- what is known of the record past it
 legal-on : (c : tie.In_default) → legal (R (start-of-in-default c)).sizes ≡ true
@@ -98,14 +97,14 @@ legal-on c =
 on-empty : (c : tie.After-check_written) → thens (empties (start-of-check_written c)) ≡ answer (start-of-check_written c)
 on-empty c = goes-on (whole (start-of-check_written c)) c.check_area.ensures (cc)
 
-no-empty : (c : tie.In-Refuse-check_written) → Refuse c.in-Refuse-check_written.empty ≡ answer (start-of-in-refuse-check_written c)
-no-empty c = refuses _ (on-empty c.before) c.check_written.ensures c.in-Refuse-check_written.is
+no-empty : (c : tie.In-Err-check_written) → Err c.in-Err-check_written.empty ≡ answer (start-of-in-refuse-check_written c)
+no-empty c = refuses _ (on-empty c.before) c.check_written.ensures c.in-Err-check_written.is
 
 on-busy : (c : tie.After-check_busy) → thens (busies (start-of-check_busy c)) ≡ answer (start-of-check_busy c)
 on-busy c = goes-on (on-empty c.before.before) c.check_written.ensures (cc)
 
-no-busy : (c : tie.In-Refuse-check_busy) → Refuse c.in-Refuse-check_busy.busy ≡ answer (start-of-in-refuse-check_busy c)
-no-busy c = refuses _ (on-busy c.before) c.check_busy.ensures c.in-Refuse-check_busy.is
+no-busy : (c : tie.In-Err-check_busy) → Err c.in-Err-check_busy.busy ≡ answer (start-of-in-refuse-check_busy c)
+no-busy c = refuses _ (on-busy c.before) c.check_busy.ensures c.in-Err-check_busy.is
 
 on-lists : (c : tie.After-check_named) → thens (lists (start-of-check_named c)) ≡ answer (start-of-check_named c)
 on-lists c = goes-on (on-busy c.before.before.before.before) c.check_busy.ensures (cc)

@@ -3,9 +3,8 @@
 use mathlib.Core.Path.{◌≡◌}
 use mathlib.Core.List.{List, [], ◌∷◌}
 use borrow.Author.Rules.{rules}
-use Rattle.sizes.specs.declared.Check.{Check}
-use Rattle.sizes.specs.declared.Check.TheVariants.{Refuse}
-use Rattle.sizes.specs.Refusals.{Line, first, store_order}
+use Rattle.std.specs.Prelude.{Err}
+use Rattle.sizes.specs.Refusals.{Line, first, store_order, Check}
 use Rattle.board_spec.specs.Calls.{node_line}
 use Rattle.store_spec.specs.Record.{Record}
 use Rattle.store_spec.specs.Calls.{lose_lines}
@@ -36,8 +35,8 @@ whole : (g : tie.Start) → thens (records g) ≡ answer g
 unfolding lose_lines_both lose_lines
 whole g = grouped (records g)
 
-no_size : (c : tie.In-Refuse) → Refuse c.in-Refuse.size ≡ answer c.before.before
-no_size c = refuses _ (whole c.before.before) c.check_both.ensures c.in-Refuse.is
+no_size : (c : tie.In-Err) → Err c.in-Err.size ≡ answer c.before.before
+no_size c = refuses _ (whole c.before.before) c.check_both.ensures c.in-Err.is
 
 on-node : (c : tie.After-check_node) → thens (nodes c.before.before.before.before) ≡ answer c.before.before.before.before
 on-node c = goes-on (whole c.before.before.before.before) c.check_both.ensures c.in_default.is

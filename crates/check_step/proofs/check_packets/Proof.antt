@@ -13,9 +13,8 @@ use Rattle.lists.specs.Tests.{pick}
 use lib.Seq.{length-take-le}
 use Rattle.lists.proofs.Tests.{not-no}
 use Rattle.sizes.specs.declared.Refusal.TheVariants.{Area}
-use Rattle.sizes.specs.declared.Check.{Check}
 use Rattle.sizes.specs.Sizing.{α}
-use Rattle.sizes.specs.Refusals.{◌when◌}
+use Rattle.sizes.specs.Refusals.{◌when◌, Check}
 use Rattle.sizes.proofs.Legal.{legal-facts, α-most}
 use Rattle.store_spec.specs.Record.{Record}
 use Rattle.beside_spec.specs.Running.{Running, fresh_of, packets_len}

@@ -8,10 +8,9 @@ use lib.ListN.{length}
 use borrow.Author.Rules.{rules}
 use Rattle.lists.specs.Lists.{concat}
 use Rattle.lists.specs.Tests.{pick, alls}
-use Rattle.sizes.specs.declared.Check.{Check}
-use Rattle.sizes.specs.declared.Check.TheVariants.{Refuse}
+use Rattle.std.specs.Prelude.{Err}
 use Rattle.sizes.specs.declared.Refusal.TheVariants.{Size, Area, Idle}
-use Rattle.sizes.specs.Refusals.{Line, ◌when◌, first, store_order}
+use Rattle.sizes.specs.Refusals.{Line, ◌when◌, first, store_order, Check}
 use Rattle.store_spec.specs.Record.{Record, area_len}
 use Rattle.store_spec.specs.Calls.{empty_line}
 use Rattle.beside_spec.specs.Running.{Running, fresh_of, packets_len}
@@ -28,7 +27,7 @@ use Rattle.check_step.proofs.check_step.Tie as tie
 abbrev start-of-check_written : tie.After-check_written → tie.Start
 start-of-check_written c = c.before.before.before.before.before
 
-abbrev start-of-in-refuse-check_written : tie.In-Refuse-check_written → tie.Start
+abbrev start-of-in-refuse-check_written : tie.In-Err-check_written → tie.Start
 start-of-in-refuse-check_written c = start-of-check_written c.before
 
 abbrev start-of-check_idle : tie.After-check_idle → tie.Start
@@ -61,7 +60,7 @@ abbrev answer : tie.Start → Check
 answer g = first store_order (step_lines (R g) (P g) g.args.lent g.args.packets)
 
 -- AREA of one slice and then of the other is AREA of both
-two-areas : (a b : Bool) (rest : Check) → pick (not a) (Refuse Area) (pick (not b) (Refuse Area) rest) ≡ pick (not (alls (a ∷ b ∷ []))) (Refuse Area) rest
+two-areas : (a b : Bool) (rest : Check) → pick (not a) (Err Area) (pick (not b) (Err Area) rest) ≡ pick (not (alls (a ∷ b ∷ []))) (Err Area) rest
 two-areas true true rest = refl
 two-areas true false rest = refl
 two-areas false b rest = refl
@@ -70,10 +69,10 @@ whole : (g : tie.Start) → thens (areas g) ≡ answer g
 unfolding step_lines
 whole g =
     grouped (areas g)
-    ∙ ap (λ (c : Check). pick (both_line (R g) (P g)).applies (Refuse Size) c) (two-areas (eqb g.args.lent (area_len (R g))) (fits g) (chain (concat (empties g))))
+    ∙ ap (λ (c : Check). pick (both_line (R g) (P g)).applies (Err Size) c) (two-areas (eqb g.args.lent (area_len (R g))) (fits g) (chain (concat (empties g))))
 
-no-area : (c : tie.In-Refuse) → Refuse c.in-Refuse.area ≡ answer c.before.before
-no-area c = refuses _ (whole c.before.before) c.check_area.ensures c.in-Refuse.is
+no-area : (c : tie.In-Err) → Err c.in-Err.area ≡ answer c.before.before
+no-area c = refuses _ (whole c.before.before) c.check_area.ensures c.in-Err.is
 
 lent-on : (c : tie.In_default) → Lent (R c.before.before) (P c.before.before) c.args.lent
 lent-on c = area-facts _ _ _ (sym c.check_area.ensures ∙ c.in_default.is)
@@ -81,14 +80,14 @@ lent-on c = area-facts _ _ _ (sym c.check_area.ensures ∙ c.in_default.is)
 on-packets : (c : tie.After-check_packets) → thens (packets c.before.before.before) ≡ answer c.before.before.before
 on-packets c = goes-on (whole c.before.before.before) c.check_area.ensures (cc)
 
-no-packets : (c : tie.In-Refuse-check_packets) → Refuse c.in-Refuse-check_packets.packet ≡ answer c.before.before.before.before
-no-packets c = refuses _ (on-packets c.before) c.check_packets.ensures c.in-Refuse-check_packets.is
+no-packets : (c : tie.In-Err-check_packets) → Err c.in-Err-check_packets.packet ≡ answer c.before.before.before.before
+no-packets c = refuses _ (on-packets c.before) c.check_packets.ensures c.in-Err-check_packets.is
 
 on-empty : (c : tie.After-check_written) → thens (empties (start-of-check_written c)) ≡ answer (start-of-check_written c)
 on-empty c = goes-on (on-packets c.before.before) c.check_packets.ensures (cc)
 
-no-empty : (c : tie.In-Refuse-check_written) → Refuse c.in-Refuse-check_written.empty ≡ answer (start-of-in-refuse-check_written c)
-no-empty c = refuses _ (on-empty c.before) c.check_written.ensures c.in-Refuse-check_written.is
+no-empty : (c : tie.In-Err-check_written) → Err c.in-Err-check_written.empty ≡ answer (start-of-in-refuse-check_written c)
+no-empty c = refuses _ (on-empty c.before) c.check_written.ensures c.in-Err-check_written.is
 
 on-idle : (c : tie.After-check_idle) → thens (idles (start-of-check_idle c)) ≡ answer (start-of-check_idle c)
 on-idle c = goes-on (on-empty c.before.before) c.check_written.ensures (cc)

@@ -7,10 +7,9 @@ use lib.Dec.{ltb}
 use lib.ListN.{length}
 use borrow.Author.Rules.{rules}
 use Rattle.sizes.specs.declared.Refusal.TheVariants.{Long}
-use Rattle.sizes.specs.declared.Check.{Check}
-use Rattle.sizes.specs.declared.Check.TheVariants.{Refuse}
+use Rattle.std.specs.Prelude.{Err}
 use Rattle.sizes.specs.Sizing.{B}
-use Rattle.sizes.specs.Refusals.{Line, ◌when◌, first, store_order}
+use Rattle.sizes.specs.Refusals.{Line, ◌when◌, first, store_order, Check}
 use Rattle.store_spec.specs.Record.{Record}
 use Rattle.store_spec.specs.Calls.{write_lines}
 use Rattle.beside_spec.specs.Running.{Running}
@@ -27,7 +26,7 @@ use Rattle.check_write.proofs.check_write.Tie as tie
 abbrev start-of-check_fits : tie.After-check_fits → tie.Start
 start-of-check_fits c = c.before.before.before.before.before
 
-abbrev start-of-in-refuse-check_fits : tie.In-Refuse-check_fits → tie.Start
+abbrev start-of-in-refuse-check_fits : tie.In-Err-check_fits → tie.Start
 start-of-in-refuse-check_fits c = start-of-check_fits c.before
 
 abbrev start-of-check_busy : tie.After-check_busy → tie.Start
@@ -56,8 +55,8 @@ whole : (g : tie.Start) → thens (areas g) ≡ answer g
 unfolding write_lines_both write_lines
 whole g = grouped (areas g)
 
-no-area : (c : tie.In-Refuse) → Refuse c.in-Refuse.area ≡ answer c.before.before.before
-no-area c = refuses _ (whole c.before.before.before) c.check_area.ensures c.in-Refuse.is
+no-area : (c : tie.In-Err) → Err c.in-Err.area ≡ answer c.before.before.before
+no-area c = refuses _ (whole c.before.before.before) c.check_area.ensures c.in-Err.is
 
 sound-on : (c : tie.In_default) → Sound (R c.before.before.before)
 sound-on c = sound-facts _ (area-facts _ _ _ (sym c.check_area.ensures ∙ c.in_default.is)).is-sound
@@ -65,8 +64,8 @@ sound-on c = sound-facts _ (area-facts _ _ _ (sym c.check_area.ensures ∙ c.in_
 on-long : (c : tie.After-check_fits) → thens (longs (start-of-check_fits c)) ≡ answer (start-of-check_fits c)
 on-long c = goes-on (whole (start-of-check_fits c)) c.check_area.ensures (cc)
 
-no-long : (c : tie.In-Refuse-check_fits) → Refuse c.in-Refuse-check_fits.long ≡ answer (start-of-in-refuse-check_fits c)
-no-long c = refuses _ (on-long c.before) c.check_fits.ensures c.in-Refuse-check_fits.is
+no-long : (c : tie.In-Err-check_fits) → Err c.in-Err-check_fits.long ≡ answer (start-of-in-refuse-check_fits c)
+no-long c = refuses _ (on-long c.before) c.check_fits.ensures c.in-Err-check_fits.is
 
 on-busy : (c : tie.After-check_busy) → thens (busies (start-of-check_busy c)) ≡ answer (start-of-check_busy c)
 on-busy c = goes-on (on-long c.before.before) c.check_fits.ensures (cc)

@@ -7,9 +7,8 @@ use native.Mathlib.Omega.{arith}
 use lib.Dec.{eqb}
 use lib.ListN.{length}
 use borrow.Author.Rules.{rules}
-use Rattle.sizes.specs.declared.Check.{Check}
-use Rattle.sizes.specs.declared.Check.TheVariants.{Refuse}
-use Rattle.sizes.specs.Refusals.{Line, first, store_order}
+use Rattle.std.specs.Prelude.{Err}
+use Rattle.sizes.specs.Refusals.{Line, first, store_order, Check}
 use Rattle.sizes.proofs.Legal.{legal-facts}
 use Rattle.board_spec.specs.Calls.{count_line, node_line}
 use Rattle.board_lines.proofs.Chain.{thens, grouped, goes-on, refuses, ends}
@@ -19,19 +18,19 @@ use Rattle.move_names.proofs.check_named.Statement.{statement}
 use Rattle.move_names.proofs.check_named.Tie as tie
 
 -- places in the code
-abbrev start-of-in-refuse : tie.In-Refuse → tie.Start
+abbrev start-of-in-refuse : tie.In-Err → tie.Start
 start-of-in-refuse c = c.before.before.before.before.before.before.before
 
 abbrev start-of-check_known : tie.After-check_known → tie.Start
 start-of-check_known c = c.before.before.before.before.before.before.before.before
 
-abbrev start-of-in-refuse-check_known : tie.In-Refuse-check_known → tie.Start
+abbrev start-of-in-refuse-check_known : tie.In-Err-check_known → tie.Start
 start-of-in-refuse-check_known c = start-of-check_known c.before
 
 abbrev start-of-check_new : tie.After-check_new → tie.Start
 start-of-check_new c = start-of-check_known c.before.before
 
-abbrev start-of-in-refuse-check_new : tie.In-Refuse-check_new → tie.Start
+abbrev start-of-in-refuse-check_new : tie.In-Err-check_new → tie.Start
 start-of-in-refuse-check_new c = start-of-check_new c.before
 
 abbrev start-of-check_up : tie.After-check_up → tie.Start
@@ -62,20 +61,20 @@ answer g =
 whole : (g : tie.Start) → thens (counts g) ≡ answer g
 whole g = grouped (counts g)
 
-no-count : (c : tie.In-Refuse) → Refuse c.in-Refuse.count ≡ answer (start-of-in-refuse c)
-no-count c = refuses _ (whole (start-of-in-refuse c)) c.check_counts.ensures c.in-Refuse.is
+no-count : (c : tie.In-Err) → Err c.in-Err.count ≡ answer (start-of-in-refuse c)
+no-count c = refuses _ (whole (start-of-in-refuse c)) c.check_counts.ensures c.in-Err.is
 
 on-node : (c : tie.After-check_known) → thens (nodes (start-of-check_known c)) ≡ answer (start-of-check_known c)
 on-node c = goes-on (whole (start-of-check_known c)) c.check_counts.ensures (cc)
 
-no_node : (c : tie.In-Refuse-check_known) → Refuse c.in-Refuse-check_known.node ≡ answer (start-of-in-refuse-check_known c)
-no_node c = refuses _ (on-node c.before) c.check_known.ensures c.in-Refuse-check_known.is
+no_node : (c : tie.In-Err-check_known) → Err c.in-Err-check_known.node ≡ answer (start-of-in-refuse-check_known c)
+no_node c = refuses _ (on-node c.before) c.check_known.ensures c.in-Err-check_known.is
 
 on-repeat : (c : tie.After-check_new) → thens (repeats (start-of-check_new c)) ≡ answer (start-of-check_new c)
 on-repeat c = goes-on (on-node c.before.before) c.check_known.ensures (cc)
 
-no-repeat : (c : tie.In-Refuse-check_new) → Refuse c.in-Refuse-check_new.repeat ≡ answer (start-of-in-refuse-check_new c)
-no-repeat c = refuses _ (on-repeat c.before) c.check_new.ensures c.in-Refuse-check_new.is
+no-repeat : (c : tie.In-Err-check_new) → Err c.in-Err-check_new.repeat ≡ answer (start-of-in-refuse-check_new c)
+no-repeat c = refuses _ (on-repeat c.before) c.check_new.ensures c.in-Err-check_new.is
 
 on-up : (c : tie.After-check_up) → thens (ups (start-of-check_up c)) ≡ answer (start-of-check_up c)
 on-up c = goes-on (on-repeat c.before.before) c.check_new.ensures (cc)

@@ -27,7 +27,7 @@ check_both_spec =
     (λ c κs. search rules)
     (λ c. search rules)
     (λ c.
-    refuses _ (two-sizes (sound (R c.before.before)) (sound_beside (R c.before.before) (P c.before.before))) c.check_record.ensures c.in-Refuse.is)
+    refuses _ (two-sizes (sound (R c.before.before)) (sound_beside (R c.before.before) (P c.before.before))) c.check_record.ensures c.in-Err.is)
     (λ c. search rules)
     (λ c κs.
     (sound-facts (R c.before.before) (not-no _ (passed (record_line (R c.before.before)) (sym c.check_record.ensures ∙ c.in_default.is)))).is-legal)

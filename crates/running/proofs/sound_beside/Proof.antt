@@ -19,7 +19,7 @@ use Rattle.running.proofs.sound_beside.Statement.{statement}
 use Rattle.running.proofs.sound_beside.Tie as tie
 
 -- places in the code
-abbrev else-sizes-t-of-in-refuse : tie.In-Refuse → tie.Else-sizes-t
+abbrev else-sizes-t-of-in-refuse : tie.In-Err → tie.Else-sizes-t
 else-sizes-t-of-in-refuse c = c.before.before.before.before.before.before
 
 abbrev else-sizes-t-of-struct_known-3-1 : tie.After-struct_known-3-1 → tie.Else-sizes-t
@@ -31,7 +31,7 @@ start-of-else-not-running c = c.before.before.before.before.before.before.before
 abbrev start-of-then-not-running : tie.Then-not-running → tie.Start
 start-of-then-not-running c = c.before.before.before.before.before.before.before
 
-abbrev else-not-running-of-in-refuse : tie.In-Refuse → tie.Else-not-running
+abbrev else-not-running-of-in-refuse : tie.In-Err → tie.Else-not-running
 else-not-running-of-in-refuse c = c.before.before.before.before.before.before.before.before
 
 abbrev else-sizes-t-of-struct_known-4-1 : tie.After-struct_known-4-1 → tie.Else-sizes-t
@@ -61,7 +61,7 @@ start-of-standins-2-1 c = start-of-helpers-2-1 c.before
 abbrev start-of-check_arrays : tie.After-check_arrays → tie.Start
 start-of-check_arrays c = start-of-standins-2-1 c.before
 
-abbrev start-of-in-refuse : tie.In-Refuse → tie.Start
+abbrev start-of-in-refuse : tie.In-Err → tie.Start
 start-of-in-refuse c = start-of-check_arrays c.before
 
 abbrev start-of-struct_known-3-1 : tie.After-struct_known-3-1 → tie.Start
@@ -124,7 +124,7 @@ sound_beside_spec =
     record { is-legal = c.requires; few = c.if-sizes-t.false; fresh-long = fresh-long (start-of-standins-2-1 c); helpers-long = helpers-long (start-of-standins-2-1 c); stand-ins-long = stand-ins-long (start-of-standins-2-1 c) })
     (λ c. search rules)
     (λ c.
-    lists-refused (R (start-of-in-refuse c)) (P (start-of-in-refuse c)) (on (else-not-running-of-in-refuse c)) (fits (else-sizes-t-of-in-refuse c)) (lists-are c.before) c.in-Refuse.is)
+    lists-refused (R (start-of-in-refuse c)) (P (start-of-in-refuse c)) (on (else-not-running-of-in-refuse c)) (fits (else-sizes-t-of-in-refuse c)) (lists-are c.before) c.in-Err.is)
     (λ c. search rules)
     (λ c. omega (arith, (sizes-few (start-of-struct_known-3-1 c)).1))
     (λ c. omega (arith, (sizes-few (start-of-struct_known-3-1 c)).0))

@@ -18,9 +18,9 @@ returns : tie.Need-returns-in-Taken
 returns c =
     subst (λ (text : List ℕ). Printing text c.print.result) (text-loaded _ _ (loaded-load _ _ _ c.read_load-loaded.ensures c.in-Taken.is)) c.print.ensures
 
-returns-2 : tie.Need-returns-in-Refused
+returns-2 : tie.Need-returns-in-Err
 returns-2 c =
-    subst (λ (text : List ℕ). Printing text c.refuse.result) (text-loaded _ none (loaded-none _ _ c.read_load-loaded.ensures c.in-Refused.is)) c.refuse.ensures
+    subst (λ (text : List ℕ). Printing text c.refuse.result) (text-loaded _ none (loaded-none _ _ c.read_load-loaded.ensures c.in-Err.is)) c.refuse.ensures
 
 pub run_spec : {M : Type 1} → statement M
 run_spec =

@@ -4,7 +4,7 @@ use mathlib.Core.Path.{◌≡◌, sym, ap, ◌∙◌}
 use mathlib.Core.List.{List, [], ◌∷◌}
 use Prim.Native.Nat.{ℕ}
 use lib.Dec.{leb}
-use Rattle.sizes.specs.declared.Check.TheVariants.{Pass}
+use Rattle.std.specs.Prelude.{Ok}
 use Rattle.sizes.specs.Refusals.{first, store_order}
 use Rattle.store_spec.specs.Record.{new_record}
 use Rattle.store_spec.specs.Calls.{record_line}
@@ -18,13 +18,13 @@ check-is c =
     let a = c.args in
     c.check_set_up.ensures ∙ ap (λ (xs : List ℕ). first store_order (record_line (new_record a.sizes xs a.capacity) ∷ [])) c.standard_points-points.ensures
 
-returns : tie.Need-returns-in-Refuse
+returns : tie.Need-returns-in-Err
 returns c =
     let a = c.args in
-    sym (refused_none a.sizes a.capacity _ (sym (check-is c.before) ∙ c.in-Refuse.is))
+    sym (refused_none a.sizes a.capacity _ (sym (check-is c.before) ∙ c.in-Err.is))
 
 -- where it passed
-pass : (c : tie.In_default) → let a = c.args in set_up_check a.sizes a.capacity ≡ Pass
+pass : (c : tie.In_default) → let a = c.args in set_up_check a.sizes a.capacity ≡ Ok tt
 pass c = sym (check-is c.before) ∙ c.in_default.is
 
 area-len-requires : tie.Need-area_len-requires
