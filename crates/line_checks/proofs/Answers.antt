@@ -24,14 +24,14 @@ refuses l h = rw h refl
 pub passed : (l : Line) → asked l ≡ Ok tt → l.applies ≡ false
 passed l e = go l.applies e
   where
-    go : (t : Bool) → pick t (Err l.refusal) (Ok tt) ≡ Ok tt → t ≡ false
+    go : (t : Bool) → pick t (Err l.refusal) (Ok (tt {0})) ≡ Ok (tt {0}) → t ≡ false
     go true e = absurd (refuse-pass refl e)
     go false e = refl
 
 pub refused : (l : Line) (x : Refusal) → asked l ≡ Err x → (l.applies ≡ true) × (l.refusal ≡ x)
 refused l x e = go l.applies e
   where
-    go : (t : Bool) → pick t (Err l.refusal) (Ok tt) ≡ Err x → (t ≡ true) × (l.refusal ≡ x)
+    go : (t : Bool) → pick t (Err l.refusal) (Ok (tt {0})) ≡ Err x → (t ≡ true) × (l.refusal ≡ x)
     go true e = (refl, cc)
     go false e = absurd (refuse-pass e refl)
 
