@@ -8,7 +8,7 @@ ghost use Rattle.sizes.specs.Sizing.{legal, α, B, stripes};
 ghost use Rattle.sizes.specs.Refusals.{number};
 
 // Document 01's refusals and those of the requests, in the order of their numbers; 11 is not used, and is never given again.
-#[derive(Clone, Copy)]
+#[derive(Clone, Copy, Debug, PartialEq, Eq)]
 pub enum Refusal {
     Size,
     Area,
