@@ -211,15 +211,8 @@ reply_of o = record { answer = o.answer; output = o.output }
 
 -- the packet area after a call with this outcome: what an accepted step left
 abbrev pub packets_after : List ℕ → Call → Outcome → List ℕ
-packets_after before (write file) o = before
-packets_after before (lose board) o = before
-packets_after before (repair fresh helpers stand_ins) o = before
-packets_after before (read boards output) o = before
-packets_after before (edit offset bytes boards) o = before
-packets_after before (start fresh helpers stand_ins) o = before
 packets_after before (step allowance packets) o = pick (eqb o.answer.refusal 0) o.packets before
-packets_after before (careful boards output) o = before
-packets_after before (move board point helpers partners) o = before
+packets_after before other o = before
 
 -- ---- lists of calls
 
