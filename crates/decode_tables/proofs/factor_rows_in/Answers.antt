@@ -1,29 +1,12 @@
 -- `decode_tables::factor_rows_in` meets its contract: the boards so far, before what was there.
 -- Assumes nothing.
-use Rattle.std.proofs.Common.{ap, sym, ◌<◌, ◌≤◌, ◌-◌, ◌+◌, ◌*◌, ℕ, length, get_or, drop, arith, length-take, length-drop}
-use native.Mathlib.Nat.{zero-mul}
+use Rattle.std.proofs.Common.{◌<◌, ◌-◌, ◌*◌, length, get_or, arith, length-take, length-drop}
 use Rattle.lists.proofs.Alls.{all-at}
 use Rattle.lists.proofs.Boards.{below_all}
 use Rattle.sizes.proofs.Legal.{row_fits}
 use Rattle.decode_laws.proofs.Coefs.{length-factors}
 use Rattle.decode_laws.proofs.Loops.{join-loop, join-end}
 use Rattle.decode_tables.proofs.factor_rows_in.Goals as goal
-
--- where the factors of a turn end
-end : (c : goal.In-loop-t) → let w = (c.args.sizes.n - c.args.c) * 32 in c.loop-t.t * w + w ≤ length c.args.boards.now * w
-end c = row_fits _ _ _ c.loop-t-test.true
-
-pub loop-t-init : goal.loop-t-init
-loop-t-init c = ap (λ (m : ℕ). drop m c.args.out.now) (sym (zero-mul ((c.args.sizes.n - c.args.c) * 32)))
-
-pub overflow_mul-at : goal.overflow_mul-at
-overflow_mul-at c = omega (arith, end c)
-
-pub overflow_add-end : goal.overflow_add-end
-overflow_add-end c = omega (arith, end c)
-
-pub slice_bounds-factors_in-end : goal.slice_bounds-factors_in-end
-slice_bounds-factors_in-end c = omega (arith, row_fits _ _ ((c.args.sizes.n - c.args.c) * 32) c.loop-t-test.true)
 
 pub factors_in-requires : goal.factors_in-requires
 factors_in-requires c =
