@@ -19,10 +19,8 @@ fn marks_word(marks: &[bool]) -> u64
     ensures { result ≡ from_bits marks.now }
 {
     let mut word: u64 = 0;
-    let mut i = marks.len();
-    while 0 < i {
-        i -= 1;
-        word = word * 2;
+    for i in (0..marks.len()).rev() {
+        word *= 2;
         if marks[i] {
             word += 1;
         }
