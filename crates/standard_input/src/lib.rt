@@ -5,37 +5,25 @@
 ghost use Rattle.std.specs.Prelude.{◌≤◌, length};
 ghost use Rattle.standard_input.specs.Reads.{Moved, Taken};
 
+use std::io;
 use std::io::Read;
 
-// What a read of one byte gave.
-#[derive(Clone, Copy)]
-enum Got {
-    Byte(u8),
-    End,
-    Failed,
-}
-
-// Reads once into a slice. Answers how many bytes it put at the beginning of the slice, where 0 are the end of the input, or -1 where the read failed.
-pub fn read_once<R: Read>(reader: &mut R, slice: &mut [u8]) -> isize
+// Reads once into a slice. Answers how many bytes it put at the beginning of the slice, where 0 are the end of the input, or why the read failed.
+pub fn read_once<R: Read>(reader: &mut R, slice: &mut [u8]) -> io::Result<usize>
     ensures bound { Moved result slice.new }
     ensures bytes { Taken (R.remaining reader.old) (R.remaining reader.new) result slice.new }
 {
-    match reader.read(slice) {
-        Ok(n) => n as isize,
-        Err(_) => -1,
-    }
+    reader.read(slice)
 }
 
-fn read_byte<R: Read>(reader: &mut R) -> Got {
+// The next byte, if the input has one.
+fn read_byte<R: Read>(reader: &mut R) -> io::Result<Option<u8>> {
     let mut byte = [0u8; 1];
-    let got = read_once(reader, &mut byte);
-    if got < 0 {
-        return Got::Failed;
+    let n = read_once(reader, &mut byte)?;
+    if n == 0 {
+        return Ok(None);
     }
-    if got == 0 {
-        return Got::End;
-    }
-    Got::Byte(byte[0])
+    Ok(Some(byte[0]))
 }
 
 // Reads to the end of the input or until the slice is full, and answers how many bytes came. A read that failed counts as a full slice, which the
@@ -43,21 +31,18 @@ fn read_byte<R: Read>(reader: &mut R) -> Got {
 pub fn read_input<R: Read>(reader: &mut R, input: &mut [u8]) -> usize
     ensures { result ≤ length input.new }
 {
-    let mut done: usize = 0;
-    while done < input.len() {
-        let got = read_byte(reader);
-        match got {
-            Got::Byte(b) => {
+    for done in 0..input.len() {
+        match read_byte(reader) {
+            Ok(Some(b)) => {
                 input[done] = b;
-                done += 1;
             }
-            Got::End => {
+            Ok(None) => {
                 return done;
             }
-            Got::Failed => {
+            Err(_) => {
                 return input.len();
             }
         }
     }
-    done
+    input.len()
 }
