@@ -1,5 +1,4 @@
-//! The check of the lists of a repair: who is named fresh, who helps and who stands in, in document 01's order. Each check's answer is taken apart,
-//! and a refusal returned early.
+//! The check of the lists of a repair: who is named fresh, who helps and who stands in, in document 01's order.
 
 #![tactic(auto)]
 
@@ -17,7 +16,12 @@ ghost use Rattle.list_tests.specs.Steps.{Runs, named, repeat_tests};
 use sizes::{Refusal, Sizes};
 
 // 5 NODE of three lists.
-pub fn check_three_lists(sizes: Sizes, boards: &[usize], others: &[usize], more: &[usize]) -> Result<(), Refusal>
+pub fn check_three_lists(
+    sizes: Sizes,
+    boards: &[usize],
+    others: &[usize],
+    more: &[usize],
+) -> Result<(), Refusal>
     ensures { result ≡ asked (node_line sizes (boards.now ++ (others.now ++ more.now))) }
 {
     if line_tests::below(sizes.n, boards) {
@@ -31,15 +35,10 @@ fn runs_differ(d: usize, e: usize, fresh: &[usize], helpers: &[usize], standins:
     requires { Runs d e fresh.now helpers.now standins.now }
     ensures { result ≡ every (λ h. different h.senders) (hear_named d e fresh.now helpers.now standins.now) }
 {
-    let mut a: usize = 0;
-    while a < fresh.len() {
+    for a in 0..fresh.len() {
         let from = a * d;
-        let to = from + d;
         let start = a * e;
-        let end = start + e;
-        if list_tests::both_differ(&helpers[from..to], &standins[start..end]) {
-            a += 1;
-        } else {
+        if !list_tests::both_differ(&helpers[from..from + d], &standins[start..start + e]) {
             return false;
         }
     }
@@ -73,12 +72,10 @@ pub fn check_named(
 fn all_out(marks: &[bool], boards: &[usize]) -> bool
     ensures { result ≡ every (λ i. not (get_or marks.now i false)) boards.now }
 {
-    let mut t: usize = 0;
-    while t < boards.len() {
-        if store_lines::mark_of(marks, boards[t]) {
+    for board in boards {
+        if store_lines::mark_of(marks, *board) {
             return false;
         }
-        t += 1;
     }
     true
 }
@@ -105,6 +102,7 @@ pub fn check_both_service(marks: &[bool], boards: &[usize], others: &[usize]) ->
 }
 
 // The first refusal of the lists of a repair, on a record of these sizes and marks.
+#[tactic(auto, unfolding(store_spec::specs::Calls::list_lines))]
 pub fn check_lists(
     sizes: Sizes,
     marks: &[bool],
@@ -115,23 +113,10 @@ pub fn check_lists(
     requires { legal sizes ≡ true }
     ensures { result ≡ first store_order (list_lines (named sizes marks.now) fresh.now helpers.now standins.now) }
 {
-    if let Err(count) = list_tests::check_named_counts(
-        sizes,
-        fresh.len(),
-        helpers.len(),
-        standins.len(),
-    ) {
-        return Err(count);
-    }
-    if let Err(node) = check_three_lists(sizes, fresh, helpers, standins) {
-        return Err(node);
-    }
+    list_tests::check_named_counts(sizes, fresh.len(), helpers.len(), standins.len())?;
+    check_three_lists(sizes, fresh, helpers, standins)?;
     let each = sizes.r - fresh.len();
-    if let Err(repeat) = check_named(sizes.d, each, fresh, helpers, standins) {
-        return Err(repeat);
-    }
-    if let Err(serving) = check_out(marks, fresh) {
-        return Err(serving);
-    }
+    check_named(sizes.d, each, fresh, helpers, standins)?;
+    check_out(marks, fresh)?;
     check_both_service(marks, helpers, standins)
 }

@@ -14,7 +14,12 @@ ghost use Rattle.list_tests.specs.Steps.{count_tests};
 use sizes::{Refusal, Sizes};
 
 // 4 COUNT of a repair: t fresh boards, 1 ≤ t ≤ r, and for each d helpers and r − t stand-ins.
-pub fn check_named_counts(sizes: Sizes, fresh: usize, helpers: usize, standins: usize) -> Result<(), Refusal>
+pub fn check_named_counts(
+    sizes: Sizes,
+    fresh: usize,
+    helpers: usize,
+    standins: usize,
+) -> Result<(), Refusal>
     requires { legal sizes ≡ true }
     ensures { result ≡ asked (Count when not (alls (count_tests sizes fresh helpers standins))) }
 {

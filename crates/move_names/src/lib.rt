@@ -23,21 +23,8 @@ pub fn check_named(
     ensures { result ≡ first store_order (named_lines sizes points.now marks.now board point helpers.now partners.now) }
 {
     let want = sizes.r - 1;
-    if let Err(count) = board_lines::check_counts(
-        helpers.len(),
-        sizes.d,
-        partners.len(),
-        want,
-    ) {
-        return Err(count);
-    }
-    if let Err(node) = move_tests::check_known(sizes, board, helpers, partners) {
-        return Err(node);
-    }
-    if let Err(repeat) = move_tests::check_new(
-        sizes.n, points, board, point, helpers, partners,
-    ) {
-        return Err(repeat);
-    }
+    board_lines::check_counts(helpers.len(), sizes.d, partners.len(), want)?;
+    move_tests::check_known(sizes, board, helpers, partners)?;
+    move_tests::check_new(sizes.n, points, board, point, helpers, partners)?;
     move_tests::check_up(sizes.n, marks)
 }

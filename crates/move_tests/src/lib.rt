@@ -11,7 +11,12 @@ ghost use Rattle.move_tests.specs.Steps.{new_line, up_line};
 use sizes::{Refusal, Sizes};
 
 // 5 NODE of a board and two lists.
-pub fn check_known(sizes: Sizes, board: usize, helpers: &[usize], partners: &[usize]) -> Result<(), Refusal>
+pub fn check_known(
+    sizes: Sizes,
+    board: usize,
+    helpers: &[usize],
+    partners: &[usize],
+) -> Result<(), Refusal>
     ensures { result ≡ asked (node_line sizes (board ∷ (helpers.now ++ partners.now))) }
 {
     if board < sizes.n {
@@ -58,11 +63,8 @@ pub fn check_new(
 pub fn check_up(n: usize, marks: &[bool]) -> Result<(), Refusal>
     ensures { result ≡ asked (up_line n marks.now) }
 {
-    let mut i: usize = 0;
-    while i < n {
-        if store_lines::mark_of(marks, i) {
-            i += 1;
-        } else {
+    for i in 0..n {
+        if !store_lines::mark_of(marks, i) {
             return Err(Refusal::Down);
         }
     }

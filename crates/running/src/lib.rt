@@ -57,7 +57,7 @@ fn sound_beside(kept: Kept, running: Running) -> bool
     if sizes.r < t {
         return false;
     }
-    if let Err(_) = check_arrays(sizes, &marks, t, &fresh, &helpers, &standins) {
+    if check_arrays(sizes, &marks, t, &fresh, &helpers, &standins).is_err() {
         return false;
     }
     running.carried < t * (sizes.d + sizes.r - 1)
@@ -78,8 +78,6 @@ pub fn check_running(kept: Kept, running: Running) -> Result<(), Refusal>
 pub fn check_both(kept: Kept, running: Running) -> Result<(), Refusal>
     ensures { result ≡ asked (both_line (record_of kept) (running_in running)) }
 {
-    if let Err(size) = store_lines::check_record(kept) {
-        return Err(size);
-    }
+    store_lines::check_record(kept)?;
     check_running(kept, running)
 }

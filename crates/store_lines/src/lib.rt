@@ -23,12 +23,10 @@ use sizes::{Refusal, Sizes};
 pub fn some_on(marks: &[bool], from: usize) -> bool
     ensures { not result ≡ all_off (drop from marks.now) }
 {
-    let mut i = from;
-    while i < marks.len() {
+    for i in from..marks.len() {
         if marks[i] {
             return true;
         }
-        i += 1;
     }
     false
 }
@@ -148,11 +146,8 @@ pub fn mark_of(marks: &[bool], board: usize) -> bool
 pub fn all_on(marks: &[bool], boards: &[usize]) -> bool
     ensures { result ≡ every (λ i. get_or marks.now i false) boards.now }
 {
-    let mut t: usize = 0;
-    while t < boards.len() {
-        if mark_of(marks, boards[t]) {
-            t += 1;
-        } else {
+    for board in boards {
+        if !mark_of(marks, *board) {
             return false;
         }
     }
@@ -183,10 +178,8 @@ pub fn first_on(n: usize) -> [bool; 32]
 fn turn_on(n: usize, marks: &mut [bool])
     ensures { marks.new ≡ tabulate (length marks.old) (λ i. ltb i n) }
 {
-    let mut i: usize = 0;
-    while i < marks.len() {
+    for i in 0..marks.len() {
         marks[i] = i < n;
-        i += 1;
     }
 }
 
@@ -195,10 +188,7 @@ pub fn marks_on(boards: &[usize], marks: &mut [bool])
     requires { below (length marks.old) boards.now ≡ true }
     ensures { marks.new ≡ turn_on boards.now marks.old }
 {
-    let mut t: usize = 0;
-    while t < boards.len() {
-        let b = boards[t];
-        marks[b] = true;
-        t += 1;
+    for board in boards {
+        marks[*board] = true;
     }
 }
