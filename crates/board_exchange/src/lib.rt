@@ -11,7 +11,7 @@ ghost use Rattle.board_lines.specs.Outcomes.{outcome};
 
 use sizes::{Refusal, Sizes};
 
-// The first refusal of an exchange packet: its lines in document 01's order. Each check's answer is taken apart, and a refusal returned early.
+// The first refusal of an exchange packet: its lines in document 01's order. Each check's refusal is passed on.
 fn check_exchange(
     sizes: Sizes,
     points: &[u8],
@@ -24,22 +24,12 @@ fn check_exchange(
 ) -> Result<(), Refusal>
     ensures { result ≡ first board_order (exchange_lines sizes points.now len board helpers.now packets.now receiver out.now) }
 {
-    if let Err(stated) = board_lines::check_stated(sizes, points, len) {
-        return Err(stated);
-    }
-    if let Err(count) = board_lines::check_count(helpers.len(), sizes.d) {
-        return Err(count);
-    }
-    if let Err(node) = board_lines::check_nodes_with(sizes, board, receiver, helpers) {
-        return Err(node);
-    }
-    if let Err(repeat) = line_checks::check_repeat_with(board, receiver, helpers) {
-        return Err(repeat);
-    }
+    board_lines::check_stated(sizes, points, len)?;
+    board_lines::check_count(helpers.len(), sizes.d)?;
+    board_lines::check_nodes_with(sizes, board, receiver, helpers)?;
+    line_checks::check_repeat_with(board, receiver, helpers)?;
     let stripes = board_lines::stripe_count(sizes, len);
-    if let Err(lent) = board_lines::check_lent(packets.len(), sizes.d * (2 * stripes)) {
-        return Err(lent);
-    }
+    board_lines::check_lent(packets.len(), sizes.d * (2 * stripes))?;
     line_checks::check_room(out, stripes)
 }
 
@@ -56,11 +46,7 @@ pub fn exchange_packet(
 ) -> Result<usize, Refusal>
     ensures { outcome result out.new ≡ exchange_call sizes points len board helpers.now packets.now receiver out.old }
 {
-    if let Err(x) = check_exchange(
-        sizes, &points, len, board, helpers, packets, receiver, out,
-    ) {
-        return Err(x);
-    }
+    check_exchange(sizes, &points, len, board, helpers, packets, receiver, out)?;
     let stripes = board_lines::stripe_count(sizes, len);
     let mut inverses = [0u8; 256];
     inverses::fill_inverses(&mut inverses);

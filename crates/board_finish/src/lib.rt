@@ -11,7 +11,7 @@ ghost use Rattle.board_lines.specs.Outcomes.{outcome};
 
 use sizes::{Refusal, Sizes};
 
-// The first refusal of a finished share: its lines in document 01's order. Each check's answer is taken apart, and a refusal returned early.
+// The first refusal of a finished share: its lines in document 01's order. Each check's refusal is passed on.
 fn check_finish(
     sizes: Sizes,
     points: &[u8],
@@ -25,35 +25,15 @@ fn check_finish(
 ) -> Result<(), Refusal>
     ensures { result ≡ first board_order (finished_lines sizes points.now len board helpers.now packets.now partners.now exchanges.now out.now) }
 {
-    if let Err(stated) = board_lines::check_stated(sizes, points, len) {
-        return Err(stated);
-    }
+    board_lines::check_stated(sizes, points, len)?;
     let others = sizes.r - 1;
-    if let Err(count) = board_lines::check_counts(
-        helpers.len(),
-        sizes.d,
-        partners.len(),
-        others,
-    ) {
-        return Err(count);
-    }
-    if let Err(node) = board_lines::check_nodes_joined(sizes, helpers, partners, board) {
-        return Err(node);
-    }
-    if let Err(repeat) = line_checks::check_repeat_joined(helpers, partners, board) {
-        return Err(repeat);
-    }
+    board_lines::check_counts(helpers.len(), sizes.d, partners.len(), others)?;
+    board_lines::check_nodes_joined(sizes, helpers, partners, board)?;
+    line_checks::check_repeat_joined(helpers, partners, board)?;
     let stripes = board_lines::stripe_count(sizes, len);
     let packets_len = sizes.d * (2 * stripes);
     let exchanges_len = others * stripes;
-    if let Err(lent) = board_lines::check_two_lent(
-        packets.len(),
-        packets_len,
-        exchanges.len(),
-        exchanges_len,
-    ) {
-        return Err(lent);
-    }
+    board_lines::check_two_lent(packets.len(), packets_len, exchanges.len(), exchanges_len)?;
     line_checks::check_room(out, stripes * sizes.share_len())
 }
 
@@ -71,11 +51,9 @@ pub fn finished_share(
 ) -> Result<usize, Refusal>
     ensures { outcome result out.new ≡ finished_call sizes points len board helpers.now packets.now partners.now exchanges.now out.old }
 {
-    if let Err(x) = check_finish(
+    check_finish(
         sizes, &points, len, board, helpers, packets, partners, exchanges, out,
-    ) {
-        return Err(x);
-    }
+    )?;
     let stripes = board_lines::stripe_count(sizes, len);
     let mut inverses = [0u8; 256];
     inverses::fill_inverses(&mut inverses);

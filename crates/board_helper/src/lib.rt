@@ -11,7 +11,7 @@ ghost use Rattle.board_lines.specs.Outcomes.{outcome};
 
 use sizes::{Refusal, Sizes};
 
-// The first refusal of a helper packet: its lines in document 01's order. Each check's answer is taken apart, and a refusal returned early.
+// The first refusal of a helper packet: its lines in document 01's order. Each check's refusal is passed on.
 fn check_helper(
     sizes: Sizes,
     points: &[u8],
@@ -23,20 +23,12 @@ fn check_helper(
 ) -> Result<(), Refusal>
     ensures { result ≡ first board_order (helper_lines sizes points.now len helper receiver held.now out.now) }
 {
-    if let Err(stated) = board_lines::check_stated(sizes, points, len) {
-        return Err(stated);
-    }
+    board_lines::check_stated(sizes, points, len)?;
     let named = [helper, receiver];
-    if let Err(node) = board_lines::check_nodes(sizes, &named) {
-        return Err(node);
-    }
-    if let Err(repeat) = line_checks::check_repeat(&named) {
-        return Err(repeat);
-    }
+    board_lines::check_nodes(sizes, &named)?;
+    line_checks::check_repeat(&named)?;
     let stripes = board_lines::stripe_count(sizes, len);
-    if let Err(lent) = board_lines::check_lent(held.len(), stripes * sizes.share_len()) {
-        return Err(lent);
-    }
+    board_lines::check_lent(held.len(), stripes * sizes.share_len())?;
     let count = 2 * stripes;
     line_checks::check_room(out, count)
 }
@@ -53,9 +45,7 @@ pub fn helper_packet(
 ) -> Result<usize, Refusal>
     ensures { outcome result out.new ≡ helper_call sizes points len helper receiver held.now out.old }
 {
-    if let Err(x) = check_helper(sizes, &points, len, helper, receiver, held, out) {
-        return Err(x);
-    }
+    check_helper(sizes, &points, len, helper, receiver, held, out)?;
     let stripes = board_lines::stripe_count(sizes, len);
     let mut inverses = [0u8; 256];
     inverses::fill_inverses(&mut inverses);
