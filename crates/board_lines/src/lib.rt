@@ -26,10 +26,8 @@ fn put_points(n: usize, points: &mut [u8])
     requires { length points.old ≤ 256 }
     ensures { points.new ≡ tabulate (length points.old) (λ i. pick (ltb i n) i 0) }
 {
-    let mut i: usize = 0;
-    while i < points.len() {
+    for i in 0..points.len() {
         points[i] = standard_point(n, i);
-        i += 1;
     }
 }
 
@@ -70,9 +68,7 @@ pub fn check_length(sizes: Sizes, len: usize) -> Result<(), Refusal>
 pub fn check_stated(sizes: Sizes, points: &[u8], len: usize) -> Result<(), Refusal>
     ensures { result ≡ first board_order (stated_lines sizes points.now len) }
 {
-    if let Err(size) = check_sizes(sizes, points) {
-        return Err(size);
-    }
+    check_sizes(sizes, points)?;
     check_length(sizes, len)
 }
 
@@ -109,7 +105,12 @@ pub fn check_nodes(sizes: Sizes, boards: &[usize]) -> Result<(), Refusal>
 }
 
 // 5 NODE of two boards and a list.
-pub fn check_nodes_with(sizes: Sizes, one: usize, other: usize, boards: &[usize]) -> Result<(), Refusal>
+pub fn check_nodes_with(
+    sizes: Sizes,
+    one: usize,
+    other: usize,
+    boards: &[usize],
+) -> Result<(), Refusal>
     ensures { result ≡ asked (node_line sizes (one ∷ other ∷ boards.now)) }
 {
     if sizes.n <= one {
@@ -122,7 +123,12 @@ pub fn check_nodes_with(sizes: Sizes, one: usize, other: usize, boards: &[usize]
 }
 
 // 5 NODE of two lists and a board.
-pub fn check_nodes_joined(sizes: Sizes, boards: &[usize], others: &[usize], last: usize) -> Result<(), Refusal>
+pub fn check_nodes_joined(
+    sizes: Sizes,
+    boards: &[usize],
+    others: &[usize],
+    last: usize,
+) -> Result<(), Refusal>
     ensures { result ≡ asked (node_line sizes (boards.now ++ others.now ++ (last ∷ []))) }
 {
     if line_tests::below(sizes.n, boards) {

@@ -6,11 +6,11 @@ use mathlib.Core.Bool.{Bool, true, false, not}
 use mathlib.Core.List.{[], ◌∷◌}
 use lib.Dec.{eqb}
 use borrow.Author.Tests.{eq-eqb}
-use Rattle.lists.specs.Tests.{pick, alls}
+use Rattle.lists.specs.Tests.{alls}
 use Rattle.lists.proofs.Tests.{hold-alls}
 use Rattle.sizes.specs.declared.Refusal.{Refusal}
 use Rattle.std.specs.Prelude.{Ok, Err}
-use Rattle.sizes.specs.Refusals.{Line}
+use Rattle.sizes.specs.Refusals.{Line, ◌when◌}
 use Rattle.sizes.proofs.Lines.{refuse-pass}
 use Rattle.line_checks.specs.Steps.{asked}
 
@@ -24,14 +24,14 @@ refuses l h = rw h refl
 pub passed : (l : Line) → asked l ≡ Ok tt → l.applies ≡ false
 passed l e = go l.applies e
   where
-    go : (t : Bool) → pick t (Err l.refusal) (Ok tt) ≡ Ok tt → t ≡ false
+    go : (t : Bool) → asked (l.refusal when t) ≡ Ok tt → t ≡ false
     go true e = absurd (refuse-pass refl e)
     go false e = refl
 
 pub refused : (l : Line) (x : Refusal) → asked l ≡ Err x → (l.applies ≡ true) × (l.refusal ≡ x)
 refused l x e = go l.applies e
   where
-    go : (t : Bool) → pick t (Err l.refusal) (Ok tt) ≡ Err x → (t ≡ true) × (l.refusal ≡ x)
+    go : (t : Bool) → asked (l.refusal when t) ≡ Err x → (t ≡ true) × (l.refusal ≡ x)
     go true e = (refl, cc)
     go false e = absurd (refuse-pass e refl)
 
