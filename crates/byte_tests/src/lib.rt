@@ -1,7 +1,7 @@
 // Whether two lists of bytes are the same.
 // Assumes nothing.
 
-#![tactic(auto, using(crate::proofs::Compared::pointwise_same))]
+#![tactic(auto)]
 
 ghost use Rattle.std.specs.Prelude.{◌≡◌};
 ghost use Rattle.lists.specs.Tests.{same};
