@@ -1,16 +1,8 @@
 -- `byte_factors::factor` meets its contract: the product at y by that at the point itself.
 -- Assumes nothing.
-use Rattle.std.proofs.Common.{◌≡◌, length, ap, ◌∙◌, arith}
-use Rattle.lists.proofs.Pieces.{length-tabulate}
-use Rattle.gf256.specs.Field.{inverse}
 use Rattle.lagrange.specs.Steps.{others}
 use Rattle.byte_factors.proofs.Products.{product-byte, factor-is}
 use Rattle.byte_factors.proofs.factor.Goals as goal
-
-pub bounds-inverses-own : goal.bounds-inverses-own
-bounds-inverses-own c =
-    let n : length c.args.inverses.now ≡ 256 = ap length c.requires.0 ∙ length-tabulate 256 inverse in
-    omega arith
 
 pub returns : goal.returns
 returns c =

@@ -9,14 +9,6 @@ use Rattle.decode_laws.proofs.Loops.{join-loop, join-end}
 use Rattle.decode_rows.proofs.Made.{each, length-each, each-wide, each-tabled, row_made}
 use Rattle.decode_rows.proofs.by_rows.Goals as goal
 
-pub row_sum-row-requires : goal.row_sum-row-requires
-row_sum-row-requires c =
-    let a = c.args in
-    let i = c.loop-i.i in
-    let e = row_fits i a.count a.m c.loop-i-test.true in
-    let l : length (take (i * a.m + a.m - i * a.m) (drop (i * a.m) a.a.now)) ≡ a.m = simp (length-take, length-drop) (omega arith) in
-    (omega arith, rw l c.requires.3)
-
 pub loop-i-preserved : goal.loop-i-preserved
 loop-i-preserved c =
     λ rows lr tr.

@@ -1,7 +1,6 @@
 -- `decode_rows::parts` meets its contract: the parts so far, before what was there.
 -- Assumes nothing.
-use Rattle.std.proofs.Common.{◌≡◌, ℕ, List, ◌+◌, ◌*◌, ◌-◌, ◌<◌, length, take, drop, sym, ap, ap₂, ◌∙◌, arith}
-use native.Mathlib.Nat.{zero-mul}
+use Rattle.std.proofs.Common.{◌≡◌, ℕ, List, ◌+◌, ◌*◌, ◌-◌, ◌<◌, length, take, drop, ap₂, ◌∙◌, arith}
 use lib.ListN.{length-take, length-drop}
 use lib.Seq.{length-take-le}
 use Rattle.lists.specs.Lists.{piece}
@@ -10,14 +9,6 @@ use Rattle.sizes.proofs.Legal.{row_fits}
 use Rattle.decode_laws.specs.Steps.{parts}
 use Rattle.decode_laws.proofs.Loops.{join-loop, join-end}
 use Rattle.decode_rows.proofs.parts.Goals as goal
-
-pub loop-i-init : goal.loop-i-init
-loop-i-init c = ap (λ (m : ℕ). drop m c.args.out.now) (sym (zero-mul c.args.m))
-
-pub copy-requires : goal.copy-requires
-copy-requires c =
-    let e = row_fits c.loop-i.i c.args.count c.args.m c.loop-i-test.true in
-    simp (length-take, length-drop) (omega arith)
 
 pub loop-i-preserved : goal.loop-i-preserved
 loop-i-preserved c =

@@ -1,7 +1,6 @@
 -- `decode_rows::turned` meets its contract: the columns so far, before what was there.
 -- Assumes nothing.
-use Rattle.std.proofs.Common.{◌≡◌, ℕ, ◌+◌, ◌*◌, ◌-◌, length, take, drop, sym, ap, ◌∙◌, arith}
-use native.Mathlib.Nat.{zero-mul}
+use Rattle.std.proofs.Common.{◌≡◌, ℕ, ◌+◌, ◌*◌, ◌-◌, length, take, drop, ap, ◌∙◌, arith}
 use lib.ListN.{length-take, length-drop}
 use Rattle.lists.specs.Lists.{tabulate}
 use Rattle.lists.proofs.Pieces.{length-tabulate}
@@ -9,17 +8,6 @@ use Rattle.sizes.proofs.Legal.{row_fits}
 use Rattle.decode_laws.specs.Steps.{cell, turned}
 use Rattle.decode_laws.proofs.Loops.{join-loop, join-end}
 use Rattle.decode_rows.proofs.turned.Goals as goal
-
-pub loop-i-init : goal.loop-i-init
-loop-i-init c = ap (λ (m : ℕ). drop m c.args.out.now) (sym (zero-mul c.args.m))
-
-pub gather-requires : goal.gather-requires
-gather-requires c =
-    let a = c.args in
-    let l = c.loop-i in
-    let e = row_fits l.i a.count a.m c.loop-i-test.true in
-    let n : length (take (l.i * a.m + a.m - l.i * a.m) (drop (l.i * a.m) l.out)) ≡ a.m = simp (length-take, length-drop) (omega arith) in
-    (omega arith, omega arith, omega arith)
 
 pub loop-i-preserved : goal.loop-i-preserved
 loop-i-preserved c =

@@ -1,19 +1,10 @@
 -- `lagrange_factors::boards_from` meets its contract: the boards so far, before what was there, and the next of them.
 -- Assumes nothing.
-use Rattle.std.proofs.Common.{◌+◌, ◌%◌, refl, sym, arith}
-use native.Mathlib.Nat.{add-zero, mod-lt, mod-eq_of_lt}
+use Rattle.std.proofs.Common.{◌+◌, ◌%◌, arith}
 use Rattle.lists.proofs.Pieces.{fill-loop}
 use Rattle.row_dots.proofs.Rows.{changed}
 use Rattle.lagrange_factors.proofs.Values.{board-turn}
 use Rattle.lagrange_factors.proofs.boards_from.Goals as goal
-
-pub loop-t-init : goal.loop-t-init
-loop-t-init c = (refl, sym (rw add-zero (mod-eq_of_lt (omega arith))))
-
-pub next-a-requires : goal.next-a-requires
-next-a-requires c =
-    let h = mod-lt (c.args.b + c.loop-t.t) {m = c.args.n} (omega arith) in
-    (rw c.loop-t.invariant.1 h, omega arith)
 
 pub loop-t-preserved : goal.loop-t-preserved
 loop-t-preserved c =
