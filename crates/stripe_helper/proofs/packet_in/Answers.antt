@@ -11,7 +11,7 @@ pub factors_from-requires : goal.factors_from-requires
 factors_from-requires c =
     let p = c.requires in
     let f = legal-facts _ p.0 in
-    (p.3, p.1, p.5, f.few, p.9, p.10, omega arith)
+    (p.3, p.1, p.5, f.few, omega arith, p.10, omega arith)
 
 pub factors_from-requires-2 : goal.factors_from-requires-2
 factors_from-requires-2 c =
