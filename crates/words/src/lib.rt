@@ -89,8 +89,5 @@ pub fn put_kept(kept: Kept, words: &mut [u64])
 pub fn are_records(words: &[u64], beside: &[u64]) -> bool
     ensures { result ≡ alls (is_record words.now ∷ is_repair beside.now ∷ []) }
 {
-    if !word_parts::is_record(words) {
-        return false;
-    }
-    repair_parts::is_repair(beside)
+    word_parts::is_record(words) && repair_parts::is_repair(beside)
 }
