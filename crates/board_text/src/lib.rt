@@ -11,7 +11,7 @@ ghost use Rattle.board_lines.specs.Outcomes.{outcome};
 
 use sizes::{Refusal, Sizes};
 
-// The first refusal of a text of this share. Each check's answer is taken apart, and a refusal returned early.
+// The first refusal of a text of this share. Each check's refusal is passed on.
 fn check_text(
     sizes: Sizes,
     points: &[u8],
@@ -22,17 +22,11 @@ fn check_text(
 ) -> Result<(), Refusal>
     ensures { result ≡ first board_order (text_lines sizes points.now len node held.now out.now) }
 {
-    if let Err(stated) = board_lines::check_stated(sizes, points, len) {
-        return Err(stated);
-    }
-    if let Err(named) = line_checks::check_node(sizes, node) {
-        return Err(named);
-    }
+    board_lines::check_stated(sizes, points, len)?;
+    line_checks::check_node(sizes, node)?;
     let stripes = board_lines::stripe_count(sizes, len);
     let share_len = stripes * sizes.share_len();
-    if let Err(lent) = board_lines::check_lent(held.len(), share_len) {
-        return Err(lent);
-    }
+    board_lines::check_lent(held.len(), share_len)?;
     line_checks::check_room(
         out,
         text_writer::text_len(sizes, points, len, node, held.len()),
@@ -50,9 +44,7 @@ pub fn text(
 ) -> Result<usize, Refusal>
     ensures { outcome result out.new ≡ text_call sizes points len node held.now out.old }
 {
-    if let Err(x) = check_text(sizes, &points, len, node, held, out) {
-        return Err(x);
-    }
+    check_text(sizes, &points, len, node, held, out)?;
     let text_len = text_writer::text_len(sizes, &points, len, node, held.len());
     text_writer::write_text(sizes, &points, len, node, held, out);
     Ok(text_len)
