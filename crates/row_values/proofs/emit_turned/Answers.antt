@@ -1,15 +1,12 @@
 -- `row_values::emit_turned` meets its contract: the bytes so far, before what was there, and the place of the next.
 -- Assumes nothing.
-use Rattle.std.proofs.Common.{ℕ, ◌+◌, ◌%◌, get_or, refl, sym, ap, arith}
-use native.Mathlib.Nat.{add-zero, mod-lt, mod-eq_of_lt}
+use Rattle.std.proofs.Common.{ℕ, ◌+◌, ◌%◌, get_or, ap, arith}
+use native.Mathlib.Nat.{mod-lt}
 use Rattle.lists.proofs.Pieces.{fill-loop}
 use Rattle.row_dots.proofs.Rows.{changed}
 use Rattle.lagrange_factors.proofs.Values.{board-turn}
 use Rattle.row_values.specs.Steps.{turned}
 use Rattle.row_values.proofs.emit_turned.Goals as goal
-
-pub loop-t-init : goal.loop-t-init
-loop-t-init c = (refl, sym (rw add-zero (mod-eq_of_lt (omega arith))), omega arith)
 
 pub loop-t-preserved : goal.loop-t-preserved
 loop-t-preserved c =
