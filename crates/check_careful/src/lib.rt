@@ -1,4 +1,4 @@
-//! The check of a careful read (request A.11): its lines in their order, up to SHORT. Each check's answer is taken apart, and a refusal returned early.
+//! The check of a careful read (request A.11): its lines in their order, up to SHORT.
 //! DISAGREE, which is behind them all, is asked by `careful_tries`.
 
 #![tactic(auto)]
@@ -36,14 +36,8 @@ pub fn check_careful(
 {
     let sizes = kept.sizes;
     let marks = kept.marks;
-    if let Err(area) = check_begin::check_area(kept, running, lent) {
-        return Err(area);
-    }
-    if let Err(empty) = store_lines::check_written(kept.written) {
-        return Err(empty);
-    }
-    if let Err(named) = check_many(sizes, &marks, boards) {
-        return Err(named);
-    }
+    check_begin::check_area(kept, running, lent)?;
+    store_lines::check_written(kept.written)?;
+    check_many(sizes, &marks, boards)?;
     line_checks::check_room(out, kept.length)
 }

@@ -1,4 +1,4 @@
-//! The check of an edit (request A.6): its lines in their order, up to DOWN. Each check's answer is taken apart, and a refusal returned early.
+//! The check of an edit (request A.6): its lines in their order, up to DOWN.
 //! DISAGREE, which is behind them all, is asked by `decode_area`.
 
 #![tactic(auto)]
@@ -24,17 +24,9 @@ pub fn check_edit(
 {
     let sizes = kept.sizes;
     let marks = kept.marks;
-    if let Err(area) = check_begin::check_area(kept, running, lent) {
-        return Err(area);
-    }
-    if let Err(empty) = store_lines::check_written(kept.written) {
-        return Err(empty);
-    }
-    if let Err(busy) = store_lines::check_busy(running.running) {
-        return Err(busy);
-    }
-    if let Err(beyond) = check_range::check_range(kept.length, offset, count) {
-        return Err(beyond);
-    }
+    check_begin::check_area(kept, running, lent)?;
+    store_lines::check_written(kept.written)?;
+    store_lines::check_busy(running.running)?;
+    check_range::check_range(kept.length, offset, count)?;
     check_begin::check_boards(sizes, sizes.k, &marks, boards)
 }

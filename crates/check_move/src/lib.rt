@@ -1,4 +1,4 @@
-//! The check of a move (request A.10): its lines in their order. Each check's answer is taken apart, and a refusal returned early.
+//! The check of a move (request A.10): its lines in their order.
 
 #![tactic(auto)]
 
@@ -11,6 +11,7 @@ use record::{Kept, Running};
 use sizes::Refusal;
 
 // The first refusal of a move of a board to a new point by these helpers and partners, in an area of so many bytes.
+#[tactic(auto, unfolding(beside_spec::specs::Both::move_lines_both, store_spec::specs::Move::move_lines))]
 pub fn check_move(
     kept: Kept,
     running: Running,
@@ -25,14 +26,8 @@ pub fn check_move(
     let sizes = kept.sizes;
     let points = kept.points;
     let marks = kept.marks;
-    if let Err(area) = check_begin::check_area(kept, running, lent) {
-        return Err(area);
-    }
-    if let Err(empty) = store_lines::check_written(kept.written) {
-        return Err(empty);
-    }
-    if let Err(busy) = store_lines::check_busy(running.running) {
-        return Err(busy);
-    }
+    check_begin::check_area(kept, running, lent)?;
+    store_lines::check_written(kept.written)?;
+    store_lines::check_busy(running.running)?;
     move_names::check_named(sizes, &points, &marks, board, point, helpers, partners)
 }

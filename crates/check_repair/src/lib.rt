@@ -1,4 +1,4 @@
-//! The check of a repair, and of a start (request A.8), which asks the same: its lines in document 01's order. Each check's answer is taken apart, and a refusal returned early.
+//! The check of a repair, and of a start (request A.8), which asks the same: its lines in document 01's order.
 
 #![tactic(auto)]
 
@@ -11,6 +11,7 @@ use record::{Kept, Running};
 use sizes::Refusal;
 
 // The first refusal of a repair, or a start, of these fresh boards by these helpers and stand-ins, to an area of so many bytes.
+#[tactic(auto, unfolding(beside_spec::specs::Both::repair_lines_both, store_spec::specs::Calls::repair_lines, store_spec::specs::Calls::list_lines))]
 pub fn check_repair(
     kept: Kept,
     running: Running,
@@ -23,14 +24,8 @@ pub fn check_repair(
 {
     let sizes = kept.sizes;
     let marks = kept.marks;
-    if let Err(area) = check_begin::check_area(kept, running, lent) {
-        return Err(area);
-    }
-    if let Err(empty) = store_lines::check_written(kept.written) {
-        return Err(empty);
-    }
-    if let Err(busy) = store_lines::check_busy(running.running) {
-        return Err(busy);
-    }
+    check_begin::check_area(kept, running, lent)?;
+    store_lines::check_written(kept.written)?;
+    store_lines::check_busy(running.running)?;
     check_lists::check_lists(sizes, &marks, fresh, helpers, standins)
 }

@@ -1,4 +1,4 @@
-//! The check of a step (request A.8): its lines in their order. Each check's answer is taken apart, and a refusal returned early.
+//! The check of a step (request A.8): its lines in their order.
 
 #![tactic(auto)]
 
@@ -30,17 +30,12 @@ fn check_packets(kept: Kept, running: Running, lent: usize) -> Result<(), Refusa
 }
 
 // The first refusal of a step, on an area and a packet area of so many bytes.
+#[tactic(auto, unfolding(beside_spec::specs::Both::step_lines))]
 pub fn check_step(kept: Kept, running: Running, lent: usize, packets: usize) -> Result<(), Refusal>
     ensures { result ≡ first store_order (step_lines (record_of kept) (running_in running) lent packets) }
 {
-    if let Err(area) = check_begin::check_area(kept, running, lent) {
-        return Err(area);
-    }
-    if let Err(packet) = check_packets(kept, running, packets) {
-        return Err(packet);
-    }
-    if let Err(empty) = store_lines::check_written(kept.written) {
-        return Err(empty);
-    }
+    check_begin::check_area(kept, running, lent)?;
+    check_packets(kept, running, packets)?;
+    store_lines::check_written(kept.written)?;
     store_lines::check_idle(running.running)
 }
