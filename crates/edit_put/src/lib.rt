@@ -35,9 +35,10 @@ pub fn add_boards(
     ensures { area.new ≡ added (α sizes) part at (kept_by sizes values.now) boards.now area.old }
 {
     let w = 2 * sizes.d + sizes.r - 1;
-    for i in boards {
-        let from = *i * part + at;
+    for a in 0..boards.len() {
+        let i = boards[a];
+        let from = i * part + at;
         let to = from + w;
-        add_kept(sizes, *i, values, &mut area[from..to]);
+        add_kept(sizes, i, values, &mut area[from..to]);
     }
 }

@@ -25,44 +25,44 @@ overflow_sub-w c = omega (arith, legal-facts _ c.requires.0)
 
 pub overflow_mul-from : goal.overflow_mul-from
 overflow_mul-from c =
-    omega (arith, ends c.args.sizes c.args.part c.args.boards.now c.loop-i.i-index (legal-facts _ c.requires.0) c.requires.1 c.requires.4 c.loop-i-test.true)
+    omega (arith, ends c.args.sizes c.args.part c.args.boards.now c.loop-a.a (legal-facts _ c.requires.0) c.requires.1 c.requires.4 c.loop-a-test.true)
 
 pub overflow_add-from : goal.overflow_add-from
 overflow_add-from c =
-    omega (arith, ends c.args.sizes c.args.part c.args.boards.now c.loop-i.i-index (legal-facts _ c.requires.0) c.requires.1 c.requires.4 c.loop-i-test.true)
+    omega (arith, ends c.args.sizes c.args.part c.args.boards.now c.loop-a.a (legal-facts _ c.requires.0) c.requires.1 c.requires.4 c.loop-a-test.true)
 
 pub overflow_add-to : goal.overflow_add-to
 overflow_add-to c =
-    omega (arith, ends c.args.sizes c.args.part c.args.boards.now c.loop-i.i-index (legal-facts _ c.requires.0) c.requires.1 c.requires.4 c.loop-i-test.true)
+    omega (arith, ends c.args.sizes c.args.part c.args.boards.now c.loop-a.a (legal-facts _ c.requires.0) c.requires.1 c.requires.4 c.loop-a-test.true)
 
 pub slice_bounds-add_kept-end : goal.slice_bounds-add_kept-end
 slice_bounds-add_kept-end c =
-    omega (arith, ends c.args.sizes c.args.part c.args.boards.now c.loop-i.i-index (legal-facts _ c.requires.0) c.requires.1 c.requires.4 c.loop-i-test.true)
+    omega (arith, ends c.args.sizes c.args.part c.args.boards.now c.loop-a.a (legal-facts _ c.requires.0) c.requires.1 c.requires.4 c.loop-a-test.true)
 
 pub add_kept-requires : goal.add_kept-requires
 add_kept-requires c =
     let a = c.args in
-    let l = c.loop-i in
-    let e = ends a.sizes a.part a.boards.now l.i-index (legal-facts _ c.requires.0) c.requires.1 c.requires.4 c.loop-i-test.true in (
+    let l = c.loop-a in
+    let e = ends a.sizes a.part a.boards.now l.a (legal-facts _ c.requires.0) c.requires.1 c.requires.4 c.loop-a-test.true in (
       c.requires.0,
-      board-low a.sizes.n a.boards.now l.i-index c.requires.4 c.loop-i-test.true,
+      board-low a.sizes.n a.boards.now l.a c.requires.4 c.loop-a-test.true,
       c.requires.3,
-      part-long (get_or a.boards.now l.i-index 0 * a.part + a.at) (α a.sizes) l.area (omega arith),
+      part-long (get_or a.boards.now l.a 0 * a.part + a.at) (α a.sizes) l.area (omega arith),
     )
 
-pub loop-i-preserved : goal.loop-i-preserved
-loop-i-preserved c =
+pub loop-a-preserved : goal.loop-a-preserved
+loop-a-preserved c =
     let a = c.args in
     let z = a.sizes in
-    let l = c.loop-i in
+    let l = c.loop-a in
     turn z.n (α z) a.part a.at (kept_by z a.values.now) (λ i. length-kept_of z _ _ i ∙ α-parts z (legal-facts z c.requires.0)) c.requires.2 a.boards.now a.area.now
-    c.requires.4 c.requires.5 c.requires.6 l.i-index l.area _ c.loop-i-test.true l.invariant c.add_kept.ensures
+    c.requires.4 c.requires.5 c.requires.6 l.a l.area _ c.loop-a-test.true l.invariant c.add_kept.ensures
 
 pub returns : goal.returns
 returns c =
     let a = c.args in
     let z = a.sizes in
-    let e : c.loop-i.i-index ≡ length a.boards.now = omega arith in
-    c.loop-i.invariant
+    let e : c.loop-a.a ≡ length a.boards.now = omega arith in
+    c.loop-a.invariant
     ∙ ap (up_to z.n (α z) a.part a.at (kept_by z a.values.now) (λ i. length-kept_of z _ _ i ∙ α-parts z (legal-facts z c.requires.0)) c.requires.2 a.boards.now
     a.area.now c.requires.4 c.requires.5 c.requires.6) e
