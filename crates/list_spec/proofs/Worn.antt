@@ -77,7 +77,7 @@ module _ (s : Record) (p : Running) (a b output packets lent : List ℕ) (done o
   alike-kept : (t u : Check) → Alike done (record { answer = done.answer; handed = s; running = p; area = a; output = []; packets = [] })
       → Alike other (record { answer = done.answer; handed = s; running = p; area = a; output = []; packets = [] })
       → Alike (by s p a output packets done t) (by s p b output lent other u)
-  alike-kept (Ok tt) (Ok tt) e f = (e.0 ∙ sym f.0, e.1 ∙ sym f.1)
+  alike-kept (Ok u) (Ok v) e f = (e.0 ∙ sym f.0, e.1 ∙ sym f.1)
   alike-kept (Ok tt) (Err y) e f = e
   alike-kept (Err x) (Ok tt) e f = (sym f.0, sym f.1)
   alike-kept (Err x) (Err y) e f = (refl, refl)
