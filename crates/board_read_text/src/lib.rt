@@ -2,7 +2,7 @@
 
 #![tactic(auto)]
 
-ghost use Rattle.std.specs.Prelude.{◌≡◌, List};
+ghost use Rattle.std.specs.Prelude.{◌≡◌, List, Err};
 ghost use Rattle.sizes.specs.Refusals.{said};
 ghost use Rattle.text_spec.specs.Calls.{blank, read_text_call};
 
@@ -20,7 +20,7 @@ pub struct TextRead {
 
 // A refusal, with nothing told.
 fn refused(x: Refusal) -> TextRead
-    ensures { result ≡ record { answer = Answer.Refused x; sizes = blank.sizes; points = blank.points; node = 0; length = 0 } }
+    ensures { result ≡ record { answer = Err x; sizes = blank.sizes; points = blank.points; node = 0; length = 0 } }
 {
     let points = [0u8; 32];
     TextRead {
