@@ -29,7 +29,7 @@ use Rattle.board_lines.proofs.Facts.{stated-of, Taken, taken_of, refused-by, don
 use Rattle.decode_stripe.specs.Steps.{Asked}
 
 -- a refusal is no pass
-pub not-passed : {x : Refusal} {P : Type 0} → Err x ≡ Ok tt → P
+pub not-passed : {x : Refusal} {P : Type 0} → ◌≡◌ {A = Check} (Err x) (Ok tt) → P
 not-passed e = let z : ◌≡◌ {A = ℕ} 0 1 = cc in absurd (omega arith)
 
 -- ---- what the kernels ask

@@ -14,7 +14,7 @@ ghost use Rattle.decode_setup.specs.Steps.{Made};
 
 use sizes::{Refusal, Sizes};
 
-// The first refusal of a file of so many bytes from these shares. Each check's answer is taken apart, and a refusal returned early. Where there
+// The first refusal of a file of so many bytes from these shares. Each check's refusal is passed on. Where there
 // is none the tables of the read are made.
 fn check_file(
     sizes: Sizes,
@@ -29,26 +29,14 @@ fn check_file(
     requires { (inverses.now ≡ tabulate 256 inverse) × (length tables.old ≡ 49152) }
     ensures { (result ≡ first board_order (file_lines sizes points.now len boards.now held.now out.now)) × (result ≡ Ok tt → Made sizes points.now boards.now tables.new) }
 {
-    if let Err(stated) = board_lines::check_stated(sizes, points, len) {
-        return Err(stated);
-    }
-    if let Err(miscounted) = board_lines::check_count(boards.len(), sizes.k) {
-        return Err(miscounted);
-    }
-    if let Err(named) = board_lines::check_nodes(sizes, boards) {
-        return Err(named);
-    }
-    if let Err(repeated) = line_checks::check_repeat(boards) {
-        return Err(repeated);
-    }
+    board_lines::check_stated(sizes, points, len)?;
+    board_lines::check_count(boards.len(), sizes.k)?;
+    board_lines::check_nodes(sizes, boards)?;
+    line_checks::check_repeat(boards)?;
     let stripes = board_lines::stripe_count(sizes, len);
     let share_len = stripes * sizes.share_len();
-    if let Err(lent) = board_lines::check_lent(held.len(), sizes.k * share_len) {
-        return Err(lent);
-    }
-    if let Err(short) = line_checks::check_room(out, len) {
-        return Err(short);
-    }
+    board_lines::check_lent(held.len(), sizes.k * share_len)?;
+    line_checks::check_room(out, len)?;
     decode_shares::check_agrees(sizes, points, inverses, len, stripes, boards, held, tables)
 }
 
@@ -66,7 +54,7 @@ pub fn file(
     let mut inverses = [0u8; 256];
     inverses::fill_inverses(&mut inverses);
     let mut tables = [0u8; 49152];
-    if let Err(x) = check_file(
+    check_file(
         sizes,
         &points,
         &inverses,
@@ -75,9 +63,7 @@ pub fn file(
         held,
         out,
         &mut tables,
-    ) {
-        return Err(x);
-    }
+    )?;
     let stripes = board_lines::stripe_count(sizes, len);
     decode_shares::write_file(sizes, &points, len, stripes, boards, held, &tables, out);
     Ok(len)

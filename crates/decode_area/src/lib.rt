@@ -21,11 +21,8 @@ pub fn places(boards: &[usize], part: usize, out: &mut [usize])
     requires { (below 32 boards.now ≡ true) × (part ≤ 253952) × (length boards.now ≤ 32) × (length out.old ≡ length boards.now) }
     ensures { out.new ≡ map (λ b. b * part) boards.now }
 {
-    let n = boards.len();
-    let mut t: usize = 0;
-    while t < n {
+    for t in 0..boards.len() {
         out[t] = boards[t] * part;
-        t += 1;
     }
 }
 

@@ -20,11 +20,8 @@ pub fn starts(share: usize, out: &mut [usize])
     requires { (share ≤ 253952) × (length out.old ≤ 32) }
     ensures { out.new ≡ tabulate (length out.old) (λ t. t * share) }
 {
-    let n = out.len();
-    let mut t: usize = 0;
-    while t < n {
+    for t in 0..out.len() {
         out[t] = t * share;
-        t += 1;
     }
 }
 
