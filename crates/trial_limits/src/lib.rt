@@ -33,10 +33,8 @@ fn set_up(sizes: Sizes, capacity: usize) -> bool
     ensures { result ≡ set_up sizes capacity }
 {
     let points = board_lines::standard_points(sizes);
-    if let Err(_) = check_set_up_lose::check_set_up(sizes, points, capacity) {
-        return false;
-    }
-    area_len(sizes, capacity) <= 32768
+    check_set_up_lose::check_set_up(sizes, points, capacity).is_ok()
+        && area_len(sizes, capacity) <= 32768
 }
 
 // Whether these numbers are taken.
