@@ -1,6 +1,6 @@
 -- `encode_share::share_stripes` meets its contract. The loop's invariant: the stripes so far, before what was there.
 -- Assumes nothing.
-use Rattle.std.proofs.Common.{rules, ◌≡◌, refl, sym, ap, ◌∙◌, arith, ◌++◌, ℕ, ◌+◌, ◌*◌, drop, ◌-◌, zero-mul}
+use Rattle.std.proofs.Common.{rules, ◌≡◌, ap, ◌∙◌, arith, ◌++◌, ℕ, ◌+◌, ◌*◌, drop, ◌-◌}
 use Rattle.lists.specs.Lists.{join}
 use Rattle.sizes.proofs.Legal.{legal-facts, row_fits}
 use Rattle.mbcr.specs.Share.{stripe, kept}
@@ -18,19 +18,6 @@ overflow_add-w c = omega (arith, legal-facts _ c.requires.0)
 
 pub overflow_sub-w : goal.overflow_sub-w
 overflow_sub-w c = omega (arith, legal-facts _ c.requires.0)
-
-pub loop-s-init : goal.loop-s-init
-loop-s-init c =
-    let a = c.args in ((λ xs lx t ex. ap (λ (m : ℕ). drop m a.out.now) (sym (zero-mul (2 * a.sizes.d + a.sizes.r - 1)))), refl, c.requires.4)
-
-pub overflow_mul-at : goal.overflow_mul-at
-overflow_mul-at c = omega (arith, row_fits _ _ (2 * c.args.sizes.d + c.args.sizes.r - 1) c.loop-s-test.true)
-
-pub overflow_add-end : goal.overflow_add-end
-overflow_add-end c = omega (arith, row_fits _ _ (2 * c.args.sizes.d + c.args.sizes.r - 1) c.loop-s-test.true)
-
-pub slice_bounds-share_rows-end : goal.slice_bounds-share_rows-end
-slice_bounds-share_rows-end c = omega (arith, row_fits _ _ (2 * c.args.sizes.d + c.args.sizes.r - 1) c.loop-s-test.true, c.loop-s.invariant.1, c.requires.5)
 
 pub share_rows-requires : goal.share_rows-requires
 share_rows-requires c =
