@@ -10,34 +10,8 @@ use Rattle.kept_bytes.proofs.Turns.{length-kept_of}
 use Rattle.store_write.proofs.Places.{area-few}
 use Rattle.store_write.proofs.put_boards.Goals as goal
 
-pub overflow_mul-w : goal.overflow_mul-w
-overflow_mul-w c = omega (arith, legal-facts _ c.requires.0)
-
-pub overflow_add-w : goal.overflow_add-w
-overflow_add-w c = omega (arith, legal-facts _ c.requires.0)
-
 pub overflow_sub-w : goal.overflow_sub-w
 overflow_sub-w c = omega (arith, legal-facts _ c.requires.0)
-
-pub overflow_mul-from : goal.overflow_mul-from
-overflow_mul-from c =
-    let f = legal-facts _ c.requires.0 in
-    omega (arith, area-few c.args.sizes.n c.args.part c.loop-i.i f.few c.requires.1 (omega (arith, c.loop-i-test.true, f.read-helpers, f.enough)))
-
-pub overflow_add-from : goal.overflow_add-from
-overflow_add-from c =
-    let f = legal-facts _ c.requires.0 in
-    omega (arith, area-few c.args.sizes.n c.args.part c.loop-i.i f.few c.requires.1 (omega (arith, c.loop-i-test.true, f.read-helpers, f.enough)))
-
-pub overflow_add-to : goal.overflow_add-to
-overflow_add-to c =
-    let f = legal-facts _ c.requires.0 in
-    omega (arith, area-few c.args.sizes.n c.args.part c.loop-i.i f.few c.requires.1 (omega (arith, c.loop-i-test.true, f.read-helpers, f.enough)))
-
-pub slice_bounds-keep-end : goal.slice_bounds-keep-end
-slice_bounds-keep-end c =
-    let f = legal-facts _ c.requires.0 in
-    omega (arith, area-few c.args.sizes.n c.args.part c.loop-i.i f.few c.requires.1 (omega (arith, c.loop-i-test.true, f.read-helpers, f.enough)))
 
 pub keep-requires : goal.keep-requires
 keep-requires c =
