@@ -10,9 +10,6 @@ loop-t-init c =
     let g = c.clear.auto.out in
     (sums-start _ _ c.args.values.now c.args.rows.now _ c.clear.ensures (sym g), refl, omega (arith, g, c.requires.2))
 
-pub slice_bounds-add_times-end : goal.slice_bounds-add_times-end
-slice_bounds-add_times-end c = omega (arith, row_fits c.loop-t.t (length c.args.values.now) c.loop-t-test.true, c.requires.0)
-
 pub loop-t-preserved : goal.loop-t-preserved
 loop-t-preserved c =
     let l = c.loop-t in

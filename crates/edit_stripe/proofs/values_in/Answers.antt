@@ -9,14 +9,6 @@ use Rattle.row_values.proofs.Sums.{length-sums}
 use Rattle.edit_powers.proofs.Rows.{row-long}
 use Rattle.edit_stripe.proofs.values_in.Goals as goal
 
-pub sums-requires : goal.sums-requires
-sums-requires c =
-    let l = c.loop-t in
-    let h = c.loop-t-test.true in
-    let lr = row-long l.t c.args.rows.now c.requires.2 (omega (arith, h, c.requires.1)) in
-    let lo = row-long l.t l.out (l.invariant.1 ∙ c.requires.3) (omega (arith, h, c.requires.1)) in
-    (omega (arith, lr, c.requires.0), omega (arith, lr), omega (arith, lo))
-
 pub loop-t-preserved : goal.loop-t-preserved
 loop-t-preserved c =
     let l = c.loop-t in
