@@ -32,11 +32,9 @@ fn boards_on(n: usize, marks: &[bool], out: &mut [usize]) -> usize
     ensures { (result ≤ n) × (take result out.new ≡ serving_of n marks.now) }
 {
     let mut m: usize = 0;
-    let mut i: usize = 0;
-    while i < n {
+    for i in 0..n {
         out[m] = i;
         m = counted(m, marks[i]);
-        i += 1;
     }
     m
 }
