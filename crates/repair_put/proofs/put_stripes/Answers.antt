@@ -22,6 +22,9 @@ ends z f part h fresh b a l =
     let m : z.n * part ≤ 32 * part = mul-le-mul_right part f.few in
     (part_end (get_or fresh a 0) part z.n (board-below z.n fresh a b l), omega arith)
 
+pub loop-a-init : goal.loop-a-init
+loop-a-init c = refl
+
 pub overflow_mul-from : goal.overflow_mul-from
 overflow_mul-from c =
     let a = c.args in
