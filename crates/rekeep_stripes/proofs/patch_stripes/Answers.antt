@@ -1,6 +1,6 @@
 -- `rekeep_stripes::patch_stripes` meets its contract. The loop's invariant: the stripes so far are done, and those left are as they were.
 -- Assumes nothing.
-use Rattle.std.proofs.Common.{rules, ◌<◌, ◌+◌, ◌*◌, ◌≤◌, ℕ, arith}
+use Rattle.std.proofs.Common.{◌<◌, ◌+◌, ◌*◌, ◌≤◌, ℕ, arith}
 use Rattle.lists.proofs.Put.{part_end}
 use Rattle.sizes.specs.declared.Sizes.{Sizes}
 use Rattle.sizes.specs.Sizing.{α}
@@ -25,8 +25,6 @@ loop-s-preserved c =
     let z = a.sizes in
     let l = c.loop-s in
     let p = c.requires in
-    let e = ends z a.stripes l.s (legal-facts z p.0) p.5 c.loop-s-test.true in (
-      stripes-turn (patch_by z a.t a.ff.now a.gf.now) (α z) (λ u e. length-patch z (legal-facts z p.0) a.t a.ff.now a.gf.now u p.1 e) a.held.now l.s l.held _
-          (omega arith) l.invariant.0 c.patch.ensures,
-      search rules,
-    )
+    let e = ends z a.stripes l.s (legal-facts z p.0) p.5 c.loop-s-test.true in
+    stripes-turn (patch_by z a.t a.ff.now a.gf.now) (α z) (λ u e. length-patch z (legal-facts z p.0) a.t a.ff.now a.gf.now u p.1 e) a.held.now l.s l.held _
+    (omega arith) l.invariant c.patch.ensures
