@@ -10,8 +10,6 @@ ghost use Rattle.prefix_spec.specs.Prefix.{longest};
 ghost use Rattle.answer_word.specs.Answers.{word_of};
 ghost use Rattle.archive_spec.specs.Texts.{zbk_read_text};
 
-
-
 // The word of SIZE, for a head or points of another length than theirs.
 const SIZE: u64 = 1;
 

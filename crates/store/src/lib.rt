@@ -166,13 +166,7 @@ impl Store {
         ensures { outcome_both result area.now out.new [] ≡ careful_both (record_in self) (running_in running) area.now boards.now out.old }
     {
         let kept = self.record;
-        if let Err(x) = check_careful::check_careful(
-            kept,
-            running,
-            area.len(),
-            boards,
-            out,
-        ) {
+        if let Err(x) = check_careful::check_careful(kept, running, area.len(), boards, out) {
             return refuse(self, running, x);
         }
         let tried = careful_tries::read_file(kept, boards, area, out);

@@ -10,7 +10,6 @@ ghost use Rattle.text_words.specs.Words.{head_of};
 
 use board_read_text::TextRead;
 
-
 // Puts what the text told where the reader answered no refusal, and gives the word of its answer.
 pub fn tell(read: TextRead, head: &mut [u64], points: &mut [u8]) -> u64
     requires { (length head.old ≡ 6) × (length points.old ≡ 32) × ((said read.answer).reported < 72057594037927936) }
