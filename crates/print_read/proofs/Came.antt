@@ -4,11 +4,9 @@ use mathlib.Core.Path.{◌≡◌, refl, ap, ◌∙◌}
 use mathlib.Core.Bool.{Bool, true, false}
 use mathlib.Core.List.{List, [], ◌++◌}
 use Prim.Native.Nat.{ℕ, ◌≤◌}
-use Rattle.std.specs.Prelude.{Result, Ok, Err, min, take}
 use native.Mathlib.Omega.{arith}
 use lib.ListN.{length}
 use Rattle.lists.specs.Tests.{pick}
-use Rattle.lists.proofs.Tests.{true-false}
 use Rattle.printer.specs.Printer.{refused_line}
 use Rattle.printer.specs.Steps.{begin}
 use Rattle.print_feed.specs.Steps.{Feed, feed_all, printed_by}
@@ -16,7 +14,7 @@ use Rattle.print_feed.proofs.Laws.{behind, feed-laws}
 use Rattle.print_share.specs.Steps.{Written, placed, to_write}
 use Rattle.print_share.specs.Laws.{shown}
 use Rattle.print_share.proofs.Laws.{share_laws}
-use Rattle.print_read.specs.Steps.{unless, after_read, goes_on, Reading, Printing, Lent}
+use Rattle.print_read.specs.Steps.{unless, Reading, Printing, Lent}
 
 -- ---- reads, one after another
 
@@ -34,15 +32,6 @@ next {s} {t} {u} a q b = record {
   fed-all = b.fed-all ∙ ap (unless b.cut) (ap (λ (t : Feed). feed_all t b.input) (so_far a q) ∙ behind a.input b.input s);
   not-cut = b.not-cut;
 }
-
--- what one read gave
-pub came : {E : Type 0} (got : Result ℕ E) (slice : List ℕ) (s t : Feed) (more : Bool) → t ≡ after_read got slice s → more ≡ goes_on got slice → Reading s more t
-came (Ok n) slice s t more e m = record { input = take (min n (length slice)) slice; cut = false; fed-all = e; not-cut = λ q. refl }
-came (Err x) slice s t more e m = record { input = []; cut = true; fed-all = e; not-cut = λ q. absurd (true-false q m) }
-
--- where the input is left, it is refused
-pub left : {s t u : Feed} → Reading s true t → u ≡ unless true t → Reading s false u
-left a e = record { input = a.input; cut = true; fed-all = e ∙ ap (unless true) (so_far a refl); not-cut = λ q. absurd (true-false q refl) }
 
 -- ---- what is written
 

@@ -1,8 +1,10 @@
 -- What a program's reads leave, and what it writes. `after_read` says it outright of what a read answered. No contract says which bytes a
 -- read gives or when it fails, so the records say no more than that there were such bytes: the tests run the programs on files and failures.
 -- Assumes nothing.
-use Rattle.std.specs.Prelude.{◌≡◌, Bool, true, false, List, ℕ, length, take, min, ltb, Result, Ok, Err}
+use Rattle.std.specs.Prelude.{◌≡◌, Bool, true, false, List, ℕ, length, take, ℤ, pos}
+use Rattle.std.specs.Int.Signed.{lt_z}
 use Rattle.lists.specs.Tests.{pick}
+use Rattle.io.specs.Counts.{clamp_len}
 use Rattle.printer.specs.Printer.{refused_line}
 use Rattle.printer.specs.Steps.{wrong}
 use Rattle.print_feed.specs.Steps.{Feed, feed_all, printed_by}
@@ -11,15 +13,9 @@ use Rattle.print_feed.specs.Steps.{Feed, feed_all, printed_by}
 abbrev pub unless : Bool → Feed → Feed
 unless cut s = pick cut (record { parser = wrong s.parser; file = s.file }) s
 
--- after a read that answered `got`: it failed, or else it put so many bytes at the beginning of the slice
-abbrev pub after_read : {E : Type 0} → Result ℕ E → List ℕ → Feed → Feed
-after_read (Ok n) slice s = unless false (feed_all s (take (min n (length slice)) slice))
-after_read (Err e) slice s = unless true s
-
--- the input may go on where a read did not fail and gave some bytes
-abbrev pub goes_on : {E : Type 0} → Result ℕ E → List ℕ → Bool
-goes_on (Ok n) slice = ltb 0 (min n (length slice))
-goes_on (Err e) slice = false
+-- after a read that answered `got`: below 0 it failed, else it put so many bytes at the beginning of the slice
+abbrev pub after_read : ℤ → List ℕ → Feed → Feed
+after_read got slice s = unless (lt_z got (pos 0)) (feed_all s (take (clamp_len got (length slice)) slice))
 
 -- some bytes were fed, and then a read failed or none did; none failed where the input may go on
 pub record Reading (s : Feed) (more : Bool) (t : Feed) : Type 0 where

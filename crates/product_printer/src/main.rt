@@ -16,9 +16,9 @@ fn print_row(a: u8) {
 fn main(rt: HostRuntime) {
     let mut reader = rt.stdin();
     let mut input = [0u8; 256];
-    if let Ok(n) = standard_input::read_once(&mut reader, &mut input) {
-        for a in &input[..n] {
-            print_row(*a);
-        }
+    let got = standard_input::read_once(&mut reader, &mut input);
+    let n = io::count(got, &input);
+    for a in &input[..n] {
+        print_row(*a);
     }
 }

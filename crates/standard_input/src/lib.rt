@@ -5,25 +5,37 @@
 ghost use Rattle.std.specs.Prelude.{◌≤◌, length};
 ghost use Rattle.standard_input.specs.Reads.{Moved, Taken};
 
-use std::io;
 use std::io::Read;
 
-// Reads once into a slice. Answers how many bytes it put at the beginning of the slice, where 0 are the end of the input, or why the read failed.
-pub fn read_once<R: Read>(reader: &mut R, slice: &mut [u8]) -> io::Result<usize>
+// What a read of one byte gave.
+#[derive(Clone, Copy)]
+enum Got {
+    Byte(u8),
+    End,
+    Failed,
+}
+
+// Reads once into a slice. Answers how many bytes it put at the beginning of the slice, where 0 are the end of the input, or -1 where the read failed.
+pub fn read_once<R: Read>(reader: &mut R, slice: &mut [u8]) -> isize
     ensures bound { Moved result slice.new }
     ensures bytes { Taken (R.remaining reader.old) (R.remaining reader.new) result slice.new }
 {
-    reader.read(slice)
+    match reader.read(slice) {
+        Ok(n) => n as isize,
+        Err(_) => -1,
+    }
 }
 
-// The next byte, if the input has one.
-fn read_byte<R: Read>(reader: &mut R) -> io::Result<Option<u8>> {
+fn read_byte<R: Read>(reader: &mut R) -> Got {
     let mut byte = [0u8; 1];
-    let n = read_once(reader, &mut byte)?;
-    if n == 0 {
-        return Ok(None);
+    let got = read_once(reader, &mut byte);
+    if got < 0 {
+        return Got::Failed;
     }
-    Ok(Some(byte[0]))
+    if got == 0 {
+        return Got::End;
+    }
+    Got::Byte(byte[0])
 }
 
 // Reads to the end of the input or until the slice is full, and answers how many bytes came. A read that failed counts as a full slice, which the
@@ -33,13 +45,13 @@ pub fn read_input<R: Read>(reader: &mut R, input: &mut [u8]) -> usize
 {
     for done in 0..input.len() {
         match read_byte(reader) {
-            Ok(Some(b)) => {
+            Got::Byte(b) => {
                 input[done] = b;
             }
-            Ok(None) => {
+            Got::End => {
                 return done;
             }
-            Err(_) => {
+            Got::Failed => {
                 return input.len();
             }
         }
